@@ -1,0 +1,69 @@
+-- A name, from where its 0 stands.
+use Rattle.std.proofs.Common.{◌≡◌, ℕ, ◌+◌, ◌<◌, Bool, true, false, cond, ltb, List, length, take, drop, Option, Some, None, Result, Ok, Err, refl, ap, ◌∙◌, arith, inl, inr}
+use Rattle.std.specs.Prelude.{position, IsOk}
+use Rattle.std.specs.Str.{is_utf8}
+use Rattle.std.specs.List.{position_or_len}
+use Rattle.std.proofs.lemmas.Bool.{ltb-true, le-ltb, lt-ltb, false_from_ne_true, cases_Bool}
+use Rattle.std.proofs.lemmas.List.Sums.{position_or_len_is}
+use Rattle.memchr.specs.Find.{IsFirstByte, is_byte}
+use Rattle.bson_elem.specs.declared.fault.BsonCause.TheVariants.{Truncated, Name}
+use Rattle.bson_elem.specs.Checks.{is_zero, name_until, cstring_at}
+
+some_place : (b : Bool) (m n : ℕ) → cond b (Some m) None ≡ Some n → (b ≡ true) × (m ≡ n)
+some_place true m n e = (refl, cc)
+some_place false m n e = absurd cc
+
+no_place : (b : Bool) (m : ℕ) → cond b (Some m) None ≡ None → b ≡ false
+no_place true m e = absurd cc
+no_place false m e = refl
+
+found : (bytes : List ℕ) (n : ℕ) → position is_zero bytes ≡ Some n → (n < length bytes) × (cstring_at bytes ≡ name_until n bytes)
+unfolding cstring_at
+found bytes n e =
+    let s = some_place (ltb (position_or_len is_zero bytes) (length bytes)) (position_or_len is_zero bytes) n e in
+    let lt : position_or_len is_zero bytes < length bytes = ltb-true _ _ s.0 in
+    (omega (arith, lt, s.1), ap (λ (k : ℕ). name_until k bytes) s.1)
+
+pub not_found : (bytes : List ℕ) → position is_zero bytes ≡ None → cstring_at bytes ≡ Err Truncated
+unfolding cstring_at
+not_found bytes e = rw (no_place (ltb (position_or_len is_zero bytes) (length bytes)) (position_or_len is_zero bytes) e) refl
+
+pub no_name : (bytes : List ℕ) (n : ℕ) → position is_zero bytes ≡ Some n → is_utf8 (take n bytes) ≡ false → cstring_at bytes ≡ Err Name
+no_name bytes n e f =
+    let g = found bytes n e in
+    let long : ltb n (length bytes) ≡ true = lt-ltb _ _ g.0 in
+    g.1 ∙ rw (long, f) refl
+
+pub a_name : (bytes : List ℕ) (n : ℕ) → position is_zero bytes ≡ Some n → is_utf8 (take n bytes) ≡ true → cstring_at bytes ≡ Ok (take n bytes, drop (n + 1) bytes)
+a_name bytes n e f =
+    let g = found bytes n e in
+    let long : ltb n (length bytes) ≡ true = lt-ltb _ _ g.0 in
+    g.1 ∙ rw (long, f) refl
+
+no_ok : {A E : Type 0} (r : Result A E) (e : E) → r ≡ Err e → IsOk r → ⊥
+no_ok (Ok x) e is ok = absurd cc
+no_ok (Err d) e is ok = absurd cc
+
+-- a name of which it is known that each check succeeds
+pub checked_name : (bytes : List ℕ) (n : ℕ) → position is_zero bytes ≡ Some n → IsOk (cstring_at bytes) → cstring_at bytes ≡ Ok (take n bytes, drop (n + 1) bytes)
+checked_name bytes n e ok =
+    elim (cases_Bool (is_utf8 (take n bytes))) [
+      | inl t ↦ a_name bytes n e t
+      | inr f ↦ absurd (no_ok (cstring_at bytes) Name (no_name bytes n e f) ok)
+    ]
+
+pub place_below : (bytes : List ℕ) (n : ℕ) → position is_zero bytes ≡ Some n → n < length bytes
+place_below bytes n e = (found bytes n e).0
+
+-- what a search for the first 0 finds is where the first 0 stands
+pub first_zero_place : (bytes : List ℕ) (r : Option ℕ) → IsFirstByte (is_byte 0) bytes r → r ≡ position is_zero bytes
+first_zero_place bytes None nowhere =
+    let all : position_or_len is_zero bytes ≡ length bytes = position_or_len_is is_zero bytes (length bytes) 0 (omega arith) (λ k lt. false_from_ne_true _ (nowhere k (omega arith) lt)) (λ lt. absurd (omega (arith, lt))) in
+    let past : ltb (length bytes) (length bytes) ≡ false = le-ltb _ _ (omega arith) in
+    rw (all, past) refl
+first_zero_place bytes (Some n) first =
+    let here : position_or_len is_zero bytes ≡ n = position_or_len_is is_zero bytes n 0 (omega (arith, first.0.high)) (λ k lt. false_from_ne_true _ (first.0.before k (omega arith) lt)) (λ lt. first.1) in
+    let below : ltb n (length bytes) ≡ true = lt-ltb _ _ first.0.high in
+    rw (here, below) refl
+
+pub ruleset names = (not_found, no_name, a_name, place_below)

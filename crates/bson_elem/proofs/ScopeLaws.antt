@@ -1,0 +1,55 @@
+-- A code and its scope, from what each step read.
+use Rattle.std.proofs.Common.{◌≡◌, ℕ, ◌+◌, ◌-◌, ◌≤◌, List, length, take, Ok, Err, refl, arith}
+use Rattle.std.specs.Prelude.{IsOk}
+use Rattle.std.specs.Int.{w32, from_le_bytes}
+use Rattle.std.proofs.lemmas.Bool.{le-ltb, eq-eqb}
+use Rattle.bson_elem.specs.Tree.{Leaf, with_code}
+use Rattle.bson_elem.specs.declared.kind.Kind.{Kind}
+use Rattle.bson_elem.specs.declared.kind.Kind.TheVariants as kinds
+use Rattle.bson_elem.specs.Kinds.{form_of}
+use Rattle.bson_elem.specs.Checks.{◌>>=◌, Read, a_leaf, length_at, text_at, document_at, scope_at, leaf_at, at_place, value_at, opens}
+use Rattle.bson_elem.specs.Items.{as_value}
+
+pub scope_read : (p q : ℕ) (bytes : List ℕ) (total : ℕ) (a : List ℕ) (n : ℕ) (b words c body d : List ℕ) → length_at 14 bytes ≡ Ok (total, a) → total ≤ length bytes → length_at 1 a ≡ Ok (n, b) → n ≤ total - 13 → text_at (n - 1) b ≡ Ok (words, c) → from_le_bytes w32 (take 4 c) ≡ total - 8 - n → document_at p (q + 8 + n) c ≡ Ok (body, d) → scope_at p q bytes ≡ Ok (opens (q + 8 + n) (with_code words) body, d)
+unfolding scope_at
+scope_read p q bytes total a n b words c body d e0 long e1 room e2 same e3 =
+    let t0 = le-ltb (length bytes) total long in
+    let t1 = le-ltb (total - 13) n room in
+    let t2 = eq-eqb _ _ same in
+    rw (e0, t0, e1, t1, e2, t2, e3) refl
+
+-- the same, where it is known that each check of them succeeds
+pub checked_scope : (p q : ℕ) (bytes : List ℕ) (total : ℕ) (a : List ℕ) (n : ℕ) (b words c body d : List ℕ) → IsOk (scope_at p q bytes) → length_at 14 bytes ≡ Ok (total, a) → length_at 1 a ≡ Ok (n, b) → text_at (n - 1) b ≡ Ok (words, c) → document_at p (q + 8 + n) c ≡ Ok (body, d) → scope_at p q bytes ≡ Ok (opens (q + 8 + n) (with_code words) body, d)
+unfolding scope_at
+checked_scope p q bytes total a n b words c body d ok e0 e1 e2 e3 = grind arith
+
+part_bind : (p : ℕ) (r : Read Leaf) → (at_place p r >>= λ v. Ok (a_leaf v.0, v.1)) ≡ at_place p (as_value r)
+part_bind p (Ok v) = refl
+part_bind p (Err c) = refl
+
+-- The part of a kind that holds no document.
+pub leaf_value_at : (depth p q : ℕ) (k : Kind) (bytes : List ℕ) → (k ≡ kinds.Document → ⊥) → (k ≡ kinds.Array → ⊥) → (k ≡ kinds.CodeWithScope → ⊥) → value_at depth p q (form_of k) bytes ≡ at_place p (as_value (leaf_at (form_of k) bytes))
+unfolding value_at
+leaf_value_at depth p q kinds.Document bytes a b c = absurd (a refl)
+leaf_value_at depth p q kinds.Array bytes a b c = absurd (b refl)
+leaf_value_at depth p q kinds.CodeWithScope bytes a b c = absurd (c refl)
+leaf_value_at depth p q kinds.Double bytes a b c = part_bind p (leaf_at (form_of kinds.Double) bytes)
+leaf_value_at depth p q kinds.String bytes a b c = part_bind p (leaf_at (form_of kinds.String) bytes)
+leaf_value_at depth p q kinds.Binary bytes a b c = part_bind p (leaf_at (form_of kinds.Binary) bytes)
+leaf_value_at depth p q kinds.Undefined bytes a b c = part_bind p (leaf_at (form_of kinds.Undefined) bytes)
+leaf_value_at depth p q kinds.ObjectId bytes a b c = part_bind p (leaf_at (form_of kinds.ObjectId) bytes)
+leaf_value_at depth p q kinds.Boolean bytes a b c = part_bind p (leaf_at (form_of kinds.Boolean) bytes)
+leaf_value_at depth p q kinds.DateTime bytes a b c = part_bind p (leaf_at (form_of kinds.DateTime) bytes)
+leaf_value_at depth p q kinds.Null bytes a b c = part_bind p (leaf_at (form_of kinds.Null) bytes)
+leaf_value_at depth p q kinds.Regex bytes a b c = part_bind p (leaf_at (form_of kinds.Regex) bytes)
+leaf_value_at depth p q kinds.DbPointer bytes a b c = part_bind p (leaf_at (form_of kinds.DbPointer) bytes)
+leaf_value_at depth p q kinds.Code bytes a b c = part_bind p (leaf_at (form_of kinds.Code) bytes)
+leaf_value_at depth p q kinds.Symbol bytes a b c = part_bind p (leaf_at (form_of kinds.Symbol) bytes)
+leaf_value_at depth p q kinds.Int32 bytes a b c = part_bind p (leaf_at (form_of kinds.Int32) bytes)
+leaf_value_at depth p q kinds.Timestamp bytes a b c = part_bind p (leaf_at (form_of kinds.Timestamp) bytes)
+leaf_value_at depth p q kinds.Int64 bytes a b c = part_bind p (leaf_at (form_of kinds.Int64) bytes)
+leaf_value_at depth p q kinds.Decimal128 bytes a b c = part_bind p (leaf_at (form_of kinds.Decimal128) bytes)
+leaf_value_at depth p q kinds.MinKey bytes a b c = part_bind p (leaf_at (form_of kinds.MinKey) bytes)
+leaf_value_at depth p q kinds.MaxKey bytes a b c = part_bind p (leaf_at (form_of kinds.MaxKey) bytes)
+
+pub ruleset parts = (leaf_value_at)

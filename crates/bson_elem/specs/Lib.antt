@@ -1,0 +1,9 @@
+pub mod Causes
+pub mod Kinds
+pub mod Tree
+pub mod Spelling
+pub mod Checks
+pub mod Faults
+pub mod Results
+pub mod Documents
+pub mod Items

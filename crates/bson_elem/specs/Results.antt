@@ -1,0 +1,7 @@
+-- What a function of the code returned, beside what a definition gives.
+use Rattle.std.specs.Prelude.{◌≡◌, Result, Ok, Err}
+
+-- the definition gives the value that the code's result shows, or the same error
+abbrev pub Gives : {X Y E : Type 0} → (X → Y) → Result X E → Result Y E → Type 0
+Gives view (Ok x) read = read ≡ Ok (view x)
+Gives view (Err e) read = read ≡ Err e

@@ -1,0 +1,144 @@
+//! Elements of bytes that were checked before. It is known that each check of them succeeds, so there are no faults to
+//! tell, and no text is tested for UTF-8 again.
+
+ghost use Rattle.std.specs.Prelude.{◌≡◌, ℕ, ◌+◌, ◌-◌, ◌<◌, ◌≤◌, ◌^◌, length, slice_range, IsOk, true};
+ghost use Rattle.std.specs.Str.{is_utf8};
+ghost use Rattle.bson_elem.specs.Checks.{cstring_at, element_at, scope_at, string_at, text_at, value_at};
+ghost use Rattle.bson_elem.specs.Kinds.{form_of};
+ghost use Rattle.bson_elem.specs.Items.{element_shown, element_view, item_kind, item_value, LendsFramed};
+
+use crate::container::read_document;
+use crate::element::{Element, read_value};
+use crate::item::Item;
+use crate::kind::Kind;
+use crate::number::{read_bytes, read_length};
+use crate::text::zero_of;
+
+/// The bytes as a text, where it is known that they are one.
+fn known_text(bytes: &[u8]) -> &str
+    requires { is_utf8 bytes.now ≡ true }
+    ensures { result.now ≡ bytes.now }
+{
+    // SAFETY: the bytes are UTF-8, by the `requires`.
+    unsafe { std::str::from_utf8_unchecked(bytes) }
+}
+
+/// A text of so many bytes and a 0.
+fn reread_text(n: usize, bytes: &[u8]) -> (&str, &[u8])
+    requires inside { n < length bytes.now }
+    requires checked { IsOk (text_at n bytes.now) }
+    ensures read { text_at n bytes.now ≡ Ok (result.0.now, result.1.now) }
+    ensures parts { length result.1.now + (n + 1) ≡ length bytes.now }
+{
+    (known_text(&bytes[..n]), &bytes[n + 1..])
+}
+
+/// A string: a length, a text and a 0.
+#[tactic(auto, unfolding(crate::specs::Checks::string_at))]
+fn reread_string(bytes: &[u8]) -> (&str, &[u8])
+    requires { IsOk (string_at bytes.now) }
+    ensures { string_at bytes.now ≡ Ok (result.0.now, result.1.now) }
+{
+    let (n, rest) = read_length(1, bytes).unwrap();
+    reread_text(n - 1, rest)
+}
+
+/// A name: a text with no 0 in it, and a 0.
+#[tactic(auto, using(crate::proofs::NameLaws::names))]
+fn reread_cstring(bytes: &[u8]) -> (&str, &[u8])
+    requires { IsOk (cstring_at bytes.now) }
+    ensures read { cstring_at bytes.now ≡ Ok (result.0.now, result.1.now) }
+    ensures parts { length result.0.now + 1 + length result.1.now ≡ length bytes.now }
+{
+    let n = zero_of(bytes).unwrap();
+    (known_text(&bytes[..n]), &bytes[n + 1..])
+}
+
+/// A code and its scope. They begin at `q`, in the element at `p`.
+#[tactic(auto, unfolding(crate::specs::Checks::scope_at))]
+fn reread_scope(p: usize, q: usize, bytes: &[u8]) -> (Item<'_>, &[u8])
+    requires room { q + length bytes.now < 2 ^ 64 }
+    requires checked { IsOk (scope_at p q bytes.now) }
+    ensures read { scope_at p q bytes.now ≡ Ok (item_value (q + length bytes.now - length result.1.now) result.0, result.1.now) }
+    ensures kind { item_kind result.0 ≡ Kind.CodeWithScope }
+    ensures lent { LendsFramed result.0 }
+{
+    let (_, rest) = read_length(14, bytes).unwrap();
+    let (n, rest) = read_length(1, rest).unwrap();
+    let (code, rest) = reread_text(n - 1, rest);
+    let (scope, rest) = read_document(p, q + 8 + n, rest).unwrap();
+    (Item::CodeWithScope { code, scope }, rest)
+}
+
+/// The value of a kind, and what follows it. It begins at `q`, in the element at `p`.
+#[tactic(auto, unfolding(crate::specs::Checks::value_at, crate::specs::Checks::leaf_at))]
+fn reread_value(p: usize, q: usize, kind: Kind, bytes: &[u8]) -> (Item<'_>, &[u8])
+    requires room { q + length bytes.now < 2 ^ 64 }
+    requires checked { IsOk (value_at 1 p q (form_of kind) bytes.now) }
+    ensures read { value_at 1 p q (form_of kind) bytes.now ≡ Ok (item_value (q + length bytes.now - length result.1.now) result.0, result.1.now) }
+    ensures kind { item_kind result.0 ≡ kind }
+    ensures lent { LendsFramed result.0 }
+{
+    match kind {
+        Kind::String => {
+            let (value, rest) = reread_string(bytes);
+            (Item::String(value), rest)
+        }
+        Kind::Code => {
+            let (value, rest) = reread_string(bytes);
+            (Item::Code(value), rest)
+        }
+        Kind::Symbol => {
+            let (value, rest) = reread_string(bytes);
+            (Item::Symbol(value), rest)
+        }
+        Kind::Regex => {
+            let (pattern, rest) = reread_cstring(bytes);
+            let (options, rest) = reread_cstring(rest);
+            (Item::Regex { pattern, options }, rest)
+        }
+        Kind::DbPointer => {
+            let (text, rest) = reread_string(bytes);
+            let (id, rest) = read_bytes::<12>(rest).unwrap();
+            (Item::DbPointer { text, id }, rest)
+        }
+        Kind::CodeWithScope => reread_scope(p, q, bytes),
+        _ => read_value(1, p, q, kind, bytes).unwrap(),
+    }
+}
+
+/// The element at the front of what is left of a document that no other holds, and what follows it. Its type byte stands
+/// at `at`.
+#[tactic(auto, unfolding(crate::specs::Checks::element_at))]
+fn reread_in(room: &[u8], at: usize) -> (&str, Item<'_>, &[u8])
+    requires room { at + length room.now < 2 ^ 64 }
+    requires checked { IsOk (element_at 1 0 at room.now) }
+    ensures read { element_at 1 0 at room.now ≡ Ok (element_shown (at + length room.now) result.0.now result.1 result.2.now) }
+    ensures lent { LendsFramed result.1 }
+{
+    let [byte, rest @ ..] = room else {
+        unreachable!();
+    };
+    let kind = Kind::from_byte(*byte).unwrap();
+    let (name, rest) = reread_cstring(rest);
+    let (value, rest) = reread_value(at, at + name.len() + 2, kind, rest);
+    (name, value, rest)
+}
+
+/// The element whose type byte stands at `at`, as `read_element` gives it, where that is known to succeed: in a document
+/// that no other holds, and whose closing byte stands at `end`.
+pub fn reread_element(bytes: &[u8], at: usize, end: usize) -> Element<'_>
+    requires inside { at < end }
+    requires whole { end < length bytes.now }
+    requires checked { IsOk (element_at 1 0 at (slice_range bytes.now at end)) }
+    ensures read { element_at 1 0 at (slice_range bytes.now at end) ≡ Ok (element_view bytes.now end result) }
+    ensures next { (at < result.next) × (result.next ≤ end) }
+    ensures lent { LendsFramed result.value }
+{
+    let (name, value, rest) = reread_in(&bytes[at..end], at);
+    Element {
+        name,
+        value,
+        next: end - rest.len(),
+    }
+}

@@ -1,0 +1,96 @@
+//! What no contract says: that faults display as their fault lines, and that the contracts mean the standard, by rows
+//! that were worked out by hand from it.
+
+ghost use Rattle.std.specs.Prelude.{◌<◌, length};
+
+use crate::element::{Element, read_element};
+use crate::fault::{BsonCause, BsonFault};
+use crate::item::Item;
+use crate::kind::Kind;
+use crate::reread::reread_element;
+use crate::text::{read_cstring, read_string};
+use std::test::Fail;
+
+const CAUSES: [BsonCause; 11] = [
+    BsonCause::Truncated,
+    BsonCause::Length,
+    BsonCause::End,
+    BsonCause::Kind,
+    BsonCause::Name,
+    BsonCause::Text,
+    BsonCause::TextEnd,
+    BsonCause::Boolean,
+    BsonCause::OldBinary,
+    BsonCause::Scope,
+    BsonCause::Depth,
+];
+
+#[test]
+fn a_fault_displays_as_its_line(rt: HostRuntime) -> Result<(), Fail> {
+    for cause in CAUSES {
+        let shown = format!(in rt.alloc(); "{cause}")?;
+        assert_eq!(rt; shown.as_str(), cause.name());
+    }
+    let fault = BsonFault {
+        at: 4,
+        cause: BsonCause::Boolean,
+    };
+    let line = format!(in rt.alloc(); "{fault}")?;
+    assert_eq!(rt; line.as_str(), "fault 8 Boolean at 4");
+    Ok(())
+}
+
+#[test]
+fn each_kind_has_its_byte(rt: HostRuntime) {
+    for byte in 0..=255u8 {
+        match Kind::from_byte(byte) {
+            Some(kind) => assert_eq!(rt; kind.byte(), byte),
+            None => assert!(rt;
+                byte == 0 || (byte > 0x13 && byte != 0x7f && byte != 0xff),
+                "at {byte}"
+            ),
+        }
+    }
+}
+
+/// Whether the element at place 4 is this one, when it is checked and when it is read again.
+fn is_read(document: &[u8], end: usize, element: Element<'_>) -> bool
+    requires inside { 4 < end }
+    requires whole { end < length document.now }
+{
+    match read_element(document, 0, 4, end, 1) {
+        Ok(read) => read == element && reread_element(document, 4, end) == element,
+        Err(_) => false,
+    }
+}
+
+#[test]
+fn reads_elements(rt: HostRuntime) {
+    let document = b"\x16\x00\x00\x00\x02hello\x00\x06\x00\x00\x00world\x00\x00";
+    let element = Element {
+        name: "hello",
+        value: Item::String("world"),
+        next: 21,
+    };
+    assert!(rt; is_read(document, 21, element));
+    let document = b"\x0c\x00\x00\x00\x10v\x00\x00\x00\x00\x80\x00";
+    let element = Element {
+        name: "v",
+        value: Item::Int32(-2147483648),
+        next: 11,
+    };
+    assert!(rt; is_read(document, 11, element));
+}
+
+#[test]
+fn reads_texts(rt: HostRuntime) {
+    assert!(rt; read_string(b"\x02\x00\x00\x00a\x00rest") == Ok(("a", b"rest")));
+    assert!(rt; read_string(b"\x00\x00\x00\x00") == Err(BsonCause::Length));
+    assert!(rt; read_string(b"\xff\xff\xff\xff") == Err(BsonCause::Length));
+    assert!(rt; read_string(b"\x02\x00\x00\x00a") == Err(BsonCause::Truncated));
+    assert!(rt; read_string(b"\x03\x00\x00\x00\xc3\x28\x01") == Err(BsonCause::Text));
+    assert!(rt; read_string(b"\x02\x00\x00\x00a\x01") == Err(BsonCause::TextEnd));
+    assert!(rt; read_cstring(b"name\x00rest") == Ok(("name", b"rest")));
+    assert!(rt; read_cstring(b"name") == Err(BsonCause::Truncated));
+    assert!(rt; read_cstring(b"\xff\x00") == Err(BsonCause::Name));
+}

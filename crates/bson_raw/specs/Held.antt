@@ -1,0 +1,31 @@
+-- What an item, read from the bytes of a checked document, holds of the tree.
+use Rattle.std.specs.Prelude.{◌≡◌}
+use Rattle.bson_elem.specs.declared.kind.Kind.{Kind}
+use Rattle.bson_elem.specs.declared.kind.Kind.TheVariants as kinds
+use Rattle.bson_elem.specs.declared.item.Item.{Item}
+use Rattle.bson_elem.specs.declared.item.Item.TheVariants as items
+use Rattle.bson_elem.specs.Tree.{Tree, no_code, with_code}
+use Rattle.bson_elem.specs.Spelling.{Spells}
+use Rattle.bson_elem.specs.Checks.{Value, a_leaf, opens}
+use Rattle.bson_elem.specs.Items.{item_kind, item_value}
+use Rattle.bson_raw.specs.Pairs.{TreeValue, leaf_value, document_value}
+use Rattle.bson_raw.specs.Spelled.{IsSpelled}
+
+-- the value is of this kind, and this leaf
+abbrev pub IsLeafOf : Kind → Value → TreeValue → Type 0
+IsLeafOf kind (a_leaf leaf) v = v ≡ leaf_value kind leaf
+IsLeafOf kind (opens q b body) v = ⊥
+
+-- the item lends the value, and the bytes of a document spell the tree that it holds
+abbrev pub IsItemOf : Item → TreeValue → Type 0
+IsItemOf (items.Document d) v = (inner : Tree) × (v ≡ document_value kinds.Document no_code inner) × Spells inner d.now
+IsItemOf (items.Array d) v = (inner : Tree) × (v ≡ document_value kinds.Array no_code inner) × Spells inner d.now
+IsItemOf (items.CodeWithScope s d) v = (inner : Tree) × (v ≡ document_value kinds.CodeWithScope (with_code s.now) inner) × Spells inner d.now
+IsItemOf item v = IsLeafOf (item_kind item) (item_value 0 item) v
+
+-- what the item holds is spelled
+abbrev pub HoldsSpelled : Item → Type 0
+HoldsSpelled (items.Document d) = ∥ IsSpelled d.now ∥₁
+HoldsSpelled (items.Array d) = ∥ IsSpelled d.now ∥₁
+HoldsSpelled (items.CodeWithScope s d) = ∥ IsSpelled d.now ∥₁
+HoldsSpelled _ = Unit {0}

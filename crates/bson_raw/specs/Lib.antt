@@ -1,0 +1,9 @@
+pub mod Checks
+pub mod Spelled
+pub mod Pairs
+pub mod Left
+pub mod Held
+pub mod RawDocument
+pub mod RawArray
+pub mod RawBson
+pub mod RawIter

@@ -1,0 +1,64 @@
+-- What the iterators over the pairs of a document and over the values of an array give.
+use Rattle.std.specs.Prelude.{◌≡◌, ℕ, ◌-◌, ◌<◌, List, length, Option, Some, None}
+use Rattle.std.specs.Borrow.{Bor}
+use Rattle.bson_elem.specs.Tree.{Tree, no_pairs}
+use Rattle.bson_raw.specs.declared.iter.RawIter.{RawIter}
+use Rattle.bson_raw.specs.declared.iter.RawArrayIter.{RawArrayIter}
+use Rattle.bson_raw.specs.declared.value.RawBson.{RawBson}
+use Rattle.bson_raw.specs.RawBson.{Shows, held_len}
+use Rattle.bson_raw.specs.Left.{LeftIs}
+use Rattle.bson_raw.specs.Pairs.{TreeValue, with_first}
+
+-- The tree is a pair of this name and value and other pairs, and those are left.
+pub record GivesFirst (t : Tree) (name : List ℕ) (value : RawBson) (IsLeft : Tree → Type 0) : Type 0 where
+  pub tree_value : TreeValue
+  pub others : Tree
+  pub is_first : t ≡ with_first name tree_value others
+  pub shown : Shows value tree_value
+  pub left : IsLeft others
+
+-- ---- the pairs of a document
+
+-- the pairs that are left are those of the tree
+abbrev pub PairsLeft : RawIter → Tree → Type 0
+PairsLeft s t = LeftIs s.bytes.now s.at t
+
+-- how many bytes the document has that is walked
+abbrev pub walked_len : RawIter → ℕ
+walked_len s = length s.bytes.now
+
+-- a bound on how many pairs are left
+abbrev pub pairs_bound : RawIter → ℕ
+pairs_bound s = length s.bytes.now - s.at
+
+-- Of every tree left the first pair was given, or there is none. What a value holds is shorter than what is walked.
+abbrev pub GivesPair : RawIter → Option (Bor (List ℕ) × RawBson) → RawIter → Type 0
+GivesPair s None after = (t : Tree) → PairsLeft s t → t ≡ no_pairs
+GivesPair s (Some x) after = ((t : Tree) → PairsLeft s t → GivesFirst t x.0.now x.1 (PairsLeft after)) × (held_len x.1 < walked_len s)
+
+-- one step of the iterator, in the same document
+abbrev pub StepsTo : RawIter → Option (Bor (List ℕ) × RawBson) → RawIter → Type 0
+StepsTo s given after = (walked_len after ≡ walked_len s) × GivesPair s given after
+
+-- ---- the values of an array
+
+-- the values that are left are those of the tree's pairs
+abbrev pub ValuesLeft : RawArrayIter → Tree → Type 0
+ValuesLeft s t = PairsLeft s.pairs t
+
+-- how many bytes the array has that is walked
+abbrev pub walked_array_len : RawArrayIter → ℕ
+walked_array_len s = walked_len s.pairs
+
+-- a bound on how many values are left
+abbrev pub values_bound : RawArrayIter → ℕ
+values_bound s = pairs_bound s.pairs
+
+-- Of every tree left the value of the first pair was given, or there is none. What it holds is shorter than what is walked.
+abbrev pub GivesValue : RawArrayIter → Option RawBson → RawArrayIter → Type 0
+GivesValue s None after = (t : Tree) → ValuesLeft s t → t ≡ no_pairs
+GivesValue s (Some value) after = ((t : Tree) → ValuesLeft s t → (name : List ℕ) × GivesFirst t name value (ValuesLeft after)) × (held_len value < walked_array_len s)
+
+-- one step of the iterator, in the same array
+abbrev pub ValueStepsTo : RawArrayIter → Option RawBson → RawArrayIter → Type 0
+ValueStepsTo s given after = (walked_array_len after ≡ walked_array_len s) × GivesValue s given after

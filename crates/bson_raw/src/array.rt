@@ -1,0 +1,72 @@
+//! An array that is lent out of its bytes.
+
+ghost use Rattle.std.specs.Prelude.{◌≡◌, length, MatchOption, None};
+ghost use Rattle.bson_elem.specs.Tree.{Tree};
+ghost use Rattle.bson_elem.specs.Spelling.{Spells};
+ghost use Rattle.bson_raw.specs.Spelled.{IsSpelled};
+
+use crate::document::RawDocument;
+use crate::iter::RawArrayIter;
+use crate::value::RawBson;
+
+/// An array in its bytes, which spell a document whose values are those of the array. Its names, mostly "0", "1"
+/// and so on, stay in the bytes as they were.
+#[derive(Clone, Copy, Debug, PartialEq, Eq)]
+pub struct RawArray<'a> {
+    bytes: &'a [u8],
+    pub ghost spelled: { ∥ IsSpelled bytes.now ∥₁ },
+}
+
+impl<'a> RawArray<'a> {
+    ghost use Rattle.bson_raw.specs.RawArray.{array_bytes};
+    ghost use Rattle.bson_raw.specs.RawDocument.{document_bytes};
+    ghost use Rattle.bson_raw.specs.Pairs.{value_at};
+    ghost use Rattle.bson_raw.specs.RawBson.{ShowsFound};
+    ghost use Rattle.bson_raw.specs.RawIter.{ValuesLeft, walked_array_len};
+
+    /// The array of bytes that are known to spell one.
+    pub(crate) fn of_spelled(bytes: &'a [u8]) -> RawArray<'a>
+        requires { ∥ IsSpelled bytes.now ∥₁ }
+        ensures { array_bytes result ≡ bytes.now }
+    {
+        RawArray { bytes }
+    }
+
+    /// The bytes of the array.
+    pub fn as_bytes(self) -> &'a [u8]
+        ensures { result.now ≡ array_bytes self.entry }
+    {
+        self.bytes
+    }
+
+    /// The array as the document that spells it, with the names of its pairs as they were.
+    pub fn as_document(self) -> RawDocument<'a>
+        ensures { document_bytes result ≡ array_bytes self.entry }
+    {
+        RawDocument::from_spelled(self.bytes)
+    }
+
+    /// The values, in order.
+    pub fn iter(self) -> RawArrayIter<'a>
+        ensures values { (t : Tree) → Spells t (array_bytes self.entry) → ValuesLeft result t }
+        ensures walked { walked_array_len result ≡ length (array_bytes self.entry) }
+    {
+        RawArrayIter::of_spelled(self.bytes)
+    }
+
+    /// The value at an index, counted from 0.
+    pub fn get(self, index: usize) -> Option<RawBson<'a>>
+        ensures { (t : Tree) → Spells t (array_bytes self.entry)
+            → MatchOption result (value_at index t ≡ None)
+            (λ value. ShowsFound value (value_at index t)) }
+    {
+        let mut before = index;
+        for value in self.iter() {
+            if before == 0 {
+                return Some(value);
+            }
+            before -= 1;
+        }
+        None
+    }
+}

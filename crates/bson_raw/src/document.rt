@@ -1,0 +1,169 @@
+//! A document that is lent out of its bytes.
+
+ghost use Rattle.std.specs.Prelude.{◌≡◌, ◌≤◌, ◌<◌, ◌^◌, List, ℕ, ◌++◌, IfOk, IfErr, IsOkAnd, IsErrOf, length, MatchResult, MatchOption, IsTrue, IsOk, ◌↔◌, Some, None, [], take};
+ghost use Rattle.bson_elem.specs.declared.fault.BsonFault.{BsonFault};
+ghost use Rattle.bson_elem.specs.Tree.{Tree};
+ghost use Rattle.bson_elem.specs.Spelling.{Spells};
+ghost use Rattle.bson_elem.specs.Faults.{FrontFault};
+ghost use Rattle.bson_raw.specs.Spelled.{IsSpelled, FrontIs, IsLengthOf, WholeFault};
+
+use crate::check::check;
+use crate::iter::RawIter;
+use crate::value::RawBson;
+use bson_elem::container::read_document;
+use bson_elem::fault::{BsonCause, BsonFault};
+use bson_elem::number::little_u32;
+
+/// The bytes of the document in front, and what follows it.
+fn front_parts(bytes: &[u8]) -> Result<(&[u8], &[u8]), BsonFault>
+    ensures parts { MatchResult result (λ x. FrontIs bytes.now x.0.now x.1.now) (λ f. FrontFault bytes.now f) }
+    ensures place { IfErr result (λ f. f.at ≤ length bytes.now) }
+{
+    let (whole, rest) = read_document(0, 0, bytes)?;
+    check(whole, 0, whole.len() - 1, 1)?;
+    Ok((whole, rest))
+}
+
+/// Whether the length in front, if there is one, is that of the bytes.
+fn is_length_of(bytes: &[u8]) -> bool
+    ensures { IsTrue result ↔ IsLengthOf bytes.now }
+{
+    if bytes.len() < 4 {
+        return true;
+    }
+    little_u32(bytes) as usize == bytes.len()
+}
+
+/// A document in its bytes, checked whole when it was made.
+#[derive(Clone, Copy, Debug, PartialEq, Eq)]
+pub struct RawDocument<'a> {
+    bytes: &'a [u8],
+    pub ghost spelled: { ∥ IsSpelled bytes.now ∥₁ },
+}
+
+impl<'a> RawDocument<'a> {
+    ghost use Rattle.bson_raw.specs.RawDocument.{document_bytes};
+
+    /// The document at the front of the bytes, and what follows it.
+    ///
+    /// # Errors
+    ///
+    /// The first fault of the bytes and its place, in the order of the checks.
+    pub fn front(bytes: &'a [u8]) -> Result<(RawDocument<'a>, &'a [u8]), BsonFault>
+        ensures found { IfOk result (λ x.
+            (bytes.now ≡ document_bytes x.0 ++ x.1.now) × IsSpelled (document_bytes x.0)) }
+        ensures only { (t : Tree) (b rest : List ℕ) → Spells t b → bytes.now ≡ b ++ rest
+            → IsOkAnd result (λ x. (document_bytes x.0 ≡ b) × (x.1.now ≡ rest)) }
+        ensures fault { IfErr result (λ f. FrontFault bytes.now f) }
+        ensures exact { (f : BsonFault) → FrontFault bytes.now f → IsErrOf result f }
+        ensures place { IfErr result (λ f. f.at ≤ length bytes.now) }
+    {
+        match front_parts(bytes) {
+            Ok((whole, rest)) => Ok((RawDocument { bytes: whole }, rest)),
+            Err(fault) => Err(fault),
+        }
+    }
+
+    /// The document that all of the bytes are.
+    ///
+    /// # Errors
+    ///
+    /// A length in front that is not that of the bytes, and else the fault that `front` tells.
+    pub fn from_bytes(bytes: &'a [u8]) -> Result<RawDocument<'a>, BsonFault>
+        ensures found { IfOk result (λ d. (document_bytes d ≡ bytes.now) × IsSpelled bytes.now) }
+        ensures only { IsSpelled bytes.now → IsOk result }
+        ensures fault { IfErr result (λ f. WholeFault bytes.now f) }
+        ensures exact { (f : BsonFault) → WholeFault bytes.now f → IsErrOf result f }
+        ensures place { IfErr result (λ f. f.at ≤ length bytes.now) }
+    {
+        if !is_length_of(bytes) {
+            return Err(BsonFault {
+                at: 0,
+                cause: BsonCause::Length,
+            });
+        }
+        match front_parts(bytes) {
+            Ok((whole, _)) => Ok(RawDocument { bytes: whole }),
+            Err(fault) => Err(fault),
+        }
+    }
+
+    /// The document of bytes that are known to spell one.
+    pub fn from_spelled(bytes: &'a [u8]) -> RawDocument<'a>
+        requires { ∥ IsSpelled bytes.now ∥₁ }
+        ensures { document_bytes result ≡ bytes.now }
+    {
+        RawDocument { bytes }
+    }
+
+    /// The bytes of the document.
+    pub fn as_bytes(self) -> &'a [u8]
+        ensures bytes { result.now ≡ document_bytes self.entry }
+        ensures short { length result.now < 2 ^ 31 }
+    {
+        self.bytes
+    }
+}
+
+impl<'a> RawDocument<'a> {
+    ghost use Rattle.bson_raw.specs.RawDocument.{document_bytes};
+    ghost use Rattle.bson_raw.specs.Pairs.{first_named, names_of, is_among, first_repeated};
+    ghost use Rattle.bson_raw.specs.RawBson.{ShowsFound};
+    ghost use Rattle.bson_raw.specs.RawIter.{PairsLeft, walked_len};
+
+    /// The pairs of names and values, in order.
+    pub fn iter(self) -> RawIter<'a>
+        ensures pairs { (t : Tree) → Spells t (document_bytes self.entry) → PairsLeft result t }
+        ensures walked { walked_len result ≡ length (document_bytes self.entry) }
+    {
+        RawIter::of_spelled(self.bytes)
+    }
+
+    /// The value of the first pair of this name.
+    pub fn get(self, name: &str) -> Option<RawBson<'a>>
+        ensures { (t : Tree) → Spells t (document_bytes self.entry)
+            → MatchOption result (first_named name.now t ≡ None)
+            (λ value. ShowsFound value (first_named name.now t)) }
+    {
+        for (n, value) in self.iter() {
+            if n == name {
+                return Some(value);
+            }
+        }
+        None
+    }
+
+    /// Whether one of the first pairs, so many as `count`, has this name.
+    fn is_among_first(self, count: usize, name: &str) -> bool
+        ensures { (t : Tree) → Spells t (document_bytes self.entry)
+            → result ≡ is_among name.now (take count (names_of t)) }
+    {
+        let mut left = count;
+        for (n, _) in self.iter() {
+            if left == 0 {
+                return false;
+            }
+            if n == name {
+                return true;
+            }
+            left -= 1;
+        }
+        false
+    }
+
+    /// The name of the first pair whose name another pair before it has.
+    pub fn first_repeated_name(self) -> Option<&'a str>
+        ensures { (t : Tree) → Spells t (document_bytes self.entry)
+            → MatchOption result (first_repeated [] t ≡ None)
+            (λ name. first_repeated [] t ≡ Some name.now) }
+    {
+        let mut before = 0;
+        for (name, _) in self.iter() {
+            if self.is_among_first(before, name) {
+                return Some(name);
+            }
+            before += 1;
+        }
+        None
+    }
+}

@@ -1,0 +1,91 @@
+//! The pairs of a document and the values of an array, in order.
+
+ghost use Rattle.std.specs.Prelude.{◌≡◌, length};
+ghost use Rattle.std.specs.Iterator.{at_most};
+ghost use Rattle.bson_elem.specs.Tree.{Tree};
+ghost use Rattle.bson_elem.specs.Spelling.{Spells};
+ghost use Rattle.bson_raw.specs.Spelled.{IsSpelled};
+ghost use Rattle.bson_raw.specs.Left.{HasLeft};
+
+use crate::value::RawBson;
+use bson_elem::reread::reread_element;
+
+/// The pairs of a document that are left.
+#[derive(Drop)]
+pub struct RawIter<'a> {
+    bytes: &'a [u8],
+    at: usize,
+    pub ghost left: { ∥ HasLeft bytes.now at ∥₁ },
+}
+
+impl<'a> RawIter<'a> {
+    ghost use Rattle.bson_raw.specs.RawIter.{PairsLeft, walked_len};
+
+    /// All pairs of the document that the bytes are known to spell.
+    pub(crate) fn of_spelled(bytes: &'a [u8]) -> RawIter<'a>
+        requires { ∥ IsSpelled bytes.now ∥₁ }
+        ensures pairs { (t : Tree) → Spells t bytes.now → PairsLeft result t }
+        ensures walked { walked_len result ≡ length bytes.now }
+    {
+        RawIter { bytes, at: 4 }
+    }
+}
+
+impl<'a> Iterator for RawIter<'a> {
+    ghost use Rattle.bson_raw.specs.RawIter.{pairs_bound, StepsTo};
+
+    type Item = (&'a str, RawBson<'a>);
+
+    ghost remaining = { λ s. at_most (pairs_bound s) };
+
+    ghost next_gives = { StepsTo };
+
+    // Kept apart, so that a caller that goes into inner documents has a small frame a level.
+    #[inline(never)]
+    fn next(&mut self) -> Option<(&'a str, RawBson<'a>)> {
+        let bytes = self.bytes;
+        let end = bytes.len() - 1;
+        if self.at >= end {
+            return None;
+        }
+        let element = reread_element(bytes, self.at, end);
+        self.at = element.next;
+        Some((element.name, RawBson::of_item(element.value)))
+    }
+}
+
+/// The values of an array that are left.
+#[derive(Drop)]
+pub struct RawArrayIter<'a> {
+    pairs: RawIter<'a>,
+}
+
+impl<'a> RawArrayIter<'a> {
+    ghost use Rattle.bson_raw.specs.RawIter.{ValuesLeft, walked_array_len};
+
+    /// All values of the array that the bytes are known to spell.
+    pub(crate) fn of_spelled(bytes: &'a [u8]) -> RawArrayIter<'a>
+        requires { ∥ IsSpelled bytes.now ∥₁ }
+        ensures values { (t : Tree) → Spells t bytes.now → ValuesLeft result t }
+        ensures walked { walked_array_len result ≡ length bytes.now }
+    {
+        RawArrayIter {
+            pairs: RawIter::of_spelled(bytes),
+        }
+    }
+}
+
+impl<'a> Iterator for RawArrayIter<'a> {
+    ghost use Rattle.bson_raw.specs.RawIter.{values_bound, ValueStepsTo};
+
+    type Item = RawBson<'a>;
+
+    ghost remaining = { λ s. at_most (values_bound s) };
+
+    ghost next_gives = { ValueStepsTo };
+
+    fn next(&mut self) -> Option<RawBson<'a>> {
+        let (_, value) = self.pairs.next()?;
+        Some(value)
+    }
+}

@@ -1,0 +1,13 @@
+use Rattle.std.proofs.Common.{◌≡◌, ◌∙◌, sym, Some, codes}
+use Rattle.clap.specs.Words.{found_of, one_text}
+use Rattle.clap.proofs.WalkLemmas.{one_text-rows}
+use Rattle.bsonwire.proofs.ChoiceLemmas.{flag_text}
+use Rattle.bsonwire.proofs.choice.hex_of.Goals as goal
+
+pub returns : goal.returns
+returns c =
+    let f = found_of c.args.matches.now in
+    let is : c.get_one.result ≡ Some c.in_ok-hex.hex = c.in_ok-hex.ensures.ok_part in
+    sym (one_text-rows f (codes "hex"))
+    ∙ flag_text (one_text f (codes "hex")) c.in_ok-hex.hex
+    (λ e. sym is ∙ c.get_one.ensures.none e) (λ t e. rw is at (c.get_one.ensures.value t e))

@@ -1,0 +1,29 @@
+-- What a choice says of the matches that `clap` has of the words.
+use Rattle.std.specs.Prelude.{◌≡◌, List, Bool, Option, Some, None, codes, if◌then◌else◌}
+use Rattle.clap.specs.Words.{Row, Text, first_of, one_of, subcommand_of}
+use Rattle.bsonwire.specs.declared.choice.Source.{Source}
+use Rattle.bsonwire.specs.declared.choice.Choice.{Choice}
+use Rattle.bsonwire.specs.declared.choice.Choice.TheVariants.{Dump}
+use Rattle.bsonwire.specs.CommandLine.{command_line}
+
+-- the matches of a subcommand hold this `--hex`
+abbrev pub HoldsHex : Bool → List Row → Type 0
+HoldsHex hex rows =
+    one_of (codes "hex") rows ≡ Some (if hex then codes "true" else codes "false")
+
+-- the matches of a subcommand hold this operand FILE and this `--hex`
+abbrev pub HoldsSource : Source → List Row → Type 0
+HoldsSource s rows = (first_of (codes "file") rows ≡ Some s.file.now) × HoldsHex s.hex rows
+
+-- the choice is the subcommand of this name, with what its matches hold
+abbrev pub IsSubcommand : Choice → Text → List Row → Type 0
+IsSubcommand (Dump s) name rows = (name ≡ codes "dump") × HoldsSource s rows
+
+-- a subcommand was met, and the choice is that one
+abbrev pub IsMetSubcommand : Choice → Option (Text × List Row) → Type 0
+IsMetSubcommand c None = ⊥
+IsMetSubcommand c (Some met) = IsSubcommand c met.0 met.1
+
+-- the choice is what the command line makes of the words
+abbrev pub IsChosen : Choice → List Text → Type 0
+IsChosen c words = IsMetSubcommand c (subcommand_of command_line words)

@@ -1,0 +1,26 @@
+-- The command line of the program, as `clap` sees it.
+use Rattle.std.specs.Prelude.{true, codes, Some}
+use Rattle.clap.specs.Words.{App, Rule, Text, new_app, new_rule, with_rule, with_subcommand}
+use Rattle.clap.specs.Simple.{on_top}
+use Rattle.clap.specs.declared.builder.action.ArgAction.TheVariants.{SetTrue}
+
+-- an operand that has to be there
+abbrev pub operand_rule : Text → Rule
+operand_rule id = record (new_rule id) { value_names = 1; required = true }
+
+-- the flag `--hex`
+abbrev pub hex_rule : Rule
+hex_rule = record (new_rule (codes "hex")) { long = Some (codes "hex"); action = Some SetTrue }
+
+-- a subcommand that reads a file, as bytes or as hexadecimal text
+abbrev pub file_app : Text → App
+file_app name = with_rule (with_rule (new_app name) (operand_rule (codes "file"))) hex_rule
+
+-- the program with no subcommand yet: it has a version, and wants a subcommand
+abbrev pub top_app : App
+top_app = on_top (λ s. record s { subcommand_required = true; has_version = true })
+    (new_app (codes "bsonwire"))
+
+-- the whole command line
+abbrev pub command_line : App
+command_line = with_subcommand top_app (file_app (codes "dump")).top

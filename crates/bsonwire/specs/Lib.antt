@@ -1,0 +1,11 @@
+pub mod Text
+pub mod ValueText
+pub mod Dump
+pub mod DumpValues
+pub mod Buffered
+pub mod Run
+pub mod ExitStatus
+pub mod Input
+pub mod Output
+pub mod CommandLine
+pub mod Choices

@@ -1,0 +1,72 @@
+//! The command line that `clap` reads: the subcommands, their operands and their flags.
+ghost use Rattle.std.specs.Prelude.{◌≡◌, IfOk, codes, false};
+ghost use Rattle.clap.specs.Words.{app_of, rule_of, with_subcommand};
+ghost use Rattle.clap.specs.declared.builder.command.Command.TheViews.{out-Command};
+ghost use Rattle.bsonwire.specs.CommandLine.{command_line, file_app, hex_rule, operand_rule, top_app};
+
+use clap::{Arg, ArgAction, Command};
+use std::alloc::{AllocError, Global};
+
+/// The operand FILE.
+fn file_operand<'a>(alloc: Global) -> Arg<'a>
+    ensures rule { rule_of result ≡ operand_rule (codes "file") }
+    ensures local { result.global ≡ false }
+{
+    Arg::new(alloc, "file")
+        .value_name("FILE")
+        .help("The file to read, or - for standard input")
+        .required(true)
+}
+
+/// The flag `--hex`.
+fn hex_flag<'a>(alloc: Global) -> Arg<'a>
+    ensures rule { rule_of result ≡ hex_rule }
+    ensures local { result.global ≡ false }
+{
+    Arg::new(alloc, "hex")
+        .long("hex")
+        .help("Read hexadecimal text")
+        .action(ArgAction::SetTrue)
+}
+
+/// A subcommand of this name that reads FILE. Errs where memory runs out.
+fn file_command<'a>(alloc: Global, name: &'a str, about: &'a str) -> Result<Command<'a>, AllocError>
+    ensures app { IfOk result (λ c. app_of c ≡ file_app name.entry.now) }
+    ensures local { IfOk result (λ c. (out-Command c).has_globals ≡ false) }
+{
+    Command::new(alloc, name)
+        .about(about)
+        .arg(file_operand(alloc))?
+        .arg(hex_flag(alloc))
+}
+
+/// The program, with no subcommand yet.
+fn top<'a>(alloc: Global) -> Command<'a>
+    ensures app { app_of result ≡ top_app }
+    ensures local { (out-Command result).has_globals ≡ false }
+{
+    Command::new(alloc, "bsonwire")
+        .about("Reads BSON documents and MongoDB wire messages")
+        .version("0.1.0")
+        .subcommand_required(true)
+}
+
+/// The command with one more subcommand. Errs where memory runs out.
+fn with<'a>(line: Command<'a>, sub: Command<'a>) -> Result<Command<'a>, AllocError>
+    requires line_local { (out-Command line).has_globals ≡ false }
+    requires sub_local { (out-Command sub).has_globals ≡ false }
+    ensures app { IfOk result (λ c.
+        app_of c ≡ with_subcommand (app_of line.entry) (app_of sub.entry).top) }
+    ensures local { IfOk result (λ c. (out-Command c).has_globals ≡ false) }
+{
+    line.subcommand(sub)
+}
+
+/// The whole command line. Errs where memory runs out.
+pub fn program<'a>(alloc: Global) -> Result<Command<'a>, AllocError>
+    ensures app { IfOk result (λ c. app_of c ≡ command_line) }
+    ensures local { IfOk result (λ c. (out-Command c).has_globals ≡ false) }
+{
+    let dump = file_command(alloc, "dump", "Writes the text of each document")?;
+    with(top(alloc), dump)
+}

@@ -1,0 +1,107 @@
+//! Runs what the command line asks for, and gives the exit status.
+ghost use Rattle.std.specs.Prelude.{◌≡◌};
+ghost use Rattle.bsonwire.specs.ExitStatus.{exit_status};
+
+use crate::choice::Choice;
+use crate::dump::run_dump;
+use crate::run::{RunEnd, end_of};
+use std::alloc::Global;
+use std::fs::OpenFile;
+use std::io::{ErrorKind, Read, Write};
+use std::rt::Files;
+use std::{fmt, fs, io};
+
+/// The exit status of an end: 0 good, 1 a fault in the input, 3 reading or writing failed, 4 memory
+/// ran out.
+pub fn status_of(end: RunEnd) -> u8
+    ensures { result ≡ exit_status end }
+{
+    match end {
+        RunEnd::Good => 0,
+        RunEnd::Fault => 1,
+        RunEnd::InOut => 3,
+        RunEnd::Memory => 4,
+    }
+}
+
+/// What a run reads, as a message names it.
+#[derive(Clone, Copy)]
+struct InputName<'a>(&'a str);
+
+impl fmt::Display for InputName<'_> {
+    fn fmt<W: fmt::Write>(&self, f: &mut fmt::Formatter<W>) -> fmt::Result {
+        let file = self.0;
+        if file == "-" {
+            f.write_str("standard input")
+        } else if file.is_empty() || file.chars().any(|c| c.is_control()) {
+            // Quoted, so that the message stays one line and names something.
+            write!(f, "{file:?}")
+        } else {
+            f.write_str(file)
+        }
+    }
+}
+
+/// Runs the choice over its file or standard input, says on standard error why it could not go on,
+/// and gives the exit status.
+pub fn run<R: Files + Input + Print + Eprint + AllocGlobal>(rt: &R, choice: Choice<'_>) -> u8 {
+    let file = file_of(choice);
+    if file == "-" {
+        let end = run_over(rt.alloc(), choice, &mut rt.reader(), &mut io::writer(rt));
+        return tell(rt, end, InputName(file));
+    }
+    match open(rt, file) {
+        Ok(mut opened) => {
+            let end = run_over(rt.alloc(), choice, &mut opened, &mut io::writer(rt));
+            tell(rt, end, InputName(file))
+        }
+        Err(error) => tell_unopened(rt, error, InputName(file)),
+    }
+}
+
+/// The file that the choice reads.
+fn file_of(choice: Choice<'_>) -> &str {
+    match choice {
+        Choice::Dump(source) => source.file,
+    }
+}
+
+/// Opens a file to read. Errs at a directory too, which the system opens and then does not read.
+fn open<R: Files>(rt: &R, file: &str) -> io::Result<R::File> {
+    let opened = fs::open(rt, file)?;
+    if opened.metadata()?.is_dir() {
+        return Err(io::Error::from(ErrorKind::IsADirectory));
+    }
+    Ok(opened)
+}
+
+/// Runs the choice over its input.
+fn run_over<R: Read, W: Write>(
+    alloc: Global,
+    choice: Choice<'_>,
+    reader: &mut R,
+    writer: &mut W,
+) -> RunEnd {
+    match choice {
+        Choice::Dump(source) => run_dump(alloc, source.hex, reader, writer),
+    }
+}
+
+/// Says why a run stopped short, and gives its exit status.
+fn tell(rt: &impl Eprint, end: RunEnd, input: InputName<'_>) -> u8 {
+    // Where standard error takes no line, the status alone says it.
+    let _ = match end {
+        RunEnd::InOut => {
+            eprintln!(rt; "bsonwire: could not read {input} or write standard output")
+        }
+        RunEnd::Memory => eprintln!(rt; "bsonwire: {input}: out of memory"),
+        RunEnd::Good | RunEnd::Fault => Ok(()),
+    };
+    status_of(end)
+}
+
+/// Says why the input could not be opened, and gives the exit status.
+fn tell_unopened(rt: &impl Eprint, error: io::Error, input: InputName<'_>) -> u8 {
+    let _ = eprintln!(rt; "bsonwire: {input}: {error}");
+    status_of(end_of(&error))
+}

@@ -1,0 +1,44 @@
+ghost use Rattle.std.specs.Prelude.{◌≡◌, ◌⊎◌, IfSome, true};
+ghost use Rattle.std.specs.Io.KnownBytes.{IsAtEnd, Keeps};
+ghost use Rattle.bsonwire.specs.Dump.{DumpText};
+ghost use Rattle.bsonwire.specs.Output.{AppendsText, IsOutput};
+ghost use Rattle.bsonwire.specs.Run.{is_done, is_fault};
+
+use crate::document_text::write_documents;
+use crate::run::{Engine, RunEnd, run};
+use std::alloc::Global;
+use std::io;
+use std::io::{Read, Write};
+
+/// The command `dump`.
+struct Dump;
+
+impl Engine for Dump {
+    ghost is_text = { λ _. DumpText 0 };
+
+    fn write_text<W: Write>(&self, bytes: &[u8], out: &mut W) -> io::Result<bool> {
+        write_documents(bytes, out)
+    }
+}
+
+/// Writes the text of all that the reader has. With `hex` the input is hexadecimal text.
+pub fn run_dump<R: Read, W: Write>(
+    alloc: Global,
+    hex: bool,
+    reader: &mut R,
+    writer: &mut W,
+) -> RunEnd
+    ensures read { is_done result ≡ true → IsAtEnd (R.remaining reader.new) }
+    ensures written { IfSome (R.remaining reader.old) (λ input. is_done result ≡ true →
+        AppendsText (IsOutput (DumpText 0) hex input) (is_fault result)
+        (W.contents writer.old) (W.contents writer.new)) }
+    ensures late { (IsAtEnd (R.remaining reader.new)) ⊎
+        Keeps (W.contents writer.old) (W.contents writer.new) }
+    ensures memory { result ≡ RunEnd.Memory →
+        Keeps (W.contents writer.old) (W.contents writer.new) }
+{
+    run(alloc, &Dump, hex, reader, writer)
+}
+
+#[cfg(test)]
+mod tests;

@@ -1,0 +1,377 @@
+//! What no contract says: that the text is the one that was worked out by hand from the standard and the table of kinds,
+//! that reads, writes and allocations which fail end the run as they should, and that the writer is flushed.
+
+use crate::dump::run_dump;
+use crate::run::RunEnd;
+use std::io;
+use std::io::{Read, Write};
+use std::test::Fail;
+
+// Documents back to back, and the first fault of what follows them.
+#[test]
+fn documents_and_faults(rt: HostRuntime) -> Result<(), Fail> {
+    let rows = [
+        ("", "", RunEnd::Good),
+        ("0500000000", "document 5\n", RunEnd::Good),
+        (
+            "16000000 02 68656c6c6f00 06000000 776f726c6400 00",
+            "document 22\n  \"hello\" string \"world\"\n",
+            RunEnd::Good,
+        ),
+        (
+            "10000000 02 7300 04000000 61006200 00",
+            "document 16\n  \"s\" string \"a\\x00b\"\n",
+            RunEnd::Good,
+        ),
+        (
+            "0500000000 16000000 02 68656c6c6f00 06000000 776f726c6400 00",
+            "document 5\ndocument 22\n  \"hello\" string \"world\"\n",
+            RunEnd::Good,
+        ),
+        (
+            "0500000000 0500",
+            "document 5\nfault 1 Truncated at 5\n",
+            RunEnd::Fault,
+        ),
+        ("050", "fault 0 Hex at 3\n", RunEnd::Fault),
+        (
+            "14000000 04 6100 0c000000 10 7800 01000000 00 00",
+            "document 20\n  \"a\" array 12\n    \"x\" int32 1\n",
+            RunEnd::Good,
+        ),
+        (
+            "13000000 05 6200 06000000 02 02000000 aabb 00",
+            "document 19\n  \"b\" binary 02 2 aabb\n",
+            RunEnd::Good,
+        ),
+        (
+            "13000000 05 6200 06000000 02 03000000 aabb 00",
+            "fault 9 OldBinary at 4\n",
+            RunEnd::Fault,
+        ),
+        (
+            "17000000 0f 6300 0f000000 02000000 7800 0500000000 00",
+            "document 23\n  \"c\" codescope \"x\" 5\n",
+            RunEnd::Good,
+        ),
+        (
+            "17000000 0f 6300 0e000000 02000000 7800 0500000000 00",
+            "fault 10 Scope at 4\n",
+            RunEnd::Fault,
+        ),
+        (
+            "09000000 08 7400 02 00",
+            "fault 8 Boolean at 4\n",
+            RunEnd::Fault,
+        ),
+    ];
+    for (input, text, end) in rows {
+        let mut writer = Vec::new(rt.alloc());
+        let ended = run_dump(rt.alloc(), true, &mut input.as_bytes(), &mut writer);
+        assert_eq!(rt; writer.as_slice(), text.as_bytes(), "at {input:?}");
+        assert_eq!(rt; ended, end, "at {input:?}");
+    }
+    Ok(())
+}
+
+// A document of one element, for each kind.
+#[test]
+fn one_element_of_each_kind(rt: HostRuntime) -> Result<(), Fail> {
+    let rows = [
+        (
+            "10000000 01 7600 000000000000f03f 00",
+            "document 16\n  \"v\" double 000000000000f03f\n",
+            RunEnd::Good,
+        ),
+        (
+            "0f000000 05 7600 02000000 00 aabb 00",
+            "document 15\n  \"v\" binary 00 2 aabb\n",
+            RunEnd::Good,
+        ),
+        (
+            "0d000000 05 7600 00000000 00 00",
+            "document 13\n  \"v\" binary 00 0\n",
+            RunEnd::Good,
+        ),
+        (
+            "08000000 06 7600 00",
+            "document 8\n  \"v\" undefined\n",
+            RunEnd::Good,
+        ),
+        (
+            "14000000 07 7600 000102030405060708090a0b 00",
+            "document 20\n  \"v\" objectid 000102030405060708090a0b\n",
+            RunEnd::Good,
+        ),
+        (
+            "09000000 08 7600 01 00",
+            "document 9\n  \"v\" boolean true\n",
+            RunEnd::Good,
+        ),
+        (
+            "10000000 09 7600 ffffffffffffffff 00",
+            "document 16\n  \"v\" datetime -1\n",
+            RunEnd::Good,
+        ),
+        (
+            "08000000 0a 7600 00",
+            "document 8\n  \"v\" null\n",
+            RunEnd::Good,
+        ),
+        (
+            "0e000000 0b 7600 612e6200 6900 00",
+            "document 14\n  \"v\" regex \"a.b\" \"i\"\n",
+            RunEnd::Good,
+        ),
+        (
+            "1a000000 0c 7600 02000000 6300 000102030405060708090a0b 00",
+            "document 26\n  \"v\" dbpointer \"c\" 000102030405060708090a0b\n",
+            RunEnd::Good,
+        ),
+        (
+            "0e000000 0d 7600 02000000 6300 00",
+            "document 14\n  \"v\" code \"c\"\n",
+            RunEnd::Good,
+        ),
+        (
+            "0e000000 0e 7600 02000000 6300 00",
+            "document 14\n  \"v\" symbol \"c\"\n",
+            RunEnd::Good,
+        ),
+        (
+            "0c000000 10 7600 00000080 00",
+            "document 12\n  \"v\" int32 -2147483648\n",
+            RunEnd::Good,
+        ),
+        (
+            "10000000 11 7600 01000000 02000000 00",
+            "document 16\n  \"v\" timestamp 2 1\n",
+            RunEnd::Good,
+        ),
+        (
+            "10000000 12 7600 0000000000000080 00",
+            "document 16\n  \"v\" int64 -9223372036854775808\n",
+            RunEnd::Good,
+        ),
+        (
+            "18000000 13 7600 01000000000000000000000000004030 00",
+            "document 24\n  \"v\" decimal128 01000000000000000000000000004030\n",
+            RunEnd::Good,
+        ),
+        (
+            "08000000 ff 7600 00",
+            "document 8\n  \"v\" minkey\n",
+            RunEnd::Good,
+        ),
+        (
+            "08000000 7f 7600 00",
+            "document 8\n  \"v\" maxkey\n",
+            RunEnd::Good,
+        ),
+    ];
+    for (input, text, end) in rows {
+        let mut writer = Vec::new(rt.alloc());
+        let ended = run_dump(rt.alloc(), true, &mut input.as_bytes(), &mut writer);
+        assert_eq!(rt; writer.as_slice(), text.as_bytes(), "at {input:?}");
+        assert_eq!(rt; ended, end, "at {input:?}");
+    }
+    Ok(())
+}
+
+// The first fault in the order of the checks, and its place.
+#[test]
+fn first_faults(rt: HostRuntime) -> Result<(), Fail> {
+    let rows = [
+        ("050000", "fault 1 Truncated at 0\n", RunEnd::Fault),
+        ("04000000", "fault 2 Length at 0\n", RunEnd::Fault),
+        ("0600000000", "fault 1 Truncated at 0\n", RunEnd::Fault),
+        ("0500000001", "fault 3 End at 0\n", RunEnd::Fault),
+        ("06000000 00 00", "fault 3 End at 0\n", RunEnd::Fault),
+        ("08000000 14 7600 00", "fault 4 Kind at 4\n", RunEnd::Fault),
+        ("08000000 0a ff00 00", "fault 5 Name at 4\n", RunEnd::Fault),
+        (
+            "07000000 0a 76 00",
+            "fault 1 Truncated at 4\n",
+            RunEnd::Fault,
+        ),
+        (
+            "0f000000 02 6100 03000000 c328 00 00",
+            "fault 6 Text at 4\n",
+            RunEnd::Fault,
+        ),
+        (
+            "0e000000 02 6100 02000000 7878 00",
+            "fault 7 TextEnd at 4\n",
+            RunEnd::Fault,
+        ),
+        (
+            "0d000000 03 6100 04000000 00 00",
+            "fault 2 Length at 7\n",
+            RunEnd::Fault,
+        ),
+        (
+            "0d000000 03 6100 06000000 00 00",
+            "fault 1 Truncated at 4\n",
+            RunEnd::Fault,
+        ),
+        (
+            "0d000000 03 6100 05000000 01 00",
+            "fault 3 End at 7\n",
+            RunEnd::Fault,
+        ),
+    ];
+    for (input, text, end) in rows {
+        let mut writer = Vec::new(rt.alloc());
+        let ended = run_dump(rt.alloc(), true, &mut input.as_bytes(), &mut writer);
+        assert_eq!(rt; writer.as_slice(), text.as_bytes(), "at {input:?}");
+        assert_eq!(rt; ended, end, "at {input:?}");
+    }
+    Ok(())
+}
+
+/// Bytes that are text already, without `--hex`, with digits of either case and white space with it.
+#[test]
+fn hexadecimal_input(rt: HostRuntime) -> Result<(), Fail> {
+    let rows = [
+        (false, "\x05\0\0\0\0", "document 5\n", RunEnd::Good),
+        (true, " \t\r\n", "", RunEnd::Good),
+        (
+            true,
+            "0d00\r\n00 00 02 4A00\t01 000000 00 00",
+            "document 13\n  \"J\" string \"\"\n",
+            RunEnd::Good,
+        ),
+        (
+            true,
+            "0d000000 02 4a00 01000000 00 00",
+            "document 13\n  \"J\" string \"\"\n",
+            RunEnd::Good,
+        ),
+        (true, "4a 4A\r\n\t4f4", "fault 0 Hex at 7\n", RunEnd::Fault),
+        (true, "0g", "fault 0 Hex at 1\n", RunEnd::Fault),
+        (true, "g0 h", "fault 0 Hex at 3\n", RunEnd::Fault),
+        (true, "00 00 g0 0h", "fault 0 Hex at 4\n", RunEnd::Fault),
+        (true, "00\x0b0", "fault 0 Hex at 2\n", RunEnd::Fault),
+    ];
+    for (hex, input, text, end) in rows {
+        let mut writer = Vec::new(rt.alloc());
+        let ended = run_dump(rt.alloc(), hex, &mut input.as_bytes(), &mut writer);
+        assert_eq!(rt; writer.as_slice(), text.as_bytes(), "at {input:?}");
+        assert_eq!(rt; ended, end, "at {input:?}");
+    }
+    Ok(())
+}
+
+/// A reader that gives one byte and then fails, with a code of the system where there is one.
+#[derive(Drop)]
+struct Broken {
+    given: bool,
+    code: Option<i32>,
+}
+
+impl Read for Broken {
+    fn read(&mut self, buf: &mut [u8]) -> io::Result<usize> {
+        match buf.first_mut() {
+            Some(first) if !self.given => {
+                *first = b'0';
+                self.given = true;
+                Ok(1)
+            }
+            _ => Err(match self.code {
+                Some(code) => io::Error::from_raw_os_error(code),
+                None => io::Error::other("broken"),
+            }),
+        }
+    }
+}
+
+/// A writer that counts what it is given, and fails at its call number `fails_at`.
+#[derive(Drop)]
+struct Counter {
+    fails_at: u64,
+    calls: u64,
+    flushes: u64,
+    taken: u64,
+}
+
+impl Counter {
+    fn failing_at(fails_at: u64) -> Counter {
+        Counter {
+            fails_at,
+            calls: 0,
+            flushes: 0,
+            taken: 0,
+        }
+    }
+
+    fn call(&mut self) -> io::Result<()> {
+        self.calls = self.calls.saturating_add(1);
+        if self.calls == self.fails_at {
+            return Err(io::Error::other("full"));
+        }
+        Ok(())
+    }
+}
+
+impl Write for Counter {
+    fn write(&mut self, buf: &[u8]) -> io::Result<usize> {
+        self.call()?;
+        self.taken = self.taken.saturating_add(buf.len() as u64);
+        Ok(buf.len())
+    }
+
+    fn flush(&mut self) -> io::Result<()> {
+        self.call()?;
+        self.flushes = self.flushes.saturating_add(1);
+        Ok(())
+    }
+}
+
+#[test]
+fn a_failed_read_writes_nothing(rt: HostRuntime) {
+    // 12 is the code of a read that the system refused for want of memory.
+    for code in [None, Some(12)] {
+        for hex in [false, true] {
+            let mut reader = Broken { given: false, code };
+            let mut writer = Counter::failing_at(0);
+            let end = run_dump(rt.alloc(), hex, &mut reader, &mut writer);
+            assert_eq!(rt; (end, writer.calls), (RunEnd::InOut, 0), "at {code:?}");
+        }
+    }
+}
+
+#[test]
+fn a_failed_write_ends_the_run(rt: HostRuntime) -> Result<(), Fail> {
+    // 220,000 bytes of text: four times the buffer goes to the writer, and then it is flushed.
+    let mut input = Vec::new(rt.alloc());
+    for _ in 0..20_000 {
+        input.extend_from_slice(b"\x05\0\0\0\0")?;
+    }
+    for fails_at in 1..6 {
+        let mut writer = Counter::failing_at(fails_at);
+        let end = run_dump(rt.alloc(), false, &mut input.as_slice(), &mut writer);
+        assert_eq!(rt;
+            (end, writer.calls, writer.flushes),
+            (RunEnd::InOut, fails_at, 0),
+            "at {fails_at}"
+        );
+    }
+    let mut writer = Counter::failing_at(6);
+    let end = run_dump(rt.alloc(), false, &mut input.as_slice(), &mut writer);
+    assert_eq!(rt;
+        (end, writer.calls, writer.flushes, writer.taken),
+        (RunEnd::Good, 5, 1, 220_000)
+    );
+    Ok(())
+}
+
+/// With `rt try --test --fail-alloc N` the Nth allocation of the run is refused: nothing else here allocates.
+#[test]
+fn a_refused_allocation_writes_nothing(rt: HostRuntime) {
+    let mut reader = b"0500000000".as_slice();
+    let mut writer = Counter::failing_at(0);
+    match run_dump(rt.alloc(), true, &mut reader, &mut writer) {
+        RunEnd::Memory => assert_eq!(rt; writer.calls, 0),
+        end => assert_eq!(rt; (end, writer.taken), (RunEnd::Good, 11)),
+    }
+}

@@ -1,0 +1,93 @@
+//! `bsonwire` reads BSON documents and MongoDB wire messages from a file or standard input.
+//!
+//! The first word is the subcommand, and `bsonwire --help` lists them. What a subcommand has to say
+//! of its input goes to standard output, a fault in that input included. Only what kept it from
+//! reading or writing goes to standard error, in one line.
+//!
+//! The exit status is 0 where the input is good, 1 where it is at fault, 2 where the command line is,
+//! 3 where reading or writing failed, and 4 where memory ran out.
+#![tactic(auto)]
+
+mod buffered;
+mod choice;
+mod command_line;
+mod commands;
+mod document_text;
+mod dump;
+mod hex_input;
+mod laws;
+mod run;
+#[cfg(test)]
+mod tests;
+mod text;
+mod value_text;
+
+use choice::choose;
+use clap::error::ErrorKind;
+use commands::status_of;
+use run::{RunEnd, end_of};
+use std::process::ExitCode;
+use std::{env, io};
+
+/// The exit status of a fault in the command line.
+const USAGE: u8 = 2;
+
+fn main(rt: HostRuntime) -> ExitCode {
+    ExitCode::from(status(&rt))
+}
+
+/// Reads the words, runs what they ask for, and gives the exit status.
+fn status(rt: &HostRuntime) -> u8 {
+    let args = match env::args(rt) {
+        Ok(args) => args,
+        Err(error) => return unread_words(rt, error),
+    };
+    let Ok(texts) = args.collect::<Vec<String>>(rt.alloc()) else {
+        return out_of_memory(rt);
+    };
+    let Ok(words) = texts
+        .iter()
+        .map(|text| text.as_str())
+        .collect::<Vec<&str>>(rt.alloc())
+    else {
+        return out_of_memory(rt);
+    };
+    match choose(rt.alloc(), words.as_slice()) {
+        Ok(choice) => commands::run(rt, choice),
+        Err(error) => unchosen(rt, error),
+    }
+}
+
+/// The words could not be read: there was no memory, or one of them is not text.
+fn unread_words(rt: &impl Eprint, error: io::Error) -> u8 {
+    match end_of(&error) {
+        RunEnd::Memory => out_of_memory(rt),
+        _ => {
+            let _ = eprintln!(rt; "bsonwire: an argument is not UTF-8");
+            USAGE
+        }
+    }
+}
+
+/// Prints help, the version or what is wrong with the words.
+fn unchosen(rt: &HostRuntime, error: clap::Error) -> u8 {
+    if error.kind() == ErrorKind::OutOfMemory {
+        return out_of_memory(rt);
+    }
+    let printed = error.print(rt);
+    if error.use_stderr() {
+        return USAGE;
+    }
+    match printed {
+        Ok(()) => status_of(RunEnd::Good),
+        Err(_) => {
+            let _ = eprintln!(rt; "bsonwire: could not write standard output");
+            status_of(RunEnd::InOut)
+        }
+    }
+}
+
+fn out_of_memory(rt: &impl Eprint) -> u8 {
+    let _ = eprintln!(rt; "bsonwire: out of memory");
+    status_of(RunEnd::Memory)
+}
