@@ -1,0 +1,9 @@
+pub mod Names
+pub mod Pairs
+pub mod PlainLaws
+pub mod Naming
+pub mod Values
+pub mod Spelled
+pub mod Reading
+pub mod Checking
+pub mod Writing

@@ -1,0 +1,36 @@
+use Rattle.std.proofs.Common.{◌≡◌, ◌+◌, ◌*◌, length, map, string_bytes}
+use Rattle.bson_elem.specs.Tree.{Tree}
+use Rattle.bson_elem.specs.Spelling.{Spells}
+use Rattle.bson_raw.specs.RawArray.{array_bytes}
+use Rattle.bson_raw.specs.RawBson.{held_len}
+use Rattle.bson_raw.specs.RawDocument.{document_bytes}
+use Rattle.bson_raw.specs.RawIter.{PairsLeft, ValuesLeft, walked_len, walked_array_len}
+use Rattle.bson_doc.specs.Bson.{value_of}
+use Rattle.bson_doc.proofs.Reading.{DocumentRead, ArrayRead}
+use Rattle.bson_doc.proofs.from_raw.+read.Given as goal
+
+abbrev pub decreases-read_document : goal.decreases-read_document
+decreases-read_document l = 2 * length (document_bytes l.document)
+
+abbrev pub decreases-read_array : goal.decreases-read_array
+decreases-read_array l = 2 * length (array_bytes l.array)
+
+abbrev pub decreases-read_value : goal.decreases-read_value
+decreases-read_value l = 2 * held_len l.value + 1
+
+abbrev pub invariant-read_array-loop-value : goal.invariant-read_array-loop-value
+invariant-read_array-loop-value l = record {
+  can_next : (goal.iterator-read_array-loop-value).can_next l.value-iterator;
+  is_finite : (goal.iterator-read_array-loop-value).is_finite l.value-iterator;
+  walked : walked_array_len l.value-iterator ≡ length (array_bytes l.fn.array);
+  so_far : (t : Tree) → Spells t (array_bytes l.fn.array) → ArrayRead l.depth t (map value_of l.values.items) (ValuesLeft l.value-iterator);
+}
+
+abbrev pub invariant-read_document-loop-name : goal.invariant-read_document-loop-name
+invariant-read_document-loop-name l = record {
+  can_next : (goal.iterator-read_document-loop-name).can_next l.name-iterator;
+  is_finite : (goal.iterator-read_document-loop-name).is_finite l.name-iterator;
+  walked : walked_len l.name-iterator ≡ length (document_bytes l.fn.document);
+  lengths : length l.names.keys ≡ length l.values.items;
+  so_far : (t : Tree) → Spells t (document_bytes l.fn.document) → DocumentRead l.depth t (map string_bytes l.names.keys) (map value_of l.values.items) (PairsLeft l.name-iterator);
+}

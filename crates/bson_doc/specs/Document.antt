@@ -1,0 +1,31 @@
+-- What an owned document holds: pairs of a name and a value, in order.
+use Rattle.std.specs.Prelude.{ℕ, List, [], ◌∷◌, Option, Some, None, if◌then◌else◌}
+use Rattle.std.specs.Str.{bytes_eq}
+use Rattle.bson_elem.specs.Tree.{Tree, no_pairs}
+use Rattle.bson_raw.specs.Pairs.{TreeValue, with_first}
+
+-- each name with the value that stands at its place
+abbrev pub paired : List (List ℕ) → List TreeValue → List (List ℕ × TreeValue)
+paired [] vs = []
+paired (n ∷ ns) [] = []
+paired (n ∷ ns) (v ∷ vs) = (n, v) ∷ paired ns vs
+
+-- the tree of these pairs
+abbrev pub tree_of : List (List ℕ × TreeValue) → Tree
+tree_of [] = no_pairs
+tree_of (p ∷ ps) = with_first p.0 p.1 (tree_of ps)
+
+-- the value of the first pair of this name
+abbrev pub value_named : List ℕ → List (List ℕ × TreeValue) → Option TreeValue
+value_named name [] = None
+value_named name (p ∷ ps) = if bytes_eq name p.0 then Some p.1 else value_named name ps
+
+-- the pairs with this value at the name: in the place of the name, or last where it is new
+abbrev pub put : List ℕ → TreeValue → List (List ℕ × TreeValue) → List (List ℕ × TreeValue)
+put name v [] = (name, v) ∷ []
+put name v (p ∷ ps) = if bytes_eq name p.0 then (p.0, v) ∷ ps else p ∷ put name v ps
+
+-- the pairs without the first one of this name
+abbrev pub without : List ℕ → List (List ℕ × TreeValue) → List (List ℕ × TreeValue)
+without name [] = []
+without name (p ∷ ps) = if bytes_eq name p.0 then ps else p ∷ without name ps

@@ -1,0 +1,31 @@
+-- What each owned value has by its type: texts are UTF-8, bytes are bytes, and numbers fit.
+use Rattle.std.specs.Prelude.{◌^◌, ◌<◌, FitsSigned, IsUtf8}
+use Rattle.std.specs.Int.{w32, w64}
+use Rattle.bson_elem.specs.Kinds.{Form, raw_form, boolean_form, int32_form, int64_form, timestamp_form, string_form, pointer_form, binary_form, regex_form, form_of}
+use Rattle.bson_elem.specs.Spelling.{IsBytes, AreBytes, StandsIn}
+use Rattle.bson_elem.specs.Tree.{Leaf, raw_value, boolean_value, number_value, timestamp_value, text_value, pointer_value, binary_value, regex_value, Tree, no_pairs, leaf_pair, inner_pair}
+use Rattle.bson_raw.specs.Pairs.{TreeValue, leaf_value, document_value}
+
+-- the leaf is one of this form, but for its length and for a 00 in a pattern or options
+abbrev pub IsFormedLeaf : Form → Leaf → Type 0
+IsFormedLeaf (raw_form n) (raw_value bytes) = AreBytes n bytes
+IsFormedLeaf boolean_form (boolean_value b) = Unit {0}
+IsFormedLeaf int32_form (number_value z) = FitsSigned w32 z
+IsFormedLeaf int64_form (number_value z) = FitsSigned w64 z
+IsFormedLeaf timestamp_form (timestamp_value increment seconds) = (increment < 2 ^ 32) × (seconds < 2 ^ 32)
+IsFormedLeaf string_form (text_value words) = IsUtf8 words
+IsFormedLeaf pointer_form (pointer_value words id) = IsUtf8 words × AreBytes 12 id
+IsFormedLeaf binary_form (binary_value subtype bytes) = (subtype < 256) × IsBytes bytes
+IsFormedLeaf regex_form (regex_value pattern options) = IsUtf8 pattern × IsUtf8 options
+IsFormedLeaf _ _ = ⊥
+
+-- the same of the leaves and the names of pairs
+abbrev pub IsFormed : Tree → Type 0
+IsFormed no_pairs = Unit {0}
+IsFormed (leaf_pair n k v ps) = IsUtf8 n × IsFormedLeaf (form_of k) v × IsFormed ps
+IsFormed (inner_pair n k b inner ps) = IsUtf8 n × StandsIn (form_of k) b × IsFormed inner × IsFormed ps
+
+-- the same of a value
+abbrev pub IsFormedValue : TreeValue → Type 0
+IsFormedValue (leaf_value k v) = IsFormedLeaf (form_of k) v
+IsFormedValue (document_value k b inner) = StandsIn (form_of k) b × IsFormed inner

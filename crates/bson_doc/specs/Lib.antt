@@ -1,0 +1,15 @@
+pub mod Plain
+pub mod Naming
+pub mod Values
+pub mod Refusals
+pub mod RawDocumentBuf
+pub mod Depths
+pub mod Codes
+pub mod Bson
+pub mod Sizes
+pub mod Document
+pub mod Array
+pub mod DocumentIter
+pub mod Repeats
+pub mod Unwritable
+pub mod Formed

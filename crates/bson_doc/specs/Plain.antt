@@ -1,0 +1,34 @@
+-- Trees in canonical form (bsonspec.org, version 1.1: an array is a document whose names are "0", "1" and so on).
+use Rattle.std.specs.Prelude.{ℕ, ◌+◌, Bool, true, false, List, length, if◌then◌else◌}
+use Rattle.std.specs.Fmt.{decimal}
+use Rattle.bson_elem.specs.declared.kind.Kind.{Kind}
+use Rattle.bson_elem.specs.declared.kind.Kind.TheVariants.{Array}
+use Rattle.bson_elem.specs.Tree.{Tree, no_pairs, leaf_pair, inner_pair}
+use Rattle.bson_elem.specs.Spelling.{document, elements}
+
+abbrev pub is_array_kind : Kind → Bool
+is_array_kind Array = true
+is_array_kind _ = false
+
+-- the canonical name of the pair at a place, counted from 0: the place in decimal in an array, its own elsewhere
+abbrev pub name_at : Bool → ℕ → List ℕ → List ℕ
+name_at in_array place name = if in_array then decimal place else name
+
+-- the pairs from this place of a container on, with the canonical names at every depth
+abbrev pub plain_from : Bool → ℕ → Tree → Tree
+plain_from in_array place no_pairs = no_pairs
+plain_from in_array place (leaf_pair name k v ps) = leaf_pair (name_at in_array place name) k v (plain_from in_array (place + 1) ps)
+plain_from in_array place (inner_pair name k b inner ps) =
+    inner_pair (name_at in_array place name) k b (plain_from (is_array_kind k) 0 inner) (plain_from in_array (place + 1) ps)
+
+-- the pairs of a document, with "0", "1" and so on as the names in each array
+abbrev pub plain : Tree → Tree
+plain t = plain_from false 0 t
+
+-- the pairs of an array from this place on
+abbrev pub numbered : ℕ → Tree → Tree
+numbered place t = plain_from true place t
+
+-- how many bytes the canonical form has
+abbrev pub canonical_len : Tree → ℕ
+canonical_len t = length (document (elements (plain t)))

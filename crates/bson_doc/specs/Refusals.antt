@@ -1,0 +1,21 @@
+-- Why a document isn't made.
+use Rattle.std.specs.Prelude.{◌≡◌, ℕ, ◌<◌, List, length, take}
+use Rattle.bson_doc.specs.declared.refusal.DocRefusal.{DocRefusal}
+use Rattle.bson_doc.specs.declared.refusal.DocRefusal.TheVariants.{RepeatedName, OutOfMemory, TooLarge, ZeroInName, Depth}
+
+abbrev pub refusal_number : DocRefusal → ℕ
+refusal_number (RepeatedName depth) = 1
+refusal_number OutOfMemory = 2
+refusal_number TooLarge = 3
+refusal_number ZeroInName = 4
+refusal_number Depth = 5
+
+-- memory is wanting, or so many bytes are more than the limit
+abbrev pub IsSizeRefusal : ℕ → ℕ → DocRefusal → Type 0
+IsSizeRefusal limit count OutOfMemory = Unit {0}
+IsSizeRefusal limit count TooLarge = limit < count
+IsSizeRefusal limit count _ = ⊥
+
+-- the bytes that stood there stand there still, with or without more behind them
+abbrev pub Keeps : List ℕ → List ℕ → Type 0
+Keeps before after = take (length before) after ≡ before

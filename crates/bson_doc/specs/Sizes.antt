@@ -1,0 +1,58 @@
+-- A container is deeper than what it holds.
+use Rattle.std.specs.Prelude.{◌≡◌, ℕ, ◌+◌, ◌≤◌, max, List, [], ◌∷◌, map, length, String, string_bytes}
+use Rattle.std.specs.declared.alloc.Global.{Global}
+use Rattle.std.specs.Fmt.{decimal}
+use Rattle.std.proofs.Common.{arith}
+use denote.Param.Weighed.{most}
+use Rattle.bson_elem.specs.Tree.{Tree}
+use Rattle.bson_raw.specs.Pairs.{TreeValue, leaf_value, document_value, with_first}
+use Rattle.bson_doc.specs.declared.bson.Bson.{Bson}
+use Rattle.bson_doc.specs.declared.bson.Bson.TheVariants.{Double, String as Text, Document, Array, Binary, Undefined, ObjectId, Boolean, DateTime, Null, Regex, DbPointer, Code, Symbol, CodeWithScope, Int32, Timestamp, Int64, Decimal128, MinKey, MaxKey}
+use Rattle.bson_doc.specs.declared.array.Array.TheDeep.{deep-Bson}
+use Rattle.bson_doc.specs.Depths.{tree_depth, value_depth}
+use Rattle.bson_doc.specs.Bson.{value_of}
+use Rattle.bson_doc.specs.Document.{paired, tree_of}
+use Rattle.bson_doc.specs.Array.{array_tree}
+
+-- a pair is as deep as its value
+tree_depth-with_first : (name : List ℕ) (v : TreeValue) (ps : Tree) → tree_depth (with_first name v ps) ≡ max (value_depth v) (tree_depth ps)
+tree_depth-with_first name (leaf_value k leaf) ps = omega arith
+tree_depth-with_first name (document_value k b inner) ps = omega arith
+
+deep_value : (b : Bson) → deep-Bson b ≤ value_depth (value_of b)
+deep_value (Double bytes) = omega arith
+deep_value (Text text) = omega arith
+deep_value (Document d) = omega arith
+deep_value (Array a) = omega arith
+deep_value (Binary subtype bytes) = omega arith
+deep_value Undefined = omega arith
+deep_value (ObjectId bytes) = omega arith
+deep_value (Boolean truth) = omega arith
+deep_value (DateTime millis) = omega arith
+deep_value Null = omega arith
+deep_value (Regex pattern options) = omega arith
+deep_value (DbPointer text id) = omega arith
+deep_value (Code text) = omega arith
+deep_value (Symbol text) = omega arith
+deep_value (CodeWithScope code scope) = omega arith
+deep_value (Int32 n) = omega arith
+deep_value (Timestamp increment seconds) = omega arith
+deep_value (Int64 n) = omega arith
+deep_value (Decimal128 bytes) = omega arith
+deep_value MinKey = omega arith
+deep_value MaxKey = omega arith
+
+pub array_deeper : (place : ℕ) (bs : List Bson) → max (most deep-Bson bs) 0 ≤ tree_depth (array_tree place (map value_of bs))
+array_deeper place [] = omega arith
+array_deeper place (b ∷ bs) =
+    rw (tree_depth-with_first (decimal place) (value_of b) (array_tree (place + 1) (map value_of bs)))
+    (omega (arith, deep_value b, array_deeper (place + 1) bs))
+
+pub document_deeper : (ns : List (String Global)) (bs : List Bson) → length ns ≡ length bs
+    → max (most deep-Bson bs) 0 ≤ tree_depth (tree_of (paired (map string_bytes ns) (map value_of bs)))
+document_deeper [] [] e = omega arith
+document_deeper [] (b ∷ bs) e = absurd (omega arith)
+document_deeper (n ∷ ns) [] e = absurd (omega arith)
+document_deeper (n ∷ ns) (b ∷ bs) e =
+    rw (tree_depth-with_first (string_bytes n) (value_of b) (tree_of (paired (map string_bytes ns) (map value_of bs))))
+    (omega (arith, deep_value b, document_deeper ns bs (omega arith)))

@@ -1,0 +1,25 @@
+-- The values of a tree in canonical form, and the bytes of a value.
+use Rattle.std.specs.Prelude.{ℕ, List, ◌∷◌, ◌++◌}
+use Rattle.bson_elem.specs.declared.kind.Kind.{Kind}
+use Rattle.bson_elem.specs.Kinds.{byte_of, form_of}
+use Rattle.bson_elem.specs.Spelling.{cstring, leaf_bytes, inner_bytes, elements}
+use Rattle.bson_raw.specs.Pairs.{TreeValue, leaf_value, document_value}
+use Rattle.bson_doc.specs.Plain.{is_array_kind, plain_from}
+
+-- the value with the canonical names in what it holds
+abbrev pub plain_value : TreeValue → TreeValue
+plain_value (leaf_value k v) = leaf_value k v
+plain_value (document_value k b inner) = document_value k b (plain_from (is_array_kind k) 0 inner)
+
+-- the bytes of a value, behind its name
+abbrev pub value_bytes : TreeValue → List ℕ
+value_bytes (leaf_value k v) = leaf_bytes (form_of k) v
+value_bytes (document_value k b inner) = inner_bytes b (elements inner)
+
+abbrev pub value_kind : TreeValue → Kind
+value_kind (leaf_value k v) = k
+value_kind (document_value k b inner) = k
+
+-- the bytes of an element
+abbrev pub element_bytes : List ℕ → TreeValue → List ℕ
+element_bytes name v = byte_of (value_kind v) ∷ (cstring name ++ value_bytes v)

@@ -1,0 +1,78 @@
+//! An array that owns its values.
+
+ghost use Rattle.std.specs.Prelude.{◌≡◌, map, IfOk};
+
+use crate::bson::Bson;
+use std::alloc::{AllocError, Global};
+use std::marker::Model;
+
+/// The values of an array, in order.
+#[derive(Drop)]
+#[cycle(bson)]
+pub struct Array {
+    values: Vec<Bson>,
+}
+
+impl Model for Array {
+    ghost use Rattle.std.specs.Prelude.{List, map};
+    ghost use Rattle.bson_raw.specs.Pairs.{TreeValue};
+    ghost use Rattle.bson_doc.specs.Depths.{tree_depth};
+    ghost use Rattle.bson_doc.specs.Array.{array_tree};
+    ghost use Rattle.bson_doc.specs.Codes.{coded_values};
+
+    ghost Value = { List TreeValue };
+
+    ghost coded = { coded_values };
+
+    ghost use Rattle.bson_doc.specs.Bson.{value_of};
+
+    ghost view = { λ a. map value_of a.values.items };
+
+    ghost size = { λ vs. tree_depth (array_tree 0 vs) };
+
+    ghost use Rattle.bson_doc.specs.Sizes.{array_deeper};
+
+    ghost size_decreases = { λ a h. array_deeper 0 a.values.items };
+}
+
+impl Array {
+    ghost use Rattle.bson_doc.specs.Bson.{value_of};
+
+    /// The array of these values. It takes no memory.
+    pub fn from_vec(values: Vec<Bson>) -> Array
+        ensures { result ≡ map value_of values.items }
+    {
+        Array { values }
+    }
+
+    /// The values, in a `Vec`. It takes no memory.
+    pub fn into_vec(self) -> Vec<Bson>
+        ensures { map value_of result.items ≡ self }
+    {
+        let Array { values } = self;
+        values
+    }
+
+    /// The values, in order.
+    pub fn as_slice(&self) -> &[Bson]
+        ensures { map value_of result.now ≡ self.now }
+    {
+        &self.values
+    }
+
+    /// A copy of the array.
+    ///
+    /// # Errors
+    ///
+    /// Want of memory.
+    #[cycle(copy)]
+    pub fn try_clone(&self, alloc: Global) -> Result<Array, AllocError>
+        ensures { IfOk result (λ copy. copy ≡ self.now) }
+    {
+        let mut values = Vec::with_capacity(alloc, self.values.len())?;
+        for value in self.values.iter() {
+            values.push(value.try_clone(alloc)?)?;
+        }
+        Ok(Array { values })
+    }
+}

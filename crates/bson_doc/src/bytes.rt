@@ -1,0 +1,201 @@
+//! The parts of a document, added to bytes (bsonspec.org, version 1.1). Each function adds all bytes of its part, or
+//! refuses: with `OutOfMemory`, or with `TooLarge` where the part is too long for the count in front of it. What stood
+//! there before then stands there still, with some bytes of the part behind it or none.
+
+ghost use Rattle.std.specs.Prelude.{◌≡◌, ◌≤◌, ◌<◌, ◌+◌, ◌-◌, ◌++◌, ◌∷◌, [], length, take, drop, vec_len, OnOk, OnErr, IfErr};
+ghost use Rattle.bson_elem.specs.Kinds.{int32_form, int64_form, timestamp_form};
+ghost use Rattle.bson_elem.specs.Tree.{number_value, timestamp_value};
+ghost use Rattle.bson_elem.specs.Spelling.{little, cstring, string, binary, document, leaf_bytes};
+ghost use Rattle.bson_doc.specs.Refusals.{IsSizeRefusal, Keeps};
+
+use crate::buf::MAX_LEN;
+use crate::refusal::DocRefusal;
+use byteorder::{ByteOrder, LittleEndian};
+
+/// Adds bytes as they are.
+pub(crate) fn write_bytes(bytes: &[u8], out: &mut Vec<u8>) -> Result<(), DocRefusal>
+    ensures added { OnOk result (out.new.items ≡ out.old.items ++ bytes.now) }
+    ensures refused { IfErr result (λ e. IsSizeRefusal MAX_LEN (length bytes.now) e) }
+    ensures kept { OnErr result (Keeps out.old.items out.new.items) }
+{
+    out.extend_from_slice(bytes)?;
+    Ok(())
+}
+
+/// Adds a text and the 00 that ends it. The text must have no 00 in it.
+pub(crate) fn write_cstring(text: &str, out: &mut Vec<u8>) -> Result<(), DocRefusal>
+    ensures added { OnOk result (out.new.items ≡ out.old.items ++ cstring text.now) }
+    ensures refused { IfErr result (λ e. IsSizeRefusal MAX_LEN (length (cstring text.now)) e) }
+    ensures kept { OnErr result (Keeps out.old.items out.new.items) }
+{
+    out.extend_from_slice(text.as_bytes())?;
+    out.push(0)?;
+    Ok(())
+}
+
+/// Adds an unsigned number of four bytes.
+pub(crate) fn write_u32(n: u32, out: &mut Vec<u8>) -> Result<(), DocRefusal>
+    ensures added { OnOk result (out.new.items ≡ out.old.items ++ little n) }
+    ensures refused { IfErr result (λ e. IsSizeRefusal MAX_LEN 4 e) }
+    ensures kept { OnErr result (Keeps out.old.items out.new.items) }
+{
+    let mut bytes = [0; 4];
+    LittleEndian::write_u32(&mut bytes, n);
+    out.extend_from_slice(&bytes)?;
+    Ok(())
+}
+
+/// Adds an int32.
+pub(crate) fn write_int32(n: i32, out: &mut Vec<u8>) -> Result<(), DocRefusal>
+    ensures added { OnOk result (out.new.items ≡ out.old.items ++ leaf_bytes int32_form (number_value n)) }
+    ensures refused { IfErr result (λ e. IsSizeRefusal MAX_LEN 4 e) }
+    ensures kept { OnErr result (Keeps out.old.items out.new.items) }
+{
+    let mut bytes = [0; 4];
+    LittleEndian::write_i32(&mut bytes, n);
+    out.extend_from_slice(&bytes)?;
+    Ok(())
+}
+
+/// Adds an int64.
+pub(crate) fn write_int64(n: i64, out: &mut Vec<u8>) -> Result<(), DocRefusal>
+    ensures added { OnOk result (out.new.items ≡ out.old.items ++ leaf_bytes int64_form (number_value n)) }
+    ensures refused { IfErr result (λ e. IsSizeRefusal MAX_LEN 8 e) }
+    ensures kept { OnErr result (Keeps out.old.items out.new.items) }
+{
+    let mut bytes = [0; 8];
+    LittleEndian::write_i64(&mut bytes, n);
+    out.extend_from_slice(&bytes)?;
+    Ok(())
+}
+
+/// Adds a timestamp.
+pub(crate) fn write_timestamp(
+    increment: u32,
+    seconds: u32,
+    out: &mut Vec<u8>,
+) -> Result<(), DocRefusal>
+    ensures added { OnOk result (out.new.items ≡ out.old.items ++ leaf_bytes timestamp_form (timestamp_value increment seconds)) }
+    ensures refused { IfErr result (λ e. IsSizeRefusal MAX_LEN 8 e) }
+    ensures kept { OnErr result (Keeps out.old.items out.new.items) }
+{
+    write_u32(increment, out)?;
+    write_u32(seconds, out)
+}
+
+/// Adds a count.
+fn write_count(count: usize, out: &mut Vec<u8>) -> Result<(), DocRefusal>
+    ensures added { OnOk result (out.new.items ≡ out.old.items ++ little count) }
+    ensures refused { IfErr result (λ e. IsSizeRefusal MAX_LEN count e) }
+    ensures kept { OnErr result (Keeps out.old.items out.new.items) }
+{
+    if count > MAX_LEN {
+        return Err(DocRefusal::TooLarge);
+    }
+    write_u32(count as u32, out)
+}
+
+/// Adds a string: the count of the text and the 00, the text, and that 00.
+pub(crate) fn write_string(text: &str, out: &mut Vec<u8>) -> Result<(), DocRefusal>
+    ensures added { OnOk result (out.new.items ≡ out.old.items ++ string text.now) }
+    ensures refused { IfErr result (λ e. IsSizeRefusal MAX_LEN (length (string text.now)) e) }
+    ensures kept { OnErr result (Keeps out.old.items out.new.items) }
+{
+    write_count(text.len() + 1, out)?;
+    write_cstring(text, out)
+}
+
+/// Adds the count of bytes, and these.
+fn write_counted(bytes: &[u8], out: &mut Vec<u8>) -> Result<(), DocRefusal>
+    ensures added { OnOk result (out.new.items ≡ out.old.items ++ (little (length bytes.now) ++ bytes.now)) }
+    ensures refused { IfErr result (λ e. IsSizeRefusal MAX_LEN (length (little (length bytes.now) ++ bytes.now)) e) }
+    ensures kept { OnErr result (Keeps out.old.items out.new.items) }
+{
+    write_count(bytes.len(), out)?;
+    write_bytes(bytes, out)
+}
+
+/// Adds what stands before the data of a binary: their count and the subtype.
+fn write_binary_head(count: usize, subtype: u8, out: &mut Vec<u8>) -> Result<(), DocRefusal>
+    ensures added { OnOk result (out.new.items ≡ out.old.items ++ (little count ++ subtype ∷ [])) }
+    ensures refused { IfErr result (λ e. IsSizeRefusal MAX_LEN count e) }
+    ensures kept { OnErr result (Keeps out.old.items out.new.items) }
+{
+    write_count(count, out)?;
+    out.push(subtype)?;
+    Ok(())
+}
+
+/// Adds a binary: the count of the data, the subtype and the data, which in subtype 02 begin with their own count.
+pub(crate) fn write_binary(subtype: u8, bytes: &[u8], out: &mut Vec<u8>) -> Result<(), DocRefusal>
+    ensures added { OnOk result (out.new.items ≡ out.old.items ++ binary subtype bytes.now) }
+    ensures refused { IfErr result (λ e. IsSizeRefusal MAX_LEN (length (binary subtype bytes.now)) e) }
+    ensures kept { OnErr result (Keeps out.old.items out.new.items) }
+{
+    if subtype == 2 {
+        write_binary_head(bytes.len() + 4, 2, out)?;
+        return write_counted(bytes, out);
+    }
+    write_binary_head(bytes.len(), subtype, out)?;
+    write_bytes(bytes, out)
+}
+
+/// Adds a regular expression: its pattern and its options, neither with a 00 in it.
+pub(crate) fn write_regex(pattern: &str, options: &str, out: &mut Vec<u8>) -> Result<(), DocRefusal>
+    ensures added { OnOk result (out.new.items ≡ out.old.items ++ (cstring pattern.now ++ cstring options.now)) }
+    ensures refused { IfErr result (λ e. IsSizeRefusal MAX_LEN (length (cstring pattern.now ++ cstring options.now)) e) }
+    ensures kept { OnErr result (Keeps out.old.items out.new.items) }
+{
+    write_cstring(pattern, out)?;
+    write_cstring(options, out)
+}
+
+/// Adds a pointer: the namespace and the ObjectId.
+pub(crate) fn write_dbpointer(text: &str, id: &[u8], out: &mut Vec<u8>) -> Result<(), DocRefusal>
+    ensures added { OnOk result (out.new.items ≡ out.old.items ++ (string text.now ++ id.now)) }
+    ensures refused { IfErr result (λ e. IsSizeRefusal MAX_LEN (length (string text.now ++ id.now)) e) }
+    ensures kept { OnErr result (Keeps out.old.items out.new.items) }
+{
+    write_string(text, out)?;
+    write_bytes(id, out)
+}
+
+/// Begins a document, whose length isn't known yet.
+pub(crate) fn begin(out: &mut Vec<u8>) -> Result<(), DocRefusal>
+    ensures added { OnOk result (out.new.items ≡ out.old.items ++ 0 ∷ 0 ∷ 0 ∷ 0 ∷ []) }
+    ensures refused { IfErr result (λ e. IsSizeRefusal MAX_LEN 4 e) }
+    ensures kept { OnErr result (Keeps out.old.items out.new.items) }
+{
+    out.extend_from_slice(&[0; 4])?;
+    Ok(())
+}
+
+/// Puts the count of all bytes from `start` on in place of the first four of them. Refuses more than the limit.
+pub(crate) fn put_len(start: usize, limit: usize, out: &mut Vec<u8>) -> Result<(), DocRefusal>
+    requires begun { start + 4 ≤ vec_len out.old }
+    requires counted { limit ≤ MAX_LEN }
+    ensures added { OnOk result (out.new.items ≡ take start out.old.items ++ (little (vec_len out.old - start) ++ drop (start + 4) out.old.items)) }
+    ensures within { OnOk result (vec_len out.old ≤ start + limit) }
+    ensures refused { IfErr result (λ e. IsSizeRefusal limit (vec_len out.old - start) e) }
+    ensures kept { OnErr result (Keeps out.old.items out.new.items) }
+{
+    let len = out.len() - start;
+    if len > limit {
+        return Err(DocRefusal::TooLarge);
+    }
+    LittleEndian::write_u32(&mut out[start..start + 4], len as u32);
+    Ok(())
+}
+
+/// Ends the document that begins at `start`, and puts its length there. Refuses one with more bytes than the limit.
+pub(crate) fn finish(start: usize, limit: usize, out: &mut Vec<u8>) -> Result<(), DocRefusal>
+    requires begun { start + 4 ≤ vec_len out.old }
+    requires counted { limit ≤ MAX_LEN }
+    ensures added { OnOk result (out.new.items ≡ take start out.old.items ++ document (drop (start + 4) out.old.items)) }
+    ensures within { OnOk result (length (document (drop (start + 4) out.old.items)) ≤ limit) }
+    ensures refused { IfErr result (λ e. IsSizeRefusal limit (length (document (drop (start + 4) out.old.items))) e) }
+    ensures kept { OnErr result (Keeps out.old.items out.new.items) }
+{
+    out.push(0)?;
+    put_len(start, limit, out)
+}

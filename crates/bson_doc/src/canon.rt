@@ -1,0 +1,96 @@
+//! The canonical form of a document, in which the names of each array are "0", "1" and so on.
+
+ghost use Rattle.std.specs.Prelude.{◌≡◌, ◌≤◌, ◌<◌, ◌↔◌, ◌⊎◌, length, IsTrue, IfOk, IfErr, IsErrOf};
+ghost use Rattle.bson_elem.specs.Tree.{Tree};
+ghost use Rattle.bson_elem.specs.Spelling.{Spells};
+ghost use Rattle.bson_raw.specs.Pairs.{TreeValue};
+ghost use Rattle.bson_raw.specs.RawBson.{Shows};
+ghost use Rattle.bson_raw.specs.RawDocument.{document_bytes};
+ghost use Rattle.bson_doc.specs.Plain.{plain, canonical_len};
+ghost use Rattle.bson_doc.specs.Naming.{is_plain, is_plain_value};
+ghost use Rattle.bson_doc.specs.Refusals.{IsSizeRefusal};
+ghost use Rattle.bson_doc.specs.RawDocumentBuf.{buf_bytes};
+
+use crate::buf::{MAX_LEN, RawDocumentBuf};
+use crate::element::write_document;
+use crate::name::is_canonical_name;
+use crate::refusal::DocRefusal;
+use bson_raw::document::RawDocument;
+use bson_raw::value::RawBson;
+use std::alloc::Global;
+
+/// Whether the names of the document are canonical at every depth; in an array these are "0", "1" and so on.
+#[cycle(names)]
+fn has_canonical_names(document: RawDocument<'_>, in_array: bool) -> bool
+    ensures { (t : Tree) → Spells t (document_bytes document.entry) → result ≡ is_plain in_array 0 t }
+{
+    let mut place = 0;
+    for (name, value) in document.iter() {
+        if !is_canonical_name(name, in_array, place) || !holds_canonical_names(value) {
+            return false;
+        }
+        place += 1;
+    }
+    true
+}
+
+/// Whether the names in what the value holds are canonical.
+#[cycle(names)]
+fn holds_canonical_names(value: RawBson<'_>) -> bool
+    ensures { (v : TreeValue) → Shows value.entry v → result ≡ is_plain_value v }
+{
+    match value {
+        RawBson::Document(document) => has_canonical_names(document, false),
+        RawBson::Array(array) => has_canonical_names(array.as_document(), true),
+        RawBson::CodeWithScope { scope, .. } => has_canonical_names(scope, false),
+        _ => true,
+    }
+}
+
+/// Whether the document is in canonical form: the names of each array in it are "0", "1" and so on. Takes no memory.
+pub fn is_canonical(document: RawDocument<'_>) -> bool
+    ensures { (t : Tree) → Spells t (document_bytes document.entry) → (IsTrue result ↔ (plain t ≡ t)) }
+{
+    has_canonical_names(document, false)
+}
+
+/// The bytes of the canonical form, if these are no more than the limit.
+pub(crate) fn canonical_bytes(
+    alloc: Global,
+    document: RawDocument<'_>,
+    limit: usize,
+) -> Result<Vec<u8>, DocRefusal>
+    requires { limit ≤ MAX_LEN }
+    ensures written { (t : Tree) → Spells t (document_bytes document.entry)
+        → IfOk result (λ bytes. Spells (plain t) bytes.items × (length bytes.items ≤ limit)) }
+    ensures refused { (t : Tree) → Spells t (document_bytes document.entry)
+        → IfErr result (λ e. IsSizeRefusal limit (canonical_len t) e) }
+{
+    let whole = document.as_bytes();
+    if is_canonical(document) {
+        if whole.len() > limit {
+            return Err(DocRefusal::TooLarge);
+        }
+        return Ok(Vec::from_slice(alloc, whole)?);
+    }
+    let mut out = Vec::with_capacity(alloc, whole.len())?;
+    write_document(document, false, limit, &mut out)?;
+    Ok(out)
+}
+
+/// The canonical form of the document: the names of each array become "0", "1" and so on, and all else stays as it is.
+/// A document that is canonical already is copied.
+///
+/// # Errors
+///
+/// `TooLarge` where the canonical form has more than 2,147,483,647 bytes, and `OutOfMemory`.
+pub fn to_canonical(alloc: Global, document: RawDocument<'_>) -> Result<RawDocumentBuf, DocRefusal>
+    ensures canonical { (t : Tree) → Spells t (document_bytes document.entry)
+        → IfOk result (λ d. Spells (plain t) (buf_bytes d)) }
+    ensures only { IfErr result (λ e. (e ≡ DocRefusal.OutOfMemory) ⊎ (e ≡ DocRefusal.TooLarge)) }
+    ensures large { (t : Tree) → Spells t (document_bytes document.entry)
+        → IsErrOf result DocRefusal.TooLarge → MAX_LEN < canonical_len t }
+{
+    let bytes = canonical_bytes(alloc, document, MAX_LEN)?;
+    Ok(RawDocumentBuf::from_spelled(bytes))
+}

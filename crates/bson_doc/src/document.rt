@@ -1,0 +1,178 @@
+//! A document that owns its names and its values.
+
+ghost use Rattle.std.specs.Prelude.{◌≡◌, ◌↔◌, [], length, map, option_map, string_bytes, None, IfOk, IfErr, IsOk, IsSome, IsTrue, OnErr, OnOk};
+
+use crate::bson::Bson;
+use crate::iter::DocumentIter;
+use indexmap::IndexSet;
+use std::alloc::{AllocError, AllocFailed, Global};
+use std::marker::Model;
+use std::mem;
+
+/// Pairs of a name and a value, in order. No name is there twice.
+#[derive(Drop)]
+#[cycle(bson)]
+pub struct Document {
+    names: IndexSet<String>,
+    values: Vec<Bson>,
+}
+
+impl Model for Document {
+    ghost use Rattle.std.specs.Prelude.{◌≡◌, ℕ, List, length, map, string_bytes};
+    ghost use Rattle.bson_raw.specs.Pairs.{TreeValue};
+    ghost use Rattle.bson_doc.specs.Depths.{tree_depth};
+    ghost use Rattle.bson_doc.specs.Document.{paired, tree_of};
+    ghost use Rattle.bson_doc.specs.Codes.{coded_pairs};
+
+    ghost Value = { List (List ℕ × TreeValue) };
+
+    ghost coded = { coded_pairs };
+
+    ghost use Rattle.bson_doc.specs.Bson.{value_of};
+
+    ghost view = { λ d. paired (map string_bytes d.names.keys) (map value_of d.values.items) };
+
+    ghost invariant = { λ d. length d.names.keys ≡ length d.values.items };
+
+    ghost size = { λ ps. tree_depth (tree_of ps) };
+
+    ghost use Rattle.bson_doc.specs.Sizes.{document_deeper};
+
+    ghost size_decreases = { λ d h. document_deeper d.names.keys d.values.items h };
+}
+
+impl Document {
+    ghost use Rattle.bson_doc.specs.Bson.{value_of};
+    ghost use Rattle.bson_doc.specs.Document.{paired, value_named, put, without};
+
+    /// A document with no pairs. It takes no memory.
+    pub fn new(alloc: Global) -> Document
+        ensures { result ≡ [] }
+    {
+        Document {
+            names: IndexSet::new(alloc),
+            values: Vec::new(alloc),
+        }
+    }
+
+    /// The document of these names and their values.
+    pub(crate) fn of_parts(names: IndexSet<String>, values: Vec<Bson>) -> Document
+        requires { length names.keys ≡ length values.items }
+        ensures { result ≡ paired (map string_bytes names.keys) (map value_of values.items) }
+    {
+        Document { names, values }
+    }
+
+    /// Where the document takes its memory.
+    pub(crate) fn allocator(&self) -> Global {
+        *self.values.allocator()
+    }
+
+    /// The number of pairs.
+    pub fn len(&self) -> usize
+        ensures { result ≡ length self.now }
+    {
+        self.values.len()
+    }
+
+    /// Whether there are no pairs.
+    pub fn is_empty(&self) -> bool
+        ensures { IsTrue result ↔ (length self.now ≡ 0) }
+    {
+        self.len() == 0
+    }
+
+    /// The value of this name.
+    pub fn get(&self, name: &str) -> Option<&Bson>
+        ensures { option_map (λ v. value_of v.now) result ≡ value_named name.now self.now }
+    {
+        let index = self.names.get_index_of(name)?;
+        Some(&self.values[index])
+    }
+
+    /// Whether a pair has this name.
+    pub fn contains_key(&self, name: &str) -> bool
+        ensures { IsTrue result ↔ IsSome (value_named name.now self.now) }
+    {
+        self.get(name).is_some()
+    }
+
+    /// Puts the value at the name, and gives the value that was there. A name that is there keeps its place, and no
+    /// memory is taken for it. A new name goes last.
+    ///
+    /// # Errors
+    ///
+    /// Want of memory, for a new name only. The name and the value are handed back.
+    pub fn insert(
+        &mut self,
+        name: String,
+        value: Bson,
+    ) -> Result<Option<Bson>, AllocFailed<(String, Bson)>>
+        ensures ok { OnOk result (self.new ≡ put (string_bytes name) (value_of value) self.old) }
+        ensures before { IfOk result (λ before. option_map value_of before ≡ value_named (string_bytes name) self.old) }
+        ensures present { IsSome (value_named (string_bytes name) self.old) → IsOk result }
+
+        ensures err { OnErr result (self.new ≡ self.old) }
+        ensures back { IfErr result (λ e. e.value ≡ (name, value)) }
+    {
+        match self.names.get_index_of(name.as_str()) {
+            Some(index) => {
+                let before = mem::replace(&mut self.values[index], value);
+                Ok(Some(before))
+            }
+            None => {
+                let Ok(()) = self.values.try_reserve(1) else {
+                    return Err(AllocFailed {
+                        value: (name, value),
+                    });
+                };
+                match self.names.insert(name) {
+                    Ok(_) => {}
+                    Err(e) => {
+                        return Err(AllocFailed {
+                            value: (e.value, value),
+                        });
+                    }
+                }
+                match self.values.push(value) {
+                    Ok(()) => Ok(None),
+                    Err(_) => unreachable!(),
+                }
+            }
+        }
+    }
+
+    /// Takes the pair of this name out, and gives its value. The pairs after it close up.
+    pub fn remove(&mut self, name: &str) -> Option<Bson>
+        ensures after { self.new ≡ without name.now self.old }
+        ensures value { option_map value_of result ≡ value_named name.now self.old }
+    {
+        let index = self.names.get_index_of(name)?;
+        drop(self.names.shift_remove_index(index));
+        Some(self.values.remove(index))
+    }
+
+    /// The pairs of names and values, in order.
+    pub fn iter(&self) -> DocumentIter<'_>
+        ensures { result ≡ self.now }
+    {
+        DocumentIter::of_parts(self.names.as_slice(), &self.values)
+    }
+
+    /// A copy of the document.
+    ///
+    /// # Errors
+    ///
+    /// Want of memory.
+    #[cycle(copy)]
+    pub fn try_clone(&self, alloc: Global) -> Result<Document, AllocError>
+        ensures { IfOk result (λ copy. copy ≡ self.now) }
+    {
+        let names = self.names.clone()?;
+        let mut values = Vec::with_capacity(alloc, self.values.len())?;
+        for value in self.values.iter() {
+            values.push(value.try_clone(alloc)?)?;
+        }
+        Ok(Document { names, values })
+    }
+}

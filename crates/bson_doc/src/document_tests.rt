@@ -1,0 +1,165 @@
+//! Owned documents by their bytes (bsonspec.org, version 1.1), and that calls succeed where memory is there.
+
+use crate::array::Array;
+use crate::bson::Bson;
+use crate::document::Document;
+use crate::refusal::DocRefusal;
+use bson_raw::document::RawDocument;
+use std::alloc::{AllocError, Global};
+use std::test::Fail;
+
+fn nibble(digit: u8) -> Option<u8> {
+    match digit {
+        b'0'..=b'9' => Some(digit - b'0'),
+        b'a'..=b'f' => Some(digit - b'a' + 10),
+        _ => None,
+    }
+}
+
+/// The bytes of a text of hexadecimal digits. Spaces are passed over.
+fn bytes_of(alloc: Global, hex: &str) -> Result<Vec<u8>, AllocError> {
+    let mut bytes = Vec::new(alloc);
+    let mut high = None;
+    for digit in hex.bytes().filter_map(nibble) {
+        match high {
+            None => high = Some(digit),
+            Some(h) => {
+                bytes.push(digit.wrapping_add(16u8.wrapping_mul(h)))?;
+                high = None;
+            }
+        }
+    }
+    Ok(bytes)
+}
+
+/// Whether the document is read, and it and a copy of it are written as the other bytes.
+fn is_written_as(alloc: Global, hex: &str, written: &str) -> Result<bool, DocRefusal> {
+    let bytes = bytes_of(alloc, hex)?;
+    let wanted = bytes_of(alloc, written)?;
+    let Ok(raw) = RawDocument::from_bytes(&bytes) else {
+        return Ok(false);
+    };
+    let document = Document::from_raw(alloc, raw)?;
+    let copy = document.try_clone(alloc)?;
+    Ok(
+        document.to_raw()?.as_raw().as_bytes() == wanted.as_slice()
+            && copy.to_raw()?.as_raw().as_bytes() == wanted.as_slice(),
+    )
+}
+
+const KEPT: [&str; 21] = [
+    "10000000 01 7600 000000000000f03f 00",
+    "0e000000 02 7600 02000000 6300 00",
+    "0d000000 03 7600 05000000 00 00",
+    "14000000 04 7600 0c000000 10 3000 01000000 00 00",
+    "0f000000 05 7600 02000000 00 aabb 00",
+    "13000000 05 7600 06000000 02 02000000 aabb 00",
+    "08000000 06 7600 00",
+    "14000000 07 7600 000102030405060708090a0b 00",
+    "09000000 08 7600 01 00",
+    "10000000 09 7600 ffffffffffffffff 00",
+    "08000000 0a 7600 00",
+    "0e000000 0b 7600 612e6200 6900 00",
+    "1a000000 0c 7600 02000000 6300 000102030405060708090a0b 00",
+    "0e000000 0d 7600 02000000 6300 00",
+    "0e000000 0e 7600 02000000 6300 00",
+    "17000000 0f 7600 0f000000 02000000 6300 05000000 00 00",
+    "0c000000 10 7600 ffffffff 00",
+    "10000000 11 7600 0100000002000000 00",
+    "10000000 12 7600 ffffffffffffffff 00",
+    "18000000 13 7600 0100000000000000000000000000 4030 00",
+    "0b000000 ff 6100 7f 6200 00",
+];
+
+#[test]
+fn documents_are_read_and_written(rt: HostRuntime) -> Result<(), Fail> {
+    for hex in KEPT {
+        assert!(rt; is_written_as(rt.alloc(), hex, hex)?, "{hex}");
+    }
+    Ok(())
+}
+
+#[test]
+fn arrays_are_written_with_their_places(rt: HostRuntime) -> Result<(), Fail> {
+    let hex = "14000000 04 6100 0c000000 10 7800 01000000 00 00";
+    let written = "14000000 04 6100 0c000000 10 3000 01000000 00 00";
+    assert!(rt; is_written_as(rt.alloc(), hex, written)?);
+    Ok(())
+}
+
+/// What `from_raw` refuses the document with, if it does.
+fn refusal_of(alloc: Global, hex: &str) -> Result<Option<DocRefusal>, AllocError> {
+    let bytes = bytes_of(alloc, hex)?;
+    let Ok(raw) = RawDocument::from_bytes(&bytes) else {
+        return Ok(None);
+    };
+    Ok(Document::from_raw(alloc, raw).err())
+}
+
+#[test]
+fn repeated_names_are_refused(rt: HostRuntime) -> Result<(), Fail> {
+    let table = [
+        ("0b000000 0a 6100 0a 6100 00", Some(1)),
+        ("13000000 03 6200 0b000000 0a 6100 0a 6100 00 00", Some(2)),
+        ("13000000 04 6200 0b000000 0a 3000 0a 3000 00 00", None),
+        ("0e000000 0a 6100 0a 6200 0a 6100 00", Some(1)),
+    ];
+    for (hex, depth) in table {
+        let wanted = depth.map(|depth| DocRefusal::RepeatedName { depth });
+        assert_eq!(rt; refusal_of(rt.alloc(), hex)?, wanted, "{hex}");
+    }
+    Ok(())
+}
+
+/// A document of one pair.
+fn one_pair(alloc: Global, name: &str, value: Bson) -> Result<Document, DocRefusal> {
+    let mut document = Document::new(alloc);
+    document.insert(String::from_str(alloc, name)?, value)?;
+    Ok(document)
+}
+
+#[test]
+fn names_are_looked_up(rt: HostRuntime) -> Result<(), Fail> {
+    let alloc = rt.alloc();
+    let mut document = one_pair(alloc, "a", Bson::Int32(1))?;
+    document.insert(String::from_str(alloc, "b")?, Bson::Null)?;
+    let before = document.insert(String::from_str(alloc, "a")?, Bson::Int32(2))?;
+    assert!(rt; matches!(before, Some(Bson::Int32(1))));
+    assert!(rt; matches!(document.get("a"), Some(Bson::Int32(2))));
+    assert!(rt; document.contains_key("b") && !document.contains_key("c"));
+    assert_eq!(rt; document.iter().next().map(|(name, _)| name), Some("a"));
+    assert!(rt; matches!(document.remove("a"), Some(Bson::Int32(2))));
+    assert_eq!(rt; document.iter().next().map(|(name, _)| name), Some("b"));
+    assert_eq!(rt; document.len(), 1);
+    assert!(rt; !document.is_empty());
+    Ok(())
+}
+
+/// Arrays of so many depths, one in another, and null in the innermost.
+fn nested(alloc: Global, depths: u32) -> Result<Bson, DocRefusal> {
+    let mut value = Bson::Null;
+    for _ in 0..depths {
+        let mut values = Vec::new(alloc);
+        values.push(value)?;
+        value = Bson::Array(Array::from_vec(values));
+    }
+    Ok(value)
+}
+
+#[test]
+fn what_has_no_spelling_is_refused(rt: HostRuntime) -> Result<(), Fail> {
+    let alloc = rt.alloc();
+    let name = one_pair(alloc, "a\0", Bson::Null)?;
+    assert_eq!(rt; name.to_raw().err(), Some(DocRefusal::ZeroInName));
+    let options = Bson::Regex {
+        pattern: String::from_str(alloc, "a")?,
+        options: String::from_str(alloc, "\0")?,
+    };
+    let regex = one_pair(alloc, "a", options)?;
+    assert_eq!(rt; regex.to_raw().err(), Some(DocRefusal::ZeroInName));
+    let deepest = one_pair(alloc, "a", nested(alloc, 199)?)?;
+    assert!(rt; deepest.to_raw().is_ok());
+    let deeper = one_pair(alloc, "a", nested(alloc, 200)?)?;
+    assert_eq!(rt; deeper.to_raw().err(), Some(DocRefusal::Depth));
+    Ok(())
+}

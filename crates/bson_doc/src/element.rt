@@ -1,0 +1,122 @@
+//! The canonical spelling of the elements of a document.
+
+ghost use Rattle.std.specs.Prelude.{◌≡◌, ◌≤◌, ◌++◌, ◌∷◌, ℕ, length, OnOk, IfErr, false};
+ghost use Rattle.bson_elem.specs.Tree.{Tree, with_code};
+ghost use Rattle.bson_elem.specs.Spelling.{inner_bytes, elements, Spells};
+ghost use Rattle.bson_elem.specs.Spelling as spelling;
+ghost use Rattle.bson_raw.specs.Pairs.{TreeValue};
+ghost use Rattle.bson_raw.specs.RawBson.{Shows, held_len};
+ghost use Rattle.bson_raw.specs.RawDocument.{document_bytes};
+ghost use Rattle.bson_doc.specs.Plain.{name_at, plain_from};
+ghost use Rattle.bson_doc.specs.Values.{plain_value, value_bytes, element_bytes};
+ghost use Rattle.bson_doc.specs.Refusals.{IsSizeRefusal};
+
+use crate::buf::MAX_LEN;
+use crate::bytes::{
+    begin, finish, put_len, write_binary, write_bytes, write_dbpointer, write_int32, write_int64,
+    write_regex, write_string, write_timestamp,
+};
+use crate::name::write_name;
+use crate::refusal::DocRefusal;
+use bson_raw::document::RawDocument;
+use bson_raw::value::RawBson;
+
+/// Adds a value, with the canonical names in what it holds. Refuses a container with more bytes than the limit.
+#[cycle(write)]
+fn write_value(value: RawBson<'_>, limit: usize, out: &mut Vec<u8>) -> Result<(), DocRefusal>
+    requires { limit ≤ MAX_LEN }
+    ensures added { (v : TreeValue) → Shows value.entry v
+        → OnOk result (out.new.items ≡ out.old.items ++ value_bytes (plain_value v)) }
+    ensures refused { (v : TreeValue) → Shows value.entry v
+        → IfErr result (λ e. IsSizeRefusal limit (length (value_bytes (plain_value v))) e) }
+{
+    match value {
+        RawBson::Double(bytes) => write_bytes(&bytes, out),
+        RawBson::String(text) => write_string(text, out),
+        RawBson::Document(document) => write_document(document, false, limit, out),
+        RawBson::Array(array) => write_document(array.as_document(), true, limit, out),
+        RawBson::Binary { subtype, bytes } => write_binary(subtype, bytes, out),
+        RawBson::ObjectId(bytes) => write_bytes(&bytes, out),
+        RawBson::Boolean(truth) => write_bytes(&[truth as u8], out),
+        RawBson::DateTime(millis) => write_int64(millis, out),
+        RawBson::Regex { pattern, options } => write_regex(pattern, options, out),
+        RawBson::DbPointer { text, id } => write_dbpointer(text, &id, out),
+        RawBson::Code(text) => write_string(text, out),
+        RawBson::Symbol(text) => write_string(text, out),
+        RawBson::CodeWithScope { code, scope } => write_scope(code, scope, limit, out),
+        RawBson::Int32(n) => write_int32(n, out),
+        RawBson::Timestamp { increment, seconds } => write_timestamp(increment, seconds, out),
+        RawBson::Int64(n) => write_int64(n, out),
+        RawBson::Decimal128(bytes) => write_bytes(&bytes, out),
+        RawBson::Undefined | RawBson::Null | RawBson::MinKey | RawBson::MaxKey => Ok(()),
+    }
+}
+
+/// Adds a code and its scope, with the canonical names in the scope. Refuses more bytes than the limit.
+#[cycle(write)]
+fn write_scope(
+    code: &str,
+    scope: RawDocument<'_>,
+    limit: usize,
+    out: &mut Vec<u8>,
+) -> Result<(), DocRefusal>
+    requires { limit ≤ MAX_LEN }
+    ensures added { (t : Tree) → Spells t (document_bytes scope.entry)
+        → OnOk result (out.new.items ≡ out.old.items ++ inner_bytes (with_code code.now) (elements (plain_from false 0 t))) }
+    ensures refused { (t : Tree) → Spells t (document_bytes scope.entry)
+        → IfErr result (λ e. IsSizeRefusal limit (length (inner_bytes (with_code code.now) (elements (plain_from false 0 t)))) e) }
+{
+    let start = out.len();
+    begin(out)?;
+    write_string(code, out)?;
+    write_document(scope, false, limit, out)?;
+    put_len(start, limit, out)
+}
+
+/// Adds the pair at a place of a container, with the canonical names. Refuses a container with more bytes than the limit.
+#[cycle(write)]
+fn write_element(
+    name: &str,
+    value: RawBson<'_>,
+    in_array: bool,
+    place: usize,
+    limit: usize,
+    out: &mut Vec<u8>,
+) -> Result<(), DocRefusal>
+    requires { limit ≤ MAX_LEN }
+    ensures added { (v : TreeValue) → Shows value.entry v
+        → OnOk result (out.new.items ≡ out.old.items ++ element_bytes (name_at in_array place name.now) (plain_value v)) }
+    ensures refused { (v : TreeValue) → Shows value.entry v
+        → IfErr result (λ e. IsSizeRefusal limit (length (element_bytes (name_at in_array place name.now) (plain_value v))) e) }
+{
+    out.push(value.kind().byte())?;
+    write_name(name, in_array, place, out)?;
+    write_value(value, limit, out)
+}
+
+/// Adds the document with the canonical names at every depth; in an array these are "0", "1" and so on. Refuses a
+/// container with more bytes than the limit.
+#[cycle(write)]
+pub(crate) fn write_document(
+    document: RawDocument<'_>,
+    in_array: bool,
+    limit: usize,
+    out: &mut Vec<u8>,
+) -> Result<(), DocRefusal>
+    requires { limit ≤ MAX_LEN }
+    ensures added { (t : Tree) → Spells t (document_bytes document.entry)
+        → OnOk result (out.new.items ≡ out.old.items ++ spelling.document (elements (plain_from in_array 0 t))) }
+    ensures within { (t : Tree) → Spells t (document_bytes document.entry)
+        → OnOk result (length (spelling.document (elements (plain_from in_array 0 t))) ≤ limit) }
+    ensures refused { (t : Tree) → Spells t (document_bytes document.entry)
+        → IfErr result (λ e. IsSizeRefusal limit (length (spelling.document (elements (plain_from in_array 0 t)))) e) }
+{
+    let start = out.len();
+    begin(out)?;
+    let mut place = 0;
+    for (name, value) in document.iter() {
+        write_element(name, value, in_array, place, limit, out)?;
+        place += 1;
+    }
+    finish(start, limit, out)
+}

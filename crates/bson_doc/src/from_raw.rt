@@ -1,0 +1,127 @@
+//! Documents that are read out of their bytes.
+
+ghost use Rattle.std.specs.Prelude.{◌≡◌, ◌+◌, ◌<◌, ◌^◌, [], None, false, true, length, IfOk, IfErr, OnOk};
+ghost use Rattle.bson_elem.specs.Tree.{Tree};
+ghost use Rattle.bson_elem.specs.Spelling.{Spells};
+ghost use Rattle.bson_raw.specs.Pairs.{TreeValue};
+ghost use Rattle.bson_raw.specs.RawArray.{array_bytes};
+ghost use Rattle.bson_raw.specs.RawBson.{Shows, held_len};
+ghost use Rattle.bson_raw.specs.RawDocument.{document_bytes};
+ghost use Rattle.bson_doc.specs.Array.{array_tree};
+ghost use Rattle.bson_doc.specs.Bson.{value_of};
+ghost use Rattle.bson_doc.specs.Document.{tree_of};
+ghost use Rattle.bson_doc.specs.Plain.{plain, plain_from};
+ghost use Rattle.bson_doc.specs.Repeats.{repeat_depth, repeat_in, repeat_in_value, IsRepeat};
+ghost use Rattle.bson_doc.specs.Values.{plain_value};
+
+use crate::array::Array;
+use crate::bson::Bson;
+use crate::document::Document;
+use crate::refusal::DocRefusal;
+use bson_raw::array::RawArray;
+use bson_raw::document::RawDocument;
+use bson_raw::value::RawBson;
+use indexmap::IndexSet;
+use std::alloc::Global;
+
+/// The value, which stands in a container of this depth.
+#[cycle(read)]
+fn read_value(alloc: Global, value: RawBson<'_>, depth: u32) -> Result<Bson, DocRefusal>
+    requires { depth + 1 + held_len value < 2 ^ 32 }
+    ensures read { (v : TreeValue) → Shows value.entry v → IfOk result (λ b. value_of b ≡ plain_value v) }
+    ensures unique { (v : TreeValue) → Shows value.entry v → OnOk result (repeat_in_value depth v ≡ None) }
+    ensures refused { (v : TreeValue) → Shows value.entry v → IfErr result (λ e. IsRepeat (repeat_in_value depth v) e) }
+{
+    let owned = match value {
+        RawBson::Double(bytes) => Bson::Double(bytes),
+        RawBson::String(text) => Bson::String(String::from_str(alloc, text)?),
+        RawBson::Document(document) => Bson::Document(read_document(alloc, document, depth + 1)?),
+        RawBson::Array(array) => Bson::Array(read_array(alloc, array, depth + 1)?),
+        RawBson::Binary { subtype, bytes } => Bson::Binary {
+            subtype,
+            bytes: Vec::from_slice(alloc, bytes)?,
+        },
+        RawBson::Undefined => Bson::Undefined,
+        RawBson::ObjectId(bytes) => Bson::ObjectId(bytes),
+        RawBson::Boolean(truth) => Bson::Boolean(truth),
+        RawBson::DateTime(millis) => Bson::DateTime(millis),
+        RawBson::Null => Bson::Null,
+        RawBson::Regex { pattern, options } => Bson::Regex {
+            pattern: String::from_str(alloc, pattern)?,
+            options: String::from_str(alloc, options)?,
+        },
+        RawBson::DbPointer { text, id } => Bson::DbPointer {
+            text: String::from_str(alloc, text)?,
+            id,
+        },
+        RawBson::Code(text) => Bson::Code(String::from_str(alloc, text)?),
+        RawBson::Symbol(text) => Bson::Symbol(String::from_str(alloc, text)?),
+        RawBson::CodeWithScope { code, scope } => Bson::CodeWithScope {
+            code: String::from_str(alloc, code)?,
+            scope: read_document(alloc, scope, depth + 1)?,
+        },
+        RawBson::Int32(n) => Bson::Int32(n),
+        RawBson::Timestamp { increment, seconds } => Bson::Timestamp { increment, seconds },
+        RawBson::Int64(n) => Bson::Int64(n),
+        RawBson::Decimal128(bytes) => Bson::Decimal128(bytes),
+        RawBson::MinKey => Bson::MinKey,
+        RawBson::MaxKey => Bson::MaxKey,
+    };
+    Ok(owned)
+}
+
+/// The array, whose depth this is. The names in it are not kept.
+#[cycle(read)]
+fn read_array(alloc: Global, array: RawArray<'_>, depth: u32) -> Result<Array, DocRefusal>
+    requires { depth + length (array_bytes array) < 2 ^ 32 }
+    ensures read { (t : Tree) → Spells t (array_bytes array.entry) → IfOk result (λ a. array_tree 0 a ≡ plain_from true 0 t) }
+    ensures unique { (t : Tree) → Spells t (array_bytes array.entry) → OnOk result (repeat_in true depth [] t ≡ None) }
+    ensures refused { (t : Tree) → Spells t (array_bytes array.entry) → IfErr result (λ e. IsRepeat (repeat_in true depth [] t) e) }
+{
+    let mut values = Vec::new(alloc);
+    for value in array.iter() {
+        values.push(read_value(alloc, value, depth)?)?;
+    }
+    Ok(Array::from_vec(values))
+}
+
+/// The document, whose depth this is.
+#[cycle(read)]
+fn read_document(
+    alloc: Global,
+    document: RawDocument<'_>,
+    depth: u32,
+) -> Result<Document, DocRefusal>
+    requires { depth + length (document_bytes document) < 2 ^ 32 }
+    ensures read { (t : Tree) → Spells t (document_bytes document.entry) → IfOk result (λ d. tree_of d ≡ plain t) }
+    ensures unique { (t : Tree) → Spells t (document_bytes document.entry) → OnOk result (repeat_in false depth [] t ≡ None) }
+    ensures refused { (t : Tree) → Spells t (document_bytes document.entry) → IfErr result (λ e. IsRepeat (repeat_in false depth [] t) e) }
+{
+    let mut names = IndexSet::new(alloc);
+    let mut values = Vec::new(alloc);
+    for (name, value) in document.iter() {
+        if !names.insert(String::from_str(alloc, name)?)? {
+            return Err(DocRefusal::RepeatedName { depth });
+        }
+        values.push(read_value(alloc, value, depth)?)?;
+    }
+    Ok(Document::of_parts(names, values))
+}
+
+impl Document {
+    /// The document that the bytes are, with the pairs in their order. The values of an array come without the names
+    /// that they have in the bytes.
+    ///
+    /// # Errors
+    ///
+    /// `RepeatedName` where a document or a scope has a name twice, with the depth of that container, and
+    /// `OutOfMemory`. Of several repeated names the first in the bytes is told.
+    pub fn from_raw(alloc: Global, raw: RawDocument<'_>) -> Result<Document, DocRefusal>
+        ensures read { (t : Tree) → Spells t (document_bytes raw.entry) → IfOk result (λ d. tree_of d ≡ plain t) }
+        ensures unique { (t : Tree) → Spells t (document_bytes raw.entry) → OnOk result (repeat_depth t ≡ None) }
+        ensures refused { (t : Tree) → Spells t (document_bytes raw.entry) → IfErr result (λ e. IsRepeat (repeat_depth t) e) }
+    {
+        let _bytes = raw.as_bytes();
+        read_document(alloc, raw, 1)
+    }
+}

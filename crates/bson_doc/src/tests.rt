@@ -1,0 +1,205 @@
+//! What no contract says: that the definitions mean the standard, by rows that were worked out by hand from it, and
+//! that calls succeed where memory is there.
+
+ghost use Rattle.std.specs.Prelude.{◌≤◌};
+
+use crate::buf::{MAX_LEN, RawDocumentBuf};
+use crate::canon::{canonical_bytes, is_canonical, to_canonical};
+use crate::refusal::DocRefusal;
+use bson_raw::document::RawDocument;
+use std::alloc::{AllocError, Global};
+use std::test::Fail;
+
+fn nibble(digit: u8) -> Option<u8> {
+    match digit {
+        b'0'..=b'9' => Some(digit - b'0'),
+        b'a'..=b'f' => Some(digit - b'a' + 10),
+        _ => None,
+    }
+}
+
+/// The bytes of a text of hexadecimal digits. Spaces are passed over.
+fn bytes_of(alloc: Global, hex: &str) -> Result<Vec<u8>, AllocError> {
+    let mut bytes = Vec::new(alloc);
+    let mut high = None;
+    for digit in hex.bytes().filter_map(nibble) {
+        match high {
+            None => high = Some(digit),
+            Some(h) => {
+                bytes.push(digit.wrapping_add(16u8.wrapping_mul(h)))?;
+                high = None;
+            }
+        }
+    }
+    Ok(bytes)
+}
+
+/// Whether the canonical form of the first document is the second one, whose own canonical form is itself. It also
+/// holds that the first one is canonical just where it is the second one.
+fn has_form(alloc: Global, hex: &str, canonical: &str) -> Result<bool, DocRefusal> {
+    let bytes = bytes_of(alloc, hex)?;
+    let wanted = bytes_of(alloc, canonical)?;
+    let Ok(document) = RawDocument::from_bytes(&bytes) else {
+        return Ok(false);
+    };
+    let form = to_canonical(alloc, document)?;
+    let again = to_canonical(alloc, form.as_raw())?;
+    Ok(
+        form.as_raw().as_bytes() == wanted.as_slice()
+            && again.as_raw().as_bytes() == wanted.as_slice()
+            && is_canonical(form.as_raw())
+            && is_canonical(document) == (bytes.as_slice() == wanted.as_slice()),
+    )
+}
+
+const FORMS: [(&str, &str); 14] = [
+    // The name "x" in an array.
+    (
+        "140000000461000c000000107800010000000000",
+        "140000000461000c000000103000010000000000",
+    ),
+    // No array.
+    (
+        "160000000268656c6c6f0006000000776f726c640000",
+        "160000000268656c6c6f0006000000776f726c640000",
+    ),
+    // No element.
+    ("0500000000", "0500000000"),
+    // A leading zero.
+    (
+        "11000000046100090000000a3030000000",
+        "10000000046100080000000a30000000",
+    ),
+    // An empty name.
+    (
+        "0f000000046100070000000a000000",
+        "10000000046100080000000a30000000",
+    ),
+    // The names "1" and "0", in this order.
+    (
+        "140000000461000c0000000a3100083000010000",
+        "140000000461000c0000000a3000083100010000",
+    ),
+    // The name "0" twice in an array.
+    (
+        "140000000461000c0000000a3000083000010000",
+        "140000000461000c0000000a3000083100010000",
+    ),
+    // The same name twice in a document.
+    ("0c0000000a35000835000100", "0c0000000a35000835000100"),
+    // An array in an array.
+    (
+        "1800000004610010000000043000080000000a7800000000",
+        "1800000004610010000000043000080000000a3000000000",
+    ),
+    // An array in a document in an array.
+    (
+        "200000000461001800000003300010000000046200080000000a310000000000",
+        "200000000461001800000003300010000000046200080000000a300000000000",
+    ),
+    // An array in a scope.
+    (
+        "230000000f63001b00000002000000780011000000046100090000000a313100000000",
+        "220000000f63001a00000002000000780010000000046100080000000a3000000000",
+    ),
+    // The names "0" to "10".
+    (
+        "2f000000046100270000000a30000a31000a32000a33000a34000a35000a36000a37000a38000a39 \
+        000a3130000000",
+        "2f000000046100270000000a30000a31000a32000a33000a34000a35000a36000a37000a38000a39 \
+        000a3130000000",
+    ),
+    // The names "0" to "9", and "11".
+    (
+        "2f000000046100270000000a30000a31000a32000a33000a34000a35000a36000a37000a38000a39 \
+        000a3131000000",
+        "2f000000046100270000000a30000a31000a32000a33000a34000a35000a36000a37000a38000a39 \
+        000a3130000000",
+    ),
+    // Each kind.
+    (
+        "e8000000046100e0000000017800000000000000f03f027800020000006300037800080000000a76 \
+        000004780005000000000578000200000000aabb057800060000000202000000aabb067800077800 \
+        000102030405060708090a0b08780001097800ffffffffffffffff0a78000b7800612e620069000c \
+        7800020000006300000102030405060708090a0b0d78000200000063000e78000200000063000f78 \
+        000f0000000200000078000500000000107800000000801178000100000002000000127800000000 \
+        000000008013780001000000000000000000000000004030ff78007f78000000",
+        "f4000000046100ec000000013000000000000000f03f023100020000006300033200080000000a76 \
+        000004330005000000000534000200000000aabb053500060000000202000000aabb063600073700 \
+        000102030405060708090a0b08380001093900ffffffffffffffff0a3130000b313100612e620069 \
+        000c313200020000006300000102030405060708090a0b0d3133000200000063000e313400020000 \
+        0063000f3135000f0000000200000078000500000000103136000000008011313700010000000200 \
+        00001231380000000000000000801331390001000000000000000000000000004030ff3230007f32 \
+        31000000",
+    ),
+];
+
+#[test]
+fn canonical_forms(rt: HostRuntime) -> Result<(), Fail> {
+    for (hex, canonical) in FORMS {
+        assert!(&rt; has_form(rt.alloc(), hex, canonical)?, "{hex}");
+    }
+    Ok(())
+}
+
+/// How many bytes the canonical form of the document has, or why it isn't made under this limit.
+fn len_within(alloc: Global, hex: &str, limit: usize) -> Result<Option<usize>, DocRefusal>
+    requires { limit ≤ MAX_LEN }
+{
+    let bytes = bytes_of(alloc, hex)?;
+    match RawDocument::from_bytes(&bytes) {
+        Ok(document) => Ok(Some(canonical_bytes(alloc, document, limit)?.len())),
+        Err(_) => Ok(None),
+    }
+}
+
+#[test]
+fn no_more_bytes_than_the_limit(rt: HostRuntime) {
+    let alloc = rt.alloc();
+    // An array of two values, both named "", whose canonical form is two bytes longer.
+    let named = "12000000 04 6100 0a000000 0a 00 08 00 01 00 00";
+    assert!(&rt; len_within(alloc, named, 20) == Ok(Some(20)));
+    assert!(&rt; len_within(alloc, named, 19) == Err(DocRefusal::TooLarge));
+    assert!(&rt; len_within(alloc, named, 0) == Err(DocRefusal::TooLarge));
+    // A canonical document.
+    assert!(&rt; len_within(alloc, "0500000000", 5) == Ok(Some(5)));
+    assert!(&rt; len_within(alloc, "0500000000", 4) == Err(DocRefusal::TooLarge));
+    // An array in a scope.
+    let scope = "21000000 0f 6300 19000000 02000000 7800 0f000000 04 6100 07000000 0a 00 00 00 00";
+    assert!(&rt; len_within(alloc, scope, 34) == Ok(Some(34)));
+    assert!(&rt; len_within(alloc, scope, 33) == Err(DocRefusal::TooLarge));
+    assert!(&rt; len_within(alloc, scope, 20) == Err(DocRefusal::TooLarge));
+}
+
+#[test]
+fn the_empty_document(rt: HostRuntime) -> Result<(), Fail> {
+    let document = RawDocumentBuf::new(rt.alloc())?;
+    assert!(&rt; document.as_raw().as_bytes() == b"\x05\x00\x00\x00\x00".as_slice());
+    assert!(&rt; document.as_raw().iter().next().is_none());
+    Ok(())
+}
+
+#[test]
+fn refusals_have_numbers(rt: HostRuntime) -> Result<(), Fail> {
+    let refusals = [
+        (
+            DocRefusal::RepeatedName { depth: 3 },
+            "a name is repeated at depth 3",
+        ),
+        (DocRefusal::OutOfMemory, "out of memory"),
+        (DocRefusal::TooLarge, "the document is too large"),
+        (
+            DocRefusal::ZeroInName,
+            "a name, a pattern or options have a 00 in them",
+        ),
+        (DocRefusal::Depth, "a container is too deep"),
+    ];
+    let mut number = 1;
+    for (refusal, text) in refusals {
+        assert_eq!(&rt; refusal.number(), number);
+        let shown = format!(in rt.alloc(); "{refusal}")?;
+        assert_eq!(&rt; shown.as_str(), text);
+        number = number.wrapping_add(1);
+    }
+    Ok(())
+}

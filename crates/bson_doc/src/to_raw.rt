@@ -1,0 +1,176 @@
+//! Documents that are written to bytes of their own.
+
+ghost use Rattle.std.specs.Prelude.{◌≡◌, ◌++◌, ◌∷◌, IsUtf8, IfErr, IfOk, OnOk, Some, length, ◌≤◌, ◌<◌};
+ghost use Rattle.bson_elem.specs.Kinds.{byte_of};
+ghost use Rattle.bson_elem.specs.Spelling.{cstring, string, elements, inner_bytes, AreBytes, IsBytes, Spells};
+ghost use Rattle.bson_elem.specs.Spelling as spelling;
+ghost use Rattle.bson_elem.specs.Tree.{with_code};
+ghost use Rattle.bson_doc.specs.Array.{array_tree};
+ghost use Rattle.bson_doc.specs.Bson.{value_of};
+ghost use Rattle.bson_doc.specs.Document.{tree_of};
+ghost use Rattle.bson_doc.specs.Formed.{IsFormed, IsFormedValue};
+ghost use Rattle.bson_doc.specs.Refusals.{IsSizeRefusal};
+ghost use Rattle.bson_doc.specs.Plain.{name_at};
+ghost use Rattle.bson_doc.specs.RawDocumentBuf.{buf_bytes};
+ghost use Rattle.bson_doc.specs.Unwritable.{IsUnwritable};
+ghost use Rattle.bson_doc.specs.Values.{value_bytes};
+
+use crate::array::Array;
+use crate::bson::Bson;
+use crate::buf::{MAX_LEN, RawDocumentBuf};
+use crate::bytes::{
+    begin, finish, put_len, write_binary, write_bytes, write_int32, write_int64, write_regex,
+    write_string, write_timestamp,
+};
+use crate::document::Document;
+use crate::name::write_name;
+use crate::refusal::DocRefusal;
+use crate::unwritable::check_document;
+use bson_elem::kind::Kind;
+
+/// Adds the type byte of the pair at a place of a container, and its name, which in an array is that place.
+fn write_head(
+    kind: Kind,
+    name: &str,
+    in_array: bool,
+    place: usize,
+    out: &mut Vec<u8>,
+) -> Result<(), DocRefusal>
+    ensures added { OnOk result (out.new.items ≡ out.old.items ++ (byte_of kind ∷ cstring (name_at in_array place name.now))) }
+    ensures text { OnOk result (IsUtf8 (name_at in_array place name.now)) }
+    ensures refused { IfErr result (λ e. IsSizeRefusal MAX_LEN (length (byte_of kind ∷ cstring (name_at in_array place name.now))) e) }
+{
+    out.push(kind.byte())?;
+    write_name(name, in_array, place, out)
+}
+
+/// Adds bytes as they are.
+fn write_slice(bytes: &[u8], out: &mut Vec<u8>) -> Result<(), DocRefusal>
+    ensures added { OnOk result (out.new.items ≡ out.old.items ++ bytes.now) }
+    ensures formed { OnOk result (IsBytes bytes.now) }
+    ensures refused { IfErr result (λ e. IsSizeRefusal MAX_LEN (length bytes.now) e) }
+{
+    write_bytes(bytes, out)
+}
+
+/// Adds so many bytes as they are.
+fn write_raw<const N: usize>(bytes: &[u8; N], out: &mut Vec<u8>) -> Result<(), DocRefusal>
+    ensures added { OnOk result (out.new.items ≡ out.old.items ++ bytes.now) }
+    ensures formed { OnOk result (AreBytes N bytes.now) }
+    ensures refused { IfErr result (λ e. IsSizeRefusal MAX_LEN (length bytes.now) e) }
+{
+    write_slice(bytes, out)
+}
+
+/// Adds a subtype and data.
+fn write_data(subtype: u8, bytes: &[u8], out: &mut Vec<u8>) -> Result<(), DocRefusal>
+    ensures added { OnOk result (out.new.items ≡ out.old.items ++ spelling.binary subtype bytes.now) }
+    ensures formed { OnOk result ((subtype < 256) × IsBytes bytes.now) }
+    ensures refused { IfErr result (λ e. IsSizeRefusal MAX_LEN (length (spelling.binary subtype bytes.now)) e) }
+{
+    write_binary(subtype, bytes, out)
+}
+
+/// Adds a namespace and an ObjectId.
+fn write_pointer(text: &str, id: &[u8; 12], out: &mut Vec<u8>) -> Result<(), DocRefusal>
+    ensures added { OnOk result (out.new.items ≡ out.old.items ++ (string text.now ++ id.now)) }
+    ensures formed { OnOk result (IsUtf8 text.now × AreBytes 12 id.now) }
+    ensures refused { IfErr result (λ e. IsSizeRefusal MAX_LEN (length (string text.now ++ id.now)) e) }
+{
+    write_string(text, out)?;
+    write_raw(id, out)
+}
+
+/// Adds a value.
+#[cycle(write)]
+fn write_value(value: &Bson, out: &mut Vec<u8>) -> Result<(), DocRefusal>
+    ensures added { OnOk result (out.new.items ≡ out.old.items ++ value_bytes (value_of value.now)) }
+    ensures formed { OnOk result (IsFormedValue (value_of value.now)) }
+    ensures refused { IfErr result (λ e. IsSizeRefusal MAX_LEN (length (value_bytes (value_of value.now))) e) }
+{
+    match value {
+        Bson::Double(bytes) => write_raw(bytes, out),
+        Bson::String(text) => write_string(text.as_str(), out),
+        Bson::Document(document) => write_document(document, out),
+        Bson::Array(array) => write_array(array, out),
+        Bson::Binary { subtype, bytes } => write_data(*subtype, bytes, out),
+        Bson::ObjectId(bytes) => write_raw(bytes, out),
+        Bson::Boolean(truth) => write_bytes(&[*truth as u8], out),
+        Bson::DateTime(millis) => write_int64(*millis, out),
+        Bson::Regex { pattern, options } => write_regex(pattern.as_str(), options.as_str(), out),
+        Bson::DbPointer { text, id } => write_pointer(text.as_str(), id, out),
+        Bson::Code(text) => write_string(text.as_str(), out),
+        Bson::Symbol(text) => write_string(text.as_str(), out),
+        Bson::CodeWithScope { code, scope } => write_scope(code.as_str(), scope, out),
+        Bson::Int32(n) => write_int32(*n, out),
+        Bson::Timestamp { increment, seconds } => write_timestamp(*increment, *seconds, out),
+        Bson::Int64(n) => write_int64(*n, out),
+        Bson::Decimal128(bytes) => write_raw(bytes, out),
+        Bson::Undefined | Bson::Null | Bson::MinKey | Bson::MaxKey => Ok(()),
+    }
+}
+
+/// Adds a code and its scope.
+#[cycle(write)]
+fn write_scope(code: &str, scope: &Document, out: &mut Vec<u8>) -> Result<(), DocRefusal>
+    ensures added { OnOk result (out.new.items ≡ out.old.items ++ inner_bytes (with_code code.now) (elements (tree_of scope.now))) }
+    ensures formed { OnOk result (IsFormed (tree_of scope.now)) }
+    ensures refused { IfErr result (λ e. IsSizeRefusal MAX_LEN (length (inner_bytes (with_code code.now) (elements (tree_of scope.now)))) e) }
+{
+    let start = out.len();
+    begin(out)?;
+    write_string(code, out)?;
+    write_document(scope, out)?;
+    put_len(start, MAX_LEN, out)
+}
+
+/// Adds an array.
+#[cycle(write)]
+fn write_array(array: &Array, out: &mut Vec<u8>) -> Result<(), DocRefusal>
+    ensures added { OnOk result (out.new.items ≡ out.old.items ++ spelling.document (elements (array_tree 0 array.now))) }
+    ensures formed { OnOk result (IsFormed (array_tree 0 array.now)) }
+    ensures refused { IfErr result (λ e. IsSizeRefusal MAX_LEN (length (spelling.document (elements (array_tree 0 array.now)))) e) }
+{
+    let start = out.len();
+    begin(out)?;
+    for (place, value) in array.as_slice().iter().enumerate() {
+        write_head(value.kind(), "", true, place, out)?;
+        write_value(value, out)?;
+    }
+    finish(start, MAX_LEN, out)
+}
+
+/// Adds a document.
+#[cycle(write)]
+pub(crate) fn write_document(document: &Document, out: &mut Vec<u8>) -> Result<(), DocRefusal>
+    ensures added { OnOk result (out.new.items ≡ out.old.items ++ spelling.document (elements (tree_of document.now))) }
+    ensures within { OnOk result (length (spelling.document (elements (tree_of document.now))) ≤ MAX_LEN) }
+    ensures formed { OnOk result (IsFormed (tree_of document.now)) }
+    ensures refused { IfErr result (λ e. IsSizeRefusal MAX_LEN (length (spelling.document (elements (tree_of document.now)))) e) }
+{
+    let start = out.len();
+    begin(out)?;
+    for (name, value) in document.iter() {
+        write_head(value.kind(), name, false, 0, out)?;
+        write_value(value, out)?;
+    }
+    finish(start, MAX_LEN, out)
+}
+
+impl Document {
+    /// The document in bytes of its own.
+    ///
+    /// # Errors
+    ///
+    /// `ZeroInName` for a 00 in a name, a pattern or options and `Depth` for a container deeper than 200: the first of
+    /// them in the order of the pairs. Else `TooLarge` for more than 2,147,483,647 bytes. `OutOfMemory` in place of any.
+    pub fn to_raw(&self) -> Result<RawDocumentBuf, DocRefusal>
+        ensures written { IfOk result (λ d. Spells (tree_of self.now) (buf_bytes d)) }
+        ensures refused { IfErr result (λ e. IsUnwritable (tree_of self.now) e) }
+    {
+        check_document(self, 1)?;
+        let mut out = Vec::new(self.allocator());
+        write_document(self, &mut out)?;
+        Ok(RawDocumentBuf::from_spelled(out))
+    }
+}

@@ -1,0 +1,94 @@
+//! Whether a document can be written, but for its length.
+
+ghost use Rattle.std.specs.Prelude.{◌≡◌, ◌≤◌, ◌<◌, Some, None, true, false, MatchResult};
+ghost use Rattle.bson_doc.specs.declared.refusal.DocRefusal.TheVariants.{ZeroInName, Depth};
+ghost use Rattle.bson_doc.specs.Array.{array_tree};
+ghost use Rattle.bson_doc.specs.Bson.{value_of};
+ghost use Rattle.bson_doc.specs.Document.{tree_of};
+ghost use Rattle.bson_doc.specs.Unwritable.{unwritable, unwritable_value};
+ghost use Rattle.bson_doc.specs.Unwritable as spec;
+
+use crate::array::Array;
+use crate::bson::Bson;
+use crate::document::Document;
+use crate::refusal::DocRefusal;
+
+/// The greatest depth of a container. The outermost document has depth 1.
+const MAX_DEPTH: u32 = 200;
+
+/// Whether one of the bytes is 00.
+fn has_zero(bytes: &[u8]) -> bool
+    ensures { result ≡ spec.has_zero bytes.now }
+{
+    bytes.iter().any(|b| *b == 0)
+}
+
+/// Refuses a name, a pattern or options with a 00.
+fn check_cstring(text: &str) -> Result<(), DocRefusal>
+    ensures { MatchResult result (λ _. spec.has_zero text.now ≡ false) (λ e. (spec.has_zero text.now ≡ true) × (e ≡ ZeroInName)) }
+{
+    if has_zero(text.as_bytes()) {
+        return Err(DocRefusal::ZeroInName);
+    }
+    Ok(())
+}
+
+/// Refuses a container that would be deeper than the greatest depth, in one of this depth.
+fn check_depth(depth: u32) -> Result<(), DocRefusal>
+    ensures { MatchResult result (λ _. depth < 200) (λ e. (200 ≤ depth) × (e ≡ Depth)) }
+{
+    if depth >= MAX_DEPTH {
+        return Err(DocRefusal::Depth);
+    }
+    Ok(())
+}
+
+/// Refuses what can't be written in a value, which stands in a container of this depth.
+#[cycle(check)]
+fn check_value(value: &Bson, depth: u32) -> Result<(), DocRefusal>
+    ensures { MatchResult result (λ _. unwritable_value depth (value_of value.now) ≡ None) (λ e. unwritable_value depth (value_of value.now) ≡ Some e) }
+{
+    match value {
+        Bson::Document(document) => {
+            check_depth(depth)?;
+            check_document(document, depth + 1)
+        }
+        Bson::Array(array) => {
+            check_depth(depth)?;
+            check_array(array, depth + 1)
+        }
+        Bson::CodeWithScope { scope, .. } => {
+            check_depth(depth)?;
+            check_document(scope, depth + 1)
+        }
+        Bson::Regex { pattern, options } => {
+            check_cstring(pattern.as_str())?;
+            check_cstring(options.as_str())
+        }
+        _ => Ok(()),
+    }
+}
+
+/// Refuses what can't be written in an array, whose depth this is.
+#[cycle(check)]
+fn check_array(array: &Array, depth: u32) -> Result<(), DocRefusal>
+    ensures { MatchResult result (λ _. unwritable depth (array_tree 0 array.now) ≡ None) (λ e. unwritable depth (array_tree 0 array.now) ≡ Some e) }
+{
+    for value in array.as_slice() {
+        check_value(value, depth)?;
+    }
+    Ok(())
+}
+
+/// Refuses what can't be written in a document, whose depth this is: the first refusal in the order of the pairs, a
+/// name before its value, and a container's depth before its pairs.
+#[cycle(check)]
+pub(crate) fn check_document(document: &Document, depth: u32) -> Result<(), DocRefusal>
+    ensures { MatchResult result (λ _. unwritable depth (tree_of document.now) ≡ None) (λ e. unwritable depth (tree_of document.now) ≡ Some e) }
+{
+    for (name, value) in document.iter() {
+        check_cstring(name)?;
+        check_value(value, depth)?;
+    }
+    Ok(())
+}
