@@ -50,8 +50,11 @@ pub no_zero_in_place : (place : ℕ) → place < 2 ^ 64 → has_zero (decimal pl
 no_zero_in_place place small = no_zero_among (decimal place) (decimal_is_IsNumeral place small).0.1
 
 -- the first value left, and the others
-pub array_left : (bs : List Bson) (i : ℕ) (b : Bson) → i < length bs → b ≡ get_or bs i b → array_tree i (map value_of (drop i bs)) ≡ with_first (decimal i) (value_of b) (array_tree (i + 1) (map value_of (drop (i + 1) bs)))
-array_left bs i b lt is =
+pub values_left : (bs : List Bson) (i : ℕ) (b : Bson) → i < length bs → b ≡ get_or bs i b → map value_of (drop i bs) ≡ value_of b ∷ map value_of (drop (i + 1) bs)
+values_left bs i b lt is =
     let e = add-one i in
     let cut : drop i bs ≡ b ∷ drop (i + 1) bs = drop-cons bs i b lt ∙ ap (λ (x : Bson). x ∷ drop (suc i) bs) (sym is) ∙ ap (λ (n : ℕ). b ∷ drop n bs) (sym e) in
-    ap (λ (q : List Bson). array_tree i (map value_of q)) cut
+    ap (map value_of) cut
+
+pub array_left : (bs : List Bson) (i : ℕ) (b : Bson) → i < length bs → b ≡ get_or bs i b → array_tree i (map value_of (drop i bs)) ≡ with_first (decimal i) (value_of b) (array_tree (i + 1) (map value_of (drop (i + 1) bs)))
+array_left bs i b lt is = ap (array_tree i) (values_left bs i b lt is)

@@ -7,3 +7,11 @@ pub mod Spelled
 pub mod Reading
 pub mod Checking
 pub mod Writing
+pub mod Owned
+pub mod Progress
+pub mod Indent
+pub mod Quoted
+pub mod Hexadecimal
+pub mod Lines
+pub mod Appending
+pub mod Equal

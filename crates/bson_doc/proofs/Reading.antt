@@ -47,11 +47,11 @@ array_then-push place (w ∷ vs) v t =
 
 -- ---- the first pair
 
-plain_from-with_first : (in_array : Bool) (place : ℕ) (n : List ℕ) (v : TreeValue) (ps : Tree) → plain_from in_array place (with_first n v ps) ≡ with_first (name_at in_array place n) (plain_value v) (plain_from in_array (place + 1) ps)
+pub plain_from-with_first : (in_array : Bool) (place : ℕ) (n : List ℕ) (v : TreeValue) (ps : Tree) → plain_from in_array place (with_first n v ps) ≡ with_first (name_at in_array place n) (plain_value v) (plain_from in_array (place + 1) ps)
 plain_from-with_first in_array place n (leaf_value k leaf) ps = refl
 plain_from-with_first in_array place n (document_value k b inner) ps = refl
 
-repeat_in-with_first : (in_array : Bool) (depth : ℕ) (seen : List (List ℕ)) (n : List ℕ) (v : TreeValue) (ps : Tree) → repeat_in in_array depth seen (with_first n v ps) ≡ cond (is_among n seen) (Some depth) (first_of (repeat_in_value depth v) (repeat_in in_array depth (seen_with in_array n seen) ps))
+pub repeat_in-with_first : (in_array : Bool) (depth : ℕ) (seen : List (List ℕ)) (n : List ℕ) (v : TreeValue) (ps : Tree) → repeat_in in_array depth seen (with_first n v ps) ≡ cond (is_among n seen) (Some depth) (first_of (repeat_in_value depth v) (repeat_in in_array depth (seen_with in_array n seen) ps))
 repeat_in-with_first in_array depth seen n (leaf_value k leaf) ps = refl
 repeat_in-with_first in_array depth seen n (document_value k b inner) ps = refl
 

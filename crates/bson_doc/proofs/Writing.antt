@@ -1,7 +1,9 @@
 -- The bytes of pairs, one after another, and which of them spell a document.
-use Rattle.std.proofs.Common.{◌≡◌, ℕ, ◌+◌, ◌<◌, ◌≤◌, ◌^◌, Bool, true, false, cond, nat_lt, ◌||◌, ◌==◌, List, [], ◌∷◌, ◌++◌, Option, Some, None, length, refl, sym, ap, ◌∙◌, arith, append_assoc, length-append}
-use Rattle.std.specs.Prelude.{IsUtf8, Result, Ok, Err, OnOk}
+use Rattle.std.proofs.Common.{◌≡◌, ℕ, ◌+◌, ◌<◌, ◌≤◌, ◌^◌, Bool, true, false, cond, nat_lt, ◌||◌, ◌==◌, List, [], ◌∷◌, ◌++◌, Option, Some, None, length, take, drop, refl, sym, ap, ◌∙◌, arith, append_assoc, length-append}
+use Rattle.std.specs.Prelude.{IsUtf8, Result, Ok, Err, OnOk, OnErr}
 use Rattle.std.proofs.lemmas.Bool.{ltb-true}
+use Rattle.std.proofs.lemmas.List.{take-append-drop}
+use Rattle.std.proofs.Math.Seq.{take-append_seam}
 use Rattle.std.proofs.lemmas.Fmt.{IsAscii-decimal}
 use Rattle.std.proofs.lemmas.Str.{IsUtf8-from_ascii}
 use Rattle.bson_doc.specs.Plain.{name_at}
@@ -15,7 +17,7 @@ use Rattle.bson_raw.proofs.Walks.{inner_len}
 use Rattle.bson_doc.specs.declared.refusal.DocRefusal.{DocRefusal}
 use Rattle.bson_doc.specs.declared.refusal.DocRefusal.TheVariants.{RepeatedName, OutOfMemory, TooLarge, ZeroInName, Depth}
 use Rattle.bson_doc.specs.Formed.{IsFormedLeaf, IsFormed, IsFormedValue}
-use Rattle.bson_doc.specs.Refusals.{IsSizeRefusal}
+use Rattle.bson_doc.specs.Refusals.{IsSizeRefusal, Keeps}
 use Rattle.bson_doc.specs.Unwritable.{has_zero, or_else, unwritable_leaf, unwritable, IsUnwritable}
 use Rattle.bson_doc.specs.Values.{value_bytes, value_kind, element_bytes}
 
@@ -152,6 +154,21 @@ written_value_refused limit t left begun out w n v others e first r =
 pub always : {T E : Type 0} (r : Result T E) {P : Type 0} → P → OnOk r P
 always (Ok x) p = p
 always (Err e) p = tt
+
+pub always_err : {T E : Type 0} (r : Result T E) {P : Type 0} → P → OnErr r P
+always_err (Ok x) p = tt
+always_err (Err e) p = p
+
+-- ---- what stands in front of bytes that are kept is kept
+
+pub kept_front : (before added out after : List ℕ) → out ≡ before ++ added → Keeps out after → Keeps before after
+kept_front before added out after is kept =
+    let all : after ≡ before ++ (added ++ drop (length out) after) = sym (take-append-drop (length out) after) ∙ ap (λ (x : List ℕ). x ++ drop (length out) after) (kept ∙ is) ∙ append_assoc before added (drop (length out) after) in
+    ap (take (length before)) all ∙ take-append_seam before (added ++ drop (length out) after)
+
+-- the pairs of a container, written behind what begins it
+pub kept_begun : (t left : Tree) (before begin begun out after : List ℕ) → Written t left begun out → begun ≡ before ++ begin → Keeps out after → Keeps before after
+kept_begun t left before begin begun out after w is kept = kept_front before begin begun after is (kept_front begun w.added out after w.is_added kept)
 
 -- ---- a length is no reason of the check
 

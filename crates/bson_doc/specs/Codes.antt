@@ -9,7 +9,7 @@ use Rattle.bson_elem.specs.Kinds.{byte_of, kind_of}
 use Rattle.bson_elem.specs.Tree.{Leaf, raw_value, boolean_value, number_value, timestamp_value, text_value, pointer_value, binary_value, regex_value, Beside, no_code, with_code, Tree, no_pairs, leaf_pair, inner_pair}
 use Rattle.bson_raw.specs.Pairs.{TreeValue, leaf_value, document_value}
 
-abbrev coded_text : Coded (List ℕ)
+abbrev pub coded_text : Coded (List ℕ)
 coded_text = coded_list coded_ℕ
 
 -- ---- kinds, by their type bytes
@@ -41,7 +41,7 @@ known_kind Decimal128 = refl
 known_kind MinKey = refl
 known_kind MaxKey = refl
 
-abbrev coded_kind : Coded Kind
+abbrev pub coded_kind : Coded Kind
 coded_kind = code_by ℕ coded_ℕ byte_of (λ n. known (kind_of n)) known_kind
 
 -- ---- leaves, by their parts
@@ -79,7 +79,7 @@ leaf_again (pointer_value words id) = refl
 leaf_again (binary_value subtype bytes) = refl
 leaf_again (regex_value pattern options) = refl
 
-abbrev coded_leaf : Coded Leaf
+abbrev pub coded_leaf : Coded Leaf
 coded_leaf =
     code_by Parts
     (coded⊎ coded_text (coded⊎ coded_bool (coded⊎ coded_ℤ (coded⊎ (coded× coded_ℕ coded_ℕ) (coded⊎ coded_text (coded⊎ (coded× coded_text coded_text) (coded⊎ (coded× coded_ℕ coded_text) (coded× coded_text coded_text))))))))
@@ -97,7 +97,7 @@ pub beside_again : (b : Beside) → beside_of (code_beside b) ≡ b
 beside_again no_code = refl
 beside_again (with_code words) = refl
 
-abbrev coded_beside : Coded Beside
+abbrev pub coded_beside : Coded Beside
 coded_beside = code_by (Option (List ℕ)) (coded_option coded_text) code_beside beside_of beside_again
 
 -- ---- trees
@@ -136,7 +136,7 @@ tree_inj (inner_pair n k b inner ps) (inner_pair n' k' b' inner' ps') p = λ i.
     (coded_beside.inj b b' (ap (λ g. head (tail (tail (tail g)))) p) i) (tree_inj inner inner' (ap (λ g. head (tail (tail (tail (tail g))))) p) i)
     (tree_inj ps ps' (ap (λ g. tail (tail (tail (tail (tail g))))) p) i)
 
-abbrev coded_tree : Coded Tree
+abbrev pub coded_tree : Coded Tree
 coded_tree = record { code = tree_code; inj = tree_inj }
 
 -- ---- values
@@ -156,7 +156,7 @@ pub value_again : (v : TreeValue) → value_of_parts (value_parts v) ≡ v
 value_again (leaf_value k v) = refl
 value_again (document_value k b inner) = refl
 
-abbrev coded_value : Coded TreeValue
+abbrev pub coded_value : Coded TreeValue
 coded_value = code_by ValueParts (coded⊎ (coded× coded_kind coded_leaf) (coded× coded_kind (coded× coded_beside coded_tree))) value_parts value_of_parts value_again
 
 -- the values of an array

@@ -8,8 +8,14 @@ pub mod Codes
 pub mod Bson
 pub mod Sizes
 pub mod Document
+pub mod Last
 pub mod Array
 pub mod DocumentIter
 pub mod Repeats
 pub mod Unwritable
 pub mod Formed
+pub mod Text
+pub mod ValueText
+pub mod Dump
+pub mod DumpValues
+pub mod Same

@@ -19,7 +19,7 @@ tree_depth-with_first : (name : List ℕ) (v : TreeValue) (ps : Tree) → tree_d
 tree_depth-with_first name (leaf_value k leaf) ps = omega arith
 tree_depth-with_first name (document_value k b inner) ps = omega arith
 
-deep_value : (b : Bson) → deep-Bson b ≤ value_depth (value_of b)
+pub deep_value : (b : Bson) → deep-Bson b ≤ value_depth (value_of b)
 deep_value (Double bytes) = omega arith
 deep_value (Text text) = omega arith
 deep_value (Document d) = omega arith

@@ -7,7 +7,7 @@ use std::alloc::{AllocError, Global};
 use std::marker::Model;
 
 /// The values of an array, in order.
-#[derive(Drop)]
+#[derive(Debug, Drop)]
 #[cycle(bson)]
 pub struct Array {
     values: Vec<Bson>,
@@ -74,5 +74,28 @@ impl Array {
             values.push(value.try_clone(alloc)?)?;
         }
         Ok(Array { values })
+    }
+}
+
+impl PartialEq for Array {
+    ghost use Rattle.std.specs.Cmp.{partial_equiv_from_equiv};
+    ghost use Rattle.bson_doc.specs.Codes.{coded_values};
+    ghost use Rattle.bson_doc.specs.Same.{same, same_equiv};
+
+    ghost eq = { same coded_values };
+
+    ghost laws = { partial_equiv_from_equiv (same_equiv coded_values) };
+
+    #[cycle(same)]
+    fn eq(&self, other: &Array) -> bool {
+        if self.values.len() != other.values.len() {
+            return false;
+        }
+        for (place, value) in self.values.iter().enumerate() {
+            if !value.eq(&other.values[place]) {
+                return false;
+            }
+        }
+        true
     }
 }

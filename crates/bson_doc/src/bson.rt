@@ -8,7 +8,7 @@ use bson_elem::kind::Kind;
 use std::alloc::{AllocError, Global};
 
 /// A value, one variant a kind.
-#[derive(Drop)]
+#[derive(Debug, Drop, PartialEq)]
 #[cycle(bson)]
 pub enum Bson {
     /// The 8 bytes of the number, as they stand in a document.
@@ -123,5 +123,65 @@ impl Bson {
             Bson::MinKey => Kind::MinKey,
             Bson::MaxKey => Kind::MaxKey,
         }
+    }
+}
+
+impl From<bool> for Bson {
+    ghost use Rattle.bson_doc.specs.declared.bson.Bson.TheVariants.{Boolean};
+
+    ghost from_gives = { λ truth value. value ≡ Boolean truth };
+
+    fn from(truth: bool) -> Bson {
+        Bson::Boolean(truth)
+    }
+}
+
+impl From<i32> for Bson {
+    ghost use Rattle.bson_doc.specs.declared.bson.Bson.TheVariants.{Int32};
+
+    ghost from_gives = { λ n value. value ≡ Int32 n };
+
+    fn from(n: i32) -> Bson {
+        Bson::Int32(n)
+    }
+}
+
+impl From<i64> for Bson {
+    ghost use Rattle.bson_doc.specs.declared.bson.Bson.TheVariants.{Int64};
+
+    ghost from_gives = { λ n value. value ≡ Int64 n };
+
+    fn from(n: i64) -> Bson {
+        Bson::Int64(n)
+    }
+}
+
+impl From<String> for Bson {
+    ghost use Rattle.bson_doc.specs.declared.bson.Bson.TheVariants as values;
+
+    ghost from_gives = { λ text value. value ≡ values.String text };
+
+    fn from(text: String) -> Bson {
+        Bson::String(text)
+    }
+}
+
+impl From<Document> for Bson {
+    ghost use Rattle.bson_doc.specs.declared.bson.Bson.TheVariants as values;
+
+    ghost from_gives = { λ document value. value ≡ values.Document document };
+
+    fn from(document: Document) -> Bson {
+        Bson::Document(document)
+    }
+}
+
+impl From<Array> for Bson {
+    ghost use Rattle.bson_doc.specs.declared.bson.Bson.TheVariants as values;
+
+    ghost from_gives = { λ array value. value ≡ values.Array array };
+
+    fn from(array: Array) -> Bson {
+        Bson::Array(array)
     }
 }

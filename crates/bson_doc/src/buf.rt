@@ -6,6 +6,9 @@ ghost use Rattle.bson_elem.specs.Spelling.{Spells};
 ghost use Rattle.bson_raw.specs.Spelled.{IsSpelled};
 ghost use Rattle.bson_raw.specs.RawDocument.{document_bytes};
 
+use crate::append::append_pair;
+use crate::bson::Bson;
+use crate::refusal::DocRefusal;
 use bson_raw::document::RawDocument;
 use std::alloc::{AllocError, Global};
 
@@ -20,7 +23,12 @@ pub struct RawDocumentBuf {
 }
 
 impl RawDocumentBuf {
+    ghost use Rattle.std.specs.Prelude.{OnOk, OnErr, IfErr};
+    ghost use Rattle.bson_elem.specs.Tree.{Tree};
+    ghost use Rattle.bson_doc.specs.Bson.{value_of};
+    ghost use Rattle.bson_doc.specs.Last.{with_last};
     ghost use Rattle.bson_doc.specs.RawDocumentBuf.{buf_bytes};
+    ghost use Rattle.bson_doc.specs.Unwritable.{IsUnwritable};
 
     /// The empty document.
     ///
@@ -39,6 +47,25 @@ impl RawDocumentBuf {
         ensures { buf_bytes result ≡ bytes.items }
     {
         RawDocumentBuf { bytes }
+    }
+
+    /// Adds a pair behind the others, with the canonical names in the arrays of the value. Names
+    /// may repeat. After a refusal the document is what it was.
+    ///
+    /// # Errors
+    ///
+    /// `ZeroInName` for a 00 in the name, or in a name, a pattern or options in the value, and
+    /// `Depth` for a container in it deeper than 200: the first of them in order. Else `TooLarge`
+    /// where the document would have more than 2,147,483,647 bytes. `OutOfMemory` in place of any.
+    pub fn append(&mut self, name: &str, value: &Bson) -> Result<(), DocRefusal>
+        ensures added { (t : Tree) → Spells t (buf_bytes self.old)
+            → OnOk result
+            (Spells (with_last name.now (value_of value.now) t) (buf_bytes self.new)) }
+        ensures unchanged { OnErr result (buf_bytes self.new ≡ buf_bytes self.old) }
+        ensures refused { (t : Tree) → Spells t (buf_bytes self.old)
+            → IfErr result (λ e. IsUnwritable (with_last name.now (value_of value.now) t) e) }
+    {
+        append_pair(name, value, &mut self.bytes)
     }
 
     /// The document, lent.

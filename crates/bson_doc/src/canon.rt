@@ -1,6 +1,6 @@
 //! The canonical form of a document, in which the names of each array are "0", "1" and so on.
 
-ghost use Rattle.std.specs.Prelude.{◌≡◌, ◌≤◌, ◌<◌, ◌↔◌, ◌⊎◌, length, IsTrue, IfOk, IfErr, IsErrOf};
+ghost use Rattle.std.specs.Prelude.{◌≡◌, ◌≤◌, ◌<◌, ◌↔◌, ◌⊎◌, false, length, IsTrue, IfOk, IfErr, IsErrOf};
 ghost use Rattle.bson_elem.specs.Tree.{Tree};
 ghost use Rattle.bson_elem.specs.Spelling.{Spells};
 ghost use Rattle.bson_raw.specs.Pairs.{TreeValue};
@@ -22,7 +22,8 @@ use std::alloc::Global;
 /// Whether the names of the document are canonical at every depth; in an array these are "0", "1" and so on.
 #[cycle(names)]
 fn has_canonical_names(document: RawDocument<'_>, in_array: bool) -> bool
-    ensures { (t : Tree) → Spells t (document_bytes document.entry) → result ≡ is_plain in_array 0 t }
+    ensures { (t : Tree) → Spells t (document_bytes document.entry)
+        → result ≡ is_plain in_array 0 t }
 {
     let mut place = 0;
     for (name, value) in document.iter() {
@@ -49,7 +50,10 @@ fn holds_canonical_names(value: RawBson<'_>) -> bool
 
 /// Whether the document is in canonical form: the names of each array in it are "0", "1" and so on. Takes no memory.
 pub fn is_canonical(document: RawDocument<'_>) -> bool
-    ensures { (t : Tree) → Spells t (document_bytes document.entry) → (IsTrue result ↔ (plain t ≡ t)) }
+    ensures named { (t : Tree) → Spells t (document_bytes document.entry)
+        → result ≡ is_plain false 0 t }
+    ensures same { (t : Tree) → Spells t (document_bytes document.entry)
+        → (IsTrue result ↔ (plain t ≡ t)) }
 {
     has_canonical_names(document, false)
 }

@@ -1,6 +1,8 @@
 //! A document that owns its names and its values.
 
 ghost use Rattle.std.specs.Prelude.{◌≡◌, ◌↔◌, [], length, map, option_map, string_bytes, None, IfOk, IfErr, IsOk, IsSome, IsTrue, OnErr, OnOk};
+ghost use Rattle.std.specs.List.{IsDistinct};
+ghost use Rattle.std.specs.Str.{bytes_eq};
 
 use crate::bson::Bson;
 use crate::iter::DocumentIter;
@@ -10,7 +12,7 @@ use std::marker::Model;
 use std::mem;
 
 /// Pairs of a name and a value, in order. No name is there twice.
-#[derive(Drop)]
+#[derive(Debug, Drop)]
 #[cycle(bson)]
 pub struct Document {
     names: IndexSet<String>,
@@ -109,7 +111,8 @@ impl Document {
         value: Bson,
     ) -> Result<Option<Bson>, AllocFailed<(String, Bson)>>
         ensures ok { OnOk result (self.new ≡ put (string_bytes name) (value_of value) self.old) }
-        ensures before { IfOk result (λ before. option_map value_of before ≡ value_named (string_bytes name) self.old) }
+        ensures before { IfOk result (λ before.
+            option_map value_of before ≡ value_named (string_bytes name) self.old) }
         ensures present { IsSome (value_named (string_bytes name) self.old) → IsOk result }
 
         ensures err { OnErr result (self.new ≡ self.old) }
@@ -152,9 +155,24 @@ impl Document {
         Some(self.values.remove(index))
     }
 
+    /// The names, in order.
+    pub fn keys(&self) -> &[String]
+        ensures { map string_bytes result.now ≡ map (λ p. p.0) self.now }
+    {
+        self.names.as_slice()
+    }
+
+    /// The values, in order.
+    pub fn values(&self) -> &[Bson]
+        ensures { map value_of result.now ≡ map (λ p. p.1) self.now }
+    {
+        &self.values
+    }
+
     /// The pairs of names and values, in order.
     pub fn iter(&self) -> DocumentIter<'_>
-        ensures { result ≡ self.now }
+        ensures pairs { result ≡ self.now }
+        ensures distinct { IsDistinct bytes_eq (map (λ p. p.0) self.now) }
     {
         DocumentIter::of_parts(self.names.as_slice(), &self.values)
     }
@@ -174,5 +192,28 @@ impl Document {
             values.push(value.try_clone(alloc)?)?;
         }
         Ok(Document { names, values })
+    }
+}
+
+impl PartialEq for Document {
+    ghost use Rattle.std.specs.Cmp.{partial_equiv_from_equiv};
+    ghost use Rattle.bson_doc.specs.Codes.{coded_pairs};
+    ghost use Rattle.bson_doc.specs.Same.{same, same_equiv};
+
+    ghost eq = { same coded_pairs };
+
+    ghost laws = { partial_equiv_from_equiv (same_equiv coded_pairs) };
+
+    #[cycle(same)]
+    fn eq(&self, other: &Document) -> bool {
+        if self.names.as_slice() != other.names.as_slice() {
+            return false;
+        }
+        for (place, value) in self.values.iter().enumerate() {
+            if !value.eq(&other.values[place]) {
+                return false;
+            }
+        }
+        true
     }
 }

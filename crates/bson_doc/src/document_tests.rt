@@ -3,7 +3,9 @@
 use crate::array::Array;
 use crate::bson::Bson;
 use crate::document::Document;
+use crate::laws::round_trip;
 use crate::refusal::DocRefusal;
+use bson_elem::kind::Kind;
 use bson_raw::document::RawDocument;
 use std::alloc::{AllocError, Global};
 use std::test::Fail;
@@ -17,7 +19,7 @@ fn nibble(digit: u8) -> Option<u8> {
 }
 
 /// The bytes of a text of hexadecimal digits. Spaces are passed over.
-fn bytes_of(alloc: Global, hex: &str) -> Result<Vec<u8>, AllocError> {
+pub(crate) fn bytes_of(alloc: Global, hex: &str) -> Result<Vec<u8>, AllocError> {
     let mut bytes = Vec::new(alloc);
     let mut high = None;
     for digit in hex.bytes().filter_map(nibble) {
@@ -112,7 +114,7 @@ fn repeated_names_are_refused(rt: HostRuntime) -> Result<(), Fail> {
 }
 
 /// A document of one pair.
-fn one_pair(alloc: Global, name: &str, value: Bson) -> Result<Document, DocRefusal> {
+pub(crate) fn one_pair(alloc: Global, name: &str, value: Bson) -> Result<Document, DocRefusal> {
     let mut document = Document::new(alloc);
     document.insert(String::from_str(alloc, name)?, value)?;
     Ok(document)
@@ -136,7 +138,7 @@ fn names_are_looked_up(rt: HostRuntime) -> Result<(), Fail> {
 }
 
 /// Arrays of so many depths, one in another, and null in the innermost.
-fn nested(alloc: Global, depths: u32) -> Result<Bson, DocRefusal> {
+pub(crate) fn nested(alloc: Global, depths: u32) -> Result<Bson, DocRefusal> {
     let mut value = Bson::Null;
     for _ in 0..depths {
         let mut values = Vec::new(alloc);
@@ -161,5 +163,56 @@ fn what_has_no_spelling_is_refused(rt: HostRuntime) -> Result<(), Fail> {
     assert!(rt; deepest.to_raw().is_ok());
     let deeper = one_pair(alloc, "a", nested(alloc, 200)?)?;
     assert_eq!(rt; deeper.to_raw().err(), Some(DocRefusal::Depth));
+    Ok(())
+}
+
+#[test]
+fn a_document_is_read_back(rt: HostRuntime) -> Result<(), Fail> {
+    let document = one_pair(rt.alloc(), "a", nested(rt.alloc(), 2)?)?;
+    let again = round_trip(rt.alloc(), &document)?;
+    assert_eq!(rt; again.to_raw()?, document.to_raw()?);
+    Ok(())
+}
+
+#[test]
+fn values_are_made_and_listed(rt: HostRuntime) -> Result<(), Fail> {
+    let alloc = rt.alloc();
+    let mut document = one_pair(
+        alloc,
+        "a",
+        Bson::from(one_pair(alloc, "", Bson::from(7i32))?),
+    )?;
+    document.insert(String::from_str(alloc, "b")?, Bson::from(true))?;
+    document.insert(String::from_str(alloc, "c")?, Bson::from(7i64))?;
+    let text = String::from_str(alloc, "x")?;
+    document.insert(String::from_str(alloc, "d")?, Bson::from(text))?;
+    let array = Array::from_vec(Vec::new(alloc));
+    document.insert(String::from_str(alloc, "e")?, Bson::from(array))?;
+    let kinds = [
+        Kind::Document,
+        Kind::Boolean,
+        Kind::Int64,
+        Kind::String,
+        Kind::Array,
+    ];
+    assert!(rt; document.values().iter().map(|value| value.kind()).eq(kinds));
+    assert_eq!(rt; document.keys().last().map(|name| name.as_str()), Some("e"));
+    for (name, value) in &document {
+        assert_eq!(rt;
+            document.get(name).map(|found| found.kind()),
+            Some(value.kind())
+        );
+    }
+    Ok(())
+}
+
+#[test]
+fn values_are_shown(rt: HostRuntime) -> Result<(), Fail> {
+    let document = one_pair(rt.alloc(), "a", Bson::from(7i32))?;
+    let text = format!(in rt.alloc(); "{document:?}")?;
+    assert_eq!(rt;
+        text.as_str(),
+        "Document { names: {\"a\"}, values: [Int32(7)] }"
+    );
     Ok(())
 }

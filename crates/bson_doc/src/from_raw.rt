@@ -1,12 +1,13 @@
 //! Documents that are read out of their bytes.
 
-ghost use Rattle.std.specs.Prelude.{◌≡◌, ◌+◌, ◌<◌, ◌^◌, [], None, false, true, length, IfOk, IfErr, OnOk};
+ghost use Rattle.std.specs.Prelude.{◌≡◌, ◌+◌, ◌<◌, ◌^◌, [], None, false, true, length, ℕ, List, IfOk, IfErr, MatchResult, OnOk};
 ghost use Rattle.bson_elem.specs.Tree.{Tree};
 ghost use Rattle.bson_elem.specs.Spelling.{Spells};
 ghost use Rattle.bson_raw.specs.Pairs.{TreeValue};
 ghost use Rattle.bson_raw.specs.RawArray.{array_bytes};
 ghost use Rattle.bson_raw.specs.RawBson.{Shows, held_len};
 ghost use Rattle.bson_raw.specs.RawDocument.{document_bytes};
+ghost use Rattle.bson_doc.specs.declared.refusal.DocRefusal.TheVariants.{OutOfMemory};
 ghost use Rattle.bson_doc.specs.Array.{array_tree};
 ghost use Rattle.bson_doc.specs.Bson.{value_of};
 ghost use Rattle.bson_doc.specs.Document.{tree_of};
@@ -28,9 +29,12 @@ use std::alloc::Global;
 #[cycle(read)]
 fn read_value(alloc: Global, value: RawBson<'_>, depth: u32) -> Result<Bson, DocRefusal>
     requires { depth + 1 + held_len value < 2 ^ 32 }
-    ensures read { (v : TreeValue) → Shows value.entry v → IfOk result (λ b. value_of b ≡ plain_value v) }
-    ensures unique { (v : TreeValue) → Shows value.entry v → OnOk result (repeat_in_value depth v ≡ None) }
-    ensures refused { (v : TreeValue) → Shows value.entry v → IfErr result (λ e. IsRepeat (repeat_in_value depth v) e) }
+    ensures read { (v : TreeValue) → Shows value.entry v
+        → IfOk result (λ b. value_of b ≡ plain_value v) }
+    ensures unique { (v : TreeValue) → Shows value.entry v
+        → OnOk result (repeat_in_value depth v ≡ None) }
+    ensures refused { (v : TreeValue) → Shows value.entry v
+        → IfErr result (λ e. IsRepeat (repeat_in_value depth v) e) }
 {
     let owned = match value {
         RawBson::Double(bytes) => Bson::Double(bytes),
@@ -74,9 +78,12 @@ fn read_value(alloc: Global, value: RawBson<'_>, depth: u32) -> Result<Bson, Doc
 #[cycle(read)]
 fn read_array(alloc: Global, array: RawArray<'_>, depth: u32) -> Result<Array, DocRefusal>
     requires { depth + length (array_bytes array) < 2 ^ 32 }
-    ensures read { (t : Tree) → Spells t (array_bytes array.entry) → IfOk result (λ a. array_tree 0 a ≡ plain_from true 0 t) }
-    ensures unique { (t : Tree) → Spells t (array_bytes array.entry) → OnOk result (repeat_in true depth [] t ≡ None) }
-    ensures refused { (t : Tree) → Spells t (array_bytes array.entry) → IfErr result (λ e. IsRepeat (repeat_in true depth [] t) e) }
+    ensures read { (t : Tree) → Spells t (array_bytes array.entry)
+        → IfOk result (λ a. array_tree 0 a ≡ plain_from true 0 t) }
+    ensures unique { (t : Tree) → Spells t (array_bytes array.entry)
+        → OnOk result (repeat_in true depth [] t ≡ None) }
+    ensures refused { (t : Tree) → Spells t (array_bytes array.entry)
+        → IfErr result (λ e. IsRepeat (repeat_in true depth [] t) e) }
 {
     let mut values = Vec::new(alloc);
     for value in array.iter() {
@@ -93,9 +100,12 @@ fn read_document(
     depth: u32,
 ) -> Result<Document, DocRefusal>
     requires { depth + length (document_bytes document) < 2 ^ 32 }
-    ensures read { (t : Tree) → Spells t (document_bytes document.entry) → IfOk result (λ d. tree_of d ≡ plain t) }
-    ensures unique { (t : Tree) → Spells t (document_bytes document.entry) → OnOk result (repeat_in false depth [] t ≡ None) }
-    ensures refused { (t : Tree) → Spells t (document_bytes document.entry) → IfErr result (λ e. IsRepeat (repeat_in false depth [] t) e) }
+    ensures read { (t : Tree) → Spells t (document_bytes document.entry)
+        → IfOk result (λ d. tree_of d ≡ plain t) }
+    ensures unique { (t : Tree) → Spells t (document_bytes document.entry)
+        → OnOk result (repeat_in false depth [] t ≡ None) }
+    ensures refused { (t : Tree) → Spells t (document_bytes document.entry)
+        → IfErr result (λ e. IsRepeat (repeat_in false depth [] t) e) }
 {
     let mut names = IndexSet::new(alloc);
     let mut values = Vec::new(alloc);
@@ -117,9 +127,16 @@ impl Document {
     /// `RepeatedName` where a document or a scope has a name twice, with the depth of that container, and
     /// `OutOfMemory`. Of several repeated names the first in the bytes is told.
     pub fn from_raw(alloc: Global, raw: RawDocument<'_>) -> Result<Document, DocRefusal>
-        ensures read { (t : Tree) → Spells t (document_bytes raw.entry) → IfOk result (λ d. tree_of d ≡ plain t) }
-        ensures unique { (t : Tree) → Spells t (document_bytes raw.entry) → OnOk result (repeat_depth t ≡ None) }
-        ensures refused { (t : Tree) → Spells t (document_bytes raw.entry) → IfErr result (λ e. IsRepeat (repeat_depth t) e) }
+        ensures read { (t : Tree) → Spells t (document_bytes raw.entry)
+            → IfOk result (λ d. tree_of d ≡ plain t) }
+        ensures unique { (t : Tree) → Spells t (document_bytes raw.entry)
+            → OnOk result (repeat_depth t ≡ None) }
+        ensures refused { (t : Tree) → Spells t (document_bytes raw.entry)
+            → IfErr result (λ e. IsRepeat (repeat_depth t) e) }
+        ensures back { (pairs : List (List ℕ × TreeValue))
+            → Spells (tree_of pairs) (document_bytes raw.entry)
+            → plain (tree_of pairs) ≡ tree_of pairs → repeat_depth (tree_of pairs) ≡ None
+            → MatchResult result (λ d. d ≡ pairs) (λ e. e ≡ OutOfMemory) }
     {
         let _bytes = raw.as_bytes();
         read_document(alloc, raw, 1)

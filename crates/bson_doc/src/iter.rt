@@ -4,6 +4,7 @@ ghost use Rattle.std.specs.Prelude.{◌≡◌, length, map, string_bytes};
 ghost use Rattle.std.specs.Iterator.{at_most};
 
 use crate::bson::Bson;
+use crate::document::Document;
 use std::marker::Model;
 
 /// The pairs of a document that are left.
@@ -59,5 +60,17 @@ impl<'a> Iterator for DocumentIter<'a> {
         self.names = names;
         self.values = values;
         Some((name.as_str(), value))
+    }
+}
+
+impl<'a> IntoIterator for &'a Document {
+    type Item = (&'a str, &'a Bson);
+
+    type IntoIter = DocumentIter<'a>;
+
+    ghost into_iter_gives = { λ document iter. iter ≡ document.now };
+
+    fn into_iter(self) -> DocumentIter<'a> {
+        self.iter()
     }
 }

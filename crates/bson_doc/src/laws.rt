@@ -1,13 +1,19 @@
-//! The laws that make the definition of the canonical form trustworthy. The contract of each function is the law; the
-//! function does nothing.
+//! The laws that make the definition of the canonical form trustworthy, and the law of writing and reading. The contract
+//! of each function is the law; those about definitions alone do nothing.
 
-ghost use Rattle.std.specs.Prelude.{◌≡◌, ◌↔◌, ◌<◌, ◌^◌, ℕ, List, length, slice_get, Some, option_map};
+ghost use Rattle.std.specs.Prelude.{◌≡◌, ◌↔◌, ◌<◌, ◌^◌, ℕ, List, length, slice_get, Some, option_map, IfOk, IfErr};
 ghost use Rattle.std.specs.Fmt.{decimal};
 ghost use Rattle.bson_elem.specs.Tree.{Tree};
 ghost use Rattle.bson_elem.specs.Spelling.{Spells, document, elements};
 ghost use Rattle.bson_raw.specs.Pairs.{names_of, value_at};
+ghost use Rattle.bson_doc.specs.Document.{tree_of};
 ghost use Rattle.bson_doc.specs.Plain.{plain, numbered, canonical_len};
+ghost use Rattle.bson_doc.specs.Unwritable.{IsUnwritable};
 ghost use Rattle.bson_doc.specs.Values.{plain_value};
+
+use crate::document::Document;
+use crate::refusal::DocRefusal;
+use std::alloc::Global;
 
 /// A tree in canonical form is in canonical form.
 pub fn plain_is_plain()
@@ -16,22 +22,26 @@ pub fn plain_is_plain()
 
 /// Trees with the same canonical bytes have the same canonical tree.
 pub fn same_bytes_same_plain_tree()
-    ensures { (t u : Tree) (bytes : List ℕ) → Spells (plain t) bytes → Spells (plain u) bytes → plain t ≡ plain u }
+    ensures { (t u : Tree) (bytes : List ℕ) → Spells (plain t) bytes → Spells (plain u) bytes
+        → plain t ≡ plain u }
 {}
 
 /// Trees with the same canonical tree have the same canonical bytes.
 pub fn same_plain_tree_same_bytes()
-    ensures { (t u : Tree) (a b : List ℕ) → plain t ≡ plain u → Spells (plain t) a → Spells (plain u) b → a ≡ b }
+    ensures { (t u : Tree) (a b : List ℕ) → plain t ≡ plain u → Spells (plain t) a
+        → Spells (plain u) b → a ≡ b }
 {}
 
 /// The canonical form of a canonical document is that document.
 pub fn canonical_of_canonical()
-    ensures { (t u : Tree) (a b : List ℕ) → Spells (plain t) a → Spells u a → Spells (plain u) b → a ≡ b }
+    ensures { (t u : Tree) (a b : List ℕ) → Spells (plain t) a → Spells u a
+        → Spells (plain u) b → a ≡ b }
 {}
 
 /// A document is canonical exactly where its tree is in canonical form.
 pub fn canonical_where_plain()
-    ensures { (t : Tree) (bytes : List ℕ) → Spells t bytes → (Spells (plain t) bytes ↔ (plain t ≡ t)) }
+    ensures { (t : Tree) (bytes : List ℕ) → Spells t bytes
+        → (Spells (plain t) bytes ↔ (plain t ≡ t)) }
 {}
 
 /// The outermost document keeps its names.
@@ -41,7 +51,8 @@ pub fn plain_keeps_names()
 
 /// In the canonical form of an array the name of each value is its place in decimal, counted from 0.
 pub fn array_names_are_places()
-    ensures { (t : Tree) (k : ℕ) → k < length (names_of t) → slice_get (names_of (numbered 0 t)) k ≡ Some (decimal k) }
+    ensures { (t : Tree) (k : ℕ) → k < length (names_of t)
+        → slice_get (names_of (numbered 0 t)) k ≡ Some (decimal k) }
 {}
 
 /// The values of a document keep their places, their kinds and what they hold, but for the names in arrays inside.
@@ -51,7 +62,8 @@ pub fn plain_keeps_values()
 
 /// The values of an array keep them, too.
 pub fn numbered_keeps_values()
-    ensures { (t : Tree) (k : ℕ) → value_at k (numbered 0 t) ≡ option_map plain_value (value_at k t) }
+    ensures { (t : Tree) (k : ℕ)
+        → value_at k (numbered 0 t) ≡ option_map plain_value (value_at k t) }
 {}
 
 /// A document has a canonical form where that isn't longer than a document may be.
@@ -59,3 +71,16 @@ pub fn canonical_form_is_there()
     ensures { (t : Tree) (bytes : List ℕ) → Spells t bytes → canonical_len t < 2 ^ 31
         → Spells (plain t) (document (elements (plain t))) }
 {}
+
+/// A document that is written and read back is that document.
+///
+/// # Errors
+///
+/// Those of `Document::to_raw`, and `OutOfMemory`.
+pub fn round_trip(alloc: Global, document: &Document) -> Result<Document, DocRefusal>
+    ensures same { IfOk result (λ again. again ≡ document.now) }
+    ensures refused { IfErr result (λ e. IsUnwritable (tree_of document.now) e) }
+{
+    let raw = document.to_raw()?;
+    Document::from_raw(alloc, raw.as_raw())
+}

@@ -1,5 +1,5 @@
-//! BSON documents that own what they hold, documents in their bytes that are owned, and the canonical form of
-//! documents.
+//! BSON documents that own what they hold, documents in their bytes that are owned, the canonical form of documents, and
+//! their text.
 //!
 //! A `Document` keeps its pairs in order, and finds a name without a walk. A contract sees it as the list of its
 //! pairs. The values in that list are those of the trees that bytes of documents spell. `Document::from_raw` reads a
@@ -8,8 +8,13 @@
 //! The values of an array stand in the bytes as pairs, whose names should be "0", "1" and so on. A document is in
 //! canonical form where those of each array in it are. `is_canonical` tells whether a borrowed document is, and
 //! `to_canonical` makes the canonical form of one, as a `RawDocumentBuf`. What `Document::to_raw` writes is canonical.
+//!
+//! `dump::dump_to` writes the text of a borrowed document, a line for each element.
 #![tactic(auto)]
 
+mod append;
+#[cfg(test)]
+mod append_tests;
 pub mod array;
 pub mod bson;
 pub mod buf;
@@ -18,6 +23,7 @@ pub mod canon;
 pub mod document;
 #[cfg(test)]
 mod document_tests;
+pub mod dump;
 mod element;
 mod from_raw;
 pub mod iter;
@@ -26,5 +32,7 @@ mod name;
 pub mod refusal;
 #[cfg(test)]
 mod tests;
+pub mod text;
 mod to_raw;
 mod unwritable;
+mod value_text;

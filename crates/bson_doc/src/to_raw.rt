@@ -1,6 +1,6 @@
 //! Documents that are written to bytes of their own.
 
-ghost use Rattle.std.specs.Prelude.{◌≡◌, ◌++◌, ◌∷◌, IsUtf8, IfErr, IfOk, OnOk, Some, length, ◌≤◌, ◌<◌};
+ghost use Rattle.std.specs.Prelude.{◌≡◌, ◌++◌, ◌∷◌, IsUtf8, IfErr, IfOk, OnErr, OnOk, None, Some, length, ◌≤◌, ◌<◌};
 ghost use Rattle.bson_elem.specs.Kinds.{byte_of};
 ghost use Rattle.bson_elem.specs.Spelling.{cstring, string, elements, inner_bytes, AreBytes, IsBytes, Spells};
 ghost use Rattle.bson_elem.specs.Spelling as spelling;
@@ -9,9 +9,10 @@ ghost use Rattle.bson_doc.specs.Array.{array_tree};
 ghost use Rattle.bson_doc.specs.Bson.{value_of};
 ghost use Rattle.bson_doc.specs.Document.{tree_of};
 ghost use Rattle.bson_doc.specs.Formed.{IsFormed, IsFormedValue};
-ghost use Rattle.bson_doc.specs.Refusals.{IsSizeRefusal};
-ghost use Rattle.bson_doc.specs.Plain.{name_at};
+ghost use Rattle.bson_doc.specs.Refusals.{IsSizeRefusal, Keeps};
+ghost use Rattle.bson_doc.specs.Plain.{name_at, plain};
 ghost use Rattle.bson_doc.specs.RawDocumentBuf.{buf_bytes};
+ghost use Rattle.bson_doc.specs.Repeats.{repeat_depth};
 ghost use Rattle.bson_doc.specs.Unwritable.{IsUnwritable};
 ghost use Rattle.bson_doc.specs.Values.{value_bytes};
 
@@ -39,6 +40,7 @@ fn write_head(
     ensures added { OnOk result (out.new.items ≡ out.old.items ++ (byte_of kind ∷ cstring (name_at in_array place name.now))) }
     ensures text { OnOk result (IsUtf8 (name_at in_array place name.now)) }
     ensures refused { IfErr result (λ e. IsSizeRefusal MAX_LEN (length (byte_of kind ∷ cstring (name_at in_array place name.now))) e) }
+    ensures kept { OnErr result (Keeps out.old.items out.new.items) }
 {
     out.push(kind.byte())?;
     write_name(name, in_array, place, out)
@@ -49,6 +51,7 @@ fn write_slice(bytes: &[u8], out: &mut Vec<u8>) -> Result<(), DocRefusal>
     ensures added { OnOk result (out.new.items ≡ out.old.items ++ bytes.now) }
     ensures formed { OnOk result (IsBytes bytes.now) }
     ensures refused { IfErr result (λ e. IsSizeRefusal MAX_LEN (length bytes.now) e) }
+    ensures kept { OnErr result (Keeps out.old.items out.new.items) }
 {
     write_bytes(bytes, out)
 }
@@ -58,6 +61,7 @@ fn write_raw<const N: usize>(bytes: &[u8; N], out: &mut Vec<u8>) -> Result<(), D
     ensures added { OnOk result (out.new.items ≡ out.old.items ++ bytes.now) }
     ensures formed { OnOk result (AreBytes N bytes.now) }
     ensures refused { IfErr result (λ e. IsSizeRefusal MAX_LEN (length bytes.now) e) }
+    ensures kept { OnErr result (Keeps out.old.items out.new.items) }
 {
     write_slice(bytes, out)
 }
@@ -67,6 +71,7 @@ fn write_data(subtype: u8, bytes: &[u8], out: &mut Vec<u8>) -> Result<(), DocRef
     ensures added { OnOk result (out.new.items ≡ out.old.items ++ spelling.binary subtype bytes.now) }
     ensures formed { OnOk result ((subtype < 256) × IsBytes bytes.now) }
     ensures refused { IfErr result (λ e. IsSizeRefusal MAX_LEN (length (spelling.binary subtype bytes.now)) e) }
+    ensures kept { OnErr result (Keeps out.old.items out.new.items) }
 {
     write_binary(subtype, bytes, out)
 }
@@ -76,6 +81,7 @@ fn write_pointer(text: &str, id: &[u8; 12], out: &mut Vec<u8>) -> Result<(), Doc
     ensures added { OnOk result (out.new.items ≡ out.old.items ++ (string text.now ++ id.now)) }
     ensures formed { OnOk result (IsUtf8 text.now × AreBytes 12 id.now) }
     ensures refused { IfErr result (λ e. IsSizeRefusal MAX_LEN (length (string text.now ++ id.now)) e) }
+    ensures kept { OnErr result (Keeps out.old.items out.new.items) }
 {
     write_string(text, out)?;
     write_raw(id, out)
@@ -83,10 +89,11 @@ fn write_pointer(text: &str, id: &[u8; 12], out: &mut Vec<u8>) -> Result<(), Doc
 
 /// Adds a value.
 #[cycle(write)]
-fn write_value(value: &Bson, out: &mut Vec<u8>) -> Result<(), DocRefusal>
+pub(crate) fn write_value(value: &Bson, out: &mut Vec<u8>) -> Result<(), DocRefusal>
     ensures added { OnOk result (out.new.items ≡ out.old.items ++ value_bytes (value_of value.now)) }
     ensures formed { OnOk result (IsFormedValue (value_of value.now)) }
     ensures refused { IfErr result (λ e. IsSizeRefusal MAX_LEN (length (value_bytes (value_of value.now))) e) }
+    ensures kept { OnErr result (Keeps out.old.items out.new.items) }
 {
     match value {
         Bson::Double(bytes) => write_raw(bytes, out),
@@ -116,6 +123,7 @@ fn write_scope(code: &str, scope: &Document, out: &mut Vec<u8>) -> Result<(), Do
     ensures added { OnOk result (out.new.items ≡ out.old.items ++ inner_bytes (with_code code.now) (elements (tree_of scope.now))) }
     ensures formed { OnOk result (IsFormed (tree_of scope.now)) }
     ensures refused { IfErr result (λ e. IsSizeRefusal MAX_LEN (length (inner_bytes (with_code code.now) (elements (tree_of scope.now)))) e) }
+    ensures kept { OnErr result (Keeps out.old.items out.new.items) }
 {
     let start = out.len();
     begin(out)?;
@@ -130,6 +138,7 @@ fn write_array(array: &Array, out: &mut Vec<u8>) -> Result<(), DocRefusal>
     ensures added { OnOk result (out.new.items ≡ out.old.items ++ spelling.document (elements (array_tree 0 array.now))) }
     ensures formed { OnOk result (IsFormed (array_tree 0 array.now)) }
     ensures refused { IfErr result (λ e. IsSizeRefusal MAX_LEN (length (spelling.document (elements (array_tree 0 array.now)))) e) }
+    ensures kept { OnErr result (Keeps out.old.items out.new.items) }
 {
     let start = out.len();
     begin(out)?;
@@ -147,6 +156,7 @@ pub(crate) fn write_document(document: &Document, out: &mut Vec<u8>) -> Result<(
     ensures within { OnOk result (length (spelling.document (elements (tree_of document.now))) ≤ MAX_LEN) }
     ensures formed { OnOk result (IsFormed (tree_of document.now)) }
     ensures refused { IfErr result (λ e. IsSizeRefusal MAX_LEN (length (spelling.document (elements (tree_of document.now)))) e) }
+    ensures kept { OnErr result (Keeps out.old.items out.new.items) }
 {
     let start = out.len();
     begin(out)?;
@@ -166,6 +176,8 @@ impl Document {
     /// them in the order of the pairs. Else `TooLarge` for more than 2,147,483,647 bytes. `OutOfMemory` in place of any.
     pub fn to_raw(&self) -> Result<RawDocumentBuf, DocRefusal>
         ensures written { IfOk result (λ d. Spells (tree_of self.now) (buf_bytes d)) }
+        ensures canonical { OnOk result (plain (tree_of self.now) ≡ tree_of self.now) }
+        ensures unique { OnOk result (repeat_depth (tree_of self.now) ≡ None) }
         ensures refused { IfErr result (λ e. IsUnwritable (tree_of self.now) e) }
     {
         check_document(self, 1)?;

@@ -1,12 +1,15 @@
 //! Whether a document can be written, but for its length.
 
-ghost use Rattle.std.specs.Prelude.{◌≡◌, ◌≤◌, ◌<◌, Some, None, true, false, MatchResult};
+ghost use Rattle.std.specs.Prelude.{◌≡◌, ◌≤◌, ◌<◌, [], Some, None, true, false, MatchResult, OnOk};
 ghost use Rattle.bson_doc.specs.declared.refusal.DocRefusal.TheVariants.{ZeroInName, Depth};
 ghost use Rattle.bson_doc.specs.Array.{array_tree};
 ghost use Rattle.bson_doc.specs.Bson.{value_of};
 ghost use Rattle.bson_doc.specs.Document.{tree_of};
+ghost use Rattle.bson_doc.specs.Plain.{plain_from};
+ghost use Rattle.bson_doc.specs.Repeats.{repeat_in, repeat_in_value};
 ghost use Rattle.bson_doc.specs.Unwritable.{unwritable, unwritable_value};
 ghost use Rattle.bson_doc.specs.Unwritable as spec;
+ghost use Rattle.bson_doc.specs.Values.{plain_value};
 
 use crate::array::Array;
 use crate::bson::Bson;
@@ -24,8 +27,9 @@ fn has_zero(bytes: &[u8]) -> bool
 }
 
 /// Refuses a name, a pattern or options with a 00.
-fn check_cstring(text: &str) -> Result<(), DocRefusal>
-    ensures { MatchResult result (λ _. spec.has_zero text.now ≡ false) (λ e. (spec.has_zero text.now ≡ true) × (e ≡ ZeroInName)) }
+pub(crate) fn check_cstring(text: &str) -> Result<(), DocRefusal>
+    ensures { MatchResult result (λ _. spec.has_zero text.now ≡ false)
+        (λ e. (spec.has_zero text.now ≡ true) × (e ≡ ZeroInName)) }
 {
     if has_zero(text.as_bytes()) {
         return Err(DocRefusal::ZeroInName);
@@ -45,8 +49,11 @@ fn check_depth(depth: u32) -> Result<(), DocRefusal>
 
 /// Refuses what can't be written in a value, which stands in a container of this depth.
 #[cycle(check)]
-fn check_value(value: &Bson, depth: u32) -> Result<(), DocRefusal>
-    ensures { MatchResult result (λ _. unwritable_value depth (value_of value.now) ≡ None) (λ e. unwritable_value depth (value_of value.now) ≡ Some e) }
+pub(crate) fn check_value(value: &Bson, depth: u32) -> Result<(), DocRefusal>
+    ensures reason { MatchResult result (λ _. unwritable_value depth (value_of value.now) ≡ None)
+        (λ e. unwritable_value depth (value_of value.now) ≡ Some e) }
+    ensures canonical { OnOk result (plain_value (value_of value.now) ≡ value_of value.now) }
+    ensures unique { OnOk result (repeat_in_value depth (value_of value.now) ≡ None) }
 {
     match value {
         Bson::Document(document) => {
@@ -72,7 +79,11 @@ fn check_value(value: &Bson, depth: u32) -> Result<(), DocRefusal>
 /// Refuses what can't be written in an array, whose depth this is.
 #[cycle(check)]
 fn check_array(array: &Array, depth: u32) -> Result<(), DocRefusal>
-    ensures { MatchResult result (λ _. unwritable depth (array_tree 0 array.now) ≡ None) (λ e. unwritable depth (array_tree 0 array.now) ≡ Some e) }
+    ensures reason { MatchResult result (λ _. unwritable depth (array_tree 0 array.now) ≡ None)
+        (λ e. unwritable depth (array_tree 0 array.now) ≡ Some e) }
+    ensures canonical { OnOk result
+        (plain_from true 0 (array_tree 0 array.now) ≡ array_tree 0 array.now) }
+    ensures unique { OnOk result (repeat_in true depth [] (array_tree 0 array.now) ≡ None) }
 {
     for value in array.as_slice() {
         check_value(value, depth)?;
@@ -84,7 +95,11 @@ fn check_array(array: &Array, depth: u32) -> Result<(), DocRefusal>
 /// name before its value, and a container's depth before its pairs.
 #[cycle(check)]
 pub(crate) fn check_document(document: &Document, depth: u32) -> Result<(), DocRefusal>
-    ensures { MatchResult result (λ _. unwritable depth (tree_of document.now) ≡ None) (λ e. unwritable depth (tree_of document.now) ≡ Some e) }
+    ensures reason { MatchResult result (λ _. unwritable depth (tree_of document.now) ≡ None)
+        (λ e. unwritable depth (tree_of document.now) ≡ Some e) }
+    ensures canonical { OnOk result
+        (plain_from false 0 (tree_of document.now) ≡ tree_of document.now) }
+    ensures unique { OnOk result (repeat_in false depth [] (tree_of document.now) ≡ None) }
 {
     for (name, value) in document.iter() {
         check_cstring(name)?;

@@ -1,8 +1,3 @@
-pub mod Progress
-pub mod Indent
-pub mod Quoted
-pub mod Hexadecimal
-pub mod Lines
-pub mod Dumps
-pub mod DumpLaws
+pub mod Readings
+pub mod TextLaws
 pub mod ChoiceLemmas

@@ -3,7 +3,7 @@ use Rattle.std.specs.Prelude.{◌≡◌, List, Bool, Option, Some, None, codes, 
 use Rattle.clap.specs.Words.{Row, Text, first_of, one_of, subcommand_of}
 use Rattle.bsonwire.specs.declared.choice.Source.{Source}
 use Rattle.bsonwire.specs.declared.choice.Choice.{Choice}
-use Rattle.bsonwire.specs.declared.choice.Choice.TheVariants.{Dump}
+use Rattle.bsonwire.specs.declared.choice.Choice.TheVariants.{Dump, Check, Canon}
 use Rattle.bsonwire.specs.CommandLine.{command_line}
 
 -- the matches of a subcommand hold this `--hex`
@@ -18,6 +18,8 @@ HoldsSource s rows = (first_of (codes "file") rows ≡ Some s.file.now) × Holds
 -- the choice is the subcommand of this name, with what its matches hold
 abbrev pub IsSubcommand : Choice → Text → List Row → Type 0
 IsSubcommand (Dump s) name rows = (name ≡ codes "dump") × HoldsSource s rows
+IsSubcommand (Check s) name rows = (name ≡ codes "check") × HoldsSource s rows
+IsSubcommand (Canon s) name rows = (name ≡ codes "canon") × HoldsSource s rows
 
 -- a subcommand was met, and the choice is that one
 abbrev pub IsMetSubcommand : Choice → Option (Text × List Row) → Type 0

@@ -1,7 +1,5 @@
-pub mod Text
-pub mod ValueText
+pub mod FaultLine
 pub mod Dump
-pub mod DumpValues
 pub mod Buffered
 pub mod Run
 pub mod ExitStatus
@@ -9,3 +7,8 @@ pub mod Input
 pub mod Output
 pub mod CommandLine
 pub mod Choices
+pub mod InputName
+pub mod InputFault
+pub mod Documents
+pub mod Check
+pub mod Canon

@@ -1,13 +1,13 @@
 -- What a command writes for an input.
-use Rattle.std.specs.Prelude.{◌≡◌, ℕ, Bool, true, List, codes, Option, Result, Ok, Err}
+use Rattle.std.specs.Prelude.{◌≡◌, ℕ, Bool, true, List, Option, Result, Ok, Err}
 use Rattle.std.specs.Io.KnownBytes.{Appends}
-use Rattle.bsonwire.specs.Text.{fault_line}
+use Rattle.bsonwire.specs.InputFault.{hex_line}
 use Rattle.bsonwire.specs.Input.{bytes_of}
 
 -- the text of bytes, as Text has it, or the one line of a fault in hexadecimal text
 abbrev pub IsTextOf : (List ℕ → List ℕ → Bool → Type 0) → Result (List ℕ) ℕ → List ℕ → Bool → Type 0
 IsTextOf Text (Ok bytes) text fault = Text bytes text fault
-IsTextOf Text (Err place) text fault = (text ≡ fault_line 0 (codes "Hex") place) × (fault ≡ true)
+IsTextOf Text (Err place) text fault = (text ≡ hex_line place) × (fault ≡ true)
 
 -- what a command writes for an input, where `Text bytes text fault` says what it writes for bytes
 abbrev pub IsOutput : (List ℕ → List ℕ → Bool → Type 0) → Bool → List ℕ → List ℕ → Bool → Type 0

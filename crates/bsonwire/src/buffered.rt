@@ -1,5 +1,6 @@
-ghost use Rattle.std.specs.Prelude.{◌≡◌, ◌≤◌, [], OnOk, drop, vec_len};
-ghost use Rattle.std.specs.Io.KnownBytes.{Appends, Keeps};
+ghost use Rattle.std.specs.Prelude.{◌≡◌, ◌<◌, ◌≤◌, [], IfOk, OnOk, drop, length, min, vec_capacity, vec_len};
+ghost use Rattle.std.specs.Io.{WritesAtMost};
+ghost use Rattle.std.specs.Io.KnownBytes.{Appends, Keeps, WriteAppends};
 ghost use Rattle.bsonwire.specs.Buffered.{buffered_contents};
 
 use std::io;
@@ -35,8 +36,10 @@ impl<W: Write> Buffered<W> {
     /// Gives the inner writer the front of the buffer, as much as it takes in one call. Errs where
     /// that fails or takes nothing.
     fn pass_on(&mut self) -> io::Result<()>
-        ensures { Keeps (buffered_contents W.contents self.old)
+        requires { 0 < vec_len self.old.buffer }
+        ensures bytes { Keeps (buffered_contents W.contents self.old)
             (buffered_contents W.contents self.new) }
+        ensures shorter { OnOk result (vec_len self.new.buffer < vec_len self.old.buffer) }
     {
         let taken = self.inner.write(self.buffer.as_slice())?;
         if taken == 0 {
@@ -83,11 +86,17 @@ impl<W: Write> Buffered<W> {
 impl<W: Write> Write for Buffered<W> {
     ghost contents = { buffered_contents W.contents };
 
-    fn write(&mut self, bytes: &[u8]) -> io::Result<usize> {
-        if self.buffer.len() == self.buffer.capacity() {
-            self.pass_on()?;
+    fn write(&mut self, bytes: &[u8]) -> io::Result<usize>
+        ensures bound { WritesAtMost result bytes.now }
+        ensures taken { IfOk result (λ n.
+            n ≡ min (length bytes.now) (vec_capacity self.old.buffer)) }
+        ensures bytes { WriteAppends (buffered_contents W.contents self.old)
+            (buffered_contents W.contents self.new) result bytes.now }
+    {
+        let taken = bytes.len().min(self.buffer.capacity());
+        if taken > self.buffer.capacity() - self.buffer.len() {
+            self.pass_on_all()?;
         }
-        let taken = bytes.len().min(self.buffer.capacity() - self.buffer.len());
         // There is room, so that this allocates nothing.
         self.buffer.extend_from_slice(&bytes[..taken])?;
         Ok(taken)

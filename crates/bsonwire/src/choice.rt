@@ -20,6 +20,10 @@ pub struct Source<'a> {
 pub enum Choice<'a> {
     /// Write the text of each document.
     Dump(Source<'a>),
+    /// Say of each document whether it is in canonical form.
+    Check(Source<'a>),
+    /// Write the canonical form of each document.
+    Canon(Source<'a>),
 }
 
 /// The operand of this id. A parse that succeeded has it, so no caller gets the error.
@@ -51,11 +55,13 @@ fn source_of<'a>(matches: &ArgMatches<'a>) -> Result<Source<'a>, AllocError>
 fn choice_of<'a>(name: &str, matches: &ArgMatches<'a>) -> Result<Choice<'a>, AllocError>
     ensures { IfOk result (λ c. IsSubcommand c name.now (rows_of (found_of matches.now))) }
 {
-    if name == "dump" {
-        Ok(Choice::Dump(source_of(matches)?))
-    } else {
+    let source = source_of(matches)?;
+    match name {
+        "dump" => Ok(Choice::Dump(source)),
+        "check" => Ok(Choice::Check(source)),
+        "canon" => Ok(Choice::Canon(source)),
         // `clap` lets no other name through.
-        Err(AllocError)
+        _ => Err(AllocError),
     }
 }
 

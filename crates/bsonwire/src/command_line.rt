@@ -51,14 +51,19 @@ fn top<'a>(alloc: Global) -> Command<'a>
         .subcommand_required(true)
 }
 
-/// The command with one more subcommand. Errs where memory runs out.
-fn with<'a>(line: Command<'a>, sub: Command<'a>) -> Result<Command<'a>, AllocError>
-    requires line_local { (out-Command line).has_globals ≡ false }
-    requires sub_local { (out-Command sub).has_globals ≡ false }
+/// The command with one more subcommand, which reads FILE. Errs where memory runs out.
+fn with_file_command<'a>(
+    line: Command<'a>,
+    alloc: Global,
+    name: &'a str,
+    about: &'a str,
+) -> Result<Command<'a>, AllocError>
+    requires { (out-Command line).has_globals ≡ false }
     ensures app { IfOk result (λ c.
-        app_of c ≡ with_subcommand (app_of line.entry) (app_of sub.entry).top) }
+        app_of c ≡ with_subcommand (app_of line.entry) (file_app name.entry.now).top) }
     ensures local { IfOk result (λ c. (out-Command c).has_globals ≡ false) }
 {
+    let sub = file_command(alloc, name, about)?;
     line.subcommand(sub)
 }
 
@@ -67,6 +72,22 @@ pub fn program<'a>(alloc: Global) -> Result<Command<'a>, AllocError>
     ensures app { IfOk result (λ c. app_of c ≡ command_line) }
     ensures local { IfOk result (λ c. (out-Command c).has_globals ≡ false) }
 {
-    let dump = file_command(alloc, "dump", "Writes the text of each document")?;
-    with(top(alloc), dump)
+    let line = with_file_command(
+        top(alloc),
+        alloc,
+        "dump",
+        "Writes the text of each document",
+    )?;
+    let line = with_file_command(
+        line,
+        alloc,
+        "check",
+        "Says of each document whether it is in canonical form",
+    )?;
+    with_file_command(
+        line,
+        alloc,
+        "canon",
+        "Writes the canonical form of each document",
+    )
 }

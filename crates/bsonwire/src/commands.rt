@@ -2,6 +2,8 @@
 ghost use Rattle.std.specs.Prelude.{◌≡◌};
 ghost use Rattle.bsonwire.specs.ExitStatus.{exit_status};
 
+use crate::canon::run_canon;
+use crate::check::run_check;
 use crate::choice::Choice;
 use crate::dump::run_dump;
 use crate::run::{RunEnd, end_of};
@@ -26,18 +28,40 @@ pub fn status_of(end: RunEnd) -> u8
 
 /// What a run reads, as a message names it.
 #[derive(Clone, Copy)]
-struct InputName<'a>(&'a str);
+enum InputName<'a> {
+    StandardInput,
+    File(&'a str),
+    /// A file that is named in quotes, so that the message stays one line and names something.
+    Quoted(&'a str),
+}
+
+impl InputName<'_> {
+    ghost use Rattle.bsonwire.specs.InputName.{NamesFile};
+
+    /// The name of this operand FILE.
+    fn of(file: &str) -> InputName<'_>
+        ensures { NamesFile result file.now }
+    {
+        if file == "-" {
+            InputName::StandardInput
+        } else if file.is_empty() || file.chars().any(|c| c.is_control()) {
+            InputName::Quoted(file)
+        } else {
+            InputName::File(file)
+        }
+    }
+}
 
 impl fmt::Display for InputName<'_> {
+    ghost use Rattle.bsonwire.specs.InputName.{name_text};
+
+    ghost output = { name_text };
+
     fn fmt<W: fmt::Write>(&self, f: &mut fmt::Formatter<W>) -> fmt::Result {
-        let file = self.0;
-        if file == "-" {
-            f.write_str("standard input")
-        } else if file.is_empty() || file.chars().any(|c| c.is_control()) {
-            // Quoted, so that the message stays one line and names something.
-            write!(f, "{file:?}")
-        } else {
-            f.write_str(file)
+        match *self {
+            InputName::StandardInput => f.write_str("standard input"),
+            InputName::File(file) => f.write_str(file),
+            InputName::Quoted(file) => write!(f, "{file:?}"),
         }
     }
 }
@@ -48,21 +72,21 @@ pub fn run<R: Files + Input + Print + Eprint + AllocGlobal>(rt: &R, choice: Choi
     let file = file_of(choice);
     if file == "-" {
         let end = run_over(rt.alloc(), choice, &mut rt.reader(), &mut io::writer(rt));
-        return tell(rt, end, InputName(file));
+        return tell(rt, end, InputName::of(file));
     }
     match open(rt, file) {
         Ok(mut opened) => {
             let end = run_over(rt.alloc(), choice, &mut opened, &mut io::writer(rt));
-            tell(rt, end, InputName(file))
+            tell(rt, end, InputName::of(file))
         }
-        Err(error) => tell_unopened(rt, error, InputName(file)),
+        Err(error) => tell_unopened(rt, error, InputName::of(file)),
     }
 }
 
 /// The file that the choice reads.
 fn file_of(choice: Choice<'_>) -> &str {
     match choice {
-        Choice::Dump(source) => source.file,
+        Choice::Dump(source) | Choice::Check(source) | Choice::Canon(source) => source.file,
     }
 }
 
@@ -84,6 +108,8 @@ fn run_over<R: Read, W: Write>(
 ) -> RunEnd {
     match choice {
         Choice::Dump(source) => run_dump(alloc, source.hex, reader, writer),
+        Choice::Check(source) => run_check(alloc, source.hex, reader, writer),
+        Choice::Canon(source) => run_canon(alloc, source.hex, reader, writer),
     }
 }
 
@@ -105,3 +131,6 @@ fn tell_unopened(rt: &impl Eprint, error: io::Error, input: InputName<'_>) -> u8
     let _ = eprintln!(rt; "bsonwire: {input}: {error}");
     status_of(end_of(&error))
 }
+
+#[cfg(test)]
+mod tests;

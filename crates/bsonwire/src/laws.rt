@@ -1,12 +1,15 @@
-//! The law that makes the text of a dump exact. The contract of the function is the law; the function does nothing.
+//! The law that makes the texts of commands exact. The contract of the function is the law; the function does nothing.
 
-ghost use Rattle.std.specs.Prelude.{◌≡◌, Bool, List, ℕ};
+ghost use Rattle.std.specs.Prelude.{◌≡◌, Bool, List, Option, ℕ};
+ghost use Rattle.bson_elem.specs.Tree.{Tree};
 ghost use Rattle.bson_elem.specs.Spelling.{IsBytes};
-ghost use Rattle.bsonwire.specs.Dump.{DumpText};
+ghost use Rattle.bsonwire.specs.Documents.{IsWhole};
 
-/// Bytes have at most one text, and it ends with a fault line or doesn't.
+/// Whatever a command writes for a document and however it joins that, bytes have at most one text, and it ends with a
+/// fault line or doesn't.
 pub fn one_text()
-    ensures { (p : ℕ) (bytes text other : List ℕ) (fault other_fault : Bool) → IsBytes bytes
-        → DumpText p bytes text fault → DumpText p bytes other other_fault
+    ensures { (text_of : Tree → Option (List ℕ)) (joined : Bool → List ℕ → List ℕ)
+        (bytes text other : List ℕ) (fault other_fault : Bool) → IsBytes bytes
+        → IsWhole text_of joined bytes text fault → IsWhole text_of joined bytes other other_fault
         → (text ≡ other) × (fault ≡ other_fault) }
 {}

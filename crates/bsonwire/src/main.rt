@@ -9,18 +9,20 @@
 #![tactic(auto)]
 
 mod buffered;
+mod canon;
+mod check;
 mod choice;
 mod command_line;
 mod commands;
-mod document_text;
+mod documents;
 mod dump;
+mod fault_line;
 mod hex_input;
+mod input_fault;
 mod laws;
 mod run;
 #[cfg(test)]
 mod tests;
-mod text;
-mod value_text;
 
 use choice::choose;
 use clap::error::ErrorKind;

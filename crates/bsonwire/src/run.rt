@@ -1,16 +1,15 @@
-ghost use Rattle.std.specs.Prelude.{◌≡◌, ◌≢◌, ◌⊎◌, [], ℕ, Bool, List, IfErr, IfOk, IfSome, IsSome, None, OnOk, Ok, codes, true, false};
+ghost use Rattle.std.specs.Prelude.{◌≡◌, ◌⊎◌, [], ℕ, Bool, List, IfErr, IfOk, IfSome, IsSome, None, Err, OnOk, Ok, codes, true, false};
 ghost use Rattle.std.specs.Io.KnownBytes.{Appends, IsAtEnd, Keeps};
 ghost use Rattle.std.specs.IoError.{error_kind, raw_os_error};
 ghost use Rattle.bsonwire.specs.Buffered.{buffered_contents};
 ghost use Rattle.bsonwire.specs.Input.{bytes_of, read_bytes};
 ghost use Rattle.bsonwire.specs.Output.{AppendsText, IsOutput, IsTextOf};
 ghost use Rattle.bsonwire.specs.Run.{is_done, is_fault};
-ghost use Rattle.std.specs.IoError.{error_kind, raw_os_error};
 ghost use Rattle.bsonwire.specs.ExitStatus.{end_of_error};
 
 use crate::buffered::Buffered;
 use crate::hex_input::{Input, decode_hex};
-use crate::text::write_fault;
+use crate::input_fault::InputFault;
 use core::mem::replace_with;
 use std::alloc::Global;
 use std::io;
@@ -33,18 +32,22 @@ pub enum RunEnd {
 pub trait Engine {
     // The texts of some bytes, and whether a text ends with a fault line.
     ghost is_text: { Self → List ℕ → List ℕ → Bool → Type 0 };
+    // Whether writing may want memory.
+    ghost wants_memory: { Self → Bool };
 
     /// Writes the text of the bytes, and says whether it ends with a fault line. Errs where the
-    /// writer does.
-    fn write_text<W: Write>(&self, bytes: &[u8], out: &mut W) -> io::Result<bool>
-        ensures { IfOk result (λ fault. AppendsText (is_text self.now bytes.now) fault
-            (W.contents out.old) (W.contents out.new)) };
+    /// writer does, and for want of memory.
+    fn write_text<W: Write>(&self, bytes: &[u8], out: &mut W) -> Result<bool, RunEnd>
+        ensures written { IfOk result (λ fault. AppendsText (is_text self.now bytes.now) fault
+            (W.contents out.old) (W.contents out.new)) }
+        ensures stopped { IfErr result (λ end. (is_done end ≡ false)
+            × (end ≡ RunEnd.Memory → wants_memory self.now ≡ true)) };
 }
 
 /// Writes the text of all that the reader has. With `hex` the input is hexadecimal text.
 ///
-/// Beside the input and the bytes that it spells, the only memory is one buffer, which is taken
-/// before the first byte is written.
+/// Beside the input, the bytes that it spells and what the engine takes, the only memory is one
+/// buffer, which is taken before the first byte is written.
 pub fn run<E: Engine, R: Read, W: Write>(
     alloc: Global,
     engine: &E,
@@ -58,7 +61,7 @@ pub fn run<E: Engine, R: Read, W: Write>(
         (W.contents writer.old) (W.contents writer.new)) }
     ensures late { (IsAtEnd (R.remaining reader.new)) ⊎
         Keeps (W.contents writer.old) (W.contents writer.new) }
-    ensures memory { result ≡ RunEnd.Memory →
+    ensures memory { result ≡ RunEnd.Memory → E.wants_memory engine.now ≡ false →
         Keeps (W.contents writer.old) (W.contents writer.new) }
 {
     let input = match read_input(alloc, hex, reader) {
@@ -132,7 +135,7 @@ fn write_through<E: Engine, W: Write>(writer: W, job: Job<'_, E>) -> (W, RunEnd)
     ensures written { is_done result.1 ≡ true →
         AppendsText (IsTextOf (E.is_text job.entry.engine.now) (read_bytes job.entry.input))
         (is_fault result.1) (W.contents writer) (W.contents result.0) }
-    ensures memory { result.1 ≢ RunEnd.Memory }
+    ensures memory { result.1 ≡ RunEnd.Memory → E.wants_memory job.entry.engine.now ≡ true }
 {
     let mut out = Buffered::new(writer, job.buffer);
     let written = write_output(job.engine, &job.input, &mut out);
@@ -140,29 +143,32 @@ fn write_through<E: Engine, W: Write>(writer: W, job: Job<'_, E>) -> (W, RunEnd)
 }
 
 /// Writes the text of an input, and says whether it ends with a fault line.
-fn write_output<E: Engine, W: Write>(engine: &E, input: &Input, out: &mut W) -> io::Result<bool>
-    ensures { IfOk result (λ fault.
+fn write_output<E: Engine, W: Write>(engine: &E, input: &Input, out: &mut W) -> Result<bool, RunEnd>
+    ensures written { IfOk result (λ fault.
         AppendsText (IsTextOf (E.is_text engine.now) (read_bytes input.now)) fault
         (W.contents out.old) (W.contents out.new)) }
+    ensures stopped { IfErr result (λ end. (is_done end ≡ false)
+        × (end ≡ RunEnd.Memory → E.wants_memory engine.now ≡ true)) }
 {
     match input {
         Input::Bytes(bytes) => engine.write_text(bytes, out),
-        Input::NotHex { place } => {
-            write_fault(0, "Hex", *place, out)?;
-            Ok(true)
-        }
+        Input::NotHex { place } => match (InputFault::Hex { place: *place }).write(out) {
+            Ok(()) => Ok(true),
+            Err(_) => Err(RunEnd::InOut),
+        },
     }
 }
 
 /// Passes on what is left of a text, and tells the end by what came of writing it.
-fn finish<W: Write>(mut out: Buffered<W>, written: io::Result<bool>) -> (W, RunEnd)
+fn finish<W: Write>(mut out: Buffered<W>, written: Result<bool, RunEnd>) -> (W, RunEnd)
+    requires { IfErr written (λ end. is_done end ≡ false) }
     ensures told { is_done result.1 ≡ true → written ≡ Ok (is_fault result.1) }
     ensures kept { is_done result.1 ≡ true →
         Keeps (buffered_contents W.contents out) (W.contents result.0) }
-    ensures memory { result.1 ≢ RunEnd.Memory }
+    ensures memory { result.1 ≡ RunEnd.Memory → written ≡ Err RunEnd.Memory }
 {
     let end = match written {
-        Err(_) => RunEnd::InOut,
+        Err(end) => end,
         Ok(is_fault) => match out.flush() {
             Err(_) => RunEnd::InOut,
             Ok(()) if is_fault => RunEnd::Fault,

@@ -20,6 +20,18 @@ fn chooses(rt: HostRuntime) -> Result<(), Fail> {
         let want = Choice::Dump(Source { file, hex });
         assert!(rt; choice == want, "at {words:?}");
     }
+    let source = Source {
+        file: "a",
+        hex: true,
+    };
+    let rows = [
+        (["bsonwire", "check", "a", "--hex"], Choice::Check(source)),
+        (["bsonwire", "canon", "--hex", "a"], Choice::Canon(source)),
+    ];
+    for (words, want) in rows {
+        let choice = choose(rt.alloc(), &words)?;
+        assert!(rt; choice == want, "at {words:?}");
+    }
     Ok(())
 }
 
@@ -67,6 +79,17 @@ fn refuses(rt: HostRuntime) {
         (&["bsonwire", "--help"], 0, ErrorKind::DisplayHelp),
         (&["bsonwire", "help"], 0, ErrorKind::DisplayHelp),
         (&["bsonwire", "dump", "--help"], 0, ErrorKind::DisplayHelp),
+        (&["bsonwire", "canon", "--help"], 0, ErrorKind::DisplayHelp),
+        (
+            &["bsonwire", "check"],
+            2,
+            ErrorKind::MissingRequiredArgument,
+        ),
+        (
+            &["bsonwire", "canon", "a", "b"],
+            2,
+            ErrorKind::UnknownArgument,
+        ),
         (&["bsonwire", "--version"], 0, ErrorKind::DisplayVersion),
     ];
     for (words, status, kind) in rows {
@@ -83,8 +106,10 @@ fn refuses(rt: HostRuntime) {
 #[test]
 fn ends_with_3_where_nothing_can_be_read(rt: HostRuntime) {
     for file in ["/nothing/here", "/", ""] {
-        let choice = Choice::Dump(Source { file, hex: false });
-        assert_eq!(rt; run(&rt, choice), 3, "at {file:?}");
+        let source = Source { file, hex: false };
+        assert_eq!(rt; run(&rt, Choice::Dump(source)), 3, "at {file:?}");
+        assert_eq!(rt; run(&rt, Choice::Check(source)), 3, "at {file:?}");
+        assert_eq!(rt; run(&rt, Choice::Canon(source)), 3, "at {file:?}");
     }
 }
 

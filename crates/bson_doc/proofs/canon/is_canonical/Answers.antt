@@ -2,8 +2,8 @@ use Rattle.std.proofs.Common.{false, sym, ◌∙◌}
 use Rattle.bson_doc.proofs.Naming.{plain_where_named, named_where_plain}
 use Rattle.bson_doc.proofs.canon.is_canonical.Goals as goal
 
-pub returns : goal.returns
-returns c = λ t spelled. (
+pub returns-clause-same : goal.returns-clause-same
+returns-clause-same c = λ t spelled. (
   λ is. plain_where_named false 0 t (sym (c.has_canonical_names.ensures t spelled) ∙ is),
   λ same. c.has_canonical_names.ensures t spelled ∙ named_where_plain false 0 t same,
 )

@@ -7,7 +7,7 @@ use Rattle.bson_doc.specs.Bson.{value_of}
 use Rattle.bson_doc.specs.Depths.{tree_depth}
 use Rattle.bson_doc.specs.Document.{tree_of}
 use Rattle.bson_doc.proofs.Checking.{tree_depth-with_first, array_left}
-use Rattle.bson_doc.proofs.Writing.{written_more, written_value_refused}
+use Rattle.bson_doc.proofs.Writing.{written_more, written_value_refused, always_err, kept_front, kept_begun}
 use Rattle.bson_doc.proofs.to_raw.+write.Goals as goal
 
 pub write_document-loop-name-preserved : goal.write_document-loop-name-preserved
@@ -45,3 +45,29 @@ write_array-returns-in_err-write_value-clause-refused t c =
     let told = err_from_is_err_and c.from_residual-in_err-write_value.result c.from_residual-in_err-write_value.ensures.1 in
     rw (told.1, told.2)
     (written_value_refused _ (array_tree 0 c.args.array.now) (array_tree c.loop-place.place (map value_of (drop c.loop-place.place c.as_slice-value-items.result.now))) _ c.loop-place.out.items c.loop-place.invariant.written (decimal c.loop-place.place) (value_of c.value-item.result) (array_tree (c.loop-place.place + 1) (map value_of (drop (c.loop-place.place + 1) c.as_slice-value-items.result.now))) c.in_err-write_value.field-0.0 first c.in_err-write_value.ensures.refused)
+
+pub write_document-returns-in_err-write_head-clause-kept :
+    goal.write_document-returns-in_err-write_head-clause-kept
+write_document-returns-in_err-write_head-clause-kept t c =
+    always_err c.from_residual-in_err-write_head.result
+    (kept_begun (tree_of c.args.document.now) (tree_of c.loop-name.name-iterator) c.args.out.now.items _ _ c.loop-name.out.items c.write_head.new.out.items c.loop-name.invariant.written c.in_ok-begin.ensures.added c.in_err-write_head.ensures.kept)
+
+pub write_document-returns-in_err-write_value-clause-kept :
+    goal.write_document-returns-in_err-write_value-clause-kept
+write_document-returns-in_err-write_value-clause-kept t c =
+    always_err c.from_residual-in_err-write_value.result
+    (kept_begun (tree_of c.args.document.now) (tree_of c.loop-name.name-iterator) c.args.out.now.items _ _ c.loop-name.out.items c.write_value.new.out.items c.loop-name.invariant.written c.in_ok-begin.ensures.added
+    (kept_front c.loop-name.out.items _ c.write_head.new.out.items c.write_value.new.out.items c.in_ok-write_head.ensures.added c.in_err-write_value.ensures.kept))
+
+pub write_array-returns-in_err-write_head-clause-kept :
+    goal.write_array-returns-in_err-write_head-clause-kept
+write_array-returns-in_err-write_head-clause-kept t c =
+    always_err c.from_residual-in_err-write_head.result
+    (kept_begun _ _ c.args.out.now.items _ _ c.loop-place.out.items c.write_head.new.out.items c.loop-place.invariant.written c.in_ok-begin.ensures.added c.in_err-write_head.ensures.kept)
+
+pub write_array-returns-in_err-write_value-clause-kept :
+    goal.write_array-returns-in_err-write_value-clause-kept
+write_array-returns-in_err-write_value-clause-kept t c =
+    always_err c.from_residual-in_err-write_value.result
+    (kept_begun _ _ c.args.out.now.items _ _ c.loop-place.out.items c.write_value.new.out.items c.loop-place.invariant.written c.in_ok-begin.ensures.added
+    (kept_front c.loop-place.out.items _ c.write_head.new.out.items c.write_value.new.out.items c.in_ok-write_head.ensures.added c.in_err-write_value.ensures.kept))

@@ -9,19 +9,19 @@ pub returns-in_err-check_document-clause-refused :
     goal.returns-in_err-check_document-clause-refused
 returns-in_err-check_document-clause-refused c =
     let told = err_from_is_err_and c.from_residual.result c.from_residual.ensures.1 in
-    rw (told.1, told.2) (is_reason (tree_of c.args.self.now) c.in_err-check_document.field-0.0 c.in_err-check_document.ensures)
+    rw (told.1, told.2) (is_reason (tree_of c.args.self.now) c.in_err-check_document.field-0.0 c.in_err-check_document.ensures.reason)
 
 pub from_spelled-requires : goal.from_spelled-requires
 from_spelled-requires c =
     let short : length (document (elements (tree_of c.args.self.now))) < 2 ^ 31 = omega (arith, c.in_ok-write_document.ensures.within) in
     ∣ (
       tree_of c.args.self.now,
-      spells_formed (tree_of c.args.self.now) c.write_document.new.out.items c.in_ok-check_document.ensures c.in_ok-write_document.ensures.formed
+      spells_formed (tree_of c.args.self.now) c.write_document.new.out.items c.in_ok-check_document.ensures.reason c.in_ok-write_document.ensures.formed
           (c.in_ok-write_document.ensures.added ∙ ap (λ (x : List ℕ). x ++ document (elements (tree_of c.args.self.now))) c.new-out.ensures.items) short,
     ) ∣₁
 
 pub returns-clause-written : goal.returns-clause-written
 returns-clause-written c =
     let short : length (document (elements (tree_of c.args.self.now))) < 2 ^ 31 = omega (arith, c.in_ok-write_document.ensures.within) in
-    spells_formed (tree_of c.args.self.now) _ c.in_ok-check_document.ensures c.in_ok-write_document.ensures.formed
+    spells_formed (tree_of c.args.self.now) _ c.in_ok-check_document.ensures.reason c.in_ok-write_document.ensures.formed
     (c.from_spelled.ensures ∙ c.in_ok-write_document.ensures.added ∙ ap (λ (x : List ℕ). x ++ document (elements (tree_of c.args.self.now))) c.new-out.ensures.items) short

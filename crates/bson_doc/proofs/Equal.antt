@@ -1,0 +1,269 @@
+-- Values that are compared one after another.
+use Rattle.std.proofs.Common.{◌≡◌, ℕ, zero, suc, ◌+◌, ◌<◌, ◌≤◌, Bool, true, false, not, ◌&&◌, List, [], ◌∷◌, ◌++◌, length, map, take, take_all, get_or, nat_eq, refl, sym, ap, ◌∙◌, String, string_bytes, arith}
+use Rattle.std.specs.Prelude.{bytes_eq}
+use Rattle.std.specs.declared.alloc.Global.{Global}
+use Rattle.std.specs.Coded.{Coded}
+use Rattle.std.specs.String.{string_eq}
+use lib.Pointwise.{pointwise}
+use mathlib.Core.Bool.{beq}
+use Rattle.std.proofs.lemmas.Bool.Decides.{nat_tests}
+use Rattle.std.proofs.lemmas.List.{length-map, take_more, map-append, get_or-map}
+use Rattle.std.proofs.lemmas.Slice.Eq.{bytes_eq-Decides}
+use Rattle.bson_doc.specs.declared.bson.Bson.{Bson}
+use Rattle.bson_doc.specs.declared.bson.Bson.TheVariants as values
+use Rattle.bson_doc.specs.contracts.bson.Bson.{the_type}
+use Rattle.bson_doc.specs.contracts.bson.BsonPartialEq.TheImpl.{ghosts}
+use denote.Enum.Declared.{tag_of}
+use Rattle.bson_doc.specs.Bson.{value_of}
+use Rattle.bson_doc.specs.Codes.{coded_value, coded_values, coded_pairs}
+use Rattle.bson_elem.specs.declared.kind.Kind.{Kind}
+use Rattle.bson_elem.specs.declared.kind.Kind.TheVariants as kinds
+use Rattle.bson_elem.specs.Tree.{raw_value, boolean_value, number_value, timestamp_value, text_value, pointer_value, binary_value, regex_value, Beside, no_code, with_code}
+use Rattle.bson_raw.specs.Pairs.{TreeValue, leaf_value, document_value}
+use Rattle.std.specs.Fmt.{decimal}
+use Rattle.bson_doc.specs.Array.{array_tree}
+use Rattle.bson_doc.specs.Depths.{tree_depth, value_depth}
+use Rattle.bson_doc.proofs.Checking.{tree_depth-with_first}
+use Rattle.bson_doc.specs.Document.{paired, tree_of}
+use Rattle.std.specs.Prelude.{ℤ}
+use Rattle.std.specs.Ordering.{int_eq}
+use Rattle.std.proofs.lemmas.Bool.Decides.{Decides-int_eq}
+use Rattle.bson_doc.proofs.Owned.{one_document, one_array, names, values as values_in, names_seen, values_seen}
+use Rattle.bson_doc.specs.Same.{same, same_is, is_same, alike}
+
+stays_false : (b : Bool) → (b ≡ true → ⊥) → false ≡ b
+stays_false true f = absurd (f refl)
+stays_false false f = refl
+
+pub not_same : {A : Type 0} (c : Coded A) (x y : A) → (x ≡ y → ⊥) → false ≡ same c x y
+not_same c x y n = stays_false (same c x y) (λ e. n (same_is c x y e))
+
+pub as_long : (vs ws : List Bson) → map value_of vs ≡ map value_of ws → length vs ≡ length ws
+as_long vs ws e = sym (length-map vs value_of) ∙ ap length e ∙ length-map ws value_of
+
+pub other_kinds : (a b : Bson) → (tag_of the_type a ≡ tag_of the_type b → ⊥) → false ≡ ghosts.eq a b
+other_kinds (values.Double x) (values.Double z) h = absurd (h refl)
+other_kinds (values.Double x) _ h = refl
+other_kinds (values.String x) (values.String z) h = absurd (h refl)
+other_kinds (values.String x) _ h = refl
+other_kinds (values.Document x) (values.Document z) h = absurd (h refl)
+other_kinds (values.Document x) _ h = refl
+other_kinds (values.Array x) (values.Array z) h = absurd (h refl)
+other_kinds (values.Array x) _ h = refl
+other_kinds (values.Binary x y) (values.Binary z w) h = absurd (h refl)
+other_kinds (values.Binary x y) _ h = refl
+other_kinds values.Undefined values.Undefined h = absurd (h refl)
+other_kinds values.Undefined _ h = refl
+other_kinds (values.ObjectId x) (values.ObjectId z) h = absurd (h refl)
+other_kinds (values.ObjectId x) _ h = refl
+other_kinds (values.Boolean x) (values.Boolean z) h = absurd (h refl)
+other_kinds (values.Boolean x) _ h = refl
+other_kinds (values.DateTime x) (values.DateTime z) h = absurd (h refl)
+other_kinds (values.DateTime x) _ h = refl
+other_kinds values.Null values.Null h = absurd (h refl)
+other_kinds values.Null _ h = refl
+other_kinds (values.Regex x y) (values.Regex z w) h = absurd (h refl)
+other_kinds (values.Regex x y) _ h = refl
+other_kinds (values.DbPointer x y) (values.DbPointer z w) h = absurd (h refl)
+other_kinds (values.DbPointer x y) _ h = refl
+other_kinds (values.Code x) (values.Code z) h = absurd (h refl)
+other_kinds (values.Code x) _ h = refl
+other_kinds (values.Symbol x) (values.Symbol z) h = absurd (h refl)
+other_kinds (values.Symbol x) _ h = refl
+other_kinds (values.CodeWithScope x y) (values.CodeWithScope z w) h = absurd (h refl)
+other_kinds (values.CodeWithScope x y) _ h = refl
+other_kinds (values.Int32 x) (values.Int32 z) h = absurd (h refl)
+other_kinds (values.Int32 x) _ h = refl
+other_kinds (values.Timestamp x y) (values.Timestamp z w) h = absurd (h refl)
+other_kinds (values.Timestamp x y) _ h = refl
+other_kinds (values.Int64 x) (values.Int64 z) h = absurd (h refl)
+other_kinds (values.Int64 x) _ h = refl
+other_kinds (values.Decimal128 x) (values.Decimal128 z) h = absurd (h refl)
+other_kinds (values.Decimal128 x) _ h = refl
+other_kinds values.MinKey values.MinKey h = absurd (h refl)
+other_kinds values.MinKey _ h = refl
+other_kinds values.MaxKey values.MaxKey h = absurd (h refl)
+other_kinds values.MaxKey _ h = refl
+
+-- a test is the comparison of two values where it is true for the same values alone
+agree : (p : Bool) (v w : TreeValue) → (p ≡ true → v ≡ w) → (v ≡ w → p ≡ true) → p ≡ same coded_value v w
+agree p v w f g = alike p (same coded_value v w) (λ e. is_same coded_value v w (f e)) (λ e. g (same_is coded_value v w e))
+
+both : (p q : Bool) → (p && q) ≡ true → (p ≡ true) × (q ≡ true)
+both true q e = (refl, e)
+both false q e = absurd cc
+
+and_true : (p q : Bool) → p ≡ true → q ≡ true → (p && q) ≡ true
+and_true p q e f = rw (e, f) refl
+
+raw_same : (k : Kind) (x z : List ℕ) → bytes_eq x z ≡ same coded_value (leaf_value k (raw_value x)) (leaf_value k (raw_value z))
+raw_same k x z = agree (bytes_eq x z) _ _ (λ e. ap (λ (b : List ℕ). leaf_value k (raw_value b)) ((bytes_eq-Decides x z).0 e)) (λ e. (bytes_eq-Decides x z).1 cc)
+
+text_same : (k : Kind) (x z : List ℕ) → bytes_eq x z ≡ same coded_value (leaf_value k (text_value x)) (leaf_value k (text_value z))
+text_same k x z = agree (bytes_eq x z) _ _ (λ e. ap (λ (b : List ℕ). leaf_value k (text_value b)) ((bytes_eq-Decides x z).0 e)) (λ e. (bytes_eq-Decides x z).1 cc)
+
+number_same : (k : Kind) (x z : ℤ) → int_eq x z ≡ same coded_value (leaf_value k (number_value x)) (leaf_value k (number_value z))
+number_same k x z = agree (int_eq x z) _ _ (λ e. ap (λ (n : ℤ). leaf_value k (number_value n)) ((Decides-int_eq x z).0 e)) (λ e. (Decides-int_eq x z).1 cc)
+
+document_same : (k : Kind) (b : Beside) (x z : List (List ℕ × TreeValue)) → same coded_pairs x z ≡ same coded_value (document_value k b (tree_of x)) (document_value k b (tree_of z))
+document_same k b x z =
+    agree (same coded_pairs x z) _ _ (λ e. ap (λ (ps : List (List ℕ × TreeValue)). document_value k b (tree_of ps)) (same_is coded_pairs x z e))
+    (λ e. is_same coded_pairs x z (one_document x z cc))
+
+array_same : (k : Kind) (b : Beside) (x z : List TreeValue) → same coded_values x z ≡ same coded_value (document_value k b (array_tree 0 x)) (document_value k b (array_tree 0 z))
+array_same k b x z =
+    agree (same coded_values x z) _ _ (λ e. ap (λ (vs : List TreeValue). document_value k b (array_tree 0 vs)) (same_is coded_values x z e))
+    (λ e. is_same coded_values x z (one_array 0 x z cc))
+
+boolean_same : (x z : Bool) → beq x z ≡ same coded_value (leaf_value kinds.Boolean (boolean_value x)) (leaf_value kinds.Boolean (boolean_value z))
+boolean_same true true = let v : TreeValue = leaf_value kinds.Boolean (boolean_value true) in sym (is_same coded_value v v refl)
+boolean_same false false = let v : TreeValue = leaf_value kinds.Boolean (boolean_value false) in sym (is_same coded_value v v refl)
+boolean_same true false = not_same coded_value (leaf_value kinds.Boolean (boolean_value true)) (leaf_value kinds.Boolean (boolean_value false)) true_apart
+  where
+    true_apart : leaf_value kinds.Boolean (boolean_value true) ≡ leaf_value kinds.Boolean (boolean_value false) → ⊥
+    true_apart e = cc
+boolean_same false true = not_same coded_value (leaf_value kinds.Boolean (boolean_value false)) (leaf_value kinds.Boolean (boolean_value true)) false_apart
+  where
+    false_apart : leaf_value kinds.Boolean (boolean_value false) ≡ leaf_value kinds.Boolean (boolean_value true) → ⊥
+    false_apart e = cc
+
+number_is : (m n : ℕ) → nat_eq m n ≡ true → m ≡ n
+number_is m n e = grind (arith, nat_tests)
+
+is_number : (m n : ℕ) → m ≡ n → nat_eq m n ≡ true
+is_number m n e = grind (arith, nat_tests)
+
+binary_same : (x z : ℕ) (y w : List ℕ) → (nat_eq x z && bytes_eq y w) ≡ same coded_value (leaf_value kinds.Binary (binary_value x y)) (leaf_value kinds.Binary (binary_value z w))
+binary_same x z y w =
+    agree (nat_eq x z && bytes_eq y w) _ _ (λ e. let p = both (nat_eq x z) (bytes_eq y w) e in λ i. leaf_value kinds.Binary (binary_value (number_is x z p.0 i) ((bytes_eq-Decides y w).0 p.1 i)))
+    (λ e. and_true (nat_eq x z) (bytes_eq y w) (is_number x z cc) ((bytes_eq-Decides y w).1 cc))
+
+regex_same : (x z y w : List ℕ) → (bytes_eq x z && bytes_eq y w) ≡ same coded_value (leaf_value kinds.Regex (regex_value x y)) (leaf_value kinds.Regex (regex_value z w))
+regex_same x z y w =
+    agree (bytes_eq x z && bytes_eq y w) _ _ (λ e. let p = both (bytes_eq x z) (bytes_eq y w) e in λ i. leaf_value kinds.Regex (regex_value ((bytes_eq-Decides x z).0 p.0 i) ((bytes_eq-Decides y w).0 p.1 i)))
+    (λ e. and_true (bytes_eq x z) (bytes_eq y w) ((bytes_eq-Decides x z).1 cc) ((bytes_eq-Decides y w).1 cc))
+
+pointer_same : (x z y w : List ℕ) → (bytes_eq x z && bytes_eq y w) ≡ same coded_value (leaf_value kinds.DbPointer (pointer_value x y)) (leaf_value kinds.DbPointer (pointer_value z w))
+pointer_same x z y w =
+    agree (bytes_eq x z && bytes_eq y w) _ _ (λ e. let p = both (bytes_eq x z) (bytes_eq y w) e in λ i. leaf_value kinds.DbPointer (pointer_value ((bytes_eq-Decides x z).0 p.0 i) ((bytes_eq-Decides y w).0 p.1 i)))
+    (λ e. and_true (bytes_eq x z) (bytes_eq y w) ((bytes_eq-Decides x z).1 cc) ((bytes_eq-Decides y w).1 cc))
+
+scope_same : (x z : List ℕ) (y w : List (List ℕ × TreeValue)) → (bytes_eq x z && same coded_pairs y w) ≡ same coded_value (document_value kinds.CodeWithScope (with_code x) (tree_of y)) (document_value kinds.CodeWithScope (with_code z) (tree_of w))
+scope_same x z y w =
+    agree (bytes_eq x z && same coded_pairs y w) _ _ (λ e. let p = both (bytes_eq x z) (same coded_pairs y w) e in λ i. document_value kinds.CodeWithScope (with_code ((bytes_eq-Decides x z).0 p.0 i)) (tree_of (same_is coded_pairs y w p.1 i)))
+    (λ e. and_true (bytes_eq x z) (same coded_pairs y w) ((bytes_eq-Decides x z).1 cc) (is_same coded_pairs y w (one_document y w cc)))
+
+timestamp_same : (x z y w : ℕ) → (nat_eq x z && nat_eq y w) ≡ same coded_value (leaf_value kinds.Timestamp (timestamp_value x y)) (leaf_value kinds.Timestamp (timestamp_value z w))
+timestamp_same x z y w =
+    agree (nat_eq x z && nat_eq y w) _ _ (λ e. let p = both (nat_eq x z) (nat_eq y w) e in λ i. leaf_value kinds.Timestamp (timestamp_value (number_is x z p.0 i) (number_is y w p.1 i)))
+    (λ e. and_true (nat_eq x z) (nat_eq y w) (is_number x z cc) (is_number y w cc))
+
+pub bson_same : (a b : Bson) → ghosts.eq a b ≡ same coded_value (value_of a) (value_of b)
+bson_same (values.Double x) (values.Double z) = raw_same kinds.Double x z
+bson_same (values.Double x) _ = refl
+bson_same (values.String x) (values.String z) = text_same kinds.String (string_bytes x) (string_bytes z)
+bson_same (values.String x) _ = refl
+bson_same (values.Document x) (values.Document z) = document_same kinds.Document no_code x z
+bson_same (values.Document x) _ = refl
+bson_same (values.Array x) (values.Array z) = array_same kinds.Array no_code x z
+bson_same (values.Array x) _ = refl
+bson_same (values.Binary x y) (values.Binary z w) = binary_same x z y.items w.items
+bson_same (values.Binary x y) _ = refl
+bson_same values.Undefined values.Undefined = sym (is_same coded_value (value_of values.Undefined) (value_of values.Undefined) refl)
+bson_same values.Undefined _ = refl
+bson_same (values.ObjectId x) (values.ObjectId z) = raw_same kinds.ObjectId x z
+bson_same (values.ObjectId x) _ = refl
+bson_same (values.Boolean x) (values.Boolean z) = boolean_same x z
+bson_same (values.Boolean x) _ = refl
+bson_same (values.DateTime x) (values.DateTime z) = number_same kinds.DateTime x z
+bson_same (values.DateTime x) _ = refl
+bson_same values.Null values.Null = sym (is_same coded_value (value_of values.Null) (value_of values.Null) refl)
+bson_same values.Null _ = refl
+bson_same (values.Regex x y) (values.Regex z w) = regex_same (string_bytes x) (string_bytes z) (string_bytes y) (string_bytes w)
+bson_same (values.Regex x y) _ = refl
+bson_same (values.DbPointer x y) (values.DbPointer z w) = pointer_same (string_bytes x) (string_bytes z) y w
+bson_same (values.DbPointer x y) _ = refl
+bson_same (values.Code x) (values.Code z) = text_same kinds.Code (string_bytes x) (string_bytes z)
+bson_same (values.Code x) _ = refl
+bson_same (values.Symbol x) (values.Symbol z) = text_same kinds.Symbol (string_bytes x) (string_bytes z)
+bson_same (values.Symbol x) _ = refl
+bson_same (values.CodeWithScope x y) (values.CodeWithScope z w) = scope_same (string_bytes x) (string_bytes z) y w
+bson_same (values.CodeWithScope x y) _ = refl
+bson_same (values.Int32 x) (values.Int32 z) = number_same kinds.Int32 x z
+bson_same (values.Int32 x) _ = refl
+bson_same (values.Timestamp x y) (values.Timestamp z w) = timestamp_same x z y w
+bson_same (values.Timestamp x y) _ = refl
+bson_same (values.Int64 x) (values.Int64 z) = number_same kinds.Int64 x z
+bson_same (values.Int64 x) _ = refl
+bson_same (values.Decimal128 x) (values.Decimal128 z) = raw_same kinds.Decimal128 x z
+bson_same (values.Decimal128 x) _ = refl
+bson_same values.MinKey values.MinKey = sym (is_same coded_value (value_of values.MinKey) (value_of values.MinKey) refl)
+bson_same values.MinKey _ = refl
+bson_same values.MaxKey values.MaxKey = sym (is_same coded_value (value_of values.MaxKey) (value_of values.MaxKey) refl)
+bson_same values.MaxKey _ = refl
+
+-- ---- one value after another
+
+pub one_more : (vs ws : List Bson) (i : ℕ) (v w : Bson) → i < length vs → i < length ws → v ≡ get_or vs i v → w ≡ get_or ws i w → map value_of (take i vs) ≡ map value_of (take i ws)
+    → ghosts.eq v w ≡ true → map value_of (take (i + 1) vs) ≡ map value_of (take (i + 1) ws)
+one_more vs ws i v w short short' is is' so_far e =
+    let values : value_of v ≡ value_of w = same_is coded_value (value_of v) (value_of w) (sym (bson_same v w) ∙ e) in
+    let left : take (i + 1) vs ≡ take i vs ++ v ∷ [] = take_more vs i v short ∙ ap (λ (x : Bson). take i vs ++ x ∷ []) (sym is) in
+    let right : take (i + 1) ws ≡ take i ws ++ w ∷ [] = take_more ws i w short' ∙ ap (λ (x : Bson). take i ws ++ x ∷ []) (sym is') in
+    ap (map value_of) left ∙ map-append value_of (take i vs) (v ∷ []) ∙ (λ j. so_far j ++ values j ∷ []) ∙ sym (map-append value_of (take i ws) (w ∷ [])) ∙ sym (ap (map value_of) right)
+
+pub all_same : (vs ws : List Bson) (i : ℕ) → length vs ≤ i → length vs ≡ length ws → map value_of (take i vs) ≡ map value_of (take i ws) → map value_of vs ≡ map value_of ws
+all_same vs ws i over e so_far = sym (ap (map value_of) (take_all i vs over)) ∙ so_far ∙ ap (map value_of) (take_all i ws (omega (arith, e, over)))
+
+pub one_other : (vs ws : List Bson) (i : ℕ) (v w : Bson) → i < length vs → i < length ws → v ≡ get_or vs i v → w ≡ get_or ws i w → ghosts.eq v w ≡ false → map value_of vs ≡ map value_of ws → ⊥
+one_other vs ws i v w short short' is is' e all =
+    let at : value_of v ≡ value_of w = ap value_of is ∙ sym (get_or-map value_of vs i v (value_of v) short) ∙ ap (λ (xs : List TreeValue). get_or xs i (value_of v)) all ∙ get_or-map value_of ws i w (value_of v) short' ∙ ap value_of (sym is') in
+    let t : ghosts.eq v w ≡ true = bson_same v w ∙ is_same coded_value (value_of v) (value_of w) at in
+    cc
+
+-- ---- names
+
+pub same_names : (ks ms : List (String Global)) → map string_bytes ks ≡ map string_bytes ms → pointwise string_eq ks ms ≡ true
+same_names [] [] e = refl
+same_names [] (m ∷ ms) e = absurd cc
+same_names (k ∷ ks) [] e = absurd cc
+same_names (k ∷ ks) (m ∷ ms) e = and_true (string_eq k m) (pointwise string_eq ks ms) ((bytes_eq-Decides (string_bytes k) (string_bytes m)).1 cc) (same_names ks ms cc)
+
+pub names_same : (ks ms : List (String Global)) → pointwise string_eq ks ms ≡ true → map string_bytes ks ≡ map string_bytes ms
+names_same [] [] e = refl
+names_same [] (m ∷ ms) e = absurd cc
+names_same (k ∷ ks) [] e = absurd cc
+names_same (k ∷ ks) (m ∷ ms) e = let p = both (string_eq k m) (pointwise string_eq ks ms) e in λ i. (bytes_eq-Decides (string_bytes k) (string_bytes m)).0 p.0 i ∷ names_same ks ms p.1 i
+
+-- ---- a value is less deep than what holds it
+
+pub in_array : (place i : ℕ) (vs : List Bson) (v : Bson) → i < length vs → v ≡ get_or vs i v → value_depth (value_of v) ≤ tree_depth (array_tree place (map value_of vs))
+in_array place i [] v lt is = absurd (omega arith)
+in_array place zero (u ∷ vs) v lt is = rw (tree_depth-with_first (decimal place) (value_of u) (array_tree (place + 1) (map value_of vs))) (omega (arith, ap (λ (x : Bson). value_depth (value_of x)) is))
+in_array place (suc i) (u ∷ vs) v lt is = rw (tree_depth-with_first (decimal place) (value_of u) (array_tree (place + 1) (map value_of vs))) (omega (arith, in_array (place + 1) i vs v (omega arith) is))
+
+pub in_document : (ks : List (String Global)) (i : ℕ) (vs : List Bson) (v : Bson) → length ks ≡ length vs → i < length vs → v ≡ get_or vs i v → value_depth (value_of v) ≤ tree_depth (tree_of (paired (map string_bytes ks) (map value_of vs)))
+in_document ks i [] v e lt is = absurd (omega arith)
+in_document [] i (u ∷ vs) v e lt is = absurd (omega arith)
+in_document (k ∷ ks) zero (u ∷ vs) v e lt is = rw (tree_depth-with_first (string_bytes k) (value_of u) (tree_of (paired (map string_bytes ks) (map value_of vs)))) (omega (arith, ap (λ (x : Bson). value_depth (value_of x)) is))
+in_document (k ∷ ks) (suc i) (u ∷ vs) v e lt is = rw (tree_depth-with_first (string_bytes k) (value_of u) (tree_of (paired (map string_bytes ks) (map value_of vs)))) (omega (arith, in_document ks i vs v (omega arith) (omega arith) is))
+
+pub as_many_names : (ks ms : List (String Global)) → pointwise string_eq ks ms ≡ true → length ks ≡ length ms
+as_many_names ks ms e = sym (length-map ks string_bytes) ∙ ap length (names_same ks ms e) ∙ length-map ms string_bytes
+
+-- the names and the values of a document
+pub same_document_names : (ks ms : List (String Global)) (vs ws : List Bson) → length ks ≡ length vs → length ms ≡ length ws
+    → paired (map string_bytes ks) (map value_of vs) ≡ paired (map string_bytes ms) (map value_of ws) → map string_bytes ks ≡ map string_bytes ms
+same_document_names ks ms vs ws e f same = sym (names_seen ks vs e) ∙ ap names same ∙ names_seen ms ws f
+
+pub same_document_values : (ks ms : List (String Global)) (vs ws : List Bson) → length ks ≡ length vs → length ms ≡ length ws
+    → paired (map string_bytes ks) (map value_of vs) ≡ paired (map string_bytes ms) (map value_of ws) → map value_of vs ≡ map value_of ws
+same_document_values ks ms vs ws e f same = sym (values_seen ks vs e) ∙ ap values_in same ∙ values_seen ms ws f
+
+pub differ : (b d : Bool) → d ≡ true → d ≡ not b → b ≡ true → ⊥
+differ true d e f g = let h : true ≡ false = sym e ∙ f in cc
+differ false d e f g = cc
+
+pub stay : (b d : Bool) → d ≡ false → d ≡ not b → b ≡ true
+stay true d e f = refl
+stay false d e f = let h : false ≡ true = sym e ∙ f in absurd cc

@@ -1,0 +1,65 @@
+use mathlib.Core.Logic.{∥∥₁_map}
+use Rattle.std.proofs.Common.{◌≡◌, ◌+◌, ◌-◌, ◌∙◌, sym, subst, arith, length, length-set, List, ℕ, ap, refl}
+use Rattle.std.proofs.lemmas.Result.{err_from_is_err_and}
+use Rattle.bson_elem.specs.Kinds.{byte_of}
+use Rattle.bson_raw.specs.Spelled.{IsSpelled}
+use Rattle.bson_doc.specs.Bson.{value_of}
+use Rattle.bson_doc.specs.Last.{with_last}
+use Rattle.bson_doc.proofs.Appending.{least, cut_is, restored, elements_more, spells_more, name_refused, value_refused, size_refused}
+use Rattle.bson_doc.proofs.append.append_pair.Goals as goal
+
+pub overflow_sub-end : goal.overflow_sub-end
+overflow_sub-end c = omega (arith, least c.args.bytes.now.items c.requires)
+
+pub index_mut-requires : goal.index_mut-requires
+index_mut-requires c = omega (arith, least c.args.bytes.now.items c.requires)
+
+pub write_last-requires : goal.write_last-requires
+write_last-requires c = record { begun = omega (arith, least c.args.bytes.now.items c.requires) }
+
+pub returns-in_err-check_cstring-clause-refused : goal.returns-in_err-check_cstring-clause-refused
+returns-in_err-check_cstring-clause-refused c = λ t spelled.
+    let told = err_from_is_err_and c.from_residual.result c.from_residual.ensures.1 in
+    rw (told.1, told.2, c.in_err-check_cstring.ensures.1)
+    (name_refused t c.args.bytes.now.items c.args.name.now (value_of c.args.value.now) spelled c.in_err-check_cstring.ensures.0)
+
+pub returns-in_err-check_value-clause-refused : goal.returns-in_err-check_value-clause-refused
+returns-in_err-check_value-clause-refused c = λ t spelled.
+    let told = err_from_is_err_and c.from_residual-in_err-check_value.result c.from_residual-in_err-check_value.ensures.1 in
+    rw (told.1, told.2)
+    (value_refused t c.args.bytes.now.items c.args.name.now (value_of c.args.value.now) c.in_err-check_value.field-0.0 spelled c.in_ok-check_cstring.ensures c.in_err-check_value.ensures.reason)
+
+pub index_mut-requires-in-Err : goal.index_mut-requires-in-Err
+index_mut-requires-in-Err c =
+    let bytes = c.args.bytes.now.items in
+    let last : c.len-end.result - 1 + 1 ≡ length bytes = omega (arith, least bytes c.requires) in
+    let kept = cut_is bytes c.write_last.new.out.items c.truncate.new.self.items (c.len-end.result - 1) c.byte.result last c.truncate.ensures.items c.in-Err.ensures.kept in
+    omega (arith, last, ap length kept, length-set bytes (c.len-end.result - 1) c.byte.result)
+
+pub returns-in-Err-clause-unchanged : goal.returns-in-Err-clause-unchanged
+returns-in-Err-clause-unchanged c =
+    let bytes = c.args.bytes.now.items in
+    let last : c.len-end.result - 1 + 1 ≡ length bytes = omega (arith, least bytes c.requires) in
+    restored bytes c.write_last.new.out.items c.truncate.new.self.items (c.len-end.result - 1) c.byte.result c.requires last c.truncate.ensures.items c.in-Err.ensures.kept
+
+pub returns-in-Err-clause-spelled : goal.returns-in-Err-clause-spelled
+returns-in-Err-clause-spelled c = subst (λ (x : List ℕ). ∥ IsSpelled x ∥₁) (sym (returns-in-Err-clause-unchanged c)) c.requires
+
+pub returns-in-Err-clause-refused : goal.returns-in-Err-clause-refused
+returns-in-Err-clause-refused c = λ t spelled.
+    let bytes = c.args.bytes.now.items in
+    let last : c.len-end.result - 1 + 1 ≡ length bytes = omega (arith, least bytes c.requires) in
+    let v = value_of c.args.value.now in
+    size_refused t bytes _ c.args.name.now v _ c.in-Err.refusal refl spelled c.in_ok-check_cstring.ensures c.in_ok-check_value.ensures.reason
+    (elements_more t bytes (c.len-end.result - 1) c.byte.result c.args.name.now v spelled.parts last (c.byte.ensures ∙ ap byte_of c.kind.ensures)) c.in-Err.ensures.refused
+
+pub returns-clause-added : goal.returns-clause-added
+returns-clause-added c = λ t spelled.
+    let bytes = c.args.bytes.now.items in
+    let last : c.len-end.result - 1 + 1 ≡ length bytes = omega (arith, least bytes c.requires) in
+    let v = value_of c.args.value.now in
+    spells_more t bytes c.write_last.new.out.items _ c.args.name.now v spelled c.utf8.name c.in_ok-check_cstring.ensures c.in_ok-check_value.ensures.reason c.in_default.ensures.formed
+    (elements_more t bytes (c.len-end.result - 1) c.byte.result c.args.name.now v spelled.parts last (c.byte.ensures ∙ ap byte_of c.kind.ensures)) c.in_default.ensures.added (omega (arith, c.in_default.ensures.within))
+
+pub returns-clause-spelled : goal.returns-clause-spelled
+returns-clause-spelled c = ∥∥₁_map c.requires (λ s. (with_last c.args.name.now (value_of c.args.value.now) s.0, returns-clause-added c s.0 s.1))

@@ -1,0 +1,61 @@
+//! A pair that is added to a document in its bytes.
+
+ghost use Rattle.std.specs.Prelude.{◌≡◌, ◌≤◌, ◌++◌, length, drop, vec_len, OnOk, OnErr, IfErr};
+ghost use Rattle.bson_elem.specs.Tree.{Tree};
+ghost use Rattle.bson_elem.specs.Spelling.{cstring, Spells};
+ghost use Rattle.bson_elem.specs.Spelling as spelling;
+ghost use Rattle.bson_raw.specs.Spelled.{IsSpelled};
+ghost use Rattle.bson_doc.specs.Bson.{value_of};
+ghost use Rattle.bson_doc.specs.Formed.{IsFormedValue};
+ghost use Rattle.bson_doc.specs.Last.{with_last};
+ghost use Rattle.bson_doc.specs.Refusals.{IsSizeRefusal, Keeps};
+ghost use Rattle.bson_doc.specs.Unwritable.{IsUnwritable};
+ghost use Rattle.bson_doc.specs.Values.{value_bytes};
+
+use crate::bson::Bson;
+use crate::buf::MAX_LEN;
+use crate::bytes::{finish, write_cstring};
+use crate::refusal::DocRefusal;
+use crate::to_raw::write_value;
+use crate::unwritable::{check_cstring, check_value};
+
+/// Adds the name and the value of the last pair behind its type byte, and ends the document.
+fn write_last(name: &str, value: &Bson, out: &mut Vec<u8>) -> Result<(), DocRefusal>
+    requires begun { 4 ≤ vec_len out.old }
+    ensures added { let pair = cstring name.now ++ value_bytes (value_of value.now) in
+        OnOk result (out.new.items ≡ spelling.document (drop 4 out.old.items ++ pair)) }
+    ensures within { let pair = cstring name.now ++ value_bytes (value_of value.now) in
+        OnOk result (length (spelling.document (drop 4 out.old.items ++ pair)) ≤ MAX_LEN) }
+    ensures formed { OnOk result (IsFormedValue (value_of value.now)) }
+    ensures refused { let pair = cstring name.now ++ value_bytes (value_of value.now) in
+        let len = length (spelling.document (drop 4 out.old.items ++ pair)) in
+        IfErr result (λ e. IsSizeRefusal MAX_LEN len e) }
+    ensures kept { OnErr result (Keeps out.old.items out.new.items) }
+{
+    write_cstring(name, out)?;
+    write_value(value, out)?;
+    finish(0, MAX_LEN, out)
+}
+
+/// Adds the pair behind the others of the document that has these bytes. After a refusal they are
+/// what they were.
+pub(crate) fn append_pair(name: &str, value: &Bson, bytes: &mut Vec<u8>) -> Result<(), DocRefusal>
+    requires { ∥ IsSpelled bytes.old.items ∥₁ }
+    ensures spelled { ∥ IsSpelled bytes.new.items ∥₁ }
+    ensures added { (t : Tree) → Spells t bytes.old.items
+        → OnOk result (Spells (with_last name.now (value_of value.now) t) bytes.new.items) }
+    ensures unchanged { OnErr result (bytes.new.items ≡ bytes.old.items) }
+    ensures refused { (t : Tree) → Spells t bytes.old.items
+        → IfErr result (λ e. IsUnwritable (with_last name.now (value_of value.now) t) e) }
+{
+    check_cstring(name)?;
+    check_value(value, 1)?;
+    let end = bytes.len() - 1;
+    bytes[end] = value.kind().byte();
+    if let Err(refusal) = write_last(name, value, bytes) {
+        bytes.truncate(end + 1);
+        bytes[end] = 0;
+        return Err(refusal);
+    }
+    Ok(())
+}

@@ -1,0 +1,159 @@
+//! What no contract says: that the text is the one that was worked out by hand from the standard and the table of kinds,
+//! that a failed write ends the walk, and that the calls write a document's text.
+
+use super::*;
+use std::alloc::Global;
+use std::test::Fail;
+
+/// The bytes of hexadecimal digits. Spaces are passed over.
+fn bytes_of(alloc: Global, digits: &str) -> Result<Vec<u8>, Fail> {
+    let mut packed = Vec::from_slice(alloc, digits.as_bytes())?;
+    packed.retain(|digit| *digit != b' ');
+    Ok(hex::decode(alloc, packed.as_slice())?)
+}
+
+// A document of one element, for each kind; and containers in containers, whose elements follow their line.
+#[test]
+fn one_element_of_each_kind(rt: HostRuntime) -> Result<(), Fail> {
+    let rows = [
+        ("05000000 00", "document 5\n"),
+        (
+            "16000000 02 68656c6c6f00 06000000 776f726c6400 00",
+            "document 22\n  \"hello\" string \"world\"\n",
+        ),
+        (
+            "14000000 04 6100 0c000000 10 7800 01000000 00 00",
+            "document 20\n  \"a\" array 12\n    \"x\" int32 1\n",
+        ),
+        (
+            "10000000 03 7600 08000000 0a 7700 00 00",
+            "document 16\n  \"v\" document 8\n    \"w\" null\n",
+        ),
+        (
+            "10000000 01 7600 000000000000f03f 00",
+            "document 16\n  \"v\" double 000000000000f03f\n",
+        ),
+        (
+            "0f000000 05 7600 02000000 00 aabb 00",
+            "document 15\n  \"v\" binary 00 2 aabb\n",
+        ),
+        (
+            "0d000000 05 7600 00000000 00 00",
+            "document 13\n  \"v\" binary 00 0\n",
+        ),
+        ("08000000 06 7600 00", "document 8\n  \"v\" undefined\n"),
+        (
+            "14000000 07 7600 000102030405060708090a0b 00",
+            "document 20\n  \"v\" objectid 000102030405060708090a0b\n",
+        ),
+        (
+            "09000000 08 7600 01 00",
+            "document 9\n  \"v\" boolean true\n",
+        ),
+        (
+            "10000000 09 7600 ffffffffffffffff 00",
+            "document 16\n  \"v\" datetime -1\n",
+        ),
+        ("08000000 0a 7600 00", "document 8\n  \"v\" null\n"),
+        (
+            "0e000000 0b 7600 612e6200 6900 00",
+            "document 14\n  \"v\" regex \"a.b\" \"i\"\n",
+        ),
+        (
+            "1a000000 0c 7600 02000000 6300 000102030405060708090a0b 00",
+            "document 26\n  \"v\" dbpointer \"c\" 000102030405060708090a0b\n",
+        ),
+        (
+            "0e000000 0d 7600 02000000 6300 00",
+            "document 14\n  \"v\" code \"c\"\n",
+        ),
+        (
+            "0e000000 0e 7600 02000000 6300 00",
+            "document 14\n  \"v\" symbol \"c\"\n",
+        ),
+        (
+            "0c000000 10 7600 00000080 00",
+            "document 12\n  \"v\" int32 -2147483648\n",
+        ),
+        (
+            "10000000 11 7600 01000000 02000000 00",
+            "document 16\n  \"v\" timestamp 2 1\n",
+        ),
+        (
+            "10000000 12 7600 0000000000000080 00",
+            "document 16\n  \"v\" int64 -9223372036854775808\n",
+        ),
+        (
+            "18000000 13 7600 01000000000000000000000000004030 00",
+            "document 24\n  \"v\" decimal128 01000000000000000000000000004030\n",
+        ),
+        ("08000000 ff 7600 00", "document 8\n  \"v\" minkey\n"),
+        ("08000000 7f 7600 00", "document 8\n  \"v\" maxkey\n"),
+    ];
+    for (digits, text) in rows {
+        let bytes = bytes_of(rt.alloc(), digits)?;
+        let document = RawDocument::from_bytes(&bytes)?;
+        let mut out = Vec::new(rt.alloc());
+        dump_to(document, &mut out)?;
+        assert_eq!(rt; out.as_slice(), text.as_bytes(), "at {digits}");
+    }
+    Ok(())
+}
+
+// Elements after an inner document stand as deep as those before it.
+#[test]
+fn lines_of_elements(rt: HostRuntime) -> Result<(), Fail> {
+    let bytes = bytes_of(
+        rt.alloc(),
+        "28000000 0a 6100 03 6200 08000000 0a 6300 00 0f 6400 0f000000 02000000 7800 0500000000 ff 6500 00",
+    )?;
+    let document = RawDocument::from_bytes(&bytes)?;
+    let mut out = Vec::new(rt.alloc());
+    dump_elements(document, 1, &mut out)?;
+    let text =
+        "  \"a\" null\n  \"b\" document 8\n    \"c\" null\n  \"d\" codescope \"x\" 5\n  \"e\" minkey\n";
+    assert_eq!(rt; out.as_slice(), text.as_bytes());
+    out.clear();
+    dump_elements(document, 2, &mut out)?;
+    let text =
+        "    \"a\" null\n    \"b\" document 8\n      \"c\" null\n    \"d\" codescope \"x\" 5\n    \"e\" minkey\n";
+    assert_eq!(rt; out.as_slice(), text.as_bytes());
+    Ok(())
+}
+
+/// A writer that takes so many bytes and then fails.
+#[derive(Drop)]
+struct Short {
+    room: usize,
+}
+
+impl Write for Short {
+    fn write(&mut self, buf: &[u8]) -> io::Result<usize> {
+        let taken = buf.len().min(self.room);
+        if taken == 0 {
+            return Err(io::Error::other("full"));
+        }
+        self.room -= taken;
+        Ok(taken)
+    }
+
+    fn flush(&mut self) -> io::Result<()> {
+        Ok(())
+    }
+}
+
+#[test]
+fn ends_at_a_failed_write(rt: HostRuntime) -> Result<(), Fail> {
+    let bytes = bytes_of(rt.alloc(), "10000000 03 7600 08000000 0a 7700 00 00")?;
+    let document = RawDocument::from_bytes(&bytes)?;
+    // The text has 12 + 17 + 13 bytes.
+    for room in 0..42 {
+        let mut out = Short { room };
+        assert!(rt; dump_to(document, &mut out).is_err(), "at {room}");
+        assert_eq!(rt; out.room, 0, "at {room}");
+    }
+    let mut out = Short { room: 42 };
+    dump_to(document, &mut out)?;
+    assert_eq!(rt; out.room, 0);
+    Ok(())
+}

@@ -1,6 +1,0 @@
-use Rattle.std.specs.Io.KnownBytes.{Appends}
-use Rattle.bsonwire.specs.Text.{indent}
-use Rattle.bsonwire.proofs.text.write_indent.Given as goal
-
-abbrev pub invariant-loop : goal.invariant-loop
-invariant-loop g l = Appends (g.W.Write.contents l.initial.out) (g.W.Write.contents l.out) (indent l.counter)

@@ -1,0 +1,29 @@
+-- The faults of an input, and their lines.
+use Rattle.std.specs.Prelude.{ℕ, ◌+◌, List, codes, Option, None, Some}
+use Rattle.bson_elem.specs.declared.fault.BsonFault.{BsonFault}
+use Rattle.bson_elem.specs.Causes.{cause_name, cause_number}
+use Rattle.bsonwire.specs.FaultLine.{fault_line}
+use Rattle.bsonwire.specs.declared.input_fault.InputFault.{InputFault}
+use Rattle.bsonwire.specs.declared.input_fault.InputFault.TheVariants.{Hex, Bson, TooLarge}
+
+-- the line of a fault in hexadecimal text
+abbrev pub hex_line : ℕ → List ℕ
+hex_line place = fault_line 0 (codes "Hex") place
+
+-- the line of a fault in a document, whose own places count from this one
+abbrev pub bson_line : ℕ → BsonFault → List ℕ
+bson_line start f = fault_line (cause_number f.cause) (cause_name f.cause) (start + f.at)
+
+-- the line of a document at this place whose canonical form is too long
+abbrev pub too_large_line : ℕ → List ℕ
+too_large_line place = fault_line 16 (codes "TooLarge") place
+
+abbrev pub input_fault_line : InputFault → List ℕ
+input_fault_line (Hex place) = hex_line place
+input_fault_line (Bson f) = fault_line (cause_number f.cause) (cause_name f.cause) f.at
+input_fault_line (TooLarge place) = too_large_line place
+
+-- the line of a fault, if there is one
+abbrev pub line_of : Option InputFault → Option (List ℕ)
+line_of None = None
+line_of (Some f) = Some (input_fault_line f)

@@ -1,0 +1,73 @@
+//! The command `check`.
+
+ghost use Rattle.std.specs.Prelude.{◌≡◌, ◌⊎◌, IfSome, false, true};
+ghost use Rattle.std.specs.Io.KnownBytes.{IsAtEnd, Keeps};
+ghost use Rattle.bsonwire.specs.Check.{CheckText, check_of};
+ghost use Rattle.bsonwire.specs.Output.{AppendsText, IsOutput};
+ghost use Rattle.bsonwire.specs.Run.{is_done, is_fault};
+
+use crate::documents::{EachDocument, write_documents};
+use crate::run::{Engine, RunEnd, run};
+use bson_doc::canon::is_canonical;
+use bson_raw::document::RawDocument;
+use std::alloc::Global;
+use std::io::{Read, Write};
+
+/// The command `check`.
+struct Check;
+
+impl EachDocument for Check {
+    ghost text_of = { λ _. check_of };
+
+    ghost wants_memory = { λ _. false };
+
+    fn write_document<W: Write>(
+        &self,
+        document: RawDocument<'_>,
+        out: &mut W,
+    ) -> Result<bool, RunEnd> {
+        let size = document.as_bytes().len();
+        let word = if is_canonical(document) {
+            "canonical"
+        } else {
+            "other"
+        };
+        match writeln!(out, "ok {size} {word}") {
+            Ok(()) => Ok(true),
+            Err(_) => Err(RunEnd::InOut),
+        }
+    }
+}
+
+impl Engine for Check {
+    ghost is_text = { λ _. CheckText };
+
+    ghost wants_memory = { λ _. false };
+
+    fn write_text<W: Write>(&self, bytes: &[u8], out: &mut W) -> Result<bool, RunEnd> {
+        write_documents(self, bytes, out)
+    }
+}
+
+/// Writes a line for each document that the reader has: `ok`, how many bytes it has, and
+/// `canonical` or `other`. With `hex` the input is hexadecimal text.
+pub fn run_check<R: Read, W: Write>(
+    alloc: Global,
+    hex: bool,
+    reader: &mut R,
+    writer: &mut W,
+) -> RunEnd
+    ensures read { is_done result ≡ true → IsAtEnd (R.remaining reader.new) }
+    ensures written { IfSome (R.remaining reader.old) (λ input. is_done result ≡ true →
+        AppendsText (IsOutput CheckText hex input) (is_fault result)
+        (W.contents writer.old) (W.contents writer.new)) }
+    ensures late { (IsAtEnd (R.remaining reader.new)) ⊎
+        Keeps (W.contents writer.old) (W.contents writer.new) }
+    ensures memory { result ≡ RunEnd.Memory →
+        Keeps (W.contents writer.old) (W.contents writer.new) }
+{
+    run(alloc, &Check, hex, reader, writer)
+}
+
+#[cfg(test)]
+mod tests;
