@@ -1,0 +1,66 @@
+-- Documents back to back.
+use Rattle.std.proofs.Common.{◌≡◌, ℕ, ◌+◌, ◌-◌, List, [], ◌∷◌, ◌++◌, length, refl, sym, ap, subst, ◌∙◌, append_assoc, arith, length-append}
+use Rattle.std.proofs.lemmas.List.{append-nil}
+use Rattle.bson_elem.specs.declared.fault.BsonFault.{BsonFault}
+use Rattle.bson_elem.specs.Tree.{Tree}
+use Rattle.bson_elem.specs.Spelling.{document, elements, Spells}
+use Rattle.bson_elem.specs.Faults.{FrontFault}
+use Rattle.bson_raw.specs.Spelled.{IsSpelled}
+use Rattle.wire_msg.specs.declared.fault.MsgCause.TheVariants.{Document}
+use Rattle.wire_msg.specs.Causes.{msg_fault}
+use Rattle.wire_msg.specs.Message.{IsDocument, AreDocuments, documents_bytes}
+use Rattle.wire_msg.specs.Faults.{DocumentsFault}
+use Rattle.wire_msg.specs.Checks.{HasDocuments}
+
+-- ---- one document more
+
+pub documents-append : (ts us : List Tree) → documents_bytes (ts ++ us) ≡ documents_bytes ts ++ documents_bytes us
+documents-append [] us = refl
+documents-append (t ∷ ts) us = ap (λ (x : List ℕ). document (elements t) ++ x) (documents-append ts us) ∙ sym (append_assoc (document (elements t)) (documents_bytes ts) (documents_bytes us))
+
+pub AreDocuments-append : (ts us : List Tree) → AreDocuments ts → AreDocuments us → AreDocuments (ts ++ us)
+AreDocuments-append [] us f g = g
+AreDocuments-append (t ∷ ts) us f g = (f.0, AreDocuments-append ts us f.1 g)
+
+pub is_document : (t : Tree) (bytes : List ℕ) → Spells t bytes → IsDocument t
+is_document t bytes s = subst (Spells t) s.parts s
+
+-- documents stand before a rest
+pub record DocumentsBefore (bytes rest : List ℕ) : Type 0 where
+  pub documents : List Tree
+  pub fits : AreDocuments documents
+  pub parts : bytes ≡ documents_bytes documents ++ rest
+
+pub none_before : (bytes : List ℕ) → DocumentsBefore bytes bytes
+none_before bytes = record { documents = []; fits = tt; parts = refl }
+
+pub one_more : (bytes rest d after : List ℕ) → DocumentsBefore bytes rest → IsSpelled d → rest ≡ d ++ after → DocumentsBefore bytes after
+one_more bytes rest d after b s is =
+    let t : Tree = s.0 in
+    let whole : d ≡ document (elements t) = s.1.parts in
+    let single : documents_bytes (t ∷ []) ≡ document (elements t) = append-nil (document (elements t)) in
+    let more : documents_bytes (b.documents ++ t ∷ []) ≡ documents_bytes b.documents ++ d = documents-append b.documents (t ∷ []) ∙ ap (λ (x : List ℕ). documents_bytes b.documents ++ x) (single ∙ sym whole) in
+    record {
+      documents = b.documents ++ t ∷ [];
+      fits = AreDocuments-append b.documents (t ∷ []) b.fits (is_document t d s.1, tt);
+      parts = b.parts ∙ ap (λ (x : List ℕ). documents_bytes b.documents ++ x) is ∙ sym (append_assoc (documents_bytes b.documents) d after) ∙ ap (λ (x : List ℕ). x ++ after) (sym more);
+    }
+
+pub all_before : (bytes rest : List ℕ) → DocumentsBefore bytes rest → length rest ≡ 0 → HasDocuments bytes
+all_before bytes [] b none = (b.documents, b.fits, b.parts ∙ append-nil (documents_bytes b.documents))
+all_before bytes (x ∷ rest) b none = absurd (omega (arith, none))
+
+pub fault_after : (start : ℕ) (bytes rest : List ℕ) (inner : BsonFault) → DocumentsBefore bytes rest → (length rest ≡ 0 → ⊥) → FrontFault rest inner → DocumentsFault start bytes (msg_fault (start + (length bytes - length rest)) (Document inner))
+fault_after start bytes [] inner b some front = absurd (some refl)
+fault_after start bytes (x ∷ rest) inner b some front =
+    let place : length bytes - length (x ∷ rest) ≡ length (documents_bytes b.documents) = omega (arith, ap length b.parts, length-append (documents_bytes b.documents) (x ∷ rest)) in
+    record {
+      documents = b.documents;
+      first = x;
+      rest = rest;
+      inner = inner;
+      parts = b.parts;
+      fits = b.fits;
+      front = front;
+      is = ap (λ (n : ℕ). msg_fault (start + n) (Document inner)) place;
+    }

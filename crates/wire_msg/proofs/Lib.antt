@@ -1,0 +1,15 @@
+pub mod FlagLaws
+pub mod DocumentLaws
+pub mod SequenceLaws
+pub mod SectionLaws
+pub mod ReadLaws
+pub mod RunLaws
+pub mod NameLaws
+pub mod FrameLaws
+pub mod MsgLaws
+pub mod Verdicts
+pub mod SectionVerdicts
+pub mod SectionAnswers
+pub mod MsgAnswers
+pub mod PlaceLaws
+pub mod StandingLaws

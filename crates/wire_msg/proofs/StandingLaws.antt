@@ -1,0 +1,106 @@
+-- How bytes stand that come one after another.
+use Rattle.std.proofs.Common.{◌≡◌, ℕ, ℤ, ◌+◌, ◌≤◌, Bool, List, [], ◌++◌, length, take, drop, Ok, refl, sym, ap, subst, ◌∙◌, arith, length-append, length-drop}
+use Rattle.std.specs.Int.{w32, from_le_bytes, cast_signed}
+use Rattle.std.proofs.lemmas.List.{take_at, drop_at, take-append-le, drop-append-le, nil_from_length}
+use Rattle.bson_elem.specs.Tree.{Tree}
+use Rattle.bson_elem.specs.Spelling.{IsBytes}
+use Rattle.bson_elem.proofs.FieldLaws.{ok_is, IsBytes-drop, IsBytes-take}
+use Rattle.wire_msg.specs.declared.header.MsgHeader.{MsgHeader}
+use Rattle.wire_msg.specs.declared.fault.MsgFault.{MsgFault}
+use Rattle.wire_msg.specs.Header.{number_at, header_of, IsGoodHeader, HeaderFault}
+use Rattle.wire_msg.specs.Message.{Sequence, Message}
+use Rattle.wire_msg.specs.Spelling.{FlagsAre, SpellsMsg}
+use Rattle.wire_msg.specs.Faults.{FaultMsg}
+use Rattle.wire_msg.specs.Standing.{IsOpen, in_header, in_message, IsWhole, IsBad, bad_header, bad_message}
+use Rattle.wire_msg.proofs.FlagLaws.{same_flags}
+use Rattle.wire_msg.proofs.SectionVerdicts.{Parts, one_verdict}
+use Rattle.wire_msg.proofs.MsgAnswers.{msg_read, msg_verdict, no_msg_fault, one_msg_fault, good_header, one_header_fault, good_of_msg}
+
+-- ---- one message
+
+abbrev msg : ℤ → ℤ → Bool → Bool → Tree → List Sequence → Message
+msg id to more allows body sequences = record { id = id; response_to = to; more = more; allows = allows; content = record { body = body; sequences = sequences } }
+
+same_msg : (id id' to to' : ℤ) (more more' allows allows' : Bool) (body body' : Tree) (qs qs' : List Sequence) → id ≡ id' → to ≡ to' → more ≡ more' → allows ≡ allows' → body ≡ body' → qs ≡ qs' → msg id to more allows body qs ≡ msg id' to' more' allows' body' qs'
+same_msg id id' to to' more more' allows allows' body body' qs qs' a b d e f g = rw (a, b, d, e, f, g) refl
+
+abbrev joined : Parts → List Sequence
+joined p = p.0 ++ p.2
+
+pub one_message : (m n : Message) (bytes : List ℕ) → IsBytes bytes → SpellsMsg m bytes → SpellsMsg n bytes → m ≡ n
+one_message m n bytes fits s t =
+    let a = msg_read m bytes s in
+    let b = msg_read n bytes t in
+    let flags = same_flags s.word m.more m.allows n.more n.allows s.flags (subst (λ (w : ℕ). FlagsAre w n.more n.allows) (sym b.word ∙ a.word) t.flags) in
+    let parts = ok_is {E = MsgFault} (s.before, m.content.body, s.after) (t.before, n.content.body, t.after) (one_verdict (drop 20 bytes) (Ok (s.before, m.content.body, s.after)) (Ok (t.before, n.content.body, t.after)) (IsBytes-drop 20 bytes fits) (msg_verdict m bytes s) (msg_verdict n bytes t)) in
+    let body : m.content.body ≡ n.content.body = ap (λ (p : Parts). p.1) parts in
+    let sequences : m.content.sequences ≡ n.content.sequences = s.in_order ∙ ap joined parts ∙ sym t.in_order in
+    same_msg m.id n.id m.response_to n.response_to m.more n.more m.allows n.allows m.content.body n.content.body m.content.sequences n.content.sequences (sym a.id ∙ b.id) (sym a.response_to ∙ b.response_to) flags.0 flags.1 body sequences
+
+-- ---- a message in front
+
+-- the numbers of a header are in the bytes that begin with it
+number_front : (a rest : List ℕ) (at : ℕ) → at + 4 ≤ length a → from_le_bytes w32 (take 4 (drop at (a ++ rest))) ≡ from_le_bytes w32 (take 4 (drop at a))
+number_front a rest at room =
+    ap (λ (x : List ℕ). from_le_bytes w32 (take 4 x)) (drop-append-le at a rest (omega (arith, room))) ∙ ap (from_le_bytes w32) (take-append-le 4 (drop at a) rest (omega (arith, room, length-drop at a)))
+
+abbrev header : ℕ → ℕ → ℕ → ℕ → MsgHeader
+header n id to opcode = record { length = n; id = cast_signed w32 id; response_to = cast_signed w32 to; opcode = cast_signed w32 opcode }
+
+same_header : (n n' id id' to to' opcode opcode' : ℕ) → n ≡ n' → id ≡ id' → to ≡ to' → opcode ≡ opcode' → header n id to opcode ≡ header n' id' to' opcode'
+same_header n n' id id' to to' opcode opcode' a b d e = rw (a, b, d, e) refl
+
+pub header_front : (a rest : List ℕ) → 16 ≤ length a → header_of (a ++ rest) ≡ header_of a
+header_front a rest room = same_header _ _ _ _ _ _ _ _ (number_front a rest 0 (omega (arith, room))) (number_front a rest 4 (omega (arith, room))) (number_front a rest 8 (omega (arith, room))) (number_front a rest 12 (omega (arith, room)))
+
+-- the announced length of bytes that begin with a message is the message's
+announced : (m : Message) (a rest : List ℕ) → SpellsMsg m a → number_at (a ++ rest) 0 ≡ length a
+announced m a rest s = let r = msg_read m a s in number_front a rest 0 (omega (arith, r.long)) ∙ r.len
+
+pub one_front : (m n : Message) (a b rest after : List ℕ) → IsBytes a → SpellsMsg m a → SpellsMsg n b → a ++ rest ≡ b ++ after → (m ≡ n) × (a ≡ b) × (rest ≡ after)
+one_front m n a b rest after fits s t is =
+    let size : length a ≡ length b = sym (announced m a rest s) ∙ ap (λ (x : List ℕ). number_at x 0) is ∙ announced n b after t in
+    let same : a ≡ b = sym (take_at a rest (length a) refl) ∙ ap (take (length a)) is ∙ take_at b after (length a) (sym size) in
+    (one_message m n a fits s (subst (SpellsMsg n) (sym same) t), same, sym (drop_at a rest (length a) refl) ∙ ap (drop (length a)) is ∙ drop_at b after (length a) (sym size))
+
+pub no_other : (m n : Message) (a rest : List ℕ) → SpellsMsg m a → SpellsMsg n (a ++ rest) → rest ≡ []
+no_other m n a rest s t =
+    let size : length a ≡ length (a ++ rest) = sym (announced m a rest s) ∙ (msg_read n (a ++ rest) t).len in
+    nil_from_length rest (omega (arith, size, length-append a rest))
+
+-- ---- open, bad and whole
+
+whole_header : (limit : ℕ) (bytes rest : List ℕ) (m : Message) → (w : IsWhole limit bytes m rest) → (20 ≤ length w.front) × (number_at bytes 0 ≡ length w.front) × (length bytes ≡ length w.front + length rest) × IsGoodHeader limit (header_of bytes)
+whole_header limit bytes rest m w =
+    let r = msg_read m w.front w.spelled in
+    let good : IsGoodHeader limit (header_of w.front) = good_of_msg limit m w.front w.spelled w.within in
+    (r.long, ap (λ (x : List ℕ). number_at x 0) w.parts ∙ announced m w.front rest w.spelled, ap length w.parts ∙ length-append w.front rest, subst (IsGoodHeader limit) (sym (ap header_of w.parts ∙ header_front w.front rest (omega (arith, r.long)))) good)
+
+pub open_not_whole : (limit : ℕ) (bytes rest : List ℕ) (m : Message) → IsOpen limit bytes → IsWhole limit bytes m rest → ⊥
+open_not_whole limit bytes rest m (in_header lt) w = let h = whole_header limit bytes rest m w in omega (arith, lt, h.0, h.2)
+open_not_whole limit bytes rest m (in_message room good lt) w = let h = whole_header limit bytes rest m w in omega (arith, lt, h.1, h.2)
+
+pub open_not_bad : (limit : ℕ) (bytes : List ℕ) (f : MsgFault) → IsOpen limit bytes → IsBad limit bytes f → ⊥
+open_not_bad limit bytes f (in_header lt) (bad_header room h) = omega (arith, lt, room)
+open_not_bad limit bytes f (in_header lt) (bad_message room good le fault) = omega (arith, lt, room)
+open_not_bad limit bytes f (in_message room good lt) (bad_header room' h) = good_header limit (header_of bytes) f good h
+open_not_bad limit bytes f (in_message room good lt) (bad_message room' good' le fault) = omega (arith, lt, le)
+
+pub bad_not_whole : (limit : ℕ) (bytes rest : List ℕ) (m : Message) (f : MsgFault) → IsBytes bytes → IsBad limit bytes f → IsWhole limit bytes m rest → ⊥
+bad_not_whole limit bytes rest m f fits (bad_header room h) w = good_header limit (header_of bytes) f (whole_header limit bytes rest m w).3 h
+bad_not_whole limit bytes rest m f fits (bad_message room good le fault) w =
+    let h = whole_header limit bytes rest m w in
+    let same : take (number_at bytes 0) bytes ≡ w.front = ap (λ (n : ℕ). take n bytes) h.1 ∙ ap (take (length w.front)) w.parts ∙ take_at w.front rest (length w.front) refl in
+    no_msg_fault limit m w.front f (subst IsBytes same (IsBytes-take (number_at bytes 0) bytes fits)) w.spelled w.within (subst (λ (x : List ℕ). FaultMsg x limit f) same fault)
+
+pub bad_once : (limit : ℕ) (bytes : List ℕ) (f g : MsgFault) → IsBytes bytes → IsBad limit bytes f → IsBad limit bytes g → f ≡ g
+bad_once limit bytes f g fits (bad_header room h) (bad_header room' h') = one_header_fault limit (header_of bytes) f g h h'
+bad_once limit bytes f g fits (bad_header room h) (bad_message room' good le fault) = absurd (good_header limit (header_of bytes) f good h)
+bad_once limit bytes f g fits (bad_message room good le fault) (bad_header room' h) = absurd (good_header limit (header_of bytes) g good h)
+bad_once limit bytes f g fits (bad_message room good le fault) (bad_message room' good' le' fault') = one_msg_fault limit (take (number_at bytes 0) bytes) f g (IsBytes-take (number_at bytes 0) bytes fits) fault fault'
+
+pub bad_early : (limit : ℕ) (front more : List ℕ) (f : MsgFault) → length front ≡ 16 → HeaderFault limit (header_of front) f → IsBad limit (front ++ more) f
+bad_early limit front more f size h = bad_header (omega (arith, size, length-append front more)) (subst (λ (x : MsgHeader). HeaderFault limit x f) (sym (header_front front more (omega (arith, size)))) h)
+
+pub no_message : (m : Message) → SpellsMsg m [] → ⊥
+no_message m s = let r = msg_read m [] s in omega (arith, r.long)

@@ -1,0 +1,59 @@
+-- What the parts of the check tell.
+use Rattle.std.specs.Prelude.{◌≡◌, ◌≢◌, ℕ, ◌+◌, ◌≤◌, List, [], ◌∷◌, ◌++◌, length, take, drop}
+use Rattle.bson_elem.specs.Tree.{Tree}
+use Rattle.bson_elem.specs.Spelling.{Spells}
+use Rattle.wire_msg.specs.declared.fault.MsgFault.{MsgFault}
+use Rattle.wire_msg.specs.Message.{Sequence, AreDocuments, IsSequence, AreSequences, documents_bytes}
+use Rattle.wire_msg.specs.Spelling.{sequence_section, sequences_bytes, sections_bytes}
+use Rattle.wire_msg.specs.Faults.{SequenceFault}
+
+-- the bytes are documents back to back
+abbrev pub HasDocuments : List ℕ → Type 0
+HasDocuments bytes = (ts : List Tree) × AreDocuments ts × (bytes ≡ documents_bytes ts)
+
+-- the bytes are document sequences
+abbrev pub HasSequences : List ℕ → Type 0
+HasSequences bytes = (qs : List Sequence) × AreSequences qs × (bytes ≡ sequences_bytes qs)
+
+-- A document sequence, without its kind byte, is as many of the bytes.
+pub record IsSequenceAt (bytes : List ℕ) (size : ℕ) : Type 0 where
+  pub sequence : Sequence
+  pub fits : IsSequence sequence
+  pub within : size ≤ length bytes
+  pub parts : sequence_section sequence ≡ 1 ∷ take size bytes
+
+-- no document sequence begins
+abbrev pub IsNoSequence : List ℕ → Type 0
+IsNoSequence [] = Unit {0}
+IsNoSequence (kind ∷ rest) = kind ≢ 1
+
+-- Document sequences stand from a place up to another one, where none begins.
+pub record IsRun (bytes : List ℕ) (start end : ℕ) : Type 0 where
+  pub sequences : List Sequence
+  pub fits : AreSequences sequences
+  pub forwards : start ≤ end
+  pub within : end ≤ length bytes
+  pub parts : drop start bytes ≡ sequences_bytes sequences ++ drop end bytes
+  pub stops : IsNoSequence (drop end bytes)
+
+-- Document sequences stand from a place on, and then one that has a fault.
+pub record IsBadRun (bytes : List ℕ) (start : ℕ) (f : MsgFault) : Type 0 where
+  pub sequences : List Sequence
+  pub fits : AreSequences sequences
+  pub rest : List ℕ
+  pub parts : drop start bytes ≡ sequences_bytes sequences ++ 1 ∷ rest
+  pub fault : SequenceFault (start + length (sequences_bytes sequences)) rest f
+
+-- The sections, which begin at place 20, are a body and sequences before it and behind it. The body's kind byte stands
+-- at a place, its document is these bytes, and the sequences behind it begin at the next place.
+pub record IsSplit (bytes : List ℕ) (at : ℕ) (document : List ℕ) (next : ℕ) : Type 0 where
+  pub before : List Sequence
+  pub body : Tree
+  pub after : List Sequence
+  pub before_fit : AreSequences before
+  pub spelled : Spells body document
+  pub after_fit : AreSequences after
+  pub parts : drop 20 bytes ≡ sections_bytes before body after
+  pub at_is : at ≡ 20 + length (sequences_bytes before)
+  pub next_is : next ≡ at + 1 + length document
+  pub within : next + length (sequences_bytes after) ≡ length bytes

@@ -1,0 +1,22 @@
+-- Bytes that are known to be documents back to back, or document sequences, one after another.
+use Rattle.std.specs.Prelude.{◌≡◌, ℕ, List, ◌++◌}
+use Rattle.wire_msg.specs.Message.{Sequence, IsSequence, AreSequences, documents_bytes}
+use Rattle.wire_msg.specs.Spelling.{sequence_section, sequences_bytes}
+
+-- a document sequence begins the bytes
+abbrev pub BeginsSequence : List ℕ → Type 0
+BeginsSequence bytes = (q : Sequence) × (rest : List ℕ) × IsSequence q × (bytes ≡ sequence_section q ++ rest)
+
+-- These are the identifier and the documents of a sequence, and what follows it.
+abbrev pub ArePartsOf : List ℕ → List ℕ → List ℕ → Sequence → List Sequence → Type 0
+ArePartsOf identifier documents rest q others = (identifier ≡ q.identifier) × (documents ≡ documents_bytes q.documents) × (rest ≡ sequences_bytes others)
+
+-- These are the sequences of one run of bytes, and then those of another.
+pub record AreRuns (bytes then : List ℕ) (qs : List Sequence) : Type 0 where
+  pub first : List Sequence
+  pub last : List Sequence
+  pub first_fit : AreSequences first
+  pub last_fit : AreSequences last
+  pub first_are : bytes ≡ sequences_bytes first
+  pub last_are : then ≡ sequences_bytes last
+  pub all : qs ≡ first ++ last

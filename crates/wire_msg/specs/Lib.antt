@@ -1,0 +1,14 @@
+pub mod Causes
+pub mod Refusals
+pub mod Message
+pub mod Spelling
+pub mod Header
+pub mod Faults
+pub mod Payload
+pub mod Carries
+pub mod Checks
+pub mod Known
+pub mod Documents
+pub mod Sequences
+pub mod RawMsg
+pub mod Standing

@@ -1,0 +1,30 @@
+-- How bytes stand that come one after another: too few to tell, a message in front, or a fault.
+use Rattle.std.specs.Prelude.{◌≡◌, ℕ, ◌<◌, ◌≤◌, List, ◌++◌, length, take}
+use Rattle.wire_msg.specs.declared.fault.MsgFault.{MsgFault}
+use Rattle.wire_msg.specs.Message.{Message}
+use Rattle.wire_msg.specs.Spelling.{SpellsMsg}
+use Rattle.wire_msg.specs.Header.{number_at, header_of, IsGoodHeader, HeaderFault}
+use Rattle.wire_msg.specs.Faults.{FaultMsg}
+
+-- There are fewer bytes than a header has, or than a good header announces.
+pub data IsOpen : ℕ → List ℕ → Type 0 where
+  in_header : {limit : ℕ} {bytes : List ℕ} → length bytes < 16 → IsOpen limit bytes
+  in_message : {limit : ℕ} {bytes : List ℕ} → 16 ≤ length bytes → IsGoodHeader limit (header_of bytes) → length bytes < number_at bytes 0 → IsOpen limit bytes
+
+-- A message within the limit stands in front, and the rest behind it.
+pub record IsWhole (limit : ℕ) (bytes : List ℕ) (m : Message) (rest : List ℕ) : Type 0 where
+  pub front : List ℕ
+  pub parts : bytes ≡ front ++ rest
+  pub spelled : SpellsMsg m front
+  pub within : length front ≤ limit
+
+-- The header has this fault, or as many bytes as a good header announces have it.
+pub data IsBad : ℕ → List ℕ → MsgFault → Type 0 where
+  bad_header : {limit : ℕ} {bytes : List ℕ} {f : MsgFault} → 16 ≤ length bytes → HeaderFault limit (header_of bytes) f → IsBad limit bytes f
+  bad_message : {limit : ℕ} {bytes : List ℕ} {f : MsgFault} → 16 ≤ length bytes → IsGoodHeader limit (header_of bytes) → number_at bytes 0 ≤ length bytes → FaultMsg (take (number_at bytes 0) bytes) limit f → IsBad limit bytes f
+
+-- the bytes are one of the three
+pub data Stands (limit : ℕ) (bytes : List ℕ) : Type 0 where
+  is_open : IsOpen limit bytes → Stands limit bytes
+  is_whole : (m : Message) (rest : List ℕ) → IsWhole limit bytes m rest → Stands limit bytes
+  is_bad : (f : MsgFault) → IsBad limit bytes f → Stands limit bytes

@@ -1,0 +1,80 @@
+//! The documents of a document sequence, lent out of its bytes.
+
+ghost use Rattle.std.specs.Prelude.{◌≡◌, ◌≢◌, ◌<◌, List, ◌∷◌, length};
+ghost use Rattle.std.specs.Iterator.{at_most};
+ghost use Rattle.bson_elem.specs.Tree.{Tree};
+ghost use Rattle.bson_elem.specs.Spelling.{Spells};
+ghost use Rattle.bson_raw.specs.Spelled.{IsSpelled};
+ghost use Rattle.wire_msg.specs.Message.{AreDocuments, documents_bytes};
+ghost use Rattle.wire_msg.specs.Checks.{HasDocuments};
+
+use bson_elem::number::little_u32;
+use bson_raw::document::RawDocument;
+
+/// The bytes of the first of some documents, and those of the others.
+fn split_document(bytes: &[u8]) -> (&[u8], &[u8])
+    requires some { length bytes.now ≢ 0 }
+    requires known { ∥ HasDocuments bytes.now ∥₁ }
+    ensures first { ∥ IsSpelled result.0.now ∥₁ }
+    ensures others { ∥ HasDocuments result.1.now ∥₁ }
+    ensures shorter { length result.1.now < length bytes.now }
+    ensures parts { (t : Tree) (ts : List Tree) → AreDocuments (t ∷ ts)
+        → bytes.now ≡ documents_bytes (t ∷ ts)
+        → Spells t result.0.now × (result.1.now ≡ documents_bytes ts) }
+{
+    bytes.split_at(little_u32(bytes) as usize)
+}
+
+/// Documents back to back, checked whole.
+#[derive(Clone, Copy, Debug, PartialEq, Eq)]
+pub struct Documents<'a> {
+    bytes: &'a [u8],
+    pub ghost known: { ∥ HasDocuments bytes.now ∥₁ },
+}
+
+impl<'a> Documents<'a> {
+    ghost use Rattle.wire_msg.specs.Documents.{DocumentsAre, DocumentsLeft};
+
+    /// The documents of bytes that are known to be documents back to back.
+    pub(crate) fn of_known(bytes: &'a [u8]) -> Documents<'a>
+        requires { ∥ HasDocuments bytes.now ∥₁ }
+        ensures { (ts : List Tree) → AreDocuments ts → bytes.now ≡ documents_bytes ts
+            → DocumentsAre result ts }
+    {
+        Documents { bytes }
+    }
+
+    /// The documents, in order.
+    pub fn iter(self) -> DocumentsIter<'a>
+        ensures { (ts : List Tree) → DocumentsAre self.entry ts → DocumentsLeft result ts }
+    {
+        DocumentsIter { bytes: self.bytes }
+    }
+}
+
+/// The documents that are left.
+#[derive(Drop)]
+pub struct DocumentsIter<'a> {
+    bytes: &'a [u8],
+    pub ghost left: { ∥ HasDocuments bytes.now ∥₁ },
+}
+
+impl<'a> Iterator for DocumentsIter<'a> {
+    ghost use Rattle.wire_msg.specs.Documents.{documents_bound, DocumentStepsTo};
+
+    type Item = RawDocument<'a>;
+
+    ghost remaining = { λ s. at_most (documents_bound s) };
+
+    ghost next_gives = { DocumentStepsTo };
+
+    fn next(&mut self) -> Option<RawDocument<'a>> {
+        let bytes = self.bytes;
+        if bytes.is_empty() {
+            return None;
+        }
+        let (document, rest) = split_document(bytes);
+        self.bytes = rest;
+        Some(RawDocument::from_spelled(document))
+    }
+}

@@ -1,0 +1,125 @@
+//! Why bytes are no message, and where.
+
+ghost use Rattle.std.specs.Prelude.{◌≡◌};
+ghost use Rattle.wire_msg.specs.Causes.{cause_name, cause_number};
+
+use bson_elem::fault::BsonFault;
+use std::fmt;
+use thiserror::Error;
+
+/// What is wrong with the bytes. Each displays as its name, but `Opcode` with the opcode behind it.
+#[derive(Clone, Copy, Debug, PartialEq, Eq, Error)]
+pub enum MsgCause {
+    /// A messageLength below 16, above the limit or unlike the bytes given; or no header.
+    #[error("Length")]
+    Length,
+    /// An opCode that isn't that of OP_MSG.
+    #[error("Opcode {0}")]
+    Opcode(i32),
+    /// An unknown bit is set among the flag bits 2 to 15.
+    #[error("Flags")]
+    Flags,
+    /// Flag bit 0, checksumPresent, is set.
+    #[error("Checksum")]
+    Checksum,
+    /// The kind byte of a section is neither 0 nor 1.
+    #[error("SectionKind")]
+    SectionKind,
+    /// A document sequence without four bytes of size, or with a size below 5 or past the message.
+    #[error("SectionSize")]
+    SectionSize,
+    /// A document has this fault, whose place is counted from the document's first byte.
+    #[error("Document")]
+    Document(BsonFault),
+    /// No section is a body.
+    #[error("NoBody")]
+    NoBody,
+    /// A second section is a body.
+    #[error("TwoBodies")]
+    TwoBodies,
+    /// A top-level name of the body stands twice.
+    #[error("RepeatedField")]
+    RepeatedField,
+    /// The identifier of a document sequence has no 00 in the section, or isn't UTF-8.
+    #[error("SequenceName")]
+    SequenceName,
+    /// The identifier of a document sequence is a top-level name of the body.
+    #[error("SequenceInBody")]
+    SequenceInBody,
+    /// Fewer than four bytes of flags.
+    #[error("Truncated")]
+    Truncated,
+}
+
+impl MsgCause {
+    /// The number of the cause in a fault line, from 1 to 13.
+    pub fn number(self) -> u8
+        ensures { result ≡ cause_number self }
+    {
+        match self {
+            MsgCause::Length => 1,
+            MsgCause::Opcode(_) => 2,
+            MsgCause::Flags => 3,
+            MsgCause::Checksum => 4,
+            MsgCause::SectionKind => 5,
+            MsgCause::SectionSize => 6,
+            MsgCause::Document(_) => 7,
+            MsgCause::NoBody => 8,
+            MsgCause::TwoBodies => 9,
+            MsgCause::RepeatedField => 10,
+            MsgCause::SequenceName => 11,
+            MsgCause::SequenceInBody => 12,
+            MsgCause::Truncated => 13,
+        }
+    }
+
+    /// The name of the cause in a fault line.
+    pub fn name(self) -> &'static str
+        ensures { result.now ≡ cause_name self }
+    {
+        match self {
+            MsgCause::Length => "Length",
+            MsgCause::Opcode(_) => "Opcode",
+            MsgCause::Flags => "Flags",
+            MsgCause::Checksum => "Checksum",
+            MsgCause::SectionKind => "SectionKind",
+            MsgCause::SectionSize => "SectionSize",
+            MsgCause::Document(_) => "Document",
+            MsgCause::NoBody => "NoBody",
+            MsgCause::TwoBodies => "TwoBodies",
+            MsgCause::RepeatedField => "RepeatedField",
+            MsgCause::SequenceName => "SequenceName",
+            MsgCause::SequenceInBody => "SequenceInBody",
+            MsgCause::Truncated => "Truncated",
+        }
+    }
+}
+
+/// The first fault of some bytes, in the order of the checks. It displays as its fault line.
+#[derive(Clone, Copy, Debug, PartialEq, Eq)]
+pub struct MsgFault {
+    /// 0 for the length, 12 for the opcode and 16 for the flags; the message's length where there is no body; the first
+    /// byte of a document at fault; else the kind byte of the section at fault.
+    pub at: usize,
+    pub cause: MsgCause,
+}
+
+impl fmt::Display for MsgFault {
+    fn fmt<W: fmt::Write>(&self, f: &mut fmt::Formatter<W>) -> fmt::Result {
+        let at = self.at;
+        let cause = self.cause;
+        let number = cause.number();
+        match cause {
+            MsgCause::Document(inner) => {
+                let inner_number = inner.cause.number();
+                let inner_name = inner.cause.name();
+                let inner_at = inner.at;
+                write!(
+                    f,
+                    "fault {number} {cause} at {at}: {inner_number} {inner_name} at {inner_at}"
+                )
+            }
+            _ => write!(f, "fault {number} {cause} at {at}"),
+        }
+    }
+}

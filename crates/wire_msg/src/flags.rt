@@ -1,0 +1,60 @@
+//! The flags of a message (MongoDB Wire Protocol manual: OP_MSG, flagBits).
+
+ghost use Rattle.std.specs.Prelude.{◌≡◌, MatchResult, Some, None};
+ghost use Rattle.wire_msg.specs.Spelling.{FlagsAre};
+ghost use Rattle.wire_msg.specs.Faults.{flags_fault};
+
+use crate::fault::{MsgCause, MsgFault};
+
+/// Of the bits 0 to 15 an unknown one is refused; the other bits are ignored where they aren't
+/// known.
+const REQUIRED_BITS: u32 = 0xffff;
+
+/// A CRC-32C stands behind the sections.
+const CHECKSUM_PRESENT: u32 = 1;
+
+const MORE_TO_COME: u32 = 2;
+
+const EXHAUST_ALLOWED: u32 = 0x1_0000;
+
+/// The flags that mean something to an endpoint.
+#[derive(Clone, Copy, Debug, PartialEq, Eq)]
+pub struct MsgFlags {
+    /// moreToCome, bit 1: on a request, no reply is wanted; on a reply, another one follows.
+    pub more: bool,
+    /// exhaustAllowed, bit 16: more than one reply may be sent to this request.
+    pub allows: bool,
+}
+
+impl MsgFlags {
+    /// The flags that the four bytes of flags are, the lowest first.
+    ///
+    /// # Errors
+    ///
+    /// `Flags` at 16 where an unknown bit is set among the bits 2 to 15, and else `Checksum` at 16
+    /// where bit 0 is set.
+    pub(crate) fn read(word: u32) -> Result<MsgFlags, MsgFault>
+        ensures read { MatchResult result
+            (λ flags. FlagsAre word flags.more flags.allows)
+            (λ f. flags_fault word ≡ Some f) }
+        ensures none { MatchResult result (λ _. flags_fault word ≡ None) (λ _. Unit {0}) }
+    {
+        let required = word & REQUIRED_BITS;
+        if required > (CHECKSUM_PRESENT | MORE_TO_COME) {
+            return Err(MsgFault {
+                at: 16,
+                cause: MsgCause::Flags,
+            });
+        }
+        if required & CHECKSUM_PRESENT != 0 {
+            return Err(MsgFault {
+                at: 16,
+                cause: MsgCause::Checksum,
+            });
+        }
+        Ok(MsgFlags {
+            more: required & MORE_TO_COME != 0,
+            allows: word & EXHAUST_ALLOWED != 0,
+        })
+    }
+}

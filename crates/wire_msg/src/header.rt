@@ -1,0 +1,69 @@
+//! The header of a message (MongoDB Wire Protocol manual: Standard Message Header).
+
+ghost use Rattle.std.specs.Prelude.{◌≡◌, ◌≤◌, MatchResult};
+ghost use Rattle.wire_msg.specs.Header.{HeaderFault, header_of, IsGoodHeader};
+
+use crate::fault::{MsgCause, MsgFault};
+use byteorder::{ByteOrder, LittleEndian};
+
+/// How many bytes a header has.
+pub const HEADER_LEN: u32 = 16;
+
+/// The opCode of OP_MSG.
+pub const OP_MSG: i32 = 2013;
+
+/// The four numbers of a header.
+#[derive(Clone, Copy, Debug, PartialEq, Eq)]
+pub struct MsgHeader {
+    /// messageLength, the bytes of the whole message. It is an int32, and read as an unsigned number: one that is
+    /// negative is greater than every limit.
+    pub length: u32,
+    /// requestID.
+    pub id: i32,
+    /// responseTo.
+    pub response_to: i32,
+    /// opCode.
+    pub opcode: i32,
+}
+
+impl MsgHeader {
+    /// The header that 16 bytes are.
+    pub fn read(bytes: [u8; 16]) -> MsgHeader
+        ensures { result ≡ header_of bytes }
+    {
+        MsgHeader {
+            length: LittleEndian::read_u32(&bytes[0..4]),
+            id: LittleEndian::read_i32(&bytes[4..8]),
+            response_to: LittleEndian::read_i32(&bytes[8..12]),
+            opcode: LittleEndian::read_i32(&bytes[12..16]),
+        }
+    }
+
+    /// Whether a message of at most `limit` bytes can have this header.
+    ///
+    /// # Errors
+    ///
+    /// `Length` at 0 where the length is below 16 or above the limit, and else `Opcode` at 12 where the opcode isn't
+    /// that of OP_MSG.
+    pub fn check(&self, limit: u32) -> Result<(), MsgFault>
+        requires { limit ≤ 48_000_000 }
+        ensures { MatchResult result
+            (λ _. IsGoodHeader limit self.now)
+            (λ f. HeaderFault limit self.now f) }
+    {
+        if self.length < HEADER_LEN || self.length > limit {
+            return Err(MsgFault {
+                at: 0,
+                cause: MsgCause::Length,
+            });
+        }
+        let opcode = self.opcode;
+        if opcode != OP_MSG {
+            return Err(MsgFault {
+                at: 12,
+                cause: MsgCause::Opcode(opcode),
+            });
+        }
+        Ok(())
+    }
+}

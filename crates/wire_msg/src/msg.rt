@@ -1,0 +1,184 @@
+//! A message that is lent out of its bytes (MongoDB Wire Protocol manual: OP_MSG).
+
+ghost use Rattle.std.specs.Prelude.{◌≡◌, ◌+◌, ◌≤◌, length, MatchResult, IfOk, IfErr, IsOk, IsErrOf};
+ghost use Rattle.bson_elem.specs.Spelling.{document, elements};
+ghost use Rattle.wire_msg.specs.declared.fault.MsgFault.{MsgFault};
+ghost use Rattle.wire_msg.specs.Header.{header_of};
+ghost use Rattle.wire_msg.specs.Message.{Message};
+ghost use Rattle.wire_msg.specs.Spelling.{IsMessage, IsSpelledMsg, sequences_bytes, SpellsMsg};
+ghost use Rattle.wire_msg.specs.Faults.{FaultMsg, IsFramedMsg};
+
+use crate::fault::{MsgCause, MsgFault};
+use crate::flags::MsgFlags;
+use crate::header::MsgHeader;
+use crate::names::check_names;
+use crate::payload::Payload;
+use crate::sections::{SECTIONS, split_sections};
+use crate::sequence::{SEQUENCE, fault_at};
+use crate::sequence_iter::known_size;
+use bson_elem::number::little_u32;
+use bson_raw::document::RawDocument;
+
+/// Checks the header, and that the bytes are as many as it says.
+fn check_framed(bytes: &[u8], limit: u32) -> Result<(), MsgFault>
+    requires { limit ≤ 48_000_000 }
+    ensures { MatchResult result
+        (λ _. IsFramedMsg limit bytes.now)
+        (λ f. FaultMsg bytes.now limit f) }
+{
+    let Some((header, _)) = bytes.split_first_chunk::<16>() else {
+        return Err(fault_at(0, MsgCause::Length));
+    };
+    let header = MsgHeader::read(*header);
+    header.check(limit)?;
+    if header.length as usize != bytes.len() {
+        return Err(fault_at(0, MsgCause::Length));
+    }
+    Ok(())
+}
+
+/// Checks a whole message.
+fn check_message(bytes: &[u8], limit: u32) -> Result<(), MsgFault>
+    requires { limit ≤ 48_000_000 }
+    ensures { MatchResult result
+        (λ _. IsMessage limit bytes.now)
+        (λ f. FaultMsg bytes.now limit f) }
+{
+    check_framed(bytes, limit)?;
+    if bytes.len() < SECTIONS {
+        return Err(fault_at(16, MsgCause::Truncated));
+    }
+    MsgFlags::read(little_u32(&bytes[16..20]))?;
+    let (at, body, next) = split_sections(bytes)?;
+    check_names(&bytes[SECTIONS..at], body, &bytes[next..])
+}
+
+/// The place of the body's kind byte, in a message.
+fn body_place(bytes: &[u8]) -> usize
+    requires { ∥ IsSpelledMsg bytes.now ∥₁ }
+    ensures inside { (20 ≤ result) × (result + 6 ≤ length bytes.now) }
+    ensures place { (m : Message) (s : SpellsMsg m bytes.now)
+        → result ≡ 20 + length (sequences_bytes s.before) }
+{
+    let mut at = SECTIONS;
+    while bytes[at] == SEQUENCE {
+        at += 1 + known_size(&bytes[at..]);
+    }
+    at
+}
+
+/// The place behind the body of a message, whose kind byte stands at `at`.
+fn body_end(bytes: &[u8], at: usize) -> usize
+    requires known { ∥ IsSpelledMsg bytes.now ∥₁ }
+    requires inside { at + 6 ≤ length bytes.now }
+    requires place { (m : Message) (s : SpellsMsg m bytes.now)
+        → at ≡ 20 + length (sequences_bytes s.before) }
+    ensures inside { (at + 1 ≤ result) × (result ≤ length bytes.now) }
+    ensures end { (m : Message) (s : SpellsMsg m bytes.now)
+        → result ≡ at + 1 + length (document (elements m.content.body)) }
+{
+    at + 1 + little_u32(&bytes[at + 1..]) as usize
+}
+
+/// A whole message in its bytes, checked when it was made.
+#[derive(Clone, Copy, Debug, PartialEq, Eq)]
+pub struct RawMsg<'a> {
+    bytes: &'a [u8],
+    pub ghost spelled: { ∥ IsSpelledMsg bytes.now ∥₁ },
+}
+
+impl<'a> RawMsg<'a> {
+    ghost use Rattle.wire_msg.specs.Carries.{Carries};
+    ghost use Rattle.wire_msg.specs.RawMsg.{msg_bytes};
+
+    /// The message of at most `limit` bytes that all of the bytes are.
+    ///
+    /// # Errors
+    ///
+    /// The first fault of the bytes and its place, in the order of the checks.
+    pub fn parse(bytes: &'a [u8], limit: u32) -> Result<RawMsg<'a>, MsgFault>
+        requires { limit ≤ 48_000_000 }
+        ensures found { IfOk result (λ m.
+            (msg_bytes m ≡ bytes.now) × IsMessage limit bytes.now) }
+        ensures only { IsMessage limit bytes.now → IsOk result }
+        ensures fault { IfErr result (λ f. FaultMsg bytes.now limit f) }
+        ensures exact { (f : MsgFault) → FaultMsg bytes.now limit f → IsErrOf result f }
+    {
+        match check_message(bytes, limit) {
+            Ok(()) => Ok(RawMsg { bytes }),
+            Err(fault) => Err(fault),
+        }
+    }
+
+    /// The message of bytes that are known to spell one.
+    pub fn from_spelled(bytes: &'a [u8]) -> RawMsg<'a>
+        requires { ∥ IsSpelledMsg bytes.now ∥₁ }
+        ensures { msg_bytes result ≡ bytes.now }
+    {
+        RawMsg { bytes }
+    }
+
+    /// The bytes of the message.
+    pub fn as_bytes(self) -> &'a [u8]
+        ensures { result.now ≡ msg_bytes self.entry }
+    {
+        self.bytes
+    }
+
+    /// The header of the message.
+    fn header(self) -> MsgHeader
+        ensures { result ≡ header_of (msg_bytes self.entry) }
+    {
+        let Some((header, _)) = self.bytes.split_first_chunk::<16>() else {
+            unreachable!();
+        };
+        MsgHeader::read(*header)
+    }
+
+    /// requestID.
+    pub fn id(self) -> i32
+        ensures { (m : Message) → SpellsMsg m (msg_bytes self.entry) → result ≡ m.id }
+    {
+        self.header().id
+    }
+
+    /// responseTo.
+    pub fn response_to(self) -> i32
+        ensures { (m : Message) → SpellsMsg m (msg_bytes self.entry) → result ≡ m.response_to }
+    {
+        self.header().response_to
+    }
+
+    /// The flags of the message.
+    fn flags(self) -> MsgFlags
+        ensures { (m : Message) → SpellsMsg m (msg_bytes self.entry)
+            → (result.more ≡ m.more) × (result.allows ≡ m.allows) }
+    {
+        MsgFlags::read(little_u32(&self.bytes[16..20])).unwrap()
+    }
+
+    /// moreToCome: on a request, no reply is wanted; on a reply, another one follows.
+    pub fn more(self) -> bool
+        ensures { (m : Message) → SpellsMsg m (msg_bytes self.entry) → result ≡ m.more }
+    {
+        self.flags().more
+    }
+
+    /// exhaustAllowed: more than one reply may be sent to this request.
+    pub fn allows_more(self) -> bool
+        ensures { (m : Message) → SpellsMsg m (msg_bytes self.entry) → result ≡ m.allows }
+    {
+        self.flags().allows
+    }
+
+    /// The body and the document sequences.
+    pub fn payload(self) -> Payload<'a>
+        ensures { (m : Message) → SpellsMsg m (msg_bytes self.entry) → Carries result m.content }
+    {
+        let bytes = self.bytes;
+        let at = body_place(bytes);
+        let next = body_end(bytes, at);
+        let body = RawDocument::from_spelled(&bytes[at + 1..next]);
+        Payload::of_parts(&bytes[SECTIONS..at], body, &bytes[next..])
+    }
+}

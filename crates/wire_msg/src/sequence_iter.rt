@@ -1,0 +1,98 @@
+//! Document sequences, lent out of their bytes.
+
+ghost use Rattle.std.specs.Prelude.{◌≡◌, ◌≢◌, ◌+◌, ◌<◌, ◌≤◌, ◌++◌, ◌∷◌, List, ℕ, length};
+ghost use Rattle.std.specs.Iterator.{at_most};
+ghost use Rattle.wire_msg.specs.Message.{AreSequences, IsSequence, Sequence, sequence_size};
+ghost use Rattle.wire_msg.specs.Spelling.{sequence_section, sequences_bytes};
+ghost use Rattle.wire_msg.specs.Checks.{HasDocuments, HasSequences};
+ghost use Rattle.wire_msg.specs.Known.{ArePartsOf, AreRuns, BeginsSequence};
+
+use crate::documents::Documents;
+use bson_elem::number::little_u32;
+use bson_elem::text::read_cstring;
+
+/// The size of the sequence that is known to stand in front.
+pub(crate) fn known_size(bytes: &[u8]) -> usize
+    requires { ∥ BeginsSequence bytes.now ∥₁ }
+    ensures within { (5 ≤ result) × (1 + result ≤ length bytes.now) }
+    ensures size { (q : Sequence) (rest : List ℕ) → IsSequence q
+        → bytes.now ≡ sequence_section q ++ rest → result ≡ sequence_size q }
+{
+    little_u32(&bytes[1..]) as usize
+}
+
+/// The identifier and the documents of the first of some sequences, and the bytes of the others.
+pub(crate) fn split_sequence(bytes: &[u8]) -> (&str, &[u8], &[u8])
+    requires some { length bytes.now ≢ 0 }
+    requires known { ∥ HasSequences bytes.now ∥₁ }
+    ensures documents { ∥ HasDocuments result.1.now ∥₁ }
+    ensures others { ∥ HasSequences result.2.now ∥₁ }
+    ensures shorter { length result.2.now < length bytes.now }
+    ensures parts { (q : Sequence) (qs : List Sequence) → AreSequences (q ∷ qs)
+        → bytes.now ≡ sequences_bytes (q ∷ qs)
+        → ArePartsOf result.0.now result.1.now result.2.now q qs }
+{
+    let size = known_size(bytes);
+    let (identifier, documents) = read_cstring(&bytes[5..1 + size]).unwrap();
+    (identifier, documents, &bytes[1 + size..])
+}
+
+/// What is left of two runs of sequences, the second in place of the first where that is used up.
+fn next_run<'a>(bytes: &'a [u8], then: &'a [u8]) -> (&'a [u8], &'a [u8])
+    requires first { ∥ HasSequences bytes.now ∥₁ }
+    requires last { ∥ HasSequences then.now ∥₁ }
+    ensures first { ∥ HasSequences result.0.now ∥₁ }
+    ensures last { ∥ HasSequences result.1.now ∥₁ }
+    ensures runs { (qs : List Sequence) → AreRuns bytes.now then.now qs
+        → AreRuns result.0.now result.1.now qs }
+    ensures same { length result.0.now + length result.1.now ≡ length bytes.now + length then.now }
+    ensures used { length result.0.now ≡ 0 → length result.1.now ≡ 0 }
+{
+    if bytes.is_empty() {
+        (then, &[])
+    } else {
+        (bytes, then)
+    }
+}
+
+/// The document sequences that are left.
+#[derive(Drop)]
+pub struct Sequences<'a> {
+    bytes: &'a [u8],
+    then: &'a [u8],
+    pub ghost known: { ∥ HasSequences bytes.now ∥₁ },
+    pub ghost then_known: { ∥ HasSequences then.now ∥₁ },
+}
+
+impl<'a> Sequences<'a> {
+    /// All sequences of bytes that are known to be sequences, and then those of others.
+    pub(crate) fn of_known(bytes: &'a [u8], then: &'a [u8]) -> Sequences<'a>
+        requires first { ∥ HasSequences bytes.now ∥₁ }
+        requires last { ∥ HasSequences then.now ∥₁ }
+        ensures first { result.bytes.now ≡ bytes.now }
+        ensures last { result.then.now ≡ then.now }
+    {
+        Sequences { bytes, then }
+    }
+}
+
+impl<'a> Iterator for Sequences<'a> {
+    ghost use Rattle.wire_msg.specs.Sequences.{sequences_bound, SequenceStepsTo};
+
+    type Item = (&'a str, Documents<'a>);
+
+    ghost remaining = { λ s. at_most (sequences_bound s) };
+
+    ghost next_gives = { SequenceStepsTo };
+
+    fn next(&mut self) -> Option<(&'a str, Documents<'a>)> {
+        let (bytes, then) = next_run(self.bytes, self.then);
+        if bytes.is_empty() {
+            return None;
+        }
+        let (identifier, documents, rest) = split_sequence(bytes);
+        self.bytes = rest;
+        self.then = then;
+        Some((identifier, Documents::of_known(documents)))
+    }
+}
