@@ -1,8 +1,10 @@
-/* Refuses the allocation whose number, from 1, stands in the environment as REFUSE. Loaded by LD_PRELOAD. */
+/* Refuses the allocation whose number, from 1, stands in the environment as REFUSE. Loaded by LD_PRELOAD. The file
+   that is named there as UNREFUSED, if one is, is removed then. */
 #define _GNU_SOURCE
 #include <dlfcn.h>
 #include <errno.h>
 #include <stdlib.h>
+#include <unistd.h>
 
 static long left = -1;
 
@@ -12,7 +14,12 @@ static int is_refused(void)
         const char *number = getenv("REFUSE");
         left = number ? atol(number) : 0;
     }
-    return left > 0 && --left == 0;
+    if (left == 0 || --left > 0)
+        return 0;
+    const char *file = getenv("UNREFUSED");
+    if (file)
+        unlink(file);
+    return 1;
 }
 
 void *malloc(size_t size)

@@ -19,7 +19,7 @@ fn nibble(digit: u8) -> Option<u8> {
 }
 
 /// The bytes of a text of hexadecimal digits. Spaces are passed over.
-pub(crate) fn bytes_of(alloc: Global, hex: &str) -> Result<Vec<u8>, AllocError> {
+fn bytes_of(alloc: Global, hex: &str) -> Result<Vec<u8>, AllocError> {
     let mut bytes = Vec::new(alloc);
     let mut high = None;
     for digit in hex.bytes().filter_map(nibble) {
@@ -105,6 +105,19 @@ fn repeated_names_are_refused(rt: HostRuntime) -> Result<(), Fail> {
         ("13000000 03 6200 0b000000 0a 6100 0a 6100 00 00", Some(2)),
         ("13000000 04 6200 0b000000 0a 3000 0a 3000 00 00", None),
         ("0e000000 0a 6100 0a 6200 0a 6100 00", Some(1)),
+        (
+            "1c000000 0f 6300 14000000 01000000 00 0b000000 0a 6100 0a 6100 00 00",
+            Some(2),
+        ),
+        // The first in file order is told, and a name stands before its value.
+        (
+            "16000000 03 6100 0b000000 0a 6200 0a 6200 00 0a 6100 00",
+            Some(2),
+        ),
+        (
+            "16000000 0a 6100 03 6100 0b000000 0a 6200 0a 6200 00 00",
+            Some(1),
+        ),
     ];
     for (hex, depth) in table {
         let wanted = depth.map(|depth| DocRefusal::RepeatedName { depth });
@@ -114,7 +127,7 @@ fn repeated_names_are_refused(rt: HostRuntime) -> Result<(), Fail> {
 }
 
 /// A document of one pair.
-pub(crate) fn one_pair(alloc: Global, name: &str, value: Bson) -> Result<Document, DocRefusal> {
+fn one_pair(alloc: Global, name: &str, value: Bson) -> Result<Document, DocRefusal> {
     let mut document = Document::new(alloc);
     document.insert(String::from_str(alloc, name)?, value)?;
     Ok(document)
@@ -137,32 +150,72 @@ fn names_are_looked_up(rt: HostRuntime) -> Result<(), Fail> {
     Ok(())
 }
 
-/// Arrays of so many depths, one in another, and null in the innermost.
-pub(crate) fn nested(alloc: Global, depths: u32) -> Result<Bson, DocRefusal> {
+/// So many documents, one in another, and null in the innermost.
+fn nested(alloc: Global, count: u32) -> Result<Bson, DocRefusal> {
     let mut value = Bson::Null;
-    for _ in 0..depths {
-        let mut values = Vec::new(alloc);
-        values.push(value)?;
-        value = Bson::Array(Array::from_vec(values));
+    for _ in 0..count {
+        value = Bson::Document(one_pair(alloc, "a", value)?);
     }
     Ok(value)
+}
+
+fn regex(alloc: Global, pattern: &str, options: &str) -> Result<Bson, AllocError> {
+    Ok(Bson::Regex {
+        pattern: String::from_str(alloc, pattern)?,
+        options: String::from_str(alloc, options)?,
+    })
+}
+
+/// Why a document of this pair can't be written.
+fn refusal_of_pair(
+    alloc: Global,
+    name: &str,
+    value: Bson,
+) -> Result<Option<DocRefusal>, DocRefusal> {
+    Ok(one_pair(alloc, name, value)?.to_raw().err())
 }
 
 #[test]
 fn what_has_no_spelling_is_refused(rt: HostRuntime) -> Result<(), Fail> {
     let alloc = rt.alloc();
-    let name = one_pair(alloc, "a\0", Bson::Null)?;
-    assert_eq!(rt; name.to_raw().err(), Some(DocRefusal::ZeroInName));
-    let options = Bson::Regex {
-        pattern: String::from_str(alloc, "a")?,
-        options: String::from_str(alloc, "\0")?,
-    };
-    let regex = one_pair(alloc, "a", options)?;
-    assert_eq!(rt; regex.to_raw().err(), Some(DocRefusal::ZeroInName));
-    let deepest = one_pair(alloc, "a", nested(alloc, 199)?)?;
-    assert!(rt; deepest.to_raw().is_ok());
-    let deeper = one_pair(alloc, "a", nested(alloc, 200)?)?;
-    assert_eq!(rt; deeper.to_raw().err(), Some(DocRefusal::Depth));
+    let zero = Some(DocRefusal::ZeroInName);
+    assert_eq!(rt; refusal_of_pair(alloc, "a\0", Bson::Null)?, zero);
+    assert_eq!(rt;
+        refusal_of_pair(alloc, "a", regex(alloc, "\0", "i")?)?,
+        zero
+    );
+    assert_eq!(rt;
+        refusal_of_pair(alloc, "a", regex(alloc, "a", "\0")?)?,
+        zero
+    );
+    assert_eq!(rt; refusal_of_pair(alloc, "a", nested(alloc, 199)?)?, None);
+    let depth = Some(DocRefusal::Depth);
+    assert_eq!(rt; refusal_of_pair(alloc, "a", nested(alloc, 200)?)?, depth);
+    // A name is tested before its value.
+    assert_eq!(rt; refusal_of_pair(alloc, "a\0", nested(alloc, 200)?)?, zero);
+    Ok(())
+}
+
+/// Why a document of these two pairs can't be written.
+fn refusal_of_two(
+    alloc: Global,
+    first: (&str, Bson),
+    second: (&str, Bson),
+) -> Result<Option<DocRefusal>, DocRefusal> {
+    let (name, value) = first;
+    let mut document = one_pair(alloc, name, value)?;
+    let (name, value) = second;
+    document.insert(String::from_str(alloc, name)?, value)?;
+    Ok(document.to_raw().err())
+}
+
+#[test]
+fn the_first_of_two_refusals_is_told(rt: HostRuntime) -> Result<(), Fail> {
+    let alloc = rt.alloc();
+    let refusal = refusal_of_two(alloc, ("a", nested(alloc, 200)?), ("b\0", Bson::Null))?;
+    assert_eq!(rt; refusal, Some(DocRefusal::Depth));
+    let refusal = refusal_of_two(alloc, ("b\0", Bson::Null), ("a", nested(alloc, 200)?))?;
+    assert_eq!(rt; refusal, Some(DocRefusal::ZeroInName));
     Ok(())
 }
 

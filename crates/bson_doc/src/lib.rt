@@ -31,6 +31,8 @@ pub mod laws;
 mod name;
 pub mod refusal;
 #[cfg(test)]
+mod refusal_tests;
+#[cfg(test)]
 mod tests;
 pub mod text;
 mod to_raw;
