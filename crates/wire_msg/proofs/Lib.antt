@@ -13,3 +13,5 @@ pub mod SectionAnswers
 pub mod MsgAnswers
 pub mod PlaceLaws
 pub mod StandingLaws
+pub mod WriteLaws
+pub mod BufLaws

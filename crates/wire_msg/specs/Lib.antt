@@ -12,3 +12,5 @@ pub mod Documents
 pub mod Sequences
 pub mod RawMsg
 pub mod Standing
+pub mod Writing
+pub mod Buf

@@ -98,8 +98,9 @@ impl MsgCause {
 /// The first fault of some bytes, in the order of the checks. It displays as its fault line.
 #[derive(Clone, Copy, Debug, PartialEq, Eq)]
 pub struct MsgFault {
-    /// 0 for the length, 12 for the opcode and 16 for the flags; the message's length where there is no body; the first
-    /// byte of a document at fault; else the kind byte of the section at fault.
+    /// 0 for the length, 12 for the opcode and 16 for the flags; the message's length where there
+    /// is no body; the first byte of a document at fault; else the kind byte of the section at
+    /// fault.
     pub at: usize,
     pub cause: MsgCause,
 }
@@ -123,3 +124,5 @@ impl fmt::Display for MsgFault {
         }
     }
 }
+
+impl std::error::Error for MsgFault {}

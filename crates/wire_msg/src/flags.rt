@@ -1,7 +1,7 @@
 //! The flags of a message (MongoDB Wire Protocol manual: OP_MSG, flagBits).
 
 ghost use Rattle.std.specs.Prelude.{◌≡◌, MatchResult, Some, None};
-ghost use Rattle.wire_msg.specs.Spelling.{FlagsAre};
+ghost use Rattle.wire_msg.specs.Spelling.{FlagsAre, flag_word};
 ghost use Rattle.wire_msg.specs.Faults.{flags_fault};
 
 use crate::fault::{MsgCause, MsgFault};
@@ -56,5 +56,12 @@ impl MsgFlags {
             more: required & MORE_TO_COME != 0,
             allows: word & EXHAUST_ALLOWED != 0,
         })
+    }
+
+    /// The four bytes of flags, the lowest first, with no other bit set.
+    pub(crate) fn word(self) -> u32
+        ensures { result ≡ flag_word self.more self.allows }
+    {
+        u32::from(self.more) * MORE_TO_COME + u32::from(self.allows) * EXHAUST_ALLOWED
     }
 }

@@ -15,8 +15,8 @@ pub const OP_MSG: i32 = 2013;
 /// The four numbers of a header.
 #[derive(Clone, Copy, Debug, PartialEq, Eq)]
 pub struct MsgHeader {
-    /// messageLength, the bytes of the whole message. It is an int32, and read as an unsigned number: one that is
-    /// negative is greater than every limit.
+    /// messageLength, the bytes of the whole message. It is an int32, and read as an unsigned
+    /// number: one that is negative is greater than every limit.
     pub length: u32,
     /// requestID.
     pub id: i32,
@@ -43,8 +43,8 @@ impl MsgHeader {
     ///
     /// # Errors
     ///
-    /// `Length` at 0 where the length is below 16 or above the limit, and else `Opcode` at 12 where the opcode isn't
-    /// that of OP_MSG.
+    /// `Length` at 0 where the length is below 16 or above the limit, and else `Opcode` at 12 where
+    /// the opcode isn't that of OP_MSG.
     pub fn check(&self, limit: u32) -> Result<(), MsgFault>
         requires { limit ≤ 48_000_000 }
         ensures { MatchResult result

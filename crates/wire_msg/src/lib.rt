@@ -1,12 +1,14 @@
-//! Messages of the MongoDB Wire Protocol's OP_MSG: read and checked.
+//! Messages of the MongoDB Wire Protocol's OP_MSG: read, checked and written.
 //!
-//! A message is a header of 16 bytes (`MsgHeader`), four bytes of flags, and sections: one body, and any number of
-//! document sequences. `RawMsg::parse` runs through every check, and tells the first fault and its place where there
-//! is one; from then on the type carries the fact that its bytes are a message, so a walk over it has no errors. Its
-//! `Payload` is lent out of the same bytes. Nothing here takes memory.
+//! A message is a header of 16 bytes (`MsgHeader`), four bytes of flags, and sections: one body,
+//! and any number of document sequences. `RawMsg::parse` runs through every check, and tells the
+//! first fault and its place where there is one; from then on the type carries the fact that its
+//! bytes are a message, so a walk over it has no errors. Its `Payload` is lent out of the same
+//! bytes. Nothing of this takes memory. `PayloadBuf` is a payload in bytes of its own, and
+//! `write_msg` adds the canonical spelling of a message to bytes.
 //!
-//! Checksums aren't verified: a message with one is refused by a cause of its own. Other opcodes and compression are
-//! left out.
+//! Checksums aren't verified: a message with one is refused by a cause of its own. Other opcodes
+//! and compression are left out.
 #![tactic(auto)]
 
 pub mod documents;
@@ -17,9 +19,13 @@ pub mod laws;
 pub mod msg;
 mod names;
 pub mod payload;
+pub mod payload_buf;
 pub mod refusal;
 mod sections;
 mod sequence;
 pub mod sequence_iter;
 #[cfg(test)]
 mod tests;
+pub mod write;
+#[cfg(test)]
+mod write_tests;

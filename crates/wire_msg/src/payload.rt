@@ -1,18 +1,21 @@
 //! What a message carries, lent out of its bytes.
 
-ghost use Rattle.std.specs.Prelude.{◌≡◌};
+ghost use Rattle.std.specs.Prelude.{◌≡◌, ◌++◌, [], IfOk, OnOk, OnErr};
 ghost use Rattle.bson_elem.specs.Spelling.{Spells};
 ghost use Rattle.bson_raw.specs.RawDocument.{document_bytes};
 ghost use Rattle.wire_msg.specs.Message.{Content};
-ghost use Rattle.wire_msg.specs.Spelling.{message_len};
+ghost use Rattle.wire_msg.specs.Spelling.{message_len, sections_bytes};
 ghost use Rattle.wire_msg.specs.Payload.{AreParts, IsPayload};
+ghost use Rattle.wire_msg.specs.Writing.{Keeps};
 
+use crate::payload_buf::PayloadBuf;
 use crate::sections::SECTIONS;
 use crate::sequence_iter::Sequences;
 use bson_raw::document::RawDocument;
+use std::alloc::{AllocError, Global};
 
-/// The body and the document sequences of a message. The top-level names of the body are unique, and no identifier is
-/// one of them.
+/// The body and the document sequences of a message. The top-level names of the body are unique,
+/// and no identifier is one of them.
 #[derive(Clone, Copy, Debug, PartialEq, Eq)]
 pub struct Payload<'a> {
     /// The sections before the body.
@@ -24,6 +27,7 @@ pub struct Payload<'a> {
 }
 
 impl<'a> Payload<'a> {
+    ghost use Rattle.wire_msg.specs.Buf.{BufCarries};
     ghost use Rattle.wire_msg.specs.Carries.{Carries};
     ghost use Rattle.wire_msg.specs.Sequences.{SequencesLeft};
 
@@ -60,5 +64,32 @@ impl<'a> Payload<'a> {
     {
         let sections = self.before.len() + 1 + self.body.as_bytes().len() + self.after.len();
         (SECTIONS + sections) as u64
+    }
+
+    /// Adds the sections of a message, the body first. On a refusal some of them may stand there.
+    pub(crate) fn write_sections(self, out: &mut Vec<u8>) -> Result<(), AllocError>
+        ensures added { (c : Content) → Carries self.entry c
+            → OnOk result (out.new.items
+            ≡ out.old.items ++ sections_bytes [] c.body c.sequences) }
+        ensures kept { OnErr result (Keeps out.old.items out.new.items) }
+    {
+        out.push(0)?;
+        out.extend_from_slice(self.body.as_bytes())?;
+        out.extend_from_slice(self.before)?;
+        out.extend_from_slice(self.after)
+    }
+
+    /// The payload in bytes of its own.
+    ///
+    /// # Errors
+    ///
+    /// Want of memory.
+    pub fn to_buf(self, alloc: Global) -> Result<PayloadBuf, AllocError>
+        ensures { (c : Content) → Carries self.entry c → IfOk result (λ b. BufCarries b c) }
+    {
+        let body = Vec::from_slice(alloc, self.body.as_bytes())?;
+        let mut sequences = Vec::from_slice(alloc, self.before)?;
+        sequences.extend_from_slice(self.after)?;
+        Ok(PayloadBuf::of_parts(body, sequences))
     }
 }

@@ -10,14 +10,14 @@ use std::alloc::{AllocError, Global};
 use std::test::Fail;
 
 /// The greatest limit of a connection.
-const LIMIT: u32 = 48_000_000;
+pub(crate) const LIMIT: u32 = 48_000_000;
 
 /// Request 1, `{"ping": 1, "$db": "admin"}`, of 51 bytes.
-const PING: &str = "33000000 01000000 00000000 dd070000 00000000 \
+pub(crate) const PING: &str = "33000000 01000000 00000000 dd070000 00000000 \
     00 1e000000 1070696e670001000000 02246462000600000061646d696e00 00";
 
 /// Request 2, an insert of 69 bytes, its documents before its body.
-const INSERT: &str = "45000000 02000000 00000000 dd070000 00000000 \
+pub(crate) const INSERT: &str = "45000000 02000000 00000000 dd070000 00000000 \
     01 1c000000 646f63756d656e747300 0e000000 105f69640001000000 00 \
     00 13000000 02696e73657274000200000063 00 00";
 
@@ -30,7 +30,7 @@ fn nibble(digit: u8) -> Option<u8> {
 }
 
 /// The bytes of a text of hexadecimal digits. Spaces are passed over.
-fn bytes_of(alloc: Global, hex: &str) -> Result<Vec<u8>, AllocError> {
+pub(crate) fn bytes_of(alloc: Global, hex: &str) -> Result<Vec<u8>, AllocError> {
     let mut bytes = Vec::new(alloc);
     let mut high = None;
     for digit in hex.bytes().filter_map(nibble) {

@@ -1,0 +1,114 @@
+//! Messages written, each in its canonical spelling (MongoDB Wire Protocol manual: OP_MSG): the body
+//! before the document sequences, and no flag bit set that means nothing.
+
+ghost use Rattle.std.specs.Prelude.{◌≡◌, ◌≤◌, ◌++◌, OnOk, OnErr, IfErr};
+ghost use Rattle.bson_elem.specs.Spelling.{little};
+ghost use Rattle.wire_msg.specs.Carries.{Carries};
+ghost use Rattle.wire_msg.specs.Message.{Content, Message};
+ghost use Rattle.wire_msg.specs.Spelling.{canonical, flag_word, header_bytes, message_len, signed};
+ghost use Rattle.wire_msg.specs.Writing.{IsWriteRefusal, Keeps};
+
+use crate::flags::MsgFlags;
+use crate::header::OP_MSG;
+use crate::payload::Payload;
+use crate::refusal::MsgRefusal;
+use byteorder::{ByteOrder, LittleEndian};
+use std::alloc::AllocError;
+
+fn write_u32(n: u32, out: &mut Vec<u8>) -> Result<(), AllocError>
+    ensures added { OnOk result (out.new.items ≡ out.old.items ++ little n) }
+    ensures kept { OnErr result (Keeps out.old.items out.new.items) }
+{
+    let mut bytes = [0; 4];
+    LittleEndian::write_u32(&mut bytes, n);
+    out.extend_from_slice(&bytes)
+}
+
+fn write_i32(n: i32, out: &mut Vec<u8>) -> Result<(), AllocError>
+    ensures added { OnOk result (out.new.items ≡ out.old.items ++ signed n) }
+    ensures kept { OnErr result (Keeps out.old.items out.new.items) }
+{
+    let mut bytes = [0; 4];
+    LittleEndian::write_i32(&mut bytes, n);
+    out.extend_from_slice(&bytes)
+}
+
+/// Adds the header of a message of `len` bytes.
+fn write_header(len: u32, id: i32, response_to: i32, out: &mut Vec<u8>) -> Result<(), AllocError>
+    ensures added { OnOk result (out.new.items
+        ≡ out.old.items ++ header_bytes len id response_to) }
+    ensures kept { OnErr result (Keeps out.old.items out.new.items) }
+{
+    write_u32(len, out)?;
+    write_i32(id, out)?;
+    write_i32(response_to, out)?;
+    write_i32(OP_MSG, out)
+}
+
+/// Adds a message of `len` bytes. On a refusal some of them may stand there.
+fn write_parts(
+    out: &mut Vec<u8>,
+    len: u32,
+    id: i32,
+    response_to: i32,
+    flags: MsgFlags,
+    payload: Payload<'_>,
+) -> Result<(), AllocError>
+    requires { (c : Content) → Carries payload c → len ≡ message_len c }
+    ensures added { (c : Content) → Carries payload.entry c
+        → OnOk result (out.new.items ≡ out.old.items ++ canonical (record {
+          id = id;
+          response_to = response_to;
+          more = flags.more;
+          allows = flags.allows;
+          content = c;
+        })) }
+    ensures kept { OnErr result (Keeps out.old.items out.new.items) }
+{
+    write_header(len, id, response_to, out)?;
+    write_u32(flags.word(), out)?;
+    payload.write_sections(out)
+}
+
+/// Adds a message. The document sequences keep their order.
+///
+/// # Errors
+///
+/// `TooLarge` where the message has more than `limit` bytes, and else `OutOfMemory`. `out` is then as
+/// it was.
+pub fn write_msg(
+    out: &mut Vec<u8>,
+    id: i32,
+    response_to: i32,
+    flags: MsgFlags,
+    payload: Payload<'_>,
+    limit: u32,
+) -> Result<(), MsgRefusal>
+    ensures written { (c : Content) → Carries payload.entry c
+        → OnOk result (out.new.items ≡ out.old.items ++ canonical (record {
+          id = id;
+          response_to = response_to;
+          more = flags.more;
+          allows = flags.allows;
+          content = c;
+        })) }
+    ensures within { (c : Content) → Carries payload.entry c
+        → OnOk result (message_len c ≤ limit) }
+    ensures refused { (c : Content) → Carries payload.entry c
+        → IfErr result (λ e. IsWriteRefusal limit (message_len c) e) }
+    ensures unchanged { OnErr result (out.new.items ≡ out.old.items) }
+{
+    let len = payload.msg_len();
+    if len > limit as u64 {
+        return Err(MsgRefusal::TooLarge);
+    }
+    let start = out.len();
+    out.try_reserve(len as usize)?;
+    match write_parts(out, len as u32, id, response_to, flags, payload) {
+        Ok(()) => Ok(()),
+        Err(_) => {
+            out.truncate(start);
+            Err(MsgRefusal::OutOfMemory)
+        }
+    }
+}
