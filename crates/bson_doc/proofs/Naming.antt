@@ -1,15 +1,10 @@
 -- Where the names are canonical, the tree is in canonical form.
-use Rattle.std.proofs.Common.{◌≡◌, ℕ, ◌+◌, Bool, true, false, List, refl}
+use Rattle.std.proofs.Common.{◌≡◌, ℕ, ◌+◌, Bool, true, false, refl}
 use Rattle.std.specs.Prelude.{◌&&◌}
 use Rattle.std.proofs.lemmas.Slice.Eq.{bytes_eq-Decides}
 use Rattle.bson_elem.specs.Tree.{Tree, no_pairs, leaf_pair, inner_pair}
-use Rattle.bson_raw.specs.Pairs.{TreeValue, leaf_value, document_value, with_first}
 use Rattle.bson_doc.specs.Plain.{is_array_kind, name_at, plain_from}
-use Rattle.bson_doc.specs.Naming.{is_named, is_plain, is_plain_value}
-
-pub is_plain-with_first : (in_array : Bool) (place : ℕ) (name : List ℕ) (v : TreeValue) (ps : Tree) → is_plain in_array place (with_first name v ps) ≡ (is_named in_array place name && (is_plain_value v && is_plain in_array (place + 1) ps))
-is_plain-with_first in_array place name (leaf_value k leaf) ps = refl
-is_plain-with_first in_array place name (document_value k b inner) ps = refl
+use Rattle.bson_doc.specs.Naming.{is_named, is_plain}
 
 both : (a b : Bool) → (a && b) ≡ true → (a ≡ true) × (b ≡ true)
 both true b e = (refl, e)

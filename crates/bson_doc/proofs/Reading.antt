@@ -121,9 +121,6 @@ inner_repeat all inner after TooLarge is r = r
 inner_repeat all inner after ZeroInName is r = r
 inner_repeat all inner after Depth is r = r
 
-pub no_memory : (found : Option ℕ) (e : DocRefusal) → e ≡ OutOfMemory → IsRepeat found e
-no_memory found e is = rw is tt
-
 pub document_value_refused : (depth : ℕ) (t : Tree) (ns : List (List ℕ)) (vs : List TreeValue) (L : Tree → Type 0) (d : DocumentRead depth t ns vs L) (n : List ℕ) (v : TreeValue) (others : Tree) (e : DocRefusal)
     → d.rest ≡ with_first n v others → is_among n ns ≡ false → IsRepeat (repeat_in_value depth v) e → IsRepeat (repeat_in false depth [] t) e
 document_value_refused depth t ns vs L d n v others e first new r =
@@ -134,9 +131,3 @@ pub document_name_refused : (depth : ℕ) (t : Tree) (ns : List (List ℕ)) (vs 
     → d.rest ≡ with_first n v others → is_among n ns ≡ true → repeat_in false depth [] t ≡ Some depth
 document_name_refused depth t ns vs L d n v others first old =
     d.unique ∙ ap (repeat_in false depth ns) first ∙ repeat_in-with_first false depth ns n v others ∙ rw old refl
-
-pub array_value_refused : (depth : ℕ) (t : Tree) (vs : List TreeValue) (L : Tree → Type 0) (d : ArrayRead depth t vs L) (n : List ℕ) (v : TreeValue) (others : Tree) (e : DocRefusal)
-    → d.rest ≡ with_first n v others → IsRepeat (repeat_in_value depth v) e → IsRepeat (repeat_in true depth [] t) e
-array_value_refused depth t vs L d n v others e first r =
-    inner_repeat _ (repeat_in_value depth v) (repeat_in true depth [] others) e
-    (d.unique ∙ ap (repeat_in true depth []) first ∙ repeat_in-with_first true depth [] n v others) r

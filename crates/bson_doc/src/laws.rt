@@ -1,13 +1,15 @@
 //! The laws that make the definition of the canonical form trustworthy, and the law of writing and reading. The contract
 //! of each function is the law; those about definitions alone do nothing.
 
-ghost use Rattle.std.specs.Prelude.{◌≡◌, ◌↔◌, ◌<◌, ◌^◌, ℕ, List, length, slice_get, Some, option_map, IfOk, IfErr};
+ghost use Rattle.std.specs.Prelude.{◌≡◌, ◌↔◌, ◌<◌, ◌^◌, ℕ, IsTrue, List, length, slice_get, Some, option_map, IfOk, IfErr};
 ghost use Rattle.std.specs.Fmt.{decimal};
 ghost use Rattle.bson_elem.specs.Tree.{Tree};
 ghost use Rattle.bson_elem.specs.Spelling.{Spells, document, elements};
-ghost use Rattle.bson_raw.specs.Pairs.{names_of, value_at};
+ghost use Rattle.bson_raw.specs.Pairs.{names_of, TreeValue, value_at};
+ghost use Rattle.bson_doc.specs.Codes.{coded_pairs, coded_values};
 ghost use Rattle.bson_doc.specs.Document.{tree_of};
 ghost use Rattle.bson_doc.specs.Plain.{plain, numbered, canonical_len};
+ghost use Rattle.bson_doc.specs.Same.{same};
 ghost use Rattle.bson_doc.specs.Unwritable.{IsUnwritable};
 ghost use Rattle.bson_doc.specs.Values.{plain_value};
 
@@ -70,6 +72,14 @@ pub fn numbered_keeps_values()
 pub fn canonical_form_is_there()
     ensures { (t : Tree) (bytes : List ℕ) → Spells t bytes → canonical_len t < 2 ^ 31
         → Spells (plain t) (document (elements (plain t))) }
+{}
+
+/// Two lists of pairs are equal documents (`==`) exactly where they are the same list, and two lists
+/// of values equal arrays.
+pub fn equal_where_same()
+    ensures documents { (a b : List (List ℕ × TreeValue))
+        → (IsTrue (same coded_pairs a b) ↔ (a ≡ b)) }
+    ensures arrays { (a b : List TreeValue) → (IsTrue (same coded_values a b) ↔ (a ≡ b)) }
 {}
 
 /// A document that is written and read back is that document.

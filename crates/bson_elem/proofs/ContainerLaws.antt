@@ -104,9 +104,6 @@ abbrev pub IsPlaced : ℕ → Value → Type 0
 IsPlaced q (a_leaf v) = Unit {0}
 IsPlaced q (opens place b body) = place ≡ place_of q b
 
-abbrev ok_value : Value → List ℕ → Result (Value × List ℕ) BsonFault
-ok_value part rest = Ok (part, rest)
-
 pub length-document : (body : List ℕ) → length (document body) ≡ length body + 5
 length-document body = omega (arith, length-append (little (length body + 5)) (body ++ 0 ∷ []), length-append body (0 ∷ []))
 

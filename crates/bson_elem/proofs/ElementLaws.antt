@@ -70,9 +70,6 @@ boolean_again false rest = refl
 
 -- ---- binaries
 
-abbrev data_of : ℕ → List ℕ → List ℕ
-data_of subtype bytes = cond (eqb subtype 2) (little (length bytes) ++ bytes) bytes
-
 old_takes : (bytes rest : List ℕ) (x : Leaf × List ℕ) → IsBytes bytes → length bytes < 2 ^ 31 → binary_of 2 bytes rest ≡ Ok x → (inside : List ℕ) × (x ≡ (binary_value 2 inside, rest)) × (bytes ≡ little (length inside) ++ inside) × (length inside + 4 ≡ length bytes) × IsBytes inside
 unfolding binary_of
 old_takes bytes rest x fits short e =

@@ -3,8 +3,7 @@ use Rattle.std.proofs.Common.{◌≡◌, ℕ, ◌+◌, ◌-◌, ◌≤◌, List,
 use Rattle.std.specs.Prelude.{slice_range}
 use Rattle.std.specs.Int.{w32, from_le_bytes}
 use Rattle.std.proofs.lemmas.Nat.{from_le_bytes-to_le_bytes_4}
-use Rattle.bson_elem.specs.declared.fault.BsonCause.TheVariants.{Length}
-use Rattle.std.proofs.lemmas.List.{append-nil, nil_from_length, take_at, take-append-le, append_cancel_right, append_assoc, length-append, length-take, length-drop}
+use Rattle.std.proofs.lemmas.List.{append-nil, take_at, append_cancel_right, append_assoc, length-take, length-drop}
 use Rattle.bson_elem.specs.declared.fault.BsonFault.{BsonFault}
 use Rattle.bson_elem.specs.Tree.{Tree}
 use Rattle.bson_elem.specs.Spelling.{IsBytes, little, document, elements, Spells}
@@ -87,24 +86,8 @@ spelled_size bytes s =
     let size : length bytes ≡ length (elements s.0) + 5 = ap length s.1.parts ∙ length-document (elements s.0) in
     ap (from_le_bytes w32) (ap (take 4) s.1.parts ∙ take_at (little (length (elements s.0) + 5)) (elements s.0 ++ 0 ∷ []) 4 refl) ∙ from_le_bytes-to_le_bytes_4 (length (elements s.0) + 5) (omega (arith, size, s.1.short)) ∙ sym size
 
-pub spelled_length : (bytes : List ℕ) → IsSpelled bytes → IsLengthOf bytes
-spelled_length bytes s = λ _. spelled_size bytes s
-
-pub whole_bytes : (bytes whole rest : List ℕ) → FrontIs bytes whole rest → IsLengthOf bytes → whole ≡ bytes
-whole_bytes bytes whole rest front is =
-    let size : length whole ≡ length (elements front.2.0) + 5 = ap length front.2.1.parts ∙ length-document (elements front.2.0) in
-    let sum : length bytes ≡ length whole + length rest = ap length (sym front.1) ∙ length-append whole rest in
-    let first : take 4 bytes ≡ take 4 whole = ap (take 4) (sym front.1) ∙ take-append-le 4 whole rest (omega (arith, size)) in
-    let n : length bytes ≡ length whole = sym (is (omega (arith, size, sum))) ∙ ap (from_le_bytes w32) first ∙ spelled_size whole front.2 in
-    let none : rest ≡ [] = nil_from_length rest (omega (arith, sum, n)) in
-    sym (ap (λ (x : List ℕ). whole ++ x) none ∙ append-nil whole) ∙ front.1
-
 pub whole_only : (bytes : List ℕ) (f : BsonFault) → IsBytes bytes → IsSpelled bytes → FrontFault bytes f → ⊥
 whole_only bytes f fits s fault = no_front bytes s.0 bytes [] f fits s.1 (sym (append-nil bytes)) fault
-
-pub fault_unlike : (bytes : List ℕ) (f : BsonFault) → (IsLengthOf bytes → ⊥) → WholeFault bytes f → f ≡ fault 0 Length
-fault_unlike bytes f not (unlike n e) = e
-fault_unlike bytes f not (as_front is e) = absurd (not is)
 
 pub fault_front : (bytes : List ℕ) (f : BsonFault) → IsLengthOf bytes → WholeFault bytes f → FrontFault bytes f
 fault_front bytes f is (unlike n e) = absurd (n is)

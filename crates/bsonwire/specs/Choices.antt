@@ -1,10 +1,14 @@
--- What a choice says of the matches that `clap` has of the words.
-use Rattle.std.specs.Prelude.{◌≡◌, List, Bool, Option, Some, None, codes, if◌then◌else◌}
+-- What a choice says of the matches that `clap` has of the words, and what it asks for.
+use Rattle.std.specs.Prelude.{◌≡◌, ℕ, List, Bool, Option, Some, None, codes, if◌then◌else◌}
 use Rattle.clap.specs.Words.{Row, Text, first_of, one_of, subcommand_of}
 use Rattle.bsonwire.specs.declared.choice.Source.{Source}
 use Rattle.bsonwire.specs.declared.choice.Choice.{Choice}
 use Rattle.bsonwire.specs.declared.choice.Choice.TheVariants.{Dump, Check, Canon}
 use Rattle.bsonwire.specs.CommandLine.{command_line}
+use Rattle.bsonwire.specs.Output.{IsOutput}
+use Rattle.bsonwire.specs.Dump.{DumpText}
+use Rattle.bsonwire.specs.Check.{CheckText}
+use Rattle.bsonwire.specs.Canon.{CanonText}
 
 -- the matches of a subcommand hold this `--hex`
 abbrev pub HoldsHex : Bool → List Row → Type 0
@@ -29,3 +33,16 @@ IsMetSubcommand c (Some met) = IsSubcommand c met.0 met.1
 -- the choice is what the command line makes of the words
 abbrev pub IsChosen : Choice → List Text → Type 0
 IsChosen c words = IsMetSubcommand c (subcommand_of command_line words)
+
+-- ---- what a choice asks for
+
+abbrev pub chosen_file : Choice → List ℕ
+chosen_file (Dump s) = s.file.now
+chosen_file (Check s) = s.file.now
+chosen_file (Canon s) = s.file.now
+
+-- what a choice writes for an input, and whether it ends with a fault line
+abbrev pub ChosenText : Choice → List ℕ → List ℕ → Bool → Type 0
+ChosenText (Dump s) = IsOutput DumpText s.hex
+ChosenText (Check s) = IsOutput CheckText s.hex
+ChosenText (Canon s) = IsOutput (CanonText 2147483647 s.hex) s.hex

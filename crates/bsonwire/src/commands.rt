@@ -1,6 +1,11 @@
 //! Runs what the command line asks for, and gives the exit status.
-ghost use Rattle.std.specs.Prelude.{◌≡◌};
-ghost use Rattle.bsonwire.specs.ExitStatus.{exit_status};
+ghost use Rattle.std.specs.Prelude.{◌≡◌, IfSome, true};
+ghost use Rattle.std.specs.Io.KnownBytes.{IsAtEnd};
+ghost use Rattle.std.specs.IoError.{error_kind, raw_os_error};
+ghost use Rattle.bsonwire.specs.Choices.{chosen_file, ChosenText};
+ghost use Rattle.bsonwire.specs.ExitStatus.{end_of_error, exit_status};
+ghost use Rattle.bsonwire.specs.Output.{AppendsText};
+ghost use Rattle.bsonwire.specs.Run.{is_done, is_fault};
 
 use crate::canon::run_canon;
 use crate::check::run_check;
@@ -84,7 +89,9 @@ pub fn run<R: Files + Input + Print + Eprint + AllocGlobal>(rt: &R, choice: Choi
 }
 
 /// The file that the choice reads.
-fn file_of(choice: Choice<'_>) -> &str {
+fn file_of(choice: Choice<'_>) -> &str
+    ensures { result.now ≡ chosen_file choice.entry }
+{
     match choice {
         Choice::Dump(source) | Choice::Check(source) | Choice::Canon(source) => source.file,
     }
@@ -105,7 +112,12 @@ fn run_over<R: Read, W: Write>(
     choice: Choice<'_>,
     reader: &mut R,
     writer: &mut W,
-) -> RunEnd {
+) -> RunEnd
+    ensures read { is_done result ≡ true → IsAtEnd (R.remaining reader.new) }
+    ensures written { IfSome (R.remaining reader.old) (λ input. is_done result ≡ true →
+        AppendsText (ChosenText choice.entry input) (is_fault result)
+        (W.contents writer.old) (W.contents writer.new)) }
+{
     match choice {
         Choice::Dump(source) => run_dump(alloc, source.hex, reader, writer),
         Choice::Check(source) => run_check(alloc, source.hex, reader, writer),
@@ -114,7 +126,9 @@ fn run_over<R: Read, W: Write>(
 }
 
 /// Says why a run stopped short, and gives its exit status.
-fn tell(rt: &impl Eprint, end: RunEnd, input: InputName<'_>) -> u8 {
+fn tell(rt: &impl Eprint, end: RunEnd, input: InputName<'_>) -> u8
+    ensures { result ≡ exit_status end }
+{
     // Where standard error takes no line, the status alone says it.
     let _ = match end {
         RunEnd::InOut => {
@@ -127,7 +141,9 @@ fn tell(rt: &impl Eprint, end: RunEnd, input: InputName<'_>) -> u8 {
 }
 
 /// Says why the input could not be opened, and gives the exit status.
-fn tell_unopened(rt: &impl Eprint, error: io::Error, input: InputName<'_>) -> u8 {
+fn tell_unopened(rt: &impl Eprint, error: io::Error, input: InputName<'_>) -> u8
+    ensures { result ≡ exit_status (end_of_error (error_kind error) (raw_os_error error)) }
+{
     let _ = eprintln!(rt; "bsonwire: {input}: {error}");
     status_of(end_of(&error))
 }

@@ -10,7 +10,6 @@ use Rattle.wire_msg.specs.declared.fault.MsgCause.TheVariants.{Document}
 use Rattle.wire_msg.specs.Causes.{msg_fault}
 use Rattle.wire_msg.specs.Message.{IsDocument, AreDocuments, documents_bytes}
 use Rattle.wire_msg.specs.Faults.{DocumentsFault}
-use Rattle.wire_msg.specs.Checks.{HasDocuments}
 
 -- ---- one document more
 
@@ -31,9 +30,6 @@ pub record DocumentsBefore (bytes rest : List ℕ) : Type 0 where
   pub fits : AreDocuments documents
   pub parts : bytes ≡ documents_bytes documents ++ rest
 
-pub none_before : (bytes : List ℕ) → DocumentsBefore bytes bytes
-none_before bytes = record { documents = []; fits = tt; parts = refl }
-
 pub one_more : (bytes rest d after : List ℕ) → DocumentsBefore bytes rest → IsSpelled d → rest ≡ d ++ after → DocumentsBefore bytes after
 one_more bytes rest d after b s is =
     let t : Tree = s.0 in
@@ -45,10 +41,6 @@ one_more bytes rest d after b s is =
       fits = AreDocuments-append b.documents (t ∷ []) b.fits (is_document t d s.1, tt);
       parts = b.parts ∙ ap (λ (x : List ℕ). documents_bytes b.documents ++ x) is ∙ sym (append_assoc (documents_bytes b.documents) d after) ∙ ap (λ (x : List ℕ). x ++ after) (sym more);
     }
-
-pub all_before : (bytes rest : List ℕ) → DocumentsBefore bytes rest → length rest ≡ 0 → HasDocuments bytes
-all_before bytes [] b none = (b.documents, b.fits, b.parts ∙ append-nil (documents_bytes b.documents))
-all_before bytes (x ∷ rest) b none = absurd (omega (arith, none))
 
 pub fault_after : (start : ℕ) (bytes rest : List ℕ) (inner : BsonFault) → DocumentsBefore bytes rest → (length rest ≡ 0 → ⊥) → FrontFault rest inner → DocumentsFault start bytes (msg_fault (start + (length bytes - length rest)) (Document inner))
 fault_after start bytes [] inner b some front = absurd (some refl)

@@ -50,9 +50,6 @@ kind_told kind p q parts rest f ne e same =
     let test : eqb kind 0 ≡ false = ne_eqb kind 0 ne in
     rw (test, same, e) refl
 
-cell_is : (kind : ℕ) (x y : List ℕ) (bytes : List ℕ) → kind ≡ 1 → bytes ≡ x ++ kind ∷ y → bytes ≡ x ++ 1 ∷ y
-cell_is kind x y bytes e is = is ∙ ap (λ (k : ℕ). x ++ k ∷ y) e
-
 -- ---- a section that fails a check
 
 before_fault : (bytes : List ℕ) (qs : List Sequence) (kind : ℕ) (rest : List ℕ) (f : MsgFault) → bytes ≡ sequences_bytes qs ++ kind ∷ rest → AreSequences qs → SectionFault (no_body_yet qs) (20 + length (sequences_bytes qs)) kind rest f → Verdict bytes (Err f)

@@ -1,5 +1,5 @@
 -- Document sequences, one after another.
-use Rattle.std.proofs.Common.{◌≡◌, ◌≢◌, ℕ, ◌+◌, ◌-◌, ◌^◌, ◌<◌, ◌≤◌, List, [], ◌∷◌, ◌++◌, length, get_or, take, drop, Ok, refl, sym, ap, subst, ◌∙◌, append_assoc, arith, length-append, length-take, length-drop}
+use Rattle.std.proofs.Common.{◌≡◌, ℕ, ◌+◌, ◌-◌, ◌^◌, ◌<◌, ◌≤◌, List, [], ◌∷◌, ◌++◌, length, get_or, take, drop, Ok, refl, sym, ap, subst, ◌∙◌, append_assoc, arith, length-append, length-take, length-drop}
 use Rattle.std.specs.Prelude.{slice_range}
 use Rattle.std.proofs.lemmas.List.{append-nil, take-append-drop, drop_more, drop-drop}
 use Rattle.std.proofs.lemmas.Nat.{le_bytes_4}
@@ -12,7 +12,7 @@ use Rattle.wire_msg.specs.Header.{number_at}
 use Rattle.wire_msg.specs.Message.{Sequence, documents_bytes, sequence_size, AreSequences}
 use Rattle.wire_msg.specs.Spelling.{sequence_section, sequences_bytes}
 use Rattle.wire_msg.specs.Faults.{IsSized, SequenceFault}
-use Rattle.wire_msg.specs.Checks.{HasDocuments, IsSequenceAt, IsNoSequence, IsRun, IsBadRun}
+use Rattle.wire_msg.specs.Checks.{HasDocuments, IsSequenceAt, IsBadRun}
 
 -- ---- one sequence
 
@@ -55,9 +55,6 @@ pub record RunSoFar (bytes : List ℕ) (start at : ℕ) : Type 0 where
   pub within : at ≤ length bytes
   pub parts : drop start bytes ≡ sequences_bytes sequences ++ drop at bytes
 
-pub run_begins : (bytes : List ℕ) (start : ℕ) → start ≤ length bytes → RunSoFar bytes start start
-run_begins bytes start le = record { sequences = []; fits = tt; forwards = omega arith; within = le; parts = refl }
-
 run_place : (bytes : List ℕ) (start at : ℕ) → (r : RunSoFar bytes start at) → start + length (sequences_bytes r.sequences) ≡ at
 run_place bytes start at r = omega (arith, r.within, r.forwards, ap length r.parts, length-append (sequences_bytes r.sequences) (drop at bytes), length-drop start bytes, length-drop at bytes)
 
@@ -88,16 +85,3 @@ run_fails bytes start at f r lt is fault = record {
   parts = r.parts ∙ ap (λ (x : List ℕ). sequences_bytes r.sequences ++ x) (cell bytes at lt is);
   fault = subst (λ (p : ℕ). SequenceFault p (drop (at + 1) bytes) f) (sym (run_place bytes start at r)) fault;
 }
-
-stops_at_end : (bytes : List ℕ) → length bytes ≡ 0 → IsNoSequence bytes
-stops_at_end [] e = tt
-stops_at_end (b ∷ bytes) e = absurd (omega (arith, e))
-
-pub no_sequence_past : (bytes : List ℕ) (at : ℕ) → length bytes ≤ at → IsNoSequence (drop at bytes)
-no_sequence_past bytes at le = stops_at_end (drop at bytes) (omega (arith, length-drop at bytes, le))
-
-pub no_sequence_here : (bytes : List ℕ) (at : ℕ) → at < length bytes → get_or bytes at 0 ≢ 1 → IsNoSequence (drop at bytes)
-no_sequence_here bytes at lt ne = subst IsNoSequence (sym (drop_more bytes at 0 lt)) ne
-
-pub run_ends : (bytes : List ℕ) (start at : ℕ) → RunSoFar bytes start at → IsNoSequence (drop at bytes) → IsRun bytes start at
-run_ends bytes start at r stops = record { sequences = r.sequences; fits = r.fits; forwards = r.forwards; within = r.within; parts = r.parts; stops = stops }

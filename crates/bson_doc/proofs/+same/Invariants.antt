@@ -1,9 +1,6 @@
 use Rattle.std.proofs.Common.{◌≡◌, max, map, take}
 use Rattle.bson_doc.specs.declared.array.Array.TheDeep.{size-Array, size-Document}
-use Rattle.bson_doc.specs.Array.{array_tree}
 use Rattle.bson_doc.specs.Bson.{value_of}
-use Rattle.bson_doc.specs.Depths.{tree_depth, value_depth}
-use Rattle.bson_doc.specs.Document.{tree_of}
 use Rattle.bson_doc.proofs.+same.Given as goal
 
 abbrev pub invariant-array::ArrayPartialEq::eq-loop-place : goal.invariant-array::ArrayPartialEq::eq-loop-place
