@@ -2,6 +2,7 @@
 use mathlib.Core.List.{is_set}
 use Rattle.std.proofs.Common.{◌≡◌, ℕ, ◌+◌, ◌<◌, ◌≤◌, ◌^◌, Bool, true, false, cond, ◌==◌, List, [], ◌∷◌, ◌++◌, Some, None, length, set, take, drop, refl, sym, ap, ◌∙◌, arith, append_assoc, length-append}
 use Rattle.std.specs.Prelude.{IsUtf8}
+use Rattle.std.specs.Io.{StartsWith}
 use Rattle.std.proofs.Math.Logic.{∥∥₁_elim}
 use Rattle.std.proofs.Math.Nat.{ℕ_set}
 use Rattle.std.proofs.Math.Seq.{drop-append_seam, set-append_seam}
@@ -19,7 +20,7 @@ use Rattle.bson_doc.specs.declared.refusal.DocRefusal.{DocRefusal}
 use Rattle.bson_doc.specs.declared.refusal.DocRefusal.TheVariants.{RepeatedName, OutOfMemory, TooLarge, ZeroInName, Depth}
 use Rattle.bson_doc.specs.Formed.{IsFormedValue}
 use Rattle.bson_doc.specs.Last.{with_last}
-use Rattle.bson_doc.specs.Refusals.{IsSizeRefusal, Keeps}
+use Rattle.bson_doc.specs.Refusals.{IsSizeRefusal}
 use Rattle.bson_doc.specs.Unwritable.{has_zero, unwritable_leaf, unwritable, unwritable_value, IsUnwritable}
 use Rattle.bson_doc.specs.Values.{value_bytes, value_kind, element_bytes}
 use Rattle.bson_doc.proofs.Checking.{passes, name_fails, value_fails}
@@ -104,16 +105,16 @@ over es bytes end byte is last =
     ∙ ap (λ (i : ℕ). set (front es ++ 0 ∷ []) i byte) here ∙ set-append_seam (front es) 0 [] byte
 
 -- what a cut leaves where the bytes were kept
-pub cut_is : (bytes after cut : List ℕ) (end byte : ℕ) → end + 1 ≡ length bytes → cut ≡ take (end + 1) after → Keeps (set bytes end byte) after → cut ≡ set bytes end byte
+pub cut_is : (bytes after cut : List ℕ) (end byte : ℕ) → end + 1 ≡ length bytes → cut ≡ take (end + 1) after → StartsWith after (set bytes end byte) → cut ≡ set bytes end byte
 cut_is bytes after cut end byte last at kept = at ∙ ap (λ (n : ℕ). take n after) (last ∙ sym (length-set bytes end byte)) ∙ kept
 
 -- and 00 again, in place of that byte
-restored_of : (es bytes after cut : List ℕ) (end byte : ℕ) → bytes ≡ document es → end + 1 ≡ length bytes → cut ≡ take (end + 1) after → Keeps (set bytes end byte) after → set cut end 0 ≡ bytes
+restored_of : (es bytes after cut : List ℕ) (end byte : ℕ) → bytes ≡ document es → end + 1 ≡ length bytes → cut ≡ take (end + 1) after → StartsWith after (set bytes end byte) → set cut end 0 ≡ bytes
 restored_of es bytes after cut end byte is last at kept =
     ap (λ (x : List ℕ). set x end 0) (cut_is bytes after cut end byte last at kept) ∙ set-set bytes end byte 0 ∙ over es bytes end 0 is last
     ∙ append_assoc (little (length es + 5)) es (0 ∷ []) ∙ sym is
 
-pub restored : (bytes after cut : List ℕ) (end byte : ℕ) → ∥ IsSpelled bytes ∥₁ → end + 1 ≡ length bytes → cut ≡ take (end + 1) after → Keeps (set bytes end byte) after → set cut end 0 ≡ bytes
+pub restored : (bytes after cut : List ℕ) (end byte : ℕ) → ∥ IsSpelled bytes ∥₁ → end + 1 ≡ length bytes → cut ≡ take (end + 1) after → StartsWith after (set bytes end byte) → set cut end 0 ≡ bytes
 restored bytes after cut end byte spelled last at kept =
     ∥∥₁_elim spelled (is_set ℕ_set _ _) (λ s. restored_of (elements s.0) bytes after cut end byte s.1.parts last at kept)
 

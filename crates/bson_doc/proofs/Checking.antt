@@ -1,5 +1,6 @@
 -- The first reason why pairs have no spelling, one pair after another.
 use Rattle.std.proofs.Common.{◌≡◌, ℕ, suc, ◌+◌, ◌<◌, ◌^◌, max, true, false, cond, List, [], ◌∷◌, Some, None, length, map, get_or, drop, refl, sym, ap, ◌∙◌, arith, ◌||◌, ◌==◌, add-one, drop-cons}
+use Rattle.std.specs.Option.{option_or}
 use Rattle.std.specs.Str.Parse.{AllDigits}
 use Rattle.std.proofs.lemmas.Bool.Decides.{nat_tests}
 use Rattle.std.proofs.lemmas.Fmt.{decimal_is_IsNumeral}
@@ -13,9 +14,9 @@ use Rattle.bson_doc.specs.declared.bson.Bson.{Bson}
 use Rattle.bson_doc.specs.Array.{array_tree}
 use Rattle.bson_doc.specs.Bson.{value_of}
 use Rattle.bson_doc.specs.Depths.{tree_depth, value_depth}
-use Rattle.bson_doc.specs.Unwritable.{has_zero, or_else, unwritable, unwritable_value}
+use Rattle.bson_doc.specs.Unwritable.{has_zero, unwritable, unwritable_value}
 
-pub unwritable-with_first : (depth : ℕ) (n : List ℕ) (v : TreeValue) (ps : Tree) → unwritable depth (with_first n v ps) ≡ cond (has_zero n) (Some ZeroInName) (or_else (unwritable_value depth v) (unwritable depth ps))
+pub unwritable-with_first : (depth : ℕ) (n : List ℕ) (v : TreeValue) (ps : Tree) → unwritable depth (with_first n v ps) ≡ cond (has_zero n) (Some ZeroInName) (option_or (unwritable_value depth v) (unwritable depth ps))
 unwritable-with_first depth n (leaf_value k leaf) ps = refl
 unwritable-with_first depth n (document_value k b inner) ps = refl
 

@@ -1,5 +1,7 @@
 -- The bytes of pairs, one after another, and which of them spell a document.
 use Rattle.std.proofs.Common.{◌≡◌, ℕ, ◌+◌, ◌<◌, ◌≤◌, ◌^◌, Bool, true, false, cond, nat_lt, ◌||◌, ◌==◌, List, [], ◌∷◌, ◌++◌, Option, Some, None, length, take, drop, refl, sym, ap, ◌∙◌, arith, append_assoc, length-append}
+use Rattle.std.specs.Option.{option_or}
+use Rattle.std.specs.Io.{StartsWith}
 use Rattle.std.specs.Prelude.{IsUtf8, Result, Ok, Err, OnOk, OnErr}
 use Rattle.std.proofs.lemmas.Bool.{ltb-true}
 use Rattle.std.proofs.lemmas.List.{take-append-drop}
@@ -17,8 +19,8 @@ use Rattle.bson_raw.proofs.Walks.{inner_len}
 use Rattle.bson_doc.specs.declared.refusal.DocRefusal.{DocRefusal}
 use Rattle.bson_doc.specs.declared.refusal.DocRefusal.TheVariants.{RepeatedName, OutOfMemory, TooLarge, ZeroInName, Depth}
 use Rattle.bson_doc.specs.Formed.{IsFormedLeaf, IsFormed, IsFormedValue}
-use Rattle.bson_doc.specs.Refusals.{IsSizeRefusal, Keeps}
-use Rattle.bson_doc.specs.Unwritable.{has_zero, or_else, unwritable_leaf, unwritable, IsUnwritable}
+use Rattle.bson_doc.specs.Refusals.{IsSizeRefusal}
+use Rattle.bson_doc.specs.Unwritable.{has_zero, unwritable_leaf, unwritable, IsUnwritable}
 use Rattle.bson_doc.specs.Values.{value_bytes, value_kind, element_bytes}
 
 -- ---- where the types and the checks are kept, the tree fits
@@ -61,7 +63,7 @@ name_free : (zero : Bool) (after : Option DocRefusal) → cond zero (Some ZeroIn
 name_free true after e = absurd cc
 name_free false after e = (refl, e)
 
-neither_there : (one two : Option DocRefusal) → or_else one two ≡ None → (one ≡ None) × (two ≡ None)
+neither_there : (one two : Option DocRefusal) → option_or one two ≡ None → (one ≡ None) × (two ≡ None)
 neither_there None two e = (refl, e)
 neither_there (Some r) two e = absurd cc
 
@@ -161,13 +163,13 @@ always_err (Err e) p = p
 
 -- ---- what stands in front of bytes that are kept is kept
 
-pub kept_front : (before added out after : List ℕ) → out ≡ before ++ added → Keeps out after → Keeps before after
+pub kept_front : (before added out after : List ℕ) → out ≡ before ++ added → StartsWith after out → StartsWith after before
 kept_front before added out after is kept =
     let all : after ≡ before ++ (added ++ drop (length out) after) = sym (take-append-drop (length out) after) ∙ ap (λ (x : List ℕ). x ++ drop (length out) after) (kept ∙ is) ∙ append_assoc before added (drop (length out) after) in
     ap (take (length before)) all ∙ take-append_seam before (added ++ drop (length out) after)
 
 -- the pairs of a container, written behind what begins it
-pub kept_begun : (t left : Tree) (before begin begun out after : List ℕ) → Written t left begun out → begun ≡ before ++ begin → Keeps out after → Keeps before after
+pub kept_begun : (t left : Tree) (before begin begun out after : List ℕ) → Written t left begun out → begun ≡ before ++ begin → StartsWith after out → StartsWith after before
 kept_begun t left before begin begun out after w is kept = kept_front before begin begun after is (kept_front begun w.added out after w.is_added kept)
 
 -- ---- a length is no reason of the check
@@ -176,7 +178,7 @@ zero_never : (b : Bool) (o : Option DocRefusal) → (o ≡ Some TooLarge → ⊥
 zero_never true o h e = cc
 zero_never false o h e = h e
 
-or_never : (a b : Option DocRefusal) → (a ≡ Some TooLarge → ⊥) → (b ≡ Some TooLarge → ⊥) → or_else a b ≡ Some TooLarge → ⊥
+or_never : (a b : Option DocRefusal) → (a ≡ Some TooLarge → ⊥) → (b ≡ Some TooLarge → ⊥) → option_or a b ≡ Some TooLarge → ⊥
 or_never None b g h e = h e
 or_never (Some r) b g h e = g e
 

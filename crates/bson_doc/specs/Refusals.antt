@@ -1,5 +1,5 @@
 -- Why a document isn't made.
-use Rattle.std.specs.Prelude.{◌≡◌, ℕ, ◌<◌, List, length, take}
+use Rattle.std.specs.Prelude.{ℕ, ◌<◌}
 use Rattle.bson_doc.specs.declared.refusal.DocRefusal.{DocRefusal}
 use Rattle.bson_doc.specs.declared.refusal.DocRefusal.TheVariants.{RepeatedName, OutOfMemory, TooLarge, ZeroInName, Depth}
 
@@ -15,7 +15,3 @@ abbrev pub IsSizeRefusal : ℕ → ℕ → DocRefusal → Type 0
 IsSizeRefusal limit count OutOfMemory = Unit {0}
 IsSizeRefusal limit count TooLarge = limit < count
 IsSizeRefusal limit count _ = ⊥
-
--- the bytes that stood there stand there still, with or without more behind them
-abbrev pub Keeps : List ℕ → List ℕ → Type 0
-Keeps before after = take (length before) after ≡ before

@@ -1,6 +1,7 @@
 -- Why a tree has no spelling, where that isn't its length: a 00 in a name, a pattern or options, or a container deeper
 -- than 200.
 use Rattle.std.specs.Prelude.{◌≡◌, ℕ, ◌+◌, ◌^◌, ◌≤◌, length, Bool, nat_lt, ◌||◌, List, Option, Some, None, if◌then◌else◌}
+use Rattle.std.specs.Option.{option_or}
 use Rattle.std.specs.List.{list_any}
 use Rattle.bson_elem.specs.Checks.{is_zero}
 use Rattle.bson_elem.specs.Spelling.{document, elements}
@@ -13,11 +14,6 @@ use Rattle.bson_doc.specs.declared.refusal.DocRefusal.TheVariants.{OutOfMemory, 
 abbrev pub has_zero : List ℕ → Bool
 has_zero bytes = list_any is_zero bytes
 
--- the first of two reasons that is there
-abbrev pub or_else : Option DocRefusal → Option DocRefusal → Option DocRefusal
-or_else None after = after
-or_else (Some e) after = Some e
-
 -- why a leaf has no spelling
 abbrev pub unwritable_leaf : Leaf → Option DocRefusal
 unwritable_leaf (regex_value pattern options) = if (has_zero pattern || has_zero options) then Some ZeroInName else None
@@ -27,10 +23,10 @@ unwritable_leaf _ = None
 -- and the depth of a container before its pairs.
 abbrev pub unwritable : ℕ → Tree → Option DocRefusal
 unwritable depth no_pairs = None
-unwritable depth (leaf_pair n k v ps) = if has_zero n then Some ZeroInName else or_else (unwritable_leaf v) (unwritable depth ps)
+unwritable depth (leaf_pair n k v ps) = if has_zero n then Some ZeroInName else option_or (unwritable_leaf v) (unwritable depth ps)
 unwritable depth (inner_pair n k b inner ps) =
     if has_zero n then Some ZeroInName
-    else or_else (if nat_lt depth 200 then unwritable (depth + 1) inner else Some Depth) (unwritable depth ps)
+    else option_or (if nat_lt depth 200 then unwritable (depth + 1) inner else Some Depth) (unwritable depth ps)
 
 -- the same of a value in a container of this depth
 abbrev pub unwritable_value : ℕ → TreeValue → Option DocRefusal

@@ -1,6 +1,7 @@
 //! A pair that is added to a document in its bytes.
 
 ghost use Rattle.std.specs.Prelude.{◌≡◌, ◌≤◌, ◌++◌, length, drop, vec_len, OnOk, OnErr, IfErr};
+ghost use Rattle.std.specs.Io.{StartsWith};
 ghost use Rattle.bson_elem.specs.Tree.{Tree};
 ghost use Rattle.bson_elem.specs.Spelling.{cstring, Spells};
 ghost use Rattle.bson_elem.specs.Spelling as spelling;
@@ -8,7 +9,7 @@ ghost use Rattle.bson_raw.specs.Spelled.{IsSpelled};
 ghost use Rattle.bson_doc.specs.Bson.{value_of};
 ghost use Rattle.bson_doc.specs.Formed.{IsFormedValue};
 ghost use Rattle.bson_doc.specs.Last.{with_last};
-ghost use Rattle.bson_doc.specs.Refusals.{IsSizeRefusal, Keeps};
+ghost use Rattle.bson_doc.specs.Refusals.{IsSizeRefusal};
 ghost use Rattle.bson_doc.specs.Unwritable.{IsUnwritable};
 ghost use Rattle.bson_doc.specs.Values.{value_bytes};
 
@@ -30,7 +31,7 @@ fn write_last(name: &str, value: &Bson, out: &mut Vec<u8>) -> Result<(), DocRefu
     ensures refused { let pair = cstring name.now ++ value_bytes (value_of value.now) in
         let len = length (spelling.document (drop 4 out.old.items ++ pair)) in
         IfErr result (λ e. IsSizeRefusal MAX_LEN len e) }
-    ensures kept { OnErr result (Keeps out.old.items out.new.items) }
+    ensures kept { OnErr result (StartsWith out.new.items out.old.items) }
 {
     write_cstring(name, out)?;
     write_value(value, out)?;

@@ -3,10 +3,11 @@
 //! there before then stands there still, with some bytes of the part behind it or none.
 
 ghost use Rattle.std.specs.Prelude.{◌≡◌, ◌≤◌, ◌<◌, ◌+◌, ◌-◌, ◌++◌, ◌∷◌, [], length, take, drop, vec_len, OnOk, OnErr, IfErr};
+ghost use Rattle.std.specs.Io.{StartsWith};
 ghost use Rattle.bson_elem.specs.Kinds.{int32_form, int64_form, timestamp_form};
 ghost use Rattle.bson_elem.specs.Tree.{number_value, timestamp_value};
 ghost use Rattle.bson_elem.specs.Spelling.{little, cstring, string, binary, document, leaf_bytes};
-ghost use Rattle.bson_doc.specs.Refusals.{IsSizeRefusal, Keeps};
+ghost use Rattle.bson_doc.specs.Refusals.{IsSizeRefusal};
 
 use crate::buf::MAX_LEN;
 use crate::refusal::DocRefusal;
@@ -16,7 +17,7 @@ use byteorder::{ByteOrder, LittleEndian};
 pub(crate) fn write_bytes(bytes: &[u8], out: &mut Vec<u8>) -> Result<(), DocRefusal>
     ensures added { OnOk result (out.new.items ≡ out.old.items ++ bytes.now) }
     ensures refused { IfErr result (λ e. IsSizeRefusal MAX_LEN (length bytes.now) e) }
-    ensures kept { OnErr result (Keeps out.old.items out.new.items) }
+    ensures kept { OnErr result (StartsWith out.new.items out.old.items) }
 {
     out.extend_from_slice(bytes)?;
     Ok(())
@@ -26,7 +27,7 @@ pub(crate) fn write_bytes(bytes: &[u8], out: &mut Vec<u8>) -> Result<(), DocRefu
 pub(crate) fn write_cstring(text: &str, out: &mut Vec<u8>) -> Result<(), DocRefusal>
     ensures added { OnOk result (out.new.items ≡ out.old.items ++ cstring text.now) }
     ensures refused { IfErr result (λ e. IsSizeRefusal MAX_LEN (length (cstring text.now)) e) }
-    ensures kept { OnErr result (Keeps out.old.items out.new.items) }
+    ensures kept { OnErr result (StartsWith out.new.items out.old.items) }
 {
     out.extend_from_slice(text.as_bytes())?;
     out.push(0)?;
@@ -37,7 +38,7 @@ pub(crate) fn write_cstring(text: &str, out: &mut Vec<u8>) -> Result<(), DocRefu
 pub(crate) fn write_u32(n: u32, out: &mut Vec<u8>) -> Result<(), DocRefusal>
     ensures added { OnOk result (out.new.items ≡ out.old.items ++ little n) }
     ensures refused { IfErr result (λ e. IsSizeRefusal MAX_LEN 4 e) }
-    ensures kept { OnErr result (Keeps out.old.items out.new.items) }
+    ensures kept { OnErr result (StartsWith out.new.items out.old.items) }
 {
     let mut bytes = [0; 4];
     LittleEndian::write_u32(&mut bytes, n);
@@ -49,7 +50,7 @@ pub(crate) fn write_u32(n: u32, out: &mut Vec<u8>) -> Result<(), DocRefusal>
 pub(crate) fn write_int32(n: i32, out: &mut Vec<u8>) -> Result<(), DocRefusal>
     ensures added { OnOk result (out.new.items ≡ out.old.items ++ leaf_bytes int32_form (number_value n)) }
     ensures refused { IfErr result (λ e. IsSizeRefusal MAX_LEN 4 e) }
-    ensures kept { OnErr result (Keeps out.old.items out.new.items) }
+    ensures kept { OnErr result (StartsWith out.new.items out.old.items) }
 {
     let mut bytes = [0; 4];
     LittleEndian::write_i32(&mut bytes, n);
@@ -61,7 +62,7 @@ pub(crate) fn write_int32(n: i32, out: &mut Vec<u8>) -> Result<(), DocRefusal>
 pub(crate) fn write_int64(n: i64, out: &mut Vec<u8>) -> Result<(), DocRefusal>
     ensures added { OnOk result (out.new.items ≡ out.old.items ++ leaf_bytes int64_form (number_value n)) }
     ensures refused { IfErr result (λ e. IsSizeRefusal MAX_LEN 8 e) }
-    ensures kept { OnErr result (Keeps out.old.items out.new.items) }
+    ensures kept { OnErr result (StartsWith out.new.items out.old.items) }
 {
     let mut bytes = [0; 8];
     LittleEndian::write_i64(&mut bytes, n);
@@ -77,7 +78,7 @@ pub(crate) fn write_timestamp(
 ) -> Result<(), DocRefusal>
     ensures added { OnOk result (out.new.items ≡ out.old.items ++ leaf_bytes timestamp_form (timestamp_value increment seconds)) }
     ensures refused { IfErr result (λ e. IsSizeRefusal MAX_LEN 8 e) }
-    ensures kept { OnErr result (Keeps out.old.items out.new.items) }
+    ensures kept { OnErr result (StartsWith out.new.items out.old.items) }
 {
     write_u32(increment, out)?;
     write_u32(seconds, out)
@@ -87,7 +88,7 @@ pub(crate) fn write_timestamp(
 fn write_count(count: usize, out: &mut Vec<u8>) -> Result<(), DocRefusal>
     ensures added { OnOk result (out.new.items ≡ out.old.items ++ little count) }
     ensures refused { IfErr result (λ e. IsSizeRefusal MAX_LEN count e) }
-    ensures kept { OnErr result (Keeps out.old.items out.new.items) }
+    ensures kept { OnErr result (StartsWith out.new.items out.old.items) }
 {
     if count > MAX_LEN {
         return Err(DocRefusal::TooLarge);
@@ -99,7 +100,7 @@ fn write_count(count: usize, out: &mut Vec<u8>) -> Result<(), DocRefusal>
 pub(crate) fn write_string(text: &str, out: &mut Vec<u8>) -> Result<(), DocRefusal>
     ensures added { OnOk result (out.new.items ≡ out.old.items ++ string text.now) }
     ensures refused { IfErr result (λ e. IsSizeRefusal MAX_LEN (length (string text.now)) e) }
-    ensures kept { OnErr result (Keeps out.old.items out.new.items) }
+    ensures kept { OnErr result (StartsWith out.new.items out.old.items) }
 {
     write_count(text.len() + 1, out)?;
     write_cstring(text, out)
@@ -109,7 +110,7 @@ pub(crate) fn write_string(text: &str, out: &mut Vec<u8>) -> Result<(), DocRefus
 fn write_counted(bytes: &[u8], out: &mut Vec<u8>) -> Result<(), DocRefusal>
     ensures added { OnOk result (out.new.items ≡ out.old.items ++ (little (length bytes.now) ++ bytes.now)) }
     ensures refused { IfErr result (λ e. IsSizeRefusal MAX_LEN (length (little (length bytes.now) ++ bytes.now)) e) }
-    ensures kept { OnErr result (Keeps out.old.items out.new.items) }
+    ensures kept { OnErr result (StartsWith out.new.items out.old.items) }
 {
     write_count(bytes.len(), out)?;
     write_bytes(bytes, out)
@@ -119,7 +120,7 @@ fn write_counted(bytes: &[u8], out: &mut Vec<u8>) -> Result<(), DocRefusal>
 fn write_binary_head(count: usize, subtype: u8, out: &mut Vec<u8>) -> Result<(), DocRefusal>
     ensures added { OnOk result (out.new.items ≡ out.old.items ++ (little count ++ subtype ∷ [])) }
     ensures refused { IfErr result (λ e. IsSizeRefusal MAX_LEN count e) }
-    ensures kept { OnErr result (Keeps out.old.items out.new.items) }
+    ensures kept { OnErr result (StartsWith out.new.items out.old.items) }
 {
     write_count(count, out)?;
     out.push(subtype)?;
@@ -130,7 +131,7 @@ fn write_binary_head(count: usize, subtype: u8, out: &mut Vec<u8>) -> Result<(),
 pub(crate) fn write_binary(subtype: u8, bytes: &[u8], out: &mut Vec<u8>) -> Result<(), DocRefusal>
     ensures added { OnOk result (out.new.items ≡ out.old.items ++ binary subtype bytes.now) }
     ensures refused { IfErr result (λ e. IsSizeRefusal MAX_LEN (length (binary subtype bytes.now)) e) }
-    ensures kept { OnErr result (Keeps out.old.items out.new.items) }
+    ensures kept { OnErr result (StartsWith out.new.items out.old.items) }
 {
     if subtype == 2 {
         write_binary_head(bytes.len() + 4, 2, out)?;
@@ -144,7 +145,7 @@ pub(crate) fn write_binary(subtype: u8, bytes: &[u8], out: &mut Vec<u8>) -> Resu
 pub(crate) fn write_regex(pattern: &str, options: &str, out: &mut Vec<u8>) -> Result<(), DocRefusal>
     ensures added { OnOk result (out.new.items ≡ out.old.items ++ (cstring pattern.now ++ cstring options.now)) }
     ensures refused { IfErr result (λ e. IsSizeRefusal MAX_LEN (length (cstring pattern.now ++ cstring options.now)) e) }
-    ensures kept { OnErr result (Keeps out.old.items out.new.items) }
+    ensures kept { OnErr result (StartsWith out.new.items out.old.items) }
 {
     write_cstring(pattern, out)?;
     write_cstring(options, out)
@@ -154,7 +155,7 @@ pub(crate) fn write_regex(pattern: &str, options: &str, out: &mut Vec<u8>) -> Re
 pub(crate) fn write_dbpointer(text: &str, id: &[u8], out: &mut Vec<u8>) -> Result<(), DocRefusal>
     ensures added { OnOk result (out.new.items ≡ out.old.items ++ (string text.now ++ id.now)) }
     ensures refused { IfErr result (λ e. IsSizeRefusal MAX_LEN (length (string text.now ++ id.now)) e) }
-    ensures kept { OnErr result (Keeps out.old.items out.new.items) }
+    ensures kept { OnErr result (StartsWith out.new.items out.old.items) }
 {
     write_string(text, out)?;
     write_bytes(id, out)
@@ -164,7 +165,7 @@ pub(crate) fn write_dbpointer(text: &str, id: &[u8], out: &mut Vec<u8>) -> Resul
 pub(crate) fn begin(out: &mut Vec<u8>) -> Result<(), DocRefusal>
     ensures added { OnOk result (out.new.items ≡ out.old.items ++ 0 ∷ 0 ∷ 0 ∷ 0 ∷ []) }
     ensures refused { IfErr result (λ e. IsSizeRefusal MAX_LEN 4 e) }
-    ensures kept { OnErr result (Keeps out.old.items out.new.items) }
+    ensures kept { OnErr result (StartsWith out.new.items out.old.items) }
 {
     out.extend_from_slice(&[0; 4])?;
     Ok(())
@@ -177,7 +178,7 @@ pub(crate) fn put_len(start: usize, limit: usize, out: &mut Vec<u8>) -> Result<(
     ensures added { OnOk result (out.new.items ≡ take start out.old.items ++ (little (vec_len out.old - start) ++ drop (start + 4) out.old.items)) }
     ensures within { OnOk result (vec_len out.old ≤ start + limit) }
     ensures refused { IfErr result (λ e. IsSizeRefusal limit (vec_len out.old - start) e) }
-    ensures kept { OnErr result (Keeps out.old.items out.new.items) }
+    ensures kept { OnErr result (StartsWith out.new.items out.old.items) }
 {
     let len = out.len() - start;
     if len > limit {
@@ -194,7 +195,7 @@ pub(crate) fn finish(start: usize, limit: usize, out: &mut Vec<u8>) -> Result<()
     ensures added { OnOk result (out.new.items ≡ take start out.old.items ++ document (drop (start + 4) out.old.items)) }
     ensures within { OnOk result (length (document (drop (start + 4) out.old.items)) ≤ limit) }
     ensures refused { IfErr result (λ e. IsSizeRefusal limit (length (document (drop (start + 4) out.old.items))) e) }
-    ensures kept { OnErr result (Keeps out.old.items out.new.items) }
+    ensures kept { OnErr result (StartsWith out.new.items out.old.items) }
 {
     out.push(0)?;
     put_len(start, limit, out)

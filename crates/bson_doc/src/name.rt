@@ -1,10 +1,11 @@
 //! The names of the pairs of a container: in an array "0", "1" and so on.
 
 ghost use Rattle.std.specs.Prelude.{◌≡◌, ◌++◌, length, OnOk, OnErr, IfErr};
+ghost use Rattle.std.specs.Io.{StartsWith};
 ghost use Rattle.bson_elem.specs.Spelling.{cstring};
 ghost use Rattle.bson_doc.specs.Plain.{name_at};
 ghost use Rattle.bson_doc.specs.Naming.{is_named};
-ghost use Rattle.bson_doc.specs.Refusals.{IsSizeRefusal, Keeps};
+ghost use Rattle.bson_doc.specs.Refusals.{IsSizeRefusal};
 
 use crate::buf::MAX_LEN;
 use crate::bytes::write_cstring;
@@ -31,7 +32,7 @@ pub(crate) fn write_name(
 ) -> Result<(), DocRefusal>
     ensures added { OnOk result (out.new.items ≡ out.old.items ++ cstring (name_at in_array place name.now)) }
     ensures refused { IfErr result (λ e. IsSizeRefusal MAX_LEN (length (cstring (name_at in_array place name.now))) e) }
-    ensures kept { OnErr result (Keeps out.old.items out.new.items) }
+    ensures kept { OnErr result (StartsWith out.new.items out.old.items) }
 {
     if !in_array {
         return write_cstring(name, out);

@@ -1,6 +1,7 @@
 //! Documents that are written to bytes of their own.
 
 ghost use Rattle.std.specs.Prelude.{◌≡◌, ◌++◌, ◌∷◌, IsUtf8, IfErr, IfOk, OnErr, OnOk, None, Some, length, ◌≤◌, ◌<◌};
+ghost use Rattle.std.specs.Io.{StartsWith};
 ghost use Rattle.bson_elem.specs.Kinds.{byte_of};
 ghost use Rattle.bson_elem.specs.Spelling.{cstring, string, elements, inner_bytes, AreBytes, IsBytes, Spells};
 ghost use Rattle.bson_elem.specs.Spelling as spelling;
@@ -9,7 +10,7 @@ ghost use Rattle.bson_doc.specs.Array.{array_tree};
 ghost use Rattle.bson_doc.specs.Bson.{value_of};
 ghost use Rattle.bson_doc.specs.Document.{tree_of};
 ghost use Rattle.bson_doc.specs.Formed.{IsFormed, IsFormedValue};
-ghost use Rattle.bson_doc.specs.Refusals.{IsSizeRefusal, Keeps};
+ghost use Rattle.bson_doc.specs.Refusals.{IsSizeRefusal};
 ghost use Rattle.bson_doc.specs.Plain.{name_at, plain};
 ghost use Rattle.bson_doc.specs.RawDocumentBuf.{buf_bytes};
 ghost use Rattle.bson_doc.specs.Repeats.{repeat_depth};
@@ -40,7 +41,7 @@ fn write_head(
     ensures added { OnOk result (out.new.items ≡ out.old.items ++ (byte_of kind ∷ cstring (name_at in_array place name.now))) }
     ensures text { OnOk result (IsUtf8 (name_at in_array place name.now)) }
     ensures refused { IfErr result (λ e. IsSizeRefusal MAX_LEN (length (byte_of kind ∷ cstring (name_at in_array place name.now))) e) }
-    ensures kept { OnErr result (Keeps out.old.items out.new.items) }
+    ensures kept { OnErr result (StartsWith out.new.items out.old.items) }
 {
     out.push(kind.byte())?;
     write_name(name, in_array, place, out)
@@ -51,7 +52,7 @@ fn write_slice(bytes: &[u8], out: &mut Vec<u8>) -> Result<(), DocRefusal>
     ensures added { OnOk result (out.new.items ≡ out.old.items ++ bytes.now) }
     ensures formed { OnOk result (IsBytes bytes.now) }
     ensures refused { IfErr result (λ e. IsSizeRefusal MAX_LEN (length bytes.now) e) }
-    ensures kept { OnErr result (Keeps out.old.items out.new.items) }
+    ensures kept { OnErr result (StartsWith out.new.items out.old.items) }
 {
     write_bytes(bytes, out)
 }
@@ -61,7 +62,7 @@ fn write_raw<const N: usize>(bytes: &[u8; N], out: &mut Vec<u8>) -> Result<(), D
     ensures added { OnOk result (out.new.items ≡ out.old.items ++ bytes.now) }
     ensures formed { OnOk result (AreBytes N bytes.now) }
     ensures refused { IfErr result (λ e. IsSizeRefusal MAX_LEN (length bytes.now) e) }
-    ensures kept { OnErr result (Keeps out.old.items out.new.items) }
+    ensures kept { OnErr result (StartsWith out.new.items out.old.items) }
 {
     write_slice(bytes, out)
 }
@@ -71,7 +72,7 @@ fn write_data(subtype: u8, bytes: &[u8], out: &mut Vec<u8>) -> Result<(), DocRef
     ensures added { OnOk result (out.new.items ≡ out.old.items ++ spelling.binary subtype bytes.now) }
     ensures formed { OnOk result ((subtype < 256) × IsBytes bytes.now) }
     ensures refused { IfErr result (λ e. IsSizeRefusal MAX_LEN (length (spelling.binary subtype bytes.now)) e) }
-    ensures kept { OnErr result (Keeps out.old.items out.new.items) }
+    ensures kept { OnErr result (StartsWith out.new.items out.old.items) }
 {
     write_binary(subtype, bytes, out)
 }
@@ -81,7 +82,7 @@ fn write_pointer(text: &str, id: &[u8; 12], out: &mut Vec<u8>) -> Result<(), Doc
     ensures added { OnOk result (out.new.items ≡ out.old.items ++ (string text.now ++ id.now)) }
     ensures formed { OnOk result (IsUtf8 text.now × AreBytes 12 id.now) }
     ensures refused { IfErr result (λ e. IsSizeRefusal MAX_LEN (length (string text.now ++ id.now)) e) }
-    ensures kept { OnErr result (Keeps out.old.items out.new.items) }
+    ensures kept { OnErr result (StartsWith out.new.items out.old.items) }
 {
     write_string(text, out)?;
     write_raw(id, out)
@@ -93,7 +94,7 @@ pub(crate) fn write_value(value: &Bson, out: &mut Vec<u8>) -> Result<(), DocRefu
     ensures added { OnOk result (out.new.items ≡ out.old.items ++ value_bytes (value_of value.now)) }
     ensures formed { OnOk result (IsFormedValue (value_of value.now)) }
     ensures refused { IfErr result (λ e. IsSizeRefusal MAX_LEN (length (value_bytes (value_of value.now))) e) }
-    ensures kept { OnErr result (Keeps out.old.items out.new.items) }
+    ensures kept { OnErr result (StartsWith out.new.items out.old.items) }
 {
     match value {
         Bson::Double(bytes) => write_raw(bytes, out),
@@ -123,7 +124,7 @@ fn write_scope(code: &str, scope: &Document, out: &mut Vec<u8>) -> Result<(), Do
     ensures added { OnOk result (out.new.items ≡ out.old.items ++ inner_bytes (with_code code.now) (elements (tree_of scope.now))) }
     ensures formed { OnOk result (IsFormed (tree_of scope.now)) }
     ensures refused { IfErr result (λ e. IsSizeRefusal MAX_LEN (length (inner_bytes (with_code code.now) (elements (tree_of scope.now)))) e) }
-    ensures kept { OnErr result (Keeps out.old.items out.new.items) }
+    ensures kept { OnErr result (StartsWith out.new.items out.old.items) }
 {
     let start = out.len();
     begin(out)?;
@@ -138,7 +139,7 @@ fn write_array(array: &Array, out: &mut Vec<u8>) -> Result<(), DocRefusal>
     ensures added { OnOk result (out.new.items ≡ out.old.items ++ spelling.document (elements (array_tree 0 array.now))) }
     ensures formed { OnOk result (IsFormed (array_tree 0 array.now)) }
     ensures refused { IfErr result (λ e. IsSizeRefusal MAX_LEN (length (spelling.document (elements (array_tree 0 array.now)))) e) }
-    ensures kept { OnErr result (Keeps out.old.items out.new.items) }
+    ensures kept { OnErr result (StartsWith out.new.items out.old.items) }
 {
     let start = out.len();
     begin(out)?;
@@ -156,7 +157,7 @@ pub(crate) fn write_document(document: &Document, out: &mut Vec<u8>) -> Result<(
     ensures within { OnOk result (length (spelling.document (elements (tree_of document.now))) ≤ MAX_LEN) }
     ensures formed { OnOk result (IsFormed (tree_of document.now)) }
     ensures refused { IfErr result (λ e. IsSizeRefusal MAX_LEN (length (spelling.document (elements (tree_of document.now)))) e) }
-    ensures kept { OnErr result (Keeps out.old.items out.new.items) }
+    ensures kept { OnErr result (StartsWith out.new.items out.old.items) }
 {
     let start = out.len();
     begin(out)?;

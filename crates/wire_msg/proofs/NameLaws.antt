@@ -1,5 +1,6 @@
 -- The search for the names of a message.
 use Rattle.std.proofs.Common.{◌≡◌, ◌≢◌, ℕ, ◌+◌, ◌-◌, ◌≤◌, true, false, List, [], ◌∷◌, ◌++◌, length, Option, Some, None, refl, sym, ap, ◌∙◌, arith, length-append, inl, inr}
+use Rattle.std.specs.Option.{option_or}
 use Rattle.std.specs.Prelude.{MatchOption, is_some}
 use Rattle.std.specs.Borrow.{Bor}
 use Rattle.std.specs.Str.{bytes_eq}
@@ -13,7 +14,7 @@ use Rattle.wire_msg.specs.Spelling.{body_section, sequence_section, sequences_by
 use Rattle.wire_msg.specs.declared.fault.MsgFault.{MsgFault}
 use Rattle.wire_msg.specs.declared.fault.MsgCause.TheVariants.{RepeatedField, SequenceInBody}
 use Rattle.wire_msg.specs.Causes.{msg_fault}
-use Rattle.wire_msg.specs.Faults.{first_in_body, or_else, identifier_fault, field_fault, names_fault}
+use Rattle.wire_msg.specs.Faults.{first_in_body, identifier_fault, field_fault, names_fault}
 use Rattle.wire_msg.proofs.ReadLaws.{length-sequence}
 
 -- ---- one name
@@ -128,7 +129,7 @@ fields_cases : (p : ℕ) (found : Option (List ℕ)) (other : Option MsgFault) �
 fields_cases p None other e = (refl, e)
 fields_cases p (Some name) other e = absurd cc
 
-places_cases : (a b : Option ℕ) → identifier_fault (or_else a b) ≡ None → (a ≡ None) × (b ≡ None)
+places_cases : (a b : Option ℕ) → identifier_fault (option_or a b) ≡ None → (a ≡ None) × (b ≡ None)
 places_cases None None e = (refl, refl)
 places_cases None (Some p) e = absurd cc
 places_cases (Some p) b e = absurd cc
@@ -136,7 +137,7 @@ places_cases (Some p) b e = absurd cc
 pub no_names_fault : (first : List Sequence) (t : Tree) (last : List Sequence) → names_fault first t last ≡ None → (first_repeated [] t ≡ None) × AreApart t (first ++ last)
 no_names_fault first t last e =
     let p : ℕ = 20 + length (sequences_bytes first) in
-    let f = fields_cases p (first_repeated [] t) (identifier_fault (or_else (first_in_body t 20 first) (first_in_body t (p + length (body_section t)) last))) e in
+    let f = fields_cases p (first_repeated [] t) (identifier_fault (option_or (first_in_body t 20 first) (first_in_body t (p + length (body_section t)) last))) e in
     let g = places_cases (first_in_body t 20 first) (first_in_body t (p + length (body_section t)) last) f.1 in
     (f.0, AreApart-append t first last (apart t 20 first g.0) (apart t (p + length (body_section t)) last g.1))
 

@@ -1,5 +1,6 @@
 -- The parts of a message, added one after another.
 use Rattle.std.proofs.Common.{◌≡◌, ℕ, ℤ, pos, ◌+◌, ◌<◌, ◌≤◌, ◌^◌, FitsSigned, Bool, true, false, List, [], ◌∷◌, ◌++◌, length, take, drop, refl, sym, ap, ◌∙◌, append_assoc, arith, length-append, Result, Ok, Err}
+use Rattle.std.specs.Io.{StartsWith}
 use Rattle.std.specs.Prelude.{OnOk, OnErr, is_ok, if◌then◌else◌}
 use Rattle.std.specs.Int.{w32}
 use Rattle.std.proofs.Math.Seq.{take-append_seam}
@@ -9,7 +10,6 @@ use Rattle.bson_elem.specs.Spelling.{little, document, elements}
 use Rattle.wire_msg.specs.Message.{Content, Message, IsContent}
 use Rattle.wire_msg.specs.Spelling.{body_section, sequences_bytes, sections_bytes, signed, header_bytes, message_bytes, flag_word, canonical, message_len, FlagsAre, SpellsMsg}
 use Rattle.wire_msg.specs.Payload.{AreParts}
-use Rattle.wire_msg.specs.Writing.{Keeps}
 use Rattle.wire_msg.proofs.SequenceLaws.{sequences-append}
 
 pub on_ok : {T E : Type 0} (r : Result T E) (P Q : Type 0) → (P → Q) → OnOk r P → OnOk r Q
@@ -26,7 +26,7 @@ appended (Ok x) old longer new e = e
 appended (Err x) old longer new e = tt
 
 -- what stood before bytes that are kept is kept
-pub keeps_front : (old more mid new : List ℕ) → mid ≡ old ++ more → Keeps mid new → Keeps old new
+pub keeps_front : (old more mid new : List ℕ) → mid ≡ old ++ more → StartsWith new mid → StartsWith new old
 keeps_front old more mid new is kept =
     let le : length old ≤ length (take (length mid) new) = omega (arith, ap length kept, ap length is, length-append old more) in
     ap (take (length old)) (sym (take-append-drop (length mid) new)) ∙ take-append-le (length old) (take (length mid) new) (drop (length mid) new) le ∙ ap (take (length old)) (kept ∙ is) ∙ take-append_seam old more

@@ -1,5 +1,6 @@
 -- The first fault of bytes that are no message, in the order of the checks.
 use Rattle.std.specs.Prelude.{◌≡◌, ◌≢◌, ℕ, ◌+◌, ◌%◌, ◌^◌, ◌<◌, ◌≤◌, nat_le, ◌==◌, if◌then◌else◌, List, [], ◌∷◌, ◌++◌, length, drop, slice_range, Option, Some, None, Ok, Err}
+use Rattle.std.specs.Option.{option_or}
 use Rattle.std.specs.Int.{bit_at}
 use Rattle.bson_elem.specs.declared.fault.BsonCause.{BsonCause}
 use Rattle.bson_elem.specs.declared.fault.BsonFault.{BsonFault}
@@ -81,10 +82,6 @@ abbrev pub first_in_body : Tree → ℕ → List Sequence → Option ℕ
 first_in_body body p [] = None
 first_in_body body p (q ∷ qs) = if is_field q.identifier body then Some p else first_in_body body (p + length (sequence_section q)) qs
 
-abbrev pub or_else : Option ℕ → Option ℕ → Option ℕ
-or_else (Some p) other = Some p
-or_else None other = other
-
 abbrev pub identifier_fault : Option ℕ → Option MsgFault
 identifier_fault (Some p) = Some (msg_fault p causes.SequenceInBody)
 identifier_fault None = None
@@ -99,7 +96,7 @@ abbrev pub names_fault : List Sequence → Tree → List Sequence → Option Msg
 names_fault before body after =
     let p = 20 + length (sequences_bytes before) in
     field_fault p (first_repeated [] body)
-    (identifier_fault (or_else (first_in_body body 20 before) (first_in_body body (p + length (body_section body)) after)))
+    (identifier_fault (option_or (first_in_body body 20 before) (first_in_body body (p + length (body_section body)) after)))
 
 -- ---- all sections, from place 20 on
 

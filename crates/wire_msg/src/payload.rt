@@ -1,12 +1,12 @@
 //! What a message carries, lent out of its bytes.
 
 ghost use Rattle.std.specs.Prelude.{◌≡◌, ◌++◌, [], IfOk, OnOk, OnErr};
+ghost use Rattle.std.specs.Io.{StartsWith};
 ghost use Rattle.bson_elem.specs.Spelling.{Spells};
 ghost use Rattle.bson_raw.specs.RawDocument.{document_bytes};
 ghost use Rattle.wire_msg.specs.Message.{Content};
 ghost use Rattle.wire_msg.specs.Spelling.{message_len, sections_bytes};
 ghost use Rattle.wire_msg.specs.Payload.{AreParts, IsPayload};
-ghost use Rattle.wire_msg.specs.Writing.{Keeps};
 
 use crate::payload_buf::PayloadBuf;
 use crate::sections::SECTIONS;
@@ -71,7 +71,7 @@ impl<'a> Payload<'a> {
         ensures added { (c : Content) → Carries self.entry c
             → OnOk result (out.new.items
             ≡ out.old.items ++ sections_bytes [] c.body c.sequences) }
-        ensures kept { OnErr result (Keeps out.old.items out.new.items) }
+        ensures kept { OnErr result (StartsWith out.new.items out.old.items) }
     {
         out.push(0)?;
         out.extend_from_slice(self.body.as_bytes())?;

@@ -2,11 +2,12 @@
 //! before the document sequences, and no flag bit set that means nothing.
 
 ghost use Rattle.std.specs.Prelude.{◌≡◌, ◌≤◌, ◌++◌, OnOk, OnErr, IfErr};
+ghost use Rattle.std.specs.Io.{StartsWith};
 ghost use Rattle.bson_elem.specs.Spelling.{little};
 ghost use Rattle.wire_msg.specs.Carries.{Carries};
 ghost use Rattle.wire_msg.specs.Message.{Content, Message};
 ghost use Rattle.wire_msg.specs.Spelling.{canonical, flag_word, header_bytes, message_len, signed};
-ghost use Rattle.wire_msg.specs.Writing.{IsWriteRefusal, Keeps};
+ghost use Rattle.wire_msg.specs.Writing.{IsWriteRefusal};
 
 use crate::flags::MsgFlags;
 use crate::header::OP_MSG;
@@ -17,7 +18,7 @@ use std::alloc::AllocError;
 
 fn write_u32(n: u32, out: &mut Vec<u8>) -> Result<(), AllocError>
     ensures added { OnOk result (out.new.items ≡ out.old.items ++ little n) }
-    ensures kept { OnErr result (Keeps out.old.items out.new.items) }
+    ensures kept { OnErr result (StartsWith out.new.items out.old.items) }
 {
     let mut bytes = [0; 4];
     LittleEndian::write_u32(&mut bytes, n);
@@ -26,7 +27,7 @@ fn write_u32(n: u32, out: &mut Vec<u8>) -> Result<(), AllocError>
 
 fn write_i32(n: i32, out: &mut Vec<u8>) -> Result<(), AllocError>
     ensures added { OnOk result (out.new.items ≡ out.old.items ++ signed n) }
-    ensures kept { OnErr result (Keeps out.old.items out.new.items) }
+    ensures kept { OnErr result (StartsWith out.new.items out.old.items) }
 {
     let mut bytes = [0; 4];
     LittleEndian::write_i32(&mut bytes, n);
@@ -37,7 +38,7 @@ fn write_i32(n: i32, out: &mut Vec<u8>) -> Result<(), AllocError>
 fn write_header(len: u32, id: i32, response_to: i32, out: &mut Vec<u8>) -> Result<(), AllocError>
     ensures added { OnOk result (out.new.items
         ≡ out.old.items ++ header_bytes len id response_to) }
-    ensures kept { OnErr result (Keeps out.old.items out.new.items) }
+    ensures kept { OnErr result (StartsWith out.new.items out.old.items) }
 {
     write_u32(len, out)?;
     write_i32(id, out)?;
@@ -63,7 +64,7 @@ fn write_parts(
           allows = flags.allows;
           content = c;
         })) }
-    ensures kept { OnErr result (Keeps out.old.items out.new.items) }
+    ensures kept { OnErr result (StartsWith out.new.items out.old.items) }
 {
     write_header(len, id, response_to, out)?;
     write_u32(flags.word(), out)?;
