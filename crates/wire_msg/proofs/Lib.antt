@@ -14,4 +14,6 @@ pub mod MsgAnswers
 pub mod PlaceLaws
 pub mod StandingLaws
 pub mod WriteLaws
+pub mod LastLaws
+pub mod AppendLaws
 pub mod BufLaws

@@ -8,7 +8,7 @@ use Rattle.wire_msg.proofs.ReadLaws.{length-sequence}
 use Rattle.std.proofs.lemmas.List.{length-append}
 use Rattle.wire_msg.specs.Spelling.{sequence_section}
 
-no_bytes : (bytes : List ℕ) (qs : List Sequence) → bytes ≡ sequences_bytes qs → length bytes ≡ 0 → qs ≡ []
+pub no_bytes : (bytes : List ℕ) (qs : List Sequence) → bytes ≡ sequences_bytes qs → length bytes ≡ 0 → qs ≡ []
 no_bytes bytes [] is none = refl
 no_bytes bytes (q ∷ qs) is none = absurd (omega (arith, none, ap length is, length-append (sequence_section q) (sequences_bytes qs), length-sequence q))
 

@@ -20,6 +20,11 @@ pub on_err : {T E : Type 0} (r : Result T E) (P Q : Type 0) → (P → Q) → On
 on_err (Ok x) P Q f p = tt
 on_err (Err e) P Q f p = f p
 
+-- what follows from either outcome
+pub on_both : {T E : Type 0} (r : Result T E) (P Q G : Type 0) → OnOk r P → OnErr r Q → (P → G) → (Q → G) → G
+on_both (Ok x) P Q G p q f g = f p
+on_both (Err e) P Q G p q f g = g q
+
 -- bytes that were added, or not
 pub appended : {T E : Type 0} (r : Result T E) (old longer new : List ℕ) → new ≡ (if is_ok r then longer else old) → OnOk r (new ≡ longer)
 appended (Ok x) old longer new e = e

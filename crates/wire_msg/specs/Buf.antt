@@ -1,11 +1,12 @@
--- What an owned payload carries, and why none is made.
-use Rattle.std.specs.Prelude.{◌≡◌, ◌≢◌, ◌^◌, ◌<◌, ◌≤◌, [], None}
+-- What an owned payload carries, what is added to it, and why none is made or nothing is added.
+use Rattle.std.specs.Prelude.{◌≡◌, ◌≢◌, ℕ, ◌^◌, ◌<◌, ◌≤◌, List, [], ◌∷◌, ◌++◌, true, false, None, Contains}
 use Rattle.bson_elem.specs.Tree.{Tree}
+use Rattle.bson_elem.specs.Spelling.{HasNoZero}
 use Rattle.bson_raw.specs.Pairs.{first_repeated}
 use Rattle.wire_msg.specs.declared.payload_buf.PayloadBuf.{PayloadBuf}
 use Rattle.wire_msg.specs.declared.refusal.MsgRefusal.{MsgRefusal}
-use Rattle.wire_msg.specs.declared.refusal.MsgRefusal.TheVariants.{TooLarge, RepeatedField, OutOfMemory}
-use Rattle.wire_msg.specs.Message.{Content}
+use Rattle.wire_msg.specs.declared.refusal.MsgRefusal.TheVariants.{TooLarge, RepeatedField, SequenceInBody, ZeroInName, NoSequence, OutOfMemory}
+use Rattle.wire_msg.specs.Message.{Sequence, Content, is_field}
 use Rattle.wire_msg.specs.Spelling.{message_len}
 use Rattle.wire_msg.specs.Payload.{AreParts}
 
@@ -23,3 +24,52 @@ IsBodyRefusal t RepeatedField = first_repeated [] t ≢ None
 IsBodyRefusal t TooLarge = (first_repeated [] t ≡ None) × (2 ^ 31 ≤ message_len (body_alone t))
 IsBodyRefusal t OutOfMemory = (first_repeated [] t ≡ None) × (message_len (body_alone t) < 2 ^ 31)
 IsBodyRefusal t _ = ⊥
+
+-- the bytes of the body and of the sequences are the same
+abbrev pub HasSameBytes : PayloadBuf → PayloadBuf → Type 0
+HasSameBytes b new = (new.body.items ≡ b.body.items) × (new.sequences.items ≡ b.sequences.items)
+
+-- ---- a sequence more
+
+-- a document sequence without documents
+abbrev pub empty_sequence : List ℕ → Sequence
+empty_sequence name = record { identifier = name; documents = [] }
+
+-- the content with an empty sequence of this identifier, the last
+abbrev pub with_sequence : Content → List ℕ → Content
+with_sequence c name = record { body = c.body; sequences = c.sequences ++ empty_sequence name ∷ [] }
+
+-- the identifier is no top-level name of the body, and has no 00
+abbrev pub IsFree : Content → List ℕ → Type 0
+IsFree c name = (is_field name c.body ≡ false) × HasNoZero name
+
+-- why no sequence of this identifier is added to the content
+abbrev pub IsSequenceRefusal : Content → List ℕ → MsgRefusal → Type 0
+IsSequenceRefusal c name SequenceInBody = is_field name c.body ≡ true
+IsSequenceRefusal c name ZeroInName = Contains name 0
+IsSequenceRefusal c name TooLarge = IsFree c name × (2 ^ 31 ≤ message_len (with_sequence c name))
+IsSequenceRefusal c name OutOfMemory = IsFree c name × (message_len (with_sequence c name) < 2 ^ 31)
+IsSequenceRefusal c name _ = ⊥
+
+-- ---- a document more
+
+-- the sequence with a document more, the last
+abbrev pub longer : Sequence → Tree → Sequence
+longer q t = record { identifier = q.identifier; documents = q.documents ++ t ∷ [] }
+
+-- the sequences with a document more, the last of the last sequence
+abbrev pub with_last : List Sequence → Tree → List Sequence
+with_last [] t = []
+with_last (q ∷ []) t = longer q t ∷ []
+with_last (q ∷ r ∷ qs) t = q ∷ with_last (r ∷ qs) t
+
+-- the content with a document more, the last of its last sequence
+abbrev pub with_document : Content → Tree → Content
+with_document c t = record { body = c.body; sequences = with_last c.sequences t }
+
+-- why the document isn't added to the content
+abbrev pub IsDocumentRefusal : Content → Tree → MsgRefusal → Type 0
+IsDocumentRefusal c t NoSequence = c.sequences ≡ []
+IsDocumentRefusal c t TooLarge = (c.sequences ≢ []) × (2 ^ 31 ≤ message_len (with_document c t))
+IsDocumentRefusal c t OutOfMemory = (c.sequences ≢ []) × (message_len (with_document c t) < 2 ^ 31)
+IsDocumentRefusal c t _ = ⊥

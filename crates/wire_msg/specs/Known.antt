@@ -1,5 +1,5 @@
 -- Bytes that are known to be documents back to back, or document sequences, one after another.
-use Rattle.std.specs.Prelude.{◌≡◌, ℕ, List, ◌++◌}
+use Rattle.std.specs.Prelude.{◌≡◌, ℕ, ◌+◌, List, [], ◌∷◌, ◌++◌, length}
 use Rattle.wire_msg.specs.Message.{Sequence, IsSequence, AreSequences, documents_bytes}
 use Rattle.wire_msg.specs.Spelling.{sequence_section, sequences_bytes}
 
@@ -20,3 +20,13 @@ pub record AreRuns (bytes then : List ℕ) (qs : List Sequence) : Type 0 where
   pub first_are : bytes ≡ sequences_bytes first
   pub last_are : then ≡ sequences_bytes last
   pub all : qs ≡ first ++ last
+
+-- where the last of the sequences begins; 0 where there is none
+abbrev pub last_place : List Sequence → ℕ
+last_place [] = 0
+last_place (q ∷ []) = 0
+last_place (q ∷ r ∷ qs) = length (sequence_section q) + last_place (r ∷ qs)
+
+-- whatever sequences the bytes are, the last of them begins at this place
+abbrev pub IsLastPlace : List ℕ → ℕ → Type 0
+IsLastPlace bytes place = (qs : List Sequence) → AreSequences qs → bytes ≡ sequences_bytes qs → place ≡ last_place qs

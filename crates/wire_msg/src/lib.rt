@@ -4,13 +4,15 @@
 //! and any number of document sequences. `RawMsg::parse` runs through every check, and tells the
 //! first fault and its place where there is one; from then on the type carries the fact that its
 //! bytes are a message, so a walk over it has no errors. Its `Payload` is lent out of the same
-//! bytes. Nothing of this takes memory. `PayloadBuf` is a payload in bytes of its own, and
-//! `write_msg` adds the canonical spelling of a message to bytes.
+//! bytes. Nothing of this takes memory. `PayloadBuf` is a payload in bytes of its own, to which
+//! document sequences and their documents are added, and `write_msg` adds the canonical spelling of
+//! a message to bytes.
 //!
 //! Checksums aren't verified: a message with one is refused by a cause of its own. Other opcodes
 //! and compression are left out.
 #![tactic(auto)]
 
+mod append;
 pub mod documents;
 pub mod fault;
 pub mod flags;
@@ -20,7 +22,11 @@ pub mod msg;
 mod names;
 pub mod payload;
 pub mod payload_buf;
+#[cfg(test)]
+mod payload_tests;
 pub mod refusal;
+#[cfg(test)]
+mod refusal_tests;
 mod sections;
 mod sequence;
 pub mod sequence_iter;

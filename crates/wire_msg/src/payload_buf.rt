@@ -1,14 +1,18 @@
 //! What a message carries, in bytes of its own.
 
-ghost use Rattle.std.specs.Prelude.{[], IfOk, IfErr};
+ghost use Rattle.std.specs.Prelude.{◌≡◌, ◌≢◌, ◌+◌, ◌^◌, [], IfOk, OnOk, OnErr, IfErr};
 ghost use Rattle.bson_elem.specs.Tree.{Tree};
 ghost use Rattle.bson_elem.specs.Spelling.{Spells};
 ghost use Rattle.bson_raw.specs.RawDocument.{document_bytes};
 ghost use Rattle.wire_msg.specs.Message.{Content};
+ghost use Rattle.wire_msg.specs.Spelling.{message_len};
 ghost use Rattle.wire_msg.specs.Payload.{AreParts, IsPayload};
+ghost use Rattle.wire_msg.specs.Known.{IsLastPlace};
 
+use crate::append::{append_document, append_sequence};
 use crate::payload::Payload;
 use crate::refusal::MsgRefusal;
+use crate::sequence_iter::last_place;
 use bson_raw::document::RawDocument;
 use std::alloc::Global;
 
@@ -22,11 +26,16 @@ pub struct PayloadBuf {
     body: Vec<u8>,
     /// The sections of the document sequences.
     sequences: Vec<u8>,
+    /// Where the last of them begins; 0 where there is none.
+    last: usize,
     pub ghost valid: { ∥ IsPayload [] body.items sequences.items ∥₁ },
+    pub ghost last_is: { IsLastPlace sequences.items last },
 }
 
 impl PayloadBuf {
-    ghost use Rattle.wire_msg.specs.Buf.{body_alone, BufCarries, IsBodyRefusal};
+    ghost use Rattle.wire_msg.specs.Buf.{body_alone, with_sequence, with_document};
+    ghost use Rattle.wire_msg.specs.Buf.{BufCarries, HasSameBytes};
+    ghost use Rattle.wire_msg.specs.Buf.{IsBodyRefusal, IsSequenceRefusal, IsDocumentRefusal};
     ghost use Rattle.wire_msg.specs.Carries.{Carries};
 
     /// The payload of a body and no document sequence.
@@ -59,7 +68,12 @@ impl PayloadBuf {
         requires { ∥ IsPayload [] body.items sequences.items ∥₁ }
         ensures { (c : Content) → AreParts [] body.items sequences.items c → BufCarries result c }
     {
-        PayloadBuf { body, sequences }
+        let last = last_place(&sequences);
+        PayloadBuf {
+            body,
+            sequences,
+            last,
+        }
     }
 
     /// The payload, lent.
@@ -68,5 +82,74 @@ impl PayloadBuf {
     {
         let body = RawDocument::from_spelled(&self.body);
         Payload::of_parts(&[], body, &self.sequences)
+    }
+
+    /// How many bytes more the message may have.
+    fn room(&self) -> u64
+        ensures { (c : Content) → BufCarries self.now c → result + message_len c + 1 ≡ 2 ^ 31 }
+    {
+        MAX_LEN - self.as_payload().msg_len()
+    }
+
+    /// Adds an empty document sequence behind the others. An identifier may be empty, and two
+    /// sequences may bear one identifier. After a refusal the payload is what it was.
+    ///
+    /// # Errors
+    ///
+    /// `SequenceInBody` where the identifier is a top-level name of the body, and `ZeroInName`
+    /// where a 00 stands in it; else `TooLarge` where the message would have more than
+    /// 2,147,483,647 bytes; else `OutOfMemory`.
+    pub fn begin_sequence(&mut self, identifier: &str) -> Result<(), MsgRefusal>
+        ensures added { (c : Content) → BufCarries self.old c
+            → OnOk result (BufCarries self.new (with_sequence c identifier.now)) }
+        ensures refused { (c : Content) → BufCarries self.old c
+            → IfErr result (λ e. IsSequenceRefusal c identifier.now e) }
+        ensures kept { (c : Content) → BufCarries self.old c
+            → OnErr result (BufCarries self.new c) }
+        ensures unchanged { OnErr result (HasSameBytes self.old self.new) }
+    {
+        if self.as_payload().body().get(identifier).is_some() {
+            return Err(MsgRefusal::SequenceInBody);
+        }
+        if identifier.as_bytes().contains(&0) {
+            return Err(MsgRefusal::ZeroInName);
+        }
+        if identifier.len() as u64 + 6 > self.room() {
+            return Err(MsgRefusal::TooLarge);
+        }
+        let last = self.sequences.len();
+        append_sequence(identifier, &mut self.sequences)?;
+        self.last = last;
+        Ok(())
+    }
+
+    /// Adds a document behind the others of the last document sequence. After a refusal the
+    /// payload is what it was.
+    ///
+    /// # Errors
+    ///
+    /// `NoSequence` where the payload has no document sequence; else `TooLarge` where the message
+    /// would have more than 2,147,483,647 bytes; else `OutOfMemory`.
+    pub fn push_document(&mut self, document: RawDocument<'_>) -> Result<(), MsgRefusal>
+        ensures begun { (c : Content) → BufCarries self.old c → OnOk result (c.sequences ≢ []) }
+        ensures added { (c : Content) (t : Tree) → BufCarries self.old c
+            → Spells t (document_bytes document.entry)
+            → OnOk result (BufCarries self.new (with_document c t)) }
+        ensures refused { (c : Content) (t : Tree) → BufCarries self.old c
+            → Spells t (document_bytes document.entry)
+            → IfErr result (λ e. IsDocumentRefusal c t e) }
+        ensures kept { (c : Content) → BufCarries self.old c
+            → OnErr result (BufCarries self.new c) }
+        ensures unchanged { OnErr result (HasSameBytes self.old self.new) }
+    {
+        if self.sequences.is_empty() {
+            return Err(MsgRefusal::NoSequence);
+        }
+        let bytes = document.as_bytes();
+        if bytes.len() as u64 > self.room() {
+            return Err(MsgRefusal::TooLarge);
+        }
+        append_document(bytes, self.last, &mut self.sequences)?;
+        Ok(())
     }
 }

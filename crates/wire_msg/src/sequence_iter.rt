@@ -5,7 +5,7 @@ ghost use Rattle.std.specs.Iterator.{at_most};
 ghost use Rattle.wire_msg.specs.Message.{AreSequences, IsSequence, Sequence, sequence_size};
 ghost use Rattle.wire_msg.specs.Spelling.{sequence_section, sequences_bytes};
 ghost use Rattle.wire_msg.specs.Checks.{HasDocuments, HasSequences};
-ghost use Rattle.wire_msg.specs.Known.{ArePartsOf, AreRuns, BeginsSequence};
+ghost use Rattle.wire_msg.specs.Known.{ArePartsOf, AreRuns, BeginsSequence, IsLastPlace};
 
 use crate::documents::Documents;
 use bson_elem::number::little_u32;
@@ -35,6 +35,20 @@ pub(crate) fn split_sequence(bytes: &[u8]) -> (&str, &[u8], &[u8])
     let size = known_size(bytes);
     let (identifier, documents) = read_cstring(&bytes[5..1 + size]).unwrap();
     (identifier, documents, &bytes[1 + size..])
+}
+
+/// Where the last of some sequences begins; 0 where there is none.
+pub(crate) fn last_place(bytes: &[u8]) -> usize
+    requires { ∥ HasSequences bytes.now ∥₁ }
+    ensures { IsLastPlace bytes.now result }
+{
+    let mut last = 0;
+    let mut next = 0;
+    while next < bytes.len() {
+        last = next;
+        next += 1 + known_size(&bytes[next..]);
+    }
+    last
 }
 
 /// What is left of two runs of sequences, the second in place of the first where that is used up.
