@@ -1,7 +1,9 @@
--- How a run ends, and its exit status.
-use Rattle.std.specs.Prelude.{ℕ, ℤ, Option, None}
+-- How a run ends, and the exit status of it and of words that ask for no run.
+use Rattle.std.specs.Prelude.{◌≡◌, ◌⊎◌, ℕ, ℤ, Option, None}
 use Rattle.std.specs.declared.io.ErrorKind.{ErrorKind}
 use Rattle.std.specs.declared.io.ErrorKind.TheVariants.{OutOfMemory}
+use Rattle.clap.specs.declared.error.kind.ErrorKind as clap
+use Rattle.clap.specs.declared.error.kind.ErrorKind.TheVariants as kind
 use Rattle.bsonwire.specs.declared.run.RunEnd.{RunEnd}
 use Rattle.bsonwire.specs.declared.run.RunEnd.TheVariants.{Good, Fault, InOut, Memory}
 
@@ -16,3 +18,16 @@ exit_status Memory = 4
 abbrev pub end_of_error : ErrorKind → Option ℤ → RunEnd
 end_of_error OutOfMemory None = Memory
 end_of_error kind code = InOut
+
+-- the exit status where the words could not be read, by the end that the error would bring a run
+abbrev pub unread_status : RunEnd → ℕ
+unread_status Memory = 4
+unread_status _ = 2
+
+-- the exit status of words for which `clap` has an error of this kind: those of help and of the version end well where
+-- these could be written
+abbrev pub IsWordsStatus : clap.ErrorKind → ℕ → Type 0
+IsWordsStatus kind.OutOfMemory status = status ≡ 4
+IsWordsStatus kind.DisplayHelp status = (status ≡ 0) ⊎ (status ≡ 3)
+IsWordsStatus kind.DisplayVersion status = (status ≡ 0) ⊎ (status ≡ 3)
+IsWordsStatus _ status = status ≡ 2

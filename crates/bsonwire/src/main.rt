@@ -24,6 +24,11 @@ mod run;
 #[cfg(test)]
 mod tests;
 
+ghost use Rattle.std.specs.Prelude.{◌≡◌};
+ghost use Rattle.std.specs.IoError.{error_kind, raw_os_error};
+ghost use Rattle.clap.specs.Words.{kind_of};
+ghost use Rattle.bsonwire.specs.ExitStatus.{end_of_error, IsWordsStatus, unread_status};
+
 use choice::choose;
 use clap::error::ErrorKind;
 use commands::status_of;
@@ -61,7 +66,9 @@ fn status(rt: &HostRuntime) -> u8 {
 }
 
 /// The words could not be read: there was no memory, or one of them is not text.
-fn unread_words(rt: &impl Eprint, error: io::Error) -> u8 {
+fn unread_words(rt: &impl Eprint, error: io::Error) -> u8
+    ensures { result ≡ unread_status (end_of_error (error_kind error) (raw_os_error error)) }
+{
     match end_of(&error) {
         RunEnd::Memory => out_of_memory(rt),
         _ => {
@@ -72,7 +79,9 @@ fn unread_words(rt: &impl Eprint, error: io::Error) -> u8 {
 }
 
 /// Prints help, the version or what is wrong with the words.
-fn unchosen(rt: &HostRuntime, error: clap::Error) -> u8 {
+fn unchosen(rt: &HostRuntime, error: clap::Error) -> u8
+    ensures { IsWordsStatus (kind_of error) result }
+{
     if error.kind() == ErrorKind::OutOfMemory {
         return out_of_memory(rt);
     }
@@ -89,7 +98,9 @@ fn unchosen(rt: &HostRuntime, error: clap::Error) -> u8 {
     }
 }
 
-fn out_of_memory(rt: &impl Eprint) -> u8 {
+fn out_of_memory(rt: &impl Eprint) -> u8
+    ensures { result ≡ 4 }
+{
     let _ = eprintln!(rt; "bsonwire: out of memory");
     status_of(RunEnd::Memory)
 }
