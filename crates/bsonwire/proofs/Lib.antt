@@ -1,3 +1,6 @@
 pub mod Readings
 pub mod TextLaws
 pub mod ChoiceLemmas
+pub mod MessageReadings
+pub mod MessageTexts
+pub mod MessageLaws

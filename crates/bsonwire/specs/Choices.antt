@@ -3,12 +3,13 @@ use Rattle.std.specs.Prelude.{◌≡◌, ℕ, List, Bool, Option, Some, None, co
 use Rattle.clap.specs.Words.{Row, Text, first_of, one_of, subcommand_of}
 use Rattle.bsonwire.specs.declared.choice.Source.{Source}
 use Rattle.bsonwire.specs.declared.choice.Choice.{Choice}
-use Rattle.bsonwire.specs.declared.choice.Choice.TheVariants.{Dump, Check, Canon}
+use Rattle.bsonwire.specs.declared.choice.Choice.TheVariants.{Dump, Check, Canon, Msg}
 use Rattle.bsonwire.specs.CommandLine.{command_line}
 use Rattle.bsonwire.specs.Output.{IsOutput}
 use Rattle.bsonwire.specs.Dump.{DumpText}
 use Rattle.bsonwire.specs.Check.{CheckText}
 use Rattle.bsonwire.specs.Canon.{CanonText}
+use Rattle.bsonwire.specs.Msg.{MsgText}
 
 -- the matches of a subcommand hold this `--hex`
 abbrev pub HoldsHex : Bool → List Row → Type 0
@@ -24,6 +25,7 @@ abbrev pub IsSubcommand : Choice → Text → List Row → Type 0
 IsSubcommand (Dump s) name rows = (name ≡ codes "dump") × HoldsSource s rows
 IsSubcommand (Check s) name rows = (name ≡ codes "check") × HoldsSource s rows
 IsSubcommand (Canon s) name rows = (name ≡ codes "canon") × HoldsSource s rows
+IsSubcommand (Msg s) name rows = (name ≡ codes "msg") × HoldsSource s rows
 
 -- a subcommand was met, and the choice is that one
 abbrev pub IsMetSubcommand : Choice → Option (Text × List Row) → Type 0
@@ -40,9 +42,11 @@ abbrev pub chosen_file : Choice → List ℕ
 chosen_file (Dump s) = s.file.now
 chosen_file (Check s) = s.file.now
 chosen_file (Canon s) = s.file.now
+chosen_file (Msg s) = s.file.now
 
 -- what a choice writes for an input, and whether it ends with a fault line
 abbrev pub ChosenText : Choice → List ℕ → List ℕ → Bool → Type 0
 ChosenText (Dump s) = IsOutput DumpText s.hex
 ChosenText (Check s) = IsOutput CheckText s.hex
 ChosenText (Canon s) = IsOutput (CanonText 2147483647 s.hex) s.hex
+ChosenText (Msg s) = IsOutput MsgText s.hex

@@ -25,5 +25,7 @@ top_app = on_top (λ s. record s { subcommand_required = true; has_version = tru
 abbrev pub command_line : App
 command_line =
     with_subcommand
+    (with_subcommand
     (with_subcommand (with_subcommand top_app (file_app (codes "dump")).top) (file_app (codes "check")).top)
-    (file_app (codes "canon")).top
+    (file_app (codes "canon")).top)
+    (file_app (codes "msg")).top

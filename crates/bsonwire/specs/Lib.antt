@@ -12,3 +12,4 @@ pub mod InputFault
 pub mod Documents
 pub mod Check
 pub mod Canon
+pub mod Msg

@@ -24,6 +24,8 @@ pub enum Choice<'a> {
     Check(Source<'a>),
     /// Write the canonical form of each document.
     Canon(Source<'a>),
+    /// Write the text of each message.
+    Msg(Source<'a>),
 }
 
 /// The operand of this id. A parse that succeeded has it, so no caller gets the error.
@@ -60,6 +62,7 @@ fn choice_of<'a>(name: &str, matches: &ArgMatches<'a>) -> Result<Choice<'a>, All
         "dump" => Ok(Choice::Dump(source)),
         "check" => Ok(Choice::Check(source)),
         "canon" => Ok(Choice::Canon(source)),
+        "msg" => Ok(Choice::Msg(source)),
         // `clap` lets no other name through.
         _ => Err(AllocError),
     }

@@ -84,10 +84,11 @@ pub fn program<'a>(alloc: Global) -> Result<Command<'a>, AllocError>
         "check",
         "Says of each document whether it is in canonical form",
     )?;
-    with_file_command(
+    let line = with_file_command(
         line,
         alloc,
         "canon",
         "Writes the canonical form of each document",
-    )
+    )?;
+    with_file_command(line, alloc, "msg", "Writes the text of each message")
 }

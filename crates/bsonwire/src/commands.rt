@@ -11,6 +11,7 @@ use crate::canon::run_canon;
 use crate::check::run_check;
 use crate::choice::Choice;
 use crate::dump::run_dump;
+use crate::msg::run_msg;
 use crate::run::{RunEnd, end_of};
 use std::alloc::Global;
 use std::fs::OpenFile;
@@ -93,7 +94,10 @@ fn file_of(choice: Choice<'_>) -> &str
     ensures { result.now ≡ chosen_file choice.entry }
 {
     match choice {
-        Choice::Dump(source) | Choice::Check(source) | Choice::Canon(source) => source.file,
+        Choice::Dump(source)
+        | Choice::Check(source)
+        | Choice::Canon(source)
+        | Choice::Msg(source) => source.file,
     }
 }
 
@@ -122,6 +126,7 @@ fn run_over<R: Read, W: Write>(
         Choice::Dump(source) => run_dump(alloc, source.hex, reader, writer),
         Choice::Check(source) => run_check(alloc, source.hex, reader, writer),
         Choice::Canon(source) => run_canon(alloc, source.hex, reader, writer),
+        Choice::Msg(source) => run_msg(alloc, source.hex, reader, writer),
     }
 }
 

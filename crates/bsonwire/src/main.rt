@@ -20,6 +20,9 @@ mod fault_line;
 mod hex_input;
 mod input_fault;
 mod laws;
+mod messages;
+mod msg;
+mod msg_text;
 mod run;
 #[cfg(test)]
 mod tests;

@@ -27,6 +27,7 @@ fn chooses(rt: HostRuntime) -> Result<(), Fail> {
     let rows = [
         (["bsonwire", "check", "a", "--hex"], Choice::Check(source)),
         (["bsonwire", "canon", "--hex", "a"], Choice::Canon(source)),
+        (["bsonwire", "msg", "--hex", "a"], Choice::Msg(source)),
     ];
     for (words, want) in rows {
         let choice = choose(rt.alloc(), &words)?;
@@ -110,6 +111,7 @@ fn ends_with_3_where_nothing_can_be_read(rt: HostRuntime) {
         assert_eq!(rt; run(&rt, Choice::Dump(source)), 3, "at {file:?}");
         assert_eq!(rt; run(&rt, Choice::Check(source)), 3, "at {file:?}");
         assert_eq!(rt; run(&rt, Choice::Canon(source)), 3, "at {file:?}");
+        assert_eq!(rt; run(&rt, Choice::Msg(source)), 3, "at {file:?}");
     }
 }
 

@@ -1,5 +1,5 @@
 -- Documents back to back.
-use Rattle.std.proofs.Common.{◌≡◌, ℕ, ◌+◌, ◌-◌, List, [], ◌∷◌, ◌++◌, length, refl, sym, ap, subst, ◌∙◌, append_assoc, arith, length-append}
+use Rattle.std.proofs.Common.{◌≡◌, ◌≢◌, ℕ, ◌+◌, ◌-◌, List, [], ◌∷◌, ◌++◌, length, refl, sym, ap, subst, ◌∙◌, append_assoc, arith, length-append}
 use Rattle.std.proofs.lemmas.List.{append-nil}
 use Rattle.bson_elem.specs.declared.fault.BsonFault.{BsonFault}
 use Rattle.bson_elem.specs.Tree.{Tree}
@@ -56,3 +56,13 @@ fault_after start bytes (x ∷ rest) inner b some front =
       front = front;
       is = ap (λ (n : ℕ). msg_fault (start + n) (Document inner)) place;
     }
+
+-- ---- documents that are left
+
+pub none_left : (bytes : List ℕ) (ts : List Tree) → length bytes ≡ 0 → bytes ≡ documents_bytes ts → ts ≡ []
+none_left bytes [] e is = refl
+none_left bytes (t ∷ ts) e is = absurd (omega (arith, e, ap length is))
+
+pub some_left : (bytes : List ℕ) (ts : List Tree) → length bytes ≢ 0 → bytes ≡ documents_bytes ts → (t : Tree) × (us : List Tree) × (ts ≡ t ∷ us)
+some_left bytes [] some is = absurd (some (ap length is))
+some_left bytes (t ∷ us) some is = (t, us, refl)

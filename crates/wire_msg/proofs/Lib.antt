@@ -17,3 +17,4 @@ pub mod WriteLaws
 pub mod LastLaws
 pub mod AppendLaws
 pub mod BufLaws
+pub mod FaultPlaces

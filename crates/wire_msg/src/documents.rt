@@ -44,6 +44,20 @@ impl<'a> Documents<'a> {
         Documents { bytes }
     }
 
+    /// How many documents there are. It walks over them.
+    pub fn count(self) -> usize
+        ensures { (ts : List Tree) → DocumentsAre self.entry ts → result ≡ length ts }
+    {
+        let mut count = 0;
+        let mut rest = self.bytes;
+        while !rest.is_empty() {
+            let (_, others) = split_document(rest);
+            rest = others;
+            count += 1;
+        }
+        count
+    }
+
     /// The documents, in order.
     pub fn iter(self) -> DocumentsIter<'a>
         ensures { (ts : List Tree) → DocumentsAre self.entry ts → DocumentsLeft result ts }

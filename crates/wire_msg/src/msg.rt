@@ -103,6 +103,7 @@ impl<'a> RawMsg<'a> {
         ensures only { IsMessage limit bytes.now → IsOk result }
         ensures fault { IfErr result (λ f. FaultMsg bytes.now limit f) }
         ensures exact { (f : MsgFault) → FaultMsg bytes.now limit f → IsErrOf result f }
+        ensures place { IfErr result (λ f. f.at ≤ length bytes.now) }
     {
         match check_message(bytes, limit) {
             Ok(()) => Ok(RawMsg { bytes }),

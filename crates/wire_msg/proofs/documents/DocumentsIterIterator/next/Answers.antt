@@ -1,17 +1,9 @@
-use Rattle.std.proofs.Common.{◌≡◌, ◌≢◌, ℕ, List, [], ◌∷◌, length, refl, ap, subst, sym, arith, ◌∙◌}
+use Rattle.std.proofs.Common.{◌≡◌, ◌≢◌, ◌∷◌, length, ap, subst, sym, arith, ◌∙◌}
 use Rattle.std.proofs.lemmas.Bool.Decides.{nat_tests}
-use Rattle.bson_elem.specs.Tree.{Tree}
 use Rattle.bson_elem.specs.Spelling.{Spells}
 use Rattle.wire_msg.specs.Message.{AreDocuments, documents_bytes}
+use Rattle.wire_msg.proofs.DocumentLaws.{none_left, some_left}
 use Rattle.wire_msg.proofs.documents.DocumentsIterIterator.next.Goals as goal
-
-none_left : (bytes : List ℕ) (ts : List Tree) → length bytes ≡ 0 → bytes ≡ documents_bytes ts → ts ≡ []
-none_left bytes [] e is = refl
-none_left bytes (t ∷ ts) e is = absurd (omega (arith, e, ap length is))
-
-some_left : (bytes : List ℕ) (ts : List Tree) → length bytes ≢ 0 → bytes ≡ documents_bytes ts → (t : Tree) × (us : List Tree) × (ts ≡ t ∷ us)
-some_left bytes [] some is = absurd (some (ap length is))
-some_left bytes (t ∷ us) some is = (t, us, refl)
 
 pub returns-then-is_empty-clause-steps : goal.returns-then-is_empty-clause-steps
 returns-then-is_empty-clause-steps c = λ ts left.
