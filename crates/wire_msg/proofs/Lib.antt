@@ -1,4 +1,5 @@
 pub mod FlagLaws
+pub mod FaultTexts
 pub mod DocumentLaws
 pub mod SequenceLaws
 pub mod SectionLaws

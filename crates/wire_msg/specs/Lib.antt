@@ -4,6 +4,7 @@ pub mod Message
 pub mod Spelling
 pub mod Header
 pub mod Faults
+pub mod FaultText
 pub mod Payload
 pub mod Carries
 pub mod Checks

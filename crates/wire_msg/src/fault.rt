@@ -106,21 +106,26 @@ pub struct MsgFault {
 }
 
 impl fmt::Display for MsgFault {
+    ghost use Rattle.wire_msg.specs.FaultText.{shown_fault};
+
+    ghost output = { shown_fault };
+
+    #[tactic(auto, using(crate::proofs::FaultTexts::plain_text))]
     fn fmt<W: fmt::Write>(&self, f: &mut fmt::Formatter<W>) -> fmt::Result {
         let at = self.at;
-        let cause = self.cause;
-        let number = cause.number();
-        match cause {
+        match self.cause {
+            MsgCause::Opcode(opcode) => write!(f, "fault 2 Opcode {opcode} at {at}"),
             MsgCause::Document(inner) => {
-                let inner_number = inner.cause.number();
-                let inner_name = inner.cause.name();
+                let number = inner.cause.number();
+                let name = inner.cause.name();
                 let inner_at = inner.at;
-                write!(
-                    f,
-                    "fault {number} {cause} at {at}: {inner_number} {inner_name} at {inner_at}"
-                )
+                write!(f, "fault 7 Document at {at}: {number} {name} at {inner_at}")
             }
-            _ => write!(f, "fault {number} {cause} at {at}"),
+            cause => {
+                let number = cause.number();
+                let name = cause.name();
+                write!(f, "fault {number} {name} at {at}")
+            }
         }
     }
 }

@@ -1,0 +1,25 @@
+-- What most faults display as.
+use Rattle.std.proofs.Common.{◌≡◌, ℕ, ℤ, ◌++◌, refl}
+use Rattle.std.specs.Prelude.{codes}
+use Rattle.std.specs.Fmt.{decimal}
+use Rattle.bson_elem.specs.declared.fault.BsonFault.{BsonFault}
+use Rattle.wire_msg.specs.declared.fault.MsgCause.{MsgCause}
+use Rattle.wire_msg.specs.declared.fault.MsgCause.TheVariants as causes
+use Rattle.wire_msg.specs.Causes.{cause_number, cause_name}
+use Rattle.wire_msg.specs.FaultText.{fault_text}
+
+pub plain_text : (at : ℕ) (c : MsgCause) → ((n : ℤ) → c ≡ causes.Opcode n → ⊥) → ((f : BsonFault) → c ≡ causes.Document f → ⊥)
+    → fault_text at c ≡ codes "fault " ++ (decimal (cause_number c) ++ (codes " " ++ (cause_name c ++ (codes " at " ++ decimal at))))
+plain_text at causes.Length o d = refl
+plain_text at (causes.Opcode n) o d = absurd (o n refl)
+plain_text at causes.Flags o d = refl
+plain_text at causes.Checksum o d = refl
+plain_text at causes.SectionKind o d = refl
+plain_text at causes.SectionSize o d = refl
+plain_text at (causes.Document f) o d = absurd (d f refl)
+plain_text at causes.NoBody o d = refl
+plain_text at causes.TwoBodies o d = refl
+plain_text at causes.RepeatedField o d = refl
+plain_text at causes.SequenceName o d = refl
+plain_text at causes.SequenceInBody o d = refl
+plain_text at causes.Truncated o d = refl

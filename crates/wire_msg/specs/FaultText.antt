@@ -1,0 +1,19 @@
+-- What a fault displays as.
+use Rattle.std.specs.Prelude.{ℕ, List, ◌++◌, codes, Option, Some}
+use Rattle.std.specs.Fmt.{decimal, signed_decimal}
+use Rattle.bson_elem.specs.Causes as documents
+use Rattle.wire_msg.specs.declared.fault.MsgCause.{MsgCause}
+use Rattle.wire_msg.specs.declared.fault.MsgCause.TheVariants.{Opcode, Document}
+use Rattle.wire_msg.specs.declared.fault.MsgFault.{MsgFault}
+use Rattle.wire_msg.specs.Causes.{cause_number, cause_name}
+
+-- The number of the cause, its name and the place. An opcode stands behind its name; a document's own fault stands last,
+-- its place counted from the document's first byte.
+abbrev pub fault_text : ℕ → MsgCause → List ℕ
+fault_text at (Opcode opcode) = codes "fault 2 Opcode " ++ (signed_decimal opcode ++ (codes " at " ++ decimal at))
+fault_text at (Document f) =
+    codes "fault 7 Document at " ++ (decimal at ++ (codes ": " ++ (decimal (documents.cause_number f.cause) ++ (codes " " ++ (documents.cause_name f.cause ++ (codes " at " ++ decimal f.at))))))
+fault_text at c = codes "fault " ++ (decimal (cause_number c) ++ (codes " " ++ (cause_name c ++ (codes " at " ++ decimal at))))
+
+abbrev pub shown_fault : MsgFault → Option (List ℕ)
+shown_fault f = Some (fault_text f.at f.cause)
