@@ -1,0 +1,5 @@
+pub mod Fault
+pub mod Documents
+pub mod Walk
+pub mod Front
+pub mod Messages
