@@ -1,5 +1,5 @@
 -- What follows an element, as a part of the whole.
-use Rattle.std.proofs.Common.{◌≡◌, ℕ, ◌+◌, ◌-◌, ◌<◌, ◌≤◌, List, ◌++◌, length, take, drop, Ok, sym, ap, ◌∙◌, arith}
+use Rattle.std.proofs.Common.{◌≡◌, ℕ, ◌+◌, ◌-◌, ◌<◌, ◌≤◌, List, ◌++◌, length, take, drop, Option, Result, Ok, Err, refl, sym, ap, ◌∙◌, arith}
 use Rattle.std.specs.Prelude.{slice_range}
 use Rattle.std.proofs.lemmas.List.{append_cancel_right, drop_at, drop-take, drop-drop, length-append, length-take, length-drop}
 use Rattle.bson_elem.specs.declared.kind.Kind.{Kind}
@@ -9,8 +9,10 @@ use Rattle.bson_elem.specs.declared.item.Item.TheVariants as items
 use Rattle.bson_elem.specs.Spelling.{IsBytes, document}
 use Rattle.bson_elem.specs.Documents.{elements_of, IsFramed}
 use Rattle.bson_elem.specs.Items.{item_kind, item_value, element_shown, LendsFramed}
+use Rattle.bson_elem.specs.declared.fault.BsonFault.{BsonFault}
 use Rattle.bson_elem.specs.Checks.{ElementRead, element_at, document_at}
-use Rattle.bson_elem.proofs.FieldLaws.{IsBytes-take, IsBytes-drop}
+use Rattle.bson_elem.specs.Extents.{document_place, element_extent}
+use Rattle.bson_elem.proofs.FieldLaws.{ok_is, IsBytes-take, IsBytes-drop}
 use Rattle.bson_elem.proofs.ContainerLaws.{element_bytes, element_takes, document_takes}
 
 -- what follows an element is the end of the bytes that it was read from
@@ -49,6 +51,32 @@ seen_in bytes depth s at end name item rest fits lt whole read =
     let read' : element_at depth s at (slice_range bytes at end) ≡ Ok (element_shown end name item rest) = read ∙ ap (λ (k : ℕ). Ok (element_shown k name item rest)) size in
     let after = rest_in bytes depth s at end (element_shown end name item rest) fits lt whole read' in
     record { shorter = after.0; read = read' ∙ ap (λ (r : List ℕ). Ok (record { name = name; kind = item_kind item; value = item_value (end - length rest) item; rest = r })) after.1 }
+
+-- what an element's extent says of the element
+pub extent_of : (r : Result ElementRead BsonFault) (place : Option ℕ) (rest : List ℕ) → element_extent r ≡ Ok (place, rest) → (e : ElementRead) × (r ≡ Ok e) × (document_place e.value ≡ place) × (e.rest ≡ rest)
+extent_of (Ok e) place rest is =
+    let same = ok_is {E = BsonFault} (document_place e.value, e.rest) (place, rest) is in
+    (e, refl, ap (λ (x : Option ℕ × List ℕ). x.0) same, ap (λ (x : Option ℕ × List ℕ). x.1) same)
+extent_of (Err f) place rest is = absurd cc
+
+pub fault_read : (r : Result ElementRead BsonFault) (f : BsonFault) → element_extent r ≡ Err f → r ≡ Err f
+fault_read (Ok e) f is = absurd cc
+fault_read (Err g) f is =
+    let same : g ≡ f = cc in
+    ap Err same
+
+-- The element between two places of the bytes has its document at this place, and so many bytes follow it.
+pub record IsReached (bytes : List ℕ) (depth s at end : ℕ) (place : Option ℕ) (rest : List ℕ) : Type 0 where
+  pub shorter : length rest < end - at
+  pub read : element_extent (element_at depth s at (slice_range bytes at end)) ≡ Ok (place, slice_range bytes (end - length rest) end)
+
+pub reached_in : (bytes : List ℕ) (depth s at end : ℕ) (place : Option ℕ) (rest : List ℕ) → IsBytes bytes → at < end → end < length bytes → element_extent (element_at depth s at (slice_range bytes at end)) ≡ Ok (place, rest) → IsReached bytes depth s at end place rest
+reached_in bytes depth s at end place rest fits lt whole read =
+    let x = extent_of (element_at depth s at (slice_range bytes at end)) place rest read in
+    let after = rest_in bytes depth s at end x.0 fits lt whole x.1 in
+    let size : length x.0.rest ≡ length rest = ap length x.3 in
+    let here : rest ≡ slice_range bytes (end - length rest) end = sym x.3 ∙ after.1 ∙ ap (λ (k : ℕ). slice_range bytes (end - k) end) size in
+    record { shorter = omega (arith, after.0, size); read = read ∙ ap (λ (r : List ℕ). Ok (place, r)) here }
 
 -- what was read as a document is the whole of that document
 pub lent_whole : (p q : ℕ) (bytes whole rest : List ℕ) → IsBytes bytes → document_at p q bytes ≡ Ok (elements_of whole, rest) → whole ++ rest ≡ bytes → IsFramed whole

@@ -7,3 +7,4 @@ pub mod Faults
 pub mod Results
 pub mod Documents
 pub mod Items
+pub mod Extents

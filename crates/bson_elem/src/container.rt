@@ -2,7 +2,8 @@
 //! `code_w_s`).
 
 ghost use Rattle.std.specs.Prelude.{◌≡◌, ◌+◌, ◌-◌, ◌≤◌, ◌<◌, ◌^◌, ◌++◌, length, max, IfOk, IfErr};
-ghost use Rattle.bson_elem.specs.Checks.{document_at, fault, scope_at};
+ghost use Rattle.bson_elem.specs.Tree.{with_code};
+ghost use Rattle.bson_elem.specs.Checks.{document_at, fault, opens, scope_at};
 ghost use Rattle.bson_elem.specs.Documents.{elements_of, IsFramed};
 ghost use Rattle.bson_elem.specs.Items.{item_kind, item_value, LendsFramed};
 ghost use Rattle.bson_elem.specs.Results.{Gives};
@@ -17,6 +18,7 @@ use crate::text::read_text;
 pub const MAX_DEPTH: u32 = 200;
 
 /// The cause, at a place.
+#[inline(always)]
 pub(crate) fn fault_at(place: usize, cause: BsonCause) -> BsonFault
     ensures { result ≡ fault place cause }
 {
@@ -25,6 +27,7 @@ pub(crate) fn fault_at(place: usize, cause: BsonCause) -> BsonFault
 
 /// As `read_document`, but for the clause that what is lent is framed.
 #[tactic(auto, unfolding(crate::specs::Checks::document_at))]
+#[inline(always)]
 fn split_document(p: usize, q: usize, bytes: &[u8]) -> Result<(&[u8], &[u8]), BsonFault>
     ensures read { Gives (λ x. (elements_of x.0.now, x.1.now)) result (document_at p q bytes.now) }
     ensures parts { IfOk result (λ x. (5 ≤ length x.0.now) × (length x.0.now + length x.1.now ≡ length bytes.now)) }
@@ -65,6 +68,7 @@ fn split_document(p: usize, q: usize, bytes: &[u8]) -> Result<(&[u8], &[u8]), Bs
 ///
 /// Errs with `Truncated` at `p` where fewer than 4 bytes are there or fewer than the length says, with `Length` at `q`
 /// where the length is below 5, and with `End` at `q` where the last byte isn't 00.
+#[inline(always)]
 pub fn read_document(p: usize, q: usize, bytes: &[u8]) -> Result<(&[u8], &[u8]), BsonFault>
     ensures read { Gives (λ x. (elements_of x.0.now, x.1.now)) result (document_at p q bytes.now) }
     ensures parts { IfOk result (λ x. (5 ≤ length x.0.now) × (length x.0.now + length x.1.now ≡ length bytes.now)) }
@@ -78,16 +82,20 @@ pub fn read_document(p: usize, q: usize, bytes: &[u8]) -> Result<(&[u8], &[u8]),
     }
 }
 
-/// A code, its scope, and what follows them. They begin at `q`, in the element at `p`. The elements of the scope are
-/// not yet checked.
+/// A code, the document that is its scope, and what follows them. They begin at `q`, in the element at `p`. The elements
+/// of the scope are not yet checked.
 #[tactic(auto, unfolding(crate::specs::Checks::scope_at))]
-pub(crate) fn read_scope(p: usize, q: usize, bytes: &[u8]) -> Result<(Item<'_>, &[u8]), BsonFault>
+#[inline(always)]
+pub(crate) fn split_scope(
+    p: usize,
+    q: usize,
+    bytes: &[u8],
+) -> Result<(&str, &[u8], &[u8]), BsonFault>
     requires { q + length bytes.now < 2 ^ 64 }
-    ensures read { Gives (λ x. (item_value (q + length bytes.now - length x.1.now) x.0, x.1.now)) result (scope_at p q bytes.now) }
-    ensures kind { IfOk result (λ x. item_kind x.0 ≡ Kind.CodeWithScope) }
-    ensures shorter { IfOk result (λ x. length x.1.now ≤ length bytes.now) }
+    ensures read { Gives (λ x. (opens (q + length bytes.now - length x.2.now - length x.1.now) (with_code x.0.now) (elements_of x.1.now), x.2.now)) result (scope_at p q bytes.now) }
+    ensures parts { IfOk result (λ x. length x.1.now + length x.2.now ≤ length bytes.now) }
     ensures place { IfErr result (λ f. f.at ≤ max p (q + length bytes.now)) }
-    ensures lent { IfOk result (λ x. LendsFramed x.0) }
+    ensures lent { IfOk result (λ x. IsFramed x.1.now) }
 {
     let (total, rest) = match read_length(14, bytes) {
         Ok(read) => read,
@@ -111,5 +119,19 @@ pub(crate) fn read_scope(p: usize, q: usize, bytes: &[u8]) -> Result<(Item<'_>, 
         return Err(fault_at(p, BsonCause::Scope));
     }
     let (scope, rest) = read_document(p, q + 8 + n, rest)?;
+    Ok((code, scope, rest))
+}
+
+/// A code, its scope, and what follows them. They begin at `q`, in the element at `p`. The elements of the scope are
+/// not yet checked.
+pub(crate) fn read_scope(p: usize, q: usize, bytes: &[u8]) -> Result<(Item<'_>, &[u8]), BsonFault>
+    requires { q + length bytes.now < 2 ^ 64 }
+    ensures read { Gives (λ x. (item_value (q + length bytes.now - length x.1.now) x.0, x.1.now)) result (scope_at p q bytes.now) }
+    ensures kind { IfOk result (λ x. item_kind x.0 ≡ Kind.CodeWithScope) }
+    ensures shorter { IfOk result (λ x. length x.1.now ≤ length bytes.now) }
+    ensures place { IfErr result (λ f. f.at ≤ max p (q + length bytes.now)) }
+    ensures lent { IfOk result (λ x. LendsFramed x.0) }
+{
+    let (code, scope, rest) = split_scope(p, q, bytes)?;
     Ok((Item::CodeWithScope { code, scope }, rest))
 }

@@ -15,6 +15,7 @@ use crate::text::read_cstring;
 
 /// The value of a kind, in a container of this depth, and what follows it. It begins at `q`, in the element at `p`.
 #[tactic(auto, using(crate::proofs::ScopeLaws::parts, crate::proofs::ViewLaws::leaf_lends), unfolding(crate::specs::Checks::value_at))]
+#[inline(always)]
 pub(crate) fn read_value(
     depth: u32,
     p: usize,
@@ -68,6 +69,7 @@ pub struct Element<'a> {
 /// The element at the front of what is left of a container of this depth that begins at `start`, and what follows
 /// it. The element's type byte stands at `at`.
 #[tactic(auto, unfolding(crate::specs::Checks::element_at))]
+#[inline(always)]
 fn element_in(
     room: &[u8],
     start: usize,
@@ -105,6 +107,7 @@ fn element_in(
 ///
 /// Errs with the first check that fails and its place: the type byte (00 is the container's `End`, told at `start`),
 /// the name, then the value, in the order of the standard's fields.
+#[inline(always)]
 pub fn read_element(
     bytes: &[u8],
     start: usize,

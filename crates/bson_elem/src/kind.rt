@@ -31,6 +31,7 @@ pub enum Kind {
 
 impl Kind {
     /// The kind that a type byte stands for, or None where it stands for none.
+    #[inline(always)]
     pub fn from_byte(byte: u8) -> Option<Kind>
         ensures { result ≡ kind_of byte }
     {

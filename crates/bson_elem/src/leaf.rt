@@ -14,6 +14,7 @@ use crate::number::{little_u32, read_bytes, read_i32, read_i64, read_length, rea
 use crate::text::{read_cstring, read_string};
 
 #[tactic(auto, unfolding(crate::specs::Checks::leaf_at, crate::specs::Checks::boolean_at))]
+#[inline(always)]
 fn read_boolean(bytes: &[u8]) -> Result<(Item<'_>, &[u8]), BsonCause>
     ensures read { (n : ℕ) → Gives (λ x. (item_value n x.0, x.1.now)) result (as_value (leaf_at boolean_form bytes.now)) }
     ensures kind { IfOk result (λ x. item_kind x.0 ≡ Kind.Boolean) }
@@ -27,6 +28,7 @@ fn read_boolean(bytes: &[u8]) -> Result<(Item<'_>, &[u8]), BsonCause>
 }
 
 #[tactic(auto, unfolding(crate::specs::Checks::binary_of))]
+#[inline(always)]
 fn binary_item<'a>(
     subtype: u8,
     bytes: &'a [u8],
@@ -55,6 +57,7 @@ fn binary_item<'a>(
 }
 
 #[tactic(auto, unfolding(crate::specs::Checks::leaf_at))]
+#[inline(always)]
 fn read_binary(bytes: &[u8]) -> Result<(Item<'_>, &[u8]), BsonCause>
     ensures read { (n : ℕ) → Gives (λ x. (item_value n x.0, x.1.now)) result (as_value (leaf_at binary_form bytes.now)) }
     ensures kind { IfOk result (λ x. item_kind x.0 ≡ Kind.Binary) }
@@ -68,6 +71,7 @@ fn read_binary(bytes: &[u8]) -> Result<(Item<'_>, &[u8]), BsonCause>
 }
 
 #[tactic(auto, unfolding(crate::specs::Checks::leaf_at))]
+#[inline(always)]
 fn number_of(bytes: &[u8]) -> Result<(i32, &[u8]), BsonCause>
     ensures { Gives (λ x. (number_value x.0, x.1.now)) result (leaf_at int32_form bytes.now) }
 {
@@ -76,6 +80,7 @@ fn number_of(bytes: &[u8]) -> Result<(i32, &[u8]), BsonCause>
 }
 
 #[tactic(auto, unfolding(crate::specs::Checks::leaf_at))]
+#[inline(always)]
 fn wide_of(bytes: &[u8]) -> Result<(i64, &[u8]), BsonCause>
     ensures { Gives (λ x. (number_value x.0, x.1.now)) result (leaf_at int64_form bytes.now) }
 {
@@ -85,6 +90,7 @@ fn wide_of(bytes: &[u8]) -> Result<(i64, &[u8]), BsonCause>
 
 /// The value of a kind that holds no document.
 #[tactic(auto, unfolding(crate::specs::Checks::leaf_at))]
+#[inline(always)]
 pub(crate) fn read_leaf(kind: Kind, bytes: &[u8]) -> Result<(Item<'_>, &[u8]), BsonCause>
     ensures read { (n : ℕ) → Gives (λ x. (item_value n x.0, x.1.now)) result (as_value (leaf_at (form_of kind) bytes.now)) }
     ensures kind { IfOk result (λ x. item_kind x.0 ≡ kind) }

@@ -3,6 +3,7 @@
 
 pub mod container;
 pub mod element;
+pub mod extent;
 pub mod fault;
 pub mod item;
 pub mod kind;

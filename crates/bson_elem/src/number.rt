@@ -12,6 +12,7 @@ use crate::fault::BsonCause;
 use byteorder::{ByteOrder, LittleEndian};
 
 /// The number that the first four bytes are.
+#[inline(always)]
 pub fn little_u32(bytes: &[u8]) -> u32
     requires { 4 ≤ length bytes.now }
     ensures { result ≡ from_le_bytes w32 (take 4 bytes.now) }
@@ -20,6 +21,7 @@ pub fn little_u32(bytes: &[u8]) -> u32
 }
 
 /// An unsigned number of four bytes.
+#[inline(always)]
 pub(crate) fn read_u32(bytes: &[u8]) -> Result<(u32, &[u8]), BsonCause>
     ensures { Gives (λ x. (x.0, x.1.now)) result (little_at bytes.now) }
 {
@@ -30,6 +32,7 @@ pub(crate) fn read_u32(bytes: &[u8]) -> Result<(u32, &[u8]), BsonCause>
 }
 
 /// A count that is not negative, and at least so much.
+#[inline(always)]
 pub(crate) fn read_length(least: u32, bytes: &[u8]) -> Result<(usize, &[u8]), BsonCause>
     ensures read { Gives (λ x. (x.0, x.1.now)) result (length_at least bytes.now) }
     ensures parts { IfOk result (λ x. (least ≤ x.0) × (length x.1.now + 4 ≡ length bytes.now)) }
@@ -43,6 +46,7 @@ pub(crate) fn read_length(least: u32, bytes: &[u8]) -> Result<(usize, &[u8]), Bs
 
 /// A signed number of four bytes.
 #[tactic(auto, unfolding(crate::specs::Checks::leaf_at))]
+#[inline(always)]
 pub(crate) fn read_i32(bytes: &[u8]) -> Result<(i32, &[u8]), BsonCause>
     ensures { Gives (λ x. (number_value x.0, x.1.now)) result (leaf_at int32_form bytes.now) }
 {
@@ -54,6 +58,7 @@ pub(crate) fn read_i32(bytes: &[u8]) -> Result<(i32, &[u8]), BsonCause>
 
 /// A signed number of eight bytes.
 #[tactic(auto, unfolding(crate::specs::Checks::leaf_at))]
+#[inline(always)]
 pub(crate) fn read_i64(bytes: &[u8]) -> Result<(i64, &[u8]), BsonCause>
     ensures { Gives (λ x. (number_value x.0, x.1.now)) result (leaf_at int64_form bytes.now) }
 {
@@ -64,6 +69,7 @@ pub(crate) fn read_i64(bytes: &[u8]) -> Result<(i64, &[u8]), BsonCause>
 }
 
 /// So many bytes.
+#[inline(always)]
 pub(crate) fn read_bytes<const N: usize>(bytes: &[u8]) -> Result<([u8; N], &[u8]), BsonCause>
     ensures { Gives (λ x. (x.0, x.1.now)) result (bytes_at N bytes.now) }
 {

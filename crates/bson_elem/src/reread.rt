@@ -15,6 +15,7 @@ use crate::number::{read_bytes, read_length};
 use crate::text::zero_of;
 
 /// The bytes as a text, where it is known that they are one.
+#[inline(always)]
 fn known_text(bytes: &[u8]) -> &str
     requires { is_utf8 bytes.now ≡ true }
     ensures { result.now ≡ bytes.now }
@@ -24,6 +25,7 @@ fn known_text(bytes: &[u8]) -> &str
 }
 
 /// A text of so many bytes and a 0.
+#[inline(always)]
 fn reread_text(n: usize, bytes: &[u8]) -> (&str, &[u8])
     requires inside { n < length bytes.now }
     requires checked { IsOk (text_at n bytes.now) }
@@ -35,6 +37,7 @@ fn reread_text(n: usize, bytes: &[u8]) -> (&str, &[u8])
 
 /// A string: a length, a text and a 0.
 #[tactic(auto, unfolding(crate::specs::Checks::string_at))]
+#[inline(always)]
 fn reread_string(bytes: &[u8]) -> (&str, &[u8])
     requires { IsOk (string_at bytes.now) }
     ensures { string_at bytes.now ≡ Ok (result.0.now, result.1.now) }
@@ -45,6 +48,7 @@ fn reread_string(bytes: &[u8]) -> (&str, &[u8])
 
 /// A name: a text with no 0 in it, and a 0.
 #[tactic(auto, using(crate::proofs::NameLaws::names))]
+#[inline(always)]
 fn reread_cstring(bytes: &[u8]) -> (&str, &[u8])
     requires { IsOk (cstring_at bytes.now) }
     ensures read { cstring_at bytes.now ≡ Ok (result.0.now, result.1.now) }
@@ -72,6 +76,7 @@ fn reread_scope(p: usize, q: usize, bytes: &[u8]) -> (Item<'_>, &[u8])
 
 /// The value of a kind, and what follows it. It begins at `q`, in the element at `p`.
 #[tactic(auto, unfolding(crate::specs::Checks::value_at, crate::specs::Checks::leaf_at))]
+#[inline(always)]
 fn reread_value(p: usize, q: usize, kind: Kind, bytes: &[u8]) -> (Item<'_>, &[u8])
     requires room { q + length bytes.now < 2 ^ 64 }
     requires checked { IsOk (value_at 1 p q (form_of kind) bytes.now) }
@@ -110,6 +115,7 @@ fn reread_value(p: usize, q: usize, kind: Kind, bytes: &[u8]) -> (Item<'_>, &[u8
 /// The element at the front of what is left of a document that no other holds, and what follows it. Its type byte stands
 /// at `at`.
 #[tactic(auto, unfolding(crate::specs::Checks::element_at))]
+#[inline(always)]
 fn reread_in(room: &[u8], at: usize) -> (&str, Item<'_>, &[u8])
     requires room { at + length room.now < 2 ^ 64 }
     requires checked { IsOk (element_at 1 0 at room.now) }
@@ -127,6 +133,7 @@ fn reread_in(room: &[u8], at: usize) -> (&str, Item<'_>, &[u8])
 
 /// The element whose type byte stands at `at`, as `read_element` gives it, where that is known to succeed: in a document
 /// that no other holds, and whose closing byte stands at `end`.
+#[inline(always)]
 pub fn reread_element(bytes: &[u8], at: usize, end: usize) -> Element<'_>
     requires inside { at < end }
     requires whole { end < length bytes.now }

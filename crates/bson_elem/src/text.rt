@@ -20,6 +20,7 @@ fn text_of(bytes: &[u8]) -> Option<&str>
 }
 
 /// A text of so many bytes and a 0.
+#[inline(always)]
 pub(crate) fn read_text(n: usize, bytes: &[u8]) -> Result<(&str, &[u8]), BsonCause>
     requires { n < length bytes.now }
     ensures read { Gives (λ x. (x.0.now, x.1.now)) result (text_at n bytes.now) }
@@ -36,6 +37,7 @@ pub(crate) fn read_text(n: usize, bytes: &[u8]) -> Result<(&str, &[u8]), BsonCau
 
 /// A string: a length, a text and a 0.
 #[tactic(auto, unfolding(crate::specs::Checks::string_at))]
+#[inline(always)]
 pub fn read_string(bytes: &[u8]) -> Result<(&str, &[u8]), BsonCause>
     ensures { Gives (λ x. (x.0.now, x.1.now)) result (string_at bytes.now) }
 {
@@ -55,6 +57,7 @@ pub(crate) fn zero_of(bytes: &[u8]) -> Option<usize>
 
 /// A name: a text with no 0 in it, and a 0.
 #[tactic(auto, using(crate::proofs::NameLaws::names))]
+#[inline(always)]
 pub fn read_cstring(bytes: &[u8]) -> Result<(&str, &[u8]), BsonCause>
     ensures read { Gives (λ x. (x.0.now, x.1.now)) result (cstring_at bytes.now) }
     ensures parts { IfOk result (λ x. length x.0.now + 1 + length x.1.now ≡ length bytes.now) }

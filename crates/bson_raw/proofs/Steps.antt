@@ -1,35 +1,36 @@
 -- The steps of the check: a pair more, a fault, a document inside.
 use Rattle.std.proofs.Common.{◌≡◌, ℕ, ◌+◌, ◌-◌, ◌<◌, ◌≤◌, List, [], ◌∷◌, ◌++◌, length, take, drop, Option, Some, None, Ok, Err, refl, sym, ap, subst, ◌∙◌, append_assoc, arith, add-zero}
-use Rattle.std.specs.Prelude.{MatchOption, slice_range}
+use Rattle.std.specs.Prelude.{slice_range}
 use Rattle.std.proofs.lemmas.List.{length-append, append-nil, take_at, take-take, drop_at, length-take, length-drop}
 use Rattle.bson_elem.specs.declared.fault.BsonFault.{BsonFault}
-use Rattle.bson_elem.specs.declared.item.Item.{Item}
-use Rattle.bson_elem.specs.declared.item.Item.TheVariants as items
 use Rattle.bson_elem.specs.Kinds.{byte_of, form_of}
 use Rattle.bson_elem.specs.Tree.{Beside, no_code, with_code, Tree, no_pairs, leaf_pair, inner_pair}
 use Rattle.bson_elem.specs.Spelling.{IsBytes, little, string, cstring, inner_bytes, elements}
 use Rattle.bson_elem.specs.Checks.{Value, a_leaf, opens, ElementRead, element_at}
-use Rattle.bson_elem.specs.Items.{item_value}
-use Rattle.bson_elem.specs.Documents.{elements_of}
+use Rattle.bson_elem.specs.Extents.{document_place, element_extent}
 use Rattle.bson_elem.specs.Faults.{Before, FaultIn, at_element, in_document}
 use Rattle.bson_elem.proofs.FieldLaws.{IsBytes-take, IsBytes-drop}
 use Rattle.bson_elem.proofs.ContainerLaws.{value_bytes, element_bytes, ValueFits, IsPlaced, place_of, element_takes}
 use Rattle.bson_elem.proofs.TreeLaws.{joined, elements-joined, Fits-joined}
-use Rattle.bson_elem.proofs.ViewLaws.{part_after}
-use Rattle.bson_raw.specs.Checks.{IsLeaf, Opens, IsTree, IsPair, document_len}
+use Rattle.bson_elem.proofs.ViewLaws.{part_after, extent_of}
+use Rattle.bson_raw.specs.Checks.{IsLeaf, Opens, IsTree, IsPair}
 
--- ---- items
+-- ---- values
 
-pub held_is : (item : Item) (next : ℕ) → MatchOption (document_len item) (IsLeaf (item_value next item)) (λ len. Opens (next - len) (item_value next item))
-held_is (items.Document d) next = (no_code, elements_of d.now, refl)
-held_is (items.Array d) next = (no_code, elements_of d.now, refl)
-held_is (items.CodeWithScope s d) next = (with_code s.now, elements_of d.now, refl)
-held_is _ next = (_, refl)
+leaf_of : (v : Value) → document_place v ≡ None → IsLeaf v
+leaf_of (a_leaf leaf) is = (leaf, refl)
+leaf_of (opens q b body) is = absurd cc
+
+opens_of : (v : Value) (q : ℕ) → document_place v ≡ Some q → Opens q v
+opens_of (a_leaf leaf) q is = absurd cc
+opens_of (opens p b body) q is =
+    let same : p ≡ q = cc in
+    (b, body, ap (λ (k : ℕ). opens k b body) same)
 
 -- ---- a pair
 
 -- one pair whose value is a leaf
-pub leaf_is_pair : (depth s at : ℕ) (room : List ℕ) (e : ElementRead) → IsBytes room → element_at depth s at room ≡ Ok e → IsLeaf e.value → IsPair depth room (length room - length e.rest) e.rest
+leaf_is_pair : (depth s at : ℕ) (room : List ℕ) (e : ElementRead) → IsBytes room → element_at depth s at room ≡ Ok e → IsLeaf e.value → IsPair depth room (length room - length e.rest) e.rest
 leaf_is_pair depth s at room e fits read is =
     let t = element_takes depth s at room e fits read in
     let text_is : element_bytes e ++ [] ≡ elements (leaf_pair e.name e.kind is.0 no_pairs) = ap (λ (p : Value). (byte_of e.kind ∷ (cstring e.name ++ value_bytes (form_of e.kind) p)) ++ []) is.1 in
@@ -38,7 +39,7 @@ leaf_is_pair depth s at room e fits read is =
     (leaf_pair e.name e.kind is.0 no_pairs, (t.1.name, fits', tt), parts, omega (arith, ap length parts, length-append (elements (leaf_pair e.name e.kind is.0 no_pairs)) e.rest))
 
 -- one pair whose value holds a tree
-pub inner_is_pair : (depth s at : ℕ) (room : List ℕ) (e : ElementRead) (q : ℕ) (b : Beside) (body : List ℕ) → IsBytes room → element_at depth s at room ≡ Ok e → e.value ≡ opens q b body → IsTree (depth + 1) body → IsPair depth room (length room - length e.rest) e.rest
+inner_is_pair : (depth s at : ℕ) (room : List ℕ) (e : ElementRead) (q : ℕ) (b : Beside) (body : List ℕ) → IsBytes room → element_at depth s at room ≡ Ok e → e.value ≡ opens q b body → IsTree (depth + 1) body → IsPair depth room (length room - length e.rest) e.rest
 inner_is_pair depth s at room e q b body fits read is tree =
     let t = element_takes depth s at room e fits read in
     let pair : Tree = inner_pair e.name e.kind b tree.0 no_pairs in
@@ -137,27 +138,50 @@ stands_at bytes depth s at end e q b body fits lt whole read is =
     let low : at < q = omega (arith, placed, place_low (at + length e.name + 2) b) in
     (fits'.1, standing bytes at end e q body f.0 lt low parts (f.2 at ∙ ap (λ (k : ℕ). k + 4) (sym placed)) (sym size ∙ sum))
 
--- ---- an element that the code was given
+-- ---- an element that the code went over
 
--- the document that the element's item holds
+-- The element between two places of the bytes, where the next one stands, and what was told of the document in it.
+pub record IsPassed (bytes : List ℕ) (depth s at end : ℕ) (place : Option ℕ) (next : ℕ) (e : ElementRead) : Type 0 where
+  pub read : element_at depth s at (slice_range bytes at end) ≡ Ok e
+  pub rest : e.rest ≡ slice_range bytes next end
+  pub document : document_place e.value ≡ place
+
+pub passed : (bytes : List ℕ) (depth s at end : ℕ) (place : Option ℕ) (next : ℕ) → element_extent (element_at depth s at (slice_range bytes at end)) ≡ Ok (place, slice_range bytes next end) → (e : ElementRead) × IsPassed bytes depth s at end place next e
+passed bytes depth s at end place next is =
+    let x = extent_of (element_at depth s at (slice_range bytes at end)) place (slice_range bytes next end) is in
+    (x.0, record { read = x.1; rest = x.3; document = x.2 })
+
+-- the document that the element holds
 abbrev pub Inside : (bytes : List ℕ) (depth at next q : ℕ) (e : ElementRead) → Type 0
 Inside bytes depth at next q e = (depth < 200) × (at < q) × (q + 5 ≤ next) × ((b : Beside) × (e.value ≡ opens q b (slice_range bytes (q + 4) (next - 1))))
 
-pub inside_of : (bytes : List ℕ) (depth s at end next len : ℕ) (item : Item) (e : ElementRead) → IsBytes bytes → at < end → end < length bytes → next ≤ end → element_at depth s at (slice_range bytes at end) ≡ Ok e → e.rest ≡ slice_range bytes next end → e.value ≡ item_value next item → Some len ≡ document_len item → Inside bytes depth at next (next - len) e
-inside_of bytes depth s at end next len item e fits lt whole high read rest_is part_is len_is =
-    let o : Opens (next - len) (item_value next item) = subst (λ (o : Option ℕ). MatchOption o (IsLeaf (item_value next item)) (λ len. Opens (next - len) (item_value next item))) (sym len_is) (held_is item next) in
-    let is : e.value ≡ opens (next - len) o.0 o.1 = part_is ∙ o.2 in
-    let st = stands_at bytes depth s at end e (next - len) o.0 o.1 fits lt whole read is in
-    let n : end - length e.rest ≡ next = omega (arith, ap length rest_is, length-take (end - next) (drop next bytes), length-drop next bytes, high, whole) in
-    (st.0, st.1.low, omega (arith, st.1.high, n), (o.0, is ∙ ap (opens (next - len) o.0) (st.1.body_is ∙ ap (λ (k : ℕ). slice_range bytes (next - len + 4) (k - 1)) n)))
-
-pub leaf_of : (item : Item) (next : ℕ) → None ≡ document_len item → IsLeaf (item_value next item)
-leaf_of item next none = subst (λ (o : Option ℕ). MatchOption o (IsLeaf (item_value next item)) (λ len. Opens (next - len) (item_value next item))) (sym none) (held_is item next)
+pub inside_of : (bytes : List ℕ) (depth s at end next q : ℕ) (e : ElementRead) → IsBytes bytes → at < end → end < length bytes → next ≤ end → IsPassed bytes depth s at end (Some q) next e → Inside bytes depth at next q e
+inside_of bytes depth s at end next q e fits lt whole high is =
+    let o = opens_of e.value q is.document in
+    let st = stands_at bytes depth s at end e q o.0 o.1 fits lt whole is.read o.2 in
+    let n : end - length e.rest ≡ next = omega (arith, ap length is.rest, length-take (end - next) (drop next bytes), length-drop next bytes, high, whole) in
+    (st.0, st.1.low, omega (arith, st.1.high, n), (o.0, o.2 ∙ ap (opens q o.0) (st.1.body_is ∙ ap (λ (k : ℕ). slice_range bytes (q + 4) (k - 1)) n)))
 
 -- how far a pair reaches
-pub pair_size : (bytes : List ℕ) (depth at end next : ℕ) (rest : List ℕ) → at < end → end < length bytes → next ≤ end → at < next → rest ≡ slice_range bytes next end → IsPair depth (slice_range bytes at end) (length (slice_range bytes at end) - length rest) rest → (at < next) × (next ≤ end) × IsPair depth (slice_range bytes at end) (next - at) (slice_range bytes next end)
+pair_size : (bytes : List ℕ) (depth at end next : ℕ) (rest : List ℕ) → at < end → end < length bytes → next ≤ end → at < next → rest ≡ slice_range bytes next end → IsPair depth (slice_range bytes at end) (length (slice_range bytes at end) - length rest) rest → (at < next) × (next ≤ end) × IsPair depth (slice_range bytes at end) (next - at) (slice_range bytes next end)
 pair_size bytes depth at end next rest lt whole high low rest_is pair =
     let a : length (slice_range bytes at end) ≡ end - at = omega (arith, length-take (end - at) (drop at bytes), length-drop at bytes, whole, lt) in
     let b : length rest ≡ end - next = omega (arith, ap length rest_is, length-take (end - next) (drop next bytes), length-drop next bytes, whole, high) in
     let n : length (slice_range bytes at end) - length rest ≡ next - at = omega (arith, a, b, high, low) in
     (low, high, (pair.0, pair.1, pair.2 ∙ ap (λ (x : List ℕ). elements pair.0 ++ x) rest_is, pair.3 ∙ n))
+
+room_bytes : (bytes : List ℕ) (at end : ℕ) → IsBytes bytes → IsBytes (slice_range bytes at end)
+room_bytes bytes at end fits = IsBytes-take (end - at) (drop at bytes) (IsBytes-drop at bytes fits)
+
+-- a leaf is a pair
+pub leaf_passed : (bytes : List ℕ) (depth s at end next : ℕ) (e : ElementRead) → IsBytes bytes → at < end → end < length bytes → next ≤ end → at < next → IsPassed bytes depth s at end None next e → (at < next) × (next ≤ end) × IsPair depth (slice_range bytes at end) (next - at) (slice_range bytes next end)
+leaf_passed bytes depth s at end next e fits lt whole high low is =
+    pair_size bytes depth at end next e.rest lt whole high low is.rest
+    (leaf_is_pair depth s at (slice_range bytes at end) e (room_bytes bytes at end fits) is.read (leaf_of e.value is.document))
+
+-- and so is a document whose elements were checked
+pub inner_passed : (bytes : List ℕ) (depth s at end next q : ℕ) (e : ElementRead) → IsBytes bytes → at < end → end < length bytes → next ≤ end → at < next → IsPassed bytes depth s at end (Some q) next e → IsTree (depth + 1) (slice_range bytes (q + 4) (next - 1)) → (at < next) × (next ≤ end) × IsPair depth (slice_range bytes at end) (next - at) (slice_range bytes next end)
+inner_passed bytes depth s at end next q e fits lt whole high low is tree =
+    let k = inside_of bytes depth s at end next q e fits lt whole high is in
+    pair_size bytes depth at end next e.rest lt whole high low is.rest
+    (inner_is_pair depth s at (slice_range bytes at end) e q k.3.0 (slice_range bytes (q + 4) (next - 1)) (room_bytes bytes at end fits) is.read k.3.1 tree)

@@ -2,26 +2,14 @@
 
 ghost use Rattle.std.specs.Prelude.{◌≡◌, ◌+◌, ◌-◌, ◌<◌, ◌≤◌, ◌^◌, length, slice_range, max, IfErr, MatchResult};
 ghost use Rattle.bson_elem.specs.Faults.{FaultIn};
-ghost use Rattle.bson_raw.specs.Checks.{document_len, IsTree, IsPair};
+ghost use Rattle.bson_raw.specs.Checks.{IsTree, IsPair};
 
-use bson_elem::element::read_element;
+use bson_elem::extent::skip_element;
 use bson_elem::fault::BsonFault;
-use bson_elem::item::Item;
-
-/// How long the document is that the item holds.
-fn held_len(item: Item<'_>) -> Option<usize>
-    ensures { result ≡ document_len item.entry }
-{
-    match item {
-        Item::Document(document) => Some(document.len()),
-        Item::Array(array) => Some(array.len()),
-        Item::CodeWithScope { scope, .. } => Some(scope.len()),
-        _ => None,
-    }
-}
 
 /// The place after the pair at `at`, whose value is checked whole.
 #[cycle(check)]
+#[inline(always)]
 fn pair_end(
     bytes: &[u8],
     start: usize,
@@ -37,9 +25,9 @@ fn pair_end(
         (λ f. FaultIn depth start at (slice_range bytes.now at end) f) }
     ensures place { IfErr result (λ f. f.at ≤ max start end) }
 {
-    let element = read_element(bytes, start, at, end, depth)?;
-    if let Some(len) = held_len(element.value) {
-        check(bytes, element.next - len, element.next - 1, depth + 1)?;
+    let element = skip_element(bytes, start, at, end, depth)?;
+    if let Some(place) = element.document {
+        check(bytes, place, element.next - 1, depth + 1)?;
     }
     Ok(element.next)
 }

@@ -1,16 +1,15 @@
-use Rattle.std.proofs.Common.{◌≡◌, ℕ, ◌+◌, ◌-◌, ◌<◌, ◌≤◌, List, Some, Ok, refl, length, drop, arith, length-take, length-drop}
+use Rattle.std.proofs.Common.{◌≡◌, ℕ, ◌+◌, ◌-◌, ◌<◌, ◌≤◌, List, Option, Some, None, Ok, Err, ap, ◌∙◌, length, drop, arith, length-take, length-drop}
 use Rattle.std.specs.Prelude.{slice_range}
 use Rattle.std.proofs.lemmas.Result.{err_from_is_err_and}
 use Rattle.bson_elem.proofs.TreeLaws.{joined}
-use Rattle.bson_elem.specs.Checks.{opens, element_at}
-use Rattle.bson_elem.specs.Checks as checks
-use Rattle.bson_elem.specs.declared.element.Element.{Element}
-use Rattle.bson_elem.specs.Items.{element_view}
+use Rattle.bson_elem.specs.declared.fault.BsonFault.{BsonFault}
+use Rattle.bson_elem.specs.declared.extent.Extent.{Extent}
+use Rattle.bson_elem.specs.Checks.{ElementRead, element_at}
+use Rattle.bson_elem.specs.Extents.{element_extent}
 use Rattle.bson_elem.specs.Spelling.{IsBytes}
-use Rattle.bson_elem.proofs.FieldLaws.{IsBytes-take, IsBytes-drop}
-use Rattle.bson_elem.specs.Faults.{Before}
-use Rattle.bson_raw.specs.Checks.{document_len}
-use Rattle.bson_raw.proofs.Steps.{Inside, inside_of, leaf_of, leaf_is_pair, inner_is_pair, pair_size, fault_here, fault_inside, fault_after, Before-joined, joined_place}
+use Rattle.bson_elem.specs.Faults.{Before, FaultIn}
+use Rattle.bson_elem.proofs.ViewLaws.{fault_read}
+use Rattle.bson_raw.proofs.Steps.{IsPassed, passed, Inside, inside_of, leaf_passed, inner_passed, fault_here, fault_inside, fault_after, Before-joined, joined_place}
 use Rattle.bson_raw.proofs.check.+check.Goals as goal
 
 pub check-returns-in_err-at-clause-checked : goal.check-returns-in_err-at-clause-checked
@@ -26,48 +25,40 @@ check-loop-at-preserved t c =
     let before : Before c.args.depth (slice_range c.args.bytes.now c.loop-at.at c.args.end) n.2.0 (slice_range c.args.bytes.now c.in_ok-at.at c.args.end) = record { parts = n.2.2; fits = n.2.1 } in
     (omega (arith, n.0, i.0), n.1, (joined i.2.0 n.2.0, Before-joined c.args.depth (slice_range c.args.bytes.now (c.args.start + 4) c.args.end) (slice_range c.args.bytes.now c.loop-at.at c.args.end) (slice_range c.args.bytes.now c.in_ok-at.at c.args.end) i.2.0 n.2.0 i.2.1 before, omega (arith, joined_place (c.args.start + 4) i.2.0 n.2.0, i.2.2, n.2.3, n.0)))
 
+-- what cannot be passed has the same fault
+fault_of : (bytes : List ℕ) (depth start at end : ℕ) (f : BsonFault) → at < end → end < length bytes → element_extent (element_at depth start at (slice_range bytes at end)) ≡ Err f → FaultIn depth start at (slice_range bytes at end) f
+fault_of bytes depth start at end f lt whole is =
+    let room = slice_range bytes at end in
+    fault_here depth start at room f (omega (arith, length-take (end - at) (drop at bytes), length-drop at bytes, lt, whole)) (fault_read (element_at depth start at room) f is)
+
 pub pair_end-returns-in_err-element-clause-checked : goal.pair_end-returns-in_err-element-clause-checked
 pair_end-returns-in_err-element-clause-checked t c =
     let p = err_from_is_err_and c.from_residual.result c.from_residual.ensures.1 in
-    let room = slice_range c.args.bytes.now c.args.at c.args.end in
-    rw (p.1, p.2) (fault_here c.args.depth c.args.start c.args.at room _ (omega (arith, length-take (c.args.end - c.args.at) (drop c.args.at c.args.bytes.now), length-drop c.args.at c.args.bytes.now, c.requires.inside, c.requires.whole)) c.in_err-element.ensures.read)
+    rw (p.1, p.2) (fault_of c.args.bytes.now c.args.depth c.args.start c.args.at c.args.end _ c.requires.inside c.requires.whole c.in_err-element.ensures.read)
 
--- the document that the element holds, as the code knows it
-abbrev elem : List ℕ → ℕ → Element → checks.ElementRead
-elem bytes end e = element_view bytes end e
-
-known : (bytes : List ℕ) (depth start at end len : ℕ) (e : Element) → IsBytes bytes → at < end → end < length bytes → e.next ≤ end → element_at depth start at (slice_range bytes at end) ≡ Ok (element_view bytes end e) → Some len ≡ document_len e.value → Inside bytes depth at e.next (e.next - len) (elem bytes end e)
-known bytes depth start at end len e fits lt whole high read len_is = inside_of bytes depth start at end e.next len e.value (elem bytes end e) fits lt whole high read refl refl len_is
-
-pub pair_end-overflow_sub-element : goal.pair_end-overflow_sub-element
-pair_end-overflow_sub-element t c =
-    let k = known c.args.bytes.now c.args.depth c.args.start c.args.at c.args.end c.in-Some.len c.in_ok-element.element (λ i. (c.type_inv.bytes i).fits) c.requires.inside c.requires.whole c.in_ok-element.ensures.next.1 c.in_ok-element.ensures.read c.in-Some.ensures in
-    omega (arith, k.1)
+-- the element that was passed, and the document in it
+known : (bytes : List ℕ) (depth start at end place : ℕ) (x : Extent) → IsBytes bytes → at < end → end < length bytes → x.next ≤ end → element_extent (element_at depth start at (slice_range bytes at end)) ≡ Ok (x.document, slice_range bytes x.next end) → x.document ≡ Some place → (e : ElementRead) × IsPassed bytes depth start at end (Some place) x.next e × Inside bytes depth at x.next place e
+known bytes depth start at end place x fits lt whole high read is =
+    let e = passed bytes depth start at end (Some place) x.next (read ∙ ap (λ (d : Option ℕ). Ok (d, slice_range bytes x.next end)) is) in
+    (e.0, e.1, inside_of bytes depth start at end x.next place e.0 fits lt whole high e.1)
 
 pub pair_end-check-requires : goal.pair_end-check-requires
 pair_end-check-requires t c =
-    let k = known c.args.bytes.now c.args.depth c.args.start c.args.at c.args.end c.in-Some.len c.in_ok-element.element (λ i. (c.type_inv.bytes i).fits) c.requires.inside c.requires.whole c.in_ok-element.ensures.next.1 c.in_ok-element.ensures.read c.in-Some.ensures in
-    (omega (arith, k.0, c.decreases), (omega (arith, k.2), (omega (arith, c.in_ok-element.ensures.next.1, c.requires.whole), omega (arith, k.0))))
+    let k = known c.args.bytes.now c.args.depth c.args.start c.args.at c.args.end c.in-Some.place c.in_ok-element.element (λ i. (c.type_inv.bytes i).fits) c.requires.inside c.requires.whole c.in_ok-element.ensures.next.1 c.in_ok-element.ensures.read c.in-Some.is in
+    (omega (arith, k.2.0, c.decreases), (omega (arith, k.2.2), (omega (arith, c.in_ok-element.ensures.next.1, c.requires.whole), omega (arith, k.2.0))))
 
 pub pair_end-returns-in_err-check-clause-checked : goal.pair_end-returns-in_err-check-clause-checked
 pair_end-returns-in_err-check-clause-checked t c =
     let p = err_from_is_err_and c.from_residual-in_err-check.result c.from_residual-in_err-check.ensures.1 in
-    let k = known c.args.bytes.now c.args.depth c.args.start c.args.at c.args.end c.in-Some.len c.in_ok-element.element (λ i. (c.type_inv.bytes i).fits) c.requires.inside c.requires.whole c.in_ok-element.ensures.next.1 c.in_ok-element.ensures.read c.in-Some.ensures in
-    rw (p.1, p.2) (fault_inside c.args.depth c.args.start c.args.at (slice_range c.args.bytes.now c.args.at c.args.end) (elem c.args.bytes.now c.args.end c.in_ok-element.element) (c.in_ok-element.element.next - c.in-Some.len) k.3.0 _ _ c.in_ok-element.ensures.read k.3.1 c.in_err-check.ensures.checked)
+    let k = known c.args.bytes.now c.args.depth c.args.start c.args.at c.args.end c.in-Some.place c.in_ok-element.element (λ i. (c.type_inv.bytes i).fits) c.requires.inside c.requires.whole c.in_ok-element.ensures.next.1 c.in_ok-element.ensures.read c.in-Some.is in
+    rw (p.1, p.2) (fault_inside c.args.depth c.args.start c.args.at (slice_range c.args.bytes.now c.args.at c.args.end) k.0 c.in-Some.place k.2.3.0 _ _ k.1.read k.2.3.1 c.in_err-check.ensures.checked)
 
 pub pair_end-returns-in_ok-check-clause-checked : goal.pair_end-returns-in_ok-check-clause-checked
 pair_end-returns-in_ok-check-clause-checked t c =
-    let k = known c.args.bytes.now c.args.depth c.args.start c.args.at c.args.end c.in-Some.len c.in_ok-element.element (λ i. (c.type_inv.bytes i).fits) c.requires.inside c.requires.whole c.in_ok-element.ensures.next.1 c.in_ok-element.ensures.read c.in-Some.ensures in
-    let room = slice_range c.args.bytes.now c.args.at c.args.end in
-    let e = elem c.args.bytes.now c.args.end c.in_ok-element.element in
-    let fits : IsBytes room = IsBytes-take (c.args.end - c.args.at) (drop c.args.at c.args.bytes.now) (IsBytes-drop c.args.at c.args.bytes.now (λ i. (c.type_inv.bytes i).fits)) in
-    pair_size c.args.bytes.now c.args.depth c.args.at c.args.end c.in_ok-element.element.next e.rest c.requires.inside c.requires.whole c.in_ok-element.ensures.next.1 c.in_ok-element.ensures.next.0 refl
-    (inner_is_pair c.args.depth c.args.start c.args.at room e (c.in_ok-element.element.next - c.in-Some.len) k.3.0 _ fits c.in_ok-element.ensures.read k.3.1 c.in_ok-check.ensures.checked)
+    let k = known c.args.bytes.now c.args.depth c.args.start c.args.at c.args.end c.in-Some.place c.in_ok-element.element (λ i. (c.type_inv.bytes i).fits) c.requires.inside c.requires.whole c.in_ok-element.ensures.next.1 c.in_ok-element.ensures.read c.in-Some.is in
+    inner_passed c.args.bytes.now c.args.depth c.args.start c.args.at c.args.end c.in_ok-element.element.next c.in-Some.place k.0 (λ i. (c.type_inv.bytes i).fits) c.requires.inside c.requires.whole c.in_ok-element.ensures.next.1 c.in_ok-element.ensures.next.0 k.1 c.in_ok-check.ensures.checked
 
 pub pair_end-returns-in_default-clause-checked : goal.pair_end-returns-in_default-clause-checked
 pair_end-returns-in_default-clause-checked t c =
-    let room = slice_range c.args.bytes.now c.args.at c.args.end in
-    let e = elem c.args.bytes.now c.args.end c.in_ok-element.element in
-    let fits : IsBytes room = IsBytes-take (c.args.end - c.args.at) (drop c.args.at c.args.bytes.now) (IsBytes-drop c.args.at c.args.bytes.now (λ i. (c.type_inv.bytes i).fits)) in
-    pair_size c.args.bytes.now c.args.depth c.args.at c.args.end c.in_ok-element.element.next e.rest c.requires.inside c.requires.whole c.in_ok-element.ensures.next.1 c.in_ok-element.ensures.next.0 refl
-    (leaf_is_pair c.args.depth c.args.start c.args.at room e fits c.in_ok-element.ensures.read (leaf_of c.in_ok-element.element.value c.in_ok-element.element.next c.in_default.ensures))
+    let e = passed c.args.bytes.now c.args.depth c.args.start c.args.at c.args.end None c.in_ok-element.element.next (c.in_ok-element.ensures.read ∙ ap (λ (d : Option ℕ). Ok (d, slice_range c.args.bytes.now c.in_ok-element.element.next c.args.end)) c.in_default.is) in
+    leaf_passed c.args.bytes.now c.args.depth c.args.start c.args.at c.args.end c.in_ok-element.element.next e.0 (λ i. (c.type_inv.bytes i).fits) c.requires.inside c.requires.whole c.in_ok-element.ensures.next.1 c.in_ok-element.ensures.next.0 e.1

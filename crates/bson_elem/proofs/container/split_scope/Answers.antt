@@ -4,7 +4,7 @@ use Rattle.bson_elem.specs.Tree.{with_code}
 use Rattle.bson_elem.specs.Checks.{opens}
 use Rattle.bson_elem.specs.Documents.{elements_of}
 use Rattle.bson_elem.proofs.ScopeLaws.{scope_read}
-use Rattle.bson_elem.proofs.container.read_scope.Goals as goal
+use Rattle.bson_elem.proofs.container.split_scope.Goals as goal
 
 pub returns-clause-read : goal.returns-clause-read
 returns-clause-read c =

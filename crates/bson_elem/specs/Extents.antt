@@ -1,0 +1,25 @@
+-- How far what was read reaches: what follows it, and the place of a document in it.
+use Rattle.std.specs.Prelude.{ℕ, List, Option, Some, None, Result, Ok, Err}
+use Rattle.bson_elem.specs.declared.fault.BsonCause.{BsonCause}
+use Rattle.bson_elem.specs.declared.fault.BsonFault.{BsonFault}
+use Rattle.bson_elem.specs.Checks.{Read, Value, a_leaf, opens, ElementRead}
+
+-- the place where the document begins that a value is, if it is one
+abbrev pub document_place : Value → Option ℕ
+document_place (a_leaf v) = None
+document_place (opens q b body) = Some q
+
+-- what follows a number, a text or a leaf
+abbrev pub rest_of : {A : Type 0} → Read A → Result (List ℕ) BsonCause
+rest_of (Ok x) = Ok x.1
+rest_of (Err c) = Err c
+
+-- the place of a document in a value, and what follows the value
+abbrev pub value_extent : Result (Value × List ℕ) BsonFault → Result (Option ℕ × List ℕ) BsonFault
+value_extent (Ok v) = Ok (document_place v.0, v.1)
+value_extent (Err f) = Err f
+
+-- the place of a document in an element, and what follows the element
+abbrev pub element_extent : Result ElementRead BsonFault → Result (Option ℕ × List ℕ) BsonFault
+element_extent (Ok e) = Ok (document_place e.value, e.rest)
+element_extent (Err f) = Err f

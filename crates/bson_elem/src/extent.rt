@@ -1,0 +1,201 @@
+//! How far elements reach. Each is checked as `read_element` checks it, but no value is built: a walk that only checks
+//! needs the place of the next element, and that of a document in this one.
+
+ghost use Rattle.std.specs.Prelude.{◌≡◌, ◌+◌, ◌<◌, ◌≤◌, ◌^◌, length, max, slice_range, IfOk, IfErr};
+ghost use Rattle.bson_elem.specs.Checks.{bytes_at, element_at, leaf_at, value_at};
+ghost use Rattle.bson_elem.specs.Kinds.{form_of, boolean_form, binary_form};
+ghost use Rattle.bson_elem.specs.Extents.{element_extent, rest_of, value_extent};
+ghost use Rattle.bson_elem.specs.Results.{Gives};
+
+use crate::container::{MAX_DEPTH, fault_at, read_document, split_scope};
+use crate::fault::{BsonCause, BsonFault};
+use crate::kind::Kind;
+use crate::number::{little_u32, read_length};
+use crate::text::{read_cstring, read_string};
+
+/// What follows so many bytes.
+#[inline(always)]
+fn skip_bytes(n: usize, bytes: &[u8]) -> Result<&[u8], BsonCause>
+    ensures { Gives (λ x. x.now) result (rest_of (bytes_at n bytes.now)) }
+{
+    if bytes.len() < n {
+        return Err(BsonCause::Truncated);
+    }
+    Ok(&bytes[n..])
+}
+
+/// What follows a boolean.
+#[tactic(auto, unfolding(crate::specs::Checks::leaf_at, crate::specs::Checks::boolean_at))]
+#[inline(always)]
+fn skip_boolean(bytes: &[u8]) -> Result<&[u8], BsonCause>
+    ensures { Gives (λ x. x.now) result (rest_of (leaf_at boolean_form bytes.now)) }
+{
+    match bytes {
+        [] => Err(BsonCause::Truncated),
+        [0, rest @ ..] => Ok(rest),
+        [1, rest @ ..] => Ok(rest),
+        [_, ..] => Err(BsonCause::Boolean),
+    }
+}
+
+/// What follows a binary.
+#[tactic(auto, unfolding(crate::specs::Checks::leaf_at, crate::specs::Checks::binary_of))]
+#[inline(always)]
+fn skip_binary(bytes: &[u8]) -> Result<&[u8], BsonCause>
+    ensures { Gives (λ x. x.now) result (rest_of (leaf_at binary_form bytes.now)) }
+{
+    let (n, rest) = read_length(0, bytes)?;
+    if rest.len() < n + 1 {
+        return Err(BsonCause::Truncated);
+    }
+    if rest[0] == 2 {
+        if n < 4 {
+            return Err(BsonCause::OldBinary);
+        }
+        let count = little_u32(&rest[1..n + 1]);
+        if count as usize != n - 4 {
+            return Err(BsonCause::OldBinary);
+        }
+    }
+    Ok(&rest[n + 1..])
+}
+
+/// What follows a value of a kind that holds no document.
+#[tactic(auto, unfolding(crate::specs::Checks::leaf_at))]
+#[inline(always)]
+fn skip_leaf(kind: Kind, bytes: &[u8]) -> Result<&[u8], BsonCause>
+    ensures { Gives (λ x. x.now) result (rest_of (leaf_at (form_of kind) bytes.now)) }
+{
+    match kind {
+        Kind::Undefined | Kind::Null | Kind::MinKey | Kind::MaxKey => Ok(bytes),
+        Kind::Boolean => skip_boolean(bytes),
+        Kind::Int32 => skip_bytes(4, bytes),
+        Kind::Double | Kind::DateTime | Kind::Int64 => skip_bytes(8, bytes),
+        Kind::Timestamp => {
+            let rest = skip_bytes(4, bytes)?;
+            skip_bytes(4, rest)
+        }
+        Kind::ObjectId => skip_bytes(12, bytes),
+        Kind::Decimal128 => skip_bytes(16, bytes),
+        Kind::String | Kind::Code | Kind::Symbol => {
+            let (_, rest) = read_string(bytes)?;
+            Ok(rest)
+        }
+        Kind::DbPointer => {
+            let (_, rest) = read_string(bytes)?;
+            skip_bytes(12, rest)
+        }
+        Kind::Regex => {
+            let (_, rest) = read_cstring(bytes)?;
+            let (_, rest) = read_cstring(rest)?;
+            Ok(rest)
+        }
+        Kind::Binary => skip_binary(bytes),
+        Kind::Document | Kind::Array | Kind::CodeWithScope => Err(BsonCause::Kind),
+    }
+}
+
+/// The place of a document in a value of a kind, and what follows the value. It begins at `q`, in the element at `p`.
+#[tactic(auto, using(crate::proofs::ScopeLaws::parts), unfolding(crate::specs::Checks::value_at))]
+#[inline(always)]
+fn skip_value(
+    depth: u32,
+    p: usize,
+    q: usize,
+    kind: Kind,
+    bytes: &[u8],
+) -> Result<(Option<usize>, &[u8]), BsonFault>
+    requires { q + length bytes.now < 2 ^ 64 }
+    ensures read { Gives (λ x. (x.0, x.1.now)) result (value_extent (value_at depth p q (form_of kind) bytes.now)) }
+    ensures place { IfErr result (λ f. f.at ≤ max p (q + length bytes.now)) }
+{
+    match kind {
+        Kind::Document | Kind::Array => {
+            if depth >= MAX_DEPTH {
+                return Err(fault_at(p, BsonCause::Depth));
+            }
+            let (_, rest) = read_document(p, q, bytes)?;
+            Ok((Some(q), rest))
+        }
+        Kind::CodeWithScope => {
+            if depth >= MAX_DEPTH {
+                return Err(fault_at(p, BsonCause::Depth));
+            }
+            let (_, scope, rest) = split_scope(p, q, bytes)?;
+            Ok((Some(q + bytes.len() - rest.len() - scope.len()), rest))
+        }
+        _ => match skip_leaf(kind, bytes) {
+            Ok(rest) => Ok((None, rest)),
+            Err(cause) => Err(fault_at(p, cause)),
+        },
+    }
+}
+
+/// How far an element reaches.
+#[derive(Clone, Copy, Debug, PartialEq, Eq)]
+pub struct Extent {
+    /// Where the document, array or scope begins that the element holds.
+    pub document: Option<usize>,
+    /// The place after the element.
+    pub next: usize,
+}
+
+/// The place of a document in the element at the front of what is left of a container of this depth that begins at
+/// `start`, and what follows the element. Its type byte stands at `at`.
+#[tactic(auto, unfolding(crate::specs::Checks::element_at))]
+#[inline(always)]
+fn skip_in(
+    room: &[u8],
+    start: usize,
+    at: usize,
+    depth: u32,
+) -> Result<(Option<usize>, &[u8]), BsonFault>
+    requires { at + length room.now < 2 ^ 64 }
+    ensures read { Gives (λ x. (x.0, x.1.now)) result (element_extent (element_at depth start at room.now)) }
+    ensures place { IfErr result (λ f. f.at ≤ max start (at + length room.now)) }
+{
+    match room {
+        [] => Err(fault_at(start, BsonCause::End)),
+        [byte, rest @ ..] => {
+            let byte = *byte;
+            if byte == 0 {
+                return Err(fault_at(start, BsonCause::End));
+            }
+            let Some(kind) = Kind::from_byte(byte) else {
+                return Err(fault_at(at, BsonCause::Kind));
+            };
+            let (name, rest) = match read_cstring(rest) {
+                Ok(read) => read,
+                Err(cause) => return Err(fault_at(at, cause)),
+            };
+            let (document, rest) = skip_value(depth, at, at + name.len() + 2, kind, rest)?;
+            Ok((document, rest))
+        }
+    }
+}
+
+/// How far the element reaches whose type byte stands at `at`, in a container of this depth that begins at `start` and
+/// whose closing byte stands at `end`.
+///
+/// Errs as `read_element` does.
+#[inline(always)]
+pub fn skip_element(
+    bytes: &[u8],
+    start: usize,
+    at: usize,
+    end: usize,
+    depth: u32,
+) -> Result<Extent, BsonFault>
+    requires inside { at < end }
+    requires whole { end < length bytes.now }
+    ensures read { Gives (λ x. (x.document, slice_range bytes.now x.next end)) result
+        (element_extent (element_at depth start at (slice_range bytes.now at end))) }
+    ensures next { IfOk result (λ x. (at < x.next) × (x.next ≤ end)) }
+    ensures place { IfErr result (λ f. f.at ≤ max start end) }
+{
+    let (document, rest) = skip_in(&bytes[at..end], start, at, depth)?;
+    Ok(Extent {
+        document,
+        next: end - rest.len(),
+    })
+}
