@@ -1,10 +1,13 @@
 -- A name, from where its 0 stands.
-use Rattle.std.proofs.Common.{◌≡◌, ℕ, ◌+◌, ◌<◌, Bool, true, false, cond, ltb, List, length, take, drop, Option, Some, None, Result, Ok, Err, refl, ap, ◌∙◌, arith, inl, inr}
+use Rattle.std.proofs.Common.{◌≡◌, ◌≢◌, ℕ, get_or, subst, sym, ◌+◌, ◌<◌, Bool, true, false, cond, ltb, List, length, take, drop, Option, Some, None, Result, Ok, Err, refl, ap, ◌∙◌, arith, inl, inr}
 use Rattle.std.specs.Prelude.{position, IsOk}
-use Rattle.std.specs.Str.{is_utf8}
+use Rattle.std.specs.Str.{is_utf8, IsAscii}
 use Rattle.std.specs.List.{position_or_len}
-use Rattle.std.proofs.lemmas.Bool.{ltb-true, le-ltb, lt-ltb, false_from_ne_true, cases_Bool}
+use Rattle.std.proofs.lemmas.Bool.{ltb-true, le-ltb, lt-ltb, eq-eqb, ne_eqb, false_from_ne_true, cases_Bool}
+use Rattle.std.proofs.lemmas.List.{get_or-take, length-take}
 use Rattle.std.proofs.lemmas.List.Sums.{position_or_len_is}
+use Rattle.std.proofs.lemmas.Str.{is_utf8-from_IsUtf8, IsUtf8-from_ascii}
+use Rattle.std.proofs.lemmas.Str.Ascii.{IsAscii-from_reads}
 use Rattle.memchr.specs.Find.{IsFirstByte, is_byte}
 use Rattle.bson_elem.specs.declared.fault.BsonCause.TheVariants.{Truncated, Name}
 use Rattle.bson_elem.specs.Checks.{is_zero, name_until, cstring_at}
@@ -65,5 +68,17 @@ first_zero_place bytes (Some n) first =
     let here : position_or_len is_zero bytes ≡ n = position_or_len_is is_zero bytes n 0 (omega (arith, first.0.high)) (λ k lt. false_from_ne_true _ (first.0.before k (omega arith) lt)) (λ lt. first.1) in
     let below : ltb n (length bytes) ≡ true = lt-ltb _ _ first.0.high in
     rw (here, below) refl
+
+-- no byte before this one is 0 or outside ASCII
+abbrev pub IsPlainTo : List ℕ → ℕ → Type 0
+IsPlainTo bytes n = (k : ℕ) → k < n → (get_or bytes k 0 ≢ 0) × (get_or bytes k 0 < 128)
+
+-- a 0 behind such bytes is the first, and they are a text
+pub near_place : (bytes : List ℕ) (n : ℕ) → n < length bytes → IsPlainTo bytes n → get_or bytes n 0 ≡ 0 → (position is_zero bytes ≡ Some n) × (is_utf8 (take n bytes) ≡ true)
+near_place bytes n lt plain zero_here =
+    let here : position_or_len is_zero bytes ≡ n = position_or_len_is is_zero bytes n 0 (omega arith) (λ k low. ne_eqb _ _ (plain k low).0) (λ _. eq-eqb _ _ zero_here) in
+    let below : ltb n (length bytes) ≡ true = lt-ltb _ _ lt in
+    let ascii : IsAscii (take n bytes) = IsAscii-from_reads (take n bytes) n (omega (arith, length-take n bytes)) (λ k low. subst (λ (b : ℕ). b < 128) (sym (get_or-take n bytes k 0 low)) (plain k low).1) in
+    (rw (here, below) refl, is_utf8-from_IsUtf8 (take n bytes) (IsUtf8-from_ascii (take n bytes) ascii))
 
 pub ruleset names = (not_found, no_name, a_name, place_below)

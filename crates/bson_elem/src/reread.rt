@@ -1,8 +1,7 @@
 //! Elements of bytes that were checked before. It is known that each check of them succeeds, so there are no faults to
 //! tell, and no text is tested for UTF-8 again.
 
-ghost use Rattle.std.specs.Prelude.{◌≡◌, ℕ, ◌+◌, ◌-◌, ◌<◌, ◌≤◌, ◌^◌, length, slice_range, IsOk, true};
-ghost use Rattle.std.specs.Str.{is_utf8};
+ghost use Rattle.std.specs.Prelude.{◌≡◌, ℕ, ◌+◌, ◌-◌, ◌<◌, ◌≤◌, ◌^◌, length, slice_range, IsOk};
 ghost use Rattle.bson_elem.specs.Checks.{cstring_at, element_at, scope_at, string_at, text_at, value_at};
 ghost use Rattle.bson_elem.specs.Kinds.{form_of};
 ghost use Rattle.bson_elem.specs.Items.{element_shown, element_view, item_kind, item_value, LendsFramed};
@@ -12,17 +11,7 @@ use crate::element::{Element, read_value};
 use crate::item::Item;
 use crate::kind::Kind;
 use crate::number::{read_bytes, read_length};
-use crate::text::zero_of;
-
-/// The bytes as a text, where it is known that they are one.
-#[inline(always)]
-fn known_text(bytes: &[u8]) -> &str
-    requires { is_utf8 bytes.now ≡ true }
-    ensures { result.now ≡ bytes.now }
-{
-    // SAFETY: the bytes are UTF-8, by the `requires`.
-    unsafe { std::str::from_utf8_unchecked(bytes) }
-}
+use crate::text::{known_text, zero_of};
 
 /// A text of so many bytes and a 0.
 #[inline(always)]

@@ -1,5 +1,5 @@
 use Rattle.std.proofs.lemmas.Str.{IsUtf8-from_is_utf8}
-use Rattle.bson_elem.proofs.reread.known_text.Goals as goal
+use Rattle.bson_elem.proofs.text.known_text.Goals as goal
 
 pub from_utf8_unchecked-requires : goal.from_utf8_unchecked-requires
 from_utf8_unchecked-requires c = IsUtf8-from_is_utf8 _ c.requires
