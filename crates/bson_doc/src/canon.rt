@@ -4,7 +4,7 @@ ghost use Rattle.std.specs.Prelude.{◌≡◌, ◌≤◌, ◌<◌, ◌↔◌, �
 ghost use Rattle.bson_elem.specs.Tree.{Tree};
 ghost use Rattle.bson_elem.specs.Spelling.{Spells};
 ghost use Rattle.bson_raw.specs.Pairs.{TreeValue};
-ghost use Rattle.bson_raw.specs.RawBson.{Shows};
+ghost use Rattle.bson_raw.specs.Outlined.{IsOutlineOf, shown_bytes};
 ghost use Rattle.bson_raw.specs.RawDocument.{document_bytes};
 ghost use Rattle.bson_doc.specs.Plain.{plain, canonical_len};
 ghost use Rattle.bson_doc.specs.Naming.{is_plain, is_plain_value};
@@ -15,8 +15,9 @@ use crate::buf::{MAX_LEN, RawDocumentBuf};
 use crate::element::write_document;
 use crate::name::is_canonical_name;
 use crate::refusal::DocRefusal;
+use bson_elem::kind::Kind;
 use bson_raw::document::RawDocument;
-use bson_raw::value::RawBson;
+use bson_raw::outline::RawOutline;
 use std::alloc::Global;
 
 /// Whether the names of the document are canonical at every depth; in an array these are "0", "1" and so on.
@@ -26,8 +27,8 @@ fn has_canonical_names(document: RawDocument<'_>, in_array: bool) -> bool
         → result ≡ is_plain in_array 0 t }
 {
     let mut place = 0;
-    for (name, value) in document.iter() {
-        if !is_canonical_name(name, in_array, place) || !holds_canonical_names(value) {
+    for pair in document.outlines() {
+        if !is_canonical_name(pair.name, in_array, place) || !holds_canonical_names(pair) {
             return false;
         }
         place += 1;
@@ -35,16 +36,16 @@ fn has_canonical_names(document: RawDocument<'_>, in_array: bool) -> bool
     true
 }
 
-/// Whether the names in what the value holds are canonical.
+/// Whether the names in what the value of the pair holds are canonical.
 #[cycle(names)]
-fn holds_canonical_names(value: RawBson<'_>) -> bool
-    ensures { (v : TreeValue) → Shows value.entry v → result ≡ is_plain_value v }
+#[inline(always)]
+fn holds_canonical_names(pair: RawOutline<'_>) -> bool
+    ensures { (v : TreeValue) → IsOutlineOf pair.entry.kind (shown_bytes pair.entry.document) v
+        → result ≡ is_plain_value v }
 {
-    match value {
-        RawBson::Document(document) => has_canonical_names(document, false),
-        RawBson::Array(array) => has_canonical_names(array.as_document(), true),
-        RawBson::CodeWithScope { scope, .. } => has_canonical_names(scope, false),
-        _ => true,
+    match pair.document {
+        Some(inner) => has_canonical_names(inner, pair.kind == Kind::Array),
+        None => true,
     }
 }
 

@@ -11,7 +11,7 @@ use Rattle.bson_elem.specs.Documents.{elements_of, IsFramed}
 use Rattle.bson_elem.specs.Items.{item_kind, item_value, element_shown, LendsFramed}
 use Rattle.bson_elem.specs.declared.fault.BsonFault.{BsonFault}
 use Rattle.bson_elem.specs.Checks.{ElementRead, element_at, document_at}
-use Rattle.bson_elem.specs.Extents.{document_place, element_extent}
+use Rattle.bson_elem.specs.Extents.{document_place, element_extent, held_elements, OutlineRead, element_outline}
 use Rattle.bson_elem.proofs.FieldLaws.{ok_is, IsBytes-take, IsBytes-drop}
 use Rattle.bson_elem.proofs.ContainerLaws.{element_bytes, element_takes, document_takes}
 
@@ -77,6 +77,34 @@ reached_in bytes depth s at end place rest fits lt whole read =
     let size : length x.0.rest ≡ length rest = ap length x.3 in
     let here : rest ≡ slice_range bytes (end - length rest) end = sym x.3 ∙ after.1 ∙ ap (λ (k : ℕ). slice_range bytes (end - k) end) size in
     record { shorter = omega (arith, after.0, size); read = read ∙ ap (λ (r : List ℕ). Ok (place, r)) here }
+
+-- what an element's outline says of the element
+pub record IsOutlined (r : Result ElementRead BsonFault) (x : OutlineRead) : Type 0 where
+  pub element : ElementRead
+  pub is_read : r ≡ Ok element
+  pub name : element.name ≡ x.name
+  pub kind : element.kind ≡ x.kind
+  pub held : held_elements element.value ≡ x.held
+  pub rest : element.rest ≡ x.rest
+
+pub outline_of : (r : Result ElementRead BsonFault) (x : OutlineRead) → element_outline r ≡ Ok x → IsOutlined r x
+outline_of (Ok e) x is =
+    let same = ok_is {E = BsonFault} (record { name = e.name; kind = e.kind; held = held_elements e.value; rest = e.rest }) x is in
+    record { element = e; is_read = refl; name = ap (λ (y : OutlineRead). y.name) same; kind = ap (λ (y : OutlineRead). y.kind) same; held = ap (λ (y : OutlineRead). y.held) same; rest = ap (λ (y : OutlineRead). y.rest) same }
+outline_of (Err f) x is = absurd cc
+
+-- The element between two places of the bytes has this outline, and so many bytes follow it.
+pub record IsSketched (bytes : List ℕ) (depth s at end : ℕ) (x : OutlineRead) : Type 0 where
+  pub shorter : length x.rest < end - at
+  pub read : element_outline (element_at depth s at (slice_range bytes at end)) ≡ Ok (record { name = x.name; kind = x.kind; held = x.held; rest = slice_range bytes (end - length x.rest) end })
+
+pub sketched_in : (bytes : List ℕ) (depth s at end : ℕ) (x : OutlineRead) → IsBytes bytes → at < end → end < length bytes → element_outline (element_at depth s at (slice_range bytes at end)) ≡ Ok x → IsSketched bytes depth s at end x
+sketched_in bytes depth s at end x fits lt whole read =
+    let o = outline_of (element_at depth s at (slice_range bytes at end)) x read in
+    let after = rest_in bytes depth s at end o.element fits lt whole o.is_read in
+    let size : length o.element.rest ≡ length x.rest = ap length o.rest in
+    let here : x.rest ≡ slice_range bytes (end - length x.rest) end = sym o.rest ∙ after.1 ∙ ap (λ (k : ℕ). slice_range bytes (end - k) end) size in
+    record { shorter = omega (arith, after.0, size); read = read ∙ ap (λ (r : List ℕ). Ok (record { name = x.name; kind = x.kind; held = x.held; rest = r })) here }
 
 -- what was read as a document is the whole of that document
 pub lent_whole : (p q : ℕ) (bytes whole rest : List ℕ) → IsBytes bytes → document_at p q bytes ≡ Ok (elements_of whole, rest) → whole ++ rest ≡ bytes → IsFramed whole

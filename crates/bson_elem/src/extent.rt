@@ -15,7 +15,7 @@ use crate::text::{read_cstring, read_string};
 
 /// What follows so many bytes.
 #[inline(always)]
-fn skip_bytes(n: usize, bytes: &[u8]) -> Result<&[u8], BsonCause>
+pub(crate) fn skip_bytes(n: usize, bytes: &[u8]) -> Result<&[u8], BsonCause>
     ensures { Gives (λ x. x.now) result (rest_of (bytes_at n bytes.now)) }
 {
     if bytes.len() < n {
@@ -63,7 +63,7 @@ fn skip_binary(bytes: &[u8]) -> Result<&[u8], BsonCause>
 /// What follows a value of a kind that holds no document.
 #[tactic(auto, unfolding(crate::specs::Checks::leaf_at))]
 #[inline(always)]
-fn skip_leaf(kind: Kind, bytes: &[u8]) -> Result<&[u8], BsonCause>
+pub(crate) fn skip_leaf(kind: Kind, bytes: &[u8]) -> Result<&[u8], BsonCause>
     ensures { Gives (λ x. x.now) result (rest_of (leaf_at (form_of kind) bytes.now)) }
 {
     match kind {

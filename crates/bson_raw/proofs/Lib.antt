@@ -3,6 +3,7 @@ pub mod Fronts
 pub mod Walks
 pub mod Inner
 pub mod Items
+pub mod Outlines
 pub mod Values
 pub mod CountLaws
 pub mod PairLaws

@@ -12,7 +12,7 @@ use Rattle.bson_raw.specs.Pairs.{TreeValue, leaf_value, document_value, with_fir
 use Rattle.bson_raw.specs.RawBson.{Shows, held_len}
 use Rattle.bson_raw.proofs.Walks.{inner_len, room_size}
 
-some_pair : (name : List ℕ) (v : TreeValue) (ps : Tree) → 0 < length (elements (with_first name v ps))
+pub some_pair : (name : List ℕ) (v : TreeValue) (ps : Tree) → 0 < length (elements (with_first name v ps))
 some_pair name (leaf_value k leaf) ps = omega arith
 some_pair name (document_value k b inner) ps = omega arith
 
@@ -20,7 +20,7 @@ some_pair name (document_value k b inner) ps = omega arith
 document_lt : (name : List ℕ) (k : Kind) (b : Beside) (inner ps : Tree) → length (document (elements inner)) < length (elements (with_first name (document_value k b inner) ps))
 document_lt name k b inner ps = omega (arith, inner_len b (elements inner), length-append (byte_of k ∷ (cstring name ++ inner_bytes b (elements inner))) (elements ps), length-append (cstring name) (inner_bytes b (elements inner)))
 
-inner_lt : (name : List ℕ) (v : TreeValue) (ps : Tree) (k : Kind) (b : Beside) (bytes : List ℕ) → (inner : Tree) × (v ≡ document_value k b inner) × Spells inner bytes → length bytes < length (elements (with_first name v ps))
+pub inner_lt : (name : List ℕ) (v : TreeValue) (ps : Tree) (k : Kind) (b : Beside) (bytes : List ℕ) → (inner : Tree) × (v ≡ document_value k b inner) × Spells inner bytes → length bytes < length (elements (with_first name v ps))
 inner_lt name v ps k b bytes shown =
     omega (arith, document_lt name k b shown.0 ps, ap length shown.2.parts, ap (λ (x : TreeValue). length (elements (with_first name x ps))) shown.1)
 

@@ -7,3 +7,5 @@ pub mod RawDocument
 pub mod RawArray
 pub mod RawBson
 pub mod RawIter
+pub mod Outlined
+pub mod RawOutlines

@@ -9,6 +9,7 @@ ghost use Rattle.bson_raw.specs.Spelled.{IsSpelled, FrontIs, IsLengthOf, WholeFa
 
 use crate::check::check;
 use crate::iter::RawIter;
+use crate::outline::RawOutlines;
 use crate::value::RawBson;
 use bson_elem::container::read_document;
 use bson_elem::fault::{BsonCause, BsonFault};
@@ -110,6 +111,7 @@ impl<'a> RawDocument<'a> {
     ghost use Rattle.bson_raw.specs.Pairs.{first_named, names_of, is_among, first_repeated};
     ghost use Rattle.bson_raw.specs.RawBson.{ShowsFound};
     ghost use Rattle.bson_raw.specs.RawIter.{PairsLeft, walked_len};
+    ghost use Rattle.bson_raw.specs.RawOutlines.{OutlinesLeft, outlined_len};
 
     /// The pairs of names and values, in order.
     pub fn iter(self) -> RawIter<'a>
@@ -117,6 +119,14 @@ impl<'a> RawDocument<'a> {
         ensures walked { walked_len result ≡ length (document_bytes self.entry) }
     {
         RawIter::of_spelled(self.bytes)
+    }
+
+    /// The pairs in order, each without its value.
+    pub fn outlines(self) -> RawOutlines<'a>
+        ensures pairs { (t : Tree) → Spells t (document_bytes self.entry) → OutlinesLeft result t }
+        ensures walked { outlined_len result ≡ length (document_bytes self.entry) }
+    {
+        RawOutlines::of_spelled(self.bytes)
     }
 
     /// The value of the first pair of this name.

@@ -3,7 +3,7 @@ use Rattle.bson_elem.specs.Tree.{with_code}
 use Rattle.bson_elem.specs.Checks.{opens}
 use Rattle.bson_elem.specs.Documents.{elements_of}
 use Rattle.bson_elem.proofs.ScopeLaws.{checked_scope}
-use Rattle.bson_elem.proofs.reread.reread_scope.Goals as goal
+use Rattle.bson_elem.proofs.reread.resplit_scope.Goals as goal
 
 pub returns-clause-read : goal.returns-clause-read
 returns-clause-read c =
