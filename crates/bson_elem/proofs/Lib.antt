@@ -4,5 +4,7 @@ pub mod ContainerLaws
 pub mod TreeLaws
 pub mod FrontLaws
 pub mod NameLaws
+pub mod LaneLaws
 pub mod ScopeLaws
 pub mod ViewLaws
+pub mod ExtentLaws

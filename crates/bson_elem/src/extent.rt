@@ -1,7 +1,7 @@
 //! How far elements reach. Each is checked as `read_element` checks it, but no value is built: a walk that only checks
 //! needs the place of the next element, and that of a document in this one.
 
-ghost use Rattle.std.specs.Prelude.{◌≡◌, ◌+◌, ◌<◌, ◌≤◌, ◌^◌, length, max, slice_range, IfOk, IfErr};
+ghost use Rattle.std.specs.Prelude.{◌≡◌, ℕ, List, ◌+◌, ◌<◌, ◌≤◌, ◌^◌, length, max, slice_range, IfOk, IfErr, IfSome};
 ghost use Rattle.bson_elem.specs.Checks.{bytes_at, element_at, leaf_at, value_at};
 ghost use Rattle.bson_elem.specs.Kinds.{form_of, boolean_form, binary_form};
 ghost use Rattle.bson_elem.specs.Extents.{element_extent, rest_of, value_extent};
@@ -60,15 +60,30 @@ fn skip_binary(bytes: &[u8]) -> Result<&[u8], BsonCause>
     Ok(&rest[n + 1..])
 }
 
-/// What follows a value of a kind that holds no document.
+/// How many bytes each value of the kind has, where that is fixed and any bytes are a value.
+#[tactic(auto, using(crate::proofs::ExtentLaws::fixed))]
+#[inline(always)]
+pub(crate) fn fixed_len(kind: Kind) -> Option<usize>
+    ensures { IfSome result (λ n. (bytes : List ℕ) → rest_of (leaf_at (form_of kind) bytes) ≡ rest_of (bytes_at n bytes)) }
+{
+    match kind {
+        Kind::Undefined | Kind::Null | Kind::MinKey | Kind::MaxKey => Some(0),
+        Kind::Int32 => Some(4),
+        Kind::Double | Kind::DateTime | Kind::Timestamp | Kind::Int64 => Some(8),
+        Kind::ObjectId => Some(12),
+        Kind::Decimal128 => Some(16),
+        _ => None,
+    }
+}
+
+/// As `skip_leaf`, by a jump for each kind.
 #[tactic(auto, unfolding(crate::specs::Checks::leaf_at))]
 #[inline(always)]
-pub(crate) fn skip_leaf(kind: Kind, bytes: &[u8]) -> Result<&[u8], BsonCause>
+fn skip_any_leaf(kind: Kind, bytes: &[u8]) -> Result<&[u8], BsonCause>
     ensures { Gives (λ x. x.now) result (rest_of (leaf_at (form_of kind) bytes.now)) }
 {
     match kind {
         Kind::Undefined | Kind::Null | Kind::MinKey | Kind::MaxKey => Ok(bytes),
-        Kind::Boolean => skip_boolean(bytes),
         Kind::Int32 => skip_bytes(4, bytes),
         Kind::Double | Kind::DateTime | Kind::Int64 => skip_bytes(8, bytes),
         Kind::Timestamp => {
@@ -77,6 +92,7 @@ pub(crate) fn skip_leaf(kind: Kind, bytes: &[u8]) -> Result<&[u8], BsonCause>
         }
         Kind::ObjectId => skip_bytes(12, bytes),
         Kind::Decimal128 => skip_bytes(16, bytes),
+        Kind::Boolean => skip_boolean(bytes),
         Kind::String | Kind::Code | Kind::Symbol => {
             let (_, rest) = read_string(bytes)?;
             Ok(rest)
@@ -92,6 +108,18 @@ pub(crate) fn skip_leaf(kind: Kind, bytes: &[u8]) -> Result<&[u8], BsonCause>
         }
         Kind::Binary => skip_binary(bytes),
         Kind::Document | Kind::Array | Kind::CodeWithScope => Err(BsonCause::Kind),
+    }
+}
+
+/// What follows a value of a kind that holds no document.
+#[inline(always)]
+pub(crate) fn skip_leaf(kind: Kind, bytes: &[u8]) -> Result<&[u8], BsonCause>
+    ensures { Gives (λ x. x.now) result (rest_of (leaf_at (form_of kind) bytes.now)) }
+{
+    // Most values have a fixed size, which comes out of a table.
+    match fixed_len(kind) {
+        Some(n) => skip_bytes(n, bytes),
+        None => skip_any_leaf(kind, bytes),
     }
 }
 

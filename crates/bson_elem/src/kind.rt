@@ -35,6 +35,14 @@ impl Kind {
     pub fn from_byte(byte: u8) -> Option<Kind>
         ensures { result ≡ kind_of byte }
     {
+        // The kinds of the low bytes come out of a table, where no other byte is among them.
+        if byte > 0x13 {
+            return match byte {
+                0xff => Some(Kind::MinKey),
+                0x7f => Some(Kind::MaxKey),
+                _ => None,
+            };
+        }
         match byte {
             0x01 => Some(Kind::Double),
             0x02 => Some(Kind::String),
@@ -55,8 +63,6 @@ impl Kind {
             0x11 => Some(Kind::Timestamp),
             0x12 => Some(Kind::Int64),
             0x13 => Some(Kind::Decimal128),
-            0xff => Some(Kind::MinKey),
-            0x7f => Some(Kind::MaxKey),
             _ => None,
         }
     }

@@ -8,14 +8,14 @@ ghost use Rattle.bson_elem.specs.Extents.{element_outline, elements_in, outline_
 ghost use Rattle.bson_elem.specs.Kinds.{form_of};
 
 use crate::container::read_document;
-use crate::extent::{skip_bytes, skip_leaf};
+use crate::extent::{fixed_len, skip_bytes, skip_leaf};
 use crate::kind::Kind;
 use crate::reread::{reread_cstring, reread_string, resplit_scope};
 
-/// What follows a value of a kind that holds no document.
+/// As `reskip_leaf`, by a jump for each kind.
 #[tactic(auto, unfolding(crate::specs::Checks::leaf_at))]
 #[inline(always)]
-fn reskip_leaf(kind: Kind, bytes: &[u8]) -> &[u8]
+fn reskip_any_leaf(kind: Kind, bytes: &[u8]) -> &[u8]
     requires { IsOk (leaf_at (form_of kind) bytes.now) }
     ensures { rest_of (leaf_at (form_of kind) bytes.now) ≡ Ok result.now }
 {
@@ -34,6 +34,18 @@ fn reskip_leaf(kind: Kind, bytes: &[u8]) -> &[u8]
             skip_bytes(12, rest).unwrap()
         }
         _ => skip_leaf(kind, bytes).unwrap(),
+    }
+}
+
+/// What follows a value of a kind that holds no document.
+#[inline(always)]
+fn reskip_leaf(kind: Kind, bytes: &[u8]) -> &[u8]
+    requires { IsOk (leaf_at (form_of kind) bytes.now) }
+    ensures { rest_of (leaf_at (form_of kind) bytes.now) ≡ Ok result.now }
+{
+    match fixed_len(kind) {
+        Some(n) => skip_bytes(n, bytes).unwrap(),
+        None => reskip_any_leaf(kind, bytes),
     }
 }
 
