@@ -62,7 +62,8 @@ fn skip_binary(bytes: &[u8]) -> Result<&[u8], BsonCause>
 
 /// How many bytes each value of the kind has, where that is fixed and any bytes are a value.
 #[tactic(auto, using(crate::proofs::ExtentLaws::fixed))]
-#[inline(always)]
+// Kept apart, since a `match` that is inlined where its outcome is tested becomes a jump for each kind.
+#[inline(never)]
 pub(crate) fn fixed_len(kind: Kind) -> Option<usize>
     ensures { IfSome result (λ n. (bytes : List ℕ) → rest_of (leaf_at (form_of kind) bytes) ≡ rest_of (bytes_at n bytes)) }
 {
