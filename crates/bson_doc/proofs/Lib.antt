@@ -15,3 +15,4 @@ pub mod Hexadecimal
 pub mod Lines
 pub mod Appending
 pub mod Equal
+pub mod DigitLaws
