@@ -11,6 +11,7 @@ pub mod Owned
 pub mod Progress
 pub mod Indent
 pub mod Quoted
+pub mod Escapes
 pub mod Hexadecimal
 pub mod Lines
 pub mod Appending

@@ -72,12 +72,23 @@ run_written a b c d all rest run from at found front whole count p q r =
     let left = subst (λ l. Appends a (append_known b l) all) split p in
     piece_written a c d (escaped first) (flat_map escaped after) all (piece_written a b c run _ all left q) r
 
--- the last run and the closing quote are written
-pub quoted_end : {E : Type 0} (r : Result (Unit {0}) E) (a b c d e : Option (List ℕ)) (text rest : List ℕ)
-    → position needs_escape rest ≡ None → Appends a b (34 ∷ [])
-    → Appends b (append_known c (flat_map escaped rest)) (flat_map escaped text)
-    → Appends c d rest → OnOk r (Appends d e (34 ∷ [])) → OnOk r (Appends a e (quoted text))
-quoted_end (Err x) a b c d e text rest none opened left last closed = tt
-quoted_end (Ok x) a b c d e text rest none opened left last closed =
-    let all = last_written b c d rest (flat_map escaped text) (subst (λ l. Appends b (append_known c l) (flat_map escaped text)) (run_alone rest none) left) last in
-    Appends-trans a b e (34 ∷ []) _ opened (Appends-trans b d e _ (34 ∷ []) all closed)
+-- the last run is written
+pub runs_end : {E : Type 0} (r : Result (Unit {0}) E) (a b c : Option (List ℕ)) (bytes rest : List ℕ)
+    → position needs_escape rest ≡ None → Appends a (append_known b (flat_map escaped rest)) (flat_map escaped bytes)
+    → OnOk r (Appends b c rest) → OnOk r (Appends a c (flat_map escaped bytes))
+runs_end (Err x) a b c bytes rest none left last = tt
+runs_end (Ok x) a b c bytes rest none left last =
+    last_written a b c rest (flat_map escaped bytes) (subst (λ l. Appends a (append_known b l) (flat_map escaped bytes)) (run_alone rest none) left) last
+
+-- a text with no byte that needs an escape is written
+pub plain_written : (a b : Option (List ℕ)) (text : List ℕ) → position needs_escape text ≡ None → Appends a b text
+    → Appends a b (flat_map escaped text)
+plain_written a b text none written = subst (Appends a b) (sym (run_alone text none)) written
+
+-- the closing quote is written
+pub quoted_end : {E : Type 0} (r : Result (Unit {0}) E) (a b c d : Option (List ℕ)) (text : List ℕ)
+    → Appends a b (34 ∷ []) → Appends b c (flat_map escaped text) → OnOk r (Appends c d (34 ∷ []))
+    → OnOk r (Appends a d (quoted text))
+quoted_end (Err x) a b c d text opened inside closed = tt
+quoted_end (Ok x) a b c d text opened inside closed =
+    Appends-trans a b d (34 ∷ []) _ opened (Appends-trans b c d _ (34 ∷ []) inside closed)

@@ -1,5 +1,5 @@
 -- The parts of the text of documents: indentation and quoted text.
-use Rattle.std.specs.Prelude.{ℕ, zero, suc, ◌==◌, ◌||◌, nat_lt, Bool, if◌then◌else◌, List, [], ◌∷◌, ◌++◌, codes, flat_map}
+use Rattle.std.specs.Prelude.{◌≡◌, ℕ, zero, suc, ◌<◌, ◌==◌, ◌||◌, nat_lt, Bool, false, if◌then◌else◌, List, [], ◌∷◌, ◌++◌, get_or, codes, flat_map}
 use Rattle.hex.specs.Hex.{encode_lower}
 
 -- two spaces n times
@@ -10,6 +10,10 @@ indent (suc n) = codes "  " ++ indent n
 -- a byte that quoted text doesn't have as it is: a quote, a backslash, 00 to 1F and 7F
 abbrev pub needs_escape : ℕ → Bool
 needs_escape b = b == 34 || (b == 92 || (nat_lt b 32 || b == 127))
+
+-- no byte before place n needs an escape
+abbrev pub IsPlainTo : List ℕ → ℕ → Type 0
+IsPlainTo bytes n = (k : ℕ) → k < n → needs_escape (get_or bytes k 0) ≡ false
 
 -- a byte as quoted text has it
 abbrev pub escaped : ℕ → List ℕ

@@ -12,6 +12,7 @@ ghost use Rattle.bson_raw.specs.RawIter.{PairsLeft, pairs_bound, walked_len};
 ghost use Rattle.bson_doc.specs.Dump.{document_text, element_line, element_lines};
 ghost use Rattle.bson_doc.specs.DumpValues.{IsHeld, StopsAt, held_tree, value_text};
 
+use crate::number_text::write_number;
 use crate::text::{write_indent, write_quoted};
 use crate::value_text::{
     write_array, write_binary, write_boolean, write_code, write_codescope, write_datetime,
@@ -149,7 +150,9 @@ pub fn dump_to<W: Write>(document: RawDocument<'_>, out: &mut W) -> io::Result<(
         (Appends (W.contents out.old) (W.contents out.new) (document_text t)) }
 {
     let size = document.as_bytes().len();
-    writeln!(out, "document {size}")?;
+    out.write_all(b"document ")?;
+    write_number(size, out)?;
+    out.write_all(b"\n")?;
     dump_elements(document, 1, out)
 }
 

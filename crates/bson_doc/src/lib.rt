@@ -29,6 +29,7 @@ mod from_raw;
 pub mod iter;
 pub mod laws;
 mod name;
+pub mod number_text;
 pub mod refusal;
 #[cfg(test)]
 mod refusal_tests;

@@ -1,12 +1,13 @@
 //! Indentation, quoted text and hexadecimal, the parts of which text of documents is made.
 
-ghost use Rattle.std.specs.Prelude.{◌≡◌, ◌≤◌, OnOk, length, position};
+ghost use Rattle.std.specs.Prelude.{◌≡◌, ◌+◌, ◌≤◌, MatchOption, OnOk, Some, flat_map, length, position};
 ghost use Rattle.std.specs.Io.KnownBytes.{Appends};
 ghost use Rattle.hex.specs.Hex.{encode_lower};
-ghost use Rattle.bson_doc.specs.Text.{escaped, indent, needs_escape, quoted};
+ghost use Rattle.bson_doc.specs.Text.{IsPlainTo, escaped, indent, needs_escape, quoted};
 
 use std::io;
 use std::io::Write;
+use std::simd::prelude::*;
 
 /// How many bytes are spelled at a time.
 const HEX_CHUNK: usize = 128;
@@ -22,17 +23,97 @@ pub fn write_indent<W: Write>(deep: u32, out: &mut W) -> io::Result<()>
 }
 
 /// Whether quoted text writes the byte with a backslash.
+#[inline(always)]
 fn is_escaped(b: u8) -> bool
     ensures { result ≡ needs_escape b }
 {
     matches!(b, b'"' | b'\\' | 0..=31 | 127)
 }
 
+/// The place of the first byte to escape, if it is among the 16 bytes at `at`.
+#[inline(always)]
+fn escaped_in_16(bytes: &[u8], at: usize) -> Option<usize>
+    requires { (at + 16 ≤ length bytes.now) × IsPlainTo bytes.now at }
+    ensures { MatchOption result (IsPlainTo bytes.now (at + 16)) (λ n.
+        position needs_escape bytes.now ≡ Some n) }
+{
+    let lanes = u8x16::from_slice(&bytes[at..]);
+    let mask = (lanes.simd_lt(u8x16::splat(0x20))
+        | lanes.simd_eq(u8x16::splat(0x7f))
+        | lanes.simd_eq(u8x16::splat(b'"'))
+        | lanes.simd_eq(u8x16::splat(b'\\'))).to_bitmask();
+    if mask == 0 {
+        return None;
+    }
+    Some(at + mask.trailing_zeros() as usize)
+}
+
+/// The place of the first byte to escape, if it is among the 4 bytes at `at`.
+#[inline(always)]
+fn escaped_in_4(bytes: &[u8], at: usize) -> Option<usize>
+    requires { (at + 4 ≤ length bytes.now) × IsPlainTo bytes.now at }
+    ensures { MatchOption result (IsPlainTo bytes.now (at + 4)) (λ n.
+        position needs_escape bytes.now ≡ Some n) }
+{
+    let lanes = u8x4::from_slice(&bytes[at..]);
+    let mask = (lanes.simd_lt(u8x4::splat(0x20))
+        | lanes.simd_eq(u8x4::splat(0x7f))
+        | lanes.simd_eq(u8x4::splat(b'"'))
+        | lanes.simd_eq(u8x4::splat(b'\\'))).to_bitmask();
+    if mask == 0 {
+        return None;
+    }
+    Some(at + mask.trailing_zeros() as usize)
+}
+
+/// As `first_escaped`, in fewer than 4 bytes.
+#[inline(always)]
+fn escaped_one_by_one(bytes: &[u8]) -> Option<usize>
+    ensures { result ≡ position needs_escape bytes.now }
+{
+    for at in 0..bytes.len() {
+        if is_escaped(bytes[at]) {
+            return Some(at);
+        }
+    }
+    None
+}
+
+/// As `first_escaped`, in fewer than 16 bytes.
+#[inline(always)]
+fn escaped_in_few(bytes: &[u8]) -> Option<usize>
+    ensures { result ≡ position needs_escape bytes.now }
+{
+    if bytes.len() < 4 {
+        return escaped_one_by_one(bytes);
+    }
+    let mut at = 0;
+    while bytes.len() - at > 4 {
+        if let Some(found) = escaped_in_4(bytes, at) {
+            return Some(found);
+        }
+        at += 4;
+    }
+    // The last look may overlap the one before.
+    escaped_in_4(bytes, bytes.len() - 4)
+}
+
 /// The place of the first byte that quoted text writes with a backslash.
 fn first_escaped(bytes: &[u8]) -> Option<usize>
     ensures { result ≡ position needs_escape bytes.now }
 {
-    bytes.iter().position(|b| is_escaped(*b))
+    if bytes.len() < 16 {
+        return escaped_in_few(bytes);
+    }
+    let mut at = 0;
+    while bytes.len() - at > 16 {
+        if let Some(found) = escaped_in_16(bytes, at) {
+            return Some(found);
+        }
+        at += 16;
+    }
+    // The last look may overlap the one before.
+    escaped_in_16(bytes, bytes.len() - 16)
 }
 
 /// One byte as quoted text has it.
@@ -50,19 +131,33 @@ fn write_escaped<W: Write>(b: u8, out: &mut W) -> io::Result<()>
     }
 }
 
-/// A text between quotes. Each run of bytes that need no escape is written by one call.
-pub fn write_quoted<W: Write>(text: &str, out: &mut W) -> io::Result<()>
-    ensures { OnOk result (Appends (W.contents out.old) (W.contents out.new) (quoted text.now)) }
+/// The bytes as quoted text has them. Each run of bytes that need no escape is written by one call.
+#[inline(never)]
+fn write_runs<W: Write>(bytes: &[u8], out: &mut W) -> io::Result<()>
+    ensures { OnOk result (Appends (W.contents out.old) (W.contents out.new)
+        (flat_map escaped bytes.now)) }
 {
-    out.write_all(b"\"")?;
-    let mut rest = text.as_bytes();
+    let mut rest = bytes;
     while let Some(at) = first_escaped(rest) {
         let (run, from) = rest.split_at(at);
         out.write_all(run)?;
         write_escaped(from[0], out)?;
         rest = &from[1..];
     }
-    out.write_all(rest)?;
+    out.write_all(rest)
+}
+
+/// A text between quotes.
+pub fn write_quoted<W: Write>(text: &str, out: &mut W) -> io::Result<()>
+    ensures { OnOk result (Appends (W.contents out.old) (W.contents out.new) (quoted text.now)) }
+{
+    let bytes = text.as_bytes();
+    out.write_all(b"\"")?;
+    // Few texts hold a byte to escape.
+    match first_escaped(bytes) {
+        None => out.write_all(bytes)?,
+        Some(_) => write_runs(bytes, out)?,
+    }
     out.write_all(b"\"")
 }
 

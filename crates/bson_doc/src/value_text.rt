@@ -7,6 +7,7 @@ ghost use Rattle.std.specs.Prelude.{OnOk};
 ghost use Rattle.std.specs.Io.KnownBytes.{Appends};
 ghost use Rattle.bson_doc.specs.ValueText.{array_text, binary_text, boolean_text, code_text, codescope_text, datetime_text, dbpointer_text, decimal128_text, inner_document_text, double_text, int32_text, int64_text, objectid_text, regex_text, string_text, symbol_text, timestamp_text};
 
+use crate::number_text::write_number;
 use crate::text::{write_hex, write_quoted};
 use std::io;
 use std::io::Write;
@@ -34,7 +35,8 @@ pub fn write_inner_document<W: Write>(size: usize, out: &mut W) -> io::Result<()
     ensures { OnOk result (Appends (W.contents out.old) (W.contents out.new)
         (inner_document_text size)) }
 {
-    write!(out, " document {size}")
+    out.write_all(b" document ")?;
+    write_number(size, out)
 }
 
 /// ` array ` and the count of its bytes.
@@ -42,7 +44,8 @@ pub fn write_array<W: Write>(size: usize, out: &mut W) -> io::Result<()>
     ensures { OnOk result (Appends (W.contents out.old) (W.contents out.new)
         (array_text size)) }
 {
-    write!(out, " array {size}")
+    out.write_all(b" array ")?;
+    write_number(size, out)
 }
 
 /// ` binary `, the subtype, the count of the data and, where there are any, the data.
@@ -52,7 +55,8 @@ pub fn write_binary<W: Write>(subtype: u8, bytes: &[u8], out: &mut W) -> io::Res
 {
     out.write_all(b" binary ")?;
     write_hex(&[subtype], out)?;
-    write!(out, " {}", bytes.len())?;
+    out.write_all(b" ")?;
+    write_number(bytes.len(), out)?;
     if bytes.is_empty() {
         return Ok(());
     }
@@ -74,7 +78,12 @@ pub fn write_boolean<W: Write>(value: bool, out: &mut W) -> io::Result<()>
     ensures { OnOk result (Appends (W.contents out.old) (W.contents out.new)
         (boolean_text value)) }
 {
-    write!(out, " boolean {value}")
+    let text = if value {
+        " boolean true"
+    } else {
+        " boolean false"
+    };
+    out.write_all(text.as_bytes())
 }
 
 /// ` datetime ` and the milliseconds since 1970 in UTC.
@@ -82,7 +91,8 @@ pub fn write_datetime<W: Write>(milliseconds: i64, out: &mut W) -> io::Result<()
     ensures { OnOk result (Appends (W.contents out.old) (W.contents out.new)
         (datetime_text milliseconds)) }
 {
-    write!(out, " datetime {milliseconds}")
+    out.write_all(b" datetime ")?;
+    write_number(milliseconds, out)
 }
 
 /// ` regex `, the quoted pattern and the quoted options.
@@ -132,7 +142,8 @@ pub fn write_codescope<W: Write>(code: &str, size: usize, out: &mut W) -> io::Re
 {
     out.write_all(b" codescope ")?;
     write_quoted(code, out)?;
-    write!(out, " {size}")
+    out.write_all(b" ")?;
+    write_number(size, out)
 }
 
 /// ` int32 ` and the number.
@@ -140,7 +151,8 @@ pub fn write_int32<W: Write>(value: i32, out: &mut W) -> io::Result<()>
     ensures { OnOk result (Appends (W.contents out.old) (W.contents out.new)
         (int32_text value)) }
 {
-    write!(out, " int32 {value}")
+    out.write_all(b" int32 ")?;
+    write_number(value, out)
 }
 
 /// ` timestamp `, the seconds and the increment.
@@ -156,7 +168,8 @@ pub fn write_int64<W: Write>(value: i64, out: &mut W) -> io::Result<()>
     ensures { OnOk result (Appends (W.contents out.old) (W.contents out.new)
         (int64_text value)) }
 {
-    write!(out, " int64 {value}")
+    out.write_all(b" int64 ")?;
+    write_number(value, out)
 }
 
 /// ` decimal128 ` and 32 digits, the bytes in file order.

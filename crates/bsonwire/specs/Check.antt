@@ -6,13 +6,17 @@ use Rattle.bson_doc.specs.Naming.{is_plain}
 use Rattle.bson_doc.specs.Dump.{document_size}
 use Rattle.bsonwire.specs.Documents.{IsWhole, plainly}
 
--- the word for a document, by whether it is in canonical form
+-- the end of a document's line, by whether it is in canonical form
 abbrev pub form_word : Bool → List ℕ
-form_word canonical = if canonical then codes "canonical" else codes "other"
+form_word canonical = if canonical then codes " canonical\n" else codes " other\n"
+
+-- the line of a document of this size
+abbrev pub sized_line : ℕ → Bool → List ℕ
+sized_line size canonical = codes "ok " ++ (decimal size ++ form_word canonical)
 
 -- the line of a document: how many bytes it has, and whether it is in canonical form
 abbrev pub check_line : Tree → List ℕ
-check_line t = codes "ok " ++ (decimal (document_size t) ++ (codes " " ++ (form_word (is_plain false 0 t) ++ codes "\n")))
+check_line t = sized_line (document_size t) (is_plain false 0 t)
 
 abbrev pub check_of : Tree → Option (List ℕ)
 check_of t = Some (check_line t)

@@ -1,20 +1,43 @@
 //! The command `check`.
 
-ghost use Rattle.std.specs.Prelude.{◌≡◌, ◌⊎◌, IfSome, false, true};
-ghost use Rattle.std.specs.Io.KnownBytes.{IsAtEnd, Keeps};
-ghost use Rattle.bsonwire.specs.Check.{CheckText, check_of};
+ghost use Rattle.std.specs.Prelude.{◌≡◌, ◌⊎◌, IfSome, OnOk, false, true};
+ghost use Rattle.std.specs.Io.KnownBytes.{Appends, IsAtEnd, Keeps};
+ghost use Rattle.bsonwire.specs.Check.{CheckText, check_of, form_word, sized_line};
 ghost use Rattle.bsonwire.specs.Output.{AppendsText, IsOutput};
 ghost use Rattle.bsonwire.specs.Run.{is_done, is_fault};
 
 use crate::documents::{EachDocument, write_documents};
 use crate::run::{Engine, RunEnd, run};
 use bson_doc::canon::is_canonical;
+use bson_doc::number_text::write_number;
 use bson_raw::document::RawDocument;
 use std::alloc::Global;
+use std::io;
 use std::io::{Read, Write};
 
 /// The command `check`.
 struct Check;
+
+/// The end of a document's line.
+fn form_text(canonical: bool) -> &'static str
+    ensures { result.now ≡ form_word canonical }
+{
+    if canonical {
+        " canonical\n"
+    } else {
+        " other\n"
+    }
+}
+
+/// The line of a document of this size.
+fn write_check_line<W: Write>(size: usize, canonical: bool, out: &mut W) -> io::Result<()>
+    ensures { OnOk result (Appends (W.contents out.old) (W.contents out.new)
+        (sized_line size canonical)) }
+{
+    out.write_all(b"ok ")?;
+    write_number(size, out)?;
+    out.write_all(form_text(canonical).as_bytes())
+}
 
 impl EachDocument for Check {
     ghost text_of = { λ _. check_of };
@@ -26,13 +49,7 @@ impl EachDocument for Check {
         document: RawDocument<'_>,
         out: &mut W,
     ) -> Result<bool, RunEnd> {
-        let size = document.as_bytes().len();
-        let word = if is_canonical(document) {
-            "canonical"
-        } else {
-            "other"
-        };
-        match writeln!(out, "ok {size} {word}") {
+        match write_check_line(document.as_bytes().len(), is_canonical(document), out) {
             Ok(()) => Ok(true),
             Err(_) => Err(RunEnd::InOut),
         }

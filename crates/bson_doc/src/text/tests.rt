@@ -29,11 +29,31 @@ fn quotes_text(rt: HostRuntime) -> Result<(), Fail> {
         ),
         ("run\"and\\run", "\"run\\\"and\\\\run\""),
         ("\x01run\x02", "\"\\x01run\\x02\""),
+        (
+            "\nabcdefghijklmn\t\"\\abcdefghijklm\x7fabcdefgh",
+            "\"\\x0aabcdefghijklmn\\x09\\\"\\\\abcdefghijklm\\x7fabcdefgh\"",
+        ),
     ];
     for (text, quoted) in rows {
         let mut out = Vec::new(rt.alloc());
         write_quoted(text, &mut out)?;
         assert_eq!(rt; out.as_slice(), quoted.as_bytes(), "at {text:?}");
+    }
+    Ok(())
+}
+
+#[test]
+fn finds_an_escape_at_each_place(rt: HostRuntime) -> Result<(), Fail> {
+    for len in [3, 4, 7, 15, 16, 17, 40] {
+        for at in 0..len {
+            let mut bytes = [b'~'; 40];
+            bytes[at] = b'"';
+            let text = std::str::from_utf8(bytes.get(..len).ok_or("len")?)?;
+            let mut out = Vec::new(rt.alloc());
+            write_quoted(text, &mut out)?;
+            assert_eq!(rt; out.len(), len + 3, "at {at} of {len}");
+            assert_eq!(rt; out.get(at + 1), Some(&b'\\'), "at {at} of {len}");
+        }
     }
     Ok(())
 }
