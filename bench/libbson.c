@@ -149,12 +149,8 @@ static bool dump_documents(const uint8_t *bytes, size_t size)
     while (size > 0) {
         bson_t document;
         bson_iter_t iter;
-        uint32_t length;
-        if (size < 5) {
-            return false;
-        }
-        memcpy(&length, bytes, 4);
-        if (length > size || !bson_init_static(&document, bytes, length) || !bson_iter_init(&iter, &document)) {
+        uint32_t length = begin_document(bytes, size, &document, &iter);
+        if (length == 0) {
             return false;
         }
         printf("document %" PRIu32 "\n", length);

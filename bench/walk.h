@@ -70,19 +70,28 @@ static bool walk_elements(bson_iter_t *iter, struct sums *sums)
     return iter->err_off == 0;
 }
 
+/* Begins a walk over the elements of the document in front. Gives its length, or 0 where there is none. */
+static uint32_t begin_document(const uint8_t *bytes, size_t size, bson_t *document, bson_iter_t *iter)
+{
+    uint32_t length;
+    if (size < 5) {
+        return 0;
+    }
+    length = (uint32_t)bytes[0] | (uint32_t)bytes[1] << 8 | (uint32_t)bytes[2] << 16 | (uint32_t)bytes[3] << 24;
+    if (length > size || !bson_init_static(document, bytes, length) || !bson_iter_init(iter, document)) {
+        return 0;
+    }
+    return length;
+}
+
 /* Walks the documents that stand back to back. Says whether all of them are good. */
 static bool walk_documents(const uint8_t *bytes, size_t size, struct sums *sums)
 {
     while (size > 0) {
         bson_t document;
         bson_iter_t iter;
-        uint32_t length;
-        if (size < 5) {
-            return false;
-        }
-        length = (uint32_t)bytes[0] | (uint32_t)bytes[1] << 8 | (uint32_t)bytes[2] << 16 | (uint32_t)bytes[3] << 24;
-        if (length > size || !bson_init_static(&document, bytes, length) || !bson_iter_init(&iter, &document)
-            || !walk_elements(&iter, sums)) {
+        uint32_t length = begin_document(bytes, size, &document, &iter);
+        if (length == 0 || !walk_elements(&iter, sums)) {
             return false;
         }
         sums->documents++;
