@@ -16,4 +16,3 @@ pub mod Hexadecimal
 pub mod Lines
 pub mod Appending
 pub mod Equal
-pub mod DigitLaws

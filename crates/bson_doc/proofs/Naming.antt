@@ -3,8 +3,9 @@ use Rattle.std.proofs.Common.{◌≡◌, ℕ, ◌+◌, Bool, true, false, refl}
 use Rattle.std.specs.Prelude.{◌&&◌}
 use Rattle.std.proofs.lemmas.Slice.Eq.{bytes_eq-Decides}
 use Rattle.bson_elem.specs.Tree.{Tree, no_pairs, leaf_pair, inner_pair}
-use Rattle.bson_doc.specs.Plain.{is_array_kind, name_at, plain_from}
-use Rattle.bson_doc.specs.Naming.{is_named, is_plain}
+use Rattle.bson_raw.specs.Naming.{is_array_kind, name_at}
+use Rattle.bson_doc.specs.Plain.{plain_from}
+use Rattle.bson_raw.specs.Naming.{is_named, is_plain}
 
 both : (a b : Bool) → (a && b) ≡ true → (a ≡ true) × (b ≡ true)
 both true b e = (refl, e)

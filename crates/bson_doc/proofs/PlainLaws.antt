@@ -7,7 +7,8 @@ use Rattle.bson_elem.specs.Spelling.{Spells}
 use Rattle.bson_elem.proofs.FrontLaws.{same_front}
 use Rattle.std.proofs.lemmas.List.{append-nil}
 use Rattle.bson_raw.specs.Pairs.{names_of, value_at}
-use Rattle.bson_doc.specs.Plain.{is_array_kind, name_at, plain_from}
+use Rattle.bson_raw.specs.Naming.{is_array_kind, name_at}
+use Rattle.bson_doc.specs.Plain.{plain_from}
 use Rattle.bson_doc.specs.Values.{plain_value}
 
 name_at-again : (in_array : Bool) (place : ℕ) (name : List ℕ) → name_at in_array place (name_at in_array place name) ≡ name_at in_array place name

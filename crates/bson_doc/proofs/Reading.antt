@@ -7,7 +7,8 @@ use Rattle.bson_doc.specs.declared.refusal.DocRefusal.{DocRefusal}
 use Rattle.bson_doc.specs.declared.refusal.DocRefusal.TheVariants.{RepeatedName, OutOfMemory, TooLarge, ZeroInName, Depth}
 use Rattle.bson_doc.specs.Array.{array_tree}
 use Rattle.bson_doc.specs.Document.{tree_of, paired}
-use Rattle.bson_doc.specs.Plain.{name_at, plain_from}
+use Rattle.bson_raw.specs.Naming.{name_at}
+use Rattle.bson_doc.specs.Plain.{plain_from}
 use Rattle.bson_doc.specs.Repeats.{first_of, seen_with, repeat_in, repeat_in_value, IsRepeat}
 use Rattle.bson_doc.specs.Values.{plain_value}
 

@@ -1,23 +1,16 @@
 -- What spells the canonical form of a tree.
-use Rattle.std.proofs.Common.{◌≡◌, ℕ, ◌+◌, ◌<◌, ◌≤◌, ◌^◌, Bool, true, false, List, [], ◌∷◌, ◌++◌, length, ap, arith, length-append}
-use Rattle.std.specs.Fmt.{decimal}
-use Rattle.std.specs.Str.Parse.{AllDigits}
-use Rattle.std.proofs.lemmas.Fmt.{decimal_is_IsNumeral, IsAscii-decimal}
-use Rattle.std.proofs.lemmas.Str.{IsUtf8-from_ascii}
-use Rattle.std.proofs.lemmas.Str.Parse.{digit_from_value}
+use Rattle.std.proofs.Common.{◌≡◌, ℕ, ◌+◌, ◌<◌, ◌≤◌, ◌^◌, Bool, true, false, List, ◌∷◌, ◌++◌, length, ap, arith, length-append}
 use Rattle.bson_elem.specs.Kinds.{byte_of, form_of}
 use Rattle.bson_elem.specs.Tree.{Tree, no_pairs, leaf_pair, inner_pair}
-use Rattle.bson_elem.specs.Spelling.{cstring, leaf_bytes, inner_bytes, document, elements, HasNoZero, IsName, Fits, Spells}
+use Rattle.bson_elem.specs.Spelling.{cstring, leaf_bytes, inner_bytes, document, elements, IsName, Fits, Spells}
 use Rattle.bson_elem.proofs.ContainerLaws.{length-document}
+use Rattle.bson_raw.proofs.DigitLaws.{decimal_is_name}
 use Rattle.bson_raw.proofs.Walks.{inner_len}
-use Rattle.bson_doc.specs.Plain.{is_array_kind, name_at, plain_from, plain}
-
-no_zero : (digits : List ℕ) → AllDigits 10 digits → HasNoZero digits
-no_zero [] d = tt
-no_zero (c ∷ cs) d = let r = digit_from_value c d.0 in (λ e. omega (arith, e, r), no_zero cs d.1)
+use Rattle.bson_raw.specs.Naming.{is_array_kind, name_at}
+use Rattle.bson_doc.specs.Plain.{plain_from, plain}
 
 is_name : (in_array : Bool) (place : ℕ) (name : List ℕ) → place < 2 ^ 64 → IsName name → IsName (name_at in_array place name)
-is_name true place name small f = record { is_text = IsUtf8-from_ascii (decimal place) (IsAscii-decimal place small); no_zero = no_zero (decimal place) (decimal_is_IsNumeral place small).0.1 }
+is_name true place name small f = decimal_is_name place small
 is_name false place name small f = f
 
 -- where the canonical form is short enough it has a spelling

@@ -7,7 +7,8 @@ use Rattle.bson_raw.specs.declared.value.RawBson.{RawBson}
 use Rattle.bson_raw.specs.declared.value.RawBson.TheVariants as values
 use Rattle.bson_raw.specs.Pairs.{TreeValue, leaf_value, document_value, with_first}
 use Rattle.bson_raw.specs.RawBson.{Shows, kind_of_value}
-use Rattle.bson_doc.specs.Plain.{name_at, plain_from}
+use Rattle.bson_raw.specs.Naming.{name_at}
+use Rattle.bson_doc.specs.Plain.{plain_from}
 use Rattle.bson_doc.specs.Values.{plain_value, value_kind, element_bytes}
 
 abbrev kind_is : TreeValue → Kind

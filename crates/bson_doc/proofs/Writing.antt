@@ -8,7 +8,7 @@ use Rattle.std.proofs.lemmas.List.{take-append-drop}
 use Rattle.std.proofs.Math.Seq.{take-append_seam}
 use Rattle.std.proofs.lemmas.Fmt.{IsAscii-decimal}
 use Rattle.std.proofs.lemmas.Str.{IsUtf8-from_ascii}
-use Rattle.bson_doc.specs.Plain.{name_at}
+use Rattle.bson_raw.specs.Naming.{name_at}
 use Rattle.std.specs.Fmt.{decimal}
 use Rattle.bson_elem.specs.Kinds.{byte_of, Form, raw_form, boolean_form, int32_form, int64_form, timestamp_form, string_form, pointer_form, binary_form, regex_form, form_of}
 use Rattle.bson_elem.specs.Spelling.{little, cstring, string, document, leaf_bytes, inner_bytes, elements, HasNoZero, IsOfForm, Fits, Spells}

@@ -1,5 +1,4 @@
 pub mod Plain
-pub mod Naming
 pub mod Values
 pub mod Refusals
 pub mod RawDocumentBuf
@@ -19,3 +18,4 @@ pub mod ValueText
 pub mod Dump
 pub mod DumpValues
 pub mod Same
+pub mod TextWriter

@@ -1,18 +1,8 @@
 -- Trees in canonical form (bsonspec.org, version 1.1: an array is a document whose names are "0", "1" and so on).
-use Rattle.std.specs.Prelude.{ℕ, ◌+◌, Bool, true, false, List, length, if◌then◌else◌}
-use Rattle.std.specs.Fmt.{decimal}
-use Rattle.bson_elem.specs.declared.kind.Kind.{Kind}
-use Rattle.bson_elem.specs.declared.kind.Kind.TheVariants.{Array}
+use Rattle.std.specs.Prelude.{ℕ, ◌+◌, Bool, true, false, length}
 use Rattle.bson_elem.specs.Tree.{Tree, no_pairs, leaf_pair, inner_pair}
 use Rattle.bson_elem.specs.Spelling.{document, elements}
-
-abbrev pub is_array_kind : Kind → Bool
-is_array_kind Array = true
-is_array_kind _ = false
-
--- the canonical name of the pair at a place, counted from 0: the place in decimal in an array, its own elsewhere
-abbrev pub name_at : Bool → ℕ → List ℕ → List ℕ
-name_at in_array place name = if in_array then decimal place else name
+use Rattle.bson_raw.specs.Naming.{is_array_kind, name_at}
 
 -- the pairs from this place of a container on, with the canonical names at every depth
 abbrev pub plain_from : Bool → ℕ → Tree → Tree

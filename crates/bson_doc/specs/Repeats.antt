@@ -4,7 +4,7 @@ use Rattle.bson_elem.specs.Tree.{Tree, no_pairs, leaf_pair, inner_pair}
 use Rattle.bson_raw.specs.Pairs.{TreeValue, leaf_value, document_value, is_among}
 use Rattle.bson_doc.specs.declared.refusal.DocRefusal.{DocRefusal}
 use Rattle.bson_doc.specs.declared.refusal.DocRefusal.TheVariants.{RepeatedName, OutOfMemory}
-use Rattle.bson_doc.specs.Plain.{is_array_kind}
+use Rattle.bson_raw.specs.Naming.{is_array_kind}
 
 -- the first that is there
 abbrev pub first_of : Option ℕ → Option ℕ → Option ℕ

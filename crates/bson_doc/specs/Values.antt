@@ -4,7 +4,8 @@ use Rattle.bson_elem.specs.declared.kind.Kind.{Kind}
 use Rattle.bson_elem.specs.Kinds.{byte_of, form_of}
 use Rattle.bson_elem.specs.Spelling.{cstring, leaf_bytes, inner_bytes, elements}
 use Rattle.bson_raw.specs.Pairs.{TreeValue, leaf_value, document_value}
-use Rattle.bson_doc.specs.Plain.{is_array_kind, plain_from}
+use Rattle.bson_raw.specs.Naming.{is_array_kind}
+use Rattle.bson_doc.specs.Plain.{plain_from}
 
 -- the value with the canonical names in what it holds
 abbrev pub plain_value : TreeValue → TreeValue

@@ -3,51 +3,17 @@
 ghost use Rattle.std.specs.Prelude.{◌≡◌, ◌≤◌, ◌<◌, ◌↔◌, ◌⊎◌, false, length, IsTrue, IfOk, IfErr, IsErrOf};
 ghost use Rattle.bson_elem.specs.Tree.{Tree};
 ghost use Rattle.bson_elem.specs.Spelling.{Spells};
-ghost use Rattle.bson_raw.specs.Pairs.{TreeValue};
-ghost use Rattle.bson_raw.specs.Outlined.{IsOutlineOf, shown_bytes};
+ghost use Rattle.bson_raw.specs.Naming.{is_plain};
 ghost use Rattle.bson_raw.specs.RawDocument.{document_bytes};
 ghost use Rattle.bson_doc.specs.Plain.{plain, canonical_len};
-ghost use Rattle.bson_doc.specs.Naming.{is_plain, is_plain_value};
 ghost use Rattle.bson_doc.specs.Refusals.{IsSizeRefusal};
 ghost use Rattle.bson_doc.specs.RawDocumentBuf.{buf_bytes};
 
 use crate::buf::{MAX_LEN, RawDocumentBuf};
 use crate::element::write_document;
-use crate::name::is_canonical_name;
 use crate::refusal::DocRefusal;
-use bson_elem::kind::Kind;
 use bson_raw::document::RawDocument;
-use bson_raw::outline::RawOutline;
 use std::alloc::Global;
-
-/// Whether the names of the document are canonical at every depth; in an array these are "0", "1" and so on.
-#[cycle(names)]
-fn has_canonical_names(document: RawDocument<'_>, in_array: bool) -> bool
-    ensures { (t : Tree) → Spells t (document_bytes document.entry)
-        → result ≡ is_plain in_array 0 t }
-{
-    let mut place = 0;
-    for pair in document.outlines() {
-        if !is_canonical_name(pair.name, in_array, place) || !holds_canonical_names(pair) {
-            return false;
-        }
-        place += 1;
-    }
-    true
-}
-
-/// Whether the names in what the value of the pair holds are canonical.
-#[cycle(names)]
-#[inline(always)]
-fn holds_canonical_names(pair: RawOutline<'_>) -> bool
-    ensures { (v : TreeValue) → IsOutlineOf pair.entry.kind (shown_bytes pair.entry.document) v
-        → result ≡ is_plain_value v }
-{
-    match pair.document {
-        Some(inner) => has_canonical_names(inner, pair.kind == Kind::Array),
-        None => true,
-    }
-}
 
 /// Whether the document is in canonical form: the names of each array in it are "0", "1" and so on. Takes no memory.
 pub fn is_canonical(document: RawDocument<'_>) -> bool
@@ -56,7 +22,24 @@ pub fn is_canonical(document: RawDocument<'_>) -> bool
     ensures same { (t : Tree) → Spells t (document_bytes document.entry)
         → (IsTrue result ↔ (plain t ≡ t)) }
 {
-    has_canonical_names(document, false)
+    document.is_canonical()
+}
+
+/// The bytes of the canonical form, written anew, if these are no more than the limit.
+fn renumbered_bytes(
+    alloc: Global,
+    document: RawDocument<'_>,
+    limit: usize,
+) -> Result<Vec<u8>, DocRefusal>
+    requires { limit ≤ MAX_LEN }
+    ensures written { (t : Tree) → Spells t (document_bytes document.entry)
+        → IfOk result (λ bytes. Spells (plain t) bytes.items × (length bytes.items ≤ limit)) }
+    ensures refused { (t : Tree) → Spells t (document_bytes document.entry)
+        → IfErr result (λ e. IsSizeRefusal limit (canonical_len t) e) }
+{
+    let mut out = Vec::with_capacity(alloc, document.as_bytes().len())?;
+    write_document(document, false, limit, &mut out)?;
+    Ok(out)
 }
 
 /// The bytes of the canonical form, if these are no more than the limit.
@@ -71,16 +54,14 @@ pub(crate) fn canonical_bytes(
     ensures refused { (t : Tree) → Spells t (document_bytes document.entry)
         → IfErr result (λ e. IsSizeRefusal limit (canonical_len t) e) }
 {
-    let whole = document.as_bytes();
-    if is_canonical(document) {
-        if whole.len() > limit {
-            return Err(DocRefusal::TooLarge);
-        }
-        return Ok(Vec::from_slice(alloc, whole)?);
+    if !is_canonical(document) {
+        return renumbered_bytes(alloc, document, limit);
     }
-    let mut out = Vec::with_capacity(alloc, whole.len())?;
-    write_document(document, false, limit, &mut out)?;
-    Ok(out)
+    let whole = document.as_bytes();
+    if whole.len() > limit {
+        return Err(DocRefusal::TooLarge);
+    }
+    Ok(Vec::from_slice(alloc, whole)?)
 }
 
 /// The canonical form of the document: the names of each array become "0", "1" and so on, and all else stays as it is.
@@ -97,5 +78,22 @@ pub fn to_canonical(alloc: Global, document: RawDocument<'_>) -> Result<RawDocum
         → IsErrOf result DocRefusal.TooLarge → MAX_LEN < canonical_len t }
 {
     let bytes = canonical_bytes(alloc, document, MAX_LEN)?;
+    Ok(RawDocumentBuf::from_spelled(bytes))
+}
+
+/// As `to_canonical`, but every document is written anew: whether it is canonical already is not tested. It serves where
+/// that is known.
+///
+/// # Errors
+///
+/// Those of `to_canonical`.
+pub fn renumbered(alloc: Global, document: RawDocument<'_>) -> Result<RawDocumentBuf, DocRefusal>
+    ensures canonical { (t : Tree) → Spells t (document_bytes document.entry)
+        → IfOk result (λ d. Spells (plain t) (buf_bytes d)) }
+    ensures only { IfErr result (λ e. (e ≡ DocRefusal.OutOfMemory) ⊎ (e ≡ DocRefusal.TooLarge)) }
+    ensures large { (t : Tree) → Spells t (document_bytes document.entry)
+        → IsErrOf result DocRefusal.TooLarge → MAX_LEN < canonical_len t }
+{
+    let bytes = renumbered_bytes(alloc, document, MAX_LEN)?;
     Ok(RawDocumentBuf::from_spelled(bytes))
 }

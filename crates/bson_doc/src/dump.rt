@@ -10,10 +10,11 @@ ghost use Rattle.bson_raw.specs.RawBson.{Shows, held_len};
 ghost use Rattle.bson_raw.specs.RawDocument.{document_bytes};
 ghost use Rattle.bson_raw.specs.RawIter.{PairsLeft, pairs_bound, walked_len};
 ghost use Rattle.bson_doc.specs.Dump.{document_text, element_line, element_lines};
+ghost use Rattle.bson_doc.specs.TextWriter.{text_contents};
 ghost use Rattle.bson_doc.specs.DumpValues.{IsHeld, StopsAt, held_tree, value_text};
 
-use crate::number_text::write_number;
-use crate::text::{write_indent, write_quoted};
+use crate::text::{write_indent, write_number, write_quoted};
+use crate::text_writer::{Failed, TextWriter};
 use crate::value_text::{
     write_array, write_binary, write_boolean, write_code, write_codescope, write_datetime,
     write_dbpointer, write_decimal128, write_double, write_inner_document, write_int32,
@@ -22,13 +23,14 @@ use crate::value_text::{
 use bson_raw::document::RawDocument;
 use bson_raw::iter::RawIter;
 use bson_raw::value::RawBson;
+use core::mem::replace_with;
 use std::io;
 use std::io::Write;
 
 /// The kind's word and the value of an element, behind its name.
-fn write_value<W: Write>(value: RawBson<'_>, out: &mut W) -> io::Result<()>
+fn write_value<W: Write>(value: RawBson<'_>, out: &mut TextWriter<W>) -> Result<(), Failed>
     ensures { (v : TreeValue) → Shows value.entry v → OnOk result
-        (Appends (W.contents out.old) (W.contents out.new) (value_text v)) }
+        (Appends (text_contents W.contents out.old) (text_contents W.contents out.new) (value_text v)) }
 {
     match value {
         RawBson::Double(bytes) => write_double(&bytes, out),
@@ -57,11 +59,16 @@ fn write_value<W: Write>(value: RawBson<'_>, out: &mut W) -> io::Result<()>
     }
 }
 
-/// The line of an element. It stands apart, so that a level of nesting takes little of the stack.
-#[inline(never)]
-fn write_line<W: Write>(deep: u32, name: &str, value: RawBson<'_>, out: &mut W) -> io::Result<()>
+/// The line of an element.
+#[inline(always)]
+fn write_line<W: Write>(
+    deep: u32,
+    name: &str,
+    value: RawBson<'_>,
+    out: &mut TextWriter<W>,
+) -> Result<(), Failed>
     ensures { (v : TreeValue) → Shows value.entry v → OnOk result
-        (Appends (W.contents out.old) (W.contents out.new)
+        (Appends (text_contents W.contents out.old) (text_contents W.contents out.new)
         (element_line deep name.now (value_text v))) }
 {
     write_indent(deep, out)?;
@@ -91,12 +98,12 @@ fn held_document(value: RawBson<'_>) -> Option<RawDocument<'_>>
 fn write_to_held<'a, W: Write>(
     pairs: &mut RawIter<'a>,
     deep: u32,
-    out: &mut W,
-) -> io::Result<Option<RawDocument<'a>>>
+    out: &mut TextWriter<W>,
+) -> Result<Option<RawDocument<'a>>, Failed>
     ensures lines { (t : Tree) → PairsLeft pairs.old t → IfOk result (λ held. MatchOption held
-        (Appends (W.contents out.old) (W.contents out.new) (element_lines deep t))
+        (Appends (text_contents W.contents out.old) (text_contents W.contents out.new) (element_lines deep t))
         (λ d. StopsAt deep t (document_bytes d) (PairsLeft pairs.new)
-        (Appends (W.contents out.old) (W.contents out.new)))) }
+        (Appends (text_contents W.contents out.old) (text_contents W.contents out.new)))) }
     ensures inside { IfOk result (λ held. IfSome held
         (λ d. length (document_bytes d) < walked_len pairs.old)) }
     ensures goes { IfOk result (λ held. IfSome held
@@ -114,16 +121,32 @@ fn write_to_held<'a, W: Write>(
 
 /// The lines of the elements of a document, and of those inside them. The outer ones have two
 /// spaces `deep` times.
-fn write_lines<W: Write>(document: RawDocument<'_>, deep: u32, out: &mut W) -> io::Result<()>
+fn write_lines<W: Write>(
+    document: RawDocument<'_>,
+    deep: u32,
+    out: &mut TextWriter<W>,
+) -> Result<(), Failed>
     requires { deep + length (document_bytes document) < 2 ^ 32 }
     ensures { (t : Tree) → Spells t (document_bytes document.entry) → OnOk result
-        (Appends (W.contents out.old) (W.contents out.new) (element_lines deep t)) }
+        (Appends (text_contents W.contents out.old) (text_contents W.contents out.new) (element_lines deep t)) }
 {
     let mut pairs = document.iter();
     while let Some(held) = write_to_held(&mut pairs, deep, out)? {
         write_lines(held, deep + 1, out)?;
     }
     Ok(())
+}
+
+/// As `dump_elements`, to a writer that is given back.
+fn lines_through<W: Write>(out: W, what: (RawDocument<'_>, u32)) -> (W, io::Result<()>)
+    requires { what.1 ≤ 2 }
+    ensures { (t : Tree) → Spells t (document_bytes what.entry.0) → OnOk result.1
+        (Appends (W.contents out) (W.contents result.0) (element_lines what.entry.1 t)) }
+{
+    let (document, deep) = what;
+    let mut text = TextWriter::new(out);
+    let written = write_lines(document, deep, &mut text);
+    text.finish(written)
 }
 
 /// Writes the lines of a document's elements, and of those inside them. The outer ones have two
@@ -137,7 +160,28 @@ pub fn dump_elements<W: Write>(document: RawDocument<'_>, deep: u32, out: &mut W
     ensures { (t : Tree) → Spells t (document_bytes document.entry) → OnOk result
         (Appends (W.contents out.old) (W.contents out.new) (element_lines deep t)) }
 {
-    write_lines(document, deep, out)
+    replace_with(out, (document, deep), lines_through)
+}
+
+/// The line of a document's size, and its elements' lines.
+fn write_text<W: Write>(document: RawDocument<'_>, out: &mut TextWriter<W>) -> Result<(), Failed>
+    ensures { (t : Tree) → Spells t (document_bytes document.entry) → OnOk result
+        (Appends (text_contents W.contents out.old) (text_contents W.contents out.new) (document_text t)) }
+{
+    out.write_all(b"document ")?;
+    write_number(document.as_bytes().len(), out)?;
+    out.write_all(b"\n")?;
+    write_lines(document, 1, out)
+}
+
+/// As `dump_to`, to a writer that is given back.
+fn document_through<W: Write>(out: W, document: RawDocument<'_>) -> (W, io::Result<()>)
+    ensures { (t : Tree) → Spells t (document_bytes document.entry) → OnOk result.1
+        (Appends (W.contents out) (W.contents result.0) (document_text t)) }
+{
+    let mut text = TextWriter::new(out);
+    let written = write_text(document, &mut text);
+    text.finish(written)
 }
 
 /// Writes the text of a document: a line with the count of its bytes, and its elements' lines.
@@ -149,11 +193,7 @@ pub fn dump_to<W: Write>(document: RawDocument<'_>, out: &mut W) -> io::Result<(
     ensures { (t : Tree) → Spells t (document_bytes document.entry) → OnOk result
         (Appends (W.contents out.old) (W.contents out.new) (document_text t)) }
 {
-    let size = document.as_bytes().len();
-    out.write_all(b"document ")?;
-    write_number(size, out)?;
-    out.write_all(b"\n")?;
-    dump_elements(document, 1, out)
+    replace_with(out, document, document_through)
 }
 
 #[cfg(test)]

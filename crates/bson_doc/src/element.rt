@@ -7,7 +7,8 @@ ghost use Rattle.bson_elem.specs.Spelling as spelling;
 ghost use Rattle.bson_raw.specs.Pairs.{TreeValue};
 ghost use Rattle.bson_raw.specs.RawBson.{Shows, held_len};
 ghost use Rattle.bson_raw.specs.RawDocument.{document_bytes};
-ghost use Rattle.bson_doc.specs.Plain.{name_at, plain_from};
+ghost use Rattle.bson_raw.specs.Naming.{name_at};
+ghost use Rattle.bson_doc.specs.Plain.{plain_from};
 ghost use Rattle.bson_doc.specs.Values.{plain_value, value_bytes, element_bytes};
 ghost use Rattle.bson_doc.specs.Refusals.{IsSizeRefusal};
 

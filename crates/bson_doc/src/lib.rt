@@ -29,13 +29,14 @@ mod from_raw;
 pub mod iter;
 pub mod laws;
 mod name;
-pub mod number_text;
 pub mod refusal;
 #[cfg(test)]
 mod refusal_tests;
 #[cfg(test)]
 mod tests;
-pub mod text;
+mod text;
+mod text_writer;
 mod to_raw;
+pub mod to_writer;
 mod unwritable;
 mod value_text;

@@ -3,18 +3,23 @@
 ghost use Rattle.std.specs.Prelude.{◌≡◌, ◌+◌, ◌≤◌, MatchOption, OnOk, Some, flat_map, length, position};
 ghost use Rattle.std.specs.Io.KnownBytes.{Appends};
 ghost use Rattle.hex.specs.Hex.{encode_lower};
+ghost use Rattle.bson_doc.specs.TextWriter.{text_contents};
 ghost use Rattle.bson_doc.specs.Text.{IsPlainTo, escaped, indent, needs_escape, quoted};
 
-use std::io;
+use crate::text_writer::{Failed, TextWriter};
+use itoa::{Buffer, Integer};
 use std::io::Write;
 use std::simd::prelude::*;
 
 /// How many bytes are spelled at a time.
 const HEX_CHUNK: usize = 128;
 
+/// How many bytes a number or an id has at most.
+const HEX_FEW: usize = 16;
+
 /// Two spaces for each level of depth.
-pub fn write_indent<W: Write>(deep: u32, out: &mut W) -> io::Result<()>
-    ensures { OnOk result (Appends (W.contents out.old) (W.contents out.new) (indent deep)) }
+pub(crate) fn write_indent<W: Write>(deep: u32, out: &mut TextWriter<W>) -> Result<(), Failed>
+    ensures { OnOk result (Appends (text_contents W.contents out.old) (text_contents W.contents out.new) (indent deep)) }
 {
     for _ in 0..deep {
         out.write_all(b"  ")?;
@@ -117,8 +122,8 @@ fn first_escaped(bytes: &[u8]) -> Option<usize>
 }
 
 /// One byte as quoted text has it.
-fn write_escaped<W: Write>(b: u8, out: &mut W) -> io::Result<()>
-    ensures { OnOk result (Appends (W.contents out.old) (W.contents out.new) (escaped b)) }
+fn write_escaped<W: Write>(b: u8, out: &mut TextWriter<W>) -> Result<(), Failed>
+    ensures { OnOk result (Appends (text_contents W.contents out.old) (text_contents W.contents out.new) (escaped b)) }
 {
     match b {
         b'"' => out.write_all(b"\\\""),
@@ -133,8 +138,8 @@ fn write_escaped<W: Write>(b: u8, out: &mut W) -> io::Result<()>
 
 /// The bytes as quoted text has them. Each run of bytes that need no escape is written by one call.
 #[inline(never)]
-fn write_runs<W: Write>(bytes: &[u8], out: &mut W) -> io::Result<()>
-    ensures { OnOk result (Appends (W.contents out.old) (W.contents out.new)
+fn write_runs<W: Write>(bytes: &[u8], out: &mut TextWriter<W>) -> Result<(), Failed>
+    ensures { OnOk result (Appends (text_contents W.contents out.old) (text_contents W.contents out.new)
         (flat_map escaped bytes.now)) }
 {
     let mut rest = bytes;
@@ -148,8 +153,8 @@ fn write_runs<W: Write>(bytes: &[u8], out: &mut W) -> io::Result<()>
 }
 
 /// A text between quotes.
-pub fn write_quoted<W: Write>(text: &str, out: &mut W) -> io::Result<()>
-    ensures { OnOk result (Appends (W.contents out.old) (W.contents out.new) (quoted text.now)) }
+pub(crate) fn write_quoted<W: Write>(text: &str, out: &mut TextWriter<W>) -> Result<(), Failed>
+    ensures { OnOk result (Appends (text_contents W.contents out.old) (text_contents W.contents out.new) (quoted text.now)) }
 {
     let bytes = text.as_bytes();
     out.write_all(b"\"")?;
@@ -161,10 +166,34 @@ pub fn write_quoted<W: Write>(text: &str, out: &mut W) -> io::Result<()>
     out.write_all(b"\"")
 }
 
+/// A number in decimal, with `-` where it is negative.
+pub(crate) fn write_number<I: Integer, W: Write>(
+    number: I,
+    out: &mut TextWriter<W>,
+) -> Result<(), Failed>
+    ensures { OnOk result (Appends (text_contents W.contents out.old) (text_contents W.contents out.new) (I.text number)) }
+{
+    let mut digits = Buffer::new();
+    out.write_all(digits.format(number).as_bytes())
+}
+
+/// At most 16 bytes as lower-case hexadecimal digits.
+fn write_hex_few<W: Write>(few: &[u8], out: &mut TextWriter<W>) -> Result<(), Failed>
+    requires { length few.now ≤ HEX_FEW }
+    ensures { OnOk result (Appends (text_contents W.contents out.old) (text_contents W.contents out.new)
+        (encode_lower few.now)) }
+{
+    let mut buffer = [0u8; 2 * HEX_FEW];
+    let digits = &mut buffer[..2 * few.len()];
+    // It errs only where the digits don't fill the slice.
+    let _ = hex::encode_to_slice(few, digits);
+    out.write_all(digits)
+}
+
 /// At most 128 bytes as lower-case hexadecimal digits.
-fn write_hex_chunk<W: Write>(chunk: &[u8], out: &mut W) -> io::Result<()>
+fn write_hex_chunk<W: Write>(chunk: &[u8], out: &mut TextWriter<W>) -> Result<(), Failed>
     requires { length chunk.now ≤ HEX_CHUNK }
-    ensures { OnOk result (Appends (W.contents out.old) (W.contents out.new)
+    ensures { OnOk result (Appends (text_contents W.contents out.old) (text_contents W.contents out.new)
         (encode_lower chunk.now)) }
 {
     let mut buffer = [0u8; 2 * HEX_CHUNK];
@@ -175,10 +204,13 @@ fn write_hex_chunk<W: Write>(chunk: &[u8], out: &mut W) -> io::Result<()>
 }
 
 /// Bytes of any number as lower-case hexadecimal digits.
-pub fn write_hex<W: Write>(bytes: &[u8], out: &mut W) -> io::Result<()>
-    ensures { OnOk result (Appends (W.contents out.old) (W.contents out.new)
+pub(crate) fn write_hex<W: Write>(bytes: &[u8], out: &mut TextWriter<W>) -> Result<(), Failed>
+    ensures { OnOk result (Appends (text_contents W.contents out.old) (text_contents W.contents out.new)
         (encode_lower bytes.now)) }
 {
+    if bytes.len() <= HEX_FEW {
+        return write_hex_few(bytes, out);
+    }
     let mut rest = bytes;
     while !rest.is_empty() {
         let (chunk, after) = rest.split_at(rest.len().min(HEX_CHUNK));
@@ -187,6 +219,3 @@ pub fn write_hex<W: Write>(bytes: &[u8], out: &mut W) -> io::Result<()>
     }
     Ok(())
 }
-
-#[cfg(test)]
-mod tests;

@@ -5,16 +5,16 @@
 
 ghost use Rattle.std.specs.Prelude.{OnOk};
 ghost use Rattle.std.specs.Io.KnownBytes.{Appends};
+ghost use Rattle.bson_doc.specs.TextWriter.{text_contents};
 ghost use Rattle.bson_doc.specs.ValueText.{array_text, binary_text, boolean_text, code_text, codescope_text, datetime_text, dbpointer_text, decimal128_text, inner_document_text, double_text, int32_text, int64_text, objectid_text, regex_text, string_text, symbol_text, timestamp_text};
 
-use crate::number_text::write_number;
-use crate::text::{write_hex, write_quoted};
-use std::io;
+use crate::text::{write_hex, write_number, write_quoted};
+use crate::text_writer::{Failed, TextWriter};
 use std::io::Write;
 
 /// ` double ` and 16 digits, the bytes in file order.
-pub fn write_double<W: Write>(bytes: &[u8; 8], out: &mut W) -> io::Result<()>
-    ensures { OnOk result (Appends (W.contents out.old) (W.contents out.new)
+pub(crate) fn write_double<W: Write>(bytes: &[u8; 8], out: &mut TextWriter<W>) -> Result<(), Failed>
+    ensures { OnOk result (Appends (text_contents W.contents out.old) (text_contents W.contents out.new)
         (double_text bytes.now)) }
 {
     out.write_all(b" double ")?;
@@ -22,8 +22,8 @@ pub fn write_double<W: Write>(bytes: &[u8; 8], out: &mut W) -> io::Result<()>
 }
 
 /// ` string ` and the quoted text.
-pub fn write_string<W: Write>(text: &str, out: &mut W) -> io::Result<()>
-    ensures { OnOk result (Appends (W.contents out.old) (W.contents out.new)
+pub(crate) fn write_string<W: Write>(text: &str, out: &mut TextWriter<W>) -> Result<(), Failed>
+    ensures { OnOk result (Appends (text_contents W.contents out.old) (text_contents W.contents out.new)
         (string_text text.now)) }
 {
     out.write_all(b" string ")?;
@@ -31,8 +31,11 @@ pub fn write_string<W: Write>(text: &str, out: &mut W) -> io::Result<()>
 }
 
 /// ` document ` and the count of its bytes.
-pub fn write_inner_document<W: Write>(size: usize, out: &mut W) -> io::Result<()>
-    ensures { OnOk result (Appends (W.contents out.old) (W.contents out.new)
+pub(crate) fn write_inner_document<W: Write>(
+    size: usize,
+    out: &mut TextWriter<W>,
+) -> Result<(), Failed>
+    ensures { OnOk result (Appends (text_contents W.contents out.old) (text_contents W.contents out.new)
         (inner_document_text size)) }
 {
     out.write_all(b" document ")?;
@@ -40,8 +43,8 @@ pub fn write_inner_document<W: Write>(size: usize, out: &mut W) -> io::Result<()
 }
 
 /// ` array ` and the count of its bytes.
-pub fn write_array<W: Write>(size: usize, out: &mut W) -> io::Result<()>
-    ensures { OnOk result (Appends (W.contents out.old) (W.contents out.new)
+pub(crate) fn write_array<W: Write>(size: usize, out: &mut TextWriter<W>) -> Result<(), Failed>
+    ensures { OnOk result (Appends (text_contents W.contents out.old) (text_contents W.contents out.new)
         (array_text size)) }
 {
     out.write_all(b" array ")?;
@@ -49,8 +52,12 @@ pub fn write_array<W: Write>(size: usize, out: &mut W) -> io::Result<()>
 }
 
 /// ` binary `, the subtype, the count of the data and, where there are any, the data.
-pub fn write_binary<W: Write>(subtype: u8, bytes: &[u8], out: &mut W) -> io::Result<()>
-    ensures { OnOk result (Appends (W.contents out.old) (W.contents out.new)
+pub(crate) fn write_binary<W: Write>(
+    subtype: u8,
+    bytes: &[u8],
+    out: &mut TextWriter<W>,
+) -> Result<(), Failed>
+    ensures { OnOk result (Appends (text_contents W.contents out.old) (text_contents W.contents out.new)
         (binary_text subtype bytes.now)) }
 {
     out.write_all(b" binary ")?;
@@ -65,8 +72,11 @@ pub fn write_binary<W: Write>(subtype: u8, bytes: &[u8], out: &mut W) -> io::Res
 }
 
 /// ` objectid ` and 24 digits.
-pub fn write_objectid<W: Write>(bytes: &[u8; 12], out: &mut W) -> io::Result<()>
-    ensures { OnOk result (Appends (W.contents out.old) (W.contents out.new)
+pub(crate) fn write_objectid<W: Write>(
+    bytes: &[u8; 12],
+    out: &mut TextWriter<W>,
+) -> Result<(), Failed>
+    ensures { OnOk result (Appends (text_contents W.contents out.old) (text_contents W.contents out.new)
         (objectid_text bytes.now)) }
 {
     out.write_all(b" objectid ")?;
@@ -74,8 +84,8 @@ pub fn write_objectid<W: Write>(bytes: &[u8; 12], out: &mut W) -> io::Result<()>
 }
 
 /// ` boolean true` or ` boolean false`.
-pub fn write_boolean<W: Write>(value: bool, out: &mut W) -> io::Result<()>
-    ensures { OnOk result (Appends (W.contents out.old) (W.contents out.new)
+pub(crate) fn write_boolean<W: Write>(value: bool, out: &mut TextWriter<W>) -> Result<(), Failed>
+    ensures { OnOk result (Appends (text_contents W.contents out.old) (text_contents W.contents out.new)
         (boolean_text value)) }
 {
     let text = if value {
@@ -87,8 +97,11 @@ pub fn write_boolean<W: Write>(value: bool, out: &mut W) -> io::Result<()>
 }
 
 /// ` datetime ` and the milliseconds since 1970 in UTC.
-pub fn write_datetime<W: Write>(milliseconds: i64, out: &mut W) -> io::Result<()>
-    ensures { OnOk result (Appends (W.contents out.old) (W.contents out.new)
+pub(crate) fn write_datetime<W: Write>(
+    milliseconds: i64,
+    out: &mut TextWriter<W>,
+) -> Result<(), Failed>
+    ensures { OnOk result (Appends (text_contents W.contents out.old) (text_contents W.contents out.new)
         (datetime_text milliseconds)) }
 {
     out.write_all(b" datetime ")?;
@@ -96,8 +109,12 @@ pub fn write_datetime<W: Write>(milliseconds: i64, out: &mut W) -> io::Result<()
 }
 
 /// ` regex `, the quoted pattern and the quoted options.
-pub fn write_regex<W: Write>(pattern: &str, options: &str, out: &mut W) -> io::Result<()>
-    ensures { OnOk result (Appends (W.contents out.old) (W.contents out.new)
+pub(crate) fn write_regex<W: Write>(
+    pattern: &str,
+    options: &str,
+    out: &mut TextWriter<W>,
+) -> Result<(), Failed>
+    ensures { OnOk result (Appends (text_contents W.contents out.old) (text_contents W.contents out.new)
         (regex_text pattern.now options.now)) }
 {
     out.write_all(b" regex ")?;
@@ -107,8 +124,12 @@ pub fn write_regex<W: Write>(pattern: &str, options: &str, out: &mut W) -> io::R
 }
 
 /// ` dbpointer `, the quoted name and the 24 digits of the id.
-pub fn write_dbpointer<W: Write>(name: &str, id: &[u8; 12], out: &mut W) -> io::Result<()>
-    ensures { OnOk result (Appends (W.contents out.old) (W.contents out.new)
+pub(crate) fn write_dbpointer<W: Write>(
+    name: &str,
+    id: &[u8; 12],
+    out: &mut TextWriter<W>,
+) -> Result<(), Failed>
+    ensures { OnOk result (Appends (text_contents W.contents out.old) (text_contents W.contents out.new)
         (dbpointer_text name.now id.now)) }
 {
     out.write_all(b" dbpointer ")?;
@@ -118,8 +139,8 @@ pub fn write_dbpointer<W: Write>(name: &str, id: &[u8; 12], out: &mut W) -> io::
 }
 
 /// ` code ` and the quoted code.
-pub fn write_code<W: Write>(text: &str, out: &mut W) -> io::Result<()>
-    ensures { OnOk result (Appends (W.contents out.old) (W.contents out.new)
+pub(crate) fn write_code<W: Write>(text: &str, out: &mut TextWriter<W>) -> Result<(), Failed>
+    ensures { OnOk result (Appends (text_contents W.contents out.old) (text_contents W.contents out.new)
         (code_text text.now)) }
 {
     out.write_all(b" code ")?;
@@ -127,8 +148,8 @@ pub fn write_code<W: Write>(text: &str, out: &mut W) -> io::Result<()>
 }
 
 /// ` symbol ` and the quoted text.
-pub fn write_symbol<W: Write>(text: &str, out: &mut W) -> io::Result<()>
-    ensures { OnOk result (Appends (W.contents out.old) (W.contents out.new)
+pub(crate) fn write_symbol<W: Write>(text: &str, out: &mut TextWriter<W>) -> Result<(), Failed>
+    ensures { OnOk result (Appends (text_contents W.contents out.old) (text_contents W.contents out.new)
         (symbol_text text.now)) }
 {
     out.write_all(b" symbol ")?;
@@ -136,8 +157,12 @@ pub fn write_symbol<W: Write>(text: &str, out: &mut W) -> io::Result<()>
 }
 
 /// ` codescope `, the quoted code and the count of the scope's bytes.
-pub fn write_codescope<W: Write>(code: &str, size: usize, out: &mut W) -> io::Result<()>
-    ensures { OnOk result (Appends (W.contents out.old) (W.contents out.new)
+pub(crate) fn write_codescope<W: Write>(
+    code: &str,
+    size: usize,
+    out: &mut TextWriter<W>,
+) -> Result<(), Failed>
+    ensures { OnOk result (Appends (text_contents W.contents out.old) (text_contents W.contents out.new)
         (codescope_text code.now size)) }
 {
     out.write_all(b" codescope ")?;
@@ -147,8 +172,8 @@ pub fn write_codescope<W: Write>(code: &str, size: usize, out: &mut W) -> io::Re
 }
 
 /// ` int32 ` and the number.
-pub fn write_int32<W: Write>(value: i32, out: &mut W) -> io::Result<()>
-    ensures { OnOk result (Appends (W.contents out.old) (W.contents out.new)
+pub(crate) fn write_int32<W: Write>(value: i32, out: &mut TextWriter<W>) -> Result<(), Failed>
+    ensures { OnOk result (Appends (text_contents W.contents out.old) (text_contents W.contents out.new)
         (int32_text value)) }
 {
     out.write_all(b" int32 ")?;
@@ -156,16 +181,23 @@ pub fn write_int32<W: Write>(value: i32, out: &mut W) -> io::Result<()>
 }
 
 /// ` timestamp `, the seconds and the increment.
-pub fn write_timestamp<W: Write>(seconds: u32, increment: u32, out: &mut W) -> io::Result<()>
-    ensures { OnOk result (Appends (W.contents out.old) (W.contents out.new)
+pub(crate) fn write_timestamp<W: Write>(
+    seconds: u32,
+    increment: u32,
+    out: &mut TextWriter<W>,
+) -> Result<(), Failed>
+    ensures { OnOk result (Appends (text_contents W.contents out.old) (text_contents W.contents out.new)
         (timestamp_text seconds increment)) }
 {
-    write!(out, " timestamp {seconds} {increment}")
+    out.write_all(b" timestamp ")?;
+    write_number(seconds, out)?;
+    out.write_all(b" ")?;
+    write_number(increment, out)
 }
 
 /// ` int64 ` and the number.
-pub fn write_int64<W: Write>(value: i64, out: &mut W) -> io::Result<()>
-    ensures { OnOk result (Appends (W.contents out.old) (W.contents out.new)
+pub(crate) fn write_int64<W: Write>(value: i64, out: &mut TextWriter<W>) -> Result<(), Failed>
+    ensures { OnOk result (Appends (text_contents W.contents out.old) (text_contents W.contents out.new)
         (int64_text value)) }
 {
     out.write_all(b" int64 ")?;
@@ -173,13 +205,13 @@ pub fn write_int64<W: Write>(value: i64, out: &mut W) -> io::Result<()>
 }
 
 /// ` decimal128 ` and 32 digits, the bytes in file order.
-pub fn write_decimal128<W: Write>(bytes: &[u8; 16], out: &mut W) -> io::Result<()>
-    ensures { OnOk result (Appends (W.contents out.old) (W.contents out.new)
+pub(crate) fn write_decimal128<W: Write>(
+    bytes: &[u8; 16],
+    out: &mut TextWriter<W>,
+) -> Result<(), Failed>
+    ensures { OnOk result (Appends (text_contents W.contents out.old) (text_contents W.contents out.new)
         (decimal128_text bytes.now)) }
 {
     out.write_all(b" decimal128 ")?;
     write_hex(bytes, out)
 }
-
-#[cfg(test)]
-mod tests;

@@ -237,7 +237,7 @@ kind_here : (j k : Kind) (b : ℕ) (o : Option Kind) (t : Bool) → eqb b (byte_
 kind_here j k b o true is f later = let same : j ≡ k = cc in eqb-true _ _ is ∙ ap byte_of same
 kind_here j k b o false is f later = later f
 
-kind_is : (ks : List Kind) (b : ℕ) (k : Kind) → kind_among ks b ≡ Some k → b ≡ byte_of k
+pub kind_is : (ks : List Kind) (b : ℕ) (k : Kind) → kind_among ks b ≡ Some k → b ≡ byte_of k
 kind_is [] b k e = absurd cc
 kind_is (j ∷ ks) b k e = kind_here j k b (kind_among ks b) (eqb b (byte_of j)) refl e (kind_is ks b k)
 

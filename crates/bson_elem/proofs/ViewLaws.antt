@@ -1,6 +1,7 @@
 -- What follows an element, as a part of the whole.
-use Rattle.std.proofs.Common.{◌≡◌, ℕ, ◌+◌, ◌-◌, ◌<◌, ◌≤◌, List, ◌++◌, length, take, drop, Option, Result, Ok, Err, refl, sym, ap, ◌∙◌, arith}
+use Rattle.std.proofs.Common.{◌≢◌, ◌≡◌, ℕ, ◌+◌, ◌-◌, ◌<◌, ◌≤◌, Bool, true, false, cond, eqb, List, [], ◌∷◌, ◌++◌, length, take, drop, Option, Some, None, Result, Ok, Err, refl, sym, ap, subst, ◌∙◌, arith}
 use Rattle.std.specs.Prelude.{slice_range}
+use Rattle.std.proofs.lemmas.Bool.{ne_eqb}
 use Rattle.std.proofs.lemmas.List.{append_cancel_right, drop_at, drop-take, drop-drop, length-append, length-take, length-drop}
 use Rattle.bson_elem.specs.declared.kind.Kind.{Kind}
 use Rattle.bson_elem.specs.declared.kind.Kind.TheVariants as kinds
@@ -10,8 +11,12 @@ use Rattle.bson_elem.specs.Spelling.{IsBytes, document}
 use Rattle.bson_elem.specs.Documents.{elements_of, IsFramed}
 use Rattle.bson_elem.specs.Items.{item_kind, item_value, element_shown, LendsFramed}
 use Rattle.bson_elem.specs.declared.fault.BsonFault.{BsonFault}
-use Rattle.bson_elem.specs.Checks.{ElementRead, element_at, document_at}
-use Rattle.bson_elem.specs.Extents.{document_place, element_extent, held_elements, OutlineRead, element_outline}
+use Rattle.bson_elem.specs.declared.fault.BsonCause.TheVariants.{End}
+use Rattle.bson_elem.specs.declared.fault.BsonCause.TheVariants as causes
+use Rattle.bson_elem.specs.Kinds.{kind_of, form_of}
+use Rattle.bson_elem.specs.Checks.{◌>>=◌, Read, fault, at_place, cstring_at, Value, value_at, ElementRead, kinded_at, element_at, document_at}
+use Rattle.bson_elem.specs.Extents.{document_place, value_extent}
+use Rattle.bson_elem.specs.declared.fault.BsonCause.{BsonCause}
 use Rattle.bson_elem.proofs.FieldLaws.{ok_is, IsBytes-take, IsBytes-drop}
 use Rattle.bson_elem.proofs.ContainerLaws.{element_bytes, element_takes, document_takes}
 
@@ -52,59 +57,90 @@ seen_in bytes depth s at end name item rest fits lt whole read =
     let after = rest_in bytes depth s at end (element_shown end name item rest) fits lt whole read' in
     record { shorter = after.0; read = read' ∙ ap (λ (r : List ℕ). Ok (record { name = name; kind = item_kind item; value = item_value (end - length rest) item; rest = r })) after.1 }
 
--- what an element's extent says of the element
-pub extent_of : (r : Result ElementRead BsonFault) (place : Option ℕ) (rest : List ℕ) → element_extent r ≡ Ok (place, rest) → (e : ElementRead) × (r ≡ Ok e) × (document_place e.value ≡ place) × (e.rest ≡ rest)
-extent_of (Ok e) place rest is =
-    let same = ok_is {E = BsonFault} (document_place e.value, e.rest) (place, rest) is in
-    (e, refl, ap (λ (x : Option ℕ × List ℕ). x.0) same, ap (λ (x : Option ℕ × List ℕ). x.1) same)
-extent_of (Err f) place rest is = absurd cc
+-- ---- an element in three steps: its kind, its name and its value
 
-pub fault_read : (r : Result ElementRead BsonFault) (f : BsonFault) → element_extent r ≡ Err f → r ≡ Err f
-fault_read (Ok e) f is = absurd cc
-fault_read (Err g) f is =
+abbrev known_kind : ℕ → Option Kind → List ℕ → Result (Kind × List ℕ) BsonFault
+known_kind p None bytes = Err (fault p causes.Kind)
+known_kind p (Some k) bytes = Ok (k, bytes)
+
+-- the kind of the element at the front, and the bytes from its name on
+abbrev kind_at : ℕ → ℕ → List ℕ → Result (Kind × List ℕ) BsonFault
+kind_at s p [] = Err (fault s End)
+kind_at s p (b ∷ bytes) = cond (eqb b 0) (Err (fault s End)) (known_kind p (kind_of b) bytes)
+
+abbrev with_value : List ℕ → Kind → Value × List ℕ → Result ElementRead BsonFault
+with_value name k v = Ok (record { name = name; kind = k; value = v.0; rest = v.1 })
+
+abbrev after_name : ℕ → ℕ → Kind → List ℕ × List ℕ → Result ElementRead BsonFault
+after_name depth p k name = value_at depth p (p + length name.0 + 2) (form_of k) name.1 >>= with_value name.0 k
+
+abbrev after_kind : ℕ → ℕ → Kind × List ℕ → Result ElementRead BsonFault
+after_kind depth p k = at_place p (cstring_at k.1) >>= after_name depth p k.0
+
+kinded_by_kind : (depth p : ℕ) (kind : Option Kind) (bytes : List ℕ) → kinded_at depth p kind bytes ≡ (known_kind p kind bytes >>= after_kind depth p)
+kinded_by_kind depth p None bytes = refl
+kinded_by_kind depth p (Some k) bytes = refl
+
+element_by_kind : (depth s p : ℕ) (room : List ℕ) → element_at depth s p room ≡ (kind_at s p room >>= after_kind depth p)
+unfolding element_at
+element_by_kind depth s p [] = refl
+element_by_kind depth s p (b ∷ bytes) = tested (eqb b 0)
+  where
+    tested : (ends : Bool) → cond ends (Err (fault s End)) (kinded_at depth p (kind_of b) bytes) ≡ (cond ends (Err (fault s End)) (known_kind p (kind_of b) bytes) >>= after_kind depth p)
+    tested true = refl
+    tested false = kinded_by_kind depth p (kind_of b) bytes
+
+-- an element of which the kind was read, and the name
+after_both : (depth s p : ℕ) (room after : List ℕ) (k : Kind) (name : Read (List ℕ)) → kind_at s p room ≡ Ok (k, after) → cstring_at after ≡ name → element_at depth s p room ≡ (at_place p name >>= after_name depth p k)
+after_both depth s p room after k name kind is =
+    element_by_kind depth s p room ∙ ap (λ (r : Result (Kind × List ℕ) BsonFault). r >>= after_kind depth p) kind ∙ ap (λ (r : Read (List ℕ)). at_place p r >>= after_name depth p k) is
+
+-- What was told of an element: its name and its kind, the place of a document in its value, and what follows it.
+pub record IsSkipped (r : Result ElementRead BsonFault) (name : List ℕ) (k : Kind) (document : Option ℕ) (rest : List ℕ) : Type 0 where
+  pub element : ElementRead
+  pub is_read : r ≡ Ok element
+  pub name_is : element.name ≡ name
+  pub kind_is : element.kind ≡ k
+  pub place : document_place element.value ≡ document
+  pub rest_is : element.rest ≡ rest
+
+skipped_value : (name : List ℕ) (k : Kind) (document : Option ℕ) (rest : List ℕ) (v : Result (Value × List ℕ) BsonFault) → value_extent v ≡ Ok (document, rest) → IsSkipped (v >>= with_value name k) name k document rest
+skipped_value name k document rest (Ok v) is =
+    let same = ok_is {E = BsonFault} (document_place v.0, v.1) (document, rest) is in
+    record { element = record { name = name; kind = k; value = v.0; rest = v.1 }; is_read = refl; name_is = refl; kind_is = refl; place = ap (λ (x : Option ℕ × List ℕ). x.0) same; rest_is = ap (λ (x : Option ℕ × List ℕ). x.1) same }
+skipped_value name k document rest (Err f) is = absurd cc
+
+kind_read : (s p b : ℕ) (after : List ℕ) (k : Kind) → b ≢ 0 → kind_of b ≡ Some k → kind_at s p (b ∷ after) ≡ Ok (k, after)
+kind_read s p b after k some is = ap (λ (t : Bool). cond t (Err (fault s End)) (known_kind p (kind_of b) after)) (ne_eqb b 0 some) ∙ ap (λ (o : Option Kind). known_kind p o after) is
+
+pub skipped : (depth s p b : ℕ) (after name from : List ℕ) (k : Kind) (document : Option ℕ) (rest : List ℕ) → b ≢ 0 → kind_of b ≡ Some k → cstring_at after ≡ Ok (name, from)
+    → value_extent (value_at depth p (p + length name + 2) (form_of k) from) ≡ Ok (document, rest) → IsSkipped (element_at depth s p (b ∷ after)) name k document rest
+skipped depth s p b after name from k document rest some kind is value =
+    subst (λ (r : Result ElementRead BsonFault). IsSkipped r name k document rest) (sym (after_both depth s p (b ∷ after) after k (Ok (name, from)) (kind_read s p b after k some kind) is))
+    (skipped_value name k document rest (value_at depth p (p + length name + 2) (form_of k) from) value)
+
+-- the faults of the kind, of the name and of the value
+pub end_fault : (depth s p : ℕ) (after : List ℕ) → element_at depth s p (0 ∷ after) ≡ Err (fault s End)
+unfolding element_at
+end_fault depth s p after = refl
+
+pub kind_fault : (depth s p b : ℕ) (after : List ℕ) → b ≢ 0 → kind_of b ≡ None → element_at depth s p (b ∷ after) ≡ Err (fault p causes.Kind)
+unfolding element_at
+kind_fault depth s p b after some is = ap (λ (t : Bool). cond t (Err (fault s End)) (kinded_at depth p (kind_of b) after)) (ne_eqb b 0 some) ∙ ap (λ (o : Option Kind). kinded_at depth p o after) is
+
+pub name_fault : (depth s p b : ℕ) (after : List ℕ) (k : Kind) (c : BsonCause) → b ≢ 0 → kind_of b ≡ Some k → cstring_at after ≡ Err c → element_at depth s p (b ∷ after) ≡ Err (fault p c)
+name_fault depth s p b after k c some kind is = after_both depth s p (b ∷ after) after k (Err c) (kind_read s p b after k some kind) is
+
+fault_then : (name : List ℕ) (k : Kind) (f : BsonFault) (v : Result (Value × List ℕ) BsonFault) → value_extent v ≡ Err f → (v >>= with_value name k) ≡ Err f
+fault_then name k f (Ok v) is = absurd cc
+fault_then name k f (Err g) is =
     let same : g ≡ f = cc in
     ap Err same
 
--- The element between two places of the bytes has its document at this place, and so many bytes follow it.
-pub record IsReached (bytes : List ℕ) (depth s at end : ℕ) (place : Option ℕ) (rest : List ℕ) : Type 0 where
-  pub shorter : length rest < end - at
-  pub read : element_extent (element_at depth s at (slice_range bytes at end)) ≡ Ok (place, slice_range bytes (end - length rest) end)
-
-pub reached_in : (bytes : List ℕ) (depth s at end : ℕ) (place : Option ℕ) (rest : List ℕ) → IsBytes bytes → at < end → end < length bytes → element_extent (element_at depth s at (slice_range bytes at end)) ≡ Ok (place, rest) → IsReached bytes depth s at end place rest
-reached_in bytes depth s at end place rest fits lt whole read =
-    let x = extent_of (element_at depth s at (slice_range bytes at end)) place rest read in
-    let after = rest_in bytes depth s at end x.0 fits lt whole x.1 in
-    let size : length x.0.rest ≡ length rest = ap length x.3 in
-    let here : rest ≡ slice_range bytes (end - length rest) end = sym x.3 ∙ after.1 ∙ ap (λ (k : ℕ). slice_range bytes (end - k) end) size in
-    record { shorter = omega (arith, after.0, size); read = read ∙ ap (λ (r : List ℕ). Ok (place, r)) here }
-
--- what an element's outline says of the element
-pub record IsOutlined (r : Result ElementRead BsonFault) (x : OutlineRead) : Type 0 where
-  pub element : ElementRead
-  pub is_read : r ≡ Ok element
-  pub name : element.name ≡ x.name
-  pub kind : element.kind ≡ x.kind
-  pub held : held_elements element.value ≡ x.held
-  pub rest : element.rest ≡ x.rest
-
-pub outline_of : (r : Result ElementRead BsonFault) (x : OutlineRead) → element_outline r ≡ Ok x → IsOutlined r x
-outline_of (Ok e) x is =
-    let same = ok_is {E = BsonFault} (record { name = e.name; kind = e.kind; held = held_elements e.value; rest = e.rest }) x is in
-    record { element = e; is_read = refl; name = ap (λ (y : OutlineRead). y.name) same; kind = ap (λ (y : OutlineRead). y.kind) same; held = ap (λ (y : OutlineRead). y.held) same; rest = ap (λ (y : OutlineRead). y.rest) same }
-outline_of (Err f) x is = absurd cc
-
--- The element between two places of the bytes has this outline, and so many bytes follow it.
-pub record IsSketched (bytes : List ℕ) (depth s at end : ℕ) (x : OutlineRead) : Type 0 where
-  pub shorter : length x.rest < end - at
-  pub read : element_outline (element_at depth s at (slice_range bytes at end)) ≡ Ok (record { name = x.name; kind = x.kind; held = x.held; rest = slice_range bytes (end - length x.rest) end })
-
-pub sketched_in : (bytes : List ℕ) (depth s at end : ℕ) (x : OutlineRead) → IsBytes bytes → at < end → end < length bytes → element_outline (element_at depth s at (slice_range bytes at end)) ≡ Ok x → IsSketched bytes depth s at end x
-sketched_in bytes depth s at end x fits lt whole read =
-    let o = outline_of (element_at depth s at (slice_range bytes at end)) x read in
-    let after = rest_in bytes depth s at end o.element fits lt whole o.is_read in
-    let size : length o.element.rest ≡ length x.rest = ap length o.rest in
-    let here : x.rest ≡ slice_range bytes (end - length x.rest) end = sym o.rest ∙ after.1 ∙ ap (λ (k : ℕ). slice_range bytes (end - k) end) size in
-    record { shorter = omega (arith, after.0, size); read = read ∙ ap (λ (r : List ℕ). Ok (record { name = x.name; kind = x.kind; held = x.held; rest = r })) here }
+pub value_fault : (depth s p b : ℕ) (after name from : List ℕ) (k : Kind) (f : BsonFault) → b ≢ 0 → kind_of b ≡ Some k → cstring_at after ≡ Ok (name, from)
+    → value_extent (value_at depth p (p + length name + 2) (form_of k) from) ≡ Err f → element_at depth s p (b ∷ after) ≡ Err f
+value_fault depth s p b after name from k f some kind is value =
+    after_both depth s p (b ∷ after) after k (Ok (name, from)) (kind_read s p b after k some kind) is ∙ fault_then name k f (value_at depth p (p + length name + 2) (form_of k) from) value
 
 -- what was read as a document is the whole of that document
 pub lent_whole : (p q : ℕ) (bytes whole rest : List ℕ) → IsBytes bytes → document_at p q bytes ≡ Ok (elements_of whole, rest) → whole ++ rest ≡ bytes → IsFramed whole

@@ -19,7 +19,7 @@ pub const MAX_DEPTH: u32 = 200;
 
 /// The cause, at a place.
 #[inline(always)]
-pub(crate) fn fault_at(place: usize, cause: BsonCause) -> BsonFault
+pub fn fault_at(place: usize, cause: BsonCause) -> BsonFault
     ensures { result ≡ fault place cause }
 {
     BsonFault { at: place, cause }

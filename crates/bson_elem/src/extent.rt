@@ -1,10 +1,10 @@
-//! How far elements reach. Each is checked as `read_element` checks it, but no value is built: a walk that only checks
-//! needs the place of the next element, and that of a document in this one.
+//! How far values reach. Each is checked as `read_value` checks it, but it is not built: a walk that only checks needs the
+//! place of a document in the value, and what follows it.
 
-ghost use Rattle.std.specs.Prelude.{◌≡◌, ℕ, List, ◌+◌, ◌<◌, ◌≤◌, ◌^◌, length, max, slice_range, IfOk, IfErr, IfSome};
-ghost use Rattle.bson_elem.specs.Checks.{bytes_at, element_at, leaf_at, value_at};
+ghost use Rattle.std.specs.Prelude.{◌≡◌, ℕ, List, ◌+◌, ◌<◌, ◌^◌, ◌≤◌, length, max, IfOk, IfErr, IfSome};
+ghost use Rattle.bson_elem.specs.Checks.{bytes_at, leaf_at, value_at};
 ghost use Rattle.bson_elem.specs.Kinds.{form_of, boolean_form, binary_form};
-ghost use Rattle.bson_elem.specs.Extents.{element_extent, rest_of, value_extent};
+ghost use Rattle.bson_elem.specs.Extents.{rest_of, value_extent};
 ghost use Rattle.bson_elem.specs.Results.{Gives};
 
 use crate::container::{MAX_DEPTH, fault_at, read_document, split_scope};
@@ -15,7 +15,7 @@ use crate::text::{read_cstring, read_string};
 
 /// What follows so many bytes.
 #[inline(always)]
-pub(crate) fn skip_bytes(n: usize, bytes: &[u8]) -> Result<&[u8], BsonCause>
+fn skip_bytes(n: usize, bytes: &[u8]) -> Result<&[u8], BsonCause>
     ensures { Gives (λ x. x.now) result (rest_of (bytes_at n bytes.now)) }
 {
     if bytes.len() < n {
@@ -64,7 +64,7 @@ fn skip_binary(bytes: &[u8]) -> Result<&[u8], BsonCause>
 #[tactic(auto, using(crate::proofs::ExtentLaws::fixed))]
 // Kept apart, since a `match` that is inlined where its outcome is tested becomes a jump for each kind.
 #[inline(never)]
-pub(crate) fn fixed_len(kind: Kind) -> Option<usize>
+fn fixed_len(kind: Kind) -> Option<usize>
     ensures { IfSome result (λ n. (bytes : List ℕ) → rest_of (leaf_at (form_of kind) bytes) ≡ rest_of (bytes_at n bytes)) }
 {
     match kind {
@@ -114,7 +114,7 @@ fn skip_any_leaf(kind: Kind, bytes: &[u8]) -> Result<&[u8], BsonCause>
 
 /// What follows a value of a kind that holds no document.
 #[inline(always)]
-pub(crate) fn skip_leaf(kind: Kind, bytes: &[u8]) -> Result<&[u8], BsonCause>
+fn skip_leaf(kind: Kind, bytes: &[u8]) -> Result<&[u8], BsonCause>
     ensures { Gives (λ x. x.now) result (rest_of (leaf_at (form_of kind) bytes.now)) }
 {
     // Most values have a fixed size, which comes out of a table.
@@ -124,10 +124,13 @@ pub(crate) fn skip_leaf(kind: Kind, bytes: &[u8]) -> Result<&[u8], BsonCause>
     }
 }
 
-/// The place of a document in a value of a kind, and what follows the value. It begins at `q`, in the element at `p`.
+/// The place of a document in a value of a kind, and what follows the value. It begins at `q`, in the element at `p`, in
+/// a container of this depth.
+///
+/// Errs as `read_element` does where it comes to the value.
 #[tactic(auto, using(crate::proofs::ScopeLaws::parts), unfolding(crate::specs::Checks::value_at))]
 #[inline(always)]
-fn skip_value(
+pub fn skip_value(
     depth: u32,
     p: usize,
     q: usize,
@@ -158,73 +161,4 @@ fn skip_value(
             Err(cause) => Err(fault_at(p, cause)),
         },
     }
-}
-
-/// How far an element reaches.
-#[derive(Clone, Copy, Debug, PartialEq, Eq)]
-pub struct Extent {
-    /// Where the document, array or scope begins that the element holds.
-    pub document: Option<usize>,
-    /// The place after the element.
-    pub next: usize,
-}
-
-/// The place of a document in the element at the front of what is left of a container of this depth that begins at
-/// `start`, and what follows the element. Its type byte stands at `at`.
-#[tactic(auto, unfolding(crate::specs::Checks::element_at))]
-#[inline(always)]
-fn skip_in(
-    room: &[u8],
-    start: usize,
-    at: usize,
-    depth: u32,
-) -> Result<(Option<usize>, &[u8]), BsonFault>
-    requires { at + length room.now < 2 ^ 64 }
-    ensures read { Gives (λ x. (x.0, x.1.now)) result (element_extent (element_at depth start at room.now)) }
-    ensures place { IfErr result (λ f. f.at ≤ max start (at + length room.now)) }
-{
-    match room {
-        [] => Err(fault_at(start, BsonCause::End)),
-        [byte, rest @ ..] => {
-            let byte = *byte;
-            if byte == 0 {
-                return Err(fault_at(start, BsonCause::End));
-            }
-            let Some(kind) = Kind::from_byte(byte) else {
-                return Err(fault_at(at, BsonCause::Kind));
-            };
-            let (name, rest) = match read_cstring(rest) {
-                Ok(read) => read,
-                Err(cause) => return Err(fault_at(at, cause)),
-            };
-            let (document, rest) = skip_value(depth, at, at + name.len() + 2, kind, rest)?;
-            Ok((document, rest))
-        }
-    }
-}
-
-/// How far the element reaches whose type byte stands at `at`, in a container of this depth that begins at `start` and
-/// whose closing byte stands at `end`.
-///
-/// Errs as `read_element` does.
-#[inline(always)]
-pub fn skip_element(
-    bytes: &[u8],
-    start: usize,
-    at: usize,
-    end: usize,
-    depth: u32,
-) -> Result<Extent, BsonFault>
-    requires inside { at < end }
-    requires whole { end < length bytes.now }
-    ensures read { Gives (λ x. (x.document, slice_range bytes.now x.next end)) result
-        (element_extent (element_at depth start at (slice_range bytes.now at end))) }
-    ensures next { IfOk result (λ x. (at < x.next) × (x.next ≤ end)) }
-    ensures place { IfErr result (λ f. f.at ≤ max start end) }
-{
-    let (document, rest) = skip_in(&bytes[at..end], start, at, depth)?;
-    Ok(Extent {
-        document,
-        next: end - rest.len(),
-    })
 }

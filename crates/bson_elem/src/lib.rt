@@ -10,7 +10,6 @@ pub mod kind;
 pub mod laws;
 mod leaf;
 pub mod number;
-pub mod outline;
 pub mod reread;
 #[cfg(test)]
 mod tests;

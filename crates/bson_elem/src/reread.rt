@@ -2,9 +2,7 @@
 //! tell, and no text is tested for UTF-8 again.
 
 ghost use Rattle.std.specs.Prelude.{◌≡◌, ℕ, ◌+◌, ◌-◌, ◌<◌, ◌≤◌, ◌^◌, length, slice_range, IsOk};
-ghost use Rattle.bson_elem.specs.Tree.{with_code};
-ghost use Rattle.bson_elem.specs.Documents.{elements_of, IsFramed};
-ghost use Rattle.bson_elem.specs.Checks.{cstring_at, element_at, opens, scope_at, string_at, text_at, value_at};
+ghost use Rattle.bson_elem.specs.Checks.{cstring_at, element_at, scope_at, string_at, text_at, value_at};
 ghost use Rattle.bson_elem.specs.Kinds.{form_of};
 ghost use Rattle.bson_elem.specs.Items.{element_shown, element_view, item_kind, item_value, LendsFramed};
 
@@ -29,7 +27,7 @@ fn reread_text(n: usize, bytes: &[u8]) -> (&str, &[u8])
 /// A string: a length, a text and a 0.
 #[tactic(auto, unfolding(crate::specs::Checks::string_at))]
 #[inline(always)]
-pub(crate) fn reread_string(bytes: &[u8]) -> (&str, &[u8])
+fn reread_string(bytes: &[u8]) -> (&str, &[u8])
     requires { IsOk (string_at bytes.now) }
     ensures { string_at bytes.now ≡ Ok (result.0.now, result.1.now) }
 {
@@ -40,7 +38,7 @@ pub(crate) fn reread_string(bytes: &[u8]) -> (&str, &[u8])
 /// A name: a text with no 0 in it, and a 0.
 #[tactic(auto, using(crate::proofs::NameLaws::names))]
 #[inline(always)]
-pub(crate) fn reread_cstring(bytes: &[u8]) -> (&str, &[u8])
+fn reread_cstring(bytes: &[u8]) -> (&str, &[u8])
     requires { IsOk (cstring_at bytes.now) }
     ensures read { cstring_at bytes.now ≡ Ok (result.0.now, result.1.now) }
     ensures parts { length result.0.now + 1 + length result.1.now ≡ length bytes.now }
@@ -49,23 +47,8 @@ pub(crate) fn reread_cstring(bytes: &[u8]) -> (&str, &[u8])
     (known_text(&bytes[..n]), &bytes[n + 1..])
 }
 
-/// A code, the document that is its scope, and what follows them. They begin at `q`, in the element at `p`.
-#[tactic(auto, unfolding(crate::specs::Checks::scope_at))]
-#[inline(always)]
-pub(crate) fn resplit_scope(p: usize, q: usize, bytes: &[u8]) -> (&str, &[u8], &[u8])
-    requires room { q + length bytes.now < 2 ^ 64 }
-    requires checked { IsOk (scope_at p q bytes.now) }
-    ensures read { scope_at p q bytes.now ≡ Ok (opens (q + length bytes.now - length result.2.now - length result.1.now) (with_code result.0.now) (elements_of result.1.now), result.2.now) }
-    ensures lent { IsFramed result.1.now }
-{
-    let (_, rest) = read_length(14, bytes).unwrap();
-    let (n, rest) = read_length(1, rest).unwrap();
-    let (code, rest) = reread_text(n - 1, rest);
-    let (scope, rest) = read_document(p, q + 8 + n, rest).unwrap();
-    (code, scope, rest)
-}
-
 /// A code and its scope. They begin at `q`, in the element at `p`.
+#[tactic(auto, unfolding(crate::specs::Checks::scope_at))]
 fn reread_scope(p: usize, q: usize, bytes: &[u8]) -> (Item<'_>, &[u8])
     requires room { q + length bytes.now < 2 ^ 64 }
     requires checked { IsOk (scope_at p q bytes.now) }
@@ -73,14 +56,17 @@ fn reread_scope(p: usize, q: usize, bytes: &[u8]) -> (Item<'_>, &[u8])
     ensures kind { item_kind result.0 ≡ Kind.CodeWithScope }
     ensures lent { LendsFramed result.0 }
 {
-    let (code, scope, rest) = resplit_scope(p, q, bytes);
+    let (_, rest) = read_length(14, bytes).unwrap();
+    let (n, rest) = read_length(1, rest).unwrap();
+    let (code, rest) = reread_text(n - 1, rest);
+    let (scope, rest) = read_document(p, q + 8 + n, rest).unwrap();
     (Item::CodeWithScope { code, scope }, rest)
 }
 
-/// The value of a kind, and what follows it. It begins at `q`, in the element at `p`.
+/// As `reread_value`, for the kinds that are rare.
 #[tactic(auto, unfolding(crate::specs::Checks::value_at, crate::specs::Checks::leaf_at))]
-#[inline(always)]
-fn reread_value(p: usize, q: usize, kind: Kind, bytes: &[u8]) -> (Item<'_>, &[u8])
+#[inline(never)]
+fn reread_rare(p: usize, q: usize, kind: Kind, bytes: &[u8]) -> (Item<'_>, &[u8])
     requires room { q + length bytes.now < 2 ^ 64 }
     requires checked { IsOk (value_at 1 p q (form_of kind) bytes.now) }
     ensures read { value_at 1 p q (form_of kind) bytes.now ≡ Ok (item_value (q + length bytes.now - length result.1.now) result.0, result.1.now) }
@@ -88,10 +74,6 @@ fn reread_value(p: usize, q: usize, kind: Kind, bytes: &[u8]) -> (Item<'_>, &[u8
     ensures lent { LendsFramed result.0 }
 {
     match kind {
-        Kind::String => {
-            let (value, rest) = reread_string(bytes);
-            (Item::String(value), rest)
-        }
         Kind::Code => {
             let (value, rest) = reread_string(bytes);
             (Item::Code(value), rest)
@@ -112,6 +94,36 @@ fn reread_value(p: usize, q: usize, kind: Kind, bytes: &[u8]) -> (Item<'_>, &[u8
         }
         Kind::CodeWithScope => reread_scope(p, q, bytes),
         _ => read_value(1, p, q, kind, bytes).unwrap(),
+    }
+}
+
+/// The value of a kind, and what follows it. It begins at `q`, in the element at `p`.
+#[tactic(auto, unfolding(crate::specs::Checks::value_at, crate::specs::Checks::leaf_at))]
+#[inline(always)]
+fn reread_value(p: usize, q: usize, kind: Kind, bytes: &[u8]) -> (Item<'_>, &[u8])
+    requires room { q + length bytes.now < 2 ^ 64 }
+    requires checked { IsOk (value_at 1 p q (form_of kind) bytes.now) }
+    ensures read { value_at 1 p q (form_of kind) bytes.now ≡ Ok (item_value (q + length bytes.now - length result.1.now) result.0, result.1.now) }
+    ensures kind { item_kind result.0 ≡ kind }
+    ensures lent { LendsFramed result.0 }
+{
+    // Each kind is named, so that one jump tells the kinds apart, and not one in each callee.
+    match kind {
+        Kind::String => {
+            let (value, rest) = reread_string(bytes);
+            (Item::String(value), rest)
+        }
+        Kind::Double => read_value(1, p, q, Kind::Double, bytes).unwrap(),
+        Kind::Document => read_value(1, p, q, Kind::Document, bytes).unwrap(),
+        Kind::Array => read_value(1, p, q, Kind::Array, bytes).unwrap(),
+        Kind::Binary => read_value(1, p, q, Kind::Binary, bytes).unwrap(),
+        Kind::ObjectId => read_value(1, p, q, Kind::ObjectId, bytes).unwrap(),
+        Kind::Boolean => read_value(1, p, q, Kind::Boolean, bytes).unwrap(),
+        Kind::DateTime => read_value(1, p, q, Kind::DateTime, bytes).unwrap(),
+        Kind::Null => read_value(1, p, q, Kind::Null, bytes).unwrap(),
+        Kind::Int32 => read_value(1, p, q, Kind::Int32, bytes).unwrap(),
+        Kind::Int64 => read_value(1, p, q, Kind::Int64, bytes).unwrap(),
+        _ => reread_rare(p, q, kind, bytes),
     }
 }
 

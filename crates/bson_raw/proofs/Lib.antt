@@ -3,7 +3,8 @@ pub mod Fronts
 pub mod Walks
 pub mod Inner
 pub mod Items
-pub mod Outlines
+pub mod Naming
+pub mod DigitLaws
 pub mod Values
 pub mod CountLaws
 pub mod PairLaws

@@ -1,19 +1,25 @@
 -- The steps of the check: a pair more, a fault, a document inside.
-use Rattle.std.proofs.Common.{◌≡◌, ℕ, ◌+◌, ◌-◌, ◌<◌, ◌≤◌, List, [], ◌∷◌, ◌++◌, length, take, drop, Option, Some, None, Ok, Err, refl, sym, ap, subst, ◌∙◌, append_assoc, arith, add-zero}
+use Rattle.std.proofs.Common.{◌≡◌, ◌≢◌, ℕ, suc, ◌+◌, ◌-◌, ◌<◌, ◌≤◌, Bool, ◌&&◌, List, [], ◌∷◌, ◌++◌, length, get_or, take, drop, Option, Some, None, Result, Ok, Err, refl, sym, ap, subst, ◌∙◌, append_assoc, arith, add-zero, add-one, drop-cons}
 use Rattle.std.specs.Prelude.{slice_range}
 use Rattle.std.proofs.lemmas.List.{length-append, append-nil, take_at, take-take, drop_at, length-take, length-drop}
 use Rattle.bson_elem.specs.declared.fault.BsonFault.{BsonFault}
-use Rattle.bson_elem.specs.Kinds.{byte_of, form_of}
+use Rattle.bson_elem.specs.Kinds.{kind_of, byte_of, form_of}
 use Rattle.bson_elem.specs.Tree.{Beside, no_code, with_code, Tree, no_pairs, leaf_pair, inner_pair}
 use Rattle.bson_elem.specs.Spelling.{IsBytes, little, string, cstring, inner_bytes, elements}
-use Rattle.bson_elem.specs.Checks.{Value, a_leaf, opens, ElementRead, element_at}
-use Rattle.bson_elem.specs.Extents.{document_place, element_extent}
+use Rattle.bson_elem.specs.Checks.{Read, fault, cstring_at, Value, a_leaf, opens, value_at, ElementRead, element_at}
+use Rattle.bson_elem.specs.Extents.{document_place, value_extent}
+use Rattle.bson_elem.specs.declared.kind.Kind.{Kind}
+use Rattle.bson_elem.specs.declared.fault.BsonCause.{BsonCause}
+use Rattle.bson_elem.specs.declared.fault.BsonCause.TheVariants.{End}
+use Rattle.bson_elem.specs.declared.fault.BsonCause.TheVariants as causes
 use Rattle.bson_elem.specs.Faults.{Before, FaultIn, at_element, in_document}
-use Rattle.bson_elem.proofs.FieldLaws.{IsBytes-take, IsBytes-drop}
+use Rattle.bson_elem.proofs.FieldLaws.{ok_is, cstring_takes, IsBytes-take, IsBytes-drop}
 use Rattle.bson_elem.proofs.ContainerLaws.{value_bytes, element_bytes, ValueFits, IsPlaced, place_of, element_takes}
 use Rattle.bson_elem.proofs.TreeLaws.{joined, elements-joined, Fits-joined}
-use Rattle.bson_elem.proofs.ViewLaws.{part_after, extent_of}
+use Rattle.bson_elem.proofs.ViewLaws.{skipped, end_fault, kind_fault, name_fault, value_fault, part_after, rest_in}
+use Rattle.bson_raw.specs.Naming.{is_array_kind, is_named, is_plain, named_at}
 use Rattle.bson_raw.specs.Checks.{IsLeaf, Opens, IsTree, IsPair}
+use Rattle.bson_raw.proofs.Naming.{is_plain-leaf, is_plain-inner}
 
 -- ---- values
 
@@ -29,24 +35,25 @@ opens_of (opens p b body) q is =
 
 -- ---- a pair
 
--- one pair whose value is a leaf
-leaf_is_pair : (depth s at : ℕ) (room : List ℕ) (e : ElementRead) → IsBytes room → element_at depth s at room ≡ Ok e → IsLeaf e.value → IsPair depth room (length room - length e.rest) e.rest
-leaf_is_pair depth s at room e fits read is =
+-- a pair whose value is a leaf
+leaf_is_pair : (depth s at : ℕ) (room : List ℕ) (e : ElementRead) (in_array before canonical : Bool) (place : ℕ) → IsBytes room → element_at depth s at room ≡ Ok e → IsLeaf e.value → canonical ≡ (before && is_named in_array place e.name) → IsPair depth in_array place room (length room - length e.rest) e.rest before canonical
+leaf_is_pair depth s at room e in_array before canonical place fits read is name_is =
     let t = element_takes depth s at room e fits read in
-    let text_is : element_bytes e ++ [] ≡ elements (leaf_pair e.name e.kind is.0 no_pairs) = ap (λ (p : Value). (byte_of e.kind ∷ (cstring e.name ++ value_bytes (form_of e.kind) p)) ++ []) is.1 in
+    let pair : Tree = leaf_pair e.name e.kind is.0 no_pairs in
+    let text_is : element_bytes e ++ [] ≡ elements pair = ap (λ (p : Value). (byte_of e.kind ∷ (cstring e.name ++ value_bytes (form_of e.kind) p)) ++ []) is.1 in
     let fits' : ValueFits depth (form_of e.kind) (a_leaf is.0) = subst (ValueFits depth (form_of e.kind)) is.1 t.1.part in
-    let parts : room ≡ elements (leaf_pair e.name e.kind is.0 no_pairs) ++ e.rest = t.0.parts ∙ ap (λ (x : List ℕ). x ++ e.rest) (sym (append-nil (element_bytes e)) ∙ text_is) in
-    (leaf_pair e.name e.kind is.0 no_pairs, (t.1.name, fits', tt), parts, omega (arith, ap length parts, length-append (elements (leaf_pair e.name e.kind is.0 no_pairs)) e.rest))
+    let parts : room ≡ elements pair ++ e.rest = t.0.parts ∙ ap (λ (x : List ℕ). x ++ e.rest) (sym (append-nil (element_bytes e)) ∙ text_is) in
+    record { pair = pair; name = e.name; is_one = refl; fits = (t.1.name, fits', tt); parts = parts; size = omega (arith, ap length parts, length-append (elements pair) e.rest); named = is_plain-leaf before (is_named in_array place e.name) canonical name_is }
 
--- one pair whose value holds a tree
-inner_is_pair : (depth s at : ℕ) (room : List ℕ) (e : ElementRead) (q : ℕ) (b : Beside) (body : List ℕ) → IsBytes room → element_at depth s at room ≡ Ok e → e.value ≡ opens q b body → IsTree (depth + 1) body → IsPair depth room (length room - length e.rest) e.rest
-inner_is_pair depth s at room e q b body fits read is tree =
+-- a pair whose value holds a tree
+inner_is_pair : (depth s at : ℕ) (room : List ℕ) (e : ElementRead) (q : ℕ) (b : Beside) (body : List ℕ) (in_array before canonical within : Bool) (place : ℕ) → IsBytes room → element_at depth s at room ≡ Ok e → e.value ≡ opens q b body → canonical ≡ (before && is_named in_array place e.name) → IsTree (depth + 1) (is_array_kind e.kind) body within → IsPair depth in_array place room (length room - length e.rest) e.rest before (canonical && within)
+inner_is_pair depth s at room e q b body in_array before canonical within place fits read is name_is tree =
     let t = element_takes depth s at room e fits read in
     let pair : Tree = inner_pair e.name e.kind b tree.0 no_pairs in
     let fits' : ValueFits depth (form_of e.kind) (opens q b (elements tree.0)) = subst (ValueFits depth (form_of e.kind)) (is ∙ ap (opens q b) tree.2) t.1.part in
     let text_is : element_bytes e ++ [] ≡ elements pair = ap (λ (p : Value). (byte_of e.kind ∷ (cstring e.name ++ value_bytes (form_of e.kind) p)) ++ []) (is ∙ ap (opens q b) tree.2) in
     let parts : room ≡ elements pair ++ e.rest = t.0.parts ∙ ap (λ (x : List ℕ). x ++ e.rest) (sym (append-nil (element_bytes e)) ∙ text_is) in
-    (pair, (t.1.name, fits'.0, fits'.1, fits'.2, tree.1, tt), parts, omega (arith, ap length parts, length-append (elements pair) e.rest))
+    record { pair = pair; name = e.name; is_one = refl; fits = (t.1.name, fits'.0, fits'.1, fits'.2, tree.1, tt); parts = parts; size = omega (arith, ap length parts, length-append (elements pair) e.rest); named = is_plain-inner before (is_named in_array place e.name) (is_plain (is_array_kind e.kind) 0 tree.0) canonical within name_is tree.3 }
 
 -- ---- faults
 
@@ -140,48 +147,134 @@ stands_at bytes depth s at end e q b body fits lt whole read is =
 
 -- ---- an element that the code went over
 
--- The element between two places of the bytes, where the next one stands, and what was told of the document in it.
-pub record IsPassed (bytes : List ℕ) (depth s at end : ℕ) (place : Option ℕ) (next : ℕ) (e : ElementRead) : Type 0 where
-  pub read : element_at depth s at (slice_range bytes at end) ≡ Ok e
-  pub rest : e.rest ≡ slice_range bytes next end
-  pub document : document_place e.value ≡ place
+-- What was read at the front of the bytes between two places: a type byte of this kind, and a name of which this was
+-- told. The value begins in front of the bytes from.
+pub record IsHead (bytes : List ℕ) (at end : ℕ) (in_array : Bool) (place : ℕ) (named : Bool) (k : Kind) (from : List ℕ) : Type 0 where
+  pub name : List ℕ
+  pub some : get_or bytes at 0 ≢ 0
+  pub kind_is : kind_of (get_or bytes at 0) ≡ Some k
+  pub name_read : cstring_at (slice_range bytes (at + 1) end) ≡ Ok (name, from)
+  pub name_is : named ≡ is_named in_array place name
+  pub value_is : end - length from ≡ at + length name + 2
 
-pub passed : (bytes : List ℕ) (depth s at end : ℕ) (place : Option ℕ) (next : ℕ) → element_extent (element_at depth s at (slice_range bytes at end)) ≡ Ok (place, slice_range bytes next end) → (e : ElementRead) × IsPassed bytes depth s at end place next e
-passed bytes depth s at end place next is =
-    let x = extent_of (element_at depth s at (slice_range bytes at end)) place (slice_range bytes next end) is in
-    (x.0, record { read = x.1; rest = x.3; document = x.2 })
+-- the type byte, and the bytes after it
+pub room_is : (bytes : List ℕ) (at end : ℕ) → at < end → end < length bytes → slice_range bytes at end ≡ get_or bytes at 0 ∷ slice_range bytes (at + 1) end
+room_is bytes at end lt whole =
+    let n : end - at ≡ suc (end - (at + 1)) = omega arith in
+    ap (λ (k : ℕ). take k (drop at bytes)) n ∙ ap (take (suc (end - (at + 1)))) (drop-cons bytes at 0 (omega arith)) ∙ ap (λ (k : ℕ). get_or bytes at 0 ∷ take (end - (at + 1)) (drop k bytes)) (sym (add-one at))
+
+abbrev a_name : List ℕ × List ℕ → Read (List ℕ)
+a_name x = Ok x
+
+named_ok : (r : Read (List ℕ)) (in_array : Bool) (place : ℕ) (named : Bool) (from : List ℕ) → named_at in_array place r ≡ Ok (named, from) → (name : List ℕ) × (r ≡ Ok (name, from)) × (named ≡ is_named in_array place name)
+named_ok (Ok x) in_array place named from is =
+    let same = ok_is {E = BsonCause} (is_named in_array place x.0, x.1) (named, from) is in
+    (x.0, ap (λ (t : List ℕ). a_name (x.0, t)) (ap (λ (y : Bool × List ℕ). y.1) same), sym (ap (λ (y : Bool × List ℕ). y.0) same))
+named_ok (Err c) in_array place named from is = absurd cc
+
+named_err : (r : Read (List ℕ)) (in_array : Bool) (place : ℕ) (c : BsonCause) → named_at in_array place r ≡ Err c → r ≡ Err c
+named_err (Ok x) in_array place c is = absurd cc
+named_err (Err d) in_array place c is =
+    let same : d ≡ c = cc in
+    ap Err same
+
+room_bytes : (bytes : List ℕ) (at end : ℕ) → IsBytes bytes → IsBytes (slice_range bytes at end)
+room_bytes bytes at end fits = IsBytes-take (end - at) (drop at bytes) (IsBytes-drop at bytes fits)
+
+pub is_head : (bytes : List ℕ) (at end : ℕ) (in_array : Bool) (place : ℕ) (named : Bool) (k : Kind) (from : List ℕ) → IsBytes bytes → at < end → end < length bytes
+    → get_or bytes at 0 ≢ 0 → kind_of (get_or bytes at 0) ≡ Some k → named_at in_array place (cstring_at (slice_range bytes (at + 1) end)) ≡ Ok (named, from) → IsHead bytes at end in_array place named k from
+is_head bytes at end in_array place named k from fits lt whole some kind is =
+    let after : List ℕ = slice_range bytes (at + 1) end in
+    let n = named_ok (cstring_at after) in_array place named from is in
+    let parts = (cstring_takes after (n.0, from) (room_bytes bytes (at + 1) end fits) n.1).0.parts in
+    let size : end - length from ≡ at + length n.0 + 2 = omega (arith, ap length parts, length-append (cstring n.0) from, length-append n.0 (0 ∷ []), length-take (end - (at + 1)) (drop (at + 1) bytes), length-drop (at + 1) bytes, lt, whole) in
+    record { name = n.0; some = some; kind_is = kind; name_read = n.1; name_is = n.2; value_is = size }
+
+-- the element at the front of the bytes between two places, by its type byte
+at_room : (bytes : List ℕ) (depth s at end : ℕ) (r : Result ElementRead BsonFault) → at < end → end < length bytes → element_at depth s at (get_or bytes at 0 ∷ slice_range bytes (at + 1) end) ≡ r → element_at depth s at (slice_range bytes at end) ≡ r
+at_room bytes depth s at end r lt whole is = ap (element_at depth s at) (room_is bytes at end lt whole) ∙ is
+
+-- no type byte
+pub end_failed : (bytes : List ℕ) (depth s at end : ℕ) → at < end → end < length bytes → get_or bytes at 0 ≡ 0 → element_at depth s at (slice_range bytes at end) ≡ Err (fault s End)
+end_failed bytes depth s at end lt whole none =
+    at_room bytes depth s at end (Err (fault s End)) lt whole (ap (λ (b : ℕ). element_at depth s at (b ∷ slice_range bytes (at + 1) end)) none ∙ end_fault depth s at (slice_range bytes (at + 1) end))
+
+-- one of no kind
+pub kind_failed : (bytes : List ℕ) (depth s at end : ℕ) → at < end → end < length bytes → get_or bytes at 0 ≢ 0 → kind_of (get_or bytes at 0) ≡ None → element_at depth s at (slice_range bytes at end) ≡ Err (fault at causes.Kind)
+kind_failed bytes depth s at end lt whole some none =
+    at_room bytes depth s at end (Err (fault at causes.Kind)) lt whole (kind_fault depth s at (get_or bytes at 0) (slice_range bytes (at + 1) end) some none)
+
+-- a name that cannot be read
+pub name_failed : (bytes : List ℕ) (depth s at end : ℕ) (in_array : Bool) (place : ℕ) (k : Kind) (c : BsonCause) → at < end → end < length bytes → get_or bytes at 0 ≢ 0 → kind_of (get_or bytes at 0) ≡ Some k
+    → named_at in_array place (cstring_at (slice_range bytes (at + 1) end)) ≡ Err c → element_at depth s at (slice_range bytes at end) ≡ Err (fault at c)
+name_failed bytes depth s at end in_array place k c lt whole some kind is =
+    at_room bytes depth s at end (Err (fault at c)) lt whole (name_fault depth s at (get_or bytes at 0) (slice_range bytes (at + 1) end) k c some kind (named_err (cstring_at (slice_range bytes (at + 1) end)) in_array place c is))
+
+-- and a value
+pub value_failed : (bytes : List ℕ) (depth s at end : ℕ) (in_array : Bool) (place : ℕ) (named : Bool) (k : Kind) (from : List ℕ) (f : BsonFault) → at < end → end < length bytes → IsHead bytes at end in_array place named k from
+    → value_extent (value_at depth at (end - length from) (form_of k) from) ≡ Err f → element_at depth s at (slice_range bytes at end) ≡ Err f
+value_failed bytes depth s at end in_array place named k from f lt whole h is =
+    at_room bytes depth s at end (Err f) lt whole
+    (value_fault depth s at (get_or bytes at 0) (slice_range bytes (at + 1) end) h.name from k f h.some h.kind_is h.name_read (ap (λ (q : ℕ). value_extent (value_at depth at q (form_of k) from)) (sym h.value_is) ∙ is))
+
+-- The element between two places of the bytes, where the next one stands, and what was told of it: its kind, whether its
+-- name is canonical, and the place of a document in its value.
+pub record IsPassed (bytes : List ℕ) (depth s at end : ℕ) (in_array : Bool) (place : ℕ) (named : Bool) (k : Kind) (document : Option ℕ) (next : ℕ) : Type 0 where
+  pub element : ElementRead
+  pub is_read : element_at depth s at (slice_range bytes at end) ≡ Ok element
+  pub name_is : named ≡ is_named in_array place element.name
+  pub kind_is : element.kind ≡ k
+  pub place_is : document_place element.value ≡ document
+  pub rest_is : element.rest ≡ slice_range bytes next end
+  pub low : at < next
+  pub high : next ≤ end
+
+pub passed : (bytes : List ℕ) (depth s at end : ℕ) (in_array : Bool) (place : ℕ) (named : Bool) (k : Kind) (from : List ℕ) (document : Option ℕ) (rest : List ℕ) → IsBytes bytes → at < end → end < length bytes → IsHead bytes at end in_array place named k from
+    → value_extent (value_at depth at (end - length from) (form_of k) from) ≡ Ok (document, rest) → IsPassed bytes depth s at end in_array place named k document (end - length rest)
+passed bytes depth s at end in_array place named k from document rest fits lt whole h is =
+    let x = skipped depth s at (get_or bytes at 0) (slice_range bytes (at + 1) end) h.name from k document rest h.some h.kind_is h.name_read (ap (λ (q : ℕ). value_extent (value_at depth at q (form_of k) from)) (sym h.value_is) ∙ is) in
+    let read = at_room bytes depth s at end (Ok x.element) lt whole x.is_read in
+    let after = rest_in bytes depth s at end x.element fits lt whole read in
+    let size : length x.element.rest ≡ length rest = ap length x.rest_is in
+    record { element = x.element; is_read = read; name_is = h.name_is ∙ ap (is_named in_array place) (sym x.name_is); kind_is = x.kind_is; place_is = x.place; rest_is = after.1 ∙ ap (λ (n : ℕ). slice_range bytes (end - n) end) size; low = omega (arith, after.0, size); high = omega arith }
 
 -- the document that the element holds
 abbrev pub Inside : (bytes : List ℕ) (depth at next q : ℕ) (e : ElementRead) → Type 0
 Inside bytes depth at next q e = (depth < 200) × (at < q) × (q + 5 ≤ next) × ((b : Beside) × (e.value ≡ opens q b (slice_range bytes (q + 4) (next - 1))))
 
-pub inside_of : (bytes : List ℕ) (depth s at end next q : ℕ) (e : ElementRead) → IsBytes bytes → at < end → end < length bytes → next ≤ end → IsPassed bytes depth s at end (Some q) next e → Inside bytes depth at next q e
-inside_of bytes depth s at end next q e fits lt whole high is =
-    let o = opens_of e.value q is.document in
-    let st = stands_at bytes depth s at end e q o.0 o.1 fits lt whole is.read o.2 in
-    let n : end - length e.rest ≡ next = omega (arith, ap length is.rest, length-take (end - next) (drop next bytes), length-drop next bytes, high, whole) in
-    (st.0, st.1.low, omega (arith, st.1.high, n), (o.0, o.2 ∙ ap (opens q o.0) (st.1.body_is ∙ ap (λ (k : ℕ). slice_range bytes (q + 4) (k - 1)) n)))
+pub inside_of : (bytes : List ℕ) (depth s at end : ℕ) (in_array : Bool) (place : ℕ) (named : Bool) (k : Kind) (q next : ℕ) (is : IsPassed bytes depth s at end in_array place named k (Some q) next) → IsBytes bytes → at < end → end < length bytes → Inside bytes depth at next q is.element
+inside_of bytes depth s at end in_array place named k q next is fits lt whole =
+    let e = is.element in
+    let o = opens_of e.value q is.place_is in
+    let st = stands_at bytes depth s at end e q o.0 o.1 fits lt whole is.is_read o.2 in
+    let n : end - length e.rest ≡ next = omega (arith, ap length is.rest_is, length-take (end - next) (drop next bytes), length-drop next bytes, is.high, whole) in
+    (st.0, st.1.low, omega (arith, st.1.high, n), (o.0, o.2 ∙ ap (opens q o.0) (st.1.body_is ∙ ap (λ (m : ℕ). slice_range bytes (q + 4) (m - 1)) n)))
+
+-- what was told of a pair
+abbrev pub Passes : (bytes : List ℕ) (depth at end : ℕ) (in_array : Bool) (place : ℕ) (before : Bool) (next : ℕ) (canonical : Bool) → Type 0
+Passes bytes depth at end in_array place before next canonical = (at < next) × (next ≤ end) × IsPair depth in_array place (slice_range bytes at end) (next - at) (slice_range bytes next end) before canonical
 
 -- how far a pair reaches
-pair_size : (bytes : List ℕ) (depth at end next : ℕ) (rest : List ℕ) → at < end → end < length bytes → next ≤ end → at < next → rest ≡ slice_range bytes next end → IsPair depth (slice_range bytes at end) (length (slice_range bytes at end) - length rest) rest → (at < next) × (next ≤ end) × IsPair depth (slice_range bytes at end) (next - at) (slice_range bytes next end)
-pair_size bytes depth at end next rest lt whole high low rest_is pair =
+pair_size : (bytes : List ℕ) (depth s at end : ℕ) (in_array : Bool) (place : ℕ) (named : Bool) (k : Kind) (document : Option ℕ) (next : ℕ) (before canonical : Bool) (is : IsPassed bytes depth s at end in_array place named k document next) → at < end → end < length bytes
+    → IsPair depth in_array place (slice_range bytes at end) (length (slice_range bytes at end) - length is.element.rest) is.element.rest before canonical → Passes bytes depth at end in_array place before next canonical
+pair_size bytes depth s at end in_array place named k document next before canonical is lt whole pair =
     let a : length (slice_range bytes at end) ≡ end - at = omega (arith, length-take (end - at) (drop at bytes), length-drop at bytes, whole, lt) in
-    let b : length rest ≡ end - next = omega (arith, ap length rest_is, length-take (end - next) (drop next bytes), length-drop next bytes, whole, high) in
-    let n : length (slice_range bytes at end) - length rest ≡ next - at = omega (arith, a, b, high, low) in
-    (low, high, (pair.0, pair.1, pair.2 ∙ ap (λ (x : List ℕ). elements pair.0 ++ x) rest_is, pair.3 ∙ n))
-
-room_bytes : (bytes : List ℕ) (at end : ℕ) → IsBytes bytes → IsBytes (slice_range bytes at end)
-room_bytes bytes at end fits = IsBytes-take (end - at) (drop at bytes) (IsBytes-drop at bytes fits)
+    let b : length is.element.rest ≡ end - next = omega (arith, ap length is.rest_is, length-take (end - next) (drop next bytes), length-drop next bytes, whole, is.high) in
+    let n : length (slice_range bytes at end) - length is.element.rest ≡ next - at = omega (arith, a, b, is.high, is.low) in
+    (is.low, is.high, record { pair = pair.pair; name = pair.name; is_one = pair.is_one; fits = pair.fits; parts = pair.parts ∙ ap (λ (x : List ℕ). elements pair.pair ++ x) is.rest_is; size = pair.size ∙ n; named = pair.named })
 
 -- a leaf is a pair
-pub leaf_passed : (bytes : List ℕ) (depth s at end next : ℕ) (e : ElementRead) → IsBytes bytes → at < end → end < length bytes → next ≤ end → at < next → IsPassed bytes depth s at end None next e → (at < next) × (next ≤ end) × IsPair depth (slice_range bytes at end) (next - at) (slice_range bytes next end)
-leaf_passed bytes depth s at end next e fits lt whole high low is =
-    pair_size bytes depth at end next e.rest lt whole high low is.rest
-    (leaf_is_pair depth s at (slice_range bytes at end) e (room_bytes bytes at end fits) is.read (leaf_of e.value is.document))
+pub leaf_passed : (bytes : List ℕ) (depth s at end : ℕ) (in_array : Bool) (place : ℕ) (named : Bool) (k : Kind) (next : ℕ) (before canonical : Bool) → IsPassed bytes depth s at end in_array place named k None next → IsBytes bytes → at < end → end < length bytes
+    → canonical ≡ (before && named) → Passes bytes depth at end in_array place before next canonical
+leaf_passed bytes depth s at end in_array place named k next before canonical is fits lt whole both =
+    pair_size bytes depth s at end in_array place named k None next before canonical is lt whole
+    (leaf_is_pair depth s at (slice_range bytes at end) is.element in_array before canonical place (room_bytes bytes at end fits) is.is_read (leaf_of is.element.value is.place_is) (both ∙ ap (λ (b : Bool). before && b) is.name_is))
 
 -- and so is a document whose elements were checked
-pub inner_passed : (bytes : List ℕ) (depth s at end next q : ℕ) (e : ElementRead) → IsBytes bytes → at < end → end < length bytes → next ≤ end → at < next → IsPassed bytes depth s at end (Some q) next e → IsTree (depth + 1) (slice_range bytes (q + 4) (next - 1)) → (at < next) × (next ≤ end) × IsPair depth (slice_range bytes at end) (next - at) (slice_range bytes next end)
-inner_passed bytes depth s at end next q e fits lt whole high low is tree =
-    let k = inside_of bytes depth s at end next q e fits lt whole high is in
-    pair_size bytes depth at end next e.rest lt whole high low is.rest
-    (inner_is_pair depth s at (slice_range bytes at end) e q k.3.0 (slice_range bytes (q + 4) (next - 1)) (room_bytes bytes at end fits) is.read k.3.1 tree)
+pub inner_passed : (bytes : List ℕ) (depth s at end : ℕ) (in_array : Bool) (place : ℕ) (named : Bool) (k : Kind) (q next : ℕ) (before canonical is_array within : Bool) → IsPassed bytes depth s at end in_array place named k (Some q) next → IsBytes bytes → at < end → end < length bytes
+    → canonical ≡ (before && named) → is_array ≡ is_array_kind k → IsTree (depth + 1) is_array (slice_range bytes (q + 4) (next - 1)) within → Passes bytes depth at end in_array place before next (canonical && within)
+inner_passed bytes depth s at end in_array place named k q next before canonical is_array within is fits lt whole both kind_is tree =
+    let o = inside_of bytes depth s at end in_array place named k q next is fits lt whole in
+    let tree' : IsTree (depth + 1) (is_array_kind is.element.kind) (slice_range bytes (q + 4) (next - 1)) within = subst (λ (b : Bool). IsTree (depth + 1) b (slice_range bytes (q + 4) (next - 1)) within) (kind_is ∙ ap is_array_kind (sym is.kind_is)) tree in
+    pair_size bytes depth s at end in_array place named k (Some q) next before (canonical && within) is lt whole
+    (inner_is_pair depth s at (slice_range bytes at end) is.element q o.3.0 (slice_range bytes (q + 4) (next - 1)) in_array before canonical within place (room_bytes bytes at end fits) is.is_read o.3.1 (both ∙ ap (λ (b : Bool). before && b) is.name_is) tree')

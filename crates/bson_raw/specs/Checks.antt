@@ -1,8 +1,10 @@
 -- What the parts of the check tell.
-use Rattle.std.specs.Prelude.{◌≡◌, ℕ, List, ◌++◌, length}
+use Rattle.std.specs.Prelude.{◌≡◌, ℕ, Bool, ◌&&◌, List, ◌∷◌, [], ◌++◌, length}
 use Rattle.bson_elem.specs.Tree.{Leaf, Beside, Tree}
 use Rattle.bson_elem.specs.Spelling.{elements, Fits}
 use Rattle.bson_elem.specs.Checks.{Value, a_leaf, opens}
+use Rattle.bson_raw.specs.Naming.{is_plain}
+use Rattle.bson_raw.specs.Pairs.{names_of}
 
 abbrev pub IsLeaf : Value → Type 0
 IsLeaf part = (v : Leaf) × (part ≡ a_leaf v)
@@ -11,10 +13,17 @@ IsLeaf part = (v : Leaf) × (part ≡ a_leaf v)
 abbrev pub Opens : ℕ → Value → Type 0
 Opens q part = (b : Beside) × (body : List ℕ) × (part ≡ opens q b body)
 
--- the bytes are the elements of a tree in a container of this depth
-abbrev pub IsTree : ℕ → List ℕ → Type 0
-IsTree depth bytes = (t : Tree) × Fits depth t × (bytes ≡ elements t)
+-- The bytes are the elements of a tree in a container of this depth, and this tells whether its names are canonical.
+abbrev pub IsTree : ℕ → Bool → List ℕ → Bool → Type 0
+IsTree depth in_array bytes canonical = (t : Tree) × Fits depth t × (bytes ≡ elements t) × (canonical ≡ is_plain in_array 0 t)
 
--- The bytes are one pair or more and this rest, which stands so far behind.
-abbrev pub IsPair : ℕ → List ℕ → ℕ → List ℕ → Type 0
-IsPair depth bytes n rest = (t : Tree) × Fits depth t × (bytes ≡ elements t ++ rest) × (length (elements t) ≡ n)
+-- The bytes are a pair at this place of a container, and this rest, which stands n bytes behind. Where `before` tells
+-- whether the names of the pairs before are canonical, `canonical` tells it of those and this pair together.
+pub record IsPair (depth : ℕ) (in_array : Bool) (place : ℕ) (bytes : List ℕ) (n : ℕ) (rest : List ℕ) (before canonical : Bool) : Type 0 where
+  pub pair : Tree
+  pub name : List ℕ
+  pub is_one : names_of pair ≡ name ∷ []
+  pub fits : Fits depth pair
+  pub parts : bytes ≡ elements pair ++ rest
+  pub size : length (elements pair) ≡ n
+  pub named : canonical ≡ (before && is_plain in_array place pair)

@@ -1,3 +1,4 @@
+pub mod Naming
 pub mod Checks
 pub mod Spelled
 pub mod Pairs
@@ -7,5 +8,3 @@ pub mod RawDocument
 pub mod RawArray
 pub mod RawBson
 pub mod RawIter
-pub mod Outlined
-pub mod RawOutlines

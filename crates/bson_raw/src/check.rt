@@ -1,51 +1,142 @@
 //! The check of a whole document.
 
-ghost use Rattle.std.specs.Prelude.{◌≡◌, ◌+◌, ◌-◌, ◌<◌, ◌≤◌, ◌^◌, length, slice_range, max, IfErr, MatchResult};
+ghost use Rattle.std.specs.Prelude.{◌≡◌, ◌+◌, ◌-◌, ◌<◌, ◌≤◌, ◌^◌, length, slice_range, max, IfErr, MatchResult, false, true};
 ghost use Rattle.bson_elem.specs.Faults.{FaultIn};
 ghost use Rattle.bson_raw.specs.Checks.{IsTree, IsPair};
 
-use bson_elem::extent::skip_element;
-use bson_elem::fault::BsonFault;
+use crate::name::skip_name;
+use bson_elem::container::fault_at;
+use bson_elem::extent::skip_value;
+use bson_elem::fault::{BsonCause, BsonFault};
+use bson_elem::kind::Kind;
 
-/// The place after the pair at `at`, whose value is checked whole.
+/// The place after the pair at `at`, whose value is checked whole, and whether its names are canonical, as those before
+/// it are. So many pairs as `place` stand before it.
 #[cycle(check)]
 #[inline(always)]
-fn pair_end(
+fn check_pair(
     bytes: &[u8],
     start: usize,
     at: usize,
     end: usize,
     depth: u32,
-) -> Result<usize, BsonFault>
+    in_array: bool,
+    place: usize,
+    canonical: bool,
+) -> Result<(usize, bool), BsonFault>
     requires inside { at < end }
     requires whole { end < length bytes.now }
     requires depth { depth ≤ 200 }
     ensures checked { MatchResult result
-        (λ next. (at < next) × (next ≤ end) × IsPair depth (slice_range bytes.now at end) (next - at) (slice_range bytes.now next end))
+        (λ x. (at < x.0) × (x.0 ≤ end)
+        × IsPair depth in_array place (slice_range bytes.now at end) (x.0 - at) (slice_range bytes.now x.0 end) canonical x.1)
         (λ f. FaultIn depth start at (slice_range bytes.now at end) f) }
     ensures place { IfErr result (λ f. f.at ≤ max start end) }
 {
-    let element = skip_element(bytes, start, at, end, depth)?;
-    if let Some(place) = element.document {
-        check(bytes, place, element.next - 1, depth + 1)?;
+    let byte = bytes[at];
+    if byte == 0 {
+        return Err(fault_at(start, BsonCause::End));
     }
-    Ok(element.next)
+    let Some(kind) = Kind::from_byte(byte) else {
+        return Err(fault_at(at, BsonCause::Kind));
+    };
+    let (named, rest) = match skip_name(&bytes[at + 1..end], in_array, place) {
+        Ok(read) => read,
+        Err(cause) => return Err(fault_at(at, cause)),
+    };
+    let canonical = canonical && named;
+    let (document, rest) = skip_value(depth, at, end - rest.len(), kind, rest)?;
+    let next = end - rest.len();
+    if let Some(inner) = document {
+        // Told by the byte: a test of the kind would turn its table of sizes into a jump for each kind.
+        let is_array = bytes[at] == Kind::Array.byte();
+        let within = check(bytes, inner, next - 1, depth + 1, is_array)?;
+        return Ok((next, canonical && within));
+    }
+    Ok((next, canonical))
 }
 
-/// Checks the elements of a container of this depth, which begins at `start` and whose last byte stands at `end`.
+/// Checks the elements of a container, as `check` does.
 #[cycle(check)]
-pub(crate) fn check(bytes: &[u8], start: usize, end: usize, depth: u32) -> Result<(), BsonFault>
+#[inline(always)]
+fn check_elements(
+    bytes: &[u8],
+    start: usize,
+    end: usize,
+    depth: u32,
+    in_array: bool,
+) -> Result<bool, BsonFault>
     requires inside { start + 4 ≤ end }
     requires whole { end < length bytes.now }
     requires depth { depth ≤ 200 }
     ensures checked { MatchResult result
-        (λ _. IsTree depth (slice_range bytes.now (start + 4) end))
+        (λ canonical. IsTree depth in_array (slice_range bytes.now (start + 4) end) canonical)
         (λ f. FaultIn depth start (start + 4) (slice_range bytes.now (start + 4) end) f) }
     ensures place { IfErr result (λ f. f.at ≤ end) }
 {
     let mut at = start + 4;
+    let mut place = 0;
+    let mut canonical = true;
     while at < end {
-        at = pair_end(bytes, start, at, end, depth)?;
+        (at, canonical) = check_pair(bytes, start, at, end, depth, in_array, place, canonical)?;
+        place += 1;
     }
-    Ok(())
+    Ok(canonical)
+}
+
+/// Checks the elements of a document or a scope.
+#[cycle(check)]
+#[inline(never)]
+fn check_document(bytes: &[u8], start: usize, end: usize, depth: u32) -> Result<bool, BsonFault>
+    requires inside { start + 4 ≤ end }
+    requires whole { end < length bytes.now }
+    requires depth { depth ≤ 200 }
+    ensures checked { MatchResult result
+        (λ canonical. IsTree depth false (slice_range bytes.now (start + 4) end) canonical)
+        (λ f. FaultIn depth start (start + 4) (slice_range bytes.now (start + 4) end) f) }
+    ensures place { IfErr result (λ f. f.at ≤ end) }
+{
+    check_elements(bytes, start, end, depth, false)
+}
+
+/// Checks the elements of an array.
+#[cycle(check)]
+#[inline(never)]
+fn check_array(bytes: &[u8], start: usize, end: usize, depth: u32) -> Result<bool, BsonFault>
+    requires inside { start + 4 ≤ end }
+    requires whole { end < length bytes.now }
+    requires depth { depth ≤ 200 }
+    ensures checked { MatchResult result
+        (λ canonical. IsTree depth true (slice_range bytes.now (start + 4) end) canonical)
+        (λ f. FaultIn depth start (start + 4) (slice_range bytes.now (start + 4) end) f) }
+    ensures place { IfErr result (λ f. f.at ≤ end) }
+{
+    check_elements(bytes, start, end, depth, true)
+}
+
+/// Checks the elements of a container of this depth, which begins at `start` and whose last byte stands at `end`. Tells
+/// whether its names are canonical at every depth; in an array these are "0", "1" and so on.
+#[cycle(check)]
+#[inline(always)]
+pub(crate) fn check(
+    bytes: &[u8],
+    start: usize,
+    end: usize,
+    depth: u32,
+    in_array: bool,
+) -> Result<bool, BsonFault>
+    requires inside { start + 4 ≤ end }
+    requires whole { end < length bytes.now }
+    requires depth { depth ≤ 200 }
+    ensures checked { MatchResult result
+        (λ canonical. IsTree depth in_array (slice_range bytes.now (start + 4) end) canonical)
+        (λ f. FaultIn depth start (start + 4) (slice_range bytes.now (start + 4) end) f) }
+    ensures place { IfErr result (λ f. f.at ≤ end) }
+{
+    // Each has a loop of its own, so that no name of a document is tested.
+    if in_array {
+        check_array(bytes, start, end, depth)
+    } else {
+        check_document(bytes, start, end, depth)
+    }
 }

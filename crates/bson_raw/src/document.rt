@@ -1,28 +1,40 @@
 //! A document that is lent out of its bytes.
 
-ghost use Rattle.std.specs.Prelude.{◌≡◌, ◌≤◌, ◌<◌, ◌^◌, List, ℕ, ◌++◌, IfOk, IfErr, IsOkAnd, IsErrOf, length, MatchResult, MatchOption, IsTrue, IsOk, ◌↔◌, Some, None, [], take};
+ghost use Rattle.std.specs.Prelude.{◌≡◌, ◌≤◌, ◌<◌, ◌^◌, List, ℕ, ◌++◌, IfOk, IfErr, IsOkAnd, IsErrOf, length, MatchResult, MatchOption, IsTrue, IsOk, ◌↔◌, Some, None, [], take, false};
 ghost use Rattle.bson_elem.specs.declared.fault.BsonFault.{BsonFault};
 ghost use Rattle.bson_elem.specs.Tree.{Tree};
 ghost use Rattle.bson_elem.specs.Spelling.{Spells};
 ghost use Rattle.bson_elem.specs.Faults.{FrontFault};
+ghost use Rattle.bson_raw.specs.Naming.{is_plain};
 ghost use Rattle.bson_raw.specs.Spelled.{IsSpelled, FrontIs, IsLengthOf, WholeFault};
 
 use crate::check::check;
 use crate::iter::RawIter;
-use crate::outline::RawOutlines;
 use crate::value::RawBson;
 use bson_elem::container::read_document;
 use bson_elem::fault::{BsonCause, BsonFault};
 use bson_elem::number::little_u32;
 
-/// The bytes of the document in front, and what follows it.
-fn front_parts(bytes: &[u8]) -> Result<(&[u8], &[u8]), BsonFault>
-    ensures parts { MatchResult result (λ x. FrontIs bytes.now x.0.now x.1.now) (λ f. FrontFault bytes.now f) }
+/// The bytes of the document in front, whether its names are canonical, and what follows it.
+fn front_parts(bytes: &[u8]) -> Result<(&[u8], bool, &[u8]), BsonFault>
+    ensures parts { MatchResult result (λ x. FrontIs bytes.now x.0.now x.2.now) (λ f. FrontFault bytes.now f) }
+    ensures canonical { IfOk result (λ x. (t : Tree) → Spells t x.0.now → x.1 ≡ is_plain false 0 t) }
     ensures place { IfErr result (λ f. f.at ≤ length bytes.now) }
 {
     let (whole, rest) = read_document(0, 0, bytes)?;
-    check(whole, 0, whole.len() - 1, 1)?;
-    Ok((whole, rest))
+    let canonical = check(whole, 0, whole.len() - 1, 1, false)?;
+    Ok((whole, canonical, rest))
+}
+
+/// Whether the names in the document that the bytes are known to spell are canonical.
+fn spells_canonical(bytes: &[u8]) -> bool
+    requires { ∥ IsSpelled bytes.now ∥₁ }
+    ensures { (t : Tree) → Spells t bytes.now → result ≡ is_plain false 0 t }
+{
+    match check(bytes, 0, bytes.len() - 1, 1, false) {
+        Ok(canonical) => canonical,
+        Err(_) => unreachable!(),
+    }
 }
 
 /// Whether the length in front, if there is one, is that of the bytes.
@@ -42,6 +54,17 @@ pub struct RawDocument<'a> {
     pub ghost spelled: { ∥ IsSpelled bytes.now ∥₁ },
 }
 
+/// What stands at the front of some bytes.
+#[derive(Clone, Copy, Debug, PartialEq, Eq)]
+pub struct Front<'a> {
+    /// The document.
+    pub document: RawDocument<'a>,
+    /// Whether it is in canonical form: the names of each array in it are "0", "1" and so on.
+    pub canonical: bool,
+    /// What follows it.
+    pub rest: &'a [u8],
+}
+
 impl<'a> RawDocument<'a> {
     ghost use Rattle.bson_raw.specs.RawDocument.{document_bytes};
 
@@ -59,8 +82,37 @@ impl<'a> RawDocument<'a> {
         ensures exact { (f : BsonFault) → FrontFault bytes.now f → IsErrOf result f }
         ensures place { IfErr result (λ f. f.at ≤ length bytes.now) }
     {
+        match RawDocument::front_with_form(bytes) {
+            Ok(front) => Ok((front.document, front.rest)),
+            Err(fault) => Err(fault),
+        }
+    }
+
+    /// As `front`, and with the document whether it is in canonical form, by the same walk.
+    ///
+    /// # Errors
+    ///
+    /// Those of `front`.
+    pub fn front_with_form(bytes: &'a [u8]) -> Result<Front<'a>, BsonFault>
+        ensures found { IfOk result (λ x.
+            (bytes.now ≡ document_bytes x.document ++ x.rest.now) × IsSpelled (document_bytes x.document)) }
+        ensures canonical { IfOk result (λ x. (t : Tree) → Spells t (document_bytes x.document)
+            → x.canonical ≡ is_plain false 0 t) }
+        ensures only { (t : Tree) (b rest : List ℕ) → Spells t b → bytes.now ≡ b ++ rest
+            → IsOkAnd result (λ x. (document_bytes x.document ≡ b) × (x.rest.now ≡ rest)) }
+        ensures fault { IfErr result (λ f. FrontFault bytes.now f) }
+        ensures exact { (f : BsonFault) → FrontFault bytes.now f → IsErrOf result f }
+        ensures place { IfErr result (λ f. f.at ≤ length bytes.now) }
+    {
         match front_parts(bytes) {
-            Ok((whole, rest)) => Ok((RawDocument { bytes: whole }, rest)),
+            Ok((whole, canonical, rest)) => {
+                let document = RawDocument { bytes: whole };
+                Ok(Front {
+                    document,
+                    canonical,
+                    rest,
+                })
+            }
             Err(fault) => Err(fault),
         }
     }
@@ -84,7 +136,7 @@ impl<'a> RawDocument<'a> {
             });
         }
         match front_parts(bytes) {
-            Ok((whole, _)) => Ok(RawDocument { bytes: whole }),
+            Ok((whole, _, _)) => Ok(RawDocument { bytes: whole }),
             Err(fault) => Err(fault),
         }
     }
@@ -104,6 +156,14 @@ impl<'a> RawDocument<'a> {
     {
         self.bytes
     }
+
+    /// Whether the document is in canonical form: the names of each array in it are "0", "1" and so on. This checks the
+    /// whole document once more.
+    pub fn is_canonical(self) -> bool
+        ensures { (t : Tree) → Spells t (document_bytes self.entry) → result ≡ is_plain false 0 t }
+    {
+        spells_canonical(self.bytes)
+    }
 }
 
 impl<'a> RawDocument<'a> {
@@ -111,7 +171,6 @@ impl<'a> RawDocument<'a> {
     ghost use Rattle.bson_raw.specs.Pairs.{first_named, names_of, is_among, first_repeated};
     ghost use Rattle.bson_raw.specs.RawBson.{ShowsFound};
     ghost use Rattle.bson_raw.specs.RawIter.{PairsLeft, walked_len};
-    ghost use Rattle.bson_raw.specs.RawOutlines.{OutlinesLeft, outlined_len};
 
     /// The pairs of names and values, in order.
     pub fn iter(self) -> RawIter<'a>
@@ -119,14 +178,6 @@ impl<'a> RawDocument<'a> {
         ensures walked { walked_len result ≡ length (document_bytes self.entry) }
     {
         RawIter::of_spelled(self.bytes)
-    }
-
-    /// The pairs in order, each without its value.
-    pub fn outlines(self) -> RawOutlines<'a>
-        ensures pairs { (t : Tree) → Spells t (document_bytes self.entry) → OutlinesLeft result t }
-        ensures walked { outlined_len result ≡ length (document_bytes self.entry) }
-    {
-        RawOutlines::of_spelled(self.bytes)
     }
 
     /// The value of the first pair of this name.

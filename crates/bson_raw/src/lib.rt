@@ -10,7 +10,7 @@ pub mod array;
 mod check;
 pub mod document;
 pub mod iter;
-pub mod outline;
+mod name;
 #[cfg(test)]
 mod tests;
 pub mod value;

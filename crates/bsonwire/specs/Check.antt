@@ -2,7 +2,7 @@
 use Rattle.std.specs.Prelude.{ℕ, List, ◌++◌, codes, Bool, false, Option, Some, if◌then◌else◌}
 use Rattle.std.specs.Fmt.{decimal}
 use Rattle.bson_elem.specs.Tree.{Tree}
-use Rattle.bson_doc.specs.Naming.{is_plain}
+use Rattle.bson_raw.specs.Naming.{is_plain}
 use Rattle.bson_doc.specs.Dump.{document_size}
 use Rattle.bsonwire.specs.Documents.{IsWhole, plainly}
 

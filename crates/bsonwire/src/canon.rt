@@ -10,9 +10,9 @@ ghost use Rattle.bsonwire.specs.Run.{is_done, is_fault};
 use crate::documents::{EachDocument, write_documents, write_each, write_last};
 use crate::run::{Engine, RunEnd, run};
 use bson_doc::buf::MAX_LEN;
-use bson_doc::canon::{is_canonical, to_canonical};
+use bson_doc::canon::renumbered;
 use bson_doc::refusal::DocRefusal;
-use bson_doc::text::write_hex;
+use bson_doc::to_writer::hex_to;
 use bson_raw::document::RawDocument;
 use std::alloc::Global;
 use std::io::{Read, Write};
@@ -41,7 +41,7 @@ impl Canon {
             return Ok(false);
         }
         let written = if self.hex {
-            write_hex(bytes, out)
+            hex_to(bytes, out)
         } else {
             out.write_all(bytes)
         };
@@ -88,13 +88,14 @@ impl EachDocument for Canon {
     fn write_document<W: Write>(
         &self,
         document: RawDocument<'_>,
+        canonical: bool,
         out: &mut W,
     ) -> Result<bool, RunEnd> {
-        if is_canonical(document) {
+        if canonical {
             return self.write_bytes(document.as_bytes(), out);
         }
-        match to_canonical(self.alloc, document) {
-            Ok(canonical) => self.write_bytes(canonical.as_raw().as_bytes(), out),
+        match renumbered(self.alloc, document) {
+            Ok(form) => self.write_bytes(form.as_raw().as_bytes(), out),
             Err(DocRefusal::TooLarge) => Ok(false),
             Err(_) => Err(RunEnd::Memory),
         }

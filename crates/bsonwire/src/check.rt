@@ -8,8 +8,7 @@ ghost use Rattle.bsonwire.specs.Run.{is_done, is_fault};
 
 use crate::documents::{EachDocument, write_documents};
 use crate::run::{Engine, RunEnd, run};
-use bson_doc::canon::is_canonical;
-use bson_doc::number_text::write_number;
+use bson_doc::to_writer::number_to;
 use bson_raw::document::RawDocument;
 use std::alloc::Global;
 use std::io;
@@ -35,7 +34,7 @@ fn write_check_line<W: Write>(size: usize, canonical: bool, out: &mut W) -> io::
         (sized_line size canonical)) }
 {
     out.write_all(b"ok ")?;
-    write_number(size, out)?;
+    number_to(size, out)?;
     out.write_all(form_text(canonical).as_bytes())
 }
 
@@ -47,9 +46,10 @@ impl EachDocument for Check {
     fn write_document<W: Write>(
         &self,
         document: RawDocument<'_>,
+        canonical: bool,
         out: &mut W,
     ) -> Result<bool, RunEnd> {
-        match write_check_line(document.as_bytes().len(), is_canonical(document), out) {
+        match write_check_line(document.as_bytes().len(), canonical, out) {
             Ok(()) => Ok(true),
             Err(_) => Err(RunEnd::InOut),
         }

@@ -4,6 +4,7 @@ ghost use Rattle.std.specs.Prelude.{◌≡◌, ℕ, Bool, List, Option, IfErr, I
 ghost use Rattle.std.specs.Io.KnownBytes.{Appends};
 ghost use Rattle.bson_elem.specs.Tree.{Tree};
 ghost use Rattle.bson_elem.specs.Spelling.{Spells};
+ghost use Rattle.bson_raw.specs.Naming.{is_plain};
 ghost use Rattle.bson_raw.specs.RawDocument.{document_bytes};
 ghost use Rattle.bsonwire.specs.Documents.{IsWhole, IsWritten, ReadsAs, is_there, or_nothing, plainly};
 ghost use Rattle.bsonwire.specs.InputFault.{line_of};
@@ -23,12 +24,15 @@ pub trait EachDocument {
     // Whether it may want memory.
     ghost wants_memory: { Self → Bool };
 
-    /// Writes the text of a document. False where it has none; nothing is written then.
+    /// Writes the text of a document, of which it is known whether it is canonical. False where it
+    /// has none; nothing is written then.
     fn write_document<W: Write>(
         &self,
         document: RawDocument<'_>,
+        canonical: bool,
         out: &mut W,
     ) -> Result<bool, RunEnd>
+        requires { (t : Tree) → Spells t (document_bytes document) → canonical ≡ is_plain false 0 t }
         ensures written { (t : Tree) → Spells t (document_bytes document.entry)
             → IfOk result (λ there. IsWritten (text_of self.now t) there
             (W.contents out.old) (W.contents out.new)) }
@@ -61,8 +65,8 @@ pub fn write_each<E: EachDocument, W: Write>(
     let mut any = false;
     while !rest.is_empty() {
         let place = bytes.len() - rest.len();
-        let (document, after) = match RawDocument::front(rest) {
-            Ok(read) => read,
+        let front = match RawDocument::front_with_form(rest) {
+            Ok(front) => front,
             Err(fault) => {
                 let at = place + fault.at;
                 let cause = fault.cause;
@@ -70,12 +74,12 @@ pub fn write_each<E: EachDocument, W: Write>(
                 return Ok(Walk { any, fault });
             }
         };
-        if !each.write_document(document, out)? {
+        if !each.write_document(front.document, front.canonical, out)? {
             let fault = Some(InputFault::TooLarge { place });
             return Ok(Walk { any, fault });
         }
         any = true;
-        rest = after;
+        rest = front.rest;
     }
     Ok(Walk { any, fault: None })
 }

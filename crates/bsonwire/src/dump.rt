@@ -22,6 +22,7 @@ impl EachDocument for Dump {
     fn write_document<W: Write>(
         &self,
         document: RawDocument<'_>,
+        _canonical: bool,
         out: &mut W,
     ) -> Result<bool, RunEnd> {
         match dump_to(document, out) {

@@ -13,7 +13,7 @@ ghost use Rattle.wire_msg.specs.Spelling.{SpellsMsg};
 ghost use Rattle.bsonwire.specs.Msg.{body_text, flags_text, member_text, message_line, message_text, sequence_text};
 
 use bson_doc::dump::dump_elements;
-use bson_doc::text::write_quoted;
+use bson_doc::to_writer::quoted_to;
 use bson_raw::document::RawDocument;
 use std::io;
 use std::io::Write;
@@ -89,7 +89,7 @@ fn write_sequence<W: Write>(
 {
     let count = documents.count();
     out.write_all(b"sequence ")?;
-    write_quoted(identifier, out)?;
+    quoted_to(identifier, out)?;
     writeln!(out, " {count}")?;
     write_documents(documents, out)
 }

@@ -65,13 +65,6 @@ pub record IsWalked (bytes : List ℕ) (qs : List Sequence) (last next : ℕ) : 
   pub parts : drop next bytes ≡ sequences_bytes left
   pub same : last_place qs ≡ place_from last next left
 
-from_start : (qs : List Sequence) → last_place qs ≡ place_from 0 0 qs
-from_start [] = refl
-from_start (q ∷ qs) = omega arith
-
-walk_begins : (bytes : List ℕ) (qs : List Sequence) → AreSequences qs → bytes ≡ sequences_bytes qs → IsWalked bytes qs 0 0
-walk_begins bytes qs fits is = record { left = qs; fits = fits; parts = is; same = from_start qs }
-
 step_place : (last next size : ℕ) (q : Sequence) (others : List Sequence) → size ≡ sequence_size q → place_from last next (q ∷ others) ≡ place_from next (next + (1 + size)) others
 step_place last next size q [] is = omega arith
 step_place last next size q (r ∷ qs) is = omega (arith, is, length-sequence q)

@@ -41,6 +41,14 @@ fn one_element_of_each_kind(rt: HostRuntime) -> Result<(), Fail> {
             "0d000000 05 7600 00000000 00 00",
             "document 13\n  \"v\" binary 00 0\n",
         ),
+        (
+            "0e000000 05 7600 01000000 ff 00 00",
+            "document 14\n  \"v\" binary ff 1 00\n",
+        ),
+        (
+            "13000000 05 7600 06000000 02 02000000 aabb 00",
+            "document 19\n  \"v\" binary 02 2 aabb\n",
+        ),
         ("08000000 06 7600 00", "document 8\n  \"v\" undefined\n"),
         (
             "14000000 07 7600 000102030405060708090a0b 00",
@@ -49,6 +57,10 @@ fn one_element_of_each_kind(rt: HostRuntime) -> Result<(), Fail> {
         (
             "09000000 08 7600 01 00",
             "document 9\n  \"v\" boolean true\n",
+        ),
+        (
+            "09000000 08 7600 00 00",
+            "document 9\n  \"v\" boolean false\n",
         ),
         (
             "10000000 09 7600 ffffffffffffffff 00",

@@ -5,6 +5,7 @@ use Rattle.bson_elem.specs.Spelling.{Spells}
 use Rattle.bson_raw.specs.RawDocument.{document_bytes}
 use Rattle.bson_raw.specs.RawIter.{PairsLeft, pairs_bound, walked_len}
 use Rattle.bson_doc.specs.Dump.{element_lines}
+use Rattle.bson_doc.specs.TextWriter.{text_contents}
 use Rattle.bson_doc.proofs.dump.+write_lines.Given as goal
 
 abbrev pub decreases-write_lines : goal.decreases-write_lines
@@ -14,7 +15,7 @@ decreases-write_lines g l = length (document_bytes l.document)
 abbrev pub invariant-loop-held : goal.invariant-loop-held
 invariant-loop-held g l =
     (walked_len l.pairs ≡ length (document_bytes l.fn.document)) ×
-    ((t : Tree) → Spells t (document_bytes l.fn.document) → (rest : Tree) × (text : List ℕ) × PairsLeft l.pairs rest × Appends (g.W.Write.contents l.initial.out) (g.W.Write.contents l.out) text × (element_lines l.deep t ≡ text ++ element_lines l.deep rest))
+    ((t : Tree) → Spells t (document_bytes l.fn.document) → (rest : Tree) × (text : List ℕ) × PairsLeft l.pairs rest × Appends (text_contents g.W.Write.contents l.initial.out) (text_contents g.W.Write.contents l.out) text × (element_lines l.deep t ≡ text ++ element_lines l.deep rest))
 
 abbrev pub decreases-loop-held : goal.decreases-loop-held
 decreases-loop-held g l = pairs_bound l.pairs

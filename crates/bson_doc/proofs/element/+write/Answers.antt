@@ -6,7 +6,8 @@ use Rattle.bson_elem.specs.Spelling.{cstring, string, elements}
 use Rattle.bson_raw.specs.Pairs.{names_of}
 use Rattle.bson_raw.proofs.CountLaws.{count_fits, length-names_of-le}
 use Rattle.bson_raw.proofs.PairLaws.{names_of-with_first}
-use Rattle.bson_doc.specs.Plain.{name_at, plain_from}
+use Rattle.bson_raw.specs.Naming.{name_at}
+use Rattle.bson_doc.specs.Plain.{plain_from}
 use Rattle.bson_doc.specs.Values.{plain_value, value_kind, value_bytes, element_bytes}
 use Rattle.bson_doc.proofs.Values.{elements-first, kind_shown, four_more, no_fewer, one_element}
 use Rattle.bson_doc.proofs.element.+write.Goals as goal

@@ -1,64 +1,138 @@
-use Rattle.std.proofs.Common.{◌≡◌, ℕ, ◌+◌, ◌-◌, ◌<◌, ◌≤◌, List, Option, Some, None, Ok, Err, ap, ◌∙◌, length, drop, arith, length-take, length-drop}
+use Rattle.std.proofs.Common.{eqb, get_or, ◌≡◌, ℕ, ◌+◌, ◌-◌, ◌<◌, Bool, ◌&&◌, List, Option, Some, Err, ap, sym, subst, ◌∙◌, length, drop, arith, length-take, length-drop}
 use Rattle.std.specs.Prelude.{slice_range}
 use Rattle.std.proofs.lemmas.Result.{err_from_is_err_and}
 use Rattle.bson_elem.proofs.TreeLaws.{joined}
 use Rattle.bson_elem.specs.declared.fault.BsonFault.{BsonFault}
-use Rattle.bson_elem.specs.declared.extent.Extent.{Extent}
-use Rattle.bson_elem.specs.Checks.{ElementRead, element_at}
-use Rattle.bson_elem.specs.Extents.{element_extent}
-use Rattle.bson_elem.specs.Spelling.{IsBytes}
+use Rattle.bson_elem.specs.Checks.{element_at}
 use Rattle.bson_elem.specs.Faults.{Before, FaultIn}
-use Rattle.bson_elem.proofs.ViewLaws.{fault_read}
-use Rattle.bson_raw.proofs.Steps.{IsPassed, passed, Inside, inside_of, leaf_passed, inner_passed, fault_here, fault_inside, fault_after, Before-joined, joined_place}
+use Rattle.bson_raw.specs.Naming.{is_array_kind}
+use Rattle.bson_raw.specs.Checks.{IsTree}
+use Rattle.bson_raw.proofs.Naming.{array_byte, named_more, counted_more}
+use Rattle.bson_raw.proofs.Steps.{IsHead, is_head, end_failed, kind_failed, name_failed, value_failed, IsPassed, passed, Passes, Inside, inside_of, leaf_passed, inner_passed, fault_here, fault_inside, fault_after, Before-joined, joined_place}
 use Rattle.bson_raw.proofs.check.+check.Goals as goal
+use Rattle.bson_raw.proofs.check.+check.Goals.{check_pair-In-Ok, check_pair-In_ok-document, check_pair-then-canonical, check_pair-else-canonical}
 
-pub check-returns-in_err-at-clause-checked : goal.check-returns-in_err-at-clause-checked
-check-returns-in_err-at-clause-checked t c =
+pub check_elements-returns-in_err-at-clause-checked : goal.check_elements-returns-in_err-at-clause-checked
+check_elements-returns-in_err-at-clause-checked t c =
     let p = err_from_is_err_and c.from_residual.result c.from_residual.ensures.1 in
     let i = c.loop-at.invariant in
-    rw (p.1, p.2) (fault_after (c.args.start + 4) (slice_range c.args.bytes.now (c.args.start + 4) c.args.end) i.2.0 i.2.1 i.2.2 c.in_err-at.ensures.checked)
+    rw (p.1, p.2) (fault_after (c.args.start + 4) (slice_range c.args.bytes.now (c.args.start + 4) c.args.end) i.3.0 i.3.1 i.3.2 c.in_err-at.ensures.checked)
 
-pub check-loop-at-preserved : goal.check-loop-at-preserved
-check-loop-at-preserved t c =
+pub check_elements-loop-at-preserved : goal.check_elements-loop-at-preserved
+check_elements-loop-at-preserved t c =
     let i = c.loop-at.invariant in
     let n = c.in_ok-at.ensures.checked in
-    let before : Before c.args.depth (slice_range c.args.bytes.now c.loop-at.at c.args.end) n.2.0 (slice_range c.args.bytes.now c.in_ok-at.at c.args.end) = record { parts = n.2.2; fits = n.2.1 } in
-    (omega (arith, n.0, i.0), n.1, (joined i.2.0 n.2.0, Before-joined c.args.depth (slice_range c.args.bytes.now (c.args.start + 4) c.args.end) (slice_range c.args.bytes.now c.loop-at.at c.args.end) (slice_range c.args.bytes.now c.in_ok-at.at c.args.end) i.2.0 n.2.0 i.2.1 before, omega (arith, joined_place (c.args.start + 4) i.2.0 n.2.0, i.2.2, n.2.3, n.0)))
+    let before : Before c.args.depth (slice_range c.args.bytes.now c.loop-at.at c.args.end) n.2.pair (slice_range c.args.bytes.now c.in_ok-at.field-0-0 c.args.end) = record { parts = n.2.parts; fits = n.2.fits } in (
+      omega (arith, n.0, i.0),
+      n.1,
+      omega (arith, n.0, i.2),
+      (
+        joined i.3.0 n.2.pair,
+        Before-joined c.args.depth (slice_range c.args.bytes.now (c.args.start + 4) c.args.end) (slice_range c.args.bytes.now c.loop-at.at c.args.end) (slice_range c.args.bytes.now c.in_ok-at.field-0-0 c.args.end) i.3.0 n.2.pair i.3.1 before,
+        omega (arith, joined_place (c.args.start + 4) i.3.0 n.2.pair, i.3.2, n.2.size, n.0),
+        counted_more c.loop-at.place n.2.name i.3.0 n.2.pair i.3.3 n.2.is_one,
+        named_more c.args.in_array c.loop-at.canonical c.in_ok-at.field-0-1 c.loop-at.place i.3.0 n.2.pair i.3.4 i.3.3 n.2.named,
+      ),
+    )
 
 -- what cannot be passed has the same fault
-fault_of : (bytes : List ℕ) (depth start at end : ℕ) (f : BsonFault) → at < end → end < length bytes → element_extent (element_at depth start at (slice_range bytes at end)) ≡ Err f → FaultIn depth start at (slice_range bytes at end) f
+fault_of : (bytes : List ℕ) (depth start at end : ℕ) (f : BsonFault) → at < end → end < length bytes → element_at depth start at (slice_range bytes at end) ≡ Err f → FaultIn depth start at (slice_range bytes at end) f
 fault_of bytes depth start at end f lt whole is =
-    let room = slice_range bytes at end in
-    fault_here depth start at room f (omega (arith, length-take (end - at) (drop at bytes), length-drop at bytes, lt, whole)) (fault_read (element_at depth start at room) f is)
+    fault_here depth start at (slice_range bytes at end) f (omega (arith, length-take (end - at) (drop at bytes), length-drop at bytes, lt, whole)) is
 
-pub pair_end-returns-in_err-element-clause-checked : goal.pair_end-returns-in_err-element-clause-checked
-pair_end-returns-in_err-element-clause-checked t c =
+pub check_pair-returns-then-byte-eq0-clause-checked : goal.check_pair-returns-then-byte-eq0-clause-checked
+check_pair-returns-then-byte-eq0-clause-checked t c =
+    fault_of c.args.bytes.now c.args.depth c.args.start c.args.at c.args.end _ c.requires.inside c.requires.whole (end_failed c.args.bytes.now c.args.depth c.args.start c.args.at c.args.end c.requires.inside c.requires.whole c.if-byte-eq0.true ∙ ap Err (sym c.fault_at.ensures))
+
+pub check_pair-returns-in_default-clause-checked : goal.check_pair-returns-in_default-clause-checked
+check_pair-returns-in_default-clause-checked t c =
+    fault_of c.args.bytes.now c.args.depth c.args.start c.args.at c.args.end _ c.requires.inside c.requires.whole (kind_failed c.args.bytes.now c.args.depth c.args.start c.args.at c.args.end c.requires.inside c.requires.whole c.if-byte-eq0.false (sym c.in_default.ensures) ∙ ap Err (sym c.fault_at-in_default.ensures))
+
+pub check_pair-returns-in-Err-clause-checked : goal.check_pair-returns-in-Err-clause-checked
+check_pair-returns-in-Err-clause-checked t c =
+    fault_of c.args.bytes.now c.args.depth c.args.start c.args.at c.args.end _ c.requires.inside c.requires.whole
+    (name_failed c.args.bytes.now c.args.depth c.args.start c.args.at c.args.end c.args.in_array c.args.place _ _ c.requires.inside c.requires.whole c.if-byte-eq0.false (sym c.in-Some.ensures) c.in-Err.ensures.read ∙ ap Err (sym c.fault_at-in-Err.ensures))
+
+-- the kind and the name that were read
+headed : {t : ℕ} (c : check_pair-In-Ok t) → IsHead c.args.bytes.now c.args.at c.args.end c.args.in_array c.args.place c.in-Ok.read.0 c.in-Some.kind c.in-Ok.read.1.now
+headed c = is_head c.args.bytes.now c.args.at c.args.end c.args.in_array c.args.place c.in-Ok.read.0 c.in-Some.kind c.in-Ok.read.1.now (λ i. (c.type_inv.bytes i).fits) c.requires.inside c.requires.whole c.if-byte-eq0.false (sym c.in-Some.ensures) c.in-Ok.ensures.read
+
+pub check_pair-returns-in_err-document-clause-checked : goal.check_pair-returns-in_err-document-clause-checked
+check_pair-returns-in_err-document-clause-checked t c =
     let p = err_from_is_err_and c.from_residual.result c.from_residual.ensures.1 in
-    rw (p.1, p.2) (fault_of c.args.bytes.now c.args.depth c.args.start c.args.at c.args.end _ c.requires.inside c.requires.whole c.in_err-element.ensures.read)
+    let h = headed (goal.at.check_pair-returns-in_err-document-clause-checked t c).In-Ok in
+    rw (p.1, p.2) (fault_of c.args.bytes.now c.args.depth c.args.start c.args.at c.args.end _ c.requires.inside c.requires.whole (value_failed c.args.bytes.now c.args.depth c.args.start c.args.at c.args.end c.args.in_array c.args.place c.in-Ok.read.0 c.in-Some.kind c.in-Ok.read.1.now _ c.requires.inside c.requires.whole h c.in_err-document.ensures.read))
 
--- the element that was passed, and the document in it
-known : (bytes : List ℕ) (depth start at end place : ℕ) (x : Extent) → IsBytes bytes → at < end → end < length bytes → x.next ≤ end → element_extent (element_at depth start at (slice_range bytes at end)) ≡ Ok (x.document, slice_range bytes x.next end) → x.document ≡ Some place → (e : ElementRead) × IsPassed bytes depth start at end (Some place) x.next e × Inside bytes depth at x.next place e
-known bytes depth start at end place x fits lt whole high read is =
-    let e = passed bytes depth start at end (Some place) x.next (read ∙ ap (λ (d : Option ℕ). Ok (d, slice_range bytes x.next end)) is) in
-    (e.0, e.1, inside_of bytes depth start at end x.next place e.0 fits lt whole high e.1)
+-- the element that the code went over
+abbrev Reaches : {t : ℕ} → check_pair-In_ok-document t → Option ℕ → Type 0
+Reaches c document = IsPassed c.args.bytes.now c.args.depth c.args.start c.args.at c.args.end c.args.in_array c.args.place c.in-Ok.read.0 c.in-Some.kind document (c.args.end - length c.in_ok-document.rest.now)
 
-pub pair_end-check-requires : goal.pair_end-check-requires
-pair_end-check-requires t c =
-    let k = known c.args.bytes.now c.args.depth c.args.start c.args.at c.args.end c.in-Some.place c.in_ok-element.element (λ i. (c.type_inv.bytes i).fits) c.requires.inside c.requires.whole c.in_ok-element.ensures.next.1 c.in_ok-element.ensures.read c.in-Some.is in
-    (omega (arith, k.2.0, c.decreases), (omega (arith, k.2.2), (omega (arith, c.in_ok-element.ensures.next.1, c.requires.whole), omega (arith, k.2.0))))
+reached : {t : ℕ} (c : check_pair-In_ok-document t) → Reaches c c.in_ok-document.document
+reached c =
+    let h = is_head c.args.bytes.now c.args.at c.args.end c.args.in_array c.args.place c.in-Ok.read.0 c.in-Some.kind c.in-Ok.read.1.now (λ i. (c.type_inv.bytes i).fits) c.requires.inside c.requires.whole c.if-byte-eq0.false (sym c.in-Some.ensures) c.in-Ok.ensures.read in
+    passed c.args.bytes.now c.args.depth c.args.start c.args.at c.args.end c.args.in_array c.args.place c.in-Ok.read.0 c.in-Some.kind c.in-Ok.read.1.now c.in_ok-document.document c.in_ok-document.rest.now (λ i. (c.type_inv.bytes i).fits) c.requires.inside c.requires.whole h c.in_ok-document.ensures.read
 
-pub pair_end-returns-in_err-check-clause-checked : goal.pair_end-returns-in_err-check-clause-checked
-pair_end-returns-in_err-check-clause-checked t c =
-    let p = err_from_is_err_and c.from_residual-in_err-check.result c.from_residual-in_err-check.ensures.1 in
-    let k = known c.args.bytes.now c.args.depth c.args.start c.args.at c.args.end c.in-Some.place c.in_ok-element.element (λ i. (c.type_inv.bytes i).fits) c.requires.inside c.requires.whole c.in_ok-element.ensures.next.1 c.in_ok-element.ensures.read c.in-Some.is in
-    rw (p.1, p.2) (fault_inside c.args.depth c.args.start c.args.at (slice_range c.args.bytes.now c.args.at c.args.end) k.0 c.in-Some.place k.2.3.0 _ _ k.1.read k.2.3.1 c.in_err-check.ensures.checked)
+-- the same where there is a document in it
+opened : {t : ℕ} (c : check_pair-In_ok-document t) (q : ℕ) → c.in_ok-document.document ≡ Some q → Reaches c (Some q)
+opened c q is = subst (Reaches c) is (reached c)
 
-pub pair_end-returns-in_ok-check-clause-checked : goal.pair_end-returns-in_ok-check-clause-checked
-pair_end-returns-in_ok-check-clause-checked t c =
-    let k = known c.args.bytes.now c.args.depth c.args.start c.args.at c.args.end c.in-Some.place c.in_ok-element.element (λ i. (c.type_inv.bytes i).fits) c.requires.inside c.requires.whole c.in_ok-element.ensures.next.1 c.in_ok-element.ensures.read c.in-Some.is in
-    inner_passed c.args.bytes.now c.args.depth c.args.start c.args.at c.args.end c.in_ok-element.element.next c.in-Some.place k.0 (λ i. (c.type_inv.bytes i).fits) c.requires.inside c.requires.whole c.in_ok-element.ensures.next.1 c.in_ok-element.ensures.next.0 k.1 c.in_ok-check.ensures.checked
+inside : {t : ℕ} (c : check_pair-In_ok-document t) (q : ℕ) (is : c.in_ok-document.document ≡ Some q) → Inside c.args.bytes.now c.args.depth c.args.at (c.args.end - length c.in_ok-document.rest.now) q (opened c q is).element
+inside c q is = inside_of c.args.bytes.now c.args.depth c.args.start c.args.at c.args.end c.args.in_array c.args.place c.in-Ok.read.0 c.in-Some.kind q (c.args.end - length c.in_ok-document.rest.now) (opened c q is) (λ i. (c.type_inv.bytes i).fits) c.requires.inside c.requires.whole
 
-pub pair_end-returns-in_default-clause-checked : goal.pair_end-returns-in_default-clause-checked
-pair_end-returns-in_default-clause-checked t c =
-    let e = passed c.args.bytes.now c.args.depth c.args.start c.args.at c.args.end None c.in_ok-element.element.next (c.in_ok-element.ensures.read ∙ ap (λ (d : Option ℕ). Ok (d, slice_range c.args.bytes.now c.in_ok-element.element.next c.args.end)) c.in_default.is) in
-    leaf_passed c.args.bytes.now c.args.depth c.args.start c.args.at c.args.end c.in_ok-element.element.next e.0 (λ i. (c.type_inv.bytes i).fits) c.requires.inside c.requires.whole c.in_ok-element.ensures.next.1 c.in_ok-element.ensures.next.0 e.1
+-- what is known of the names before its value
+both : {t : ℕ} (c : check_pair-In_ok-document t) → c.if-canonical.canonical ≡ (c.args.canonical && c.in-Ok.read.0)
+both c = elim c.if-canonical.branch [
+  | check_pair-then-canonical w ↦ w.canonical-is ∙ sym (ap (λ (b : Bool). b && c.in-Ok.read.0) w.if-canonical.true)
+  | check_pair-else-canonical w ↦ w.canonical-is ∙ w.if-canonical.false ∙ sym (ap (λ (b : Bool). b && c.in-Ok.read.0) w.if-canonical.false)
+]
+
+pub check_pair-overflow_sub-next : goal.check_pair-overflow_sub-next
+check_pair-overflow_sub-next t c = let x = reached (goal.at.check_pair-overflow_sub-next t c).In_ok-document in omega (arith, x.low)
+
+pub check_pair-overflow_sub-next-in-Some-document : goal.check_pair-overflow_sub-next-in-Some-document
+check_pair-overflow_sub-next-in-Some-document t c = let x = reached (goal.at.check_pair-overflow_sub-next-in-Some-document t c).In_ok-document in omega (arith, x.low)
+
+pub check_pair-check-requires : goal.check_pair-check-requires
+check_pair-check-requires t c =
+    let at = (goal.at.check_pair-check-requires t c).In_ok-document in
+    let x = opened at c.in-Some-document.inner c.in-Some-document.is in
+    let k = inside at c.in-Some-document.inner c.in-Some-document.is in
+    (omega (arith, k.0, c.decreases), (omega (arith, k.2), (omega (arith, x.high, c.requires.whole), omega (arith, k.0))))
+
+pub check_pair-returns-in_err-within-clause-checked : goal.check_pair-returns-in_err-within-clause-checked
+check_pair-returns-in_err-within-clause-checked t c =
+    let p = err_from_is_err_and c.from_residual-in_err-within.result c.from_residual-in_err-within.ensures.1 in
+    let at = (goal.at.check_pair-returns-in_err-within-clause-checked t c).In_ok-document in
+    let x = opened at c.in-Some-document.inner c.in-Some-document.is in
+    let k = inside at c.in-Some-document.inner c.in-Some-document.is in
+    rw (p.1, p.2) (fault_inside c.args.depth c.args.start c.args.at (slice_range c.args.bytes.now c.args.at c.args.end) x.element c.in-Some-document.inner k.3.0 _ _ x.is_read k.3.1 c.in_err-within.ensures.checked)
+
+-- a pair whose value holds a document
+abbrev Leaves : {t : ℕ} → check_pair-In_ok-document t → Bool → Type 0
+Leaves c canonical = Passes c.args.bytes.now c.args.depth c.args.at c.args.end c.args.in_array c.args.place c.args.canonical (c.args.end - length c.in_ok-document.rest.now) canonical
+
+holds : {t : ℕ} (c : check_pair-In_ok-document t) (q : ℕ) (is_array within : Bool) → c.in_ok-document.document ≡ Some q → is_array ≡ is_array_kind c.in-Some.kind
+    → IsTree (c.args.depth + 1) is_array (slice_range c.args.bytes.now (q + 4) (c.args.end - length c.in_ok-document.rest.now - 1)) within → Leaves c (c.if-canonical.canonical && within)
+holds c q is_array within is kind_is tree =
+    inner_passed c.args.bytes.now c.args.depth c.args.start c.args.at c.args.end c.args.in_array c.args.place c.in-Ok.read.0 c.in-Some.kind q (c.args.end - length c.in_ok-document.rest.now) c.args.canonical c.if-canonical.canonical is_array within
+    (opened c q is) (λ i. (c.type_inv.bytes i).fits) c.requires.inside c.requires.whole (both c) kind_is tree
+
+pub check_pair-returns-then-canonical-2-clause-checked : goal.check_pair-returns-then-canonical-2-clause-checked
+check_pair-returns-then-canonical-2-clause-checked t c =
+    let at = (goal.at.check_pair-returns-then-canonical-2-clause-checked t c).In_ok-document in
+    let is_array : Bool = eqb (get_or c.args.bytes.now c.args.at 0) c.byte.result in
+    let kind_is : is_array ≡ is_array_kind c.in-Some.kind = ap (eqb (get_or c.args.bytes.now c.args.at 0)) c.byte.ensures ∙ array_byte (get_or c.args.bytes.now c.args.at 0) c.in-Some.kind (sym c.in-Some.ensures) in
+    subst (Leaves at) (ap (λ (b : Bool). b && c.in_ok-within.within) c.if-canonical-2.true) (holds at c.in-Some-document.inner is_array c.in_ok-within.within c.in-Some-document.is kind_is c.in_ok-within.ensures.checked)
+
+pub check_pair-returns-else-canonical-2-clause-checked : goal.check_pair-returns-else-canonical-2-clause-checked
+check_pair-returns-else-canonical-2-clause-checked t c =
+    let at = (goal.at.check_pair-returns-else-canonical-2-clause-checked t c).In_ok-document in
+    let is_array : Bool = eqb (get_or c.args.bytes.now c.args.at 0) c.byte.result in
+    let kind_is : is_array ≡ is_array_kind c.in-Some.kind = ap (eqb (get_or c.args.bytes.now c.args.at 0)) c.byte.ensures ∙ array_byte (get_or c.args.bytes.now c.args.at 0) c.in-Some.kind (sym c.in-Some.ensures) in
+    subst (Leaves at) (ap (λ (b : Bool). b && c.in_ok-within.within) c.if-canonical-2.false ∙ sym c.if-canonical-2.false) (holds at c.in-Some-document.inner is_array c.in_ok-within.within c.in-Some-document.is kind_is c.in_ok-within.ensures.checked)
+
+pub check_pair-returns-clause-checked : goal.check_pair-returns-clause-checked
+check_pair-returns-clause-checked t c =
+    let at = (goal.at.check_pair-returns-clause-checked t c).In_ok-document in
+    leaf_passed c.args.bytes.now c.args.depth c.args.start c.args.at c.args.end c.args.in_array c.args.place c.in-Ok.read.0 c.in-Some.kind (c.args.end - length c.in_ok-document.rest.now) c.args.canonical c.if-canonical.canonical
+    (subst (Reaches at) c.in_default-document.is (reached at)) (λ i. (c.type_inv.bytes i).fits) c.requires.inside c.requires.whole (both at)

@@ -3,16 +3,33 @@ use Rattle.std.specs.Prelude.{slice_range}
 use Rattle.bson_elem.specs.Tree.{Tree}
 use Rattle.bson_elem.specs.Spelling.{elements}
 use Rattle.bson_elem.specs.Faults.{Before}
+use Rattle.bson_raw.specs.Naming.{is_plain}
+use Rattle.bson_raw.specs.Pairs.{names_of}
 use Rattle.bson_raw.proofs.check.+check.Given as goal
 
 abbrev pub decreases-check : goal.decreases-check
-decreases-check l = 2 * (201 - l.depth) + 1
+decreases-check l = 4 * (201 - l.depth) + 3
 
-abbrev pub decreases-pair_end : goal.decreases-pair_end
-decreases-pair_end l = 2 * (201 - l.depth)
+abbrev pub decreases-check_document : goal.decreases-check_document
+decreases-check_document l = 4 * (201 - l.depth) + 2
 
-abbrev pub invariant-check-loop-at : goal.invariant-check-loop-at
-invariant-check-loop-at l = (l.start + 4 ≤ l.at) × (l.at ≤ l.end) × ((t : Tree) × Before l.depth (slice_range l.bytes (l.start + 4) l.end) t (slice_range l.bytes l.at l.end) × (l.start + 4 + length (elements t) ≡ l.at))
+abbrev pub decreases-check_array : goal.decreases-check_array
+decreases-check_array l = 4 * (201 - l.depth) + 2
 
-abbrev pub decreases-check-loop-at : goal.decreases-check-loop-at
-decreases-check-loop-at l = l.end - l.at
+abbrev pub decreases-check_elements : goal.decreases-check_elements
+decreases-check_elements l = 4 * (201 - l.depth) + 1
+
+abbrev pub decreases-check_pair : goal.decreases-check_pair
+decreases-check_pair l = 4 * (201 - l.depth)
+
+-- whole pairs stand before the place, as many as were counted, and it is known whether their names are canonical
+abbrev pub invariant-check_elements-loop-at : goal.invariant-check_elements-loop-at
+invariant-check_elements-loop-at l =
+    (l.start + 4 ≤ l.at) × (l.at ≤ l.end) × (l.place ≤ l.at) ×
+    ((t : Tree) × Before l.depth (slice_range l.bytes (l.start + 4) l.end) t (slice_range l.bytes l.at l.end)
+    × (l.start + 4 + length (elements t) ≡ l.at)
+    × (length (names_of t) ≡ l.place)
+    × (l.canonical ≡ is_plain l.in_array 0 t))
+
+abbrev pub decreases-check_elements-loop-at : goal.decreases-check_elements-loop-at
+decreases-check_elements-loop-at l = l.end - l.at

@@ -25,7 +25,7 @@ returns-then-not-branch-clause-written g c =
     let text_of = g.E.EachDocument.text_of c.args.each.now in
     let none = no_text (text_of found.1.0) c.in_ok-write_document.field-0 _ _ c.if-not-branch.true (c.in_ok-write_document.ensures.written found.1.0 found.1.1) in (
       i.1.0,
-      too_large text_of c.args.bytes.now c.loop-rest.rest.now i.1.0 c.in-Ok.read.0.bytes.now c.in-Ok.read.1.now c.loop-rest.any found.1.0 found.1.1 found.0 none.0 i.1.2,
+      too_large text_of c.args.bytes.now c.loop-rest.rest.now i.1.0 c.in-Ok.front.document.bytes.now c.in-Ok.front.rest.now c.loop-rest.any found.1.0 found.1.1 found.0 none.0 i.1.2,
       Appends-kept _ _ _ i.1.0 i.1.1 none.1,
     )
 
@@ -35,11 +35,11 @@ loop-rest-preserved g c =
     let found = c.in-Ok.ensures.found in
     let text_of = g.E.EachDocument.text_of c.args.each.now in
     let some = text_there (text_of found.1.0) c.in_ok-write_document.field-0 _ _ c.if-not-branch.false (c.in_ok-write_document.ensures.written found.1.0 found.1.1) in
-    let size : length c.loop-rest.rest.now ≡ length c.in-Ok.read.0.bytes.now + length c.in-Ok.read.1.now = ap length found.0 ∙ length-append c.in-Ok.read.0.bytes.now c.in-Ok.read.1.now in (
+    let size : length c.loop-rest.rest.now ≡ length c.in-Ok.front.document.bytes.now + length c.in-Ok.front.rest.now = ap length found.0 ∙ length-append c.in-Ok.front.document.bytes.now c.in-Ok.front.rest.now in (
       omega (arith, size, i.0),
       (
         i.1.0 ++ some.0,
         Appends-trans _ _ _ i.1.0 some.0 i.1.1 some.2,
-        document_more text_of c.args.bytes.now c.loop-rest.rest.now i.1.0 c.in-Ok.read.0.bytes.now c.in-Ok.read.1.now some.0 c.loop-rest.any found.1.0 i.0 found.1.1 found.0 some.1 i.1.2,
+        document_more text_of c.args.bytes.now c.loop-rest.rest.now i.1.0 c.in-Ok.front.document.bytes.now c.in-Ok.front.rest.now some.0 c.loop-rest.any found.1.0 i.0 found.1.1 found.0 some.1 i.1.2,
       ),
     )
