@@ -42,8 +42,12 @@ fn renumbered_bytes(
     Ok(out)
 }
 
-/// The bytes of the canonical form, if these are no more than the limit.
-pub(crate) fn canonical_bytes(
+/// The bytes of the canonical form, for a caller that takes no more than some number of them.
+///
+/// # Errors
+///
+/// `TooLarge` where the canonical form has more bytes than the limit, and `OutOfMemory`.
+pub fn canonical_bytes(
     alloc: Global,
     document: RawDocument<'_>,
     limit: usize,

@@ -195,6 +195,3 @@ pub fn dump_to<W: Write>(document: RawDocument<'_>, out: &mut W) -> io::Result<(
 {
     replace_with(out, document, document_through)
 }
-
-#[cfg(test)]
-mod tests;

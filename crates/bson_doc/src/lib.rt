@@ -13,16 +13,12 @@
 #![tactic(auto)]
 
 mod append;
-#[cfg(test)]
-mod append_tests;
 pub mod array;
 pub mod bson;
 pub mod buf;
 mod bytes;
 pub mod canon;
 pub mod document;
-#[cfg(test)]
-mod document_tests;
 pub mod dump;
 mod element;
 mod from_raw;
@@ -30,10 +26,6 @@ pub mod iter;
 pub mod laws;
 mod name;
 pub mod refusal;
-#[cfg(test)]
-mod refusal_tests;
-#[cfg(test)]
-mod tests;
 mod text;
 mod text_writer;
 mod to_raw;

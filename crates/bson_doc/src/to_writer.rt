@@ -51,6 +51,3 @@ pub fn hex_to<W: Write>(bytes: &[u8], out: &mut W) -> io::Result<()>
 {
     replace_with(out, bytes, hex_through)
 }
-
-#[cfg(test)]
-mod tests;

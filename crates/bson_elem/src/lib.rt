@@ -11,6 +11,4 @@ pub mod laws;
 mod leaf;
 pub mod number;
 pub mod reread;
-#[cfg(test)]
-mod tests;
 pub mod text;

@@ -11,6 +11,4 @@ mod check;
 pub mod document;
 pub mod iter;
 mod name;
-#[cfg(test)]
-mod tests;
 pub mod value;

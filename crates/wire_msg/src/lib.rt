@@ -22,16 +22,8 @@ pub mod msg;
 mod names;
 pub mod payload;
 pub mod payload_buf;
-#[cfg(test)]
-mod payload_tests;
 pub mod refusal;
-#[cfg(test)]
-mod refusal_tests;
 mod sections;
 mod sequence;
 pub mod sequence_iter;
-#[cfg(test)]
-mod tests;
 pub mod write;
-#[cfg(test)]
-mod write_tests;

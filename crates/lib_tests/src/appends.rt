@@ -1,9 +1,9 @@
 //! Pairs that are added to a document in its bytes (bsonspec.org, version 1.1).
 
-use crate::array::Array;
-use crate::bson::Bson;
-use crate::buf::RawDocumentBuf;
-use crate::refusal::DocRefusal;
+use bson_doc::array::Array;
+use bson_doc::bson::Bson;
+use bson_doc::buf::RawDocumentBuf;
+use bson_doc::refusal::DocRefusal;
 use std::test::Fail;
 
 // A name may repeat. After a refusal the document is what it was.

@@ -1,16 +1,12 @@
 //! What no contract says: that the text is the one that was worked out by hand from the standard and the table of kinds,
 //! that a failed write ends the walk, and that the calls write a document's text.
 
-use super::*;
-use std::alloc::Global;
+use crate::hex_bytes::bytes_of;
+use bson_doc::dump::{dump_elements, dump_to};
+use bson_raw::document::RawDocument;
+use std::io;
+use std::io::Write;
 use std::test::Fail;
-
-/// The bytes of hexadecimal digits. Spaces are passed over.
-fn bytes_of(alloc: Global, digits: &str) -> Result<Vec<u8>, Fail> {
-    let mut packed = Vec::from_slice(alloc, digits.as_bytes())?;
-    packed.retain(|digit| *digit != b' ');
-    Ok(hex::decode(alloc, packed.as_slice())?)
-}
 
 // A document of one element, for each kind; and containers in containers, whose elements follow their line.
 #[test]

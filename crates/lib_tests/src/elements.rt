@@ -3,12 +3,12 @@
 
 ghost use Rattle.std.specs.Prelude.{◌<◌, length};
 
-use crate::element::{Element, read_element};
-use crate::fault::{BsonCause, BsonFault};
-use crate::item::Item;
-use crate::kind::Kind;
-use crate::reread::reread_element;
-use crate::text::{read_cstring, read_string};
+use bson_elem::element::{Element, read_element};
+use bson_elem::fault::{BsonCause, BsonFault};
+use bson_elem::item::Item;
+use bson_elem::kind::Kind;
+use bson_elem::reread::reread_element;
+use bson_elem::text::{read_cstring, read_string};
 use std::test::Fail;
 
 const CAUSES: [BsonCause; 11] = [

@@ -1,15 +1,16 @@
 //! Messages written: rows that were worked out by hand from the manual, limits, want of memory,
 //! and payloads in bytes of their own.
 
-use crate::flags::MsgFlags;
-use crate::msg::RawMsg;
-use crate::payload_buf::PayloadBuf;
-use crate::refusal::MsgRefusal;
-use crate::tests::{INSERT, LIMIT, PING, bytes_of};
-use crate::write::write_msg;
+use crate::hex_bytes::bytes_of;
+use crate::messages::{INSERT, LIMIT, PING};
 use bson_raw::document::RawDocument;
 use std::alloc::Global;
 use std::test::Fail;
+use wire_msg::flags::MsgFlags;
+use wire_msg::msg::RawMsg;
+use wire_msg::payload_buf::PayloadBuf;
+use wire_msg::refusal::MsgRefusal;
+use wire_msg::write::write_msg;
 
 /// `INSERT` with its body first.
 pub(crate) const BODY_FIRST: &str = "45000000 02000000 00000000 dd070000 00000000 \
@@ -38,7 +39,7 @@ fn write_again(out: &mut Vec<u8>, bytes: &[u8], limit: u32) -> Result<(), MsgRef
 }
 
 /// Whether the message of some bytes is written again as other bytes.
-fn is_written_as(alloc: Global, hex: &str, written: &str) -> Result<bool, MsgRefusal> {
+fn is_written_as(alloc: Global, hex: &str, written: &str) -> Result<bool, Fail> {
     let bytes = bytes_of(alloc, hex)?;
     let wanted = bytes_of(alloc, written)?;
     let mut out = Vec::new(alloc);
@@ -51,8 +52,7 @@ fn messages_are_written_canonically(rt: HostRuntime) -> Result<(), Fail> {
     let sections = "00 0500000000";
     let table = [(INSERT, BODY_FIRST), (BODY_FIRST, BODY_FIRST), (PING, PING)];
     for (hex, written) in table {
-        let same = is_written_as(rt.alloc(), hex, written).expect(&rt, "a message");
-        assert!(rt; same, "{hex}");
+        assert!(rt; is_written_as(rt.alloc(), hex, written)?, "{hex}");
     }
     let words = [
         ("00000000", "00000000"),
@@ -67,8 +67,10 @@ fn messages_are_written_canonically(rt: HostRuntime) -> Result<(), Fail> {
         let head = "1a000000 ffffffff feffffff dd070000";
         let hex = format!(in rt.alloc(); "{head} {word} {sections}")?;
         let wanted = format!(in rt.alloc(); "{head} {written} {sections}")?;
-        let same = is_written_as(rt.alloc(), hex.as_str(), wanted.as_str());
-        assert!(rt; same.expect(&rt, "a message"), "{word}");
+        assert!(rt;
+            is_written_as(rt.alloc(), hex.as_str(), wanted.as_str())?,
+            "{word}"
+        );
     }
     Ok(())
 }

@@ -3,40 +3,17 @@
 
 ghost use Rattle.std.specs.Prelude.{◌≤◌};
 
-use crate::buf::{MAX_LEN, RawDocumentBuf};
-use crate::canon::{canonical_bytes, is_canonical, to_canonical};
-use crate::refusal::DocRefusal;
+use crate::hex_bytes::bytes_of;
+use bson_doc::buf::{MAX_LEN, RawDocumentBuf};
+use bson_doc::canon::{canonical_bytes, is_canonical, to_canonical};
+use bson_doc::refusal::DocRefusal;
 use bson_raw::document::RawDocument;
-use std::alloc::{AllocError, Global};
+use std::alloc::Global;
 use std::test::Fail;
-
-fn nibble(digit: u8) -> Option<u8> {
-    match digit {
-        b'0'..=b'9' => Some(digit - b'0'),
-        b'a'..=b'f' => Some(digit - b'a' + 10),
-        _ => None,
-    }
-}
-
-/// The bytes of a text of hexadecimal digits. Spaces are passed over.
-fn bytes_of(alloc: Global, hex: &str) -> Result<Vec<u8>, AllocError> {
-    let mut bytes = Vec::new(alloc);
-    let mut high = None;
-    for digit in hex.bytes().filter_map(nibble) {
-        match high {
-            None => high = Some(digit),
-            Some(h) => {
-                bytes.push(digit.wrapping_add(16u8.wrapping_mul(h)))?;
-                high = None;
-            }
-        }
-    }
-    Ok(bytes)
-}
 
 /// Whether the canonical form of the first document is the second one, whose own canonical form is itself. It also
 /// holds that the first one is canonical just where it is the second one.
-fn has_form(alloc: Global, hex: &str, canonical: &str) -> Result<bool, DocRefusal> {
+fn has_form(alloc: Global, hex: &str, canonical: &str) -> Result<bool, Fail> {
     let bytes = bytes_of(alloc, hex)?;
     let wanted = bytes_of(alloc, canonical)?;
     let Ok(document) = RawDocument::from_bytes(&bytes) else {
@@ -143,11 +120,10 @@ fn canonical_forms(rt: HostRuntime) -> Result<(), Fail> {
 }
 
 /// How many bytes the canonical form of the document has, or why it isn't made under this limit.
-fn len_within(alloc: Global, hex: &str, limit: usize) -> Result<Option<usize>, DocRefusal>
+fn len_within(alloc: Global, bytes: &[u8], limit: usize) -> Result<Option<usize>, DocRefusal>
     requires { limit ≤ MAX_LEN }
 {
-    let bytes = bytes_of(alloc, hex)?;
-    match RawDocument::from_bytes(&bytes) {
+    match RawDocument::from_bytes(bytes) {
         Ok(document) => Ok(Some(canonical_bytes(alloc, document, limit)?.len())),
         Err(_) => Ok(None),
     }
@@ -157,15 +133,16 @@ fn len_within(alloc: Global, hex: &str, limit: usize) -> Result<Option<usize>, D
 fn no_more_bytes_than_the_limit(rt: HostRuntime) {
     let alloc = rt.alloc();
     // An array of two values, both named "", whose canonical form is two bytes longer.
-    let named = "12000000 04 6100 0a000000 0a 00 08 00 01 00 00";
+    let named = b"\x12\0\0\0\x04a\0\x0a\0\0\0\x0a\0\x08\0\x01\0\0";
     assert!(&rt; len_within(alloc, named, 20) == Ok(Some(20)));
     assert!(&rt; len_within(alloc, named, 19) == Err(DocRefusal::TooLarge));
     assert!(&rt; len_within(alloc, named, 0) == Err(DocRefusal::TooLarge));
     // A canonical document.
-    assert!(&rt; len_within(alloc, "0500000000", 5) == Ok(Some(5)));
-    assert!(&rt; len_within(alloc, "0500000000", 4) == Err(DocRefusal::TooLarge));
+    let empty = b"\x05\0\0\0\0";
+    assert!(&rt; len_within(alloc, empty, 5) == Ok(Some(5)));
+    assert!(&rt; len_within(alloc, empty, 4) == Err(DocRefusal::TooLarge));
     // An array in a scope.
-    let scope = "21000000 0f 6300 19000000 02000000 7800 0f000000 04 6100 07000000 0a 00 00 00 00";
+    let scope = b"\x21\0\0\0\x0fc\0\x19\0\0\0\x02\0\0\0x\0\x0f\0\0\0\x04a\0\x07\0\0\0\x0a\0\0\0\0";
     assert!(&rt; len_within(alloc, scope, 34) == Ok(Some(34)));
     assert!(&rt; len_within(alloc, scope, 33) == Err(DocRefusal::TooLarge));
     assert!(&rt; len_within(alloc, scope, 20) == Err(DocRefusal::TooLarge));

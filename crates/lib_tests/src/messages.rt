@@ -1,13 +1,14 @@
 //! What no contract says: that faults display as their fault lines, and that the contracts mean the
 //! manual, by rows that were worked out by hand from it.
 
-use crate::fault::{MsgCause, MsgFault};
-use crate::header::MsgHeader;
-use crate::msg::RawMsg;
+use crate::hex_bytes::bytes_of;
 use bson_elem::fault::{BsonCause, BsonFault};
 use bson_raw::value::RawBson;
-use std::alloc::{AllocError, Global};
+use std::alloc::Global;
 use std::test::Fail;
+use wire_msg::fault::{MsgCause, MsgFault};
+use wire_msg::header::MsgHeader;
+use wire_msg::msg::RawMsg;
 
 /// The greatest limit of a connection.
 pub(crate) const LIMIT: u32 = 48_000_000;
@@ -20,30 +21,6 @@ pub(crate) const PING: &str = "33000000 01000000 00000000 dd070000 00000000 \
 pub(crate) const INSERT: &str = "45000000 02000000 00000000 dd070000 00000000 \
     01 1c000000 646f63756d656e747300 0e000000 105f69640001000000 00 \
     00 13000000 02696e73657274000200000063 00 00";
-
-fn nibble(digit: u8) -> Option<u8> {
-    match digit {
-        b'0'..=b'9' => Some(digit - b'0'),
-        b'a'..=b'f' => Some(digit - b'a' + 10),
-        _ => None,
-    }
-}
-
-/// The bytes of a text of hexadecimal digits. Spaces are passed over.
-pub(crate) fn bytes_of(alloc: Global, hex: &str) -> Result<Vec<u8>, AllocError> {
-    let mut bytes = Vec::new(alloc);
-    let mut high = None;
-    for digit in hex.bytes().filter_map(nibble) {
-        match high {
-            None => high = Some(digit),
-            Some(h) => {
-                bytes.push(digit.wrapping_add(16u8.wrapping_mul(h)))?;
-                high = None;
-            }
-        }
-    }
-    Ok(bytes)
-}
 
 /// The fault line of some bytes, or `good`.
 fn line_of(alloc: Global, hex: &str) -> Result<String, Fail> {

@@ -1,15 +1,16 @@
 //! Payloads that sequences and documents are added to, with rows that were worked out by hand from
 //! the manual.
 
-use crate::flags::MsgFlags;
-use crate::msg::RawMsg;
-use crate::payload_buf::PayloadBuf;
-use crate::refusal::MsgRefusal;
-use crate::tests::{LIMIT, bytes_of};
-use crate::write::write_msg;
-use crate::write_tests::BODY_FIRST;
+use crate::hex_bytes::bytes_of;
+use crate::messages::LIMIT;
+use crate::written_messages::BODY_FIRST;
 use bson_raw::document::RawDocument;
 use std::test::Fail;
+use wire_msg::flags::MsgFlags;
+use wire_msg::msg::RawMsg;
+use wire_msg::payload_buf::PayloadBuf;
+use wire_msg::refusal::MsgRefusal;
+use wire_msg::write::write_msg;
 
 const NO_FLAGS: MsgFlags = MsgFlags {
     more: false,

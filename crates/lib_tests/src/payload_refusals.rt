@@ -2,12 +2,12 @@
 //! allocations refused in turn. What a test makes for itself may be refused, too, and then there is
 //! nothing to see.
 
-use crate::flags::MsgFlags;
-use crate::payload_buf::PayloadBuf;
-use crate::refusal::MsgRefusal;
-use crate::write::write_msg;
 use bson_raw::document::RawDocument;
 use std::alloc::Global;
+use wire_msg::flags::MsgFlags;
+use wire_msg::payload_buf::PayloadBuf;
+use wire_msg::refusal::MsgRefusal;
+use wire_msg::write::write_msg;
 
 /// `{"insert": "c"}`
 const BODY: &[u8] = b"\x13\0\0\0\x02insert\0\x02\0\0\0c\0\0";

@@ -1,6 +1,8 @@
 //! What no contract says: the worked texts, and how a text reaches its writer, whole or cut short.
 
-use super::*;
+use bson_doc::to_writer::{hex_to, quoted_to};
+use std::io;
+use std::io::Write;
 use std::test::Fail;
 
 #[test]

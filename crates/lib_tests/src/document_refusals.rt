@@ -1,11 +1,11 @@
 //! What stands after a refused allocation. `./try-refusals` runs these tests with each of their allocations refused in
 //! turn. What a test makes for itself may be refused, too, and then there is nothing to see.
 
-use crate::bson::Bson;
-use crate::buf::RawDocumentBuf;
-use crate::canon::to_canonical;
-use crate::document::Document;
-use crate::refusal::DocRefusal;
+use bson_doc::bson::Bson;
+use bson_doc::buf::RawDocumentBuf;
+use bson_doc::canon::to_canonical;
+use bson_doc::document::Document;
+use bson_doc::refusal::DocRefusal;
 use bson_raw::document::RawDocument;
 use std::alloc::Global;
 

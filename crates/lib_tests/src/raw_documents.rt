@@ -2,41 +2,18 @@
 
 ghost use Rattle.std.specs.Prelude.{◌≤◌};
 
-use crate::document::RawDocument;
-use crate::value::RawBson;
+use crate::hex_bytes::bytes_of;
 use bson_elem::fault::BsonCause;
 use bson_elem::kind::Kind;
-use std::alloc::{AllocError, Global};
+use bson_raw::document::RawDocument;
+use bson_raw::value::RawBson;
+use std::alloc::Global;
 use std::test::Fail;
 
 const ID: [u8; 12] = [0, 1, 2, 3, 4, 5, 6, 7, 8, 9, 10, 11];
 
-fn nibble(digit: u8) -> Option<u8> {
-    match digit {
-        b'0'..=b'9' => Some(digit - b'0'),
-        b'a'..=b'f' => Some(digit - b'a' + 10),
-        _ => None,
-    }
-}
-
-/// The bytes of a text of hexadecimal digits. Spaces are passed over.
-fn bytes_of(alloc: Global, hex: &str) -> Result<Vec<u8>, AllocError> {
-    let mut bytes = Vec::new(alloc);
-    let mut high = None;
-    for digit in hex.bytes().filter_map(nibble) {
-        match high {
-            None => high = Some(digit),
-            Some(h) => {
-                bytes.push(digit.wrapping_add(16u8.wrapping_mul(h)))?;
-                high = None;
-            }
-        }
-    }
-    Ok(bytes)
-}
-
 /// Whether both calls take the bytes as a document whose first value, named "v", is this one.
-fn is_seen(alloc: Global, hex: &str, value: RawBson<'_>) -> Result<bool, AllocError> {
+fn is_seen(alloc: Global, hex: &str, value: RawBson<'_>) -> Result<bool, Fail> {
     let bytes = bytes_of(alloc, hex)?;
     let whole = match RawDocument::from_bytes(&bytes) {
         Ok(document) => document.as_bytes() == bytes.as_slice() && document.get("v") == Some(value),
@@ -129,7 +106,7 @@ fn values(rt: HostRuntime) -> Result<(), Fail> {
 }
 
 /// Whether the bytes are refused at this place for this cause, by both calls.
-fn is_refused(alloc: Global, hex: &str, cause: BsonCause, at: usize) -> Result<bool, AllocError> {
+fn is_refused(alloc: Global, hex: &str, cause: BsonCause, at: usize) -> Result<bool, Fail> {
     let bytes = bytes_of(alloc, hex)?;
     let whole = match RawDocument::from_bytes(&bytes) {
         Ok(_) => false,

@@ -1,41 +1,18 @@
 //! Owned documents by their bytes (bsonspec.org, version 1.1), and that calls succeed where memory is there.
 
-use crate::array::Array;
-use crate::bson::Bson;
-use crate::document::Document;
-use crate::laws::round_trip;
-use crate::refusal::DocRefusal;
+use crate::hex_bytes::bytes_of;
+use bson_doc::array::Array;
+use bson_doc::bson::Bson;
+use bson_doc::document::Document;
+use bson_doc::laws::round_trip;
+use bson_doc::refusal::DocRefusal;
 use bson_elem::kind::Kind;
 use bson_raw::document::RawDocument;
 use std::alloc::{AllocError, Global};
 use std::test::Fail;
 
-fn nibble(digit: u8) -> Option<u8> {
-    match digit {
-        b'0'..=b'9' => Some(digit - b'0'),
-        b'a'..=b'f' => Some(digit - b'a' + 10),
-        _ => None,
-    }
-}
-
-/// The bytes of a text of hexadecimal digits. Spaces are passed over.
-fn bytes_of(alloc: Global, hex: &str) -> Result<Vec<u8>, AllocError> {
-    let mut bytes = Vec::new(alloc);
-    let mut high = None;
-    for digit in hex.bytes().filter_map(nibble) {
-        match high {
-            None => high = Some(digit),
-            Some(h) => {
-                bytes.push(digit.wrapping_add(16u8.wrapping_mul(h)))?;
-                high = None;
-            }
-        }
-    }
-    Ok(bytes)
-}
-
 /// Whether the document is read, and it and a copy of it are written as the other bytes.
-fn is_written_as(alloc: Global, hex: &str, written: &str) -> Result<bool, DocRefusal> {
+fn is_written_as(alloc: Global, hex: &str, written: &str) -> Result<bool, Fail> {
     let bytes = bytes_of(alloc, hex)?;
     let wanted = bytes_of(alloc, written)?;
     let Ok(raw) = RawDocument::from_bytes(&bytes) else {
@@ -90,7 +67,7 @@ fn arrays_are_written_with_their_places(rt: HostRuntime) -> Result<(), Fail> {
 }
 
 /// What `from_raw` refuses the document with, if it does.
-fn refusal_of(alloc: Global, hex: &str) -> Result<Option<DocRefusal>, AllocError> {
+fn refusal_of(alloc: Global, hex: &str) -> Result<Option<DocRefusal>, Fail> {
     let bytes = bytes_of(alloc, hex)?;
     let Ok(raw) = RawDocument::from_bytes(&bytes) else {
         return Ok(None);
@@ -227,20 +204,36 @@ fn a_document_is_read_back(rt: HostRuntime) -> Result<(), Fail> {
     Ok(())
 }
 
+/// The document with one more pair.
+fn and_pair(
+    alloc: Global,
+    mut document: Document,
+    name: &str,
+    value: Bson,
+) -> Result<Document, DocRefusal> {
+    document.insert(String::from_str(alloc, name)?, value)?;
+    Ok(document)
+}
+
+/// A document whose values are made out of those of Rust.
+fn made(alloc: Global) -> Result<Document, DocRefusal> {
+    let inner = one_pair(alloc, "", Bson::from(7i32))?;
+    let document = one_pair(alloc, "a", Bson::from(inner))?;
+    let document = and_pair(alloc, document, "b", Bson::from(true))?;
+    let document = and_pair(alloc, document, "c", Bson::from(7i64))?;
+    let document = and_pair(
+        alloc,
+        document,
+        "d",
+        Bson::from(String::from_str(alloc, "x")?),
+    )?;
+    let array = Array::from_vec(Vec::new(alloc));
+    and_pair(alloc, document, "e", Bson::from(array))
+}
+
 #[test]
 fn values_are_made_and_listed(rt: HostRuntime) -> Result<(), Fail> {
-    let alloc = rt.alloc();
-    let mut document = one_pair(
-        alloc,
-        "a",
-        Bson::from(one_pair(alloc, "", Bson::from(7i32))?),
-    )?;
-    document.insert(String::from_str(alloc, "b")?, Bson::from(true))?;
-    document.insert(String::from_str(alloc, "c")?, Bson::from(7i64))?;
-    let text = String::from_str(alloc, "x")?;
-    document.insert(String::from_str(alloc, "d")?, Bson::from(text))?;
-    let array = Array::from_vec(Vec::new(alloc));
-    document.insert(String::from_str(alloc, "e")?, Bson::from(array))?;
+    let document = made(rt.alloc())?;
     let kinds = [
         Kind::Document,
         Kind::Boolean,
