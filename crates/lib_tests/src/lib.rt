@@ -14,8 +14,7 @@ mod documents;
 mod dumps;
 #[cfg(test)]
 mod elements;
-#[cfg(test)]
-mod hex_bytes;
+pub mod hex_bytes;
 #[cfg(test)]
 mod messages;
 #[cfg(test)]
