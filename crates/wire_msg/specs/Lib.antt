@@ -13,5 +13,6 @@ pub mod Documents
 pub mod Sequences
 pub mod RawMsg
 pub mod Standing
+pub mod Split
 pub mod Writing
 pub mod Buf
