@@ -1,5 +1,0 @@
-use Rattle.bson_c.proofs.OneReading.{one_messages_check}
-use Rattle.bson_c.proofs.laws.one_messages_check.Goals as goal
-
-pub returns : goal.returns
-returns c = one_messages_check
