@@ -9,7 +9,7 @@ use Rattle.wire_msg.specs.declared.fault.MsgFault.{MsgFault}
 use Rattle.wire_msg.specs.Header.{number_at}
 use Rattle.wire_msg.specs.Message.{Content, Message, IsContent}
 use Rattle.wire_msg.specs.Spelling.{body_section, sequences_bytes, sections_bytes, FlagsAre, SpellsMsg, IsMessage}
-use Rattle.wire_msg.specs.Faults.{names_fault, flags_fault, of_names, IsFramedMsg, FaultMsg, of_parts, of_sections}
+use Rattle.wire_msg.specs.Faults.{names_fault, flags_fault, of_names, IsFramedMsg, PartsFault, of_sections}
 use Rattle.wire_msg.specs.Checks.{HasSequences, IsSplit}
 use Rattle.wire_msg.proofs.DocumentLaws.{is_document}
 use Rattle.wire_msg.proofs.SequenceLaws.{AreSequences-append}
@@ -20,8 +20,8 @@ use Rattle.wire_msg.proofs.FrameLaws.{framed_parts, number_fits}
 pub short_msg : (limit : ℕ) (bytes : List ℕ) → limit ≤ 48000000 → IsFramedMsg limit bytes → length bytes < 2 ^ 31
 short_msg limit bytes le framed = omega (arith, framed.whole, framed.good.most)
 
-pub msg_found : (limit : ℕ) (bytes : List ℕ) (more allows : Bool) (at next : ℕ) (d : List ℕ) → IsBytes bytes → limit ≤ 48000000 → IsFramedMsg limit bytes → 20 ≤ length bytes → FlagsAre (number_at bytes 16) more allows → (s : IsSplit bytes at d next) → names_fault s.before s.body s.after ≡ None → IsMessage limit bytes
-msg_found limit bytes more allows at next d fits le framed room flags s names =
+pub msg_found : (limit : ℕ) (bytes : List ℕ) (more allows : Bool) (at next : ℕ) (d : List ℕ) → IsBytes bytes → length bytes < 2 ^ 31 → IsFramedMsg limit bytes → 20 ≤ length bytes → FlagsAre (number_at bytes 16) more allows → (s : IsSplit bytes at d next) → names_fault s.before s.body s.after ≡ None → IsMessage limit bytes
+msg_found limit bytes more allows at next d fits short framed room flags s names =
     let n = no_names_fault s.before s.body s.after names in
     let c : Content = record { body = s.body; sequences = s.before ++ s.after } in
     let m : Message = record { id = cast_signed w32 (number_at bytes 4); response_to = cast_signed w32 (number_at bytes 8); more = more; allows = allows; content = c } in
@@ -33,7 +33,7 @@ msg_found limit bytes more allows at next d fits le framed room flags s names =
       before = s.before;
       after = s.after;
       parts = framed_parts limit bytes (sections_bytes s.before s.body s.after) fits framed room s.parts;
-      short = short_msg limit bytes le framed;
+      short = short;
       id = sfits_to_z id_fits;
       response_to = sfits_to_z to_fits;
       flags = flags;
@@ -68,5 +68,5 @@ pub decided : {A B : Type 0} (r : Result A B) (P : Type 0) (Q : B → Type 0) (G
 decided (Ok x) P Q G F good bad m = good m
 decided (Err f) P Q G F good bad m = bad f m
 
-pub names_fail : (limit : ℕ) (bytes : List ℕ) (at next : ℕ) (d : List ℕ) (f : MsgFault) → IsFramedMsg limit bytes → 20 ≤ length bytes → flags_fault (number_at bytes 16) ≡ None → (s : IsSplit bytes at d next) → names_fault s.before s.body s.after ≡ Some f → FaultMsg bytes limit f
-names_fail limit bytes at next d f framed room flags s names = of_parts framed (of_sections room flags (of_names s.before s.body s.after s.parts s.before_fit (is_document s.body d s.spelled) s.after_fit names))
+pub names_fail : (bytes : List ℕ) (at next : ℕ) (d : List ℕ) (f : MsgFault) → 20 ≤ length bytes → flags_fault (number_at bytes 16) ≡ None → (s : IsSplit bytes at d next) → names_fault s.before s.body s.after ≡ Some f → PartsFault bytes f
+names_fail bytes at next d f room flags s names = of_sections room flags (of_names s.before s.body s.after s.parts s.before_fit (is_document s.body d s.spelled) s.after_fit names)

@@ -1,12 +1,12 @@
 //! A message that is lent out of its bytes (MongoDB Wire Protocol manual: OP_MSG).
 
-ghost use Rattle.std.specs.Prelude.{◌≡◌, ◌+◌, ◌≤◌, length, MatchResult, IfOk, IfErr, IsOk, IsErrOf};
+ghost use Rattle.std.specs.Prelude.{◌≡◌, ◌+◌, ◌<◌, ◌≤◌, ◌^◌, ℕ, length, MatchResult, IfOk, IfErr, IsOk, IsErrOf};
 ghost use Rattle.bson_elem.specs.Spelling.{document, elements};
 ghost use Rattle.wire_msg.specs.declared.fault.MsgFault.{MsgFault};
 ghost use Rattle.wire_msg.specs.Header.{header_of};
 ghost use Rattle.wire_msg.specs.Message.{Message};
 ghost use Rattle.wire_msg.specs.Spelling.{IsMessage, IsSpelledMsg, sequences_bytes, SpellsMsg};
-ghost use Rattle.wire_msg.specs.Faults.{FaultMsg, IsFramedMsg};
+ghost use Rattle.wire_msg.specs.Faults.{FaultMsg, IsFramedMsg, PartsFault};
 
 use crate::fault::{MsgCause, MsgFault};
 use crate::flags::MsgFlags;
@@ -37,6 +37,21 @@ fn check_framed(bytes: &[u8], limit: u32) -> Result<(), MsgFault>
     Ok(())
 }
 
+/// Checks the flags and the sections of bytes whose header is good and announces as many bytes.
+pub(crate) fn check_parts(bytes: &[u8]) -> Result<(), MsgFault>
+    requires { length bytes.now < 2 ^ 31 }
+    ensures { MatchResult result
+        (λ _. (limit : ℕ) → IsFramedMsg limit bytes.now → IsMessage limit bytes.now)
+        (λ f. PartsFault bytes.now f) }
+{
+    if bytes.len() < SECTIONS {
+        return Err(fault_at(16, MsgCause::Truncated));
+    }
+    MsgFlags::read(little_u32(&bytes[16..20]))?;
+    let (at, body, next) = split_sections(bytes)?;
+    check_names(&bytes[SECTIONS..at], body, &bytes[next..])
+}
+
 /// Checks a whole message.
 fn check_message(bytes: &[u8], limit: u32) -> Result<(), MsgFault>
     requires { limit ≤ 48_000_000 }
@@ -45,12 +60,7 @@ fn check_message(bytes: &[u8], limit: u32) -> Result<(), MsgFault>
         (λ f. FaultMsg bytes.now limit f) }
 {
     check_framed(bytes, limit)?;
-    if bytes.len() < SECTIONS {
-        return Err(fault_at(16, MsgCause::Truncated));
-    }
-    MsgFlags::read(little_u32(&bytes[16..20]))?;
-    let (at, body, next) = split_sections(bytes)?;
-    check_names(&bytes[SECTIONS..at], body, &bytes[next..])
+    check_parts(bytes)
 }
 
 /// The place of the body's kind byte, in a message.
