@@ -1,6 +1,7 @@
 pub mod Naming
 pub mod Checks
 pub mod Spelled
+pub mod Split
 pub mod Pairs
 pub mod Left
 pub mod Held
