@@ -13,8 +13,9 @@ use Rattle.bson_elem.specs.declared.fault.BsonCause.TheVariants as causes
 use Rattle.bson_elem.specs.declared.fault.BsonFault.{BsonFault}
 use Rattle.bson_elem.specs.Kinds.{byte_of, all_kinds, kind_among, kind_of, Form, raw_form, boolean_form, int32_form, int64_form, timestamp_form, string_form, pointer_form, binary_form, regex_form, document_form, scope_form, form_of}
 use Rattle.bson_elem.specs.Tree.{Leaf, Beside, no_code, with_code}
-use Rattle.bson_elem.specs.Spelling.{IsBytes, leaf_bytes, little, cstring, string, document, inner_bytes, IsName, IsOfForm, StandsIn}
+use Rattle.bson_elem.specs.Spelling.{IsBytes, leaf_bytes, little, cstring, string, document, inner_bytes, IsOfForm, StandsIn}
 use Rattle.bson_elem.specs.Checks.{◌>>=◌, length_at, text_at, cstring_at, leaf_at, fault, at_place, document_at, Value, a_leaf, opens, scope_at, value_at, ElementRead, kinded_at, element_at}
+pub use Rattle.bson_elem.specs.Elements.{value_bytes, ValueFits, place_of, IsPlaced, element_bytes, IsElement}
 use Rattle.bson_elem.proofs.FieldLaws.{IsBytes-drop, IsBytes-take, bind_ok, guard_else, guard_then, ok_is, Takes, Takes-then, length_takes, length_again, text_takes, past_one, parts_of, cstring_takes, cstring_again}
 use Rattle.bson_elem.proofs.ElementLaws.{leaf_takes, leaf_again}
 
@@ -85,24 +86,6 @@ document_again p q body rest short =
     ∙ document_front p q (little (length body + 5)) body rest refl (from_le_bytes-to_le_bytes_4 (length body + 5) (omega (arith, short))) short
 
 -- ---- the code and the scope
-
--- What a value's part is spelled as, in this form, and what it meets in a container of this depth.
-abbrev pub value_bytes : Form → Value → List ℕ
-value_bytes form (a_leaf v) = leaf_bytes form v
-value_bytes form (opens q b body) = inner_bytes b body
-
-abbrev pub ValueFits : ℕ → Form → Value → Type 0
-ValueFits depth form (a_leaf v) = IsOfForm form v
-ValueFits depth form (opens q b body) = StandsIn form b × (depth < 200) × (length (inner_bytes b body) < 2 ^ 31)
-
--- where the document begins in a value that begins at q
-abbrev pub place_of : ℕ → Beside → ℕ
-place_of q no_code = q
-place_of q (with_code words) = q + 8 + (length words + 1)
-
-abbrev pub IsPlaced : ℕ → Value → Type 0
-IsPlaced q (a_leaf v) = Unit {0}
-IsPlaced q (opens place b body) = place ≡ place_of q b
 
 pub length-document : (body : List ℕ) → length (document body) ≡ length body + 5
 length-document body = omega (arith, length-append (little (length body + 5)) (body ++ 0 ∷ []), length-append body (0 ∷ []))
@@ -240,16 +223,6 @@ kind_here j k b o false is f later = later f
 pub kind_is : (ks : List Kind) (b : ℕ) (k : Kind) → kind_among ks b ≡ Some k → b ≡ byte_of k
 kind_is [] b k e = absurd cc
 kind_is (j ∷ ks) b k e = kind_here j k b (kind_among ks b) (eqb b (byte_of j)) refl e (kind_is ks b k)
-
--- The spelling of an element.
-abbrev pub element_bytes : ElementRead → List ℕ
-element_bytes e = byte_of e.kind ∷ (cstring e.name ++ value_bytes (form_of e.kind) e.value)
-
--- What an element meets at the place p in a container of this depth.
-pub record IsElement (depth p : ℕ) (e : ElementRead) : Type 0 where
-  pub name : IsName e.name
-  pub part : ValueFits depth (form_of e.kind) e.value
-  pub place : IsPlaced (p + length e.name + 2) e.value
 
 abbrev pub made : List ℕ → Kind → Value → List ℕ → ElementRead
 made name k part rest = record { name = name; kind = k; value = part; rest = rest }

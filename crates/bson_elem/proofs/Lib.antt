@@ -1,3 +1,4 @@
+pub mod Lemmas
 pub mod FieldLaws
 pub mod ElementLaws
 pub mod ContainerLaws

@@ -3,6 +3,7 @@ pub mod Kinds
 pub mod Tree
 pub mod Spelling
 pub mod Checks
+pub mod Elements
 pub mod Faults
 pub mod Results
 pub mod Documents

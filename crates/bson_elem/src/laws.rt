@@ -1,10 +1,12 @@
 //! The laws that make the definitions of trees, spellings and faults trustworthy. The contract of each function is the
 //! law; the function does nothing.
 
-ghost use Rattle.std.specs.Prelude.{◌≡◌, ◌++◌, [], ℕ, List};
+ghost use Rattle.std.specs.Prelude.{◌≡◌, ◌++◌, [], ℕ, List, Ok};
 ghost use Rattle.bson_elem.specs.declared.fault.BsonFault.{BsonFault};
 ghost use Rattle.bson_elem.specs.Tree.{Tree};
 ghost use Rattle.bson_elem.specs.Spelling.{IsBytes, Spells};
+ghost use Rattle.bson_elem.specs.Checks.{ElementRead, element_at};
+ghost use Rattle.bson_elem.specs.Elements.{element_bytes, IsElement};
 ghost use Rattle.bson_elem.specs.Faults.{FrontFault};
 
 /// A byte list spells at most one tree.
@@ -32,4 +34,16 @@ pub fn one_fault()
 pub fn no_fault_before_a_tree()
     ensures { (t : Tree) (a rest : List ℕ) (f : BsonFault) → IsBytes (a ++ rest)
         → Spells t a → FrontFault (a ++ rest) f → ⊥ }
+{}
+
+/// What is read as an element was spelled so, and is one that has a spelling.
+pub fn element_read_was_spelled()
+    ensures { (depth s p : ℕ) (bytes : List ℕ) (e : ElementRead) → IsBytes bytes → element_at depth s p bytes ≡ Ok e
+        → (bytes ≡ element_bytes e ++ e.rest) × IsElement depth p e }
+{}
+
+/// What is spelled as an element is read as that one, whatever follows it.
+pub fn element_spelled_is_read()
+    ensures { (depth s p : ℕ) (e : ElementRead) → IsElement depth p e
+        → element_at depth s p (element_bytes e ++ e.rest) ≡ Ok e }
 {}

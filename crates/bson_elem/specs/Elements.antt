@@ -1,0 +1,36 @@
+-- An element that was read, as a pair that has a spelling (bsonspec.org, version 1.1: `element`).
+use Rattle.std.specs.Prelude.{◌≡◌, ℕ, ◌+◌, ◌^◌, ◌<◌, List, ◌∷◌, ◌++◌, length}
+use Rattle.bson_elem.specs.Kinds.{byte_of, Form, form_of}
+use Rattle.bson_elem.specs.Tree.{Beside, no_code, with_code}
+use Rattle.bson_elem.specs.Spelling.{cstring, leaf_bytes, inner_bytes, IsName, IsOfForm, StandsIn}
+use Rattle.bson_elem.specs.Checks.{Value, a_leaf, opens, ElementRead}
+
+-- the bytes of a value of this form
+abbrev pub value_bytes : Form → Value → List ℕ
+value_bytes form (a_leaf v) = leaf_bytes form v
+value_bytes form (opens q b body) = inner_bytes b body
+
+-- the value is one of this form, in a container of this depth
+abbrev pub ValueFits : ℕ → Form → Value → Type 0
+ValueFits depth form (a_leaf v) = IsOfForm form v
+ValueFits depth form (opens q b body) = StandsIn form b × (depth < 200) × (length (inner_bytes b body) < 2 ^ 31)
+
+-- the offset of the document in a value at offset q
+abbrev pub place_of : ℕ → Beside → ℕ
+place_of q no_code = q
+place_of q (with_code words) = q + 8 + (length words + 1)
+
+-- the document in a value at offset q, if the value holds one, is told at its own offset
+abbrev pub IsPlaced : ℕ → Value → Type 0
+IsPlaced q (a_leaf v) = Unit {0}
+IsPlaced q (opens place b body) = place ≡ place_of q b
+
+-- the bytes of an element: the kind's byte, the name, and the value
+abbrev pub element_bytes : ElementRead → List ℕ
+element_bytes e = byte_of e.kind ∷ (cstring e.name ++ value_bytes (form_of e.kind) e.value)
+
+-- The element, at offset p in a container of this depth, is one that has a spelling.
+pub record IsElement (depth p : ℕ) (e : ElementRead) : Type 0 where
+  pub name : IsName e.name
+  pub part : ValueFits depth (form_of e.kind) e.value
+  pub place : IsPlaced (p + length e.name + 2) e.value
