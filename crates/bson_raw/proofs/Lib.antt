@@ -8,3 +8,5 @@ pub mod DigitLaws
 pub mod Values
 pub mod CountLaws
 pub mod PairLaws
+pub mod Splits
+pub mod Lemmas

@@ -10,5 +10,6 @@ pub mod array;
 mod check;
 pub mod document;
 pub mod iter;
+pub mod laws;
 mod name;
 pub mod value;

@@ -1,0 +1,30 @@
+//! The laws of documents back to back. The contract of each function is the law.
+
+ghost use Rattle.std.specs.Prelude.{◌≡◌, ℕ, List};
+ghost use Rattle.bson_elem.specs.Tree.{Tree};
+ghost use Rattle.bson_elem.specs.Spelling.{IsBytes};
+ghost use Rattle.bson_raw.specs.Split.{DocumentSplit};
+
+use crate::document::RawDocument;
+
+/// Bytes are split into documents and a rest in one way at most.
+pub fn one_document_split()
+    ensures { (bytes : List ℕ) (documents others : List Tree) (rest after : List ℕ) → IsBytes bytes
+        → DocumentSplit bytes documents rest → DocumentSplit bytes others after
+        → (documents ≡ others) × (rest ≡ after) }
+{}
+
+/// Splits the bytes into documents and a rest, so that all bytes are split in one way. Returns the
+/// rest.
+pub fn documents_split(bytes: &[u8]) -> &[u8]
+    ensures { (documents : List Tree) × DocumentSplit bytes.now documents result.now }
+{
+    let mut rest = bytes;
+    while !rest.is_empty() {
+        match RawDocument::front(rest) {
+            Ok((_, after)) => rest = after,
+            Err(_) => return rest,
+        }
+    }
+    rest
+}
