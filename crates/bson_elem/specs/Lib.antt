@@ -1,4 +1,5 @@
 pub mod Causes
+pub mod FaultText
 pub mod Kinds
 pub mod Tree
 pub mod Spelling
