@@ -6,6 +6,7 @@ pub mod SectionLaws
 pub mod ReadLaws
 pub mod RunLaws
 pub mod NameLaws
+pub mod FieldLaws
 pub mod FrameLaws
 pub mod MsgLaws
 pub mod Verdicts

@@ -10,7 +10,7 @@ use Rattle.wire_msg.specs.Header.{number_at}
 use Rattle.wire_msg.specs.Message.{Content, Message, IsContent}
 use Rattle.wire_msg.specs.Spelling.{body_section, sequences_bytes, sections_bytes, FlagsAre, SpellsMsg, IsMessage}
 use Rattle.wire_msg.specs.Faults.{names_fault, flags_fault, of_names, IsFramedMsg, PartsFault, of_sections}
-use Rattle.wire_msg.specs.Checks.{HasSequences, IsSplit}
+use Rattle.wire_msg.specs.Checks.{HasSequences, IsSplit, IsSplitMsg}
 use Rattle.wire_msg.proofs.DocumentLaws.{is_document}
 use Rattle.wire_msg.proofs.SequenceLaws.{AreSequences-append}
 use Rattle.wire_msg.proofs.SectionLaws.{length-body}
@@ -70,3 +70,12 @@ decided (Err f) P Q G F good bad m = bad f m
 
 pub names_fail : (bytes : List ℕ) (at next : ℕ) (d : List ℕ) (f : MsgFault) → 20 ≤ length bytes → flags_fault (number_at bytes 16) ≡ None → (s : IsSplit bytes at d next) → names_fault s.before s.body s.after ≡ Some f → PartsFault bytes f
 names_fail bytes at next d f room flags s names = of_sections room flags (of_names s.before s.body s.after s.parts s.before_fit (is_document s.body d s.spelled) s.after_fit names)
+
+pub named : (bytes : List ℕ) (at next : ℕ) (d : List ℕ) (r : Result (Unit {0}) MsgFault) → IsBytes bytes → length bytes < 2 ^ 31 → (s : IsSplitMsg bytes at d next)
+    → MatchResult r (λ _. names_fault s.split.before s.split.body s.split.after ≡ None) (λ f. names_fault s.split.before s.split.body s.split.after ≡ Some f)
+    → MatchResult r (λ _. (limit : ℕ) → IsFramedMsg limit bytes → IsMessage limit bytes) (λ f. PartsFault bytes f)
+named bytes at next d r fits short s names =
+    decided r (names_fault s.split.before s.split.body s.split.after ≡ None) (λ (f : MsgFault). names_fault s.split.before s.split.body s.split.after ≡ Some f) ((limit : ℕ) → IsFramedMsg limit bytes → IsMessage limit bytes) (λ (f : MsgFault). PartsFault bytes f)
+    (λ none limit framed. msg_found limit bytes s.more s.allows at next d fits short framed s.room s.flags s.split none)
+    (λ f found. names_fail bytes at next d f s.room s.faultless s.split found)
+    names

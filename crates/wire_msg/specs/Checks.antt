@@ -1,11 +1,12 @@
 -- What the parts of the check tell.
-use Rattle.std.specs.Prelude.{◌≡◌, ◌≢◌, ℕ, ◌+◌, ◌≤◌, List, [], ◌∷◌, ◌++◌, length, take, drop}
+use Rattle.std.specs.Prelude.{◌≡◌, ◌≢◌, ℕ, ◌+◌, ◌≤◌, Bool, None, List, [], ◌∷◌, ◌++◌, length, take, drop}
 use Rattle.bson_elem.specs.Tree.{Tree}
 use Rattle.bson_elem.specs.Spelling.{Spells}
 use Rattle.wire_msg.specs.declared.fault.MsgFault.{MsgFault}
 use Rattle.wire_msg.specs.Message.{Sequence, AreDocuments, IsSequence, AreSequences, documents_bytes}
-use Rattle.wire_msg.specs.Spelling.{sequence_section, sequences_bytes, sections_bytes}
-use Rattle.wire_msg.specs.Faults.{SequenceFault}
+use Rattle.wire_msg.specs.Spelling.{sequence_section, sequences_bytes, sections_bytes, FlagsAre}
+use Rattle.wire_msg.specs.Header.{number_at}
+use Rattle.wire_msg.specs.Faults.{SequenceFault, flags_fault}
 
 -- the bytes are documents back to back
 abbrev pub HasDocuments : List ℕ → Type 0
@@ -57,3 +58,12 @@ pub record IsSplit (bytes : List ℕ) (at : ℕ) (document : List ℕ) (next : �
   pub at_is : at ≡ 20 + length (sequences_bytes before)
   pub next_is : next ≡ at + 1 + length document
   pub within : next + length (sequences_bytes after) ≡ length bytes
+
+-- The flags have no fault, and the sections are split.
+pub record IsSplitMsg (bytes : List ℕ) (at : ℕ) (document : List ℕ) (next : ℕ) : Type 0 where
+  pub room : 20 ≤ length bytes
+  pub more : Bool
+  pub allows : Bool
+  pub flags : FlagsAre (number_at bytes 16) more allows
+  pub faultless : flags_fault (number_at bytes 16) ≡ None
+  pub split : IsSplit bytes at document next

@@ -16,3 +16,4 @@ pub mod Standing
 pub mod Split
 pub mod Writing
 pub mod Buf
+pub mod Fields

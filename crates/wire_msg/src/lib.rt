@@ -4,7 +4,8 @@
 //! and any number of document sequences. `RawMsg::parse` runs through every check, and tells the
 //! first fault and its place where there is one; from then on the type carries the fact that its
 //! bytes are a message, so a walk over it has no errors. Its `Payload` is lent out of the same
-//! bytes. Nothing of this takes memory. `PayloadBuf` is a payload in bytes of its own, to which
+//! bytes. Nothing of this takes memory. `RawMsg::parse_with` does, to look names up in a set, and
+//! tells the same. `PayloadBuf` is a payload in bytes of its own, to which
 //! document sequences and their documents are added, and `write_msg` adds the canonical spelling of
 //! a message to bytes.
 //!
@@ -15,6 +16,7 @@
 mod append;
 pub mod documents;
 pub mod fault;
+mod fields;
 pub mod flags;
 pub mod header;
 pub mod laws;

@@ -2,22 +2,25 @@
 
 ghost use Rattle.std.specs.Prelude.{◌≡◌, ◌+◌, ◌<◌, ◌≤◌, ◌^◌, ℕ, length, MatchResult, IfOk, IfErr, IsOk, IsErrOf};
 ghost use Rattle.bson_elem.specs.Spelling.{document, elements};
+ghost use Rattle.bson_raw.specs.RawDocument.{document_bytes};
 ghost use Rattle.wire_msg.specs.declared.fault.MsgFault.{MsgFault};
 ghost use Rattle.wire_msg.specs.Header.{header_of};
 ghost use Rattle.wire_msg.specs.Message.{Message};
 ghost use Rattle.wire_msg.specs.Spelling.{IsMessage, IsSpelledMsg, sequences_bytes, SpellsMsg};
+ghost use Rattle.wire_msg.specs.Checks.{IsSplitMsg};
 ghost use Rattle.wire_msg.specs.Faults.{FaultMsg, IsFramedMsg, PartsFault};
 
 use crate::fault::{MsgCause, MsgFault};
 use crate::flags::MsgFlags;
 use crate::header::MsgHeader;
-use crate::names::check_names;
+use crate::names::{check_names, check_names_with};
 use crate::payload::Payload;
 use crate::sections::{SECTIONS, split_sections};
 use crate::sequence::{SEQUENCE, fault_at};
 use crate::sequence_iter::known_size;
 use bson_elem::number::little_u32;
 use bson_raw::document::RawDocument;
+use std::alloc::Global;
 
 /// Checks the header, and that the bytes are as many as it says.
 fn check_framed(bytes: &[u8], limit: u32) -> Result<(), MsgFault>
@@ -37,6 +40,22 @@ fn check_framed(bytes: &[u8], limit: u32) -> Result<(), MsgFault>
     Ok(())
 }
 
+/// Checks the flags and the sections of bytes whose header is good and announces as many bytes,
+/// but for their names. Returns the offset of the body's kind byte, the body, and the offset after
+/// it.
+fn split_message(bytes: &[u8]) -> Result<(usize, RawDocument<'_>, usize), MsgFault>
+    requires { length bytes.now < 2 ^ 31 }
+    ensures { MatchResult result
+        (λ x. IsSplitMsg bytes.now x.0 (document_bytes x.1) x.2)
+        (λ f. PartsFault bytes.now f) }
+{
+    if bytes.len() < SECTIONS {
+        return Err(fault_at(16, MsgCause::Truncated));
+    }
+    MsgFlags::read(little_u32(&bytes[16..20]))?;
+    split_sections(bytes)
+}
+
 /// Checks the flags and the sections of bytes whose header is good and announces as many bytes.
 pub(crate) fn check_parts(bytes: &[u8]) -> Result<(), MsgFault>
     requires { length bytes.now < 2 ^ 31 }
@@ -44,12 +63,20 @@ pub(crate) fn check_parts(bytes: &[u8]) -> Result<(), MsgFault>
         (λ _. (limit : ℕ) → IsFramedMsg limit bytes.now → IsMessage limit bytes.now)
         (λ f. PartsFault bytes.now f) }
 {
-    if bytes.len() < SECTIONS {
-        return Err(fault_at(16, MsgCause::Truncated));
-    }
-    MsgFlags::read(little_u32(&bytes[16..20]))?;
-    let (at, body, next) = split_sections(bytes)?;
+    let (at, body, next) = split_message(bytes)?;
     check_names(&bytes[SECTIONS..at], body, &bytes[next..])
+}
+
+/// Like `check_parts`, but looks names up in a set, and goes on without one where memory is
+/// refused.
+pub(crate) fn check_parts_with(alloc: Global, bytes: &[u8]) -> Result<(), MsgFault>
+    requires { length bytes.now < 2 ^ 31 }
+    ensures { MatchResult result
+        (λ _. (limit : ℕ) → IsFramedMsg limit bytes.now → IsMessage limit bytes.now)
+        (λ f. PartsFault bytes.now f) }
+{
+    let (at, body, next) = split_message(bytes)?;
+    check_names_with(alloc, &bytes[SECTIONS..at], body, &bytes[next..])
 }
 
 /// Checks a whole message.
@@ -61,6 +88,17 @@ fn check_message(bytes: &[u8], limit: u32) -> Result<(), MsgFault>
 {
     check_framed(bytes, limit)?;
     check_parts(bytes)
+}
+
+/// Checks a whole message, like `check_parts_with`.
+fn check_message_with(alloc: Global, bytes: &[u8], limit: u32) -> Result<(), MsgFault>
+    requires { limit ≤ 48_000_000 }
+    ensures { MatchResult result
+        (λ _. IsMessage limit bytes.now)
+        (λ f. FaultMsg bytes.now limit f) }
+{
+    check_framed(bytes, limit)?;
+    check_parts_with(alloc, bytes)
 }
 
 /// The place of the body's kind byte, in a message.
@@ -116,6 +154,28 @@ impl<'a> RawMsg<'a> {
         ensures place { IfErr result (λ f. f.at ≤ length bytes.now) }
     {
         match check_message(bytes, limit) {
+            Ok(()) => Ok(RawMsg { bytes }),
+            Err(fault) => Err(fault),
+        }
+    }
+
+    /// Like `parse`, but takes memory to look names up in a set, so that the time it takes grows
+    /// as the bytes do, however many names there are. Where memory is refused it goes on as `parse`
+    /// does.
+    ///
+    /// # Errors
+    ///
+    /// Those of `parse`. Want of memory is none of them.
+    pub fn parse_with(alloc: Global, bytes: &'a [u8], limit: u32) -> Result<RawMsg<'a>, MsgFault>
+        requires { limit ≤ 48_000_000 }
+        ensures found { IfOk result (λ m.
+            (msg_bytes m ≡ bytes.now) × IsMessage limit bytes.now) }
+        ensures only { IsMessage limit bytes.now → IsOk result }
+        ensures fault { IfErr result (λ f. FaultMsg bytes.now limit f) }
+        ensures exact { (f : MsgFault) → FaultMsg bytes.now limit f → IsErrOf result f }
+        ensures place { IfErr result (λ f. f.at ≤ length bytes.now) }
+    {
+        match check_message_with(alloc, bytes, limit) {
             Ok(()) => Ok(RawMsg { bytes }),
             Err(fault) => Err(fault),
         }

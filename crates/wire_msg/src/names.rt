@@ -1,34 +1,38 @@
 //! The search of the names of a message: each stands once, as a top-level name of the body or as
 //! an identifier that is none of those.
 
-ghost use Rattle.std.specs.Prelude.{◌≡◌, ◌+◌, ◌<◌, ◌^◌, length, List, MatchResult, Some, None};
+ghost use Rattle.std.specs.Prelude.{◌≡◌, ◌+◌, ◌<◌, ◌^◌, length, [], List, MatchResult, Some, None};
 ghost use Rattle.bson_elem.specs.Tree.{Tree};
 ghost use Rattle.bson_elem.specs.Spelling.{Spells};
+ghost use Rattle.bson_raw.specs.Pairs.{first_repeated};
 ghost use Rattle.bson_raw.specs.RawDocument.{document_bytes};
+ghost use Rattle.wire_msg.specs.Fields.{AreFields};
 ghost use Rattle.wire_msg.specs.Message.{AreSequences, Sequence};
 ghost use Rattle.wire_msg.specs.Spelling.{sequences_bytes};
 ghost use Rattle.wire_msg.specs.Faults.{first_in_body, names_fault};
 ghost use Rattle.wire_msg.specs.Checks.{HasSequences};
 
 use crate::fault::{MsgCause, MsgFault};
+use crate::fields::{Fields, unique_names};
 use crate::sections::SECTIONS;
 use crate::sequence::fault_at;
 use crate::sequence_iter::split_sequence;
 use bson_raw::document::RawDocument;
+use std::alloc::Global;
 
-/// The place of the first of some sequences whose identifier is a top-level name of the body. The
-/// first of them stands at `start`.
-fn place_in_body(body: RawDocument<'_>, sequences: &[u8], start: usize) -> Option<usize>
+/// Returns the offset of the first of `sequences` whose identifier is one of `fields`. The first
+/// of them stands at offset `start`.
+fn place_in_body(fields: Fields<'_, '_>, sequences: &[u8], start: usize) -> Option<usize>
     requires known { ∥ HasSequences sequences.now ∥₁ }
     requires room { start + length sequences.now < 2 ^ 64 }
-    ensures { (t : Tree) (qs : List Sequence) → Spells t (document_bytes body.entry)
+    ensures { (t : Tree) (qs : List Sequence) → AreFields fields.entry t
         → AreSequences qs → sequences.now ≡ sequences_bytes qs
         → result ≡ first_in_body t start qs }
 {
     let mut rest = sequences;
     while !rest.is_empty() {
         let (identifier, _, next) = split_sequence(rest);
-        if body.get(identifier).is_some() {
+        if fields.contains(identifier) {
             return Some(start + (sequences.len() - rest.len()));
         }
         rest = next;
@@ -36,8 +40,38 @@ fn place_in_body(body: RawDocument<'_>, sequences: &[u8], start: usize) -> Optio
     None
 }
 
-/// Checks the names of a message, of which the sequences before the body and those behind it are
-/// known. The search is pairwise and takes no memory.
+/// Checks that no identifier of the sequences `before` and `after` the body is one of `fields`, of
+/// which each stands once.
+fn check_identifiers(
+    fields: Fields<'_, '_>,
+    before: &[u8],
+    body: RawDocument<'_>,
+    after: &[u8],
+) -> Result<(), MsgFault>
+    requires first { ∥ HasSequences before.now ∥₁ }
+    requires last { ∥ HasSequences after.now ∥₁ }
+    requires room { length before.now + length after.now < 2 ^ 32 }
+    ensures { (first : List Sequence) (t : Tree) (last : List Sequence)
+        → AreSequences first → before.now ≡ sequences_bytes first
+        → Spells t (document_bytes body.entry) → AreFields fields.entry t
+        → AreSequences last → after.now ≡ sequences_bytes last
+        → first_repeated [] t ≡ None
+        → MatchResult result
+        (λ _. names_fault first t last ≡ None)
+        (λ f. names_fault first t last ≡ Some f) }
+{
+    if let Some(offset) = place_in_body(fields, before, SECTIONS) {
+        return Err(fault_at(offset, MsgCause::SequenceInBody));
+    }
+    let next = SECTIONS + before.len() + 1 + body.as_bytes().len();
+    match place_in_body(fields, after, next) {
+        Some(offset) => Err(fault_at(offset, MsgCause::SequenceInBody)),
+        None => Ok(()),
+    }
+}
+
+/// Checks the names of a message whose sections are known. The search goes through the body's
+/// names for each of them, and takes no memory.
 pub(crate) fn check_names(
     before: &[u8],
     body: RawDocument<'_>,
@@ -54,16 +88,34 @@ pub(crate) fn check_names(
         (λ _. names_fault first t last ≡ None)
         (λ f. names_fault first t last ≡ Some f) }
 {
-    let at = SECTIONS + before.len();
     if body.first_repeated_name().is_some() {
-        return Err(fault_at(at, MsgCause::RepeatedField));
+        return Err(fault_at(SECTIONS + before.len(), MsgCause::RepeatedField));
     }
-    if let Some(place) = place_in_body(body, before, SECTIONS) {
-        return Err(fault_at(place, MsgCause::SequenceInBody));
-    }
-    let next = at + 1 + body.as_bytes().len();
-    match place_in_body(body, after, next) {
-        Some(place) => Err(fault_at(place, MsgCause::SequenceInBody)),
-        None => Ok(()),
+    check_identifiers(Fields::Pairs(body), before, body, after)
+}
+
+/// Like `check_names`, but looks names up in a set, and goes on without one where memory is
+/// refused.
+pub(crate) fn check_names_with(
+    alloc: Global,
+    before: &[u8],
+    body: RawDocument<'_>,
+    after: &[u8],
+) -> Result<(), MsgFault>
+    requires first { ∥ HasSequences before.now ∥₁ }
+    requires last { ∥ HasSequences after.now ∥₁ }
+    requires room { length before.now + length after.now < 2 ^ 32 }
+    ensures { (first : List Sequence) (t : Tree) (last : List Sequence)
+        → AreSequences first → before.now ≡ sequences_bytes first
+        → Spells t (document_bytes body.entry)
+        → AreSequences last → after.now ≡ sequences_bytes last
+        → MatchResult result
+        (λ _. names_fault first t last ≡ None)
+        (λ f. names_fault first t last ≡ Some f) }
+{
+    match unique_names(alloc, body) {
+        Ok(Some(names)) => check_identifiers(Fields::Set(&names), before, body, after),
+        Ok(None) => Err(fault_at(SECTIONS + before.len(), MsgCause::RepeatedField)),
+        Err(_) => check_names(before, body, after),
     }
 }

@@ -1,19 +1,18 @@
 use Rattle.std.proofs.Common.{◌≡◌, ◌≢◌, true, false, length, sym, arith, ◌∙◌}
 use Rattle.std.proofs.lemmas.Bool.Decides.{nat_tests}
-use Rattle.bson_raw.specs.Pairs.{first_named}
 use Rattle.wire_msg.specs.Message.{is_field}
-use Rattle.wire_msg.proofs.NameLaws.{all_left, field_found, found_shown, first_left, here_in_body, later_in_body, none_in_body}
+use Rattle.wire_msg.proofs.NameLaws.{all_left, first_left, here_in_body, later_in_body, none_in_body}
 use Rattle.wire_msg.proofs.names.place_in_body.Goals as goal
 
 pub loop-rest-init : goal.loop-rest-init
 loop-rest-init c = (c.requires.known, omega arith, λ t qs s fits are. all_left t c.args.start c.args.sequences.now qs fits are)
 
-pub returns-then-is_some : goal.returns-then-is_some
-returns-then-is_some c = λ t qs s fits are.
+pub returns-then-contains : goal.returns-then-contains
+returns-then-contains c = λ t qs s fits are.
     let some : length c.loop-rest.rest.now ≢ 0 = λ e. grind (arith, nat_tests) in
     let f = first_left t c.args.start c.args.sequences.now qs c.loop-rest.rest.now some (c.loop-rest.invariant.2 t qs s fits are) in
     let p = c.split_sequence.ensures.parts f.sequence f.others f.fits f.are in
-    let found : is_field c.split_sequence.result.0.now t ≡ true = sym (field_found c.split_sequence.result.0.now t) ∙ sym (found_shown c.get.result (first_named c.split_sequence.result.0.now t) (c.get.ensures t s)) ∙ sym c.is_some.ensures ∙ c.if-is_some.true in
+    let found : is_field c.split_sequence.result.0.now t ≡ true = sym (c.contains.ensures t s) ∙ c.if-contains.true in
     here_in_body t c.args.start c.args.sequences.now qs c.loop-rest.rest.now c.split_sequence.result.0.now f p.0 found
 
 pub loop-rest-preserved : goal.loop-rest-preserved
@@ -24,7 +23,7 @@ loop-rest-preserved c =
       λ t qs s fits are.
           let f = first_left t c.args.start c.args.sequences.now qs c.loop-rest.rest.now some (c.loop-rest.invariant.2 t qs s fits are) in
           let p = c.split_sequence.ensures.parts f.sequence f.others f.fits f.are in
-          let absent : is_field c.split_sequence.result.0.now t ≡ false = sym (field_found c.split_sequence.result.0.now t) ∙ sym (found_shown c.get.result (first_named c.split_sequence.result.0.now t) (c.get.ensures t s)) ∙ sym c.is_some.ensures ∙ c.if-is_some.false in
+          let absent : is_field c.split_sequence.result.0.now t ≡ false = sym (c.contains.ensures t s) ∙ c.if-contains.false in
           later_in_body t c.args.start c.args.sequences.now qs c.loop-rest.rest.now c.split_sequence.result.0.now c.split_sequence.result.2.now f c.loop-rest.invariant.1 p.0 p.2 absent,
     )
 

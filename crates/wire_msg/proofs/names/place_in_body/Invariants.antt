@@ -1,7 +1,6 @@
 use Rattle.std.proofs.Common.{◌≡◌, ◌≤◌, List, length}
 use Rattle.bson_elem.specs.Tree.{Tree}
-use Rattle.bson_elem.specs.Spelling.{Spells}
-use Rattle.bson_raw.specs.RawDocument.{document_bytes}
+use Rattle.wire_msg.specs.Fields.{AreFields}
 use Rattle.wire_msg.specs.Message.{Sequence, AreSequences}
 use Rattle.wire_msg.specs.Spelling.{sequences_bytes}
 use Rattle.wire_msg.specs.Checks.{HasSequences}
@@ -10,7 +9,7 @@ use Rattle.wire_msg.proofs.names.place_in_body.Given as goal
 
 abbrev pub invariant-loop-rest : goal.invariant-loop-rest
 invariant-loop-rest l =
-    ∥ HasSequences l.rest ∥₁ × (length l.rest ≤ length l.sequences) × ((t : Tree) (qs : List Sequence) → Spells t (document_bytes l.fn.body) → AreSequences qs → l.sequences ≡ sequences_bytes qs → IsLeftOf t l.start l.sequences qs l.rest)
+    ∥ HasSequences l.rest ∥₁ × (length l.rest ≤ length l.sequences) × ((t : Tree) (qs : List Sequence) → AreFields l.fn.fields t → AreSequences qs → l.sequences ≡ sequences_bytes qs → IsLeftOf t l.start l.sequences qs l.rest)
 
 abbrev pub decreases-loop-rest : goal.decreases-loop-rest
 decreases-loop-rest l = length l.rest
