@@ -6,6 +6,7 @@ pub mod Items
 pub mod Naming
 pub mod DigitLaws
 pub mod Values
+pub mod TotalLaws
 pub mod CountLaws
 pub mod PairLaws
 pub mod Splits

@@ -9,3 +9,4 @@ pub mod RawDocument
 pub mod RawArray
 pub mod RawBson
 pub mod RawIter
+pub mod Totals

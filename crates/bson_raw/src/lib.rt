@@ -12,4 +12,5 @@ pub mod document;
 pub mod iter;
 pub mod laws;
 mod name;
+pub mod totals;
 pub mod value;
