@@ -5,11 +5,11 @@ use Rattle.bsonwire.specs.declared.choice.Source.{Source}
 use Rattle.bsonwire.specs.declared.choice.Choice.{Choice}
 use Rattle.bsonwire.specs.declared.choice.Choice.TheVariants.{Dump, Check, Canon, Msg}
 use Rattle.bsonwire.specs.CommandLine.{command_line}
-use Rattle.bsonwire.specs.Output.{IsOutput}
-use Rattle.bsonwire.specs.Dump.{DumpText}
-use Rattle.bsonwire.specs.Check.{CheckText}
-use Rattle.bsonwire.specs.Canon.{CanonText}
-use Rattle.bsonwire.specs.Msg.{MsgText}
+use Rattle.engines.specs.Output.{IsOutput}
+use Rattle.engines.specs.Dump.{DumpText}
+use Rattle.engines.specs.Check.{CheckText}
+use Rattle.engines.specs.Canon.{CanonText}
+use Rattle.engines.specs.Msg.{MsgText}
 
 -- the matches of a subcommand hold this `--hex`
 abbrev pub HoldsHex : Bool → List Row → Type 0

@@ -1,11 +1,9 @@
--- How a run ends, and the exit status of it and of words that ask for no run.
-use Rattle.std.specs.Prelude.{◌≡◌, ◌⊎◌, ℕ, ℤ, Option, None}
-use Rattle.std.specs.declared.io.ErrorKind.{ErrorKind}
-use Rattle.std.specs.declared.io.ErrorKind.TheVariants.{OutOfMemory}
+-- The exit status of a run's end, and of words that ask for no run.
+use Rattle.std.specs.Prelude.{◌≡◌, ◌⊎◌, ℕ}
 use Rattle.clap.specs.declared.error.kind.ErrorKind as clap
 use Rattle.clap.specs.declared.error.kind.ErrorKind.TheVariants as kind
-use Rattle.bsonwire.specs.declared.run.RunEnd.{RunEnd}
-use Rattle.bsonwire.specs.declared.run.RunEnd.TheVariants.{Good, Fault, InOut, Memory}
+use Rattle.engines.specs.declared.run.RunEnd.{RunEnd}
+use Rattle.engines.specs.declared.run.RunEnd.TheVariants.{Good, Fault, InOut, Memory}
 
 -- the exit status of each end; 2 is left for a fault in the command line
 abbrev pub exit_status : RunEnd → ℕ
@@ -13,11 +11,6 @@ exit_status Good = 0
 exit_status Fault = 1
 exit_status InOut = 3
 exit_status Memory = 4
-
--- an error of this kind ends a run so: it is want of memory where the system gave no code
-abbrev pub end_of_error : ErrorKind → Option ℤ → RunEnd
-end_of_error OutOfMemory None = Memory
-end_of_error kind code = InOut
 
 -- the exit status where the words could not be read, by the end that the error would bring a run
 abbrev pub unread_status : RunEnd → ℕ

@@ -1,15 +1,4 @@
-pub mod FaultLine
-pub mod Dump
-pub mod Buffered
-pub mod Run
 pub mod ExitStatus
-pub mod Input
-pub mod Output
 pub mod CommandLine
 pub mod Choices
 pub mod InputName
-pub mod InputFault
-pub mod Documents
-pub mod Check
-pub mod Canon
-pub mod Msg

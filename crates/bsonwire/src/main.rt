@@ -8,34 +8,22 @@
 //! 3 where reading or writing failed, and 4 where memory ran out.
 #![tactic(auto)]
 
-mod buffered;
-mod canon;
-mod check;
 mod choice;
 mod command_line;
 mod commands;
-mod documents;
-mod dump;
-mod fault_line;
-mod hex_input;
-mod input_fault;
-mod laws;
-mod messages;
-mod msg;
-mod msg_text;
-mod run;
 #[cfg(test)]
 mod tests;
 
 ghost use Rattle.std.specs.Prelude.{◌≡◌};
 ghost use Rattle.std.specs.IoError.{error_kind, raw_os_error};
 ghost use Rattle.clap.specs.Words.{kind_of};
-ghost use Rattle.bsonwire.specs.ExitStatus.{end_of_error, IsWordsStatus, unread_status};
+ghost use Rattle.engines.specs.Run.{end_of_error};
+ghost use Rattle.bsonwire.specs.ExitStatus.{IsWordsStatus, unread_status};
 
 use choice::choose;
 use clap::error::ErrorKind;
 use commands::status_of;
-use run::{RunEnd, end_of};
+use engines::run::{RunEnd, end_of};
 use std::process::ExitCode;
 use std::{env, io};
 

@@ -14,6 +14,16 @@ mod documents;
 mod dumps;
 #[cfg(test)]
 mod elements;
+#[cfg(test)]
+mod engine_canon;
+#[cfg(test)]
+mod engine_check;
+#[cfg(test)]
+mod engine_dump;
+#[cfg(test)]
+mod engine_fault_line;
+#[cfg(test)]
+mod engine_msg;
 pub mod hex_bytes;
 #[cfg(test)]
 mod messages;

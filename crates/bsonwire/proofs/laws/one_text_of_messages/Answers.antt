@@ -1,5 +1,0 @@
-use Rattle.bsonwire.proofs.MessageLaws.{one_msg_text}
-use Rattle.bsonwire.proofs.laws.one_text_of_messages.Goals as goal
-
-pub returns : goal.returns
-returns c = λ bytes text other fault other_fault fits. one_msg_text fits

@@ -1,0 +1,5 @@
+pub mod Readings
+pub mod TextLaws
+pub mod MessageReadings
+pub mod MessageTexts
+pub mod MessageLaws

@@ -1,0 +1,35 @@
+-- What `canon` writes.
+use Rattle.std.specs.Prelude.{ℕ, nat_lt, List, [], ◌++◌, codes, Bool, true, false, Option, Some, None, if◌then◌else◌}
+use Rattle.hex.specs.Hex.{encode_lower}
+use Rattle.bson_elem.specs.Tree.{Tree}
+use Rattle.bson_elem.specs.Spelling.{document, elements}
+use Rattle.bson_doc.specs.Plain.{plain, canonical_len}
+use Rattle.engines.specs.Documents.{IsWhole, plainly}
+
+-- bytes as they are, or as hexadecimal text
+abbrev pub in_form : Bool → List ℕ → List ℕ
+in_form false bytes = bytes
+in_form true bytes = encode_lower bytes
+
+-- the canonical form of a document, if it has no more bytes than the limit
+abbrev pub canon_of : ℕ → Bool → Tree → Option (List ℕ)
+canon_of limit hex t =
+    if nat_lt limit (canonical_len t) then None else Some (in_form hex (document (elements (plain t))))
+
+-- the end of a line, where there is one
+abbrev pub line_end : Bool → List ℕ
+line_end false = []
+line_end true = codes "\n"
+
+-- hexadecimal text in one line, where there is a document
+abbrev pub hex_line : Bool → List ℕ → List ℕ
+hex_line any texts = texts ++ line_end any
+
+-- how the texts of the documents are joined
+abbrev pub joined_by : Bool → Bool → List ℕ → List ℕ
+joined_by false = plainly
+joined_by true = hex_line
+
+-- what `canon` writes for bytes, as bytes or as hexadecimal text, and whether it ends with a fault line
+abbrev pub CanonText : ℕ → Bool → List ℕ → List ℕ → Bool → Type 0
+CanonText limit hex = IsWhole (canon_of limit hex) (joined_by hex)

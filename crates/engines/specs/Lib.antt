@@ -1,0 +1,11 @@
+pub mod FaultLine
+pub mod Dump
+pub mod Buffered
+pub mod Run
+pub mod Input
+pub mod Output
+pub mod InputFault
+pub mod Documents
+pub mod Check
+pub mod Canon
+pub mod Msg

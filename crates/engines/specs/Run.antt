@@ -1,0 +1,22 @@
+-- How a run of an engine ends.
+use Rattle.std.specs.Prelude.{ℤ, Bool, true, false, Option, None}
+use Rattle.std.specs.declared.io.ErrorKind.{ErrorKind}
+use Rattle.std.specs.declared.io.ErrorKind.TheVariants.{OutOfMemory}
+use Rattle.engines.specs.declared.run.RunEnd.{RunEnd}
+use Rattle.engines.specs.declared.run.RunEnd.TheVariants.{Good, Fault, InOut, Memory}
+
+-- the run wrote its whole text
+abbrev pub is_done : RunEnd → Bool
+is_done Good = true
+is_done Fault = true
+is_done _ = false
+
+-- the run wrote a text that ends with a fault line
+abbrev pub is_fault : RunEnd → Bool
+is_fault Fault = true
+is_fault _ = false
+
+-- an error of this kind ends a run so: it is want of memory where the system gave no code
+abbrev pub end_of_error : ErrorKind → Option ℤ → RunEnd
+end_of_error OutOfMemory None = Memory
+end_of_error kind code = InOut

@@ -1,0 +1,87 @@
+//! The command `check`.
+
+ghost use Rattle.std.specs.Prelude.{◌≡◌, ◌⊎◌, IfSome, OnOk, false, true};
+ghost use Rattle.std.specs.Io.KnownBytes.{Appends, IsAtEnd, Keeps};
+ghost use Rattle.engines.specs.Check.{CheckText, check_of, form_word, sized_line};
+ghost use Rattle.engines.specs.Output.{AppendsText, IsOutput};
+ghost use Rattle.engines.specs.Run.{is_done, is_fault};
+
+use crate::documents::{EachDocument, write_documents};
+use crate::run::{Engine, RunEnd, run};
+use bson_doc::to_writer::number_to;
+use bson_raw::document::RawDocument;
+use std::alloc::Global;
+use std::io;
+use std::io::{Read, Write};
+
+/// The command `check`.
+struct Check;
+
+/// The end of a document's line.
+fn form_text(canonical: bool) -> &'static str
+    ensures { result.now ≡ form_word canonical }
+{
+    if canonical {
+        " canonical\n"
+    } else {
+        " other\n"
+    }
+}
+
+/// The line of a document of this size.
+fn write_check_line<W: Write>(size: usize, canonical: bool, out: &mut W) -> io::Result<()>
+    ensures { OnOk result (Appends (W.contents out.old) (W.contents out.new)
+        (sized_line size canonical)) }
+{
+    out.write_all(b"ok ")?;
+    number_to(size, out)?;
+    out.write_all(form_text(canonical).as_bytes())
+}
+
+impl EachDocument for Check {
+    ghost text_of = { λ _. check_of };
+
+    ghost wants_memory = { λ _. false };
+
+    fn write_document<W: Write>(
+        &self,
+        document: RawDocument<'_>,
+        canonical: bool,
+        out: &mut W,
+    ) -> Result<bool, RunEnd> {
+        match write_check_line(document.as_bytes().len(), canonical, out) {
+            Ok(()) => Ok(true),
+            Err(_) => Err(RunEnd::InOut),
+        }
+    }
+}
+
+impl Engine for Check {
+    ghost is_text = { λ _. CheckText };
+
+    ghost wants_memory = { λ _. false };
+
+    fn write_text<W: Write>(&self, bytes: &[u8], out: &mut W) -> Result<bool, RunEnd> {
+        write_documents(self, bytes, out)
+    }
+}
+
+/// Writes a line for each document that the reader has: `ok`, how many bytes it has, and
+/// `canonical` or `other`. With `hex` the input is hexadecimal text.
+pub fn run_check<R: Read, W: Write>(
+    alloc: Global,
+    hex: bool,
+    reader: &mut R,
+    writer: &mut W,
+) -> RunEnd
+    ensures read { is_done result ≡ true → IsAtEnd (R.remaining reader.new) }
+    ensures written { IfSome (R.remaining reader.old) (λ input. is_done result ≡ true →
+        AppendsText (IsOutput CheckText hex input) (is_fault result)
+        (W.contents writer.old) (W.contents writer.new)) }
+    ensures late { (IsAtEnd (R.remaining reader.new)) ⊎
+        Keeps (W.contents writer.old) (W.contents writer.new) }
+    ensures memory { result ≡ RunEnd.Memory →
+        Keeps (W.contents writer.old) (W.contents writer.new) }
+{
+    run(alloc, &Check, hex, reader, writer)
+}

@@ -1,0 +1,117 @@
+//! Documents back to back, for each of which a command writes something.
+
+ghost use Rattle.std.specs.Prelude.{◌≡◌, ℕ, Bool, List, Option, IfErr, IfOk, false, true};
+ghost use Rattle.std.specs.Io.KnownBytes.{Appends};
+ghost use Rattle.bson_elem.specs.Tree.{Tree};
+ghost use Rattle.bson_elem.specs.Spelling.{Spells};
+ghost use Rattle.bson_raw.specs.Naming.{is_plain};
+ghost use Rattle.bson_raw.specs.RawDocument.{document_bytes};
+ghost use Rattle.engines.specs.Documents.{IsWhole, IsWritten, ReadsAs, is_there, or_nothing, plainly};
+ghost use Rattle.engines.specs.InputFault.{line_of};
+ghost use Rattle.engines.specs.Output.{AppendsText};
+ghost use Rattle.engines.specs.Run.{is_done};
+
+use crate::input_fault::InputFault;
+use crate::run::RunEnd;
+use bson_elem::fault::BsonFault;
+use bson_raw::document::RawDocument;
+use std::io::Write;
+
+/// What a command writes for a document.
+pub trait EachDocument {
+    // The text of a document, if it has one.
+    ghost text_of: { Self → Tree → Option (List ℕ) };
+    // Whether it may want memory.
+    ghost wants_memory: { Self → Bool };
+
+    /// Writes the text of a document, of which it is known whether it is canonical. False where it
+    /// has none; nothing is written then.
+    fn write_document<W: Write>(
+        &self,
+        document: RawDocument<'_>,
+        canonical: bool,
+        out: &mut W,
+    ) -> Result<bool, RunEnd>
+        requires { (t : Tree) → Spells t (document_bytes document) → canonical ≡ is_plain false 0 t }
+        ensures written { (t : Tree) → Spells t (document_bytes document.entry)
+            → IfOk result (λ there. IsWritten (text_of self.now t) there
+            (W.contents out.old) (W.contents out.new)) }
+        ensures stopped { IfErr result (λ end. (is_done end ≡ false)
+            × (end ≡ RunEnd.Memory → wants_memory self.now ≡ true)) };
+}
+
+/// What a walk over documents back to back came to.
+#[derive(Clone, Copy)]
+pub struct Walk {
+    /// Whether the text of a document was written.
+    pub any: bool,
+    /// The first fault, which ended the walk.
+    pub fault: Option<InputFault>,
+}
+
+/// Writes the texts of the documents that begin the bytes.
+pub fn write_each<E: EachDocument, W: Write>(
+    each: &E,
+    bytes: &[u8],
+    out: &mut W,
+) -> Result<Walk, RunEnd>
+    ensures written { IfOk result (λ walk.
+        (texts : List ℕ) × ReadsAs (E.text_of each.now) 0 bytes.now walk.any texts (line_of walk.fault)
+        × Appends (W.contents out.old) (W.contents out.new) texts) }
+    ensures stopped { IfErr result (λ end. (is_done end ≡ false)
+        × (end ≡ RunEnd.Memory → E.wants_memory each.now ≡ true)) }
+{
+    let mut rest = bytes;
+    let mut any = false;
+    while !rest.is_empty() {
+        let place = bytes.len() - rest.len();
+        let front = match RawDocument::front_with_form(rest) {
+            Ok(front) => front,
+            Err(fault) => {
+                let at = place + fault.at;
+                let cause = fault.cause;
+                let fault = Some(InputFault::Bson(BsonFault { at, cause }));
+                return Ok(Walk { any, fault });
+            }
+        };
+        if !each.write_document(front.document, front.canonical, out)? {
+            let fault = Some(InputFault::TooLarge { place });
+            return Ok(Walk { any, fault });
+        }
+        any = true;
+        rest = front.rest;
+    }
+    Ok(Walk { any, fault: None })
+}
+
+/// Writes the line of a fault, if there is one, and says whether there is.
+pub fn write_last<W: Write>(fault: Option<InputFault>, out: &mut W) -> Result<bool, RunEnd>
+    ensures written { IfOk result (λ there. (there ≡ is_there (line_of fault))
+        × Appends (W.contents out.old) (W.contents out.new) (or_nothing (line_of fault))) }
+    ensures stopped { IfErr result (λ end. end ≡ RunEnd.InOut) }
+{
+    let Some(fault) = fault else {
+        return Ok(false);
+    };
+    match fault.write(out) {
+        Ok(()) => Ok(true),
+        Err(_) => Err(RunEnd::InOut),
+    }
+}
+
+/// Writes the texts of the documents that begin the bytes, and the line of the first fault of what
+/// is left. Says whether there is one.
+pub fn write_documents<E: EachDocument, W: Write>(
+    each: &E,
+    bytes: &[u8],
+    out: &mut W,
+) -> Result<bool, RunEnd>
+    ensures written { IfOk result (λ fault.
+        AppendsText (IsWhole (E.text_of each.now) plainly bytes.now) fault
+        (W.contents out.old) (W.contents out.new)) }
+    ensures stopped { IfErr result (λ end. (is_done end ≡ false)
+        × (end ≡ RunEnd.Memory → E.wants_memory each.now ≡ true)) }
+{
+    let walk = write_each(each, bytes, out)?;
+    write_last(walk.fault, out)
+}

@@ -1,0 +1,40 @@
+ghost use Rattle.std.specs.Prelude.{◌≡◌, IfOk, true};
+ghost use Rattle.engines.specs.Input.{bytes_of, is_space, packed, read_bytes};
+
+use hex::FromHexError;
+use std::alloc::{AllocError, Global};
+
+/// An input that was read: its bytes, or the place at which it is no hexadecimal text.
+#[derive(Drop)]
+pub enum Input {
+    Bytes(Vec<u8>),
+    NotHex { place: usize },
+}
+
+/// A space, a tab, a line feed or a carriage return.
+fn is_white_space(b: u8) -> bool
+    ensures { result ≡ is_space b }
+{
+    matches!(b, b' ' | b'\t' | b'\n' | b'\r')
+}
+
+/// Takes the white space out in place.
+fn pack(text: &mut Vec<u8>)
+    ensures { text.new.items ≡ packed text.old.items }
+{
+    text.retain(|b| !is_white_space(*b));
+}
+
+/// The bytes that hexadecimal text spells. Its white space is taken out in place.
+pub fn decode_hex(alloc: Global, mut text: Vec<u8>) -> Result<Input, AllocError>
+    ensures { IfOk result (λ input. read_bytes input ≡ bytes_of true text.items) }
+{
+    pack(&mut text);
+    match hex::decode(alloc, text.as_slice()) {
+        Ok(bytes) => Ok(Input::Bytes(bytes)),
+        Err(FromHexError::OutOfMemory) => Err(AllocError),
+        Err(FromHexError::OddLength) => Ok(Input::NotHex { place: text.len() }),
+        Err(FromHexError::InvalidHexCharacter { index, .. }) => Ok(Input::NotHex { place: index }),
+        Err(FromHexError::InvalidStringLength) => Ok(Input::NotHex { place: 0 }),
+    }
+}

@@ -1,0 +1,45 @@
+//! What is wrong with an input, which is told by one line on standard output.
+
+ghost use Rattle.std.specs.Prelude.{OnOk};
+ghost use Rattle.std.specs.Io.KnownBytes.{Appends};
+ghost use Rattle.engines.specs.InputFault.{input_fault_line};
+
+use crate::fault_line::{write_fault, write_msg_fault};
+use bson_elem::fault::BsonFault;
+use std::io;
+use std::io::Write;
+use wire_msg::fault::MsgFault;
+
+/// A fault of an input. Places are counted from its start.
+#[derive(Clone, Copy, Debug, PartialEq, Eq)]
+pub enum InputFault {
+    /// The input isn't hexadecimal text. The place is counted without its white space.
+    Hex { place: usize },
+    /// No document begins where one should.
+    Bson(BsonFault),
+    /// The canonical form of the document that begins at the place is too long for a document.
+    TooLarge { place: usize },
+    /// The bytes of a message have this fault. The place of a document's own fault in it is counted
+    /// from the document's first byte.
+    Msg(MsgFault),
+    /// The input ends inside the message that begins at the place.
+    EndedInside { place: usize },
+}
+
+impl InputFault {
+    /// Writes the line of the fault.
+    pub fn write<W: Write>(self, out: &mut W) -> io::Result<()>
+        ensures { OnOk result (Appends (W.contents out.old) (W.contents out.new)
+            (input_fault_line self)) }
+    {
+        match self {
+            InputFault::Hex { place } => write_fault(0, "Hex", place, out),
+            InputFault::Bson(fault) => {
+                write_fault(fault.cause.number(), fault.cause.name(), fault.at, out)
+            }
+            InputFault::TooLarge { place } => write_fault(16, "TooLarge", place, out),
+            InputFault::Msg(fault) => write_msg_fault(fault, out),
+            InputFault::EndedInside { place } => write_fault(14, "EndedInside", place, out),
+        }
+    }
+}

@@ -1,0 +1,23 @@
+//! The laws that make the texts of commands exact. The contract of each function is the law; the function does nothing.
+
+ghost use Rattle.std.specs.Prelude.{◌≡◌, Bool, List, Option, ℕ};
+ghost use Rattle.bson_elem.specs.Tree.{Tree};
+ghost use Rattle.bson_elem.specs.Spelling.{IsBytes};
+ghost use Rattle.engines.specs.Documents.{IsWhole};
+ghost use Rattle.engines.specs.Msg.{MsgText};
+
+/// Whatever a command writes for a document and however it joins that, bytes have at most one text, and it ends with a
+/// fault line or doesn't.
+pub fn one_text()
+    ensures { (text_of : Tree → Option (List ℕ)) (joined : Bool → List ℕ → List ℕ)
+        (bytes text other : List ℕ) (fault other_fault : Bool) → IsBytes bytes
+        → IsWhole text_of joined bytes text fault → IsWhole text_of joined bytes other other_fault
+        → (text ≡ other) × (fault ≡ other_fault) }
+{}
+
+/// Bytes have at most one text as messages, and it ends with a fault line or doesn't.
+pub fn one_text_of_messages()
+    ensures { (bytes text other : List ℕ) (fault other_fault : Bool) → IsBytes bytes
+        → MsgText bytes text fault → MsgText bytes other other_fault
+        → (text ≡ other) × (fault ≡ other_fault) }
+{}

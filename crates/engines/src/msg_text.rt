@@ -1,0 +1,122 @@
+//! The text of a message. No function here takes memory.
+
+ghost use Rattle.std.specs.Prelude.{◌≡◌, List, OnOk, flat_map, length};
+ghost use Rattle.std.specs.Io.KnownBytes.{Appends};
+ghost use Rattle.bson_elem.specs.Tree.{Tree};
+ghost use Rattle.bson_elem.specs.Spelling.{Spells};
+ghost use Rattle.bson_raw.specs.RawDocument.{document_bytes};
+ghost use Rattle.wire_msg.specs.Carries.{Carries};
+ghost use Rattle.wire_msg.specs.Documents.{DocumentsAre};
+ghost use Rattle.wire_msg.specs.Message.{Content, Message, Sequence};
+ghost use Rattle.wire_msg.specs.RawMsg.{msg_bytes};
+ghost use Rattle.wire_msg.specs.Spelling.{SpellsMsg};
+ghost use Rattle.engines.specs.Msg.{body_text, flags_text, member_text, message_line, message_text, sequence_text};
+
+use bson_doc::dump::dump_elements;
+use bson_doc::to_writer::quoted_to;
+use bson_raw::document::RawDocument;
+use std::io;
+use std::io::Write;
+use wire_msg::documents::Documents;
+use wire_msg::msg::RawMsg;
+use wire_msg::payload::Payload;
+
+/// The flags moreToCome and exhaustAllowed in one word.
+fn flags_word(more: bool, allows: bool) -> &'static str
+    ensures { result.now ≡ flags_text more allows }
+{
+    match (more, allows) {
+        (false, false) => "-",
+        (true, false) => "more",
+        (false, true) => "exhaust",
+        (true, true) => "more+exhaust",
+    }
+}
+
+/// The first line of a message.
+fn write_message_line<W: Write>(message: RawMsg<'_>, out: &mut W) -> io::Result<()>
+    ensures { (m : Message) → SpellsMsg m (msg_bytes message.entry) → OnOk result
+        (Appends (W.contents out.old) (W.contents out.new)
+        (message_line (length (msg_bytes message.entry)) m)) }
+{
+    let size = message.as_bytes().len();
+    let id = message.id();
+    let response_to = message.response_to();
+    let flags = flags_word(message.more(), message.allows_more());
+    writeln!(out, "message {size} id {id} to {response_to} flags {flags}")
+}
+
+/// The body: the line of its size, and those of its elements.
+fn write_body<W: Write>(body: RawDocument<'_>, out: &mut W) -> io::Result<()>
+    ensures { (t : Tree) → Spells t (document_bytes body.entry) → OnOk result
+        (Appends (W.contents out.old) (W.contents out.new) (body_text t)) }
+{
+    let size = body.as_bytes().len();
+    writeln!(out, "body {size}")?;
+    dump_elements(body, 1, out)
+}
+
+/// A document of a sequence, one deeper than the body.
+fn write_member<W: Write>(document: RawDocument<'_>, out: &mut W) -> io::Result<()>
+    ensures { (t : Tree) → Spells t (document_bytes document.entry) → OnOk result
+        (Appends (W.contents out.old) (W.contents out.new) (member_text t)) }
+{
+    let size = document.as_bytes().len();
+    writeln!(out, "  document {size}")?;
+    dump_elements(document, 2, out)
+}
+
+/// The documents of a sequence.
+fn write_documents<W: Write>(documents: Documents<'_>, out: &mut W) -> io::Result<()>
+    ensures { (ts : List Tree) → DocumentsAre documents.entry ts → OnOk result
+        (Appends (W.contents out.old) (W.contents out.new) (flat_map member_text ts)) }
+{
+    for document in documents.iter() {
+        write_member(document, out)?;
+    }
+    Ok(())
+}
+
+/// A document sequence: the line of its identifier and the count of its documents, and those.
+fn write_sequence<W: Write>(
+    identifier: &str,
+    documents: Documents<'_>,
+    out: &mut W,
+) -> io::Result<()>
+    ensures { (q : Sequence) → identifier.now ≡ q.identifier
+        → DocumentsAre documents.entry q.documents → OnOk result
+        (Appends (W.contents out.old) (W.contents out.new) (sequence_text q)) }
+{
+    let count = documents.count();
+    out.write_all(b"sequence ")?;
+    quoted_to(identifier, out)?;
+    writeln!(out, " {count}")?;
+    write_documents(documents, out)
+}
+
+/// The document sequences of a payload, in order.
+fn write_sequences<W: Write>(payload: Payload<'_>, out: &mut W) -> io::Result<()>
+    ensures { (c : Content) → Carries payload.entry c → OnOk result
+        (Appends (W.contents out.old) (W.contents out.new) (flat_map sequence_text c.sequences)) }
+{
+    for (identifier, documents) in payload.sequences() {
+        write_sequence(identifier, documents, out)?;
+    }
+    Ok(())
+}
+
+/// Writes the text of a message: its first line, its body, and its document sequences in order.
+///
+/// # Errors
+///
+/// The error of the writer, which may have taken a part of the text.
+pub fn write_message<W: Write>(message: RawMsg<'_>, out: &mut W) -> io::Result<()>
+    ensures { (m : Message) → SpellsMsg m (msg_bytes message.entry) → OnOk result
+        (Appends (W.contents out.old) (W.contents out.new)
+        (message_text (length (msg_bytes message.entry)) m)) }
+{
+    let payload = message.payload();
+    write_message_line(message, out)?;
+    write_body(payload.body(), out)?;
+    write_sequences(payload, out)
+}

@@ -1,0 +1,180 @@
+//! The frame of an engine: reads all, decodes, writes through a buffer, and tells how that ended.
+
+ghost use Rattle.std.specs.Prelude.{◌≡◌, ◌⊎◌, [], ℕ, Bool, List, IfErr, IfOk, IfSome, IsSome, None, Err, OnOk, Ok, codes, true, false};
+ghost use Rattle.std.specs.Io.KnownBytes.{Appends, IsAtEnd, Keeps};
+ghost use Rattle.std.specs.IoError.{error_kind, raw_os_error};
+ghost use Rattle.engines.specs.Buffered.{buffered_contents};
+ghost use Rattle.engines.specs.Input.{bytes_of, read_bytes};
+ghost use Rattle.engines.specs.Output.{AppendsText, IsOutput, IsTextOf};
+ghost use Rattle.engines.specs.Run.{end_of_error, is_done, is_fault};
+
+use crate::buffered::Buffered;
+use crate::hex_input::{Input, decode_hex};
+use crate::input_fault::InputFault;
+use core::mem::replace_with;
+use std::alloc::Global;
+use std::io;
+use std::io::{ErrorKind, Read, Write};
+
+/// How many bytes of text wait for the writer at most.
+const BUFFER: usize = 64 * 1024;
+
+/// How a run ended: with its text written, with a text that ends with a fault line, because
+/// reading or writing failed, or for want of memory.
+#[derive(Clone, Copy, Debug, PartialEq, Eq, Drop)]
+pub enum RunEnd {
+    Good,
+    Fault,
+    InOut,
+    Memory,
+}
+
+/// What a command writes for the bytes of its input.
+pub trait Engine {
+    // The texts of some bytes, and whether a text ends with a fault line.
+    ghost is_text: { Self → List ℕ → List ℕ → Bool → Type 0 };
+    // Whether writing may want memory.
+    ghost wants_memory: { Self → Bool };
+
+    /// Writes the text of the bytes, and says whether it ends with a fault line. Errs where the
+    /// writer does, and for want of memory.
+    fn write_text<W: Write>(&self, bytes: &[u8], out: &mut W) -> Result<bool, RunEnd>
+        ensures written { IfOk result (λ fault. AppendsText (is_text self.now bytes.now) fault
+            (W.contents out.old) (W.contents out.new)) }
+        ensures stopped { IfErr result (λ end. (is_done end ≡ false)
+            × (end ≡ RunEnd.Memory → wants_memory self.now ≡ true)) };
+}
+
+/// Writes the text of all that the reader has. With `hex` the input is hexadecimal text.
+///
+/// Beside the input, the bytes that it spells and what the engine takes, the only memory is one
+/// buffer, which is taken before the first byte is written.
+pub fn run<E: Engine, R: Read, W: Write>(
+    alloc: Global,
+    engine: &E,
+    hex: bool,
+    reader: &mut R,
+    writer: &mut W,
+) -> RunEnd
+    ensures read { is_done result ≡ true → IsAtEnd (R.remaining reader.new) }
+    ensures written { IfSome (R.remaining reader.old) (λ input. is_done result ≡ true →
+        AppendsText (IsOutput (E.is_text engine.now) hex input) (is_fault result)
+        (W.contents writer.old) (W.contents writer.new)) }
+    ensures late { (IsAtEnd (R.remaining reader.new)) ⊎
+        Keeps (W.contents writer.old) (W.contents writer.new) }
+    ensures memory { result ≡ RunEnd.Memory → E.wants_memory engine.now ≡ false →
+        Keeps (W.contents writer.old) (W.contents writer.new) }
+{
+    let input = match read_input(alloc, hex, reader) {
+        Ok(input) => input,
+        Err(end) => return end,
+    };
+    let Ok(buffer) = Vec::with_capacity(alloc, BUFFER) else {
+        return RunEnd::Memory;
+    };
+    let job = Job {
+        engine,
+        input,
+        buffer,
+    };
+    replace_with(writer, job, write_through)
+}
+
+/// The input that the reader has, or the end of the run.
+fn read_input<R: Read>(alloc: Global, hex: bool, reader: &mut R) -> Result<Input, RunEnd>
+    ensures bytes { IfOk result (λ input. IfSome (R.remaining reader.old)
+        (λ all. read_bytes input ≡ bytes_of hex all)) }
+    ensures read { OnOk result (IsAtEnd (R.remaining reader.new)) }
+    ensures cut { IfErr result (λ end. is_done end ≡ false) }
+{
+    let input = read_whole(alloc, reader)?;
+    if !hex {
+        return Ok(Input::Bytes(input));
+    }
+    match decode_hex(alloc, input) {
+        Ok(input) => Ok(input),
+        Err(_) => Err(RunEnd::Memory),
+    }
+}
+
+/// All that the reader has, or the end of the run.
+fn read_whole<R: Read>(alloc: Global, reader: &mut R) -> Result<Vec<u8>, RunEnd>
+    ensures bytes { IfOk result (λ v. IfSome (R.remaining reader.old) (λ all. v.items ≡ all)) }
+    ensures read { OnOk result (IsAtEnd (R.remaining reader.new)) }
+    ensures cut { IfErr result (λ end. is_done end ≡ false) }
+{
+    let mut input = Vec::new(alloc);
+    match reader.read_to_end(&mut input) {
+        Ok(_) => Ok(input),
+        Err(error) => Err(end_of(&error)),
+    }
+}
+
+/// How a run ends that meets this error. A refused allocation has no code of the system; where there is one, it is the
+/// system that lacks memory, and not this program.
+pub fn end_of(error: &io::Error) -> RunEnd
+    ensures { result ≡ end_of_error (error_kind error.now) (raw_os_error error.now) }
+{
+    if error.kind() == ErrorKind::OutOfMemory && error.raw_os_error().is_none() {
+        RunEnd::Memory
+    } else {
+        RunEnd::InOut
+    }
+}
+
+/// What is to be written, and the buffer for it.
+#[derive(Drop)]
+struct Job<'a, E> {
+    engine: &'a E,
+    input: Input,
+    buffer: Vec<u8>,
+}
+
+/// Does a job on a writer, which it gives back.
+fn write_through<E: Engine, W: Write>(writer: W, job: Job<'_, E>) -> (W, RunEnd)
+    requires { job.buffer.items ≡ [] }
+    ensures written { is_done result.1 ≡ true →
+        AppendsText (IsTextOf (E.is_text job.entry.engine.now) (read_bytes job.entry.input))
+        (is_fault result.1) (W.contents writer) (W.contents result.0) }
+    ensures memory { result.1 ≡ RunEnd.Memory → E.wants_memory job.entry.engine.now ≡ true }
+{
+    let mut out = Buffered::new(writer, job.buffer);
+    let written = write_output(job.engine, &job.input, &mut out);
+    finish(out, written)
+}
+
+/// Writes the text of an input, and says whether it ends with a fault line.
+fn write_output<E: Engine, W: Write>(engine: &E, input: &Input, out: &mut W) -> Result<bool, RunEnd>
+    ensures written { IfOk result (λ fault.
+        AppendsText (IsTextOf (E.is_text engine.now) (read_bytes input.now)) fault
+        (W.contents out.old) (W.contents out.new)) }
+    ensures stopped { IfErr result (λ end. (is_done end ≡ false)
+        × (end ≡ RunEnd.Memory → E.wants_memory engine.now ≡ true)) }
+{
+    match input {
+        Input::Bytes(bytes) => engine.write_text(bytes, out),
+        Input::NotHex { place } => match (InputFault::Hex { place: *place }).write(out) {
+            Ok(()) => Ok(true),
+            Err(_) => Err(RunEnd::InOut),
+        },
+    }
+}
+
+/// Passes on what is left of a text, and tells the end by what came of writing it.
+fn finish<W: Write>(mut out: Buffered<W>, written: Result<bool, RunEnd>) -> (W, RunEnd)
+    requires { IfErr written (λ end. is_done end ≡ false) }
+    ensures told { is_done result.1 ≡ true → written ≡ Ok (is_fault result.1) }
+    ensures kept { is_done result.1 ≡ true →
+        Keeps (buffered_contents W.contents out) (W.contents result.0) }
+    ensures memory { result.1 ≡ RunEnd.Memory → written ≡ Err RunEnd.Memory }
+{
+    let end = match written {
+        Err(end) => end,
+        Ok(is_fault) => match out.flush() {
+            Err(_) => RunEnd::InOut,
+            Ok(()) if is_fault => RunEnd::Fault,
+            Ok(()) => RunEnd::Good,
+        },
+    };
+    (out.into_inner(), end)
+}
