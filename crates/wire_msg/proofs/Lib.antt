@@ -20,3 +20,4 @@ pub mod LastLaws
 pub mod AppendLaws
 pub mod BufLaws
 pub mod FaultPlaces
+pub mod FrontLaws

@@ -14,6 +14,7 @@ pub mod Sequences
 pub mod RawMsg
 pub mod Standing
 pub mod Split
+pub mod Front
 pub mod Writing
 pub mod Buf
 pub mod Fields

@@ -5,13 +5,12 @@ ghost use Rattle.std.specs.Prelude.{◌≡◌, ◌<◌, ◌≤◌, ◌^◌, ◌+
 ghost use Rattle.std.specs.Int.{w32};
 ghost use Rattle.bson_elem.specs.Spelling.{IsBytes};
 ghost use Rattle.wire_msg.specs.declared.fault.MsgFault.{MsgFault};
-ghost use Rattle.wire_msg.specs.Header.{header_of, HeaderFault, IsGoodHeader, number_at};
+ghost use Rattle.wire_msg.specs.Header.{header_of, HeaderFault};
 ghost use Rattle.wire_msg.specs.Message.{IsContent, Message};
 ghost use Rattle.wire_msg.specs.Spelling.{canonical, message_len, SpellsMsg};
 ghost use Rattle.wire_msg.specs.Faults.{FaultMsg};
 ghost use Rattle.wire_msg.specs.Standing.{IsBad, IsOpen, IsWhole, Stands};
 
-use crate::header::MsgHeader;
 use crate::msg::RawMsg;
 
 /// A byte list spells at most one message.
@@ -91,35 +90,10 @@ pub fn bad_after_16_bytes()
         → HeaderFault limit (header_of header) f → IsBad limit (header ++ more) f }
 {}
 
-/// As `open_whole_or_bad`, of bytes whose header is good and announces this length.
-fn announced_stands(bytes: &[u8], limit: u32, len: usize)
-    requires limit { limit ≤ 48_000_000 }
-    requires header { 16 ≤ length bytes.now }
-    requires good { IsGoodHeader limit (header_of bytes.now) }
-    requires len { len ≡ number_at bytes.now 0 }
-    ensures { Stands limit bytes.now }
-{
-    if bytes.len() < len {
-        return;
-    }
-    let (front, _) = bytes.split_at(len);
-    match RawMsg::parse(front, limit) {
-        Ok(_) => (),
-        Err(_) => (),
-    }
-}
-
 /// Bytes are open, have a message in front, or are bad. The function reads them to find out which.
 pub fn open_whole_or_bad(bytes: &[u8], limit: u32)
     requires { limit ≤ 48_000_000 }
     ensures { Stands limit bytes.now }
 {
-    let Some((header, _)) = bytes.split_first_chunk::<16>() else {
-        return;
-    };
-    let header = MsgHeader::read(*header);
-    match header.check(limit) {
-        Ok(()) => announced_stands(bytes, limit, header.length as usize),
-        Err(_) => (),
-    }
+    let _ = RawMsg::front(bytes, limit);
 }

@@ -18,6 +18,7 @@ pub mod documents;
 pub mod fault;
 mod fields;
 pub mod flags;
+pub mod front;
 pub mod header;
 pub mod laws;
 pub mod msg;

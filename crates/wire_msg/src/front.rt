@@ -1,0 +1,86 @@
+//! The message that stands in front of bytes, where messages stand one after another.
+
+ghost use Rattle.std.specs.Prelude.{◌≡◌, ◌≤◌, ℕ, List};
+ghost use Rattle.wire_msg.specs.declared.fault.MsgFault.{MsgFault};
+ghost use Rattle.wire_msg.specs.Message.{Message};
+ghost use Rattle.wire_msg.specs.Standing.{IsBad, IsOpen, IsWhole};
+ghost use Rattle.wire_msg.specs.Front.{HasWhole, IsFrame, IsFront};
+
+use crate::fault::MsgFault;
+use crate::header::MsgHeader;
+use crate::msg::{RawMsg, check_parts};
+
+/// What stands in front of bytes.
+#[derive(Clone, Copy, Debug)]
+pub enum MsgFront<'a> {
+    /// A message, and the bytes behind it.
+    Whole {
+        /// The message.
+        message: RawMsg<'a>,
+        /// The bytes behind it.
+        rest: &'a [u8],
+    },
+    /// Fewer bytes than a header has, or than a good header announces.
+    Open,
+    /// Bytes that begin no message. The fault's place is counted from the first of them.
+    Bad(MsgFault),
+}
+
+/// What the header of a message says of the bytes that it begins.
+enum Frame<'a> {
+    /// The bytes that a good header announces, and those behind them.
+    Whole(&'a [u8], &'a [u8]),
+    /// Fewer bytes than a header has, or than a good header announces.
+    Open,
+    /// A header with this fault.
+    Bad(MsgFault),
+}
+
+/// Reads the header that begins `bytes`, and cuts `bytes` where it says that the message ends.
+fn read_frame(bytes: &[u8], limit: u32) -> Frame<'_>
+    requires { limit ≤ 48_000_000 }
+    ensures { IsFrame limit bytes.now result }
+{
+    let Some((header, _)) = bytes.split_first_chunk::<16>() else {
+        return Frame::Open;
+    };
+    let header = MsgHeader::read(*header);
+    if let Err(fault) = header.check(limit) {
+        return Frame::Bad(fault);
+    }
+    let len = header.length as usize;
+    if bytes.len() < len {
+        return Frame::Open;
+    }
+    let (message, rest) = bytes.split_at(len);
+    Frame::Whole(message, rest)
+}
+
+impl<'a> RawMsg<'a> {
+    /// Returns the message of at most `limit` bytes that begins `bytes`, with the bytes behind it;
+    /// `Open` where `bytes` end before that message does; or else the first fault and its place.
+    ///
+    /// The header is enough to tell its own faults. All other faults are told once as many bytes
+    /// are there as the header announces. The faults are those that `RawMsg::parse` tells of the
+    /// announced bytes.
+    pub fn front(bytes: &'a [u8], limit: u32) -> MsgFront<'a>
+        requires { limit ≤ 48_000_000 }
+        ensures front { IsFront limit bytes.now result }
+        ensures whole { (m : Message) (rest : List ℕ) (w : IsWhole limit bytes.now m rest)
+            → HasWhole w.front rest result }
+        ensures too_few { IsOpen limit bytes.now → result ≡ MsgFront.Open }
+        ensures bad { (f : MsgFault) → IsBad limit bytes.now f → result ≡ MsgFront.Bad f }
+    {
+        match read_frame(bytes, limit) {
+            Frame::Whole(message, rest) => match check_parts(message) {
+                Ok(()) => MsgFront::Whole {
+                    message: RawMsg::from_spelled(message),
+                    rest,
+                },
+                Err(fault) => MsgFront::Bad(fault),
+            },
+            Frame::Open => MsgFront::Open,
+            Frame::Bad(fault) => MsgFront::Bad(fault),
+        }
+    }
+}
