@@ -36,9 +36,9 @@ abbrev pub GivesPair : RawIter → Option (Bor (List ℕ) × RawBson) → RawIte
 GivesPair s None after = (t : Tree) → PairsLeft s t → t ≡ no_pairs
 GivesPair s (Some x) after = ((t : Tree) → PairsLeft s t → GivesFirst t x.0.now x.1 (PairsLeft after)) × (held_len x.1 < walked_len s)
 
--- one step of the iterator, in the same document
+-- One step of the iterator, in the same document. After its end the iterator stays as it is.
 abbrev pub StepsTo : RawIter → Option (Bor (List ℕ) × RawBson) → RawIter → Type 0
-StepsTo s given after = (walked_len after ≡ walked_len s) × GivesPair s given after
+StepsTo s given after = (walked_len after ≡ walked_len s) × GivesPair s given after × (given ≡ None → after ≡ s)
 
 -- ---- the values of an array
 
@@ -59,6 +59,6 @@ abbrev pub GivesValue : RawArrayIter → Option RawBson → RawArrayIter → Typ
 GivesValue s None after = (t : Tree) → ValuesLeft s t → t ≡ no_pairs
 GivesValue s (Some value) after = ((t : Tree) → ValuesLeft s t → (name : List ℕ) × GivesFirst t name value (ValuesLeft after)) × (held_len value < walked_array_len s)
 
--- one step of the iterator, in the same array
+-- One step of the iterator, in the same array. After its end the iterator stays as it is.
 abbrev pub ValueStepsTo : RawArrayIter → Option RawBson → RawArrayIter → Type 0
-ValueStepsTo s given after = (walked_array_len after ≡ walked_array_len s) × GivesValue s given after
+ValueStepsTo s given after = (walked_array_len after ≡ walked_array_len s) × GivesValue s given after × (given ≡ None → after ≡ s)

@@ -12,7 +12,7 @@ use Rattle.bson_raw.proofs.iter.RawIterIterator.next.Goals as goal
 use Rattle.bson_raw.proofs.iter.RawIterIterator.next.Goals.{After-reread_element-element}
 
 pub returns-then-self-end-clause-steps : goal.returns-then-self-end-clause-steps
-returns-then-self-end-clause-steps c = (refl, λ t left. none_left c.args.self.now.bytes.now c.args.self.now.at t c.if-self-end.true left)
+returns-then-self-end-clause-steps c = (refl, λ t left. none_left c.args.self.now.bytes.now c.args.self.now.at t c.if-self-end.true left, λ none. refl)
 
 pub reread_element-element-requires-clause-checked : goal.reread_element-element-requires-clause-checked
 reread_element-element-requires-clause-checked c = can_read c.args.self.now.bytes.now c.args.self.now.at c.args.self.now.left c.if-self-end.false
@@ -39,4 +39,5 @@ returns-clause-steps c =
         λ t left. let f = first at t left in record { tree_value = f.0; others = f.1; is_first = f.2; shown = c.of_item.ensures f.0 f.3; left = f.4 },
         held_short_of c.args.self.now.bytes.now c.args.self.now.at c.of_item.result c.args.self.now.left (λ t left. let f = first at t left in (c.reread_element-element.result.name.now, f.0, f.1, f.2, c.of_item.ensures f.0 f.3)),
       ),
+      λ none. absurd cc,
     )
