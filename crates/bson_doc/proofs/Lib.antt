@@ -8,11 +8,5 @@ pub mod Reading
 pub mod Checking
 pub mod Writing
 pub mod Owned
-pub mod Progress
-pub mod Indent
-pub mod Quoted
-pub mod Escapes
-pub mod Hexadecimal
-pub mod Lines
 pub mod Appending
 pub mod Equal

@@ -13,9 +13,7 @@ pub mod DocumentIter
 pub mod Repeats
 pub mod Unwritable
 pub mod Formed
-pub mod Text
-pub mod ValueText
-pub mod Dump
-pub mod DumpValues
 pub mod Same
-pub mod TextWriter
+pub use Rattle.bson_text.specs.Text
+pub use Rattle.bson_text.specs.ValueText
+pub use Rattle.bson_text.specs.Dump

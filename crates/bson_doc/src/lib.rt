@@ -1,5 +1,5 @@
-//! BSON documents that own what they hold, documents in their bytes that are owned, the canonical form of documents, and
-//! their text.
+//! BSON documents that own what they hold, documents in their bytes that are owned, and the canonical form of
+//! documents.
 //!
 //! A `Document` keeps its pairs in order, and finds a name without a walk. A contract sees it as the list of its
 //! pairs. The values in that list are those of the trees that bytes of documents spell. `Document::from_raw` reads a
@@ -9,8 +9,10 @@
 //! canonical form where those of each array in it are. `is_canonical` tells whether a borrowed document is, and
 //! `to_canonical` makes the canonical form of one, as a `RawDocumentBuf`. What `Document::to_raw` writes is canonical.
 //!
-//! `dump::dump_to` writes the text of a borrowed document, a line for each element.
+//! `dump_to` and `dump_elements` of the crate `bson_text`, which write the text of a borrowed document, are given on.
 #![tactic(auto)]
+
+pub use bson_text::dump::{dump_elements, dump_to};
 
 mod append;
 pub mod array;
@@ -19,16 +21,11 @@ pub mod buf;
 mod bytes;
 pub mod canon;
 pub mod document;
-pub mod dump;
 mod element;
 mod from_raw;
 pub mod iter;
 pub mod laws;
 mod name;
 pub mod refusal;
-mod text;
-mod text_writer;
 mod to_raw;
-pub mod to_writer;
 mod unwritable;
-mod value_text;

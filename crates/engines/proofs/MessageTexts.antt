@@ -5,7 +5,7 @@ use Rattle.std.specs.Io.KnownBytes.{Appends}
 use Rattle.std.proofs.KnownBytes.{Appends-trans}
 use Rattle.bson_elem.specs.Tree.{Tree}
 use Rattle.bson_elem.specs.Spelling.{Spells}
-use Rattle.bson_doc.specs.Dump.{document_size, element_lines}
+use Rattle.bson_text.specs.Dump.{document_size, element_lines}
 use Rattle.wire_msg.specs.Message.{Message}
 use Rattle.engines.specs.Msg.{flags_text, member_text, message_line}
 

@@ -2,8 +2,8 @@
 use Rattle.std.specs.Prelude.{◌≡◌, ◌≢◌, ℕ, ◌+◌, List, [], ◌++◌, length, codes, flat_map, Bool, true, false}
 use Rattle.std.specs.Fmt.{decimal, signed_decimal}
 use Rattle.bson_elem.specs.Tree.{Tree}
-use Rattle.bson_doc.specs.Dump.{document_size, element_lines}
-use Rattle.bson_doc.specs.Text.{quoted}
+use Rattle.bson_text.specs.Dump.{document_size, element_lines}
+use Rattle.bson_text.specs.Text.{quoted}
 use Rattle.wire_msg.specs.declared.fault.MsgFault.{MsgFault}
 use Rattle.wire_msg.specs.Message.{Sequence, Message}
 use Rattle.wire_msg.specs.Standing.{IsOpen, IsWhole, IsBad}

@@ -12,7 +12,7 @@ use crate::run::{Engine, RunEnd, run};
 use bson_doc::buf::MAX_LEN;
 use bson_doc::canon::renumbered;
 use bson_doc::refusal::DocRefusal;
-use bson_doc::to_writer::hex_to;
+use bson_text::to_writer::hex_to;
 use bson_raw::document::RawDocument;
 use std::alloc::Global;
 use std::io::{Read, Write};

@@ -8,7 +8,7 @@ ghost use Rattle.engines.specs.Run.{is_done, is_fault};
 
 use crate::documents::{EachDocument, write_documents};
 use crate::run::{Engine, RunEnd, run};
-use bson_doc::to_writer::number_to;
+use bson_text::to_writer::number_to;
 use bson_raw::document::RawDocument;
 use std::alloc::Global;
 use std::io;

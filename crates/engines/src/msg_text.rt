@@ -12,8 +12,8 @@ ghost use Rattle.wire_msg.specs.RawMsg.{msg_bytes};
 ghost use Rattle.wire_msg.specs.Spelling.{SpellsMsg};
 ghost use Rattle.engines.specs.Msg.{body_text, flags_text, member_text, message_line, message_text, sequence_text};
 
-use bson_doc::dump::dump_elements;
-use bson_doc::to_writer::quoted_to;
+use bson_text::dump::dump_elements;
+use bson_text::to_writer::quoted_to;
 use bson_raw::document::RawDocument;
 use std::io;
 use std::io::Write;

@@ -2,7 +2,7 @@
 //! that a failed write ends the walk, and that the calls write a document's text.
 
 use crate::hex_bytes::bytes_of;
-use bson_doc::dump::{dump_elements, dump_to};
+use bson_doc::{dump_elements, dump_to};
 use bson_raw::document::RawDocument;
 use std::io;
 use std::io::Write;

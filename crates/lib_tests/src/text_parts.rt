@@ -1,6 +1,6 @@
 //! What no contract says: the worked texts, and how a text reaches its writer, whole or cut short.
 
-use bson_doc::to_writer::{hex_to, quoted_to};
+use bson_text::to_writer::{hex_to, quoted_to};
 use std::io;
 use std::io::Write;
 use std::test::Fail;

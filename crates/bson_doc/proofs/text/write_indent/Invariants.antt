@@ -1,7 +1,0 @@
-use Rattle.std.specs.Io.KnownBytes.{Appends}
-use Rattle.bson_doc.specs.Text.{indent}
-use Rattle.bson_doc.specs.TextWriter.{text_contents}
-use Rattle.bson_doc.proofs.text.write_indent.Given as goal
-
-abbrev pub invariant-loop : goal.invariant-loop
-invariant-loop g l = Appends (text_contents g.W.Write.contents l.initial.out) (text_contents g.W.Write.contents l.out) (indent l.counter)

@@ -1,0 +1,16 @@
+use Rattle.std.proofs.Common.{◌≡◌, ◌≤◌, ◌++◌, ℕ, List}
+use Rattle.std.specs.Io.KnownBytes.{Appends}
+use Rattle.bson_elem.specs.Tree.{Tree}
+use Rattle.bson_raw.specs.RawIter.{PairsLeft, pairs_bound, walked_len}
+use Rattle.bson_text.specs.Dump.{element_lines}
+use Rattle.bson_text.specs.TextWriter.{text_contents}
+use Rattle.bson_text.proofs.dump.write_to_held.Given as goal
+
+-- what was written, and the lines of the pairs that are left, are the lines of all; and the walk is in the same document
+abbrev pub invariant-loop-name : goal.invariant-loop-name
+invariant-loop-name g l =
+    (goal.iterator-loop-name g).can_next l.pairs ×
+    (goal.iterator-loop-name g).is_finite l.pairs ×
+    (walked_len l.pairs ≡ walked_len l.initial.pairs) ×
+    (pairs_bound l.pairs ≤ pairs_bound l.initial.pairs) ×
+    ((t : Tree) → PairsLeft l.initial.pairs t → (rest : Tree) × (text : List ℕ) × PairsLeft l.pairs rest × Appends (text_contents g.W.Write.contents l.initial.out) (text_contents g.W.Write.contents l.out) text × (element_lines l.deep t ≡ text ++ element_lines l.deep rest))

@@ -1,0 +1,57 @@
+-- The text of a document.
+use Rattle.std.specs.Prelude.{ℕ, ◌+◌, List, [], ◌++◌, length, codes}
+use Rattle.std.specs.Fmt.{decimal}
+use Rattle.bson_elem.specs.declared.kind.Kind.{Kind}
+use Rattle.bson_elem.specs.declared.kind.Kind.TheVariants.{Double, String, Document, Array, Binary, Undefined, ObjectId, Boolean, DateTime, Null, Regex, DbPointer, Code, Symbol, CodeWithScope, Int32, Timestamp, Int64, Decimal128, MinKey, MaxKey}
+use Rattle.bson_elem.specs.Tree.{Leaf, raw_value, boolean_value, number_value, timestamp_value, text_value, pointer_value, binary_value, regex_value, Beside, no_code, with_code, Tree, no_pairs, leaf_pair, inner_pair}
+use Rattle.bson_elem.specs.Spelling.{document, elements}
+use Rattle.bson_text.specs.Text.{indent, quoted}
+use Rattle.bson_text.specs.ValueText.{double_text, string_text, inner_document_text, array_text, binary_text, objectid_text, boolean_text, datetime_text, regex_text, dbpointer_text, code_text, symbol_text, codescope_text, int32_text, timestamp_text, int64_text, decimal128_text}
+
+-- a leaf of this kind, as its line has it behind the name
+abbrev pub leaf_text : Kind → Leaf → List ℕ
+leaf_text Double (raw_value bytes) = double_text bytes
+leaf_text String (text_value words) = string_text words
+leaf_text Binary (binary_value subtype bytes) = binary_text subtype bytes
+leaf_text Undefined (raw_value bytes) = codes " undefined"
+leaf_text ObjectId (raw_value bytes) = objectid_text bytes
+leaf_text Boolean (boolean_value b) = boolean_text b
+leaf_text DateTime (number_value z) = datetime_text z
+leaf_text Null (raw_value bytes) = codes " null"
+leaf_text Regex (regex_value pattern options) = regex_text pattern options
+leaf_text DbPointer (pointer_value words id) = dbpointer_text words id
+leaf_text Code (text_value words) = code_text words
+leaf_text Symbol (text_value words) = symbol_text words
+leaf_text Int32 (number_value z) = int32_text z
+leaf_text Timestamp (timestamp_value increment seconds) = timestamp_text seconds increment
+leaf_text Int64 (number_value z) = int64_text z
+leaf_text Decimal128 (raw_value bytes) = decimal128_text bytes
+leaf_text MinKey (raw_value bytes) = codes " minkey"
+leaf_text MaxKey (raw_value bytes) = codes " maxkey"
+leaf_text _ _ = []
+
+-- a document of this kind and so many bytes, with what stands beside it, as its line has it behind the name
+abbrev pub inner_text : Kind → Beside → ℕ → List ℕ
+inner_text Document no_code size = inner_document_text size
+inner_text Array no_code size = array_text size
+inner_text CodeWithScope (with_code words) size = codescope_text words size
+inner_text _ _ size = []
+
+-- the line of an element so deep, of this name, whose value has this text
+abbrev pub element_line : ℕ → List ℕ → List ℕ → List ℕ
+element_line deep name shown = indent deep ++ (quoted name ++ (shown ++ codes "\n"))
+
+-- how many bytes the document of these pairs has
+abbrev pub document_size : Tree → ℕ
+document_size t = length (document (elements t))
+
+-- the lines of the pairs, so deep; those of an inner document follow its own line, one deeper
+abbrev pub element_lines : ℕ → Tree → List ℕ
+element_lines deep no_pairs = []
+element_lines deep (leaf_pair name k v ps) = element_line deep name (leaf_text k v) ++ element_lines deep ps
+element_lines deep (inner_pair name k b inner ps) =
+    element_line deep name (inner_text k b (document_size inner)) ++ (element_lines (deep + 1) inner ++ element_lines deep ps)
+
+-- the text of a document: the line of its size, and those of its elements
+abbrev pub document_text : Tree → List ℕ
+document_text t = codes "document " ++ (decimal (document_size t) ++ (codes "\n" ++ element_lines 1 t))

@@ -1,0 +1,5 @@
+pub mod Text
+pub mod ValueText
+pub mod Dump
+pub mod DumpValues
+pub mod TextWriter

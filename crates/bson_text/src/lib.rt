@@ -1,0 +1,12 @@
+//! The text of BSON documents.
+//!
+//! `dump::dump_to` writes the text of a borrowed document: a line with the count of its bytes, and a line for each
+//! element at all depths. `dump::dump_elements` writes the elements' lines alone. `to_writer` writes the parts that
+//! other texts share with it: numbers, quoted text and hexadecimal digits. No function of this crate takes memory.
+#![tactic(auto)]
+
+pub mod dump;
+mod text;
+mod text_writer;
+pub mod to_writer;
+mod value_text;

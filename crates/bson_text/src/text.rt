@@ -1,0 +1,221 @@
+//! Indentation, quoted text and hexadecimal, the parts of which text of documents is made.
+
+ghost use Rattle.std.specs.Prelude.{◌≡◌, ◌+◌, ◌≤◌, MatchOption, OnOk, Some, flat_map, length, position};
+ghost use Rattle.std.specs.Io.KnownBytes.{Appends};
+ghost use Rattle.hex.specs.Hex.{encode_lower};
+ghost use Rattle.bson_text.specs.TextWriter.{text_contents};
+ghost use Rattle.bson_text.specs.Text.{IsPlainTo, escaped, indent, needs_escape, quoted};
+
+use crate::text_writer::{Failed, TextWriter};
+use itoa::{Buffer, Integer};
+use std::io::Write;
+use std::simd::prelude::*;
+
+/// How many bytes are spelled at a time.
+const HEX_CHUNK: usize = 128;
+
+/// How many bytes a number or an id has at most.
+const HEX_FEW: usize = 16;
+
+/// Two spaces for each level of depth.
+pub(crate) fn write_indent<W: Write>(deep: u32, out: &mut TextWriter<W>) -> Result<(), Failed>
+    ensures { OnOk result (Appends (text_contents W.contents out.old) (text_contents W.contents out.new) (indent deep)) }
+{
+    for _ in 0..deep {
+        out.write_all(b"  ")?;
+    }
+    Ok(())
+}
+
+/// Whether quoted text writes the byte with a backslash.
+#[inline(always)]
+fn is_escaped(b: u8) -> bool
+    ensures { result ≡ needs_escape b }
+{
+    matches!(b, b'"' | b'\\' | 0..=31 | 127)
+}
+
+/// The place of the first byte to escape, if it is among the 16 bytes at `at`.
+#[inline(always)]
+fn escaped_in_16(bytes: &[u8], at: usize) -> Option<usize>
+    requires { (at + 16 ≤ length bytes.now) × IsPlainTo bytes.now at }
+    ensures { MatchOption result (IsPlainTo bytes.now (at + 16)) (λ n.
+        position needs_escape bytes.now ≡ Some n) }
+{
+    let lanes = u8x16::from_slice(&bytes[at..]);
+    let mask = (lanes.simd_lt(u8x16::splat(0x20))
+        | lanes.simd_eq(u8x16::splat(0x7f))
+        | lanes.simd_eq(u8x16::splat(b'"'))
+        | lanes.simd_eq(u8x16::splat(b'\\'))).to_bitmask();
+    if mask == 0 {
+        return None;
+    }
+    Some(at + mask.trailing_zeros() as usize)
+}
+
+/// The place of the first byte to escape, if it is among the 4 bytes at `at`.
+#[inline(always)]
+fn escaped_in_4(bytes: &[u8], at: usize) -> Option<usize>
+    requires { (at + 4 ≤ length bytes.now) × IsPlainTo bytes.now at }
+    ensures { MatchOption result (IsPlainTo bytes.now (at + 4)) (λ n.
+        position needs_escape bytes.now ≡ Some n) }
+{
+    let lanes = u8x4::from_slice(&bytes[at..]);
+    let mask = (lanes.simd_lt(u8x4::splat(0x20))
+        | lanes.simd_eq(u8x4::splat(0x7f))
+        | lanes.simd_eq(u8x4::splat(b'"'))
+        | lanes.simd_eq(u8x4::splat(b'\\'))).to_bitmask();
+    if mask == 0 {
+        return None;
+    }
+    Some(at + mask.trailing_zeros() as usize)
+}
+
+/// As `first_escaped`, in fewer than 4 bytes.
+#[inline(always)]
+fn escaped_one_by_one(bytes: &[u8]) -> Option<usize>
+    ensures { result ≡ position needs_escape bytes.now }
+{
+    for at in 0..bytes.len() {
+        if is_escaped(bytes[at]) {
+            return Some(at);
+        }
+    }
+    None
+}
+
+/// As `first_escaped`, in fewer than 16 bytes.
+#[inline(always)]
+fn escaped_in_few(bytes: &[u8]) -> Option<usize>
+    ensures { result ≡ position needs_escape bytes.now }
+{
+    if bytes.len() < 4 {
+        return escaped_one_by_one(bytes);
+    }
+    let mut at = 0;
+    while bytes.len() - at > 4 {
+        if let Some(found) = escaped_in_4(bytes, at) {
+            return Some(found);
+        }
+        at += 4;
+    }
+    // The last look may overlap the one before.
+    escaped_in_4(bytes, bytes.len() - 4)
+}
+
+/// The place of the first byte that quoted text writes with a backslash.
+fn first_escaped(bytes: &[u8]) -> Option<usize>
+    ensures { result ≡ position needs_escape bytes.now }
+{
+    if bytes.len() < 16 {
+        return escaped_in_few(bytes);
+    }
+    let mut at = 0;
+    while bytes.len() - at > 16 {
+        if let Some(found) = escaped_in_16(bytes, at) {
+            return Some(found);
+        }
+        at += 16;
+    }
+    // The last look may overlap the one before.
+    escaped_in_16(bytes, bytes.len() - 16)
+}
+
+/// One byte as quoted text has it.
+fn write_escaped<W: Write>(b: u8, out: &mut TextWriter<W>) -> Result<(), Failed>
+    ensures { OnOk result (Appends (text_contents W.contents out.old) (text_contents W.contents out.new) (escaped b)) }
+{
+    match b {
+        b'"' => out.write_all(b"\\\""),
+        b'\\' => out.write_all(b"\\\\"),
+        0..=31 | 127 => {
+            out.write_all(b"\\x")?;
+            write_hex(&[b], out)
+        }
+        _ => out.write_all(&[b]),
+    }
+}
+
+/// The bytes as quoted text has them. Each run of bytes that need no escape is written by one call.
+#[inline(never)]
+fn write_runs<W: Write>(bytes: &[u8], out: &mut TextWriter<W>) -> Result<(), Failed>
+    ensures { OnOk result (Appends (text_contents W.contents out.old) (text_contents W.contents out.new)
+        (flat_map escaped bytes.now)) }
+{
+    let mut rest = bytes;
+    while let Some(at) = first_escaped(rest) {
+        let (run, from) = rest.split_at(at);
+        out.write_all(run)?;
+        write_escaped(from[0], out)?;
+        rest = &from[1..];
+    }
+    out.write_all(rest)
+}
+
+/// A text between quotes.
+pub(crate) fn write_quoted<W: Write>(text: &str, out: &mut TextWriter<W>) -> Result<(), Failed>
+    ensures { OnOk result (Appends (text_contents W.contents out.old) (text_contents W.contents out.new) (quoted text.now)) }
+{
+    let bytes = text.as_bytes();
+    out.write_all(b"\"")?;
+    // Few texts hold a byte to escape.
+    match first_escaped(bytes) {
+        None => out.write_all(bytes)?,
+        Some(_) => write_runs(bytes, out)?,
+    }
+    out.write_all(b"\"")
+}
+
+/// A number in decimal, with `-` where it is negative.
+pub(crate) fn write_number<I: Integer, W: Write>(
+    number: I,
+    out: &mut TextWriter<W>,
+) -> Result<(), Failed>
+    ensures { OnOk result (Appends (text_contents W.contents out.old) (text_contents W.contents out.new) (I.text number)) }
+{
+    let mut digits = Buffer::new();
+    out.write_all(digits.format(number).as_bytes())
+}
+
+/// At most 16 bytes as lower-case hexadecimal digits.
+fn write_hex_few<W: Write>(few: &[u8], out: &mut TextWriter<W>) -> Result<(), Failed>
+    requires { length few.now ≤ HEX_FEW }
+    ensures { OnOk result (Appends (text_contents W.contents out.old) (text_contents W.contents out.new)
+        (encode_lower few.now)) }
+{
+    let mut buffer = [0u8; 2 * HEX_FEW];
+    let digits = &mut buffer[..2 * few.len()];
+    // It errs only where the digits don't fill the slice.
+    let _ = hex::encode_to_slice(few, digits);
+    out.write_all(digits)
+}
+
+/// At most 128 bytes as lower-case hexadecimal digits.
+fn write_hex_chunk<W: Write>(chunk: &[u8], out: &mut TextWriter<W>) -> Result<(), Failed>
+    requires { length chunk.now ≤ HEX_CHUNK }
+    ensures { OnOk result (Appends (text_contents W.contents out.old) (text_contents W.contents out.new)
+        (encode_lower chunk.now)) }
+{
+    let mut buffer = [0u8; 2 * HEX_CHUNK];
+    let digits = &mut buffer[..2 * chunk.len()];
+    // It errs only where the digits don't fill the slice.
+    let _ = hex::encode_to_slice(chunk, digits);
+    out.write_all(digits)
+}
+
+/// Bytes of any number as lower-case hexadecimal digits.
+pub(crate) fn write_hex<W: Write>(bytes: &[u8], out: &mut TextWriter<W>) -> Result<(), Failed>
+    ensures { OnOk result (Appends (text_contents W.contents out.old) (text_contents W.contents out.new)
+        (encode_lower bytes.now)) }
+{
+    if bytes.len() <= HEX_FEW {
+        return write_hex_few(bytes, out);
+    }
+    let mut rest = bytes;
+    while !rest.is_empty() {
+        let (chunk, after) = rest.split_at(rest.len().min(HEX_CHUNK));
+        write_hex_chunk(chunk, out)?;
+        rest = after;
+    }
+    Ok(())
+}

@@ -1,0 +1,53 @@
+//! Parts of the text of documents, for texts in which documents stand.
+
+ghost use Rattle.std.specs.Prelude.{OnOk};
+ghost use Rattle.std.specs.Io.KnownBytes.{Appends};
+ghost use Rattle.hex.specs.Hex.{encode_lower};
+ghost use Rattle.bson_text.specs.Text.{quoted};
+
+use crate::text::{write_hex, write_quoted};
+use crate::text_writer::TextWriter;
+use core::mem::replace_with;
+use itoa::{Buffer, Integer};
+use std::io;
+use std::io::Write;
+
+/// Writes a number in decimal, with `-` where it is negative.
+pub fn number_to<I: Integer, W: Write>(number: I, out: &mut W) -> io::Result<()>
+    ensures { OnOk result (Appends (W.contents out.old) (W.contents out.new) (I.text number)) }
+{
+    let mut digits = Buffer::new();
+    out.write_all(digits.format(number).as_bytes())
+}
+
+/// As `quoted_to`, to a writer that is given back.
+fn quoted_through<W: Write>(out: W, text: &str) -> (W, io::Result<()>)
+    ensures { OnOk result.1 (Appends (W.contents out) (W.contents result.0) (quoted text.now)) }
+{
+    let mut waiting = TextWriter::new(out);
+    let written = write_quoted(text, &mut waiting);
+    waiting.finish(written)
+}
+
+/// Writes a text between quotes: `"` and `\` behind a backslash, 00 to 1F and 7F as `\x` and two digits.
+pub fn quoted_to<W: Write>(text: &str, out: &mut W) -> io::Result<()>
+    ensures { OnOk result (Appends (W.contents out.old) (W.contents out.new) (quoted text.now)) }
+{
+    replace_with(out, text, quoted_through)
+}
+
+/// As `hex_to`, to a writer that is given back.
+fn hex_through<W: Write>(out: W, bytes: &[u8]) -> (W, io::Result<()>)
+    ensures { OnOk result.1 (Appends (W.contents out) (W.contents result.0) (encode_lower bytes.now)) }
+{
+    let mut waiting = TextWriter::new(out);
+    let written = write_hex(bytes, &mut waiting);
+    waiting.finish(written)
+}
+
+/// Writes bytes as lower-case hexadecimal digits.
+pub fn hex_to<W: Write>(bytes: &[u8], out: &mut W) -> io::Result<()>
+    ensures { OnOk result (Appends (W.contents out.old) (W.contents out.new) (encode_lower bytes.now)) }
+{
+    replace_with(out, bytes, hex_through)
+}

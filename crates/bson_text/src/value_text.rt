@@ -1,0 +1,217 @@
+//! What stands after an element's name: a space, the kind's word and, where there is one, the value.
+//!
+//! None of these writes the element's name or the line feed. A kind with no value is its word alone,
+//! as ` null`, and has no function here.
+
+ghost use Rattle.std.specs.Prelude.{OnOk};
+ghost use Rattle.std.specs.Io.KnownBytes.{Appends};
+ghost use Rattle.bson_text.specs.TextWriter.{text_contents};
+ghost use Rattle.bson_text.specs.ValueText.{array_text, binary_text, boolean_text, code_text, codescope_text, datetime_text, dbpointer_text, decimal128_text, inner_document_text, double_text, int32_text, int64_text, objectid_text, regex_text, string_text, symbol_text, timestamp_text};
+
+use crate::text::{write_hex, write_number, write_quoted};
+use crate::text_writer::{Failed, TextWriter};
+use std::io::Write;
+
+/// ` double ` and 16 digits, the bytes in file order.
+pub(crate) fn write_double<W: Write>(bytes: &[u8; 8], out: &mut TextWriter<W>) -> Result<(), Failed>
+    ensures { OnOk result (Appends (text_contents W.contents out.old) (text_contents W.contents out.new)
+        (double_text bytes.now)) }
+{
+    out.write_all(b" double ")?;
+    write_hex(bytes, out)
+}
+
+/// ` string ` and the quoted text.
+pub(crate) fn write_string<W: Write>(text: &str, out: &mut TextWriter<W>) -> Result<(), Failed>
+    ensures { OnOk result (Appends (text_contents W.contents out.old) (text_contents W.contents out.new)
+        (string_text text.now)) }
+{
+    out.write_all(b" string ")?;
+    write_quoted(text, out)
+}
+
+/// ` document ` and the count of its bytes.
+pub(crate) fn write_inner_document<W: Write>(
+    size: usize,
+    out: &mut TextWriter<W>,
+) -> Result<(), Failed>
+    ensures { OnOk result (Appends (text_contents W.contents out.old) (text_contents W.contents out.new)
+        (inner_document_text size)) }
+{
+    out.write_all(b" document ")?;
+    write_number(size, out)
+}
+
+/// ` array ` and the count of its bytes.
+pub(crate) fn write_array<W: Write>(size: usize, out: &mut TextWriter<W>) -> Result<(), Failed>
+    ensures { OnOk result (Appends (text_contents W.contents out.old) (text_contents W.contents out.new)
+        (array_text size)) }
+{
+    out.write_all(b" array ")?;
+    write_number(size, out)
+}
+
+/// ` binary `, the subtype, the count of the data and, where there are any, the data.
+pub(crate) fn write_binary<W: Write>(
+    subtype: u8,
+    bytes: &[u8],
+    out: &mut TextWriter<W>,
+) -> Result<(), Failed>
+    ensures { OnOk result (Appends (text_contents W.contents out.old) (text_contents W.contents out.new)
+        (binary_text subtype bytes.now)) }
+{
+    out.write_all(b" binary ")?;
+    write_hex(&[subtype], out)?;
+    out.write_all(b" ")?;
+    write_number(bytes.len(), out)?;
+    if bytes.is_empty() {
+        return Ok(());
+    }
+    out.write_all(b" ")?;
+    write_hex(bytes, out)
+}
+
+/// ` objectid ` and 24 digits.
+pub(crate) fn write_objectid<W: Write>(
+    bytes: &[u8; 12],
+    out: &mut TextWriter<W>,
+) -> Result<(), Failed>
+    ensures { OnOk result (Appends (text_contents W.contents out.old) (text_contents W.contents out.new)
+        (objectid_text bytes.now)) }
+{
+    out.write_all(b" objectid ")?;
+    write_hex(bytes, out)
+}
+
+/// ` boolean true` or ` boolean false`.
+pub(crate) fn write_boolean<W: Write>(value: bool, out: &mut TextWriter<W>) -> Result<(), Failed>
+    ensures { OnOk result (Appends (text_contents W.contents out.old) (text_contents W.contents out.new)
+        (boolean_text value)) }
+{
+    let text = if value {
+        " boolean true"
+    } else {
+        " boolean false"
+    };
+    out.write_all(text.as_bytes())
+}
+
+/// ` datetime ` and the milliseconds since 1970 in UTC.
+pub(crate) fn write_datetime<W: Write>(
+    milliseconds: i64,
+    out: &mut TextWriter<W>,
+) -> Result<(), Failed>
+    ensures { OnOk result (Appends (text_contents W.contents out.old) (text_contents W.contents out.new)
+        (datetime_text milliseconds)) }
+{
+    out.write_all(b" datetime ")?;
+    write_number(milliseconds, out)
+}
+
+/// ` regex `, the quoted pattern and the quoted options.
+pub(crate) fn write_regex<W: Write>(
+    pattern: &str,
+    options: &str,
+    out: &mut TextWriter<W>,
+) -> Result<(), Failed>
+    ensures { OnOk result (Appends (text_contents W.contents out.old) (text_contents W.contents out.new)
+        (regex_text pattern.now options.now)) }
+{
+    out.write_all(b" regex ")?;
+    write_quoted(pattern, out)?;
+    out.write_all(b" ")?;
+    write_quoted(options, out)
+}
+
+/// ` dbpointer `, the quoted name and the 24 digits of the id.
+pub(crate) fn write_dbpointer<W: Write>(
+    name: &str,
+    id: &[u8; 12],
+    out: &mut TextWriter<W>,
+) -> Result<(), Failed>
+    ensures { OnOk result (Appends (text_contents W.contents out.old) (text_contents W.contents out.new)
+        (dbpointer_text name.now id.now)) }
+{
+    out.write_all(b" dbpointer ")?;
+    write_quoted(name, out)?;
+    out.write_all(b" ")?;
+    write_hex(id, out)
+}
+
+/// ` code ` and the quoted code.
+pub(crate) fn write_code<W: Write>(text: &str, out: &mut TextWriter<W>) -> Result<(), Failed>
+    ensures { OnOk result (Appends (text_contents W.contents out.old) (text_contents W.contents out.new)
+        (code_text text.now)) }
+{
+    out.write_all(b" code ")?;
+    write_quoted(text, out)
+}
+
+/// ` symbol ` and the quoted text.
+pub(crate) fn write_symbol<W: Write>(text: &str, out: &mut TextWriter<W>) -> Result<(), Failed>
+    ensures { OnOk result (Appends (text_contents W.contents out.old) (text_contents W.contents out.new)
+        (symbol_text text.now)) }
+{
+    out.write_all(b" symbol ")?;
+    write_quoted(text, out)
+}
+
+/// ` codescope `, the quoted code and the count of the scope's bytes.
+pub(crate) fn write_codescope<W: Write>(
+    code: &str,
+    size: usize,
+    out: &mut TextWriter<W>,
+) -> Result<(), Failed>
+    ensures { OnOk result (Appends (text_contents W.contents out.old) (text_contents W.contents out.new)
+        (codescope_text code.now size)) }
+{
+    out.write_all(b" codescope ")?;
+    write_quoted(code, out)?;
+    out.write_all(b" ")?;
+    write_number(size, out)
+}
+
+/// ` int32 ` and the number.
+pub(crate) fn write_int32<W: Write>(value: i32, out: &mut TextWriter<W>) -> Result<(), Failed>
+    ensures { OnOk result (Appends (text_contents W.contents out.old) (text_contents W.contents out.new)
+        (int32_text value)) }
+{
+    out.write_all(b" int32 ")?;
+    write_number(value, out)
+}
+
+/// ` timestamp `, the seconds and the increment.
+pub(crate) fn write_timestamp<W: Write>(
+    seconds: u32,
+    increment: u32,
+    out: &mut TextWriter<W>,
+) -> Result<(), Failed>
+    ensures { OnOk result (Appends (text_contents W.contents out.old) (text_contents W.contents out.new)
+        (timestamp_text seconds increment)) }
+{
+    out.write_all(b" timestamp ")?;
+    write_number(seconds, out)?;
+    out.write_all(b" ")?;
+    write_number(increment, out)
+}
+
+/// ` int64 ` and the number.
+pub(crate) fn write_int64<W: Write>(value: i64, out: &mut TextWriter<W>) -> Result<(), Failed>
+    ensures { OnOk result (Appends (text_contents W.contents out.old) (text_contents W.contents out.new)
+        (int64_text value)) }
+{
+    out.write_all(b" int64 ")?;
+    write_number(value, out)
+}
+
+/// ` decimal128 ` and 32 digits, the bytes in file order.
+pub(crate) fn write_decimal128<W: Write>(
+    bytes: &[u8; 16],
+    out: &mut TextWriter<W>,
+) -> Result<(), Failed>
+    ensures { OnOk result (Appends (text_contents W.contents out.old) (text_contents W.contents out.new)
+        (decimal128_text bytes.now)) }
+{
+    out.write_all(b" decimal128 ")?;
+    write_hex(bytes, out)
+}
