@@ -1,10 +1,14 @@
-/* Tells what stands back to back in a file: its documents, what stands in them, or its messages.
+/* Checks what stands in a file, by the functions of lughemra.h.
  *
- *     check documents FILE
- *     check walk FILE
- *     check messages FILE
+ *     check document [FILE]            exactly one document
+ *     check documents [FILE]           documents back to back
+ *     check walk [FILE]                the same, and what stands in them
+ *     check message [FILE [LIMIT]]     exactly one message
+ *     check messages [FILE [LIMIT]]    messages back to back
+ *     check version
  *
- * writes one line of counts, and a line for the first fault, if there is one. The status is 1 then. */
+ * writes a line that tells what stands there whole, and a line for the first fault, if there is one. The status is 1
+ * then. Where FILE is left out, the input is empty, at a null pointer. LIMIT is 48000000 if it is left out. */
 #include <inttypes.h>
 #include <stdio.h>
 #include <stdlib.h>
@@ -19,7 +23,7 @@ static void fail(const char *what)
     exit(2);
 }
 
-/* All bytes of the file, at an address that is never null. */
+/* Returns all bytes of the file. */
 static uint8_t *read_file(const char *name, size_t *length)
 {
     FILE *file = fopen(name, "rb");
@@ -43,44 +47,87 @@ static uint8_t *read_file(const char *name, size_t *length)
     return bytes;
 }
 
-/* Writes the line of a fault, if there is one, and says whether there is. */
-static int write_fault(struct lughemra_fault fault, struct lughemra_fault inside)
+/* Writes the line of a document's fault, if there is one, and returns the program's status. */
+static int write_document_fault(struct lughemra_fault fault)
 {
     if (fault.number == 0)
         return 0;
-    printf("fault %" PRIu32 " at %zu", fault.number, fault.place);
-    if (inside.number != 0)
-        printf(": %" PRIu32 " at %zu", inside.number, inside.place);
+    printf("fault %" PRIu32 " %s at %zu\n", fault.number, lughemra_document_fault_name(fault.number), fault.offset);
+    return 1;
+}
+
+/* Writes the line of a message's fault, if there is one, and returns the program's status. */
+static int write_message_fault(struct lughemra_fault fault, struct lughemra_fault inside)
+{
+    if (fault.number == 0)
+        return 0;
+    printf("fault %" PRIu32 " %s at %zu", fault.number, lughemra_message_fault_name(fault.number), fault.offset);
+    if (fault.number == LUGHEMRA_MSG_DOCUMENT)
+        printf(": %" PRIu32 " %s at %zu", inside.number, lughemra_document_fault_name(inside.number), inside.offset);
     printf("\n");
     return 1;
 }
 
+static int check_document(const uint8_t *bytes, size_t length)
+{
+    struct lughemra_fault fault = lughemra_check_document(bytes, length);
+    if (fault.number == 0)
+        printf("%s document\n", lughemra_is_canonical(bytes, length) ? "canonical" : "other");
+    return write_document_fault(fault);
+}
+
+static int check_documents(const uint8_t *bytes, size_t length)
+{
+    struct lughemra_documents_check check = lughemra_check_documents(bytes, length);
+    printf("%zu documents, %zu bytes\n", check.documents, check.bytes_read);
+    return write_document_fault(check.fault);
+}
+
+static int walk_documents(const uint8_t *bytes, size_t length)
+{
+    struct lughemra_documents_walk walk = lughemra_walk_documents(bytes, length);
+    printf("%zu documents, %zu bytes, %zu elements, sizes %zu\n", walk.documents, walk.bytes_read, walk.elements,
+           walk.sizes);
+    return write_document_fault(walk.fault);
+}
+
+static int check_message(const uint8_t *bytes, size_t length, uint32_t limit)
+{
+    struct lughemra_message_check check = lughemra_check_message(bytes, length, limit);
+    if (check.fault.number == 0)
+        printf("message\n");
+    return write_message_fault(check.fault, check.document_fault);
+}
+
+static int check_messages(const uint8_t *bytes, size_t length, uint32_t limit)
+{
+    struct lughemra_messages_check check = lughemra_check_messages(bytes, length, limit);
+    printf("%zu messages, %zu bytes\n", check.messages, check.bytes_read);
+    return write_message_fault(check.fault, check.document_fault);
+}
+
 int main(int count, char **words)
 {
-    const struct lughemra_fault none = {0, 0};
-    struct lughemra_fault fault = none, inside = none;
-    size_t length;
-    uint8_t *bytes;
+    const char *word = count > 1 ? words[1] : "";
+    uint32_t limit = count > 3 ? (uint32_t)strtoul(words[3], NULL, 10) : LUGHEMRA_MAX_LIMIT;
+    size_t length = 0;
+    uint8_t *bytes = count > 2 ? read_file(words[2], &length) : NULL;
+    int status = 0;
 
-    if (count != 3)
-        fail("two words are wanted: documents, walk or messages, and a file");
-    bytes = read_file(words[2], &length);
-    if (strcmp(words[1], "documents") == 0) {
-        struct lughemra_documents_check check = lughemra_check_documents(bytes, length);
-        printf("%zu documents\n", check.documents);
-        fault = check.fault;
-    } else if (strcmp(words[1], "walk") == 0) {
-        struct lughemra_documents_walk walk = lughemra_walk_documents(bytes, length);
-        printf("%zu documents, %zu elements, sizes %zu\n", walk.documents, walk.elements, walk.sizes);
-        fault = walk.fault;
-    } else if (strcmp(words[1], "messages") == 0) {
-        struct lughemra_messages_check check = lughemra_check_messages(bytes, length, LUGHEMRA_MAX_LIMIT);
-        printf("%zu messages\n", check.messages);
-        fault = check.fault;
-        inside = check.document_fault;
-    } else {
-        fail("the first word is documents, walk or messages");
-    }
+    if (strcmp(word, "document") == 0)
+        status = check_document(bytes, length);
+    else if (strcmp(word, "documents") == 0)
+        status = check_documents(bytes, length);
+    else if (strcmp(word, "walk") == 0)
+        status = walk_documents(bytes, length);
+    else if (strcmp(word, "message") == 0)
+        status = check_message(bytes, length, limit);
+    else if (strcmp(word, "messages") == 0)
+        status = check_messages(bytes, length, limit);
+    else if (strcmp(word, "version") == 0)
+        printf("%s %d.%d.%d\n", LUGHEMRA_VERSION, LUGHEMRA_VERSION_MAJOR, LUGHEMRA_VERSION_MINOR, LUGHEMRA_VERSION_PATCH);
+    else
+        fail("the first word is document, documents, walk, message, messages or version");
     free(bytes);
-    return write_fault(fault, inside);
+    return status;
 }

@@ -1,5 +1,5 @@
 pub mod WalkLaws
-pub mod Readings
-pub mod Seen
-pub mod MessageReadings
-pub mod OneReading
+pub mod Told
+pub mod ToldMessages
+pub mod OneAnswer
+pub mod OneMessageAnswer

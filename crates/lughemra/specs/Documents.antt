@@ -1,28 +1,41 @@
--- Documents that stand back to back.
-use Rattle.std.specs.Prelude.{◌≡◌, ℕ, ◌+◌, List, [], ◌∷◌, ◌++◌, length, Option, Some, None}
+-- What a C program is told of bytes as documents.
+use Rattle.std.specs.Prelude.{◌≡◌, ◌≢◌, ℕ, ◌+◌, Bool, true, false, List, [], length, Option, Some, None}
 use Rattle.bson_elem.specs.declared.fault.BsonFault.{BsonFault}
 use Rattle.bson_elem.specs.Tree.{Tree}
 use Rattle.bson_elem.specs.Spelling.{Spells}
 use Rattle.bson_elem.specs.Checks.{fault}
 use Rattle.bson_elem.specs.Faults.{FrontFault}
+use Rattle.bson_raw.specs.Naming.{is_plain}
+use Rattle.bson_raw.specs.Spelled.{WholeFault}
+use Rattle.bson_raw.specs.Split.{documents_bytes, DocumentSplit}
 use Rattle.lughemra.specs.declared.documents.DocumentsCheck.{DocumentsCheck}
+use Rattle.lughemra.specs.declared.fault.FirstFault.{FirstFault}
 use Rattle.lughemra.specs.Fault.{first_fault}
 
--- The bytes from the place p on are read so: they spell these trees, one document behind another, and then they end, or
--- no document begins what is left, and this is its first fault. The place of the fault is counted as p is.
-pub data ReadsAs : ℕ → List ℕ → List Tree → Option BsonFault → Type 0 where
-  at_end : {p : ℕ} {bytes : List ℕ} {trees : List Tree} {last : Option BsonFault}
-      → bytes ≡ [] → trees ≡ [] → last ≡ None → ReadsAs p bytes trees last
-  a_document : {p : ℕ} {bytes : List ℕ} {trees : List Tree} {last : Option BsonFault} (t : Tree) (b rest : List ℕ) (others : List Tree)
-      → Spells t b → bytes ≡ b ++ rest → trees ≡ t ∷ others → ReadsAs (p + length b) rest others last → ReadsAs p bytes trees last
-  a_fault : {p : ℕ} {bytes : List ℕ} {trees : List Tree} {last : Option BsonFault} (b : ℕ) (rest : List ℕ) (f : BsonFault)
-      → bytes ≡ b ∷ rest → FrontFault bytes f → trees ≡ [] → last ≡ Some (fault (p + f.at) f.cause) → ReadsAs p bytes trees last
+-- ---- exactly one document
 
--- how many documents there are, and the fault
+-- The bytes are one document, and there is no fault; or this is their first fault.
+pub data IsDocumentCheck (bytes : List ℕ) : FirstFault → Type 0 where
+  is_document : {check : FirstFault} (t : Tree) → Spells t bytes → check ≡ first_fault None → IsDocumentCheck bytes check
+  has_fault : {check : FirstFault} (f : BsonFault) → WholeFault bytes f → check ≡ first_fault (Some f) → IsDocumentCheck bytes check
+
+-- the bytes are one document, in which the names of each array are "0", "1" and so on
+abbrev pub IsCanonical : List ℕ → Type 0
+IsCanonical bytes = (t : Tree) × Spells t bytes × (is_plain false 0 t ≡ true)
+
+-- ---- documents one after another
+
+-- The rest, which begins at this offset, is nothing, or has a first fault.
+pub data EndsAs (offset : ℕ) (rest : List ℕ) : Option BsonFault → Type 0 where
+  is_nothing : {last : Option BsonFault} → rest ≡ [] → last ≡ None → EndsAs offset rest last
+  is_bad : {last : Option BsonFault} (f : BsonFault) → rest ≢ [] → FrontFault rest f → last ≡ Some (fault (offset + f.at) f.cause) → EndsAs offset rest last
+
+-- how many documents there are, how many bytes they take, and the first fault behind them
 abbrev pub documents_check : List Tree → Option BsonFault → DocumentsCheck
-documents_check trees last = record { documents = length trees; fault = first_fault last }
+documents_check documents last = record { documents = length documents; bytes_read = length (documents_bytes documents); fault = first_fault last }
 
--- the check tells of the bytes what they are read as
-abbrev pub IsCheckOf : List ℕ → DocumentsCheck → Type 0
-IsCheckOf bytes check =
-    (trees : List Tree) × (last : Option BsonFault) × ReadsAs 0 bytes trees last × (check ≡ documents_check trees last)
+-- the check tells of the documents that begin the bytes, and of the rest behind them
+abbrev pub IsDocumentsCheck : List ℕ → DocumentsCheck → Type 0
+IsDocumentsCheck bytes check =
+    (documents : List Tree) × (rest : List ℕ) × DocumentSplit bytes documents rest × (last : Option BsonFault)
+    × EndsAs (length (documents_bytes documents)) rest last × (check ≡ documents_check documents last)

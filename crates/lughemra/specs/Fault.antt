@@ -1,4 +1,4 @@
--- A first fault, as a C program is told of it.
+-- The first fault of some bytes, as a C program is told of it.
 use Rattle.std.specs.Prelude.{ℕ, Option, Some, None}
 use Rattle.bson_elem.specs.declared.fault.BsonFault.{BsonFault}
 use Rattle.bson_elem.specs.Causes.{cause_number}
@@ -8,24 +8,24 @@ use Rattle.wire_msg.specs.declared.fault.MsgFault.{MsgFault}
 use Rattle.wire_msg.specs.Causes as msg_causes
 use Rattle.lughemra.specs.declared.fault.FirstFault.{FirstFault}
 
--- the number of its cause and its place, or 0 and 0
+-- the number of its cause and its offset, or 0 and 0
 abbrev pub first_fault : Option BsonFault → FirstFault
-first_fault None = record { number = 0; place = 0 }
-first_fault (Some f) = record { number = cause_number f.cause; place = f.at }
+first_fault None = record { number = 0; offset = 0 }
+first_fault (Some f) = record { number = cause_number f.cause; offset = f.at }
 
--- the number and the place of a message's fault
+-- the number and the offset of a message's fault
 abbrev pub message_fault : MsgFault → FirstFault
-message_fault f = record { number = msg_causes.cause_number f.cause; place = f.at }
+message_fault f = record { number = msg_causes.cause_number f.cause; offset = f.at }
 
--- the own fault of the document that a message is at fault for, or none
+-- the fault of the document inside the message, if that is the cause
 abbrev pub document_fault : MsgCause → FirstFault
 document_fault (Document f) = first_fault (Some f)
 document_fault _ = first_fault None
 
--- the bytes end inside the message that begins at this place
+-- the bytes end inside the message that begins at this offset
 abbrev pub ended_inside_fault : ℕ → FirstFault
-ended_inside_fault place = record { number = 14; place = place }
+ended_inside_fault offset = record { number = 14; offset = offset }
 
 -- the limit on a message's length is too large
-abbrev pub large_limit_fault : FirstFault
-large_limit_fault = record { number = 15; place = 0 }
+abbrev pub limit_fault : FirstFault
+limit_fault = record { number = 255; offset = 0 }

@@ -1,42 +1,57 @@
--- Messages that stand back to back.
-use Rattle.std.specs.Prelude.{◌≡◌, ◌≢◌, ℕ, ◌+◌, List, [], ◌∷◌, length, None}
+-- What a C program is told of bytes as messages.
+use Rattle.std.specs.Prelude.{◌≡◌, ◌≢◌, ℕ, ◌+◌, ◌≤◌, List, [], length, None}
 use Rattle.wire_msg.specs.declared.fault.MsgFault.{MsgFault}
 use Rattle.wire_msg.specs.Causes.{msg_fault}
+use Rattle.wire_msg.specs.Faults.{FaultMsg}
 use Rattle.wire_msg.specs.Message.{Message}
-use Rattle.wire_msg.specs.Standing.{IsOpen, IsWhole, IsBad}
+use Rattle.wire_msg.specs.Spelling.{SpellsMsg}
+use Rattle.wire_msg.specs.Split.{Split}
+use Rattle.wire_msg.specs.Standing.{IsOpen, IsBad}
+use Rattle.lughemra.specs.declared.messages.MessageCheck.{MessageCheck}
 use Rattle.lughemra.specs.declared.messages.MessagesCheck.{MessagesCheck}
-use Rattle.lughemra.specs.Fault.{document_fault, ended_inside_fault, first_fault, large_limit_fault, message_fault}
+use Rattle.lughemra.specs.Fault.{document_fault, ended_inside_fault, first_fault, limit_fault, message_fault}
 
--- how the reading of messages ends
+-- ---- exactly one message
+
+-- The bytes are one message within the limit, and there is no fault; or this is their first fault.
+pub data IsMessageCheck (limit : ℕ) (bytes : List ℕ) : MessageCheck → Type 0 where
+  is_message : {check : MessageCheck} (m : Message) → SpellsMsg m bytes → length bytes ≤ limit
+      → check ≡ record { fault = first_fault None; document_fault = first_fault None } → IsMessageCheck limit bytes check
+  has_fault : {check : MessageCheck} (f : MsgFault) → FaultMsg bytes limit f
+      → check ≡ record { fault = message_fault f; document_fault = document_fault f.cause } → IsMessageCheck limit bytes check
+
+-- the check under a limit that is too large: nothing was read
+abbrev pub limit_message_check : MessageCheck
+limit_message_check = record { fault = limit_fault; document_fault = first_fault None }
+
+-- ---- messages one after another
+
+-- how the bytes end behind the messages that begin them
 pub data Ending : Type 0 where
   all_read : Ending
-  -- the bytes end inside the message that begins at this place
+  -- inside the message that begins at this offset
   ended_inside : ℕ → Ending
   at_fault : MsgFault → Ending
 
--- The bytes from the place p on are read so: they spell these messages within the limit, one behind another, and then
--- they end, or what is left ends inside a message or has a fault. The places are counted as p is.
-pub data ReadsAs (limit : ℕ) : ℕ → List ℕ → List Message → Ending → Type 0 where
-  at_end : {p : ℕ} {bytes : List ℕ} {messages : List Message} {ending : Ending}
-      → bytes ≡ [] → messages ≡ [] → ending ≡ all_read → ReadsAs limit p bytes messages ending
-  a_message : {p : ℕ} {bytes : List ℕ} {messages : List Message} {ending : Ending} (m : Message) (rest : List ℕ) (others : List Message) (w : IsWhole limit bytes m rest)
-      → messages ≡ m ∷ others → ReadsAs limit (p + length w.front) rest others ending → ReadsAs limit p bytes messages ending
-  is_open : {p : ℕ} {bytes : List ℕ} {messages : List Message} {ending : Ending}
-      → bytes ≢ [] → IsOpen limit bytes → messages ≡ [] → ending ≡ ended_inside p → ReadsAs limit p bytes messages ending
-  is_bad : {p : ℕ} {bytes : List ℕ} {messages : List Message} {ending : Ending} (f : MsgFault)
-      → IsBad limit bytes f → messages ≡ [] → ending ≡ at_fault (msg_fault (p + f.at) f.cause) → ReadsAs limit p bytes messages ending
+-- The rest, which begins at this offset, is nothing, ends inside a message, or has a fault.
+pub data EndsAs (limit offset : ℕ) (rest : List ℕ) : Ending → Type 0 where
+  is_nothing : {ending : Ending} → rest ≡ [] → ending ≡ all_read → EndsAs limit offset rest ending
+  is_open : {ending : Ending} → rest ≢ [] → IsOpen limit rest → ending ≡ ended_inside offset → EndsAs limit offset rest ending
+  is_bad : {ending : Ending} (f : MsgFault) → IsBad limit rest f → ending ≡ at_fault (msg_fault (offset + f.at) f.cause) → EndsAs limit offset rest ending
 
--- how many messages there are, the fault, and the own fault of the document that it is told of
-abbrev pub messages_check : List Message → Ending → MessagesCheck
-messages_check messages all_read = record { messages = length messages; fault = first_fault None; document_fault = first_fault None }
-messages_check messages (ended_inside p) = record { messages = length messages; fault = ended_inside_fault p; document_fault = first_fault None }
-messages_check messages (at_fault f) = record { messages = length messages; fault = message_fault f; document_fault = document_fault f.cause }
+-- how many messages there are, how many bytes they take, the first fault behind them, and the fault of the document
+-- inside the message, if that is it
+abbrev pub messages_check : List Message → ℕ → Ending → MessagesCheck
+messages_check messages n all_read = record { messages = length messages; bytes_read = n; fault = first_fault None; document_fault = first_fault None }
+messages_check messages n (ended_inside offset) = record { messages = length messages; bytes_read = n; fault = ended_inside_fault offset; document_fault = first_fault None }
+messages_check messages n (at_fault f) = record { messages = length messages; bytes_read = n; fault = message_fault f; document_fault = document_fault f.cause }
 
--- the check tells of the bytes what they are read as under the limit
+-- the check tells of the messages that begin the bytes, and of the rest behind them
 abbrev pub IsMessagesCheck : ℕ → List ℕ → MessagesCheck → Type 0
 IsMessagesCheck limit bytes check =
-    (messages : List Message) × (ending : Ending) × ReadsAs limit 0 bytes messages ending × (check ≡ messages_check messages ending)
+    (messages : List Message) × (rest : List ℕ) × (s : Split limit bytes messages rest) × (ending : Ending)
+    × EndsAs limit (length s.joined) rest ending × (check ≡ messages_check messages (length s.joined) ending)
 
 -- the check under a limit that is too large: nothing was read
-abbrev pub large_limit_check : MessagesCheck
-large_limit_check = record { messages = 0; fault = large_limit_fault; document_fault = first_fault None }
+abbrev pub limit_messages_check : MessagesCheck
+limit_messages_check = record { messages = 0; bytes_read = 0; fault = limit_fault; document_fault = first_fault None }

@@ -4,8 +4,9 @@ use Rattle.std.specs.List.{sum_by}
 use Rattle.bson_elem.specs.declared.fault.BsonFault.{BsonFault}
 use Rattle.bson_elem.specs.Tree.{Leaf, text_value, pointer_value, binary_value, regex_value, Beside, no_code, with_code, Tree, no_pairs, leaf_pair, inner_pair}
 use Rattle.bson_raw.specs.Pairs.{TreeValue, leaf_value, document_value}
+use Rattle.bson_raw.specs.Split.{documents_bytes, DocumentSplit}
 use Rattle.lughemra.specs.declared.walk.DocumentsWalk.{DocumentsWalk}
-use Rattle.lughemra.specs.Documents.{ReadsAs}
+use Rattle.lughemra.specs.Documents.{EndsAs}
 use Rattle.lughemra.specs.Fault.{first_fault}
 
 -- how many elements there are, with those of the documents, arrays and scopes inside
@@ -44,11 +45,18 @@ abbrev pub sizes_held : TreeValue → ℕ
 sizes_held (leaf_value k leaf) = leaf_size leaf
 sizes_held (document_value k b inner) = beside_size b + sizes_in inner
 
--- how many documents there are, what stands in all of them, and the fault
+-- how many documents there are, how many bytes they take, what stands in all of them, and the first fault behind them
 abbrev pub documents_walk : List Tree → Option BsonFault → DocumentsWalk
-documents_walk trees last = record { documents = length trees; elements = sum_by elements_in trees; sizes = sum_by sizes_in trees; fault = first_fault last }
+documents_walk documents last = record {
+  documents = length documents;
+  bytes_read = length (documents_bytes documents);
+  elements = sum_by elements_in documents;
+  sizes = sum_by sizes_in documents;
+  fault = first_fault last;
+}
 
--- the walk tells of the bytes what they are read as
-abbrev pub IsWalkOf : List ℕ → DocumentsWalk → Type 0
-IsWalkOf bytes walk =
-    (trees : List Tree) × (last : Option BsonFault) × ReadsAs 0 bytes trees last × (walk ≡ documents_walk trees last)
+-- the walk tells of the documents that begin the bytes, and of the rest behind them
+abbrev pub IsDocumentsWalk : List ℕ → DocumentsWalk → Type 0
+IsDocumentsWalk bytes walk =
+    (documents : List Tree) × (rest : List ℕ) × DocumentSplit bytes documents rest × (last : Option BsonFault)
+    × EndsAs (length (documents_bytes documents)) rest last × (walk ≡ documents_walk documents last)

@@ -1,24 +1,51 @@
-//! The check of documents that stand back to back.
+//! The checks of a document, and of documents that stand back to back.
 
-ghost use Rattle.lughemra.specs.Documents.{IsCheckOf};
+ghost use Rattle.std.specs.Prelude.{IsTrue, ◌↔◌};
+ghost use Rattle.lughemra.specs.Documents.{IsCanonical, IsDocumentCheck, IsDocumentsCheck};
 
 use crate::fault::FirstFault;
 use bson_raw::document::RawDocument;
 
+/// Checks that `bytes` are exactly one document. Returns the first fault, by the number of its
+/// cause, from 1 to 11.
+#[unsafe(no_mangle)]
+pub extern "C" fn lughemra_check_document_nonnull(bytes: &[u8]) -> FirstFault
+    ensures { IsDocumentCheck bytes.now result }
+{
+    match RawDocument::from_bytes(bytes) {
+        Ok(_) => FirstFault::none(),
+        Err(found) => FirstFault::of_document(0, found),
+    }
+}
+
+/// Returns true if `bytes` are exactly one document, in canonical form: the names of each array in
+/// it are "0", "1" and so on.
+#[unsafe(no_mangle)]
+pub extern "C" fn lughemra_is_canonical_nonnull(bytes: &[u8]) -> bool
+    ensures { IsTrue result ↔ IsCanonical bytes.now }
+{
+    match RawDocument::front_with_form(bytes) {
+        Ok(front) => front.canonical && front.rest.is_empty(),
+        Err(_) => false,
+    }
+}
+
 /// What the check of documents back to back came to.
-#[derive(Clone, Copy, Debug, PartialEq, Eq)]
+#[derive(Clone, Copy)]
 #[repr(C)]
 pub struct DocumentsCheck {
-    /// How many documents stand before the end of the bytes, or before the first fault.
+    /// The number of documents that stand whole before the end of the bytes or before the first fault.
     pub documents: usize,
+    /// The number of bytes that these documents take.
+    pub bytes_read: usize,
     /// The first fault, by the number of its cause, from 1 to 11.
     pub fault: FirstFault,
 }
 
-/// Checks the documents that stand back to back in the bytes.
+/// Checks the documents that stand back to back in `bytes`.
 #[unsafe(no_mangle)]
-pub extern "C" fn lughemra_check_documents(bytes: &[u8]) -> DocumentsCheck
-    ensures { IsCheckOf bytes.now result }
+pub extern "C" fn lughemra_check_documents_nonnull(bytes: &[u8]) -> DocumentsCheck
+    ensures { IsDocumentsCheck bytes.now result }
 {
     let mut documents = 0;
     let mut rest = bytes;
@@ -26,12 +53,19 @@ pub extern "C" fn lughemra_check_documents(bytes: &[u8]) -> DocumentsCheck
         match RawDocument::front(rest) {
             Ok((_, after)) => rest = after,
             Err(found) => {
-                let fault = FirstFault::of_document(bytes.len() - rest.len(), found);
-                return DocumentsCheck { documents, fault };
+                let bytes_read = bytes.len() - rest.len();
+                return DocumentsCheck {
+                    documents,
+                    bytes_read,
+                    fault: FirstFault::of_document(bytes_read, found),
+                };
             }
         }
         documents += 1;
     }
-    let fault = FirstFault::none();
-    DocumentsCheck { documents, fault }
+    DocumentsCheck {
+        documents,
+        bytes_read: bytes.len(),
+        fault: FirstFault::none(),
+    }
 }

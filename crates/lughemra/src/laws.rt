@@ -1,25 +1,39 @@
-//! The laws of the definitions: bytes have one answer at most. The contract of each function is the
-//! law; the function does nothing.
+//! The laws of the definitions: of bytes, one answer at most is told. The contract of each function
+//! is the law; the function does nothing.
 
 ghost use Rattle.std.specs.Prelude.{◌≡◌, ℕ, List};
 ghost use Rattle.bson_elem.specs.Spelling.{IsBytes};
 ghost use Rattle.lughemra.specs.declared.documents.DocumentsCheck.{DocumentsCheck};
+ghost use Rattle.lughemra.specs.declared.fault.FirstFault.{FirstFault};
 ghost use Rattle.lughemra.specs.declared.walk.DocumentsWalk.{DocumentsWalk};
+ghost use Rattle.lughemra.specs.declared.messages.MessageCheck.{MessageCheck};
 ghost use Rattle.lughemra.specs.declared.messages.MessagesCheck.{MessagesCheck};
-ghost use Rattle.lughemra.specs.Documents.{IsCheckOf};
-ghost use Rattle.lughemra.specs.Walk.{IsWalkOf};
-ghost use Rattle.lughemra.specs.Messages.{IsMessagesCheck};
+ghost use Rattle.lughemra.specs.Documents.{IsDocumentCheck, IsDocumentsCheck};
+ghost use Rattle.lughemra.specs.Walk.{IsDocumentsWalk};
+ghost use Rattle.lughemra.specs.Messages.{IsMessageCheck, IsMessagesCheck};
+
+/// Bytes have one check as one document.
+pub fn one_document_check()
+    ensures { (bytes : List ℕ) (a b : FirstFault) → IsBytes bytes
+        → IsDocumentCheck bytes a → IsDocumentCheck bytes b → a ≡ b }
+{}
 
 /// Bytes have one check as documents.
 pub fn one_documents_check()
     ensures { (bytes : List ℕ) (a b : DocumentsCheck) → IsBytes bytes
-        → IsCheckOf bytes a → IsCheckOf bytes b → a ≡ b }
+        → IsDocumentsCheck bytes a → IsDocumentsCheck bytes b → a ≡ b }
 {}
 
 /// Bytes have one walk.
 pub fn one_documents_walk()
     ensures { (bytes : List ℕ) (a b : DocumentsWalk) → IsBytes bytes
-        → IsWalkOf bytes a → IsWalkOf bytes b → a ≡ b }
+        → IsDocumentsWalk bytes a → IsDocumentsWalk bytes b → a ≡ b }
+{}
+
+/// Bytes have one check as one message under a limit.
+pub fn one_message_check()
+    ensures { (limit : ℕ) (bytes : List ℕ) (a b : MessageCheck) → IsBytes bytes
+        → IsMessageCheck limit bytes a → IsMessageCheck limit bytes b → a ≡ b }
 {}
 
 /// Bytes have one check as messages under a limit.

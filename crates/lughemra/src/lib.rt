@@ -11,6 +11,4 @@ pub mod fault;
 mod front;
 pub mod laws;
 pub mod messages;
-#[cfg(test)]
-mod tests;
 pub mod walk;

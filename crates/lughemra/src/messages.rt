@@ -1,59 +1,103 @@
-//! The check of messages that stand back to back.
+//! The checks of a message, and of messages that stand back to back.
 
 ghost use Rattle.std.specs.Prelude.{◌≡◌, ◌≤◌, ◌<◌};
-ghost use Rattle.lughemra.specs.Messages.{IsMessagesCheck, large_limit_check};
+ghost use Rattle.lughemra.specs.Messages.{IsMessageCheck, limit_message_check};
+ghost use Rattle.lughemra.specs.Messages.{IsMessagesCheck, limit_messages_check};
 
 use crate::fault::FirstFault;
 use crate::front::{Front, read_front};
+use wire_msg::msg::RawMsg;
 
 /// The greatest limit on a message's length.
 const MAX_LIMIT: u32 = 48_000_000;
 
-/// What the check of messages back to back came to.
-#[derive(Clone, Copy, Debug, PartialEq, Eq)]
+/// What the check of one message came to.
+#[derive(Clone, Copy)]
 #[repr(C)]
-pub struct MessagesCheck {
-    /// How many messages stand before the end of the bytes, or before the first fault.
-    pub messages: usize,
-    /// The first fault, by the number of its cause, from 1 to 13; 14 where the bytes end inside the
-    /// message that begins at the place; 15 where the limit is too large, and nothing was read.
+pub struct MessageCheck {
+    /// The first fault, by the number of its cause, from 1 to 13; 255 if the limit is too large, and
+    /// nothing was read.
     pub fault: FirstFault,
-    /// Where the cause is 7, the own fault of the document at that place, with its place counted
-    /// from there.
+    /// If the cause is 7, the fault of the document at that offset, with its own offset counted from
+    /// there.
     pub document_fault: FirstFault,
 }
 
-/// Checks the messages that stand back to back in the bytes, each of at most `limit` bytes.
+/// Checks that `bytes` are exactly one message, of at most `limit` bytes.
 #[unsafe(no_mangle)]
-pub extern "C" fn lughemra_check_messages(bytes: &[u8], limit: u32) -> MessagesCheck
+pub extern "C" fn lughemra_check_message_nonnull(bytes: &[u8], limit: u32) -> MessageCheck
+    ensures read { limit ≤ 48_000_000 → IsMessageCheck limit bytes.now result }
+    ensures large_limit { 48_000_000 < limit → result ≡ limit_message_check }
+{
+    let none = FirstFault::none();
+    if limit > MAX_LIMIT {
+        return MessageCheck {
+            fault: FirstFault::of_limit(),
+            document_fault: none,
+        };
+    }
+    match RawMsg::parse(bytes, limit) {
+        Ok(_) => MessageCheck {
+            fault: none,
+            document_fault: none,
+        },
+        Err(fault) => MessageCheck {
+            fault: FirstFault::of_message(0, fault),
+            document_fault: FirstFault::inside(fault.cause),
+        },
+    }
+}
+
+/// What the check of messages back to back came to.
+#[derive(Clone, Copy)]
+#[repr(C)]
+pub struct MessagesCheck {
+    /// The number of messages that stand whole before the end of the bytes or before the first fault.
+    pub messages: usize,
+    /// The number of bytes that these messages take.
+    pub bytes_read: usize,
+    /// The first fault, by the number of its cause, from 1 to 13; 14 if the bytes end inside the
+    /// message that begins at the offset; 255 if the limit is too large, and nothing was read.
+    pub fault: FirstFault,
+    /// If the cause is 7, the fault of the document at that offset, with its own offset counted from
+    /// there.
+    pub document_fault: FirstFault,
+}
+
+/// Checks the messages that stand back to back in `bytes`, each of at most `limit` bytes.
+#[unsafe(no_mangle)]
+pub extern "C" fn lughemra_check_messages_nonnull(bytes: &[u8], limit: u32) -> MessagesCheck
     ensures read { limit ≤ 48_000_000 → IsMessagesCheck limit bytes.now result }
-    ensures large_limit { 48_000_000 < limit → result ≡ large_limit_check }
+    ensures large_limit { 48_000_000 < limit → result ≡ limit_messages_check }
 {
     let none = FirstFault::none();
     if limit > MAX_LIMIT {
         return MessagesCheck {
             messages: 0,
-            fault: FirstFault::large_limit(),
+            bytes_read: 0,
+            fault: FirstFault::of_limit(),
             document_fault: none,
         };
     }
     let mut messages = 0;
     let mut rest = bytes;
     while !rest.is_empty() {
-        let place = bytes.len() - rest.len();
+        let bytes_read = bytes.len() - rest.len();
         match read_front(rest, limit) {
             Front::Whole(after) => rest = after,
             Front::Open => {
                 return MessagesCheck {
                     messages,
-                    fault: FirstFault::ended_inside(place),
+                    bytes_read,
+                    fault: FirstFault::ended_inside(bytes_read),
                     document_fault: none,
                 };
             }
             Front::Bad(found) => {
                 return MessagesCheck {
                     messages,
-                    fault: FirstFault::of_message(place, found),
+                    bytes_read,
+                    fault: FirstFault::of_message(bytes_read, found),
                     document_fault: FirstFault::inside(found.cause),
                 };
             }
@@ -62,6 +106,7 @@ pub extern "C" fn lughemra_check_messages(bytes: &[u8], limit: u32) -> MessagesC
     }
     MessagesCheck {
         messages,
+        bytes_read: bytes.len(),
         fault: none,
         document_fault: none,
     }

@@ -6,7 +6,7 @@ ghost use Rattle.bson_elem.specs.Spelling.{Spells};
 ghost use Rattle.bson_raw.specs.Pairs.{TreeValue};
 ghost use Rattle.bson_raw.specs.RawBson.{Shows};
 ghost use Rattle.bson_raw.specs.RawDocument.{document_bytes};
-ghost use Rattle.lughemra.specs.Walk.{elements_in, elements_held, IsWalkOf, sizes_held, sizes_in};
+ghost use Rattle.lughemra.specs.Walk.{elements_in, elements_held, IsDocumentsWalk, sizes_held, sizes_in};
 
 use crate::fault::FirstFault;
 use bson_raw::document::RawDocument;
@@ -74,11 +74,13 @@ fn tally_document(document: RawDocument<'_>) -> Tally
 }
 
 /// What the walk over documents back to back came to.
-#[derive(Clone, Copy, Debug, PartialEq, Eq)]
+#[derive(Clone, Copy)]
 #[repr(C)]
 pub struct DocumentsWalk {
     /// How many documents stand before the end of the bytes, or before the first fault.
     pub documents: usize,
+    /// The number of bytes that these documents take.
+    pub bytes_read: usize,
     /// How many elements stand in them, with those of the documents, arrays and scopes inside.
     pub elements: usize,
     /// The bytes of all names, texts and data in them.
@@ -90,8 +92,8 @@ pub struct DocumentsWalk {
 /// Checks the documents that stand back to back in the bytes, and walks over all that stands in
 /// them.
 #[unsafe(no_mangle)]
-pub extern "C" fn lughemra_walk_documents(bytes: &[u8]) -> DocumentsWalk
-    ensures { IsWalkOf bytes.now result }
+pub extern "C" fn lughemra_walk_documents_nonnull(bytes: &[u8]) -> DocumentsWalk
+    ensures { IsDocumentsWalk bytes.now result }
 {
     let mut documents = 0;
     let mut elements = 0;
@@ -101,12 +103,13 @@ pub extern "C" fn lughemra_walk_documents(bytes: &[u8]) -> DocumentsWalk
         let (document, after) = match RawDocument::front(rest) {
             Ok(read) => read,
             Err(found) => {
-                let fault = FirstFault::of_document(bytes.len() - rest.len(), found);
+                let bytes_read = bytes.len() - rest.len();
                 return DocumentsWalk {
                     documents,
+                    bytes_read,
                     elements,
                     sizes,
-                    fault,
+                    fault: FirstFault::of_document(bytes_read, found),
                 };
             }
         };
@@ -116,11 +119,11 @@ pub extern "C" fn lughemra_walk_documents(bytes: &[u8]) -> DocumentsWalk
         sizes += tally.sizes;
         rest = after;
     }
-    let fault = FirstFault::none();
     DocumentsWalk {
         documents,
+        bytes_read: bytes.len(),
         elements,
         sizes,
-        fault,
+        fault: FirstFault::none(),
     }
 }

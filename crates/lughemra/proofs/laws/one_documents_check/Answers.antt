@@ -1,5 +1,5 @@
-use Rattle.lughemra.proofs.OneReading.{one_check}
+use Rattle.lughemra.proofs.OneAnswer.{one_documents_check}
 use Rattle.lughemra.proofs.laws.one_documents_check.Goals as goal
 
 pub returns : goal.returns
-returns c = one_check
+returns c = one_documents_check
