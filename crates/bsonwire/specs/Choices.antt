@@ -1,15 +1,27 @@
 -- What a choice says of the matches that `clap` has of the words, and what it asks for.
-use Rattle.std.specs.Prelude.{◌≡◌, ℕ, List, Bool, Option, Some, None, codes, if◌then◌else◌}
+use Rattle.std.specs.Prelude.{◌≡◌, ◌≢◌, ℕ, List, Bool, true, false, Option, Some, None, codes, if◌then◌else◌}
 use Rattle.clap.specs.Words.{Row, Text, first_of, one_of, subcommand_of}
 use Rattle.bsonwire.specs.declared.choice.Source.{Source}
 use Rattle.bsonwire.specs.declared.choice.Choice.{Choice}
-use Rattle.bsonwire.specs.declared.choice.Choice.TheVariants.{Dump, Check, Canon, Msg}
+use Rattle.bsonwire.specs.declared.choice.Command.{Command}
+use Rattle.bsonwire.specs.declared.choice.Command.TheVariants.{Dump, Check, Canon, Msg}
 use Rattle.bsonwire.specs.CommandLine.{command_line}
 use Rattle.engines.specs.Output.{IsOutput}
 use Rattle.engines.specs.Dump.{DumpText}
 use Rattle.engines.specs.Check.{CheckText}
 use Rattle.engines.specs.Canon.{CanonText}
 use Rattle.engines.specs.Msg.{MsgText}
+
+-- the subcommand that stands for a command
+abbrev pub command_name : Command → Text
+command_name Dump = codes "dump"
+command_name Check = codes "check"
+command_name Canon = codes "canon"
+command_name Msg = codes "msg"
+
+-- no command has this name
+abbrev pub NamesNone : Text → Type 0
+NamesNone name = (c : Command) → name ≢ command_name c
 
 -- the matches of a subcommand hold this `--hex`
 abbrev pub HoldsHex : Bool → List Row → Type 0
@@ -22,10 +34,7 @@ HoldsSource s rows = (first_of (codes "file") rows ≡ Some s.file.now) × Holds
 
 -- the choice is the subcommand of this name, with what its matches hold
 abbrev pub IsSubcommand : Choice → Text → List Row → Type 0
-IsSubcommand (Dump s) name rows = (name ≡ codes "dump") × HoldsSource s rows
-IsSubcommand (Check s) name rows = (name ≡ codes "check") × HoldsSource s rows
-IsSubcommand (Canon s) name rows = (name ≡ codes "canon") × HoldsSource s rows
-IsSubcommand (Msg s) name rows = (name ≡ codes "msg") × HoldsSource s rows
+IsSubcommand c name rows = (name ≡ command_name c.command) × HoldsSource c.source rows
 
 -- a subcommand was met, and the choice is that one
 abbrev pub IsMetSubcommand : Choice → Option (Text × List Row) → Type 0
@@ -38,15 +47,17 @@ IsChosen c words = IsMetSubcommand c (subcommand_of command_line words)
 
 -- ---- what a choice asks for
 
-abbrev pub chosen_file : Choice → List ℕ
-chosen_file (Dump s) = s.file.now
-chosen_file (Check s) = s.file.now
-chosen_file (Canon s) = s.file.now
-chosen_file (Msg s) = s.file.now
+-- what a command writes for an input, with `--hex` or without, and whether it ends with a fault line
+abbrev pub CommandText : Command → Bool → List ℕ → List ℕ → Bool → Type 0
+CommandText Dump hex = IsOutput DumpText hex
+CommandText Check hex = IsOutput CheckText hex
+CommandText Canon hex = IsOutput (CanonText 2147483647 hex) hex
+CommandText Msg hex = IsOutput MsgText hex
 
--- what a choice writes for an input, and whether it ends with a fault line
 abbrev pub ChosenText : Choice → List ℕ → List ℕ → Bool → Type 0
-ChosenText (Dump s) = IsOutput DumpText s.hex
-ChosenText (Check s) = IsOutput CheckText s.hex
-ChosenText (Canon s) = IsOutput (CanonText 2147483647 s.hex) s.hex
-ChosenText (Msg s) = IsOutput MsgText s.hex
+ChosenText c = CommandText c.command c.source.hex
+
+-- whether a command may want memory after its first byte was written
+abbrev pub wants_memory : Command → Bool
+wants_memory Canon = true
+wants_memory _ = false

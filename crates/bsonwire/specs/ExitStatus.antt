@@ -1,5 +1,5 @@
 -- The exit status of a run's end, and of words that ask for no run.
-use Rattle.std.specs.Prelude.{◌≡◌, ◌⊎◌, ℕ}
+use Rattle.std.specs.Prelude.{◌==◌, ◌||◌, ℕ, Bool, if◌then◌else◌}
 use Rattle.clap.specs.declared.error.kind.ErrorKind as clap
 use Rattle.clap.specs.declared.error.kind.ErrorKind.TheVariants as kind
 use Rattle.engines.specs.declared.run.RunEnd.{RunEnd}
@@ -12,15 +12,22 @@ exit_status Fault = 1
 exit_status InOut = 3
 exit_status Memory = 4
 
+-- the status says that the whole text was written
+abbrev pub tells_done : ℕ → Bool
+tells_done status = status == 0 || status == 1
+
+-- the status says that the text ends with a fault line
+abbrev pub tells_fault : ℕ → Bool
+tells_fault status = status == 1
+
 -- the exit status where the words could not be read, by the end that the error would bring a run
 abbrev pub unread_status : RunEnd → ℕ
 unread_status Memory = 4
 unread_status _ = 2
 
--- the exit status of words for which `clap` has an error of this kind: those of help and of the version end well where
--- these could be written
-abbrev pub IsWordsStatus : clap.ErrorKind → ℕ → Type 0
-IsWordsStatus kind.OutOfMemory status = status ≡ 4
-IsWordsStatus kind.DisplayHelp status = (status ≡ 0) ⊎ (status ≡ 3)
-IsWordsStatus kind.DisplayVersion status = (status ≡ 0) ⊎ (status ≡ 3)
-IsWordsStatus _ status = status ≡ 2
+-- the exit status of words for which `clap` has an error of this kind, by whether its text could be printed
+abbrev pub words_status : clap.ErrorKind → Bool → ℕ
+words_status kind.OutOfMemory printed = 4
+words_status kind.DisplayHelp printed = if printed then 0 else 3
+words_status kind.DisplayVersion printed = if printed then 0 else 3
+words_status _ printed = 2

@@ -1,13 +1,16 @@
 //! Runs what the command line asks for, and gives the exit status.
-ghost use Rattle.std.specs.Prelude.{◌≡◌, IfSome, true};
-ghost use Rattle.std.specs.Io.KnownBytes.{IsAtEnd};
+ghost use Rattle.std.specs.Prelude.{◌≡◌, ◌⊎◌, IfSome, false, true};
+ghost use Rattle.std.specs.Io.KnownBytes.{IsAtEnd, Keeps};
+ghost use Rattle.std.specs.List.{list_any};
+ghost use Rattle.std.specs.Str.{chars};
+ghost use Rattle.core.specs.Char.{is_control};
 ghost use Rattle.std.specs.IoError.{error_kind, raw_os_error};
-ghost use Rattle.bsonwire.specs.Choices.{chosen_file, ChosenText};
-ghost use Rattle.bsonwire.specs.ExitStatus.{exit_status};
+ghost use Rattle.bsonwire.specs.Choices.{ChosenText, wants_memory};
+ghost use Rattle.bsonwire.specs.ExitStatus.{exit_status, tells_done, tells_fault};
 ghost use Rattle.engines.specs.Output.{AppendsText};
 ghost use Rattle.engines.specs.Run.{end_of_error, is_done, is_fault};
 
-use crate::choice::Choice;
+use crate::choice::{Choice, Command};
 use engines::canon::run_canon;
 use engines::check::run_check;
 use engines::dump::run_dump;
@@ -41,6 +44,13 @@ enum InputName<'a> {
     Quoted(&'a str),
 }
 
+/// Returns true if one of the characters of a text is a control character.
+fn has_control(text: &str) -> bool
+    ensures { result ≡ list_any is_control (chars text.now) }
+{
+    text.chars().any(|c| c.is_control())
+}
+
 impl InputName<'_> {
     ghost use Rattle.bsonwire.specs.InputName.{NamesFile};
 
@@ -50,7 +60,7 @@ impl InputName<'_> {
     {
         if file == "-" {
             InputName::StandardInput
-        } else if file.is_empty() || file.chars().any(|c| c.is_control()) {
+        } else if file.is_empty() || has_control(file) {
             InputName::Quoted(file)
         } else {
             InputName::File(file)
@@ -72,32 +82,17 @@ impl fmt::Display for InputName<'_> {
     }
 }
 
-/// Runs the choice over its file or standard input, says on standard error why it could not go on,
-/// and gives the exit status.
+/// Runs the choice over its file or standard input, says on standard error why it could not go on, and
+/// returns the exit status.
 pub fn run<R: Files + Input + Print + Eprint + AllocGlobal>(rt: &R, choice: Choice<'_>) -> u8 {
-    let file = file_of(choice);
+    let file = choice.source.file;
+    let alloc = rt.alloc();
     if file == "-" {
-        let end = run_over(rt.alloc(), choice, &mut rt.reader(), &mut io::writer(rt));
-        return tell(rt, end, InputName::of(file));
+        return status_over(rt, alloc, choice, &mut rt.reader(), &mut io::writer(rt));
     }
     match open(rt, file) {
-        Ok(mut opened) => {
-            let end = run_over(rt.alloc(), choice, &mut opened, &mut io::writer(rt));
-            tell(rt, end, InputName::of(file))
-        }
+        Ok(mut opened) => status_over(rt, alloc, choice, &mut opened, &mut io::writer(rt)),
         Err(error) => tell_unopened(rt, error, InputName::of(file)),
-    }
-}
-
-/// The file that the choice reads.
-fn file_of(choice: Choice<'_>) -> &str
-    ensures { result.now ≡ chosen_file choice.entry }
-{
-    match choice {
-        Choice::Dump(source)
-        | Choice::Check(source)
-        | Choice::Canon(source)
-        | Choice::Msg(source) => source.file,
     }
 }
 
@@ -108,6 +103,29 @@ fn open<R: Files>(rt: &R, file: &str) -> io::Result<R::File> {
         return Err(io::Error::from(ErrorKind::IsADirectory));
     }
     Ok(opened)
+}
+
+/// Runs the choice over its input, says on standard error why it stopped short if it did, and returns
+/// the exit status.
+fn status_over<E: Eprint, R: Read, W: Write>(
+    rt: &E,
+    alloc: Global,
+    choice: Choice<'_>,
+    reader: &mut R,
+    writer: &mut W,
+) -> u8
+    ensures ends { (end : RunEnd) × (result ≡ exit_status end) }
+    ensures read { tells_done result ≡ true → IsAtEnd (R.remaining reader.new) }
+    ensures written { IfSome (R.remaining reader.old) (λ input. tells_done result ≡ true →
+        AppendsText (ChosenText choice.entry input) (tells_fault result)
+        (W.contents writer.old) (W.contents writer.new)) }
+    ensures late { (IsAtEnd (R.remaining reader.new)) ⊎
+        Keeps (W.contents writer.old) (W.contents writer.new) }
+    ensures memory { result ≡ 4 → wants_memory choice.entry.command ≡ false →
+        Keeps (W.contents writer.old) (W.contents writer.new) }
+{
+    let end = run_over(alloc, choice, reader, writer);
+    tell(rt, end, InputName::of(choice.source.file))
 }
 
 /// Runs the choice over its input.
@@ -121,12 +139,17 @@ fn run_over<R: Read, W: Write>(
     ensures written { IfSome (R.remaining reader.old) (λ input. is_done result ≡ true →
         AppendsText (ChosenText choice.entry input) (is_fault result)
         (W.contents writer.old) (W.contents writer.new)) }
+    ensures late { (IsAtEnd (R.remaining reader.new)) ⊎
+        Keeps (W.contents writer.old) (W.contents writer.new) }
+    ensures memory { result ≡ RunEnd.Memory → wants_memory choice.entry.command ≡ false →
+        Keeps (W.contents writer.old) (W.contents writer.new) }
 {
-    match choice {
-        Choice::Dump(source) => run_dump(alloc, source.hex, reader, writer),
-        Choice::Check(source) => run_check(alloc, source.hex, reader, writer),
-        Choice::Canon(source) => run_canon(alloc, source.hex, reader, writer),
-        Choice::Msg(source) => run_msg(alloc, source.hex, reader, writer),
+    let hex = choice.source.hex;
+    match choice.command {
+        Command::Dump => run_dump(alloc, hex, reader, writer),
+        Command::Check => run_check(alloc, hex, reader, writer),
+        Command::Canon => run_canon(alloc, hex, reader, writer),
+        Command::Msg => run_msg(alloc, hex, reader, writer),
     }
 }
 

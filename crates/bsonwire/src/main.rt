@@ -14,11 +14,11 @@ mod commands;
 #[cfg(test)]
 mod tests;
 
-ghost use Rattle.std.specs.Prelude.{◌≡◌};
+ghost use Rattle.std.specs.Prelude.{◌≡◌, Bool};
 ghost use Rattle.std.specs.IoError.{error_kind, raw_os_error};
 ghost use Rattle.clap.specs.Words.{kind_of};
 ghost use Rattle.engines.specs.Run.{end_of_error};
-ghost use Rattle.bsonwire.specs.ExitStatus.{IsWordsStatus, unread_status};
+ghost use Rattle.bsonwire.specs.ExitStatus.{unread_status, words_status};
 
 use choice::choose;
 use clap::error::ErrorKind;
@@ -69,26 +69,39 @@ fn unread_words(rt: &impl Eprint, error: io::Error) -> u8
     }
 }
 
-/// Prints help, the version or what is wrong with the words.
+/// Prints help, the version or what is wrong with the words, and returns the exit status.
 fn unchosen(rt: &HostRuntime, error: clap::Error) -> u8
-    ensures { IsWordsStatus (kind_of error) result }
+    ensures { (printed : Bool) × (result ≡ words_status (kind_of error) printed) }
 {
+    let printed = print_error(rt, &error);
+    status_of_words(&error, printed)
+}
+
+/// Prints what `clap` has to say. Returns true if that could be printed.
+fn print_error(rt: &HostRuntime, error: &clap::Error) -> bool {
     if error.kind() == ErrorKind::OutOfMemory {
-        return out_of_memory(rt);
+        return eprintln!(rt; "bsonwire: out of memory").is_ok();
     }
-    let printed = error.print(rt);
-    if error.use_stderr() {
-        return USAGE;
+    let printed = error.print(rt).is_ok();
+    if !printed && !error.use_stderr() {
+        let _ = eprintln!(rt; "bsonwire: could not write standard output");
     }
-    match printed {
-        Ok(()) => status_of(RunEnd::Good),
-        Err(_) => {
-            let _ = eprintln!(rt; "bsonwire: could not write standard output");
-            status_of(RunEnd::InOut)
-        }
+    printed
+}
+
+/// Returns the exit status of words that ask for no run, by whether `clap`'s text was printed.
+fn status_of_words(error: &clap::Error, printed: bool) -> u8
+    ensures { result ≡ words_status (kind_of error.now) printed }
+{
+    match error.kind() {
+        ErrorKind::OutOfMemory => status_of(RunEnd::Memory),
+        ErrorKind::DisplayHelp | ErrorKind::DisplayVersion if printed => status_of(RunEnd::Good),
+        ErrorKind::DisplayHelp | ErrorKind::DisplayVersion => status_of(RunEnd::InOut),
+        _ => USAGE,
     }
 }
 
+/// Says that memory ran out, and returns the exit status.
 fn out_of_memory(rt: &impl Eprint) -> u8
     ensures { result ≡ 4 }
 {

@@ -1,7 +1,12 @@
-use crate::choice::{Choice, Source, choose};
+use crate::choice::{Choice, Command, Source, choose};
 use crate::commands::run;
 use clap::error::ErrorKind;
 use std::test::Fail;
+
+fn choice_of<'a>(command: Command, file: &'a str, hex: bool) -> Choice<'a> {
+    let source = Source { file, hex };
+    Choice { command, source }
+}
 
 #[test]
 fn chooses(rt: HostRuntime) -> Result<(), Fail> {
@@ -17,21 +22,17 @@ fn chooses(rt: HostRuntime) -> Result<(), Fail> {
     ];
     for (words, file, hex) in rows {
         let choice = choose(rt.alloc(), words)?;
-        let want = Choice::Dump(Source { file, hex });
+        let want = choice_of(Command::Dump, file, hex);
         assert!(rt; choice == want, "at {words:?}");
     }
-    let source = Source {
-        file: "a",
-        hex: true,
-    };
     let rows = [
-        (["bsonwire", "check", "a", "--hex"], Choice::Check(source)),
-        (["bsonwire", "canon", "--hex", "a"], Choice::Canon(source)),
-        (["bsonwire", "msg", "--hex", "a"], Choice::Msg(source)),
+        (["bsonwire", "check", "a", "--hex"], Command::Check),
+        (["bsonwire", "canon", "--hex", "a"], Command::Canon),
+        (["bsonwire", "msg", "--hex", "a"], Command::Msg),
     ];
-    for (words, want) in rows {
+    for (words, command) in rows {
         let choice = choose(rt.alloc(), &words)?;
-        assert!(rt; choice == want, "at {words:?}");
+        assert!(rt; choice == choice_of(command, "a", true), "at {words:?}");
     }
     Ok(())
 }
@@ -107,11 +108,8 @@ fn refuses(rt: HostRuntime) {
 #[test]
 fn ends_with_3_where_nothing_can_be_read(rt: HostRuntime) {
     for file in ["/nothing/here", "/", ""] {
-        let source = Source { file, hex: false };
-        assert_eq!(rt; run(&rt, Choice::Dump(source)), 3, "at {file:?}");
-        assert_eq!(rt; run(&rt, Choice::Check(source)), 3, "at {file:?}");
-        assert_eq!(rt; run(&rt, Choice::Canon(source)), 3, "at {file:?}");
-        assert_eq!(rt; run(&rt, Choice::Msg(source)), 3, "at {file:?}");
+        let choice = choice_of(Command::Dump, file, false);
+        assert_eq!(rt; run(&rt, choice), 3, "at {file:?}");
     }
 }
 
@@ -121,11 +119,7 @@ fn wants_memory(rt: HostRuntime) {
     let words = ["bsonwire", "dump", "a", "--hex"];
     match choose(rt.alloc(), &words) {
         Ok(choice) => {
-            let want = Choice::Dump(Source {
-                file: "a",
-                hex: true,
-            });
-            assert!(rt; choice == want);
+            assert!(rt; choice == choice_of(Command::Dump, "a", true));
         }
         Err(error) => assert_eq!(rt; error.kind(), ErrorKind::OutOfMemory),
     }

@@ -163,6 +163,7 @@ fn write_output<E: Engine, W: Write>(engine: &E, input: &Input, out: &mut W) -> 
 /// Passes on what is left of a text, and tells the end by what came of writing it.
 fn finish<W: Write>(mut out: Buffered<W>, written: Result<bool, RunEnd>) -> (W, RunEnd)
     requires { IfErr written (λ end. is_done end ≡ false) }
+    ensures stopped { IfErr written (λ end. result.1 ≡ end) }
     ensures told { is_done result.1 ≡ true → written ≡ Ok (is_fault result.1) }
     ensures kept { is_done result.1 ≡ true →
         Keeps (buffered_contents W.contents out) (W.contents result.0) }
