@@ -1,12 +1,14 @@
 -- What stands in front of bytes is told in one way.
-use Rattle.std.proofs.Common.{◌≡◌, ℕ, ◌≤◌, List, ◌++◌, length, take, drop, refl, sym, ap, subst, ◌∙◌, ◌+◌, arith, length-append, length-take}
+use Rattle.std.proofs.Common.{◌≡◌, ◌⊎◌, inl, inr, ℕ, ◌≤◌, List, ◌++◌, length, take, drop, refl, sym, ap, subst, ◌∙◌, ◌+◌, arith, length-append, length-take}
 use Rattle.std.proofs.lemmas.List.{take_at, take-append-drop}
+use Rattle.std.specs.Borrow.{Bor}
 use Rattle.bson_elem.specs.Spelling.{IsBytes}
 use Rattle.bson_elem.proofs.FieldLaws.{IsBytes-take}
 use Rattle.wire_msg.specs.declared.header.MsgHeader.{MsgHeader}
 use Rattle.wire_msg.specs.declared.fault.MsgFault.{MsgFault}
 use Rattle.wire_msg.specs.declared.front.MsgFront.{MsgFront}
 use Rattle.wire_msg.specs.declared.front.MsgFront.TheVariants.{Whole, Open, Bad}
+use Rattle.wire_msg.specs.declared.msg.RawMsg.{RawMsg}
 use Rattle.wire_msg.specs.RawMsg.{msg_bytes}
 use Rattle.wire_msg.specs.Header.{number_at, header_of, IsGoodHeader, HeaderFault}
 use Rattle.wire_msg.specs.Message.{Message}
@@ -84,3 +86,9 @@ pub stands : (limit : ℕ) (bytes : List ℕ) (told : MsgFront) → IsFront limi
 stands limit bytes (Whole message after) is = is_whole is.1.1.0 after.now (whole_of limit bytes (msg_bytes message) after.now is.0 is.1)
 stands limit bytes Open is = is_open is
 stands limit bytes (Bad f) is = is_bad f is.0
+
+-- where no message is told, the bytes are open or bad
+pub open_or_bad : (limit : ℕ) (bytes : List ℕ) (told : MsgFront) → IsFront limit bytes told → ((message : RawMsg) (rest : Bor (List ℕ)) → told ≡ Whole message rest → ⊥) → IsOpen limit bytes ⊎ ((f : MsgFault) × IsBad limit bytes f)
+open_or_bad limit bytes (Whole message after) is none = absurd (none message after refl)
+open_or_bad limit bytes Open is none = inl is
+open_or_bad limit bytes (Bad f) is none = inr (f, is.0)

@@ -9,7 +9,7 @@ use Rattle.wire_msg.proofs.ReadLaws.{length-sequence}
 use Rattle.wire_msg.proofs.Verdicts.{same_sequence}
 
 -- bytes are sequences in one way at most
-same_sequences : (qs rs : List Sequence) → AreSequences qs → AreSequences rs → sequences_bytes qs ≡ sequences_bytes rs → qs ≡ rs
+pub same_sequences : (qs rs : List Sequence) → AreSequences qs → AreSequences rs → sequences_bytes qs ≡ sequences_bytes rs → qs ≡ rs
 same_sequences [] [] f g e = refl
 same_sequences [] (r ∷ rs) f g e = absurd (omega (arith, ap length e, length-append (sequence_section r) (sequences_bytes rs), length-sequence r))
 same_sequences (q ∷ qs) [] f g e = absurd (omega (arith, ap length e, length-append (sequence_section q) (sequences_bytes qs), length-sequence q))

@@ -21,3 +21,5 @@ pub mod AppendLaws
 pub mod BufLaws
 pub mod FaultPlaces
 pub mod FrontLaws
+pub mod SplitLaws
+pub mod ContentLaws

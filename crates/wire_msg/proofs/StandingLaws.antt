@@ -1,18 +1,21 @@
 -- How bytes stand that come one after another.
-use Rattle.std.proofs.Common.{◌≡◌, ℕ, ℤ, ◌+◌, ◌≤◌, Bool, List, [], ◌++◌, length, take, drop, Ok, refl, sym, ap, subst, ◌∙◌, arith, length-append, length-drop}
+use Rattle.std.proofs.Common.{◌≡◌, ◌≢◌, ℕ, ℤ, ◌+◌, ◌<◌, ◌≤◌, inl, inr, Bool, List, [], ◌++◌, length, take, drop, Ok, refl, sym, ap, subst, ◌∙◌, arith, length-append, length-drop}
 use Rattle.std.specs.Int.{w32, from_le_bytes, cast_signed}
+use Rattle.std.proofs.lemmas.Bool.{cases_lt}
 use Rattle.std.proofs.lemmas.List.{take_at, drop_at, take-append-le, drop-append-le, nil_from_length}
 use Rattle.bson_elem.specs.Tree.{Tree}
-use Rattle.bson_elem.specs.Spelling.{IsBytes}
+use Rattle.bson_elem.specs.Spelling.{IsBytes, elements}
+use Rattle.bson_elem.proofs.ContainerLaws.{length-document}
 use Rattle.bson_elem.proofs.FieldLaws.{ok_is, IsBytes-drop, IsBytes-take}
 use Rattle.wire_msg.specs.declared.header.MsgHeader.{MsgHeader}
 use Rattle.wire_msg.specs.declared.fault.MsgFault.{MsgFault}
 use Rattle.wire_msg.specs.Header.{number_at, header_of, IsGoodHeader, HeaderFault}
 use Rattle.wire_msg.specs.Message.{Sequence, Message}
-use Rattle.wire_msg.specs.Spelling.{FlagsAre, SpellsMsg}
+use Rattle.wire_msg.specs.Spelling.{body_section, sequences_bytes, FlagsAre, SpellsMsg}
 use Rattle.wire_msg.specs.Faults.{FaultMsg}
 use Rattle.wire_msg.specs.Standing.{IsOpen, in_header, in_message, IsWhole, IsBad, bad_header, bad_message}
 use Rattle.wire_msg.proofs.FlagLaws.{same_flags}
+use Rattle.wire_msg.proofs.SectionLaws.{length-body}
 use Rattle.wire_msg.proofs.SectionVerdicts.{Parts, one_verdict}
 use Rattle.wire_msg.proofs.MsgAnswers.{msg_read, msg_verdict, no_msg_fault, one_msg_fault, good_header, one_header_fault, good_of_msg}
 
@@ -54,7 +57,7 @@ pub header_front : (a rest : List ℕ) → 16 ≤ length a → header_of (a ++ r
 header_front a rest room = same_header _ _ _ _ _ _ _ _ (number_front a rest 0 (omega (arith, room))) (number_front a rest 4 (omega (arith, room))) (number_front a rest 8 (omega (arith, room))) (number_front a rest 12 (omega (arith, room)))
 
 -- the announced length of bytes that begin with a message is the message's
-announced : (m : Message) (a rest : List ℕ) → SpellsMsg m a → number_at (a ++ rest) 0 ≡ length a
+pub announced : (m : Message) (a rest : List ℕ) → SpellsMsg m a → number_at (a ++ rest) 0 ≡ length a
 announced m a rest s = let r = msg_read m a s in number_front a rest 0 (omega (arith, r.long)) ∙ r.len
 
 pub one_front : (m n : Message) (a b rest after : List ℕ) → IsBytes a → SpellsMsg m a → SpellsMsg n b → a ++ rest ≡ b ++ after → (m ≡ n) × (a ≡ b) × (rest ≡ after)
@@ -70,15 +73,34 @@ no_other m n a rest s t =
 
 -- ---- open, bad and whole
 
-whole_header : (limit : ℕ) (bytes rest : List ℕ) (m : Message) → (w : IsWhole limit bytes m rest) → (20 ≤ length w.front) × (number_at bytes 0 ≡ length w.front) × (length bytes ≡ length w.front + length rest) × IsGoodHeader limit (header_of bytes)
-whole_header limit bytes rest m w =
-    let r = msg_read m w.front w.spelled in
+-- a message has a kind byte and a document of five bytes at least behind its flags
+pub least_length : (m : Message) (bytes : List ℕ) → SpellsMsg m bytes → 26 ≤ length bytes
+least_length m bytes s =
+    let r = msg_read m bytes s in
+    let x : List ℕ = sequences_bytes s.after in
+    omega (arith, ap length r.sections, length-drop 20 bytes, length-append (sequences_bytes s.before) (body_section m.content.body ++ x), length-append (body_section m.content.body) x, length-body m.content.body, length-document (elements m.content.body))
+
+-- a whole message has a good header that announces its length
+pub record WholeRead (limit : ℕ) (bytes rest : List ℕ) (m : Message) (w : IsWhole limit bytes m rest) : Type 0 where
+  pub good : IsGoodHeader limit (header_of bytes)
+  pub announced : number_at bytes 0 ≡ length w.front
+  pub least : 26 ≤ length w.front
+  pub sum : length bytes ≡ length w.front + length rest
+
+pub whole_read : (limit : ℕ) (bytes rest : List ℕ) (m : Message) → (w : IsWhole limit bytes m rest) → WholeRead limit bytes rest m w
+whole_read limit bytes rest m w =
+    let least = least_length m w.front w.spelled in
     let good : IsGoodHeader limit (header_of w.front) = good_of_msg limit m w.front w.spelled w.within in
-    (r.long, ap (λ (x : List ℕ). number_at x 0) w.parts ∙ announced m w.front rest w.spelled, ap length w.parts ∙ length-append w.front rest, subst (IsGoodHeader limit) (sym (ap header_of w.parts ∙ header_front w.front rest (omega (arith, r.long)))) good)
+    record {
+      good = subst (IsGoodHeader limit) (sym (ap header_of w.parts ∙ header_front w.front rest (omega (arith, least)))) good;
+      announced = ap (λ (x : List ℕ). number_at x 0) w.parts ∙ announced m w.front rest w.spelled;
+      least = least;
+      sum = ap length w.parts ∙ length-append w.front rest;
+    }
 
 pub open_not_whole : (limit : ℕ) (bytes rest : List ℕ) (m : Message) → IsOpen limit bytes → IsWhole limit bytes m rest → ⊥
-open_not_whole limit bytes rest m (in_header lt) w = let h = whole_header limit bytes rest m w in omega (arith, lt, h.0, h.2)
-open_not_whole limit bytes rest m (in_message room good lt) w = let h = whole_header limit bytes rest m w in omega (arith, lt, h.1, h.2)
+open_not_whole limit bytes rest m (in_header lt) w = let h = whole_read limit bytes rest m w in omega (arith, lt, h.least, h.sum)
+open_not_whole limit bytes rest m (in_message room good lt) w = let h = whole_read limit bytes rest m w in omega (arith, lt, h.announced, h.sum)
 
 pub open_not_bad : (limit : ℕ) (bytes : List ℕ) (f : MsgFault) → IsOpen limit bytes → IsBad limit bytes f → ⊥
 open_not_bad limit bytes f (in_header lt) (bad_header room h) = omega (arith, lt, room)
@@ -87,10 +109,10 @@ open_not_bad limit bytes f (in_message room good lt) (bad_header room' h) = good
 open_not_bad limit bytes f (in_message room good lt) (bad_message room' good' le fault) = omega (arith, lt, le)
 
 pub bad_not_whole : (limit : ℕ) (bytes rest : List ℕ) (m : Message) (f : MsgFault) → IsBytes bytes → IsBad limit bytes f → IsWhole limit bytes m rest → ⊥
-bad_not_whole limit bytes rest m f fits (bad_header room h) w = good_header limit (header_of bytes) f (whole_header limit bytes rest m w).3 h
+bad_not_whole limit bytes rest m f fits (bad_header room h) w = good_header limit (header_of bytes) f (whole_read limit bytes rest m w).good h
 bad_not_whole limit bytes rest m f fits (bad_message room good le fault) w =
-    let h = whole_header limit bytes rest m w in
-    let same : take (number_at bytes 0) bytes ≡ w.front = ap (λ (n : ℕ). take n bytes) h.1 ∙ ap (take (length w.front)) w.parts ∙ take_at w.front rest (length w.front) refl in
+    let h = whole_read limit bytes rest m w in
+    let same : take (number_at bytes 0) bytes ≡ w.front = ap (λ (n : ℕ). take n bytes) h.announced ∙ ap (take (length w.front)) w.parts ∙ take_at w.front rest (length w.front) refl in
     no_msg_fault limit m w.front f (subst IsBytes same (IsBytes-take (number_at bytes 0) bytes fits)) w.spelled w.within (subst (λ (x : List ℕ). FaultMsg x limit f) same fault)
 
 pub bad_once : (limit : ℕ) (bytes : List ℕ) (f g : MsgFault) → IsBytes bytes → IsBad limit bytes f → IsBad limit bytes g → f ≡ g
@@ -101,6 +123,41 @@ bad_once limit bytes f g fits (bad_message room good le fault) (bad_message room
 
 pub bad_early : (limit : ℕ) (front more : List ℕ) (f : MsgFault) → length front ≡ 16 → HeaderFault limit (header_of front) f → IsBad limit (front ++ more) f
 bad_early limit front more f size h = bad_header (omega (arith, size, length-append front more)) (subst (λ (x : MsgHeader). HeaderFault limit x f) (sym (header_front front more (omega (arith, size)))) h)
+
+-- ---- more bytes and fewer
+
+-- more bytes leave bad bytes bad
+pub bad_longer : (limit : ℕ) (bytes more : List ℕ) (f : MsgFault) → IsBad limit bytes f → IsBad limit (bytes ++ more) f
+bad_longer limit bytes more f (bad_header room h) =
+    bad_header (omega (arith, room, length-append bytes more)) (subst (λ (x : MsgHeader). HeaderFault limit x f) (sym (header_front bytes more room)) h)
+bad_longer limit bytes more f (bad_message room good le fault) =
+    let same = header_front bytes more room in
+    let size : number_at (bytes ++ more) 0 ≡ number_at bytes 0 = ap (λ (h : MsgHeader). h.length) same in
+    let cut : take (number_at (bytes ++ more) 0) (bytes ++ more) ≡ take (number_at bytes 0) bytes = ap (λ (n : ℕ). take n (bytes ++ more)) size ∙ take-append-le (number_at bytes 0) bytes more le in
+    bad_message (omega (arith, room, length-append bytes more)) (subst (IsGoodHeader limit) (sym same) good) (omega (arith, size, le, length-append bytes more)) (subst (λ (x : List ℕ). FaultMsg x limit f) (sym cut) fault)
+
+-- a beginning that a header of the whole decides
+begins_open : (limit : ℕ) (front rest : List ℕ) → IsGoodHeader limit (header_of (front ++ rest)) → length front < number_at (front ++ rest) 0 → IsOpen limit front
+begins_open limit front rest good lt = elim (cases_lt (length front) 16) [
+      | inl short ↦ in_header short
+      | inr room ↦
+          let same = header_front front rest room in
+          in_message room (subst (IsGoodHeader limit) same good) (omega (arith, lt, ap (λ (h : MsgHeader). h.length) same))
+    ]
+
+-- a beginning of open bytes is open
+pub open_shorter : (limit : ℕ) (front rest : List ℕ) → IsOpen limit (front ++ rest) → IsOpen limit front
+open_shorter limit front rest (in_header lt) = in_header (omega (arith, lt, length-append front rest))
+open_shorter limit front rest (in_message room good lt) = begins_open limit front rest good (omega (arith, lt, length-append front rest))
+
+-- a proper beginning of a message within the limit is open
+pub open_inside : (limit : ℕ) (m : Message) (front rest : List ℕ) → SpellsMsg m (front ++ rest) → length (front ++ rest) ≤ limit → rest ≢ [] → IsOpen limit front
+open_inside limit m front rest s le some =
+    let long : length front < length (front ++ rest) = elim (cases_lt (length front) (length (front ++ rest))) [
+      | inl lt ↦ lt
+      | inr none ↦ absurd (some (nil_from_length rest (omega (arith, none, length-append front rest))))
+    ] in
+    begins_open limit front rest (good_of_msg limit m (front ++ rest) s le) (omega (arith, long, (msg_read m (front ++ rest) s).len))
 
 pub no_message : (m : Message) → SpellsMsg m [] → ⊥
 no_message m s = let r = msg_read m [] s in omega (arith, r.long)

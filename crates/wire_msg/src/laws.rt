@@ -1,16 +1,23 @@
 //! The laws of the format, on which everything rests that cuts a stream of bytes into messages. The
 //! contract of each function is the law.
 
-ghost use Rattle.std.specs.Prelude.{◌≡◌, ◌<◌, ◌≤◌, ◌^◌, ◌++◌, [], ℕ, FitsSigned, List, length};
+ghost use Rattle.std.specs.Prelude.{◌≡◌, ◌≢◌, ◌<◌, ◌≤◌, ◌^◌, ◌++◌, ◌∷◌, ◌⊎◌, [], ℕ, FitsSigned, List, length, take};
 ghost use Rattle.std.specs.Int.{w32};
 ghost use Rattle.bson_elem.specs.Spelling.{IsBytes};
 ghost use Rattle.wire_msg.specs.declared.fault.MsgFault.{MsgFault};
-ghost use Rattle.wire_msg.specs.Header.{header_of, HeaderFault};
-ghost use Rattle.wire_msg.specs.Message.{IsContent, Message};
+ghost use Rattle.wire_msg.specs.declared.header.MsgHeader.{MsgHeader};
+ghost use Rattle.wire_msg.specs.declared.payload.Payload.{Payload};
+ghost use Rattle.wire_msg.specs.declared.payload_buf.PayloadBuf.{PayloadBuf};
+ghost use Rattle.wire_msg.specs.Buf.{BufCarries};
+ghost use Rattle.wire_msg.specs.Carries.{Carries};
+ghost use Rattle.wire_msg.specs.Header.{header_of, HeaderFault, IsGoodHeader, number_at};
+ghost use Rattle.wire_msg.specs.Message.{Content, IsContent, Message};
 ghost use Rattle.wire_msg.specs.Spelling.{canonical, message_len, SpellsMsg};
 ghost use Rattle.wire_msg.specs.Faults.{FaultMsg};
 ghost use Rattle.wire_msg.specs.Standing.{IsBad, IsOpen, IsWhole, Stands};
+ghost use Rattle.wire_msg.specs.Split.{AreSpelled, Split};
 
+use crate::front::MsgFront;
 use crate::msg::RawMsg;
 
 /// A byte list spells at most one message.
@@ -90,10 +97,115 @@ pub fn bad_after_16_bytes()
         → HeaderFault limit (header_of header) f → IsBad limit (header ++ more) f }
 {}
 
+/// The 16 bytes in front decide the header.
+pub fn header_of_16_bytes()
+    ensures { (bytes : List ℕ) → header_of bytes ≡ header_of (take 16 bytes) }
+{}
+
+/// The fault of a header stands at offset 12 at most.
+pub fn header_fault_offset()
+    ensures { (limit : ℕ) (header : MsgHeader) (f : MsgFault) → HeaderFault limit header f
+        → f.at ≤ 12 }
+{}
+
+/// A message within the limit has a good header in front, which announces the message's length.
+pub fn whole_has_good_header()
+    ensures { (limit : ℕ) (bytes rest : List ℕ) (m : Message) (w : IsWhole limit bytes m rest)
+        → IsGoodHeader limit (header_of bytes) × (number_at bytes 0 ≡ length w.front) }
+{}
+
+/// A message has at least 26 bytes.
+pub fn least_length()
+    ensures { (m : Message) (bytes : List ℕ) → SpellsMsg m bytes → 26 ≤ length bytes }
+{}
+
+/// The length of the canonical spelling depends on the content alone.
+pub fn canonical_length()
+    ensures { (m : Message) → length (canonical m) ≡ message_len m.content }
+{}
+
+/// Each spelling of a message is as long as the canonical one.
+pub fn spelled_length()
+    ensures { (m : Message) (bytes : List ℕ) → SpellsMsg m bytes
+        → length bytes ≡ message_len m.content }
+{}
+
+/// A payload carries one content, lent or owned.
+pub fn one_content()
+    ensures lent { (p : Payload) (c d : Content) → Carries p c → Carries p d → c ≡ d }
+    ensures owned { (p : PayloadBuf) (c d : Content) → BufCarries p c → BufCarries p d → c ≡ d }
+{}
+
+/// More bytes leave bad bytes bad, with the same fault.
+pub fn bad_stays_bad()
+    ensures { (limit : ℕ) (bytes more : List ℕ) (f : MsgFault) → IsBad limit bytes f
+        → IsBad limit (bytes ++ more) f }
+{}
+
+/// A beginning of open bytes is open.
+pub fn beginning_of_open_is_open()
+    ensures { (limit : ℕ) (front rest : List ℕ) → IsOpen limit (front ++ rest)
+        → IsOpen limit front }
+{}
+
+/// A proper beginning of a message within the limit is open.
+pub fn beginning_of_a_message_is_open()
+    ensures { (limit : ℕ) (m : Message) (front rest : List ℕ) → SpellsMsg m (front ++ rest)
+        → length (front ++ rest) ≤ limit → rest ≢ [] → IsOpen limit front }
+{}
+
+/// Bytes are split into messages and a rest in one way at most.
+pub fn one_split()
+    ensures { (limit : ℕ) (bytes : List ℕ) (messages others : List Message) (rest after : List ℕ)
+        → IsBytes bytes → Split limit bytes messages rest → Split limit bytes others after
+        → (messages ≡ others) × (rest ≡ after) }
+{}
+
+/// Messages with open bytes behind them are split there.
+pub fn split_before_open()
+    ensures { (limit : ℕ) (messages : List Message) (joined rest : List ℕ)
+        → AreSpelled limit messages joined → IsOpen limit rest
+        → Split limit (joined ++ rest) messages rest }
+{}
+
+/// Messages with bad bytes behind them are split there.
+pub fn split_before_bad()
+    ensures { (limit : ℕ) (messages : List Message) (joined rest : List ℕ) (f : MsgFault)
+        → IsBytes rest → AreSpelled limit messages joined → IsBad limit rest f
+        → Split limit (joined ++ rest) messages rest }
+{}
+
+/// A message in front of bytes that are split is the first of their messages.
+pub fn split_after_a_message()
+    ensures { (limit : ℕ) (bytes after rest : List ℕ) (m : Message) (messages : List Message)
+        → IsWhole limit bytes m after → Split limit after messages rest
+        → Split limit bytes (m ∷ messages) rest }
+{}
+
+/// Messages in front of bytes that are split are the first of their messages.
+pub fn split_after_messages()
+    ensures { (limit : ℕ) (joined after rest : List ℕ) (messages others : List Message)
+        → AreSpelled limit messages joined → Split limit after others rest
+        → Split limit (joined ++ after) (messages ++ others) rest }
+{}
+
 /// Bytes are open, have a message in front, or are bad. The function reads them to find out which.
 pub fn open_whole_or_bad(bytes: &[u8], limit: u32)
     requires { limit ≤ 48_000_000 }
     ensures { Stands limit bytes.now }
 {
     let _ = RawMsg::front(bytes, limit);
+}
+
+/// Bytes are split into messages and a rest, which is open or bad. Returns the rest.
+pub fn split_of(bytes: &[u8], limit: u32) -> &[u8]
+    requires { limit ≤ 48_000_000 }
+    ensures split { (messages : List Message) × Split limit bytes.now messages result.now }
+    ensures ends { IsOpen limit result.now ⊎ ((f : MsgFault) × IsBad limit result.now f) }
+{
+    let mut rest = bytes;
+    while let MsgFront::Whole { rest: after, .. } = RawMsg::front(rest, limit) {
+        rest = after;
+    }
+    rest
 }
