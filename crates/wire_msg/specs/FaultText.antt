@@ -15,5 +15,13 @@ fault_text at (Document f) =
     codes "fault 7 Document at " ++ (decimal at ++ (codes ": " ++ (decimal (documents.cause_number f.cause) ++ (codes " " ++ (documents.cause_name f.cause ++ (codes " at " ++ decimal f.at))))))
 fault_text at c = codes "fault " ++ (decimal (cause_number c) ++ (codes " " ++ (cause_name c ++ (codes " at " ++ decimal at))))
 
+-- The name of the cause; an opcode stands behind its name.
+abbrev pub cause_text : MsgCause → List ℕ
+cause_text (Opcode opcode) = codes "Opcode " ++ signed_decimal opcode
+cause_text c = cause_name c
+
+abbrev pub shown_cause : MsgCause → Option (List ℕ)
+shown_cause c = Some (cause_text c)
+
 abbrev pub shown_fault : MsgFault → Option (List ℕ)
 shown_fault f = Some (fault_text f.at f.cause)

@@ -1,5 +1,5 @@
 -- Why a message isn't made.
-use Rattle.std.specs.Prelude.{ℕ, Option, Some, None}
+use Rattle.std.specs.Prelude.{ℕ, List, codes, Option, Some, None}
 use Rattle.wire_msg.specs.declared.refusal.MsgRefusal.{MsgRefusal}
 use Rattle.wire_msg.specs.declared.refusal.MsgRefusal.TheVariants.{TooLarge, RepeatedField, SequenceInBody, ZeroInName, NoSequence, OutOfMemory}
 
@@ -11,3 +11,15 @@ refusal_number SequenceInBody = Some 3
 refusal_number ZeroInName = Some 4
 refusal_number NoSequence = Some 5
 refusal_number OutOfMemory = None
+
+-- what a refusal displays as
+abbrev pub refusal_text : MsgRefusal → List ℕ
+refusal_text TooLarge = codes "the message is too large"
+refusal_text RepeatedField = codes "a top-level name of the body is repeated"
+refusal_text SequenceInBody = codes "an identifier is a top-level name of the body"
+refusal_text ZeroInName = codes "an identifier has a 00 in it"
+refusal_text NoSequence = codes "no sequence was begun"
+refusal_text OutOfMemory = codes "out of memory"
+
+abbrev pub shown_refusal : MsgRefusal → Option (List ℕ)
+shown_refusal r = Some (refusal_text r)

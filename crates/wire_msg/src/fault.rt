@@ -5,49 +5,35 @@ ghost use Rattle.wire_msg.specs.Causes.{cause_name, cause_number};
 
 use bson_elem::fault::BsonFault;
 use std::fmt;
-use thiserror::Error;
 
 /// What is wrong with the bytes. Each displays as its name, but `Opcode` with the opcode behind it.
-#[derive(Clone, Copy, Debug, PartialEq, Eq, Error)]
+#[derive(Clone, Copy, Debug, PartialEq, Eq)]
 pub enum MsgCause {
     /// A messageLength below 16, above the limit or unlike the bytes given; or no header.
-    #[error("Length")]
     Length,
     /// An opCode that isn't that of OP_MSG.
-    #[error("Opcode {0}")]
     Opcode(i32),
     /// An unknown bit is set among the flag bits 2 to 15.
-    #[error("Flags")]
     Flags,
     /// Flag bit 0, checksumPresent, is set.
-    #[error("Checksum")]
     Checksum,
     /// The kind byte of a section is neither 0 nor 1.
-    #[error("SectionKind")]
     SectionKind,
     /// A document sequence without four bytes of size, or with a size below 5 or past the message.
-    #[error("SectionSize")]
     SectionSize,
     /// A document has this fault, whose place is counted from the document's first byte.
-    #[error("Document")]
     Document(BsonFault),
     /// No section is a body.
-    #[error("NoBody")]
     NoBody,
     /// A second section is a body.
-    #[error("TwoBodies")]
     TwoBodies,
     /// A top-level name of the body stands twice.
-    #[error("RepeatedField")]
     RepeatedField,
     /// The identifier of a document sequence has no 00 in the section, or isn't UTF-8.
-    #[error("SequenceName")]
     SequenceName,
     /// The identifier of a document sequence is a top-level name of the body.
-    #[error("SequenceInBody")]
     SequenceInBody,
     /// Fewer than four bytes of flags.
-    #[error("Truncated")]
     Truncated,
 }
 
@@ -94,6 +80,22 @@ impl MsgCause {
         }
     }
 }
+
+impl fmt::Display for MsgCause {
+    ghost use Rattle.wire_msg.specs.FaultText.{shown_cause};
+
+    ghost output = { shown_cause };
+
+    #[tactic(auto, using(crate::proofs::FaultTexts::plain_cause))]
+    fn fmt<W: fmt::Write>(&self, f: &mut fmt::Formatter<W>) -> fmt::Result {
+        match *self {
+            MsgCause::Opcode(opcode) => write!(f, "Opcode {opcode}"),
+            cause => f.write_str(cause.name()),
+        }
+    }
+}
+
+impl std::error::Error for MsgCause {}
 
 /// The first fault of some bytes, in the order of the checks. It displays as its fault line.
 #[derive(Clone, Copy, Debug, PartialEq, Eq)]

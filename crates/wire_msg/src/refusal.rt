@@ -1,31 +1,26 @@
 //! Why a message isn't made.
 
 ghost use Rattle.std.specs.Prelude.{◌≡◌};
-ghost use Rattle.wire_msg.specs.Refusals.{refusal_number};
+ghost use Rattle.wire_msg.specs.Refusals.{refusal_number, refusal_text};
 ghost use Rattle.wire_msg.specs.declared.refusal.MsgRefusal.TheVariants.{OutOfMemory};
 
 use std::alloc::{AllocError, AllocFailed};
-use thiserror::Error;
+use std::fmt;
 
 /// Why a message, or the payload of one, isn't made.
-#[derive(Clone, Copy, Debug, PartialEq, Eq, Error)]
+#[derive(Clone, Copy, Debug, PartialEq, Eq)]
 pub enum MsgRefusal {
     /// The message would have more bytes than the limit; a payload's, more than 2,147,483,647.
-    #[error("the message is too large")]
     TooLarge,
     /// A top-level name of the body stands twice.
-    #[error("a top-level name of the body is repeated")]
     RepeatedField,
     /// The identifier of a document sequence is a top-level name of the body.
-    #[error("an identifier is a top-level name of the body")]
     SequenceInBody,
     /// A 00 stands in an identifier.
-    #[error("an identifier has a 00 in it")]
     ZeroInName,
     /// A document for a sequence, where none was begun.
-    #[error("no sequence was begun")]
     NoSequence,
-    #[error("out of memory")]
+    /// The allocator refused memory.
     OutOfMemory,
 }
 
@@ -43,7 +38,33 @@ impl MsgRefusal {
             MsgRefusal::OutOfMemory => None,
         }
     }
+
+    /// Returns what the refusal displays as.
+    fn text(self) -> &'static str
+        ensures { result.now ≡ refusal_text self }
+    {
+        match self {
+            MsgRefusal::TooLarge => "the message is too large",
+            MsgRefusal::RepeatedField => "a top-level name of the body is repeated",
+            MsgRefusal::SequenceInBody => "an identifier is a top-level name of the body",
+            MsgRefusal::ZeroInName => "an identifier has a 00 in it",
+            MsgRefusal::NoSequence => "no sequence was begun",
+            MsgRefusal::OutOfMemory => "out of memory",
+        }
+    }
 }
+
+impl fmt::Display for MsgRefusal {
+    ghost use Rattle.wire_msg.specs.Refusals.{shown_refusal};
+
+    ghost output = { shown_refusal };
+
+    fn fmt<W: fmt::Write>(&self, f: &mut fmt::Formatter<W>) -> fmt::Result {
+        f.write_str(self.text())
+    }
+}
+
+impl std::error::Error for MsgRefusal {}
 
 impl From<AllocError> for MsgRefusal {
     ghost from_gives = { λ _ e. e ≡ OutOfMemory };
