@@ -52,7 +52,7 @@ fn begin_sequence_leaves_the_payload(rt: HostRuntime) {
         Ok(()) => assert_eq!(rt; changed.as_payload().msg_len(), 55),
         Err(refusal) => {
             assert_eq!(rt; refusal, MsgRefusal::OutOfMemory);
-            assert!(rt; changed.as_payload() == before.as_payload());
+            assert!(rt; changed == before);
         }
     }
 }
@@ -69,7 +69,7 @@ fn push_document_leaves_the_payload(rt: HostRuntime) {
         Ok(()) => assert_eq!(rt; changed.as_payload().msg_len(), 74),
         Err(refusal) => {
             assert_eq!(rt; refusal, MsgRefusal::OutOfMemory);
-            assert!(rt; changed.as_payload() == before.as_payload());
+            assert!(rt; changed == before);
         }
     }
 }

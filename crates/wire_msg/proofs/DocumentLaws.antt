@@ -59,6 +59,10 @@ fault_after start bytes (x ∷ rest) inner b some front =
 
 -- ---- documents that are left
 
+pub nothing : (bytes : List ℕ) → length bytes ≡ 0 → bytes ≡ []
+nothing [] e = refl
+nothing (x ∷ xs) e = absurd (omega (arith, e))
+
 pub none_left : (bytes : List ℕ) (ts : List Tree) → length bytes ≡ 0 → bytes ≡ documents_bytes ts → ts ≡ []
 none_left bytes [] e is = refl
 none_left bytes (t ∷ ts) e is = absurd (omega (arith, e, ap length is))

@@ -1,10 +1,11 @@
 -- Two runs of sequences, one after the other.
-use Rattle.std.proofs.Common.{◌≡◌, ◌≢◌, ℕ, List, [], ◌∷◌, ◌++◌, length, refl, sym, ap, ◌∙◌, arith}
+use Rattle.std.proofs.Common.{◌≡◌, ◌≢◌, ℕ, ◌+◌, List, [], ◌∷◌, ◌++◌, length, refl, sym, ap, ◌∙◌, arith}
 use Rattle.std.proofs.lemmas.List.{append-nil}
 use Rattle.wire_msg.specs.Message.{Sequence, AreSequences}
 use Rattle.wire_msg.specs.Spelling.{sequences_bytes}
 use Rattle.wire_msg.specs.Known.{AreRuns}
 use Rattle.wire_msg.proofs.ReadLaws.{length-sequence}
+use Rattle.wire_msg.proofs.DocumentLaws.{nothing}
 use Rattle.std.proofs.lemmas.List.{length-append}
 use Rattle.wire_msg.specs.Spelling.{sequence_section}
 
@@ -26,6 +27,18 @@ second_run bytes then qs none r = record {
 
 pub no_runs : (bytes then : List ℕ) (qs : List Sequence) → length bytes ≡ 0 → length then ≡ 0 → AreRuns bytes then qs → qs ≡ []
 no_runs bytes then qs none also r = r.all ∙ ap (λ (x : List Sequence). x ++ r.last) (no_bytes bytes r.first r.first_are none) ∙ no_bytes then r.last r.last_are also
+
+-- runs without bytes
+pub used_up : (bytes then : List ℕ) → length bytes + length then ≡ 0 → AreRuns bytes then []
+used_up bytes then none = record {
+  first = [];
+  last = [];
+  first_fit = tt;
+  last_fit = tt;
+  first_are = nothing bytes (omega (arith, none));
+  last_are = nothing then (omega (arith, none));
+  all = refl;
+}
 
 -- the first sequence of a run that isn't empty
 pub record FirstOf (bytes then : List ℕ) (qs : List Sequence) : Type 0 where

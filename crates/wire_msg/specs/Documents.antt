@@ -28,7 +28,7 @@ pub record GivesDocument (ts : List Tree) (d : RawDocument) (after : DocumentsIt
   pub spelled : Spells tree (document_bytes d)
   pub left : DocumentsLeft after others
 
--- Of all documents left the first was given, or there is none.
+-- Of all documents left the first was given, or there is none, and none is left.
 abbrev pub DocumentStepsTo : DocumentsIter → Option RawDocument → DocumentsIter → Type 0
-DocumentStepsTo s None after = (ts : List Tree) → DocumentsLeft s ts → ts ≡ []
+DocumentStepsTo s None after = (ts : List Tree) → DocumentsLeft s ts → (ts ≡ []) × DocumentsLeft after []
 DocumentStepsTo s (Some d) after = (ts : List Tree) → DocumentsLeft s ts → GivesDocument ts d after

@@ -5,18 +5,18 @@ use Rattle.wire_msg.specs.Message.{Sequence}
 use Rattle.wire_msg.specs.Known.{AreRuns}
 use Rattle.wire_msg.specs.Documents.{DocumentsAre}
 use Rattle.wire_msg.specs.declared.documents.Documents.{Documents}
-use Rattle.wire_msg.specs.declared.sequence_iter.Sequences.{Sequences}
+use Rattle.wire_msg.specs.declared.sequence_iter.SequencesIter.{SequencesIter}
 
 -- the sequences that are left are these
-abbrev pub SequencesLeft : Sequences → List Sequence → Type 0
+abbrev pub SequencesLeft : SequencesIter → List Sequence → Type 0
 SequencesLeft s qs = AreRuns s.bytes.now s.then.now qs
 
 -- a bound on how many sequences are left
-abbrev pub sequences_bound : Sequences → ℕ
+abbrev pub sequences_bound : SequencesIter → ℕ
 sequences_bound s = length s.bytes.now + length s.then.now
 
 -- The first sequence has this identifier and these documents, and the others are left.
-pub record GivesSequence (qs : List Sequence) (identifier : List ℕ) (documents : Documents) (after : Sequences) : Type 0 where
+pub record GivesSequence (qs : List Sequence) (identifier : List ℕ) (documents : Documents) (after : SequencesIter) : Type 0 where
   pub sequence : Sequence
   pub others : List Sequence
   pub is_first : qs ≡ sequence ∷ others
@@ -24,7 +24,7 @@ pub record GivesSequence (qs : List Sequence) (identifier : List ℕ) (documents
   pub documents_are : DocumentsAre documents sequence.documents
   pub left : SequencesLeft after others
 
--- Of all sequences left the first was given, or there is none.
-abbrev pub SequenceStepsTo : Sequences → Option (Bor (List ℕ) × Documents) → Sequences → Type 0
-SequenceStepsTo s None after = (qs : List Sequence) → SequencesLeft s qs → qs ≡ []
+-- Of all sequences left the first was given, or there is none, and none is left.
+abbrev pub SequenceStepsTo : SequencesIter → Option (Bor (List ℕ) × Documents) → SequencesIter → Type 0
+SequenceStepsTo s None after = (qs : List Sequence) → SequencesLeft s qs → (qs ≡ []) × SequencesLeft after []
 SequenceStepsTo s (Some x) after = (qs : List Sequence) → SequencesLeft s qs → GivesSequence qs x.0.now x.1 after

@@ -67,7 +67,7 @@ impl<'a> Documents<'a> {
 }
 
 /// The documents that are left.
-#[derive(Drop)]
+#[derive(Debug, Drop)]
 pub struct DocumentsIter<'a> {
     bytes: &'a [u8],
     pub ghost left: { ∥ HasDocuments bytes.now ∥₁ },

@@ -9,6 +9,9 @@ use byteorder::{ByteOrder, LittleEndian};
 /// How many bytes a header has.
 pub const HEADER_LEN: u32 = 16;
 
+/// The greatest limit of a connection, maxMessageSizeBytes: how many bytes a message may have.
+pub const MAX_MESSAGE_LEN: u32 = 48_000_000;
+
 /// The opCode of OP_MSG.
 pub const OP_MSG: i32 = 2013;
 
@@ -46,7 +49,7 @@ impl MsgHeader {
     /// `Length` at 0 where the length is below 16 or above the limit, and else `Opcode` at 12 where
     /// the opcode isn't that of OP_MSG.
     pub fn check(&self, limit: u32) -> Result<(), MsgFault>
-        requires { limit ≤ 48_000_000 }
+        requires { limit ≤ MAX_MESSAGE_LEN }
         ensures { MatchResult result
             (λ _. IsGoodHeader limit self.now)
             (λ f. HeaderFault limit self.now f) }

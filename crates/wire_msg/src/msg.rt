@@ -12,7 +12,7 @@ ghost use Rattle.wire_msg.specs.Faults.{FaultMsg, IsFramedMsg, PartsFault};
 
 use crate::fault::{MsgCause, MsgFault};
 use crate::flags::MsgFlags;
-use crate::header::MsgHeader;
+use crate::header::{MAX_MESSAGE_LEN, MsgHeader};
 use crate::names::{check_names, check_names_with};
 use crate::payload::Payload;
 use crate::sections::{SECTIONS, split_sections};
@@ -21,10 +21,11 @@ use crate::sequence_iter::known_size;
 use bson_elem::number::little_u32;
 use bson_raw::document::RawDocument;
 use std::alloc::Global;
+use std::convert::AsSlice;
 
 /// Checks the header, and that the bytes are as many as it says.
 fn check_framed(bytes: &[u8], limit: u32) -> Result<(), MsgFault>
-    requires { limit ≤ 48_000_000 }
+    requires { limit ≤ MAX_MESSAGE_LEN }
     ensures { MatchResult result
         (λ _. IsFramedMsg limit bytes.now)
         (λ f. FaultMsg bytes.now limit f) }
@@ -81,7 +82,7 @@ pub(crate) fn check_parts_with(alloc: Global, bytes: &[u8]) -> Result<(), MsgFau
 
 /// Checks a whole message.
 fn check_message(bytes: &[u8], limit: u32) -> Result<(), MsgFault>
-    requires { limit ≤ 48_000_000 }
+    requires { limit ≤ MAX_MESSAGE_LEN }
     ensures { MatchResult result
         (λ _. IsMessage limit bytes.now)
         (λ f. FaultMsg bytes.now limit f) }
@@ -92,7 +93,7 @@ fn check_message(bytes: &[u8], limit: u32) -> Result<(), MsgFault>
 
 /// Checks a whole message, like `check_parts_with`.
 fn check_message_with(alloc: Global, bytes: &[u8], limit: u32) -> Result<(), MsgFault>
-    requires { limit ≤ 48_000_000 }
+    requires { limit ≤ MAX_MESSAGE_LEN }
     ensures { MatchResult result
         (λ _. IsMessage limit bytes.now)
         (λ f. FaultMsg bytes.now limit f) }
@@ -135,6 +136,16 @@ pub struct RawMsg<'a> {
     pub ghost spelled: { ∥ IsSpelledMsg bytes.now ∥₁ },
 }
 
+impl<'a> AsSlice<u8> for RawMsg<'a> {
+    ghost use Rattle.wire_msg.specs.RawMsg.{msg_bytes};
+
+    ghost items = { msg_bytes };
+
+    fn as_slice(&self) -> &[u8] {
+        self.as_bytes()
+    }
+}
+
 impl<'a> RawMsg<'a> {
     ghost use Rattle.wire_msg.specs.Carries.{Carries};
     ghost use Rattle.wire_msg.specs.RawMsg.{msg_bytes};
@@ -145,7 +156,7 @@ impl<'a> RawMsg<'a> {
     ///
     /// The first fault of the bytes and its place, in the order of the checks.
     pub fn parse(bytes: &'a [u8], limit: u32) -> Result<RawMsg<'a>, MsgFault>
-        requires { limit ≤ 48_000_000 }
+        requires { limit ≤ MAX_MESSAGE_LEN }
         ensures found { IfOk result (λ m.
             (msg_bytes m ≡ bytes.now) × IsMessage limit bytes.now) }
         ensures only { IsMessage limit bytes.now → IsOk result }
@@ -167,7 +178,7 @@ impl<'a> RawMsg<'a> {
     ///
     /// Those of `parse`. Want of memory is none of them.
     pub fn parse_with(alloc: Global, bytes: &'a [u8], limit: u32) -> Result<RawMsg<'a>, MsgFault>
-        requires { limit ≤ 48_000_000 }
+        requires { limit ≤ MAX_MESSAGE_LEN }
         ensures found { IfOk result (λ m.
             (msg_bytes m ≡ bytes.now) × IsMessage limit bytes.now) }
         ensures only { IsMessage limit bytes.now → IsOk result }

@@ -10,13 +10,13 @@ ghost use Rattle.wire_msg.specs.Payload.{AreParts, IsPayload};
 
 use crate::payload_buf::PayloadBuf;
 use crate::sections::SECTIONS;
-use crate::sequence_iter::Sequences;
+use crate::sequence_iter::SequencesIter;
 use bson_raw::document::RawDocument;
 use std::alloc::{AllocError, Global};
 
 /// The body and the document sequences of a message. The top-level names of the body are unique,
 /// and no identifier is one of them.
-#[derive(Clone, Copy, Debug, PartialEq, Eq)]
+#[derive(Clone, Copy, Debug)]
 pub struct Payload<'a> {
     /// The sections before the body.
     before: &'a [u8],
@@ -52,10 +52,10 @@ impl<'a> Payload<'a> {
     }
 
     /// The document sequences, in order.
-    pub fn sequences(self) -> Sequences<'a>
+    pub fn sequences(self) -> SequencesIter<'a>
         ensures { (c : Content) → Carries self.entry c → SequencesLeft result c.sequences }
     {
-        Sequences::of_known(self.before, self.after)
+        SequencesIter::of_known(self.before, self.after)
     }
 
     /// How many bytes a message has that carries this.

@@ -14,7 +14,7 @@ use crate::payload::Payload;
 use crate::refusal::MsgRefusal;
 use crate::sequence_iter::last_place;
 use bson_raw::document::RawDocument;
-use std::alloc::Global;
+use std::alloc::{AllocError, Global};
 
 /// How many bytes a message has at most, which is the greatest number that its length can be.
 const MAX_LEN: u64 = 2_147_483_647;
@@ -74,6 +74,24 @@ impl PayloadBuf {
             sequences,
             last,
         }
+    }
+
+    /// Returns a copy of the payload.
+    ///
+    /// # Errors
+    ///
+    /// Want of memory.
+    pub fn try_clone(&self) -> Result<PayloadBuf, AllocError>
+        ensures { IfOk result (HasSameBytes self.now) }
+    {
+        let alloc = *self.body.allocator();
+        let body = Vec::from_slice(alloc, &self.body)?;
+        let sequences = Vec::from_slice(alloc, &self.sequences)?;
+        Ok(PayloadBuf {
+            body,
+            sequences,
+            last: self.last,
+        })
     }
 
     /// The payload, lent.

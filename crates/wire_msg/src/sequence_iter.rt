@@ -70,27 +70,27 @@ fn next_run<'a>(bytes: &'a [u8], then: &'a [u8]) -> (&'a [u8], &'a [u8])
 }
 
 /// The document sequences that are left.
-#[derive(Drop)]
-pub struct Sequences<'a> {
+#[derive(Debug, Drop)]
+pub struct SequencesIter<'a> {
     bytes: &'a [u8],
     then: &'a [u8],
     pub ghost known: { ∥ HasSequences bytes.now ∥₁ },
     pub ghost then_known: { ∥ HasSequences then.now ∥₁ },
 }
 
-impl<'a> Sequences<'a> {
+impl<'a> SequencesIter<'a> {
     /// All sequences of bytes that are known to be sequences, and then those of others.
-    pub(crate) fn of_known(bytes: &'a [u8], then: &'a [u8]) -> Sequences<'a>
+    pub(crate) fn of_known(bytes: &'a [u8], then: &'a [u8]) -> SequencesIter<'a>
         requires first { ∥ HasSequences bytes.now ∥₁ }
         requires last { ∥ HasSequences then.now ∥₁ }
         ensures first { result.bytes.now ≡ bytes.now }
         ensures last { result.then.now ≡ then.now }
     {
-        Sequences { bytes, then }
+        SequencesIter { bytes, then }
     }
 }
 
-impl<'a> Iterator for Sequences<'a> {
+impl<'a> Iterator for SequencesIter<'a> {
     ghost use Rattle.wire_msg.specs.Sequences.{sequences_bound, SequenceStepsTo};
 
     type Item = (&'a str, Documents<'a>);

@@ -28,6 +28,6 @@ loop-identifier-preserved g c = (
 pub returns : goal.returns
 returns g c = λ content carries.
     let left = c.loop-identifier.invariant.2 content carries in
-    let none = c.in-None.ensures.steps left.0 left.2 in
+    let none = (c.in-None.ensures.steps left.0 left.2).0 in
     subst (Appends (g.W.Write.contents c.args.out.now) (g.W.Write.contents c.loop-identifier.out))
     (sym (left.4 ∙ ap (λ qs. left.1 ++ flat_map sequence_text qs) none ∙ append-nil left.1)) left.3

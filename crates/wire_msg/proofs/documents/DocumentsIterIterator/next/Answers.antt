@@ -2,13 +2,13 @@ use Rattle.std.proofs.Common.{◌≡◌, ◌≢◌, ◌∷◌, length, ap, subst
 use Rattle.std.proofs.lemmas.Bool.Decides.{nat_tests}
 use Rattle.bson_elem.specs.Spelling.{Spells}
 use Rattle.wire_msg.specs.Message.{AreDocuments, documents_bytes}
-use Rattle.wire_msg.proofs.DocumentLaws.{none_left, some_left}
+use Rattle.wire_msg.proofs.DocumentLaws.{nothing, none_left, some_left}
 use Rattle.wire_msg.proofs.documents.DocumentsIterIterator.next.Goals as goal
 
 pub returns-then-is_empty-clause-steps : goal.returns-then-is_empty-clause-steps
 returns-then-is_empty-clause-steps c = λ ts left.
     let none : length c.args.self.now.bytes.now ≡ 0 = grind (arith, nat_tests) in
-    none_left c.args.self.now.bytes.now ts none left.1
+    (none_left c.args.self.now.bytes.now ts none left.1, (tt, nothing c.args.self.now.bytes.now none))
 
 pub returns-clause-steps : goal.returns-clause-steps
 returns-clause-steps c = λ ts left.

@@ -1,12 +1,14 @@
 use Rattle.std.proofs.Common.{◌≡◌, ◌≢◌, ◌++◌, length, refl, arith}
 use Rattle.std.proofs.lemmas.Bool.Decides.{nat_tests}
-use Rattle.wire_msg.proofs.RunLaws.{no_runs, first_of_runs}
-use Rattle.wire_msg.proofs.sequence_iter.SequencesIterator.next.Goals as goal
+use Rattle.wire_msg.proofs.RunLaws.{no_runs, used_up, first_of_runs}
+use Rattle.wire_msg.proofs.sequence_iter.SequencesIterIterator.next.Goals as goal
 
 pub returns-then-is_empty-clause-steps : goal.returns-then-is_empty-clause-steps
 returns-then-is_empty-clause-steps c = λ qs left.
     let none : length c.next_run.result.0.now ≡ 0 = grind (arith, nat_tests) in
-    no_runs c.next_run.result.0.now c.next_run.result.1.now qs none (c.next_run.ensures.used none) (c.next_run.ensures.runs qs left)
+    let then_none = c.next_run.ensures.used none in
+    let old = c.args.self.now in
+    (no_runs c.next_run.result.0.now c.next_run.result.1.now qs none then_none (c.next_run.ensures.runs qs left), used_up old.bytes.now old.then.now (omega (arith, c.next_run.ensures.same, none, then_none)))
 
 pub returns-clause-steps : goal.returns-clause-steps
 returns-clause-steps c = λ qs left.
