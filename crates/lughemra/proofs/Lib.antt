@@ -1,4 +1,3 @@
-pub mod WalkLaws
 pub mod Told
 pub mod ToldMessages
 pub mod OneAnswer

@@ -12,7 +12,8 @@ use Rattle.lughemra.specs.declared.fault.FirstFault.{FirstFault}
 use Rattle.lughemra.specs.declared.walk.DocumentsWalk.{DocumentsWalk}
 use Rattle.lughemra.specs.Documents.{EndsAs, is_nothing, is_bad, documents_check, IsDocumentsCheck}
 use Rattle.lughemra.specs.Fault.{first_fault}
-use Rattle.lughemra.specs.Walk.{elements_in, sizes_in, documents_walk, IsDocumentsWalk}
+use Rattle.bson_raw.specs.Totals.{elements_in, sizes_in}
+use Rattle.lughemra.specs.Walk.{documents_walk, IsDocumentsWalk}
 
 -- a fault that is counted from offset 0 is the same
 pub counted_from_0 : (f : BsonFault) → first_fault (Some (fault (0 + f.at) f.cause)) ≡ first_fault (Some f)

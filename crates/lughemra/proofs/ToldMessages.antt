@@ -6,7 +6,7 @@ use Rattle.bson_elem.proofs.TreeLaws.{IsBytes-after}
 use Rattle.wire_msg.specs.declared.fault.MsgFault.{MsgFault}
 use Rattle.wire_msg.specs.Causes.{msg_fault}
 use Rattle.wire_msg.specs.Message.{Message}
-use Rattle.wire_msg.specs.Spelling.{SpellsMsg}
+use Rattle.wire_msg.specs.Spelling.{IsMessage, SpellsMsg}
 use Rattle.wire_msg.specs.Split.{AreSpelled, Split}
 use Rattle.wire_msg.specs.Standing.{IsBad, IsOpen, IsWhole, in_header}
 use Rattle.wire_msg.proofs.MsgAnswers.{msg_read}
@@ -60,6 +60,10 @@ one_more limit bytes rest after ms m w i = record {
   spelled = spelled_more limit ms i.joined m w.front i.spelled w.spelled w.within;
   parts = i.parts ∙ ap (λ (x : List ℕ). i.joined ++ x) w.parts ∙ sym (append_assoc i.joined w.front after);
 }
+
+-- a message in front, and what is behind it
+pub whole_of : (limit : ℕ) (bytes front rest : List ℕ) → bytes ≡ front ++ rest → (is : IsMessage limit front) → IsWhole limit bytes is.1.0 rest
+whole_of limit bytes front rest parts is = record { front = front; parts = parts; spelled = is.1.1; within = is.0 }
 
 -- no message begins a rest that ends so
 none_begins : (limit offset : ℕ) (rest : List ℕ) (ending : Ending) → IsBytes rest → EndsAs limit offset rest ending → (m : Message) (after : List ℕ) → IsWhole limit rest m after → ⊥

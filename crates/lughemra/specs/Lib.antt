@@ -1,5 +1,4 @@
 pub mod Fault
 pub mod Documents
 pub mod Walk
-pub mod Front
 pub mod Messages

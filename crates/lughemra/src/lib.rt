@@ -8,7 +8,6 @@
 
 pub mod documents;
 pub mod fault;
-mod front;
 pub mod laws;
 pub mod messages;
 pub mod walk;

@@ -5,7 +5,7 @@ ghost use Rattle.lughemra.specs.Messages.{IsMessageCheck, limit_message_check};
 ghost use Rattle.lughemra.specs.Messages.{IsMessagesCheck, limit_messages_check};
 
 use crate::fault::FirstFault;
-use crate::front::{Front, read_front};
+use wire_msg::front::MsgFront;
 use wire_msg::msg::RawMsg;
 
 /// The greatest limit on a message's length.
@@ -83,9 +83,9 @@ pub extern "C" fn lughemra_check_messages_nonnull(bytes: &[u8], limit: u32) -> M
     let mut rest = bytes;
     while !rest.is_empty() {
         let bytes_read = bytes.len() - rest.len();
-        match read_front(rest, limit) {
-            Front::Whole(after) => rest = after,
-            Front::Open => {
+        match RawMsg::front(rest, limit) {
+            MsgFront::Whole { rest: after, .. } => rest = after,
+            MsgFront::Open => {
                 return MessagesCheck {
                     messages,
                     bytes_read,
@@ -93,7 +93,7 @@ pub extern "C" fn lughemra_check_messages_nonnull(bytes: &[u8], limit: u32) -> M
                     document_fault: none,
                 };
             }
-            Front::Bad(found) => {
+            MsgFront::Bad(found) => {
                 return MessagesCheck {
                     messages,
                     bytes_read,

@@ -3,7 +3,7 @@ use Rattle.std.proofs.lemmas.List.{nil_from_length}
 use Rattle.std.proofs.lemmas.List.Sums.{sum_by_push}
 use Rattle.bson_raw.proofs.Lemmas.{document_takes, none_walked, one_more}
 use Rattle.lughemra.specs.Documents.{is_nothing, is_bad}
-use Rattle.lughemra.specs.Walk.{elements_in, sizes_in}
+use Rattle.bson_raw.specs.Totals.{elements_in, sizes_in}
 use Rattle.lughemra.proofs.Told.{told_walk}
 use Rattle.lughemra.proofs.walk.lughemra_walk_documents_nonnull.Goals as goal
 
@@ -26,10 +26,10 @@ loop-rest-preserved c =
     let b = c.in-Ok.read.0.bytes.now in
     let t = found.1.0 in
     let takes = document_takes t b c.loop-rest.rest.now c.in-Ok.read.1.now found.1.1 found.0 in
-    let all = c.tally_document-tally.ensures.all t found.1.1 in
+    let all = c.totals-totals.ensures.all t found.1.1 in
     record {
       room = omega (arith, i.room, takes.0, takes.1);
-      sums = omega (arith, i.sums, takes.1, c.tally_document-tally.ensures.within);
+      sums = omega (arith, i.sums, takes.1, c.totals-totals.ensures.within);
       so_far = (
         i.so_far.0 ++ t ∷ [],
         one_more c.args.bytes.now i.so_far.0 c.loop-rest.rest.now t b c.in-Ok.read.1.now i.so_far.1 found.1.1 found.0,

@@ -2,7 +2,7 @@ use Rattle.std.proofs.Common.{◌≡◌, ◌+◌, ◌≤◌, List, length}
 use Rattle.std.specs.List.{sum_by}
 use Rattle.bson_elem.specs.Tree.{Tree}
 use Rattle.bson_raw.proofs.Lemmas.{Walked}
-use Rattle.lughemra.specs.Walk.{elements_in, sizes_in}
+use Rattle.bson_raw.specs.Totals.{elements_in, sizes_in}
 use Rattle.lughemra.proofs.walk.lughemra_walk_documents_nonnull.Given as goal
 
 -- the documents that were seen, and what stands in them
