@@ -1,8 +1,25 @@
--- How far what was read reaches: what follows it, and the place of a document in it.
+-- How far values reach: the sizes that are fixed, what follows what was read, and the place of a document in it.
 use Rattle.std.specs.Prelude.{ℕ, List, Option, Some, None, Result, Ok, Err}
+use Rattle.bson_elem.specs.declared.kind.Kind.{Kind}
+use Rattle.bson_elem.specs.declared.kind.Kind.TheVariants as kinds
 use Rattle.bson_elem.specs.declared.fault.BsonCause.{BsonCause}
 use Rattle.bson_elem.specs.declared.fault.BsonFault.{BsonFault}
 use Rattle.bson_elem.specs.Checks.{Read, Value, a_leaf, opens}
+
+-- the size of each value of the kind, if all have the same and any bytes are a value
+abbrev pub fixed_size : Kind → Option ℕ
+fixed_size kinds.Undefined = Some 0
+fixed_size kinds.Null = Some 0
+fixed_size kinds.MinKey = Some 0
+fixed_size kinds.MaxKey = Some 0
+fixed_size kinds.Int32 = Some 4
+fixed_size kinds.Double = Some 8
+fixed_size kinds.DateTime = Some 8
+fixed_size kinds.Timestamp = Some 8
+fixed_size kinds.Int64 = Some 8
+fixed_size kinds.ObjectId = Some 12
+fixed_size kinds.Decimal128 = Some 16
+fixed_size _ = None
 
 -- the place where the document begins that a value is, if it is one
 abbrev pub document_place : Value → Option ℕ

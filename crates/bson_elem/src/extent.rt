@@ -1,17 +1,17 @@
 //! How far values reach. Each is checked as `read_value` checks it, but it is not built: a walk that only checks needs the
 //! place of a document in the value, and what follows it.
 
-ghost use Rattle.std.specs.Prelude.{◌≡◌, ℕ, List, ◌+◌, ◌<◌, ◌^◌, ◌≤◌, length, max, IfOk, IfErr, IfSome};
+ghost use Rattle.std.specs.Prelude.{◌≡◌, ◌+◌, ◌<◌, ◌^◌, ◌≤◌, length, max, None, IfErr};
 ghost use Rattle.bson_elem.specs.Checks.{bytes_at, leaf_at, value_at};
-ghost use Rattle.bson_elem.specs.Kinds.{form_of, boolean_form, binary_form};
-ghost use Rattle.bson_elem.specs.Extents.{rest_of, value_extent};
+ghost use Rattle.bson_elem.specs.Kinds.{form_of};
+ghost use Rattle.bson_elem.specs.Extents.{fixed_size, rest_of, value_extent};
 ghost use Rattle.bson_elem.specs.Results.{Gives};
 
 use crate::container::{MAX_DEPTH, fault_at, read_document, split_scope};
 use crate::fault::{BsonCause, BsonFault};
 use crate::kind::Kind;
-use crate::number::{little_u32, read_length};
-use crate::text::{read_cstring, read_string};
+use crate::leaf::{read_binary, read_boolean, read_pointer, read_regex};
+use crate::text::read_string;
 
 /// What follows so many bytes.
 #[inline(always)]
@@ -24,48 +24,11 @@ fn skip_bytes(n: usize, bytes: &[u8]) -> Result<&[u8], BsonCause>
     Ok(&bytes[n..])
 }
 
-/// What follows a boolean.
-#[tactic(auto, unfolding(crate::specs::Checks::leaf_at, crate::specs::Checks::boolean_at))]
-#[inline(always)]
-fn skip_boolean(bytes: &[u8]) -> Result<&[u8], BsonCause>
-    ensures { Gives (λ x. x.now) result (rest_of (leaf_at boolean_form bytes.now)) }
-{
-    match bytes {
-        [] => Err(BsonCause::Truncated),
-        [0, rest @ ..] => Ok(rest),
-        [1, rest @ ..] => Ok(rest),
-        [_, ..] => Err(BsonCause::Boolean),
-    }
-}
-
-/// What follows a binary.
-#[tactic(auto, unfolding(crate::specs::Checks::leaf_at, crate::specs::Checks::binary_of))]
-#[inline(always)]
-fn skip_binary(bytes: &[u8]) -> Result<&[u8], BsonCause>
-    ensures { Gives (λ x. x.now) result (rest_of (leaf_at binary_form bytes.now)) }
-{
-    let (n, rest) = read_length(0, bytes)?;
-    if rest.len() < n + 1 {
-        return Err(BsonCause::Truncated);
-    }
-    if rest[0] == 2 {
-        if n < 4 {
-            return Err(BsonCause::OldBinary);
-        }
-        let count = little_u32(&rest[1..n + 1]);
-        if count as usize != n - 4 {
-            return Err(BsonCause::OldBinary);
-        }
-    }
-    Ok(&rest[n + 1..])
-}
-
-/// How many bytes each value of the kind has, where that is fixed and any bytes are a value.
-#[tactic(auto, using(crate::proofs::ExtentLaws::fixed))]
-// Kept apart, since a `match` that is inlined where its outcome is tested becomes a jump for each kind.
+/// Returns the size of each value of this `kind`, if all have the same and any bytes are a value.
+// Not inlined, so that it stays a table: inlined where its result is tested, it becomes a jump for each kind.
 #[inline(never)]
 fn fixed_len(kind: Kind) -> Option<usize>
-    ensures { IfSome result (λ n. (bytes : List ℕ) → rest_of (leaf_at (form_of kind) bytes) ≡ rest_of (bytes_at n bytes)) }
+    ensures { result ≡ fixed_size kind }
 {
     match kind {
         Kind::Undefined | Kind::Null | Kind::MinKey | Kind::MaxKey => Some(0),
@@ -77,50 +40,53 @@ fn fixed_len(kind: Kind) -> Option<usize>
     }
 }
 
-/// As `skip_leaf`, by a jump for each kind.
+/// Skips a value of a `kind` that has no fixed size and holds no document, and returns the bytes after it.
+// By the parts of `read_leaf` and not by itself: with it, `skip_value` is no longer inlined, and a check of documents takes
+// a third to a half more instructions.
 #[tactic(auto, unfolding(crate::specs::Checks::leaf_at))]
 #[inline(always)]
-fn skip_any_leaf(kind: Kind, bytes: &[u8]) -> Result<&[u8], BsonCause>
+fn skip_varied(kind: Kind, bytes: &[u8]) -> Result<&[u8], BsonCause>
+    requires { fixed_size kind ≡ None }
     ensures { Gives (λ x. x.now) result (rest_of (leaf_at (form_of kind) bytes.now)) }
 {
     match kind {
-        Kind::Undefined | Kind::Null | Kind::MinKey | Kind::MaxKey => Ok(bytes),
-        Kind::Int32 => skip_bytes(4, bytes),
-        Kind::Double | Kind::DateTime | Kind::Int64 => skip_bytes(8, bytes),
-        Kind::Timestamp => {
-            let rest = skip_bytes(4, bytes)?;
-            skip_bytes(4, rest)
-        }
-        Kind::ObjectId => skip_bytes(12, bytes),
-        Kind::Decimal128 => skip_bytes(16, bytes),
-        Kind::Boolean => skip_boolean(bytes),
         Kind::String | Kind::Code | Kind::Symbol => {
             let (_, rest) = read_string(bytes)?;
             Ok(rest)
         }
-        Kind::DbPointer => {
-            let (_, rest) = read_string(bytes)?;
-            skip_bytes(12, rest)
-        }
-        Kind::Regex => {
-            let (_, rest) = read_cstring(bytes)?;
-            let (_, rest) = read_cstring(rest)?;
+        Kind::Binary => {
+            let (_, _, rest) = read_binary(bytes)?;
             Ok(rest)
         }
-        Kind::Binary => skip_binary(bytes),
+        Kind::Boolean => {
+            let (_, rest) = read_boolean(bytes)?;
+            Ok(rest)
+        }
+        Kind::Regex => {
+            let (_, _, rest) = read_regex(bytes)?;
+            Ok(rest)
+        }
+        Kind::DbPointer => {
+            let (_, _, rest) = read_pointer(bytes)?;
+            Ok(rest)
+        }
         Kind::Document | Kind::Array | Kind::CodeWithScope => Err(BsonCause::Kind),
+        Kind::Undefined | Kind::Null | Kind::MinKey | Kind::MaxKey => unreachable!(),
+        Kind::Int32 | Kind::Double | Kind::DateTime | Kind::Timestamp => unreachable!(),
+        Kind::Int64 | Kind::ObjectId | Kind::Decimal128 => unreachable!(),
     }
 }
 
-/// What follows a value of a kind that holds no document.
+/// Skips a value of a `kind` that holds no document, and returns the bytes after it.
+#[tactic(auto, using(crate::proofs::ExtentLaws::fixed_rest))]
 #[inline(always)]
 fn skip_leaf(kind: Kind, bytes: &[u8]) -> Result<&[u8], BsonCause>
     ensures { Gives (λ x. x.now) result (rest_of (leaf_at (form_of kind) bytes.now)) }
 {
-    // Most values have a fixed size, which comes out of a table.
+    // Most values have a fixed size, which a table gives.
     match fixed_len(kind) {
         Some(n) => skip_bytes(n, bytes),
-        None => skip_any_leaf(kind, bytes),
+        None => skip_varied(kind, bytes),
     }
 }
 

@@ -1,9 +1,9 @@
 //! The values that hold no document.
 
-ghost use Rattle.std.specs.Prelude.{◌≡◌, ℕ, length, IfOk};
-ghost use Rattle.bson_elem.specs.Kinds.{form_of, raw_form, boolean_form, int32_form, int64_form, timestamp_form, string_form, pointer_form, binary_form, regex_form};
-ghost use Rattle.bson_elem.specs.Checks.{leaf_at, binary_of};
-ghost use Rattle.bson_elem.specs.Tree.{number_value};
+ghost use Rattle.std.specs.Prelude.{◌≡◌, ℕ, List, IfOk};
+ghost use Rattle.bson_elem.specs.Kinds.{form_of, boolean_form, binary_form, pointer_form, regex_form};
+ghost use Rattle.bson_elem.specs.Checks.{binary_of, leaf_at};
+ghost use Rattle.bson_elem.specs.Tree.{binary_value, boolean_value, pointer_value, regex_value};
 ghost use Rattle.bson_elem.specs.Items.{item_kind, item_value, as_value};
 ghost use Rattle.bson_elem.specs.Results.{Gives};
 
@@ -13,32 +13,28 @@ use crate::kind::Kind;
 use crate::number::{little_u32, read_bytes, read_i32, read_i64, read_length, read_u32};
 use crate::text::{read_cstring, read_string};
 
+/// Reads a boolean: one byte, 00 or 01.
 #[tactic(auto, unfolding(crate::specs::Checks::leaf_at, crate::specs::Checks::boolean_at))]
 #[inline(always)]
-fn read_boolean(bytes: &[u8]) -> Result<(Item<'_>, &[u8]), BsonCause>
-    ensures read { (n : ℕ) → Gives (λ x. (item_value n x.0, x.1.now)) result (as_value (leaf_at boolean_form bytes.now)) }
-    ensures kind { IfOk result (λ x. item_kind x.0 ≡ Kind.Boolean) }
+pub(crate) fn read_boolean(bytes: &[u8]) -> Result<(bool, &[u8]), BsonCause>
+    ensures { Gives (λ x. (boolean_value x.0, x.1.now)) result (leaf_at boolean_form bytes.now) }
 {
     match bytes {
         [] => Err(BsonCause::Truncated),
-        [0, rest @ ..] => Ok((Item::Boolean(false), rest)),
-        [1, rest @ ..] => Ok((Item::Boolean(true), rest)),
+        [0, rest @ ..] => Ok((false, rest)),
+        [1, rest @ ..] => Ok((true, rest)),
         [_, ..] => Err(BsonCause::Boolean),
     }
 }
 
+/// Returns the data of a binary of this subtype: `bytes`, but for subtype 02, in which they begin with their own count.
 #[tactic(auto, unfolding(crate::specs::Checks::binary_of))]
 #[inline(always)]
-fn binary_item<'a>(
-    subtype: u8,
-    bytes: &'a [u8],
-    rest: &'a [u8],
-) -> Result<(Item<'a>, &'a [u8]), BsonCause>
-    ensures read { (n : ℕ) → Gives (λ x. (item_value n x.0, x.1.now)) result (as_value (binary_of subtype bytes.now rest.now)) }
-    ensures kind { IfOk result (λ x. item_kind x.0 ≡ Kind.Binary) }
+fn binary_data(subtype: u8, bytes: &[u8]) -> Result<&[u8], BsonCause>
+    ensures { (rest : List ℕ) → Gives (λ x. (binary_value subtype x.now, rest)) result (binary_of subtype bytes.now rest) }
 {
     if subtype != 2 {
-        return Ok((Item::Binary { subtype, bytes }, rest));
+        return Ok(bytes);
     }
     if bytes.len() < 4 {
         return Err(BsonCause::OldBinary);
@@ -47,45 +43,46 @@ fn binary_item<'a>(
     if count as usize != bytes.len() - 4 {
         return Err(BsonCause::OldBinary);
     }
-    Ok((
-        Item::Binary {
-            subtype: 2,
-            bytes: &bytes[4..],
-        },
-        rest,
-    ))
+    Ok(&bytes[4..])
 }
 
+/// Reads a binary, and returns its subtype, its data and what follows it.
 #[tactic(auto, unfolding(crate::specs::Checks::leaf_at))]
 #[inline(always)]
-fn read_binary(bytes: &[u8]) -> Result<(Item<'_>, &[u8]), BsonCause>
-    ensures read { (n : ℕ) → Gives (λ x. (item_value n x.0, x.1.now)) result (as_value (leaf_at binary_form bytes.now)) }
-    ensures kind { IfOk result (λ x. item_kind x.0 ≡ Kind.Binary) }
+pub(crate) fn read_binary(bytes: &[u8]) -> Result<(u8, &[u8], &[u8]), BsonCause>
+    ensures { Gives (λ x. (binary_value x.0 x.1.now, x.2.now)) result (leaf_at binary_form bytes.now) }
 {
     let (n, rest) = read_length(0, bytes)?;
     if rest.len() < n + 1 {
         return Err(BsonCause::Truncated);
     }
     let subtype = rest[0];
-    binary_item(subtype, &rest[1..n + 1], &rest[n + 1..])
+    match binary_data(subtype, &rest[1..n + 1]) {
+        Ok(data) => Ok((subtype, data, &rest[n + 1..])),
+        Err(cause) => Err(cause),
+    }
 }
 
+/// Reads a regular expression, and returns its pattern, its options and what follows it.
 #[tactic(auto, unfolding(crate::specs::Checks::leaf_at))]
 #[inline(always)]
-fn number_of(bytes: &[u8]) -> Result<(i32, &[u8]), BsonCause>
-    ensures { Gives (λ x. (number_value x.0, x.1.now)) result (leaf_at int32_form bytes.now) }
+pub(crate) fn read_regex(bytes: &[u8]) -> Result<(&str, &str, &[u8]), BsonCause>
+    ensures { Gives (λ x. (regex_value x.0.now x.1.now, x.2.now)) result (leaf_at regex_form bytes.now) }
 {
-    let (front, rest) = read_bytes::<4>(bytes)?;
-    Ok((i32::from_le_bytes(front), rest))
+    let (pattern, rest) = read_cstring(bytes)?;
+    let (options, rest) = read_cstring(rest)?;
+    Ok((pattern, options, rest))
 }
 
+/// Reads a DBPointer, and returns its namespace, its ObjectId and what follows it.
 #[tactic(auto, unfolding(crate::specs::Checks::leaf_at))]
 #[inline(always)]
-fn wide_of(bytes: &[u8]) -> Result<(i64, &[u8]), BsonCause>
-    ensures { Gives (λ x. (number_value x.0, x.1.now)) result (leaf_at int64_form bytes.now) }
+pub(crate) fn read_pointer(bytes: &[u8]) -> Result<(&str, [u8; 12], &[u8]), BsonCause>
+    ensures { Gives (λ x. (pointer_value x.0.now x.1, x.2.now)) result (leaf_at pointer_form bytes.now) }
 {
-    let (front, rest) = read_bytes::<8>(bytes)?;
-    Ok((i64::from_le_bytes(front), rest))
+    let (namespace, rest) = read_string(bytes)?;
+    let (id, rest) = read_bytes::<12>(rest)?;
+    Ok((namespace, id, rest))
 }
 
 /// The value of a kind that holds no document.
@@ -104,26 +101,30 @@ pub(crate) fn read_leaf(kind: Kind, bytes: &[u8]) -> Result<(Item<'_>, &[u8]), B
             let (value, rest) = read_string(bytes)?;
             Ok((Item::String(value), rest))
         }
-        Kind::Binary => read_binary(bytes),
+        Kind::Binary => {
+            let (subtype, bytes, rest) = read_binary(bytes)?;
+            Ok((Item::Binary { subtype, bytes }, rest))
+        }
         Kind::Undefined => Ok((Item::Undefined, bytes)),
         Kind::ObjectId => {
             let (value, rest) = read_bytes::<12>(bytes)?;
             Ok((Item::ObjectId(value), rest))
         }
-        Kind::Boolean => read_boolean(bytes),
+        Kind::Boolean => {
+            let (value, rest) = read_boolean(bytes)?;
+            Ok((Item::Boolean(value), rest))
+        }
         Kind::DateTime => {
             let (value, rest) = read_i64(bytes)?;
             Ok((Item::DateTime(value), rest))
         }
         Kind::Null => Ok((Item::Null, bytes)),
         Kind::Regex => {
-            let (pattern, rest) = read_cstring(bytes)?;
-            let (options, rest) = read_cstring(rest)?;
+            let (pattern, options, rest) = read_regex(bytes)?;
             Ok((Item::Regex { pattern, options }, rest))
         }
         Kind::DbPointer => {
-            let (text, rest) = read_string(bytes)?;
-            let (id, rest) = read_bytes::<12>(rest)?;
+            let (text, id, rest) = read_pointer(bytes)?;
             Ok((Item::DbPointer { text, id }, rest))
         }
         Kind::Code => {
