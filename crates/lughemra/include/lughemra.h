@@ -10,8 +10,13 @@
  * Nothing else is owed: any content and any `limit` have an answer. Calls may run at once in several threads.
  * An offset is counted from `bytes`.
  *
- * No function takes memory. A call takes at most 48 KiB of the stack, whatever the bytes are: documents may nest 200
- * deep, and the deepest take the most. */
+ * The checks of documents take no memory. Those of messages take some for the names of a body, as much as these are
+ * many, by malloc, realloc and free of the program, and give it back before they return. Where there is none to be had
+ * the answer is the same, but takes time in proportion to the square of the number of names. The three functions must
+ * come from one allocator. Don't call the checks of messages from a signal handler, nor from the forked child of a
+ * process with threads.
+ *
+ * A call takes less than 48 KiB of the stack, as it was measured: the most for documents that nest 200 deep. */
 #ifndef LUGHEMRA_H
 #define LUGHEMRA_H
 
@@ -55,8 +60,9 @@ struct lughemra_fault {
  * don't fill its length). A document, an array or a scope inside is checked whole, beginning with its depth (DEPTH),
  * before the next element.
  *
- * The offset is that of the innermost element at fault, at its type byte; that of the first byte of a document whose
- * length or last byte is at fault; and that of the outer document where its length is. */
+ * The offset is that of the type byte of the innermost element at fault. But for the last byte of a document, an array or
+ * a scope (END), and for the length of a document or an array that is below 5 (LENGTH), it is that of its first byte; and
+ * where no element is at fault, that of the outer document. */
 enum lughemra_document_fault {
     LUGHEMRA_TRUNCATED = 1,  /* an item reaches past its container, or a cstring has no 00 */
     LUGHEMRA_LENGTH = 2,     /* a length below its least value, or not that of all bytes in the check of one document */

@@ -1,15 +1,16 @@
 -- What is told of the messages that begin some bytes.
-use Rattle.std.proofs.Common.{◌≡◌, ◌+◌, ◌≤◌, ◌++◌, [], ◌∷◌, ℕ, List, length, refl, sym, ap, subst, ◌∙◌, append_assoc, append-nil, arith, length-append}
+use Rattle.std.proofs.Common.{◌≡◌, ◌+◌, ◌≤◌, ◌++◌, [], ◌∷◌, ℕ, List, length, refl, sym, ap, subst, ◌∙◌, append_assoc, arith, length-append}
 use Rattle.std.specs.Prelude.{None}
 use Rattle.bson_elem.specs.Spelling.{IsBytes}
 use Rattle.bson_elem.proofs.TreeLaws.{IsBytes-after}
 use Rattle.wire_msg.specs.declared.fault.MsgFault.{MsgFault}
 use Rattle.wire_msg.specs.Causes.{msg_fault}
 use Rattle.wire_msg.specs.Message.{Message}
-use Rattle.wire_msg.specs.Spelling.{IsMessage, SpellsMsg}
+use Rattle.wire_msg.specs.Spelling.{IsMessage}
 use Rattle.wire_msg.specs.Split.{AreSpelled, Split}
 use Rattle.wire_msg.specs.Standing.{IsBad, IsOpen, IsWhole, in_header}
 use Rattle.wire_msg.proofs.MsgAnswers.{msg_read}
+use Rattle.wire_msg.proofs.SplitLaws.{spelled-append, spelled_alone}
 use Rattle.wire_msg.proofs.StandingLaws.{open_not_whole, bad_not_whole}
 use Rattle.lughemra.specs.declared.fault.FirstFault.{FirstFault}
 use Rattle.lughemra.specs.declared.messages.MessageCheck.{MessageCheck}
@@ -41,14 +42,6 @@ pub record Seen (limit : ℕ) (bytes : List ℕ) (messages : List Message) (rest
 pub nothing_seen : (limit : ℕ) (bytes : List ℕ) → Seen limit bytes [] bytes
 nothing_seen limit bytes = record { joined = []; spelled = refl; parts = refl }
 
--- one more message is spelled
-spelled_more : (limit : ℕ) (ms : List Message) (joined : List ℕ) (m : Message) (front : List ℕ) → AreSpelled limit ms joined → SpellsMsg m front → length front ≤ limit
-    → AreSpelled limit (ms ++ m ∷ []) (joined ++ front)
-spelled_more limit [] joined m front none s within =
-    (front, [], s, within, refl, ap (λ (x : List ℕ). x ++ front) none ∙ sym (append-nil front))
-spelled_more limit (n ∷ ms) joined m front are s within =
-    (are.0, are.1 ++ front, are.2, are.3, spelled_more limit ms are.1 m front are.4 s within, ap (λ (x : List ℕ). x ++ front) are.5 ∙ append_assoc are.0 are.1 front)
-
 -- a message takes twenty bytes at least
 pub message_takes : (limit : ℕ) (rest after : List ℕ) (m : Message) → IsWhole limit rest m after → length after + 20 ≤ length rest
 message_takes limit rest after m w = omega (arith, (msg_read m w.front w.spelled).long, ap length w.parts, length-append w.front after)
@@ -57,7 +50,7 @@ message_takes limit rest after m w = omega (arith, (msg_read m w.front w.spelled
 pub one_more : (limit : ℕ) (bytes rest after : List ℕ) (ms : List Message) (m : Message) → IsWhole limit rest m after → Seen limit bytes ms rest → Seen limit bytes (ms ++ m ∷ []) after
 one_more limit bytes rest after ms m w i = record {
   joined = i.joined ++ w.front;
-  spelled = spelled_more limit ms i.joined m w.front i.spelled w.spelled w.within;
+  spelled = spelled-append limit ms (m ∷ []) i.joined w.front i.spelled (spelled_alone limit m w.front w.spelled w.within);
   parts = i.parts ∙ ap (λ (x : List ℕ). i.joined ++ x) w.parts ∙ sym (append_assoc i.joined w.front after);
 }
 

@@ -1,9 +1,10 @@
-//! The checks of the library for programs in C.
+//! The checks of documents and messages, for programs in C.
 //!
-//! Each function here takes bytes, as a pointer and a length, and gives back one struct of numbers:
-//! how much stood there whole, and the first fault behind it. None has a `requires`, so what a C
-//! program owes is what the types say: `include/lughemra.h` states it. Nothing takes memory, and the
-//! bytes are read in place.
+//! Each exported function takes bytes, as a pointer and a length, and returns one struct of numbers:
+//! what stands there whole, and the first fault behind it. None has a `requires`, so what a C program
+//! owes is what the types say. `include/lughemra.h` states it, and has a function beside each, without
+//! `_nonnull` in its name, which takes a null pointer for no bytes, too. The bytes are read in place.
+//! The checks of messages take memory for the names of a body, and go on without where there is none.
 #![tactic(auto)]
 
 pub mod documents;
