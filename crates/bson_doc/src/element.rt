@@ -41,7 +41,7 @@ fn write_value(value: RawBson<'_>, limit: usize, out: &mut Vec<u8>) -> Result<()
         RawBson::Boolean(truth) => write_bytes(&[truth as u8], out),
         RawBson::DateTime(millis) => write_int64(millis, out),
         RawBson::Regex { pattern, options } => write_regex(pattern, options, out),
-        RawBson::DbPointer { text, id } => write_dbpointer(text, &id, out),
+        RawBson::DbPointer { namespace, id } => write_dbpointer(namespace, &id, out),
         RawBson::Code(text) => write_string(text, out),
         RawBson::Symbol(text) => write_string(text, out),
         RawBson::CodeWithScope { code, scope } => write_scope(code, scope, limit, out),

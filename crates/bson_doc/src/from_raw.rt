@@ -54,7 +54,10 @@ fn read_value(alloc: Global, value: RawBson<'_>, depth: u32) -> Result<Bson, Doc
             pattern: String::from_str(alloc, pattern)?,
             options: String::from_str(alloc, options)?,
         },
-        RawBson::DbPointer { text, id } => Bson::DbPointer {
+        RawBson::DbPointer {
+            namespace: text,
+            id,
+        } => Bson::DbPointer {
             text: String::from_str(alloc, text)?,
             id,
         },

@@ -2,9 +2,14 @@
 use Rattle.std.specs.Prelude.{◌≡◌, ℕ, ◌-◌, ◌<◌, List, length, Option, Some, None}
 use Rattle.std.specs.Borrow.{Bor}
 use Rattle.bson_elem.specs.Tree.{Tree, no_pairs}
+use Rattle.bson_elem.specs.Spelling.{Spells}
+use Rattle.bson_raw.specs.declared.document.RawDocument.{RawDocument}
+use Rattle.bson_raw.specs.declared.array.RawArray.{RawArray}
 use Rattle.bson_raw.specs.declared.iter.RawIter.{RawIter}
 use Rattle.bson_raw.specs.declared.iter.RawArrayIter.{RawArrayIter}
 use Rattle.bson_raw.specs.declared.value.RawBson.{RawBson}
+use Rattle.bson_raw.specs.RawDocument.{document_bytes}
+use Rattle.bson_raw.specs.RawArray.{array_bytes}
 use Rattle.bson_raw.specs.RawBson.{Shows, held_len}
 use Rattle.bson_raw.specs.Left.{LeftIs}
 use Rattle.bson_raw.specs.Pairs.{TreeValue, with_first}
@@ -26,6 +31,10 @@ PairsLeft s t = LeftIs s.bytes.now s.at t
 -- how many bytes the document has that is walked
 abbrev pub walked_len : RawIter → ℕ
 walked_len s = length s.bytes.now
+
+-- the iterator has all pairs of the document left
+abbrev pub BeginsAtFirstPair : RawDocument → RawIter → Type 0
+BeginsAtFirstPair d s = ((t : Tree) → Spells t (document_bytes d) → PairsLeft s t) × (walked_len s ≡ length (document_bytes d))
 
 -- a bound on how many pairs are left
 abbrev pub pairs_bound : RawIter → ℕ
@@ -49,6 +58,10 @@ ValuesLeft s t = PairsLeft s.pairs t
 -- how many bytes the array has that is walked
 abbrev pub walked_array_len : RawArrayIter → ℕ
 walked_array_len s = walked_len s.pairs
+
+-- the iterator has all values of the array left
+abbrev pub BeginsAtFirstValue : RawArray → RawArrayIter → Type 0
+BeginsAtFirstValue a s = ((t : Tree) → Spells t (array_bytes a) → ValuesLeft s t) × (walked_array_len s ≡ length (array_bytes a))
 
 -- a bound on how many values are left
 abbrev pub values_bound : RawArrayIter → ℕ

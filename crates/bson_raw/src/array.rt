@@ -8,6 +8,7 @@ ghost use Rattle.bson_raw.specs.Spelled.{IsSpelled};
 use crate::document::RawDocument;
 use crate::iter::RawArrayIter;
 use crate::value::RawBson;
+use std::convert::AsSlice;
 
 /// An array in its bytes, which spell a document whose values are those of the array. Its names, mostly "0", "1"
 /// and so on, stay in the bytes as they were.
@@ -68,5 +69,15 @@ impl<'a> RawArray<'a> {
             before -= 1;
         }
         None
+    }
+}
+
+impl<'a> AsSlice<u8> for RawArray<'a> {
+    ghost use Rattle.bson_raw.specs.RawArray.{array_bytes};
+
+    ghost items = { array_bytes };
+
+    fn as_slice(&self) -> &[u8] {
+        self.bytes
     }
 }

@@ -14,6 +14,7 @@ use crate::value::RawBson;
 use bson_elem::container::read_document;
 use bson_elem::fault::{BsonCause, BsonFault};
 use bson_elem::number::little_u32;
+use std::convert::AsSlice;
 
 /// The bytes of the document in front, whether its names are canonical, and what follows it.
 fn front_parts(bytes: &[u8]) -> Result<(&[u8], bool, &[u8]), BsonFault>
@@ -226,5 +227,15 @@ impl<'a> RawDocument<'a> {
             before += 1;
         }
         None
+    }
+}
+
+impl<'a> AsSlice<u8> for RawDocument<'a> {
+    ghost use Rattle.bson_raw.specs.RawDocument.{document_bytes};
+
+    ghost items = { document_bytes };
+
+    fn as_slice(&self) -> &[u8] {
+        self.bytes
     }
 }

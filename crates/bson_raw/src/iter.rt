@@ -7,11 +7,13 @@ ghost use Rattle.bson_elem.specs.Spelling.{Spells};
 ghost use Rattle.bson_raw.specs.Spelled.{IsSpelled};
 ghost use Rattle.bson_raw.specs.Left.{HasLeft};
 
+use crate::array::RawArray;
+use crate::document::RawDocument;
 use crate::value::RawBson;
 use bson_elem::reread::reread_element;
 
 /// The pairs of a document that are left.
-#[derive(Drop)]
+#[derive(Debug, Drop)]
 pub struct RawIter<'a> {
     bytes: &'a [u8],
     at: usize,
@@ -54,8 +56,22 @@ impl<'a> Iterator for RawIter<'a> {
     }
 }
 
+impl<'a> IntoIterator for RawDocument<'a> {
+    ghost use Rattle.bson_raw.specs.RawIter.{BeginsAtFirstPair};
+
+    type Item = (&'a str, RawBson<'a>);
+
+    type IntoIter = RawIter<'a>;
+
+    ghost into_iter_gives = { BeginsAtFirstPair };
+
+    fn into_iter(self) -> RawIter<'a> {
+        self.iter()
+    }
+}
+
 /// The values of an array that are left.
-#[derive(Drop)]
+#[derive(Debug, Drop)]
 pub struct RawArrayIter<'a> {
     pairs: RawIter<'a>,
 }
@@ -87,5 +103,19 @@ impl<'a> Iterator for RawArrayIter<'a> {
     fn next(&mut self) -> Option<RawBson<'a>> {
         let (_, value) = self.pairs.next()?;
         Some(value)
+    }
+}
+
+impl<'a> IntoIterator for RawArray<'a> {
+    ghost use Rattle.bson_raw.specs.RawIter.{BeginsAtFirstValue};
+
+    type Item = RawBson<'a>;
+
+    type IntoIter = RawArrayIter<'a>;
+
+    ghost into_iter_gives = { BeginsAtFirstValue };
+
+    fn into_iter(self) -> RawArrayIter<'a> {
+        self.iter()
     }
 }

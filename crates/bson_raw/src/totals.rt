@@ -48,7 +48,7 @@ fn value_totals(value: RawBson<'_>) -> DocumentTotals
         RawBson::String(text) | RawBson::Code(text) | RawBson::Symbol(text) => {
             DocumentTotals::of_leaf(text.len())
         }
-        RawBson::DbPointer { text, .. } => DocumentTotals::of_leaf(text.len()),
+        RawBson::DbPointer { namespace, .. } => DocumentTotals::of_leaf(namespace.len()),
         RawBson::Binary { bytes, .. } => DocumentTotals::of_leaf(bytes.len()),
         RawBson::Regex { pattern, options } => {
             DocumentTotals::of_leaf(pattern.len() + options.len())

@@ -31,7 +31,7 @@ pub enum RawBson<'a> {
         options: &'a str,
     },
     DbPointer {
-        text: &'a str,
+        namespace: &'a str,
         id: [u8; 12],
     },
     Code(&'a str),
@@ -74,7 +74,10 @@ impl<'a> RawBson<'a> {
             Item::DateTime(millis) => RawBson::DateTime(millis),
             Item::Null => RawBson::Null,
             Item::Regex { pattern, options } => RawBson::Regex { pattern, options },
-            Item::DbPointer { text, id } => RawBson::DbPointer { text, id },
+            Item::DbPointer { text, id } => RawBson::DbPointer {
+                namespace: text,
+                id,
+            },
             Item::Code(text) => RawBson::Code(text),
             Item::Symbol(text) => RawBson::Symbol(text),
             Item::CodeWithScope { code, scope } => RawBson::CodeWithScope {

@@ -44,7 +44,7 @@ fn write_value<W: Write>(value: RawBson<'_>, out: &mut TextWriter<W>) -> Result<
         RawBson::DateTime(milliseconds) => write_datetime(milliseconds, out),
         RawBson::Null => out.write_all(b" null"),
         RawBson::Regex { pattern, options } => write_regex(pattern, options, out),
-        RawBson::DbPointer { text, id } => write_dbpointer(text, &id, out),
+        RawBson::DbPointer { namespace, id } => write_dbpointer(namespace, &id, out),
         RawBson::Code(text) => write_code(text, out),
         RawBson::Symbol(text) => write_symbol(text, out),
         RawBson::CodeWithScope { code, scope } => {

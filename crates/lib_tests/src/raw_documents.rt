@@ -76,7 +76,10 @@ fn values(rt: HostRuntime) -> Result<(), Fail> {
         ),
         (
             "1a000000 0c 7600 02000000 6300 000102030405060708090a0b 00",
-            RawBson::DbPointer { text: "c", id: ID },
+            RawBson::DbPointer {
+                namespace: "c",
+                id: ID,
+            },
         ),
         ("0e000000 0d 7600 02000000 6300 00", RawBson::Code("c")),
         ("0e000000 0e 7600 02000000 6300 00", RawBson::Symbol("c")),
