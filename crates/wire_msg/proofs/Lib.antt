@@ -23,3 +23,5 @@ pub mod FaultPlaces
 pub mod FrontLaws
 pub mod SplitLaws
 pub mod ContentLaws
+pub mod ByteLaws
+pub mod Lemmas

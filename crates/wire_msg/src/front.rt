@@ -8,7 +8,8 @@ ghost use Rattle.wire_msg.specs.Front.{HasWhole, IsFrame, IsFront};
 
 use crate::fault::MsgFault;
 use crate::header::MsgHeader;
-use crate::msg::{RawMsg, check_parts};
+use crate::msg::{RawMsg, check_parts, check_parts_with};
+use std::alloc::Global;
 
 /// What stands in front of bytes.
 #[derive(Clone, Copy, Debug)]
@@ -73,6 +74,29 @@ impl<'a> RawMsg<'a> {
     {
         match read_frame(bytes, limit) {
             Frame::Whole(message, rest) => match check_parts(message) {
+                Ok(()) => MsgFront::Whole {
+                    message: RawMsg::from_spelled(message),
+                    rest,
+                },
+                Err(fault) => MsgFront::Bad(fault),
+            },
+            Frame::Open => MsgFront::Open,
+            Frame::Bad(fault) => MsgFront::Bad(fault),
+        }
+    }
+
+    /// Like `front`, but looks names up in a set, so that a body of many names is read in linear
+    /// time, and goes on without one where memory is refused.
+    pub fn front_with(alloc: Global, bytes: &'a [u8], limit: u32) -> MsgFront<'a>
+        requires { limit ≤ 48_000_000 }
+        ensures front { IsFront limit bytes.now result }
+        ensures whole { (m : Message) (rest : List ℕ) (w : IsWhole limit bytes.now m rest)
+            → HasWhole w.front rest result }
+        ensures too_few { IsOpen limit bytes.now → result ≡ MsgFront.Open }
+        ensures bad { (f : MsgFault) → IsBad limit bytes.now f → result ≡ MsgFront.Bad f }
+    {
+        match read_frame(bytes, limit) {
+            Frame::Whole(message, rest) => match check_parts_with(alloc, message) {
                 Ok(()) => MsgFront::Whole {
                     message: RawMsg::from_spelled(message),
                     rest,

@@ -130,6 +130,11 @@ pub fn spelled_length()
         → length bytes ≡ message_len m.content }
 {}
 
+/// The bytes of a message are numbers below 256.
+pub fn spelled_bytes_are_bytes()
+    ensures { (m : Message) (bytes : List ℕ) → SpellsMsg m bytes → IsBytes bytes }
+{}
+
 /// A payload carries one content, lent or owned.
 pub fn one_content()
     ensures lent { (p : Payload) (c d : Content) → Carries p c → Carries p d → c ≡ d }
