@@ -98,9 +98,9 @@ leaf_at string_form bytes = do
   words ← string_at bytes
   Ok (text_value words.0, words.1)
 leaf_at pointer_form bytes = do
-  words ← string_at bytes
-  id ← bytes_at 12 words.1
-  Ok (pointer_value words.0 id.0, id.1)
+  namespace ← string_at bytes
+  id ← bytes_at 12 namespace.1
+  Ok (pointer_value namespace.0 id.0, id.1)
 leaf_at binary_form bytes = do
   n ← length_at 0 bytes
   if nat_lt (length n.1) (n.0 + 1) then Err Truncated else binary_of (slice_index n.1 0) (take n.0 (drop 1 n.1)) (drop (n.0 + 1) n.1)

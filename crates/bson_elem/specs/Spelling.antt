@@ -36,7 +36,7 @@ leaf_bytes int32_form (number_value z) = to_le_bytes w32 (cast_unsigned w32 z)
 leaf_bytes form (number_value z) = to_le_bytes w64 (cast_unsigned w64 z)
 leaf_bytes form (timestamp_value increment seconds) = little increment ++ little seconds
 leaf_bytes form (text_value words) = string words
-leaf_bytes form (pointer_value words id) = string words ++ id
+leaf_bytes form (pointer_value namespace id) = string namespace ++ id
 leaf_bytes form (binary_value subtype bytes) = binary subtype bytes
 leaf_bytes form (regex_value pattern options) = cstring pattern ++ cstring options
 
@@ -92,7 +92,7 @@ IsOfForm int32_form (number_value z) = FitsSigned w32 z
 IsOfForm int64_form (number_value z) = FitsSigned w64 z
 IsOfForm timestamp_form (timestamp_value increment seconds) = (increment < 2 ^ 32) × (seconds < 2 ^ 32)
 IsOfForm string_form (text_value words) = IsText words
-IsOfForm pointer_form (pointer_value words id) = IsText words × AreBytes 12 id
+IsOfForm pointer_form (pointer_value namespace id) = IsText namespace × AreBytes 12 id
 IsOfForm binary_form (binary_value subtype bytes) = IsBinary subtype bytes
 IsOfForm regex_form (regex_value pattern options) = IsName pattern × IsName options
 IsOfForm _ _ = ⊥

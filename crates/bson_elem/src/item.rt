@@ -18,8 +18,8 @@ pub enum Item<'a> {
     DateTime(i64),
     Null,
     Regex { pattern: &'a str, options: &'a str },
-    /// A namespace and an ObjectId.
-    DbPointer { text: &'a str, id: [u8; 12] },
+    /// A namespace and the bytes of an ObjectId.
+    DbPointer { namespace: &'a str, id: [u8; 12] },
     Code(&'a str),
     Symbol(&'a str),
     CodeWithScope { code: &'a str, scope: &'a [u8] },

@@ -124,8 +124,8 @@ pub(crate) fn read_leaf(kind: Kind, bytes: &[u8]) -> Result<(Item<'_>, &[u8]), B
             Ok((Item::Regex { pattern, options }, rest))
         }
         Kind::DbPointer => {
-            let (text, id, rest) = read_pointer(bytes)?;
-            Ok((Item::DbPointer { text, id }, rest))
+            let (namespace, id, rest) = read_pointer(bytes)?;
+            Ok((Item::DbPointer { namespace, id }, rest))
         }
         Kind::Code => {
             let (value, rest) = read_string(bytes)?;

@@ -88,9 +88,9 @@ fn reread_rare(p: usize, q: usize, kind: Kind, bytes: &[u8]) -> (Item<'_>, &[u8]
             (Item::Regex { pattern, options }, rest)
         }
         Kind::DbPointer => {
-            let (text, rest) = reread_string(bytes);
+            let (namespace, rest) = reread_string(bytes);
             let (id, rest) = read_bytes::<12>(rest).unwrap();
-            (Item::DbPointer { text, id }, rest)
+            (Item::DbPointer { namespace, id }, rest)
         }
         Kind::CodeWithScope => reread_scope(p, q, bytes),
         _ => read_value(1, p, q, kind, bytes).unwrap(),

@@ -74,8 +74,8 @@ impl<'a> RawBson<'a> {
             Item::DateTime(millis) => RawBson::DateTime(millis),
             Item::Null => RawBson::Null,
             Item::Regex { pattern, options } => RawBson::Regex { pattern, options },
-            Item::DbPointer { text, id } => RawBson::DbPointer {
-                namespace: text,
+            Item::DbPointer { namespace, id } => RawBson::DbPointer {
+                text: namespace,
                 id,
             },
             Item::Code(text) => RawBson::Code(text),
