@@ -26,6 +26,8 @@ mod engine_fault_line;
 mod engine_msg;
 pub mod hex_bytes;
 #[cfg(test)]
+mod message_refusals;
+#[cfg(test)]
 mod messages;
 #[cfg(test)]
 mod payload_refusals;

@@ -4,7 +4,7 @@
 use crate::hex_bytes::bytes_of;
 use bson_elem::fault::{BsonCause, BsonFault};
 use bson_raw::value::RawBson;
-use std::alloc::Global;
+use std::alloc::{AllocError, Global};
 use std::test::Fail;
 use wire_msg::fault::{MsgCause, MsgFault};
 use wire_msg::header::MsgHeader;
@@ -22,10 +22,16 @@ pub(crate) const INSERT: &str = "45000000 02000000 00000000 dd070000 00000000 \
     01 1c000000 646f63756d656e747300 0e000000 105f69640001000000 00 \
     00 13000000 02696e73657274000200000063 00 00";
 
+/// Returns true if `parse` and `parse_with` tell the same of `bytes`.
+pub(crate) fn both_tell(alloc: Global, bytes: &[u8]) -> bool {
+    RawMsg::parse(bytes, LIMIT) == RawMsg::parse_with(alloc, bytes, LIMIT)
+}
+
 /// The fault line of some bytes, or `good`.
 fn line_of(alloc: Global, hex: &str) -> Result<String, Fail> {
     let bytes = bytes_of(alloc, hex)?;
     match RawMsg::parse(&bytes, LIMIT) {
+        _ if !both_tell(alloc, &bytes) => Ok(format!(in alloc; "parse_with differs")?),
         Ok(_) => Ok(format!(in alloc; "good")?),
         Err(fault) => Ok(format!(in alloc; "{fault}")?),
     }
@@ -394,5 +400,45 @@ fn sequences_around_the_body(rt: HostRuntime) -> Result<(), Fail> {
         let shown = sequences_of(rt.alloc(), hex.as_str())?;
         assert_eq!(rt; shown.as_str(), *names);
     }
+    Ok(())
+}
+
+/// Appends an int32 field of value 0.
+fn push_field(name: &str, bytes: &mut Vec<u8>) -> Result<(), AllocError> {
+    bytes.push(0x10)?;
+    bytes.extend_from_slice(name.as_bytes())?;
+    bytes.extend_from_slice(&[0; 5])
+}
+
+/// A message with this beginning, whose body has the fields "0" to "1998" and then one more.
+fn many_fields(alloc: Global, head: &str, last: &str) -> Result<Vec<u8>, Fail> {
+    let mut bytes = bytes_of(alloc, head)?;
+    for index in 0..1999u32 {
+        push_field(format!(in alloc; "{index}")?.as_str(), &mut bytes)?;
+    }
+    push_field(last, &mut bytes)?;
+    bytes.push(0)?;
+    Ok(bytes)
+}
+
+#[test]
+fn two_thousand_fields(rt: HostRuntime) -> Result<(), Fail> {
+    let head = "e4490000 01000000 00000000 dd070000 00000000 00 cf490000";
+    let bytes = many_fields(rt.alloc(), head, "1999")?;
+    assert!(rt; RawMsg::parse(&bytes, LIMIT).is_ok());
+    assert!(rt; both_tell(rt.alloc(), &bytes));
+    Ok(())
+}
+
+#[test]
+fn two_thousand_fields_the_last_named_as_the_first(rt: HostRuntime) -> Result<(), Fail> {
+    let head = "e1490000 01000000 00000000 dd070000 00000000 00 cc490000";
+    let bytes = many_fields(rt.alloc(), head, "0")?;
+    let wanted = MsgFault {
+        at: 20,
+        cause: MsgCause::RepeatedField,
+    };
+    assert!(rt; RawMsg::parse(&bytes, LIMIT) == Err(wanted));
+    assert!(rt; both_tell(rt.alloc(), &bytes));
     Ok(())
 }
