@@ -18,8 +18,8 @@ use Rattle.bson_elem.proofs.ContainerLaws.{length-document}
 use Rattle.wire_msg.specs.Message.{Sequence, Content, IsDocument, documents_bytes, sequence_size, AreSequences, AreApart, IsContent}
 use Rattle.wire_msg.specs.Spelling.{body_section, sequence_section, sequences_bytes, message_len}
 use Rattle.wire_msg.specs.Payload.{AreParts, IsPayload}
-use Rattle.wire_msg.specs.Known.{last_place, IsLastPlace}
-use Rattle.wire_msg.specs.Buf.{empty_sequence, with_sequence, IsFree, longer, with_last, with_document}
+use Rattle.wire_msg.specs.Known.{last_offset, IsLastOffset}
+use Rattle.wire_msg.specs.Buf.{empty_sequence, with_sequence, IsFree, longer, with_last_document, with_document}
 use Rattle.wire_msg.proofs.DocumentLaws.{documents-append, AreDocuments-append, is_document}
 use Rattle.wire_msg.proofs.SequenceLaws.{sequences-append, AreSequences-append}
 use Rattle.wire_msg.proofs.SectionLaws.{length-body}
@@ -69,10 +69,10 @@ parts_long b s c p = omega (arith, length-message c, ap length (only_behind b s 
 parts_are : (b s : List ℕ) (c : Content) → Spells c.body b → s ≡ sequences_bytes c.sequences → IsContent c → message_len c < 2 ^ 31 → AreParts [] b s c
 parts_are b s c body is content short = record { first = []; last = c.sequences; first_are = refl; body_is = body; last_are = is; in_order = refl; content = content; short = short }
 
-last_known_at : (b s : List ℕ) (c : Content) (place : ℕ) → AreParts [] b s c → place ≡ last_place c.sequences → IsLastPlace s place
+last_known_at : (b s : List ℕ) (c : Content) (place : ℕ) → AreParts [] b s c → place ≡ last_offset c.sequences → IsLastOffset s place
 last_known_at b s c place p at = only_place s c.sequences place p.content.sequences (only_behind b s c p) at
 
-last_is_at : (b s : List ℕ) (c : Content) (place : ℕ) → AreParts [] b s c → IsLastPlace s place → place ≡ last_place c.sequences
+last_is_at : (b s : List ℕ) (c : Content) (place : ℕ) → AreParts [] b s c → IsLastOffset s place → place ≡ last_offset c.sequences
 last_is_at b s c place p at = at c.sequences p.content.sequences (only_behind b s c p)
 
 length-last : (qs : List Sequence) (q : Sequence) → length (sequences_bytes (qs ++ q ∷ [])) ≡ length (sequences_bytes qs) + (1 + sequence_size q)
@@ -123,7 +123,7 @@ with_sequence_are b s new c name p text free is short =
     } in
     parts_are b new (with_sequence c name) p.body_is bytes content short
 
-with_sequence_place : (b s : List ℕ) (c : Content) (name : List ℕ) → AreParts [] b s c → length s ≡ last_place (c.sequences ++ empty_sequence name ∷ [])
+with_sequence_place : (b s : List ℕ) (c : Content) (name : List ℕ) → AreParts [] b s c → length s ≡ last_offset (c.sequences ++ empty_sequence name ∷ [])
 with_sequence_place b s c name p = ap length (only_behind b s c p) ∙ sym (place_behind c.sequences (empty_sequence name))
 
 -- ---- a document more
@@ -134,33 +134,33 @@ documents_more q t d s = documents-append q.documents (t ∷ []) ∙ ap (λ (x :
 size_more : (q : Sequence) (t : Tree) (d : List ℕ) → Spells t d → sequence_size (longer q t) ≡ sequence_size q + length d
 size_more q t d s = omega (arith, ap length (documents_more q t d s), length-append (documents_bytes q.documents) d)
 
-with_last_is : (qs : List Sequence) (q : Sequence) (t : Tree) → with_last (qs ++ q ∷ []) t ≡ qs ++ longer q t ∷ []
+with_last_is : (qs : List Sequence) (q : Sequence) (t : Tree) → with_last_document (qs ++ q ∷ []) t ≡ qs ++ longer q t ∷ []
 with_last_is [] q t = refl
 with_last_is (p ∷ []) q t = refl
 with_last_is (p ∷ r ∷ qs) q t = ap (λ (x : List Sequence). p ∷ x) (with_last_is (r ∷ qs) q t)
 
 -- the last sequence begins where it did
-same_place : (qs : List Sequence) (t : Tree) → last_place (with_last qs t) ≡ last_place qs
+same_place : (qs : List Sequence) (t : Tree) → last_offset (with_last_document qs t) ≡ last_offset qs
 same_place [] t = refl
 same_place (q ∷ []) t = refl
 same_place (q ∷ r ∷ []) t = refl
 same_place (q ∷ r ∷ u ∷ qs) t = ap (λ (n : ℕ). length (sequence_section q) + n) (same_place (r ∷ u ∷ qs) t)
 
-apart_more : (body : Tree) (qs : List Sequence) (t : Tree) → AreApart body qs → AreApart body (with_last qs t)
+apart_more : (body : Tree) (qs : List Sequence) (t : Tree) → AreApart body qs → AreApart body (with_last_document qs t)
 apart_more body [] t a = tt
 apart_more body (q ∷ []) t a = (a.0, tt)
 apart_more body (q ∷ r ∷ qs) t a = (a.0, apart_more body (r ∷ qs) t a.1)
 
 -- its size is still an int32
-fit_more : (qs : List Sequence) (t : Tree) → IsDocument t → AreSequences qs → length (sequences_bytes (with_last qs t)) < 2 ^ 31 → AreSequences (with_last qs t)
+fit_more : (qs : List Sequence) (t : Tree) → IsDocument t → AreSequences qs → length (sequences_bytes (with_last_document qs t)) < 2 ^ 31 → AreSequences (with_last_document qs t)
 fit_more [] t d fits short = tt
 fit_more (q ∷ []) t d fits short = (record { identifier = fits.0.identifier; documents = AreDocuments-append q.documents (t ∷ []) fits.0.documents (d, tt); short = omega (arith, short, length-sequence (longer q t), length-append (sequence_section (longer q t)) []) }, tt)
-fit_more (q ∷ r ∷ qs) t d fits short = (fits.0, fit_more (r ∷ qs) t d fits.1 (omega (arith, short, length-append (sequence_section q) (sequences_bytes (with_last (r ∷ qs) t)))))
+fit_more (q ∷ r ∷ qs) t d fits short = (fits.0, fit_more (r ∷ qs) t d fits.1 (omega (arith, short, length-append (sequence_section q) (sequences_bytes (with_last_document (r ∷ qs) t)))))
 
 pub length-with_document : (c : Content) (t : Tree) (d : List ℕ) → c.sequences ≢ [] → Spells t d → message_len (with_document c t) ≡ message_len c + length d
 length-with_document c t d some s =
     let l = last_of_some c.sequences some in
-    let all : with_last c.sequences t ≡ l.before ++ longer l.last t ∷ [] = ap (λ (x : List Sequence). with_last x t) l.parts ∙ with_last_is l.before l.last t in
+    let all : with_last_document c.sequences t ≡ l.before ++ longer l.last t ∷ [] = ap (λ (x : List Sequence). with_last_document x t) l.parts ∙ with_last_is l.before l.last t in
     omega (arith, length-message c, length-message (with_document c t), ap (λ (x : List Sequence). length (sequences_bytes x)) l.parts, ap (λ (x : List Sequence). length (sequences_bytes x)) all, length-last l.before l.last, length-last l.before (longer l.last t), size_more l.last t d s)
 
 -- there are bytes of sequences where there are sequences
@@ -180,7 +180,7 @@ pub record LastSection (s : List ℕ) (c : Content) (place : ℕ) : Type 0 where
   pub room : place + (1 + sequence_size last) ≡ length s
   pub least : 5 ≤ sequence_size last
 
-last_section : (b s : List ℕ) (c : Content) (place : ℕ) → AreParts [] b s c → c.sequences ≢ [] → IsLastPlace s place → LastSection s c place
+last_section : (b s : List ℕ) (c : Content) (place : ℕ) → AreParts [] b s c → c.sequences ≢ [] → IsLastOffset s place → LastSection s c place
 last_section b s c place p some at =
     let l = last_of_some c.sequences some in
     let is : s ≡ sequences_bytes l.before ++ sequence_section l.last = only_behind b s c p ∙ ap sequences_bytes l.parts ∙ sequences-append l.before (l.last ∷ []) ∙ ap (λ (x : List ℕ). sequences_bytes l.before ++ x) (one_section l.last) in
@@ -196,15 +196,15 @@ last_section b s c place p some at =
     }
 
 -- the longer payload, by the bytes of the document behind the others, and the size in its place
-pub with_document_are : (b s new d : List ℕ) (c : Content) (t : Tree) (place size : ℕ) → AreParts [] b s c → c.sequences ≢ [] → IsLastPlace s place → Spells t d → size ≡ length s + length d - (place + 1) → new ≡ take (place + 1) s ++ (little size ++ (drop (place + 5) s ++ d)) → message_len (with_document c t) < 2 ^ 31 → AreParts [] b new (with_document c t)
+pub with_document_are : (b s new d : List ℕ) (c : Content) (t : Tree) (place size : ℕ) → AreParts [] b s c → c.sequences ≢ [] → IsLastOffset s place → Spells t d → size ≡ length s + length d - (place + 1) → new ≡ take (place + 1) s ++ (little size ++ (drop (place + 5) s ++ d)) → message_len (with_document c t) < 2 ^ 31 → AreParts [] b new (with_document c t)
 with_document_are b s new d c t place size p some at spelled size-is put short =
     let l = last_section b s c place p some at in
     let q : Sequence = l.last in
     let n : size ≡ sequence_size (longer q t) = omega (arith, size-is, l.room, size_more q t d spelled) in
     let inner : (cstring q.identifier ++ documents_bytes q.documents) ++ d ≡ cstring q.identifier ++ documents_bytes (longer q t).documents = append_assoc (cstring q.identifier) (documents_bytes q.documents) d ∙ ap (λ (x : List ℕ). cstring q.identifier ++ x) (sym (documents_more q t d spelled)) in
     let section : new ≡ sequences_bytes l.before ++ sequence_section (longer q t) = patched (sequences_bytes l.before) (little (sequence_size q)) (cstring q.identifier ++ documents_bytes q.documents) d s new place size (longer q t) l.place_is refl l.bytes n inner put in
-    let all : with_last c.sequences t ≡ l.before ++ longer q t ∷ [] = ap (λ (x : List Sequence). with_last x t) l.parts ∙ with_last_is l.before q t in
-    let bytes : new ≡ sequences_bytes (with_last c.sequences t) = section ∙ ap (λ (x : List ℕ). sequences_bytes l.before ++ x) (sym (one_section (longer q t))) ∙ sym (sequences-append l.before (longer q t ∷ [])) ∙ sym (ap sequences_bytes all) in
+    let all : with_last_document c.sequences t ≡ l.before ++ longer q t ∷ [] = ap (λ (x : List Sequence). with_last_document x t) l.parts ∙ with_last_is l.before q t in
+    let bytes : new ≡ sequences_bytes (with_last_document c.sequences t) = section ∙ ap (λ (x : List ℕ). sequences_bytes l.before ++ x) (sym (one_section (longer q t))) ∙ sym (sequences-append l.before (longer q t ∷ [])) ∙ sym (ap sequences_bytes all) in
     let content : IsContent (with_document c t) = record {
       body = p.content.body;
       sequences = fit_more c.sequences t (is_document t d spelled) p.content.sequences (omega (arith, short, length-message (with_document c t)));
@@ -213,19 +213,19 @@ with_document_are b s new d c t place size p some at spelled size-is put short =
     } in
     parts_are b new (with_document c t) p.body_is bytes content short
 
-with_document_place : (b s : List ℕ) (c : Content) (t : Tree) (place : ℕ) → AreParts [] b s c → IsLastPlace s place → place ≡ last_place (with_last c.sequences t)
+with_document_place : (b s : List ℕ) (c : Content) (t : Tree) (place : ℕ) → AreParts [] b s c → IsLastOffset s place → place ≡ last_offset (with_last_document c.sequences t)
 with_document_place b s c t place p at = last_is_at b s c place p at ∙ sym (same_place c.sequences t)
 
 -- ---- where the last sequence of the longer payload begins, whatever it carries
 
-pub sequence_begun : (b s new name : List ℕ) → IsUtf8 name → ((c : Content) → AreParts [] b s c → IsFree c name × (message_len (with_sequence c name) < 2 ^ 31)) → new ≡ s ++ sequence_section (empty_sequence name) → ∥ IsPayload [] b s ∥₁ → ∥ IsPayload [] b new ∥₁ × IsLastPlace new (length s)
+pub sequence_begun : (b s new name : List ℕ) → IsUtf8 name → ((c : Content) → AreParts [] b s c → IsFree c name × (message_len (with_sequence c name) < 2 ^ 31)) → new ≡ s ++ sequence_section (empty_sequence name) → ∥ IsPayload [] b s ∥₁ → ∥ IsPayload [] b new ∥₁ × IsLastOffset new (length s)
 sequence_begun b s new name text free is known =
     let are : (c : Content) → AreParts [] b s c → AreParts [] b new (with_sequence c name) = λ c p. with_sequence_are b s new c name p text (free c p).0 is (free c p).1 in (
       ∥∥₁_map known (λ k. (with_sequence k.0 name, are k.0 k.1)),
       λ qs fits same. ∥∥₁_elim known (ℕ_set _ _) (λ k. last_known_at b new (with_sequence k.0 name) (length s) (are k.0 k.1) (with_sequence_place b s k.0 name k.1) qs fits same),
     )
 
-pub document_added : (b s new d : List ℕ) (place size : ℕ) → IsLastPlace s place → ((c : Content) (t : Tree) → AreParts [] b s c → Spells t d → (c.sequences ≢ []) × (message_len (with_document c t) < 2 ^ 31)) → size ≡ length s + length d - (place + 1) → new ≡ take (place + 1) s ++ (little size ++ (drop (place + 5) s ++ d)) → ∥ IsPayload [] b s ∥₁ → ∥ IsSpelled d ∥₁ → ∥ IsPayload [] b new ∥₁ × IsLastPlace new place
+pub document_added : (b s new d : List ℕ) (place size : ℕ) → IsLastOffset s place → ((c : Content) (t : Tree) → AreParts [] b s c → Spells t d → (c.sequences ≢ []) × (message_len (with_document c t) < 2 ^ 31)) → size ≡ length s + length d - (place + 1) → new ≡ take (place + 1) s ++ (little size ++ (drop (place + 5) s ++ d)) → ∥ IsPayload [] b s ∥₁ → ∥ IsSpelled d ∥₁ → ∥ IsPayload [] b new ∥₁ × IsLastOffset new place
 document_added b s new d place size at fits size-is put known spelled =
     let are : (c : Content) (t : Tree) → AreParts [] b s c → Spells t d → AreParts [] b new (with_document c t) = λ c t p is. with_document_are b s new d c t place size p (fits c t p is).0 at is size-is put (fits c t p is).1 in (
       ∥∥₁_elim spelled ∥∥₁_prop (λ u. ∥∥₁_map known (λ k. (with_document k.0 u.0, are k.0 u.0 k.1 u.1))),
@@ -233,11 +233,11 @@ document_added b s new d place size at fits size-is put known spelled =
     )
 
 -- the same bytes
-pub same_payload : (b s new : List ℕ) (place : ℕ) → new ≡ s → IsLastPlace s place → ∥ IsPayload [] b s ∥₁ → ∥ IsPayload [] b new ∥₁ × IsLastPlace new place
-same_payload b s new place is at known = (subst (λ (x : List ℕ). ∥ IsPayload [] b x ∥₁) (sym is) known, subst (λ (x : List ℕ). IsLastPlace x place) (sym is) at)
+pub same_payload : (b s new : List ℕ) (place : ℕ) → new ≡ s → IsLastOffset s place → ∥ IsPayload [] b s ∥₁ → ∥ IsPayload [] b new ∥₁ × IsLastOffset new place
+same_payload b s new place is at known = (subst (λ (x : List ℕ). ∥ IsPayload [] b x ∥₁) (sym is) known, subst (λ (x : List ℕ). IsLastOffset x place) (sym is) at)
 
 -- the place lies within the bytes, and a size behind it
-pub last_inside : (b s : List ℕ) (place : ℕ) → length s ≢ 0 → IsLastPlace s place → ∥ IsPayload [] b s ∥₁ → place + 6 ≤ length s
+pub last_inside : (b s : List ℕ) (place : ℕ) → length s ≢ 0 → IsLastOffset s place → ∥ IsPayload [] b s ∥₁ → place + 6 ≤ length s
 last_inside b s place some at known =
     let no : length s < place + 6 → ⊥ = λ lt. not_there known (λ k. let l = last_section b s k.0 place k.1 (has_sequences b s k.0 some k.1) at in omega (arith, lt, l.room, l.least)) in
     omega (arith, no)

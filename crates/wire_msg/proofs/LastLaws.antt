@@ -4,7 +4,7 @@ use Rattle.std.proofs.lemmas.List.{drop-drop, drop_at}
 use Rattle.wire_msg.specs.Message.{Sequence, sequence_size, IsSequence, AreSequences}
 use Rattle.wire_msg.specs.Spelling.{sequence_section, sequences_bytes}
 use Rattle.wire_msg.specs.Checks.{HasSequences}
-use Rattle.wire_msg.specs.Known.{last_place, IsLastPlace}
+use Rattle.wire_msg.specs.Known.{last_offset, IsLastOffset}
 use Rattle.wire_msg.proofs.ReadLaws.{length-sequence}
 use Rattle.wire_msg.proofs.Verdicts.{same_sequence}
 
@@ -24,7 +24,7 @@ pub record LastOf (qs : List Sequence) : Type 0 where
   pub before : List Sequence
   pub last : Sequence
   pub parts : qs ≡ before ++ last ∷ []
-  pub place : last_place qs ≡ length (sequences_bytes before)
+  pub place : last_offset qs ≡ length (sequences_bytes before)
 
 last_of : (q : Sequence) (qs : List Sequence) → LastOf (q ∷ qs)
 last_of q [] = record { before = []; last = q; parts = refl; place = refl }
@@ -42,28 +42,28 @@ last_of_some [] some = absurd (some refl)
 last_of_some (q ∷ qs) some = last_of q qs
 
 -- a sequence behind others begins where they end
-pub place_behind : (qs : List Sequence) (q : Sequence) → last_place (qs ++ q ∷ []) ≡ length (sequences_bytes qs)
+pub place_behind : (qs : List Sequence) (q : Sequence) → last_offset (qs ++ q ∷ []) ≡ length (sequences_bytes qs)
 place_behind [] q = refl
 place_behind (p ∷ []) q = omega (arith, length-append (sequence_section p) [])
 place_behind (p ∷ r ∷ qs) q = ap (λ (n : ℕ). length (sequence_section p) + n) (place_behind (r ∷ qs) q) ∙ sym (length-append (sequence_section p) (sequences_bytes (r ∷ qs)))
 
 -- the place of the last sequence is known by one reading of the bytes
-pub only_place : (bytes : List ℕ) (qs : List Sequence) (place : ℕ) → AreSequences qs → bytes ≡ sequences_bytes qs → place ≡ last_place qs → IsLastPlace bytes place
-only_place bytes qs place fits is at = λ rs fits' is'. at ∙ ap last_place (same_sequences qs rs fits fits' (sym is ∙ is'))
+pub only_place : (bytes : List ℕ) (qs : List Sequence) (place : ℕ) → AreSequences qs → bytes ≡ sequences_bytes qs → place ≡ last_offset qs → IsLastOffset bytes place
+only_place bytes qs place fits is at = λ rs fits' is'. at ∙ ap last_offset (same_sequences qs rs fits fits' (sym is ∙ is'))
 
 -- ---- the walk
 
 -- the place of the last sequence, by the place of the one before `next` and the sequences from there on
 abbrev place_from : ℕ → ℕ → List Sequence → ℕ
 place_from last next [] = last
-place_from last next (q ∷ qs) = next + last_place (q ∷ qs)
+place_from last next (q ∷ qs) = next + last_offset (q ∷ qs)
 
 -- sequences are left from `next` on
 pub record IsWalked (bytes : List ℕ) (qs : List Sequence) (last next : ℕ) : Type 0 where
   pub left : List Sequence
   pub fits : AreSequences left
   pub parts : drop next bytes ≡ sequences_bytes left
-  pub same : last_place qs ≡ place_from last next left
+  pub same : last_offset qs ≡ place_from last next left
 
 step_place : (last next size : ℕ) (q : Sequence) (others : List Sequence) → size ≡ sequence_size q → place_from last next (q ∷ others) ≡ place_from next (next + (1 + size)) others
 step_place last next size q [] is = omega arith
@@ -72,7 +72,7 @@ step_place last next size q (r ∷ qs) is = omega (arith, is, length-sequence q)
 abbrev Sized : List ℕ → ℕ → Type 0
 Sized bytes size = (q : Sequence) (rest : List ℕ) → IsSequence q → bytes ≡ sequence_section q ++ rest → size ≡ sequence_size q
 
-walk_cases : (bytes : List ℕ) (qs : List Sequence) (last next size : ℕ) (left : List Sequence) → next < length bytes → Sized (drop next bytes) size → AreSequences left → drop next bytes ≡ sequences_bytes left → last_place qs ≡ place_from last next left → IsWalked bytes qs next (next + (1 + size))
+walk_cases : (bytes : List ℕ) (qs : List Sequence) (last next size : ℕ) (left : List Sequence) → next < length bytes → Sized (drop next bytes) size → AreSequences left → drop next bytes ≡ sequences_bytes left → last_offset qs ≡ place_from last next left → IsWalked bytes qs next (next + (1 + size))
 walk_cases bytes qs last next size [] lt sized fits is same = absurd (omega (arith, lt, ap length is, length-drop next bytes))
 walk_cases bytes qs last next size (q ∷ others) lt sized fits is same =
     let n : size ≡ sequence_size q = sized q (sequences_bytes others) fits.0 is in
@@ -92,7 +92,7 @@ no_left : (last next : ℕ) (bytes : List ℕ) (left : List Sequence) → length
 no_left last next bytes [] le is = refl
 no_left last next bytes (q ∷ qs) le is = absurd (omega (arith, le, ap length is, length-drop next bytes, length-append (sequence_section q) (sequences_bytes qs), length-sequence q))
 
-pub walk_ends : (bytes : List ℕ) (qs : List Sequence) (last next : ℕ) → length bytes ≤ next → IsWalked bytes qs last next → last ≡ last_place qs
+pub walk_ends : (bytes : List ℕ) (qs : List Sequence) (last next : ℕ) → length bytes ≤ next → IsWalked bytes qs last next → last ≡ last_offset qs
 walk_ends bytes qs last next le w = sym (w.same ∙ no_left last next bytes w.left le w.parts)
 
 pub known_left : (bytes : List ℕ) (qs : List Sequence) (last next : ℕ) → IsWalked bytes qs last next → HasSequences (drop next bytes)

@@ -12,7 +12,7 @@ use Rattle.wire_msg.specs.Causes.{msg_fault}
 use Rattle.wire_msg.specs.Message.{Sequence, AreSequences}
 use Rattle.wire_msg.specs.Spelling.{body_section, sequences_bytes, sections_bytes}
 use Rattle.wire_msg.specs.Faults.{Seen, no_body_yet, body_seen, AreSeen, SectionFault, two_bodies, of_body, of_sequence, of_kind, SectionsFault, at_section, without_body}
-use Rattle.wire_msg.specs.Checks.{IsNoSequence, IsRun, IsBadRun, IsSplit}
+use Rattle.wire_msg.specs.Checks.{IsNoSequence, IsRun, IsBadRun, HasSections}
 use Rattle.wire_msg.proofs.DocumentLaws.{is_document}
 
 pub length-body : (t : Tree) → length (body_section t) ≡ 1 + length (document (elements t))
@@ -104,7 +104,7 @@ bad_run_after bytes at next d f b r =
     at_section seen 1 r.rest (seen_parts bytes at next d b r.sequences (1 ∷ r.rest) r.parts) (seen_fit bytes at next d b r.sequences r.fits)
     (subst (λ (p : ℕ). SectionFault seen p 1 r.rest f) (sym (seen_place bytes at next d b r.sequences)) (of_sequence refl r.fault))
 
-pub split : (bytes : List ℕ) (at next end : ℕ) (d : List ℕ) → BodyAt bytes at d next → IsRun bytes next end → end ≡ length bytes → IsSplit bytes at d next
+pub split : (bytes : List ℕ) (at next end : ℕ) (d : List ℕ) → BodyAt bytes at d next → IsRun bytes next end → end ≡ length bytes → HasSections bytes at d next
 split bytes at next end d b r is =
     let none : drop end bytes ≡ [] = drop_all end bytes (omega (arith, is)) in
     record {

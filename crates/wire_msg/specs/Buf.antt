@@ -58,14 +58,14 @@ abbrev pub longer : Sequence → Tree → Sequence
 longer q t = record { identifier = q.identifier; documents = q.documents ++ t ∷ [] }
 
 -- the sequences with a document more, the last of the last sequence
-abbrev pub with_last : List Sequence → Tree → List Sequence
-with_last [] t = []
-with_last (q ∷ []) t = longer q t ∷ []
-with_last (q ∷ r ∷ qs) t = q ∷ with_last (r ∷ qs) t
+abbrev pub with_last_document : List Sequence → Tree → List Sequence
+with_last_document [] t = []
+with_last_document (q ∷ []) t = longer q t ∷ []
+with_last_document (q ∷ r ∷ qs) t = q ∷ with_last_document (r ∷ qs) t
 
 -- the content with a document more, the last of its last sequence
 abbrev pub with_document : Content → Tree → Content
-with_document c t = record { body = c.body; sequences = with_last c.sequences t }
+with_document c t = record { body = c.body; sequences = with_last_document c.sequences t }
 
 -- why the document isn't added to the content
 abbrev pub IsDocumentRefusal : Content → Tree → MsgRefusal → Type 0

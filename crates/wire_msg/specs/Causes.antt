@@ -1,4 +1,4 @@
--- The causes of a fault as fault lines give them, and the place of each.
+-- The causes of a fault as fault lines give them, and the offset of each.
 use Rattle.std.specs.Prelude.{ℕ, List, codes}
 use Rattle.wire_msg.specs.declared.fault.MsgCause.{MsgCause}
 use Rattle.wire_msg.specs.declared.fault.MsgCause.TheVariants.{Length, Opcode, Flags, Checksum, SectionKind, SectionSize, Document, NoBody, TwoBodies, RepeatedField, SequenceName, SequenceInBody, Truncated}

@@ -28,7 +28,7 @@ abbrev pub IsNoSequence : List ℕ → Type 0
 IsNoSequence [] = Unit {0}
 IsNoSequence (kind ∷ rest) = kind ≢ 1
 
--- Document sequences stand from a place up to another one, where none begins.
+-- Document sequences stand from one offset up to another, where none begins.
 pub record IsRun (bytes : List ℕ) (start end : ℕ) : Type 0 where
   pub sequences : List Sequence
   pub fits : AreSequences sequences
@@ -37,7 +37,7 @@ pub record IsRun (bytes : List ℕ) (start end : ℕ) : Type 0 where
   pub parts : drop start bytes ≡ sequences_bytes sequences ++ drop end bytes
   pub stops : IsNoSequence (drop end bytes)
 
--- Document sequences stand from a place on, and then one that has a fault.
+-- Document sequences stand from an offset on, and then one that has a fault.
 pub record IsBadRun (bytes : List ℕ) (start : ℕ) (f : MsgFault) : Type 0 where
   pub sequences : List Sequence
   pub fits : AreSequences sequences
@@ -45,9 +45,9 @@ pub record IsBadRun (bytes : List ℕ) (start : ℕ) (f : MsgFault) : Type 0 whe
   pub parts : drop start bytes ≡ sequences_bytes sequences ++ 1 ∷ rest
   pub fault : SequenceFault (start + length (sequences_bytes sequences)) rest f
 
--- The sections, which begin at place 20, are a body and sequences before it and behind it. The body's kind byte stands
--- at a place, its document is these bytes, and the sequences behind it begin at the next place.
-pub record IsSplit (bytes : List ℕ) (at : ℕ) (document : List ℕ) (next : ℕ) : Type 0 where
+-- The sections, which begin at offset 20, are a body and sequences before it and behind it. The kind byte of the body
+-- stands at one offset, its document is these bytes, and the sequences behind it begin at the next offset.
+pub record HasSections (bytes : List ℕ) (at : ℕ) (document : List ℕ) (next : ℕ) : Type 0 where
   pub before : List Sequence
   pub body : Tree
   pub after : List Sequence
@@ -59,11 +59,11 @@ pub record IsSplit (bytes : List ℕ) (at : ℕ) (document : List ℕ) (next : �
   pub next_is : next ≡ at + 1 + length document
   pub within : next + length (sequences_bytes after) ≡ length bytes
 
--- The flags have no fault, and the sections are split.
-pub record IsSplitMsg (bytes : List ℕ) (at : ℕ) (document : List ℕ) (next : ℕ) : Type 0 where
+-- The flags have no fault, and these are the sections.
+pub record HasParts (bytes : List ℕ) (at : ℕ) (document : List ℕ) (next : ℕ) : Type 0 where
   pub room : 20 ≤ length bytes
   pub more : Bool
   pub allows : Bool
   pub flags : FlagsAre (number_at bytes 16) more allows
   pub faultless : flags_fault (number_at bytes 16) ≡ None
-  pub split : IsSplit bytes at document next
+  pub sections : HasSections bytes at document next

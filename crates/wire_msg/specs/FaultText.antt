@@ -7,8 +7,8 @@ use Rattle.wire_msg.specs.declared.fault.MsgCause.TheVariants.{Opcode, Document}
 use Rattle.wire_msg.specs.declared.fault.MsgFault.{MsgFault}
 use Rattle.wire_msg.specs.Causes.{cause_number, cause_name}
 
--- The number of the cause, its name and the place. An opcode stands behind its name; a document's own fault stands last,
--- its place counted from the document's first byte.
+-- The number of the cause, its name and the offset. An opcode stands behind its name; a document's own fault stands last,
+-- its offset counted from the document's first byte.
 abbrev pub fault_text : ℕ → MsgCause → List ℕ
 fault_text at (Opcode opcode) = codes "fault 2 Opcode " ++ (signed_decimal opcode ++ (codes " at " ++ decimal at))
 fault_text at (Document f) =

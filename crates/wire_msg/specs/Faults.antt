@@ -77,7 +77,7 @@ pub data SectionFault : Seen → ℕ → ℕ → List ℕ → MsgFault → Type 
 
 -- ---- names
 
--- The place of the first sequence whose identifier is a top-level name of the body. The first of them stands at p.
+-- The offset of the first sequence whose identifier is a top-level name of the body. The first of them stands at p.
 abbrev pub first_in_body : Tree → ℕ → List Sequence → Option ℕ
 first_in_body body p [] = None
 first_in_body body p (q ∷ qs) = if is_field q.identifier body then Some p else first_in_body body (p + length (sequence_section q)) qs
@@ -91,14 +91,14 @@ field_fault p (Some name) other = Some (msg_fault p causes.RepeatedField)
 field_fault p None other = other
 
 -- A top-level name of the body that stands twice, and else an identifier that is one of them. The first section stands
--- at place 20.
+-- at offset 20.
 abbrev pub names_fault : List Sequence → Tree → List Sequence → Option MsgFault
 names_fault before body after =
     let p = 20 + length (sequences_bytes before) in
     field_fault p (first_repeated [] body)
     (identifier_fault (option_or (first_in_body body 20 before) (first_in_body body (p + length (body_section body)) after)))
 
--- ---- all sections, from place 20 on
+-- ---- all sections, from offset 20 on
 
 pub data SectionsFault : List ℕ → MsgFault → Type 0 where
   at_section : {bytes : List ℕ} {f : MsgFault} (seen : Seen) (kind : ℕ) (rest : List ℕ) → bytes ≡ seen_bytes seen ++ kind ∷ rest → AreSeen seen → SectionFault seen (20 + length (seen_bytes seen)) kind rest f → SectionsFault bytes f

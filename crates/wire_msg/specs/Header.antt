@@ -6,7 +6,7 @@ use Rattle.wire_msg.specs.declared.fault.MsgFault.{MsgFault}
 use Rattle.wire_msg.specs.declared.fault.MsgCause.TheVariants.{Length, Opcode}
 use Rattle.wire_msg.specs.Causes.{msg_fault}
 
--- the unsigned number of four bytes that stands at a place
+-- the unsigned number of four bytes that stands at an offset
 abbrev pub number_at : List ℕ → ℕ → ℕ
 number_at bytes at = from_le_bytes w32 (slice_range bytes at (at + 4))
 

@@ -22,11 +22,11 @@ pub record AreRuns (bytes then : List ℕ) (qs : List Sequence) : Type 0 where
   pub all : qs ≡ first ++ last
 
 -- where the last of the sequences begins; 0 where there is none
-abbrev pub last_place : List Sequence → ℕ
-last_place [] = 0
-last_place (q ∷ []) = 0
-last_place (q ∷ r ∷ qs) = length (sequence_section q) + last_place (r ∷ qs)
+abbrev pub last_offset : List Sequence → ℕ
+last_offset [] = 0
+last_offset (q ∷ []) = 0
+last_offset (q ∷ r ∷ qs) = length (sequence_section q) + last_offset (r ∷ qs)
 
--- whatever sequences the bytes are, the last of them begins at this place
-abbrev pub IsLastPlace : List ℕ → ℕ → Type 0
-IsLastPlace bytes place = (qs : List Sequence) → AreSequences qs → bytes ≡ sequences_bytes qs → place ≡ last_place qs
+-- whatever sequences the bytes are, the last of them begins at this offset
+abbrev pub IsLastOffset : List ℕ → ℕ → Type 0
+IsLastOffset bytes offset = (qs : List Sequence) → AreSequences qs → bytes ≡ sequences_bytes qs → offset ≡ last_offset qs

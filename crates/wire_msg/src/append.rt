@@ -1,5 +1,4 @@
-//! A document sequence that is added behind others, and a document that is added to the last of
-//! them (MongoDB Wire Protocol manual: OP_MSG, sections of kind 1).
+//! Appends a document sequence behind others, and a document to the last of them (MongoDB Wire Protocol manual: OP_MSG, sections of kind 1).
 
 ghost use Rattle.std.specs.Prelude.{◌≡◌, ◌+◌, ◌-◌, ◌≤◌, ◌<◌, ◌^◌, ◌++◌, [], length, take, drop, vec_len, OnOk, OnErr};
 ghost use Rattle.bson_elem.specs.Spelling.{little};
@@ -10,7 +9,7 @@ use crate::sequence::SEQUENCE;
 use byteorder::{ByteOrder, LittleEndian};
 use std::alloc::AllocError;
 
-/// Puts the size of the last document sequence, which begins at `last`, in its place.
+/// Writes the size of the last document sequence, which begins at offset `last`.
 fn put_size(last: usize, sequences: &mut Vec<u8>)
     requires begun { last + 5 ≤ vec_len sequences.old }
     requires short { vec_len sequences.old < 2 ^ 32 }
@@ -21,7 +20,7 @@ fn put_size(last: usize, sequences: &mut Vec<u8>)
     LittleEndian::write_u32(&mut sequences[last + 1..last + 5], size as u32);
 }
 
-/// Adds an empty document sequence, or nothing.
+/// Appends an empty document sequence. Leaves `sequences` as they were where memory is refused.
 pub(crate) fn append_sequence(identifier: &str, sequences: &mut Vec<u8>) -> Result<(), AllocError>
     requires { vec_len sequences.old + length identifier.now + 6 < 2 ^ 32 }
     ensures added { OnOk result (sequences.new.items
@@ -38,7 +37,8 @@ pub(crate) fn append_sequence(identifier: &str, sequences: &mut Vec<u8>) -> Resu
     Ok(())
 }
 
-/// Adds a document to the last document sequence, which begins at `last`, or nothing.
+/// Appends a document to the last document sequence, which begins at offset `last`. Leaves
+/// `sequences` as they were where memory is refused.
 pub(crate) fn append_document(
     document: &[u8],
     last: usize,

@@ -1,4 +1,4 @@
-//! The documents of a document sequence, lent out of its bytes.
+//! The documents of a document sequence, borrowed from its bytes.
 
 ghost use Rattle.std.specs.Prelude.{◌≡◌, ◌≢◌, ◌<◌, List, ◌∷◌, length};
 ghost use Rattle.std.specs.Iterator.{at_most};
@@ -11,7 +11,7 @@ ghost use Rattle.wire_msg.specs.Checks.{HasDocuments};
 use bson_elem::number::little_u32;
 use bson_raw::document::RawDocument;
 
-/// The bytes of the first of some documents, and those of the others.
+/// Splits documents back to back into the first of them and the others.
 fn split_document(bytes: &[u8]) -> (&[u8], &[u8])
     requires some { length bytes.now ≢ 0 }
     requires known { ∥ HasDocuments bytes.now ∥₁ }
@@ -25,7 +25,7 @@ fn split_document(bytes: &[u8]) -> (&[u8], &[u8])
     bytes.split_at(little_u32(bytes) as usize)
 }
 
-/// Documents back to back, checked whole.
+/// Documents back to back, each of them checked.
 #[derive(Clone, Copy, Debug, PartialEq, Eq)]
 pub struct Documents<'a> {
     bytes: &'a [u8],
@@ -35,7 +35,7 @@ pub struct Documents<'a> {
 impl<'a> Documents<'a> {
     ghost use Rattle.wire_msg.specs.Documents.{DocumentsAre, DocumentsLeft};
 
-    /// The documents of bytes that are known to be documents back to back.
+    /// Makes the documents of bytes that are known to be documents back to back.
     pub(crate) fn of_known(bytes: &'a [u8]) -> Documents<'a>
         requires { ∥ HasDocuments bytes.now ∥₁ }
         ensures { (ts : List Tree) → AreDocuments ts → bytes.now ≡ documents_bytes ts
@@ -44,7 +44,7 @@ impl<'a> Documents<'a> {
         Documents { bytes }
     }
 
-    /// How many documents there are. It walks over them.
+    /// Counts the documents, by walking over them.
     pub fn count(self) -> usize
         ensures { (ts : List Tree) → DocumentsAre self.entry ts → result ≡ length ts }
     {
@@ -58,7 +58,7 @@ impl<'a> Documents<'a> {
         count
     }
 
-    /// The documents, in order.
+    /// Returns the documents, in order.
     pub fn iter(self) -> DocumentsIter<'a>
         ensures { (ts : List Tree) → DocumentsAre self.entry ts → DocumentsLeft result ts }
     {
@@ -66,7 +66,22 @@ impl<'a> Documents<'a> {
     }
 }
 
-/// The documents that are left.
+impl<'a> IntoIterator for Documents<'a> {
+    ghost use Rattle.wire_msg.specs.Documents.{DocumentsAre, DocumentsLeft};
+
+    type Item = RawDocument<'a>;
+
+    type IntoIter = DocumentsIter<'a>;
+
+    ghost into_iter_gives = { λ documents iter.
+        (ts : List Tree) → DocumentsAre documents ts → DocumentsLeft iter ts };
+
+    fn into_iter(self) -> DocumentsIter<'a> {
+        self.iter()
+    }
+}
+
+/// An iterator over documents back to back. After the last of them it gives nothing more.
 #[derive(Debug, Drop)]
 pub struct DocumentsIter<'a> {
     bytes: &'a [u8],

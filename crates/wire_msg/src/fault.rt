@@ -1,4 +1,4 @@
-//! Why bytes are no message, and where.
+//! Why bytes are no message, and at which offset.
 
 ghost use Rattle.std.specs.Prelude.{◌≡◌};
 ghost use Rattle.wire_msg.specs.Causes.{cause_name, cause_number};
@@ -6,12 +6,14 @@ ghost use Rattle.wire_msg.specs.Causes.{cause_name, cause_number};
 use bson_elem::fault::BsonFault;
 use std::fmt;
 
-/// What is wrong with the bytes. Each displays as its name, but `Opcode` with the opcode behind it.
+/// What is wrong with the bytes. A cause displays as its name, and `Opcode` with the opcode behind
+/// it.
 #[derive(Clone, Copy, Debug, PartialEq, Eq)]
 pub enum MsgCause {
-    /// A messageLength below 16, above the limit or unlike the bytes given; or no header.
+    /// A messageLength that is below 16, above the limit, or not the number of bytes given; or fewer
+    /// bytes than a header has.
     Length,
-    /// An opCode that isn't that of OP_MSG.
+    /// The opCode isn't that of OP_MSG.
     Opcode(i32),
     /// An unknown bit is set among the flag bits 2 to 15.
     Flags,
@@ -19,9 +21,10 @@ pub enum MsgCause {
     Checksum,
     /// The kind byte of a section is neither 0 nor 1.
     SectionKind,
-    /// A document sequence without four bytes of size, or with a size below 5 or past the message.
+    /// A document sequence has fewer than four bytes of size, or its size is below 5 or goes past
+    /// the end of the message.
     SectionSize,
-    /// A document has this fault, whose place is counted from the document's first byte.
+    /// A document has this fault, whose offset is counted from the document's first byte.
     Document(BsonFault),
     /// No section is a body.
     NoBody,
@@ -33,12 +36,12 @@ pub enum MsgCause {
     SequenceName,
     /// The identifier of a document sequence is a top-level name of the body.
     SequenceInBody,
-    /// Fewer than four bytes of flags.
+    /// There are fewer than four bytes of flags.
     Truncated,
 }
 
 impl MsgCause {
-    /// The number of the cause in a fault line, from 1 to 13.
+    /// Returns the number of the cause in a fault line, from 1 to 13.
     pub fn number(self) -> u8
         ensures { result ≡ cause_number self }
     {
@@ -59,7 +62,7 @@ impl MsgCause {
         }
     }
 
-    /// The name of the cause in a fault line.
+    /// Returns the name of the cause in a fault line.
     pub fn name(self) -> &'static str
         ensures { result.now ≡ cause_name self }
     {
@@ -100,10 +103,11 @@ impl std::error::Error for MsgCause {}
 /// The first fault of some bytes, in the order of the checks. It displays as its fault line.
 #[derive(Clone, Copy, Debug, PartialEq, Eq)]
 pub struct MsgFault {
-    /// 0 for the length, 12 for the opcode and 16 for the flags; the message's length where there
-    /// is no body; the first byte of a document at fault; else the kind byte of the section at
-    /// fault.
+    /// The offset of the fault: 0 for the length, 12 for the opcode, 16 for the flags; the
+    /// message's length if there is no body; that of the first byte of a document at fault; else
+    /// that of the kind byte of the section at fault.
     pub at: usize,
+    /// What is wrong there.
     pub cause: MsgCause,
 }
 

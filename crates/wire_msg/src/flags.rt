@@ -6,15 +6,17 @@ ghost use Rattle.wire_msg.specs.Faults.{flags_fault};
 
 use crate::fault::{MsgCause, MsgFault};
 
-/// Of the bits 0 to 15 an unknown one is refused; the other bits are ignored where they aren't
-/// known.
+/// The required bits, 0 to 15: an unknown one that is set is refused. Of the other bits an unknown
+/// one is ignored.
 const REQUIRED_BITS: u32 = 0xffff;
 
-/// A CRC-32C stands behind the sections.
+/// checksumPresent, bit 0: a CRC-32C stands behind the sections.
 const CHECKSUM_PRESENT: u32 = 1;
 
+/// moreToCome, bit 1.
 const MORE_TO_COME: u32 = 2;
 
+/// exhaustAllowed, bit 16.
 const EXHAUST_ALLOWED: u32 = 0x1_0000;
 
 /// The flags that mean something to an endpoint.
@@ -27,12 +29,12 @@ pub struct MsgFlags {
 }
 
 impl MsgFlags {
-    /// The flags that the four bytes of flags are, the lowest first.
+    /// Reads the flags from `word`, the number that their four bytes are, the lowest first.
     ///
     /// # Errors
     ///
-    /// `Flags` at 16 where an unknown bit is set among the bits 2 to 15, and else `Checksum` at 16
-    /// where bit 0 is set.
+    /// `Flags` at offset 16 if an unknown bit is set among the bits 2 to 15, and else `Checksum` at
+    /// offset 16 if bit 0 is set.
     pub(crate) fn read(word: u32) -> Result<MsgFlags, MsgFault>
         ensures read { MatchResult result
             (λ flags. FlagsAre word flags.more flags.allows)
@@ -58,7 +60,7 @@ impl MsgFlags {
         })
     }
 
-    /// The four bytes of flags, the lowest first, with no other bit set.
+    /// Returns the flag bits as a number, with no other bit set.
     pub(crate) fn word(self) -> u32
         ensures { result ≡ flag_word self.more self.allows }
     {

@@ -6,10 +6,11 @@ ghost use Rattle.wire_msg.specs.Header.{HeaderFault, header_of, IsGoodHeader};
 use crate::fault::{MsgCause, MsgFault};
 use byteorder::{ByteOrder, LittleEndian};
 
-/// How many bytes a header has.
+/// The length of a header, in bytes.
 pub const HEADER_LEN: u32 = 16;
 
-/// The greatest limit of a connection, maxMessageSizeBytes: how many bytes a message may have.
+/// The greatest limit that a connection may have (maxMessageSizeBytes): the length of the longest
+/// message, in bytes.
 pub const MAX_MESSAGE_LEN: u32 = 48_000_000;
 
 /// The opCode of OP_MSG.
@@ -18,8 +19,8 @@ pub const OP_MSG: i32 = 2013;
 /// The four numbers of a header.
 #[derive(Clone, Copy, Debug, PartialEq, Eq)]
 pub struct MsgHeader {
-    /// messageLength, the bytes of the whole message. It is an int32, and read as an unsigned
-    /// number: one that is negative is greater than every limit.
+    /// messageLength, how many bytes the whole message has. It is an int32 that is read as an
+    /// unsigned number, so a negative one is greater than every limit.
     pub length: u32,
     /// requestID.
     pub id: i32,
@@ -30,7 +31,7 @@ pub struct MsgHeader {
 }
 
 impl MsgHeader {
-    /// The header that 16 bytes are.
+    /// Reads a header from its 16 bytes.
     pub fn read(bytes: [u8; 16]) -> MsgHeader
         ensures { result ≡ header_of bytes }
     {

@@ -1,4 +1,4 @@
-//! A message that is lent out of its bytes (MongoDB Wire Protocol manual: OP_MSG).
+//! A message, borrowed from its bytes (MongoDB Wire Protocol manual: OP_MSG).
 
 ghost use Rattle.std.specs.Prelude.{◌≡◌, ◌+◌, ◌<◌, ◌≤◌, ◌^◌, ℕ, length, MatchResult, IfOk, IfErr, IsOk, IsErrOf};
 ghost use Rattle.bson_elem.specs.Spelling.{document, elements};
@@ -7,7 +7,7 @@ ghost use Rattle.wire_msg.specs.declared.fault.MsgFault.{MsgFault};
 ghost use Rattle.wire_msg.specs.Header.{header_of};
 ghost use Rattle.wire_msg.specs.Message.{Message};
 ghost use Rattle.wire_msg.specs.Spelling.{IsMessage, IsSpelledMsg, sequences_bytes, SpellsMsg};
-ghost use Rattle.wire_msg.specs.Checks.{IsSplitMsg};
+ghost use Rattle.wire_msg.specs.Checks.{HasParts};
 ghost use Rattle.wire_msg.specs.Faults.{FaultMsg, IsFramedMsg, PartsFault};
 
 use crate::fault::{MsgCause, MsgFault};
@@ -23,7 +23,7 @@ use bson_raw::document::RawDocument;
 use std::alloc::Global;
 use std::convert::AsSlice;
 
-/// Checks the header, and that the bytes are as many as it says.
+/// Checks the header, and that there are as many bytes as it says.
 fn check_framed(bytes: &[u8], limit: u32) -> Result<(), MsgFault>
     requires { limit ≤ MAX_MESSAGE_LEN }
     ensures { MatchResult result
@@ -47,7 +47,7 @@ fn check_framed(bytes: &[u8], limit: u32) -> Result<(), MsgFault>
 fn split_message(bytes: &[u8]) -> Result<(usize, RawDocument<'_>, usize), MsgFault>
     requires { length bytes.now < 2 ^ 31 }
     ensures { MatchResult result
-        (λ x. IsSplitMsg bytes.now x.0 (document_bytes x.1) x.2)
+        (λ x. HasParts bytes.now x.0 (document_bytes x.1) x.2)
         (λ f. PartsFault bytes.now f) }
 {
     if bytes.len() < SECTIONS {
@@ -102,8 +102,8 @@ fn check_message_with(alloc: Global, bytes: &[u8], limit: u32) -> Result<(), Msg
     check_parts_with(alloc, bytes)
 }
 
-/// The place of the body's kind byte, in a message.
-fn body_place(bytes: &[u8]) -> usize
+/// Returns the offset of the body's kind byte, in a message.
+fn body_offset(bytes: &[u8]) -> usize
     requires { ∥ IsSpelledMsg bytes.now ∥₁ }
     ensures inside { (20 ≤ result) × (result + 6 ≤ length bytes.now) }
     ensures place { (m : Message) (s : SpellsMsg m bytes.now)
@@ -116,7 +116,7 @@ fn body_place(bytes: &[u8]) -> usize
     at
 }
 
-/// The place behind the body of a message, whose kind byte stands at `at`.
+/// Returns the offset behind the body of a message, whose kind byte stands at offset `at`.
 fn body_end(bytes: &[u8], at: usize) -> usize
     requires known { ∥ IsSpelledMsg bytes.now ∥₁ }
     requires inside { at + 6 ≤ length bytes.now }
@@ -129,7 +129,7 @@ fn body_end(bytes: &[u8], at: usize) -> usize
     at + 1 + little_u32(&bytes[at + 1..]) as usize
 }
 
-/// A whole message in its bytes, checked when it was made.
+/// A whole message, borrowed from its bytes, which were checked when it was made.
 #[derive(Clone, Copy, Debug, PartialEq, Eq)]
 pub struct RawMsg<'a> {
     bytes: &'a [u8],
@@ -150,11 +150,12 @@ impl<'a> RawMsg<'a> {
     ghost use Rattle.wire_msg.specs.Carries.{Carries};
     ghost use Rattle.wire_msg.specs.RawMsg.{msg_bytes};
 
-    /// The message of at most `limit` bytes that all of the bytes are.
+    /// Reads `bytes` as one message of at most `limit` bytes. It takes no memory; the time to find
+    /// repeated names grows as the square of their number.
     ///
     /// # Errors
     ///
-    /// The first fault of the bytes and its place, in the order of the checks.
+    /// The first fault of the bytes and its offset, in the order of the checks.
     pub fn parse(bytes: &'a [u8], limit: u32) -> Result<RawMsg<'a>, MsgFault>
         requires { limit ≤ MAX_MESSAGE_LEN }
         ensures found { IfOk result (λ m.
@@ -170,9 +171,9 @@ impl<'a> RawMsg<'a> {
         }
     }
 
-    /// Like `parse`, but takes memory to look names up in a set, so that the time it takes grows
-    /// as the bytes do, however many names there are. Where memory is refused it goes on as `parse`
-    /// does.
+    /// Reads `bytes` as `parse` does, but looks names up in a set, which takes memory, so that a
+    /// body of many names takes no longer than its bytes. Where memory is refused it goes on as
+    /// `parse` does.
     ///
     /// # Errors
     ///
@@ -192,7 +193,7 @@ impl<'a> RawMsg<'a> {
         }
     }
 
-    /// The message of bytes that are known to spell one.
+    /// Makes the message of bytes that are known to spell one.
     pub fn from_spelled(bytes: &'a [u8]) -> RawMsg<'a>
         requires { ∥ IsSpelledMsg bytes.now ∥₁ }
         ensures { msg_bytes result ≡ bytes.now }
@@ -200,14 +201,14 @@ impl<'a> RawMsg<'a> {
         RawMsg { bytes }
     }
 
-    /// The bytes of the message.
+    /// Returns the bytes of the message.
     pub fn as_bytes(self) -> &'a [u8]
         ensures { result.now ≡ msg_bytes self.entry }
     {
         self.bytes
     }
 
-    /// The header of the message.
+    /// Reads the header of the message.
     fn header(self) -> MsgHeader
         ensures { result ≡ header_of (msg_bytes self.entry) }
     {
@@ -217,21 +218,21 @@ impl<'a> RawMsg<'a> {
         MsgHeader::read(*header)
     }
 
-    /// requestID.
+    /// Returns requestID.
     pub fn id(self) -> i32
         ensures { (m : Message) → SpellsMsg m (msg_bytes self.entry) → result ≡ m.id }
     {
         self.header().id
     }
 
-    /// responseTo.
+    /// Returns responseTo.
     pub fn response_to(self) -> i32
         ensures { (m : Message) → SpellsMsg m (msg_bytes self.entry) → result ≡ m.response_to }
     {
         self.header().response_to
     }
 
-    /// The flags of the message.
+    /// Reads the flags of the message.
     fn flags(self) -> MsgFlags
         ensures { (m : Message) → SpellsMsg m (msg_bytes self.entry)
             → (result.more ≡ m.more) × (result.allows ≡ m.allows) }
@@ -239,26 +240,26 @@ impl<'a> RawMsg<'a> {
         MsgFlags::read(little_u32(&self.bytes[16..20])).unwrap()
     }
 
-    /// moreToCome: on a request, no reply is wanted; on a reply, another one follows.
+    /// Returns moreToCome: on a request, no reply is wanted; on a reply, another one follows.
     pub fn more(self) -> bool
         ensures { (m : Message) → SpellsMsg m (msg_bytes self.entry) → result ≡ m.more }
     {
         self.flags().more
     }
 
-    /// exhaustAllowed: more than one reply may be sent to this request.
+    /// Returns exhaustAllowed: more than one reply may be sent to this request.
     pub fn allows_more(self) -> bool
         ensures { (m : Message) → SpellsMsg m (msg_bytes self.entry) → result ≡ m.allows }
     {
         self.flags().allows
     }
 
-    /// The body and the document sequences.
+    /// Returns the payload: the body and the document sequences.
     pub fn payload(self) -> Payload<'a>
         ensures { (m : Message) → SpellsMsg m (msg_bytes self.entry) → Carries result m.content }
     {
         let bytes = self.bytes;
-        let at = body_place(bytes);
+        let at = body_offset(bytes);
         let next = body_end(bytes, at);
         let body = RawDocument::from_spelled(&bytes[at + 1..next]);
         Payload::of_parts(&bytes[SECTIONS..at], body, &bytes[next..])

@@ -1,5 +1,5 @@
-//! The search of the names of a message: each stands once, as a top-level name of the body or as
-//! an identifier that is none of those.
+//! Checks the names of a message: each top-level name of the body stands once, and no identifier is
+//! one of them.
 
 ghost use Rattle.std.specs.Prelude.{◌≡◌, ◌+◌, ◌<◌, ◌^◌, length, [], List, MatchResult, Some, None};
 ghost use Rattle.bson_elem.specs.Tree.{Tree};
@@ -22,7 +22,7 @@ use std::alloc::Global;
 
 /// Returns the offset of the first of `sequences` whose identifier is one of `fields`. The first
 /// of them stands at offset `start`.
-fn place_in_body(fields: Fields<'_, '_>, sequences: &[u8], start: usize) -> Option<usize>
+fn offset_in_body(fields: Fields<'_, '_>, sequences: &[u8], start: usize) -> Option<usize>
     requires known { ∥ HasSequences sequences.now ∥₁ }
     requires room { start + length sequences.now < 2 ^ 64 }
     ensures { (t : Tree) (qs : List Sequence) → AreFields fields.entry t
@@ -60,11 +60,11 @@ fn check_identifiers(
         (λ _. names_fault first t last ≡ None)
         (λ f. names_fault first t last ≡ Some f) }
 {
-    if let Some(offset) = place_in_body(fields, before, SECTIONS) {
+    if let Some(offset) = offset_in_body(fields, before, SECTIONS) {
         return Err(fault_at(offset, MsgCause::SequenceInBody));
     }
     let next = SECTIONS + before.len() + 1 + body.as_bytes().len();
-    match place_in_body(fields, after, next) {
+    match offset_in_body(fields, after, next) {
         Some(offset) => Err(fault_at(offset, MsgCause::SequenceInBody)),
         None => Ok(()),
     }

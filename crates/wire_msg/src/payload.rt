@@ -1,4 +1,4 @@
-//! What a message carries, lent out of its bytes.
+//! The payload of a message, borrowed from its bytes: a body and document sequences.
 
 ghost use Rattle.std.specs.Prelude.{◌≡◌, ◌++◌, [], IfOk, OnOk, OnErr};
 ghost use Rattle.std.specs.Io.{StartsWith};
@@ -31,7 +31,7 @@ impl<'a> Payload<'a> {
     ghost use Rattle.wire_msg.specs.Carries.{Carries};
     ghost use Rattle.wire_msg.specs.Sequences.{SequencesLeft};
 
-    /// The payload of parts that are known to be those of one.
+    /// Makes a payload of parts that are known to be those of one.
     pub(crate) fn of_parts(before: &'a [u8], body: RawDocument<'a>, after: &'a [u8]) -> Payload<'a>
         requires { ∥ IsPayload before.now (document_bytes body) after.now ∥₁ }
         ensures { (c : Content) → AreParts before.now (document_bytes body.entry) after.now c
@@ -44,21 +44,21 @@ impl<'a> Payload<'a> {
         }
     }
 
-    /// The body.
+    /// Returns the body.
     pub fn body(self) -> RawDocument<'a>
         ensures { (c : Content) → Carries self.entry c → Spells c.body (document_bytes result) }
     {
         self.body
     }
 
-    /// The document sequences, in order.
+    /// Returns the document sequences, in order.
     pub fn sequences(self) -> SequencesIter<'a>
         ensures { (c : Content) → Carries self.entry c → SequencesLeft result c.sequences }
     {
         SequencesIter::of_known(self.before, self.after)
     }
 
-    /// How many bytes a message has that carries this.
+    /// Returns the length of a message with this payload, in bytes.
     pub fn msg_len(self) -> u64
         ensures { (c : Content) → Carries self.entry c → result ≡ message_len c }
     {
@@ -66,7 +66,8 @@ impl<'a> Payload<'a> {
         (SECTIONS + sections) as u64
     }
 
-    /// Adds the sections of a message, the body first. On a refusal some of them may stand there.
+    /// Appends the sections of a message, the body first. Where memory is refused, some of their
+    /// bytes may stand in `out`.
     pub(crate) fn write_sections(self, out: &mut Vec<u8>) -> Result<(), AllocError>
         ensures added { (c : Content) → Carries self.entry c
             → OnOk result (out.new.items
@@ -79,7 +80,7 @@ impl<'a> Payload<'a> {
         out.extend_from_slice(self.after)
     }
 
-    /// The payload in bytes of its own.
+    /// Copies the payload into bytes of its own.
     ///
     /// # Errors
     ///

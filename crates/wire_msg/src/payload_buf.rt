@@ -1,4 +1,4 @@
-//! What a message carries, in bytes of its own.
+//! The payload of a message, in bytes of its own.
 
 ghost use Rattle.std.specs.Prelude.{◌≡◌, ◌≢◌, ◌+◌, ◌^◌, [], IfOk, OnOk, OnErr, IfErr};
 ghost use Rattle.bson_elem.specs.Tree.{Tree};
@@ -7,16 +7,16 @@ ghost use Rattle.bson_raw.specs.RawDocument.{document_bytes};
 ghost use Rattle.wire_msg.specs.Message.{Content};
 ghost use Rattle.wire_msg.specs.Spelling.{message_len};
 ghost use Rattle.wire_msg.specs.Payload.{AreParts, IsPayload};
-ghost use Rattle.wire_msg.specs.Known.{IsLastPlace};
+ghost use Rattle.wire_msg.specs.Known.{IsLastOffset};
 
 use crate::append::{append_document, append_sequence};
 use crate::payload::Payload;
 use crate::refusal::MsgRefusal;
-use crate::sequence_iter::last_place;
+use crate::sequence_iter::last_offset;
 use bson_raw::document::RawDocument;
 use std::alloc::{AllocError, Global};
 
-/// How many bytes a message has at most, which is the greatest number that its length can be.
+/// The greatest length of a message, in bytes: the greatest int32.
 const MAX_LEN: u64 = 2_147_483_647;
 
 /// The body and the document sequences of a message of at most 2,147,483,647 bytes. The top-level
@@ -26,10 +26,10 @@ pub struct PayloadBuf {
     body: Vec<u8>,
     /// The sections of the document sequences.
     sequences: Vec<u8>,
-    /// Where the last of them begins; 0 where there is none.
+    /// The offset of the last of them; 0 if there is none.
     last: usize,
     pub ghost valid: { ∥ IsPayload [] body.items sequences.items ∥₁ },
-    pub ghost last_is: { IsLastPlace sequences.items last },
+    pub ghost last_is: { IsLastOffset sequences.items last },
 }
 
 impl PayloadBuf {
@@ -38,12 +38,12 @@ impl PayloadBuf {
     ghost use Rattle.wire_msg.specs.Buf.{IsBodyRefusal, IsSequenceRefusal, IsDocumentRefusal};
     ghost use Rattle.wire_msg.specs.Carries.{Carries};
 
-    /// The payload of a body and no document sequence.
+    /// Makes the payload of a body and no document sequence.
     ///
     /// # Errors
     ///
-    /// `RepeatedField` where a top-level name of the body stands twice; else `TooLarge` where its
-    /// message would have more than 2,147,483,647 bytes; else `OutOfMemory`.
+    /// `RepeatedField` if a top-level name of the body stands twice; else `TooLarge` if its message
+    /// would have more than 2,147,483,647 bytes; else `OutOfMemory`.
     pub fn new(alloc: Global, body: RawDocument<'_>) -> Result<PayloadBuf, MsgRefusal>
         ensures made { (t : Tree) → Spells t (document_bytes body.entry)
             → IfOk result (λ b. BufCarries b (body_alone t)) }
@@ -63,12 +63,12 @@ impl PayloadBuf {
         Ok(PayloadBuf::of_parts(body, Vec::new(alloc)))
     }
 
-    /// The payload of parts that are known to be those of one.
+    /// Makes a payload of parts that are known to be those of one.
     pub(crate) fn of_parts(body: Vec<u8>, sequences: Vec<u8>) -> PayloadBuf
         requires { ∥ IsPayload [] body.items sequences.items ∥₁ }
         ensures { (c : Content) → AreParts [] body.items sequences.items c → BufCarries result c }
     {
-        let last = last_place(&sequences);
+        let last = last_offset(&sequences);
         PayloadBuf {
             body,
             sequences,
@@ -94,7 +94,7 @@ impl PayloadBuf {
         })
     }
 
-    /// The payload, lent.
+    /// Returns the payload, borrowed.
     pub fn as_payload(&self) -> Payload<'_>
         ensures { (c : Content) → BufCarries self.now c → Carries result c }
     {
@@ -102,21 +102,21 @@ impl PayloadBuf {
         Payload::of_parts(&[], body, &self.sequences)
     }
 
-    /// How many bytes more the message may have.
+    /// Returns how many bytes more the message may have.
     fn room(&self) -> u64
         ensures { (c : Content) → BufCarries self.now c → result + message_len c + 1 ≡ 2 ^ 31 }
     {
         MAX_LEN - self.as_payload().msg_len()
     }
 
-    /// Adds an empty document sequence behind the others. An identifier may be empty, and two
-    /// sequences may bear one identifier. After a refusal the payload is what it was.
+    /// Appends an empty document sequence with this identifier. The identifier may be empty, and
+    /// may be that of another sequence. After an error the payload is as it was.
     ///
     /// # Errors
     ///
-    /// `SequenceInBody` where the identifier is a top-level name of the body, and `ZeroInName`
-    /// where a 00 stands in it; else `TooLarge` where the message would have more than
-    /// 2,147,483,647 bytes; else `OutOfMemory`.
+    /// `SequenceInBody` if the identifier is a top-level name of the body, or `ZeroInName` if it
+    /// has a 00 in it; else `TooLarge` if the message would have more than 2,147,483,647 bytes;
+    /// else `OutOfMemory`.
     pub fn begin_sequence(&mut self, identifier: &str) -> Result<(), MsgRefusal>
         ensures added { (c : Content) → BufCarries self.old c
             → OnOk result (BufCarries self.new (with_sequence c identifier.now)) }
@@ -141,13 +141,12 @@ impl PayloadBuf {
         Ok(())
     }
 
-    /// Adds a document behind the others of the last document sequence. After a refusal the
-    /// payload is what it was.
+    /// Appends a document to the last document sequence. After an error the payload is as it was.
     ///
     /// # Errors
     ///
-    /// `NoSequence` where the payload has no document sequence; else `TooLarge` where the message
-    /// would have more than 2,147,483,647 bytes; else `OutOfMemory`.
+    /// `NoSequence` if the payload has no document sequence; else `TooLarge` if the message would
+    /// have more than 2,147,483,647 bytes; else `OutOfMemory`.
     pub fn push_document(&mut self, document: RawDocument<'_>) -> Result<(), MsgRefusal>
         ensures begun { (c : Content) → BufCarries self.old c → OnOk result (c.sequences ≢ []) }
         ensures added { (c : Content) (t : Tree) → BufCarries self.old c

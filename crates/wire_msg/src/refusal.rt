@@ -1,4 +1,4 @@
-//! Why a message isn't made.
+//! Why a message or a payload is refused.
 
 ghost use Rattle.std.specs.Prelude.{◌≡◌};
 ghost use Rattle.wire_msg.specs.Refusals.{refusal_number, refusal_text};
@@ -7,25 +7,25 @@ ghost use Rattle.wire_msg.specs.declared.refusal.MsgRefusal.TheVariants.{OutOfMe
 use std::alloc::{AllocError, AllocFailed};
 use std::fmt;
 
-/// Why a message, or the payload of one, isn't made.
+/// Why a message or a payload is refused.
 #[derive(Clone, Copy, Debug, PartialEq, Eq)]
 pub enum MsgRefusal {
-    /// The message would have more bytes than the limit; a payload's, more than 2,147,483,647.
+    /// The message would have more bytes than the limit. For a payload, more than 2,147,483,647.
     TooLarge,
     /// A top-level name of the body stands twice.
     RepeatedField,
     /// The identifier of a document sequence is a top-level name of the body.
     SequenceInBody,
-    /// A 00 stands in an identifier.
+    /// An identifier has a 00 in it.
     ZeroInName,
-    /// A document for a sequence, where none was begun.
+    /// A document was pushed before a sequence was begun.
     NoSequence,
     /// The allocator refused memory.
     OutOfMemory,
 }
 
 impl MsgRefusal {
-    /// The number of the refusal, from 1 to 5; none for want of memory.
+    /// Returns the number of the refusal, from 1 to 5, or `None` for want of memory.
     pub fn number(self) -> Option<u8>
         ensures { result ≡ refusal_number self }
     {

@@ -1,9 +1,9 @@
-//! The check of the sections of a message (MongoDB Wire Protocol manual: OP_MSG, sections).
+//! Checks the sections of a message (MongoDB Wire Protocol manual: OP_MSG, sections).
 
 ghost use Rattle.std.specs.Prelude.{◌≡◌, ◌<◌, ◌≤◌, ◌^◌, length, drop, MatchResult};
 ghost use Rattle.bson_raw.specs.RawDocument.{document_bytes};
 ghost use Rattle.wire_msg.specs.Faults.{SectionsFault};
-ghost use Rattle.wire_msg.specs.Checks.{IsSplit};
+ghost use Rattle.wire_msg.specs.Checks.{HasSections};
 
 use crate::fault::{MsgCause, MsgFault};
 use crate::sequence::{check_sequences, fault_at};
@@ -12,16 +12,16 @@ use bson_raw::document::RawDocument;
 /// The kind byte of a body.
 const BODY: u8 = 0;
 
-/// Where the sections begin: behind the header and the flags.
+/// The offset of the sections: behind the header and the flags.
 pub(crate) const SECTIONS: usize = 20;
 
-/// The place of the body's kind byte, the body, and the place after it, in a message of one body
-/// and any number of document sequences. The names aren't checked.
+/// Checks the sections of a message, which are one body and any number of document sequences, but
+/// for their names. Returns the offset of the body's kind byte, the body, and the offset behind it.
 pub(crate) fn split_sections(bytes: &[u8]) -> Result<(usize, RawDocument<'_>, usize), MsgFault>
     requires short { length bytes.now < 2 ^ 31 }
     requires inside { 20 ≤ length bytes.now }
     ensures { MatchResult result
-        (λ x. IsSplit bytes.now x.0 (document_bytes x.1) x.2)
+        (λ x. HasSections bytes.now x.0 (document_bytes x.1) x.2)
         (λ f. SectionsFault (drop 20 bytes.now) f) }
 {
     let at = check_sequences(bytes, SECTIONS)?;

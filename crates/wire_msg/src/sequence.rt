@@ -1,4 +1,4 @@
-//! The check of document sequences (MongoDB Wire Protocol manual: OP_MSG, sections of kind 1).
+//! Checks document sequences (MongoDB Wire Protocol manual: OP_MSG, sections of kind 1).
 
 ghost use Rattle.std.specs.Prelude.{◌≡◌, ◌+◌, ◌<◌, ◌≤◌, ◌^◌, length, drop, MatchOption, MatchResult, IfErr};
 ghost use Rattle.wire_msg.specs.Header.{number_at};
@@ -14,14 +14,14 @@ use bson_raw::document::RawDocument;
 /// The kind byte of a document sequence.
 pub(crate) const SEQUENCE: u8 = 1;
 
-/// The cause, at a place.
+/// Makes the fault of this cause, at offset `at`.
 pub(crate) fn fault_at(at: usize, cause: MsgCause) -> MsgFault
     ensures { result ≡ msg_fault at cause }
 {
     MsgFault { at, cause }
 }
 
-/// Checks documents back to back, which begin at the place `start` of the message.
+/// Checks documents back to back, which begin at offset `start` of the message.
 fn check_documents(bytes: &[u8], start: usize) -> Result<(), MsgFault>
     requires { start + length bytes.now < 2 ^ 64 }
     ensures { MatchResult result
@@ -41,7 +41,7 @@ fn check_documents(bytes: &[u8], start: usize) -> Result<(), MsgFault>
     Ok(())
 }
 
-/// The size in front, if it is that of a sequence which these bytes can hold.
+/// Reads the size that begins `bytes`, if it is that of a sequence which they can hold.
 fn size_of(bytes: &[u8]) -> Option<usize>
     ensures { MatchOption result
         (IsSized bytes.now → ⊥)
@@ -57,8 +57,8 @@ fn size_of(bytes: &[u8]) -> Option<usize>
     Some(size)
 }
 
-/// The size of the document sequence in front, of which the kind byte stands at `at` and these
-/// bytes follow it.
+/// Checks the document sequence whose kind byte stands at offset `at`, and which `bytes`, those
+/// behind that byte, begin with. Returns its size.
 fn check_sequence(bytes: &[u8], at: usize) -> Result<usize, MsgFault>
     requires short { length bytes.now < 2 ^ 31 }
     requires room { at + length bytes.now + 1 < 2 ^ 64 }
@@ -78,7 +78,7 @@ fn check_sequence(bytes: &[u8], at: usize) -> Result<usize, MsgFault>
     }
 }
 
-/// The place after the document sequences that stand from `start` on.
+/// Checks the document sequences from offset `start` on. Returns the offset behind the last.
 pub(crate) fn check_sequences(bytes: &[u8], start: usize) -> Result<usize, MsgFault>
     requires short { length bytes.now < 2 ^ 31 }
     requires inside { start ≤ length bytes.now }

@@ -1,17 +1,17 @@
-//! Document sequences, lent out of their bytes.
+//! The document sequences of a payload, borrowed from its bytes.
 
 ghost use Rattle.std.specs.Prelude.{◌≡◌, ◌≢◌, ◌+◌, ◌<◌, ◌≤◌, ◌++◌, ◌∷◌, List, ℕ, length};
 ghost use Rattle.std.specs.Iterator.{at_most};
 ghost use Rattle.wire_msg.specs.Message.{AreSequences, IsSequence, Sequence, sequence_size};
 ghost use Rattle.wire_msg.specs.Spelling.{sequence_section, sequences_bytes};
 ghost use Rattle.wire_msg.specs.Checks.{HasDocuments, HasSequences};
-ghost use Rattle.wire_msg.specs.Known.{ArePartsOf, AreRuns, BeginsSequence, IsLastPlace};
+ghost use Rattle.wire_msg.specs.Known.{ArePartsOf, AreRuns, BeginsSequence, IsLastOffset};
 
 use crate::documents::Documents;
 use bson_elem::number::little_u32;
 use bson_elem::text::read_cstring;
 
-/// The size of the sequence that is known to stand in front.
+/// Reads the size of the sequence that is known to begin `bytes`.
 pub(crate) fn known_size(bytes: &[u8]) -> usize
     requires { ∥ BeginsSequence bytes.now ∥₁ }
     ensures within { (5 ≤ result) × (1 + result ≤ length bytes.now) }
@@ -21,7 +21,7 @@ pub(crate) fn known_size(bytes: &[u8]) -> usize
     little_u32(&bytes[1..]) as usize
 }
 
-/// The identifier and the documents of the first of some sequences, and the bytes of the others.
+/// Splits sequences into the identifier and the documents of the first of them, and the others.
 pub(crate) fn split_sequence(bytes: &[u8]) -> (&str, &[u8], &[u8])
     requires some { length bytes.now ≢ 0 }
     requires known { ∥ HasSequences bytes.now ∥₁ }
@@ -37,10 +37,10 @@ pub(crate) fn split_sequence(bytes: &[u8]) -> (&str, &[u8], &[u8])
     (identifier, documents, &bytes[1 + size..])
 }
 
-/// Where the last of some sequences begins; 0 where there is none.
-pub(crate) fn last_place(bytes: &[u8]) -> usize
+/// Returns the offset of the last of some sequences, or 0 if there is none.
+pub(crate) fn last_offset(bytes: &[u8]) -> usize
     requires { ∥ HasSequences bytes.now ∥₁ }
-    ensures { IsLastPlace bytes.now result }
+    ensures { IsLastOffset bytes.now result }
 {
     let mut last = 0;
     let mut next = 0;
@@ -51,7 +51,7 @@ pub(crate) fn last_place(bytes: &[u8]) -> usize
     last
 }
 
-/// What is left of two runs of sequences, the second in place of the first where that is used up.
+/// Returns two runs of sequences, but the second and none if the first is used up.
 fn next_run<'a>(bytes: &'a [u8], then: &'a [u8]) -> (&'a [u8], &'a [u8])
     requires first { ∥ HasSequences bytes.now ∥₁ }
     requires last { ∥ HasSequences then.now ∥₁ }
@@ -69,7 +69,8 @@ fn next_run<'a>(bytes: &'a [u8], then: &'a [u8]) -> (&'a [u8], &'a [u8])
     }
 }
 
-/// The document sequences that are left.
+/// An iterator over document sequences, each as its identifier and its documents. After the last of
+/// them it gives nothing more.
 #[derive(Debug, Drop)]
 pub struct SequencesIter<'a> {
     bytes: &'a [u8],
@@ -79,7 +80,8 @@ pub struct SequencesIter<'a> {
 }
 
 impl<'a> SequencesIter<'a> {
-    /// All sequences of bytes that are known to be sequences, and then those of others.
+    /// Makes an iterator over the sequences of `bytes` and then those of `then`, which are known to be
+    /// sequences.
     pub(crate) fn of_known(bytes: &'a [u8], then: &'a [u8]) -> SequencesIter<'a>
         requires first { ∥ HasSequences bytes.now ∥₁ }
         requires last { ∥ HasSequences then.now ∥₁ }

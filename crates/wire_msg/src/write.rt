@@ -1,4 +1,4 @@
-//! Messages written, each in its canonical spelling (MongoDB Wire Protocol manual: OP_MSG): the body
+//! Writes messages, each in its canonical spelling (MongoDB Wire Protocol manual: OP_MSG): the body
 //! before the document sequences, and no flag bit set that means nothing.
 
 ghost use Rattle.std.specs.Prelude.{◌≡◌, ◌≤◌, ◌++◌, OnOk, OnErr, IfErr};
@@ -16,6 +16,7 @@ use crate::refusal::MsgRefusal;
 use byteorder::{ByteOrder, LittleEndian};
 use std::alloc::AllocError;
 
+/// Appends a number of four bytes, the lowest first.
 fn write_u32(n: u32, out: &mut Vec<u8>) -> Result<(), AllocError>
     ensures added { OnOk result (out.new.items ≡ out.old.items ++ little n) }
     ensures kept { OnErr result (StartsWith out.new.items out.old.items) }
@@ -25,6 +26,7 @@ fn write_u32(n: u32, out: &mut Vec<u8>) -> Result<(), AllocError>
     out.extend_from_slice(&bytes)
 }
 
+/// Appends an int32.
 fn write_i32(n: i32, out: &mut Vec<u8>) -> Result<(), AllocError>
     ensures added { OnOk result (out.new.items ≡ out.old.items ++ signed n) }
     ensures kept { OnErr result (StartsWith out.new.items out.old.items) }
@@ -34,7 +36,7 @@ fn write_i32(n: i32, out: &mut Vec<u8>) -> Result<(), AllocError>
     out.extend_from_slice(&bytes)
 }
 
-/// Adds the header of a message of `len` bytes.
+/// Appends the header of a message of `len` bytes.
 fn write_header(len: u32, id: i32, response_to: i32, out: &mut Vec<u8>) -> Result<(), AllocError>
     ensures added { OnOk result (out.new.items
         ≡ out.old.items ++ header_bytes len id response_to) }
@@ -46,7 +48,7 @@ fn write_header(len: u32, id: i32, response_to: i32, out: &mut Vec<u8>) -> Resul
     write_i32(OP_MSG, out)
 }
 
-/// Adds a message of `len` bytes. On a refusal some of them may stand there.
+/// Appends a message of `len` bytes. Where memory is refused, some of them may stand in `out`.
 fn write_parts(
     out: &mut Vec<u8>,
     len: u32,
@@ -71,12 +73,12 @@ fn write_parts(
     payload.write_sections(out)
 }
 
-/// Adds a message. The document sequences keep their order.
+/// Appends a message to `out`. The document sequences keep their order.
 ///
 /// # Errors
 ///
-/// `TooLarge` where the message has more than `limit` bytes, and else `OutOfMemory`. `out` is then as
-/// it was.
+/// `TooLarge` if the message has more than `limit` bytes, and else `OutOfMemory`. Then `out` is as it
+/// was.
 pub fn write_msg(
     out: &mut Vec<u8>,
     id: i32,

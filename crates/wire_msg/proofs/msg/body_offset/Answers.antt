@@ -4,7 +4,7 @@ use Rattle.std.proofs.lemmas.List.{take_rest}
 use Rattle.wire_msg.specs.Spelling.{body_section, sequences_bytes}
 use Rattle.wire_msg.specs.Known.{BeginsSequence}
 use Rattle.wire_msg.proofs.PlaceLaws.{place_begins, place_known, first_before, begins_before, place_more, place_done, known_parts}
-use Rattle.wire_msg.proofs.msg.body_place.Goals as goal
+use Rattle.wire_msg.proofs.msg.body_offset.Goals as goal
 
 pub loop-at-init : goal.loop-at-init
 loop-at-init c = λ m s. place_begins m c.args.bytes.now s

@@ -2,7 +2,7 @@ use Rattle.std.proofs.Common.{◌-◌, length}
 use Rattle.wire_msg.specs.Message.{Message}
 use Rattle.wire_msg.specs.Spelling.{SpellsMsg}
 use Rattle.wire_msg.proofs.PlaceLaws.{PlaceSoFar}
-use Rattle.wire_msg.proofs.msg.body_place.Given as goal
+use Rattle.wire_msg.proofs.msg.body_offset.Given as goal
 
 abbrev pub invariant-loop-at : goal.invariant-loop-at
 invariant-loop-at l = (m : Message) (s : SpellsMsg m l.bytes) → PlaceSoFar m l.bytes s l.at

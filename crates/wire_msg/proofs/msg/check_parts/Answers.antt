@@ -12,15 +12,15 @@ returns-in_err-at c =
     rw (p.1, p.2) c.in_err-at.ensures
 
 pub check_names-requires-clause-first : goal.check_names-requires-clause-first
-check_names-requires-clause-first c = ∣ before_known c.args.bytes.now c.in_ok-at.at c.in_ok-at.next (document_bytes c.in_ok-at.body) c.in_ok-at.ensures.split ∣₁
+check_names-requires-clause-first c = ∣ before_known c.args.bytes.now c.in_ok-at.at c.in_ok-at.next (document_bytes c.in_ok-at.body) c.in_ok-at.ensures.sections ∣₁
 
 pub check_names-requires-clause-last : goal.check_names-requires-clause-last
-check_names-requires-clause-last c = ∣ subst HasSequences (sym (take_rest c.args.bytes.now c.in_ok-at.next)) (after_known c.args.bytes.now c.in_ok-at.at c.in_ok-at.next (document_bytes c.in_ok-at.body) c.in_ok-at.ensures.split) ∣₁
+check_names-requires-clause-last c = ∣ subst HasSequences (sym (take_rest c.args.bytes.now c.in_ok-at.next)) (after_known c.args.bytes.now c.in_ok-at.at c.in_ok-at.next (document_bytes c.in_ok-at.body) c.in_ok-at.ensures.sections) ∣₁
 
 pub returns : goal.returns
 returns c =
     let bytes = c.args.bytes.now in
     let d = document_bytes c.in_ok-at.body in
-    let s = c.in_ok-at.ensures.split in
+    let s = c.in_ok-at.ensures.sections in
     named bytes c.in_ok-at.at c.in_ok-at.next d c.check_names.result (λ i. (c.type_inv.bytes i).fits) c.requires c.in_ok-at.ensures
     (c.check_names.ensures s.before s.body s.after s.before_fit (before_are bytes c.in_ok-at.at c.in_ok-at.next d s) s.spelled s.after_fit (take_rest bytes c.in_ok-at.next ∙ after_are bytes c.in_ok-at.at c.in_ok-at.next d s))

@@ -6,7 +6,7 @@ use Rattle.std.proofs.lemmas.Result.{err_from_is_err_and}
 use Rattle.wire_msg.specs.Header.{number_at}
 use Rattle.wire_msg.specs.Spelling.{FlagsAre}
 use Rattle.bson_raw.specs.RawDocument.{document_bytes}
-use Rattle.wire_msg.specs.Checks.{IsSplit, IsSplitMsg}
+use Rattle.wire_msg.specs.Checks.{HasSections, HasParts}
 use Rattle.wire_msg.specs.Faults.{SectionsFault, PartsFault, no_flags, of_flags, of_sections, flags_fault}
 use Rattle.wire_msg.proofs.msg.split_message.Goals as goal
 
@@ -37,7 +37,7 @@ returns c =
     let w = word_is bytes c.little_u32.result c.little_u32.ensures in
     let faultless = ap flags_fault (sym w) ∙ c.in_ok-read.ensures.none in
     let flags = subst (λ (n : ℕ). FlagsAre n c.in_ok-read.field-0.more c.in_ok-read.field-0.allows) w c.in_ok-read.ensures.read in
-    each c.split_sections.result (λ x. IsSplit bytes x.0 (document_bytes x.1) x.2) (λ x. IsSplitMsg bytes x.0 (document_bytes x.1) x.2) (λ f. SectionsFault (drop 20 bytes) f) (λ f. PartsFault bytes f)
-    (λ x split. record { room = room; more = c.in_ok-read.field-0.more; allows = c.in_ok-read.field-0.allows; flags = flags; faultless = faultless; split = split })
+    each c.split_sections.result (λ x. HasSections bytes x.0 (document_bytes x.1) x.2) (λ x. HasParts bytes x.0 (document_bytes x.1) x.2) (λ f. SectionsFault (drop 20 bytes) f) (λ f. PartsFault bytes f)
+    (λ x sections. record { room = room; more = c.in_ok-read.field-0.more; allows = c.in_ok-read.field-0.allows; flags = flags; faultless = faultless; sections = sections })
     (λ f fault. of_sections room faultless fault)
     c.split_sections.ensures

@@ -2,7 +2,7 @@ use Rattle.std.proofs.Common.{◌≡◌, ◌≢◌, true, false, length, sym, ar
 use Rattle.std.proofs.lemmas.Bool.Decides.{nat_tests}
 use Rattle.wire_msg.specs.Message.{is_field}
 use Rattle.wire_msg.proofs.NameLaws.{all_left, first_left, here_in_body, later_in_body, none_in_body}
-use Rattle.wire_msg.proofs.names.place_in_body.Goals as goal
+use Rattle.wire_msg.proofs.names.offset_in_body.Goals as goal
 
 pub loop-rest-init : goal.loop-rest-init
 loop-rest-init c = (c.requires.known, omega arith, λ t qs s fits are. all_left t c.args.start c.args.sequences.now qs fits are)

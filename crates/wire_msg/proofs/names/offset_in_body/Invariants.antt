@@ -5,7 +5,7 @@ use Rattle.wire_msg.specs.Message.{Sequence, AreSequences}
 use Rattle.wire_msg.specs.Spelling.{sequences_bytes}
 use Rattle.wire_msg.specs.Checks.{HasSequences}
 use Rattle.wire_msg.proofs.NameLaws.{IsLeftOf}
-use Rattle.wire_msg.proofs.names.place_in_body.Given as goal
+use Rattle.wire_msg.proofs.names.offset_in_body.Given as goal
 
 abbrev pub invariant-loop-rest : goal.invariant-loop-rest
 invariant-loop-rest l =

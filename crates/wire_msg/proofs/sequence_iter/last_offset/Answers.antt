@@ -4,7 +4,7 @@ use Rattle.std.proofs.lemmas.List.{take_rest}
 use Rattle.wire_msg.specs.Known.{BeginsSequence}
 use Rattle.wire_msg.proofs.ReadLaws.{begins_sequence}
 use Rattle.wire_msg.proofs.LastLaws.{known_left, walk_more, walk_ends}
-use Rattle.wire_msg.proofs.sequence_iter.last_place.Goals as goal
+use Rattle.wire_msg.proofs.sequence_iter.last_offset.Goals as goal
 
 pub known_size-requires : goal.known_size-requires
 known_size-requires c =

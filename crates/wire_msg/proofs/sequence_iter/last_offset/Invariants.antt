@@ -2,7 +2,7 @@ use Rattle.std.proofs.Common.{◌≡◌, ◌-◌, ◌≤◌, List, length}
 use Rattle.wire_msg.specs.Message.{AreSequences, Sequence}
 use Rattle.wire_msg.specs.Spelling.{sequences_bytes}
 use Rattle.wire_msg.proofs.LastLaws.{IsWalked}
-use Rattle.wire_msg.proofs.sequence_iter.last_place.Given as goal
+use Rattle.wire_msg.proofs.sequence_iter.last_offset.Given as goal
 
 abbrev pub invariant-loop-next : goal.invariant-loop-next
 invariant-loop-next l = (l.next ≤ length l.bytes) × ((qs : List Sequence) → AreSequences qs → l.bytes ≡ sequences_bytes qs → IsWalked l.bytes qs l.last l.next)

@@ -4,7 +4,7 @@ use Rattle.std.proofs.lemmas.Result.{err_from_is_err_and}
 use Rattle.std.specs.Vec.{vec_len}
 use Rattle.bson_raw.specs.Pairs.{first_named}
 use Rattle.wire_msg.specs.Spelling.{message_len}
-use Rattle.wire_msg.specs.Known.{IsLastPlace}
+use Rattle.wire_msg.specs.Known.{IsLastOffset}
 use Rattle.wire_msg.specs.Buf.{with_sequence, IsFree}
 use Rattle.wire_msg.proofs.NameLaws.{field_found, found_shown}
 use Rattle.wire_msg.proofs.AppendLaws.{parts_long, length-with_sequence, free_name, with_sequence_are, sequence_begun, same_payload}
@@ -49,7 +49,7 @@ invariant_of-self-2 c =
     let known = sequence_begun s.body.items s.sequences.items c.append_sequence.new.sequences.items name c.utf8.identifier (λ content p.
     let free : IsFree content name = free_name content name c.as_bytes.result.now c.get.result (c.get.ensures content.body (c.body.ensures content (c.as_payload.ensures content p))) (sym c.is_some.ensures ∙ c.if-is_some.false) c.as_bytes.ensures.value (sym c.contains.ensures.value ∙ c.if-contains.false) in
     (free, omega (arith, c.if-identifier-room.false, c.room.ensures content p, length-with_sequence content name))) c.in_ok-append_sequence.ensures.added s.valid in
-    record { valid = known.0; last_is = subst (IsLastPlace c.append_sequence.new.sequences.items) at known.1 }
+    record { valid = known.0; last_is = subst (IsLastOffset c.append_sequence.new.sequences.items) at known.1 }
 
 pub returns-clause-added : goal.returns-clause-added
 returns-clause-added c = λ content p.

@@ -3,5 +3,5 @@ use Rattle.std.proofs.Common.{[]}
 use Rattle.wire_msg.proofs.PlaceLaws.{last_known}
 use Rattle.wire_msg.proofs.payload_buf.PayloadBuf.of_parts.Goals as goal
 
-pub last_place-last-requires : goal.last_place-last-requires
-last_place-last-requires c = rw c.deref.ensures.value (∥∥₁_map c.requires (last_known [] c.args.body.items c.args.sequences.items))
+pub last_offset-last-requires : goal.last_offset-last-requires
+last_offset-last-requires c = rw c.deref.ensures.value (∥∥₁_map c.requires (last_known [] c.args.body.items c.args.sequences.items))
