@@ -50,9 +50,9 @@ pick false x y f g = g refl
 
 scalar_low : (c : ℕ) → scalar c ≡ true → c < 1114112
 scalar_low c is = elim (scalar_cases c is) [
-      | inl lt ↦ omega (arith, lt)
-      | inr lt ↦ lt.1
-    ]
+  | inl lt ↦ omega (arith, lt)
+  | inr lt ↦ lt.1
+]
 
 next_low : (n : ℕ) → next n < 256
 next_low n = omega arith

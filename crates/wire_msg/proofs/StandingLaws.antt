@@ -139,11 +139,11 @@ bad_longer limit bytes more f (bad_message room good le fault) =
 -- a beginning that a header of the whole decides
 begins_open : (limit : ℕ) (front rest : List ℕ) → IsGoodHeader limit (header_of (front ++ rest)) → length front < number_at (front ++ rest) 0 → IsOpen limit front
 begins_open limit front rest good lt = elim (cases_lt (length front) 16) [
-      | inl short ↦ in_header short
-      | inr room ↦
-          let same = header_front front rest room in
-          in_message room (subst (IsGoodHeader limit) same good) (omega (arith, lt, ap (λ (h : MsgHeader). h.length) same))
-    ]
+  | inl short ↦ in_header short
+  | inr room ↦
+      let same = header_front front rest room in
+      in_message room (subst (IsGoodHeader limit) same good) (omega (arith, lt, ap (λ (h : MsgHeader). h.length) same))
+]
 
 -- a beginning of open bytes is open
 pub open_shorter : (limit : ℕ) (front rest : List ℕ) → IsOpen limit (front ++ rest) → IsOpen limit front

@@ -1,4 +1,4 @@
--- How bytes stand that come one after another: too few to tell, a message in front, or a fault.
+-- What is known of bytes of which more may come: they are too few to tell, have a message in front, or are at fault.
 use Rattle.std.specs.Prelude.{◌≡◌, ℕ, ◌<◌, ◌≤◌, List, ◌++◌, length, take}
 use Rattle.wire_msg.specs.declared.fault.MsgFault.{MsgFault}
 use Rattle.wire_msg.specs.Message.{Message}

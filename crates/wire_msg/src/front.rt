@@ -11,7 +11,7 @@ use crate::header::MsgHeader;
 use crate::msg::{RawMsg, check_parts, check_parts_with};
 use std::alloc::Global;
 
-/// What stands in front of bytes.
+/// What stands in front of bytes, as `RawMsg::front` tells it.
 #[derive(Clone, Copy, Debug)]
 pub enum MsgFront<'a> {
     /// A message, and the bytes behind it.
@@ -37,7 +37,7 @@ enum Frame<'a> {
     Bad(MsgFault),
 }
 
-/// Reads the header that begins `bytes`, and cuts `bytes` where it says that the message ends.
+/// Reads the header that begins `bytes`, and cuts them where it says that the message ends.
 fn read_frame(bytes: &[u8], limit: u32) -> Frame<'_>
     requires { limit ≤ 48_000_000 }
     ensures { IsFrame limit bytes.now result }

@@ -1,5 +1,5 @@
-//! The laws of the format, on which everything rests that cuts a stream of bytes into messages. The
-//! contract of each function is the law.
+//! The laws of the format, on which whatever cuts bytes into messages rests. The contract of each
+//! function is the law.
 
 ghost use Rattle.std.specs.Prelude.{◌≡◌, ◌≢◌, ◌<◌, ◌≤◌, ◌^◌, ◌++◌, ◌∷◌, ◌⊎◌, [], ℕ, FitsSigned, List, length, take};
 ghost use Rattle.std.specs.Int.{w32};
@@ -32,7 +32,7 @@ pub fn canonical_spells()
         → IsContent m.content → message_len m.content < 2 ^ 31 → SpellsMsg m (canonical m) }
 {}
 
-/// A spelling at the front of another message's spelling is that message's.
+/// Where two spellings stand at the front of the same bytes, they are one spelling of one message.
 pub fn one_front()
     ensures { (m n : Message) (a b rest after : List ℕ) → IsBytes a
         → SpellsMsg m a → SpellsMsg n b → a ++ rest ≡ b ++ after
@@ -57,19 +57,19 @@ pub fn no_fault_of_a_message()
         → SpellsMsg m bytes → length bytes ≤ limit → FaultMsg bytes limit f → ⊥ }
 {}
 
-/// Bytes aren't open with a message in front.
+/// Open bytes have no message in front.
 pub fn open_is_not_whole()
     ensures { (limit : ℕ) (bytes rest : List ℕ) (m : Message)
         → IsOpen limit bytes → IsWhole limit bytes m rest → ⊥ }
 {}
 
-/// Bytes aren't open and bad.
+/// Open bytes aren't bad.
 pub fn open_is_not_bad()
     ensures { (limit : ℕ) (bytes : List ℕ) (f : MsgFault)
         → IsOpen limit bytes → IsBad limit bytes f → ⊥ }
 {}
 
-/// Bytes aren't bad with a message in front.
+/// Bad bytes have no message in front.
 pub fn bad_is_not_whole()
     ensures { (limit : ℕ) (bytes rest : List ℕ) (m : Message) (f : MsgFault) → IsBytes bytes
         → IsBad limit bytes f → IsWhole limit bytes m rest → ⊥ }
@@ -81,12 +81,12 @@ pub fn bad_once()
         → IsBad limit bytes f → IsBad limit bytes g → f ≡ g }
 {}
 
-/// Nothing is open.
+/// The empty list is open.
 pub fn nothing_is_open()
     ensures { (limit : ℕ) → IsOpen limit [] }
 {}
 
-/// Nothing is no message.
+/// The empty list spells no message.
 pub fn nothing_is_no_message()
     ensures { (m : Message) → SpellsMsg m [] → ⊥ }
 {}
@@ -97,12 +97,12 @@ pub fn bad_after_16_bytes()
         → HeaderFault limit (header_of header) f → IsBad limit (header ++ more) f }
 {}
 
-/// The 16 bytes in front decide the header.
+/// A header is that of the first 16 bytes.
 pub fn header_of_16_bytes()
     ensures { (bytes : List ℕ) → header_of bytes ≡ header_of (take 16 bytes) }
 {}
 
-/// The fault of a header stands at offset 12 at most.
+/// A header's fault stands at offset 12 at most.
 pub fn header_fault_offset()
     ensures { (limit : ℕ) (header : MsgHeader) (f : MsgFault) → HeaderFault limit header f
         → f.at ≤ 12 }
@@ -166,35 +166,35 @@ pub fn one_split()
         → (messages ≡ others) × (rest ≡ after) }
 {}
 
-/// Messages with open bytes behind them are split there.
+/// Messages with open bytes behind them are split before those.
 pub fn split_before_open()
     ensures { (limit : ℕ) (messages : List Message) (joined rest : List ℕ)
         → AreSpelled limit messages joined → IsOpen limit rest
         → Split limit (joined ++ rest) messages rest }
 {}
 
-/// Messages with bad bytes behind them are split there.
+/// Messages with bad bytes behind them are split before those.
 pub fn split_before_bad()
     ensures { (limit : ℕ) (messages : List Message) (joined rest : List ℕ) (f : MsgFault)
         → IsBytes rest → AreSpelled limit messages joined → IsBad limit rest f
         → Split limit (joined ++ rest) messages rest }
 {}
 
-/// A message in front of bytes that are split is the first of their messages.
+/// A message in front of split bytes becomes the first of their messages.
 pub fn split_after_a_message()
     ensures { (limit : ℕ) (bytes after rest : List ℕ) (m : Message) (messages : List Message)
         → IsWhole limit bytes m after → Split limit after messages rest
         → Split limit bytes (m ∷ messages) rest }
 {}
 
-/// Messages in front of bytes that are split are the first of their messages.
+/// Messages in front of split bytes become the first of their messages.
 pub fn split_after_messages()
     ensures { (limit : ℕ) (joined after rest : List ℕ) (messages others : List Message)
         → AreSpelled limit messages joined → Split limit after others rest
         → Split limit (joined ++ after) (messages ++ others) rest }
 {}
 
-/// Bytes are open, have a message in front, or are bad. The function reads them to find out which.
+/// Bytes are open, have a message in front, or are bad. Reads `bytes` to find out which.
 pub fn open_whole_or_bad(bytes: &[u8], limit: u32)
     requires { limit ≤ 48_000_000 }
     ensures { Stands limit bytes.now }
@@ -202,10 +202,13 @@ pub fn open_whole_or_bad(bytes: &[u8], limit: u32)
     let _ = RawMsg::front(bytes, limit);
 }
 
-/// Bytes are split into messages and a rest, which is open or bad. Returns the rest.
+/// Splits `bytes` into messages of at most `limit` bytes and a rest, which is open or bad. Returns
+/// the rest.
 pub fn split_of(bytes: &[u8], limit: u32) -> &[u8]
     requires { limit ≤ 48_000_000 }
     ensures split { (messages : List Message) × Split limit bytes.now messages result.now }
+    ensures only { (messages : List Message) (rest : List ℕ)
+        → Split limit bytes.now messages rest → rest ≡ result.now }
     ensures ends { IsOpen limit result.now ⊎ ((f : MsgFault) × IsBad limit result.now f) }
 {
     let mut rest = bytes;
