@@ -5,11 +5,10 @@ ghost use Rattle.lughemra.specs.Messages.{IsMessageCheck, limit_message_check};
 ghost use Rattle.lughemra.specs.Messages.{IsMessagesCheck, limit_messages_check};
 
 use crate::fault::FirstFault;
+use std::alloc::Global;
 use wire_msg::front::MsgFront;
+use wire_msg::header::MAX_MESSAGE_LEN;
 use wire_msg::msg::RawMsg;
-
-/// The greatest limit on a message's length.
-const MAX_LIMIT: u32 = 48_000_000;
 
 /// What the check of one message came to.
 #[derive(Clone, Copy)]
@@ -25,18 +24,22 @@ pub struct MessageCheck {
 
 /// Checks that `bytes` are exactly one message, of at most `limit` bytes.
 #[unsafe(no_mangle)]
-pub extern "C" fn lughemra_check_message_nonnull(bytes: &[u8], limit: u32) -> MessageCheck
+pub extern "C" fn lughemra_check_message_nonnull(
+    alloc: Global,
+    bytes: &[u8],
+    limit: u32,
+) -> MessageCheck
     ensures read { limit ≤ 48_000_000 → IsMessageCheck limit bytes.now result }
     ensures large_limit { 48_000_000 < limit → result ≡ limit_message_check }
 {
     let none = FirstFault::none();
-    if limit > MAX_LIMIT {
+    if limit > MAX_MESSAGE_LEN {
         return MessageCheck {
             fault: FirstFault::of_limit(),
             document_fault: none,
         };
     }
-    match RawMsg::parse(bytes, limit) {
+    match RawMsg::parse_with(alloc, bytes, limit) {
         Ok(_) => MessageCheck {
             fault: none,
             document_fault: none,
@@ -66,12 +69,16 @@ pub struct MessagesCheck {
 
 /// Checks the messages that stand back to back in `bytes`, each of at most `limit` bytes.
 #[unsafe(no_mangle)]
-pub extern "C" fn lughemra_check_messages_nonnull(bytes: &[u8], limit: u32) -> MessagesCheck
+pub extern "C" fn lughemra_check_messages_nonnull(
+    alloc: Global,
+    bytes: &[u8],
+    limit: u32,
+) -> MessagesCheck
     ensures read { limit ≤ 48_000_000 → IsMessagesCheck limit bytes.now result }
     ensures large_limit { 48_000_000 < limit → result ≡ limit_messages_check }
 {
     let none = FirstFault::none();
-    if limit > MAX_LIMIT {
+    if limit > MAX_MESSAGE_LEN {
         return MessagesCheck {
             messages: 0,
             bytes_read: 0,
@@ -83,7 +90,7 @@ pub extern "C" fn lughemra_check_messages_nonnull(bytes: &[u8], limit: u32) -> M
     let mut rest = bytes;
     while !rest.is_empty() {
         let bytes_read = bytes.len() - rest.len();
-        match RawMsg::front(rest, limit) {
+        match RawMsg::front_with(alloc, rest, limit) {
             MsgFront::Whole { rest: after, .. } => rest = after,
             MsgFront::Open => {
                 return MessagesCheck {
