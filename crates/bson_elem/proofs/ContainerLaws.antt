@@ -14,14 +14,14 @@ use Rattle.bson_elem.specs.declared.fault.BsonFault.{BsonFault}
 use Rattle.bson_elem.specs.Kinds.{byte_of, all_kinds, kind_among, kind_of, Form, raw_form, boolean_form, int32_form, int64_form, timestamp_form, string_form, pointer_form, binary_form, regex_form, document_form, scope_form, form_of}
 use Rattle.bson_elem.specs.Tree.{Leaf, Beside, no_code, with_code}
 use Rattle.bson_elem.specs.Spelling.{IsBytes, leaf_bytes, little, cstring, string, document, inner_bytes, IsOfForm, StandsIn}
-use Rattle.bson_elem.specs.Checks.{◌>>=◌, length_at, text_at, cstring_at, leaf_at, fault, at_place, document_at, Value, a_leaf, opens, scope_at, value_at, ElementRead, kinded_at, element_at}
+use Rattle.bson_elem.specs.Checks.{◌>>=◌, length_at, text_at, cstring_at, leaf_at, fault, told_at, document_at, Value, a_leaf, opens, scope_at, value_at, ElementRead, kinded_at, element_at}
 pub use Rattle.bson_elem.specs.Elements.{value_bytes, ValueFits, place_of, IsPlaced, element_bytes, IsElement}
 use Rattle.bson_elem.proofs.FieldLaws.{IsBytes-drop, IsBytes-take, bind_ok, guard_else, guard_then, ok_is, Takes, Takes-then, length_takes, length_again, text_takes, past_one, parts_of, cstring_takes, cstring_again}
 use Rattle.bson_elem.proofs.ElementLaws.{leaf_takes, leaf_again}
 
-at_place_ok : {A : Type 0} (p : ℕ) (r : Result A BsonCause) (x : A) → at_place p r ≡ Ok x → r ≡ Ok x
-at_place_ok p (Ok y) x e = ap Ok (ok_is {E = BsonFault} y x e)
-at_place_ok p (Err c) x e = absurd cc
+told_at_ok : {A : Type 0} (p : ℕ) (r : Result A BsonCause) (x : A) → told_at p r ≡ Ok x → r ≡ Ok x
+told_at_ok p (Ok y) x e = ap Ok (ok_is {E = BsonFault} y x e)
+told_at_ok p (Err c) x e = absurd cc
 
 -- ---- documents
 
@@ -99,24 +99,24 @@ length-scope words body = omega (arith, length-append (little (length body + len
 scope_takes : (depth p q : ℕ) (bytes : List ℕ) (x : Value × List ℕ) → IsBytes bytes → depth < 200 → scope_at p q bytes ≡ Ok x → Takes bytes (value_bytes scope_form x.0) x.1 × ValueFits depth scope_form x.0 × IsPlaced q x.0
 unfolding scope_at
 scope_takes depth p q bytes x fits shallow e =
-    let a = bind_ok (at_place p (length_at 14 bytes)) (λ total. cond (ltb (length bytes) total.0) (Err (fault p causes.Truncated)) (at_place p (length_at 1 total.1)) >>= λ n. cond (ltb (total.0 - 13) n.0) (Err (fault p causes.Scope)) (at_place p (text_at (n.0 - 1) n.1)) >>= λ words. cond (eqb (from_le_bytes w32 (take 4 words.1)) (total.0 - 8 - n.0)) (document_at p (q + 8 + n.0) words.1) (Err (fault p causes.Scope)) >>= λ d. Ok (opens (q + 8 + n.0) (with_code words.0) d.0, d.1)) x e in
+    let a = bind_ok (told_at p (length_at 14 bytes)) (λ total. cond (ltb (length bytes) total.0) (Err (fault p causes.Truncated)) (told_at p (length_at 1 total.1)) >>= λ n. cond (ltb (total.0 - 13) n.0) (Err (fault p causes.Scope)) (told_at p (text_at (n.0 - 1) n.1)) >>= λ words. cond (eqb (from_le_bytes w32 (take 4 words.1)) (total.0 - 8 - n.0)) (document_at p (q + 8 + n.0) words.1) (Err (fault p causes.Scope)) >>= λ d. Ok (opens (q + 8 + n.0) (with_code words.0) d.0, d.1)) x e in
     let total = a.0 in
-    let b = bind_ok (cond (ltb (length bytes) total.0) (Err (fault p causes.Truncated)) (at_place p (length_at 1 total.1))) (λ n. cond (ltb (total.0 - 13) n.0) (Err (fault p causes.Scope)) (at_place p (text_at (n.0 - 1) n.1)) >>= λ words. cond (eqb (from_le_bytes w32 (take 4 words.1)) (total.0 - 8 - n.0)) (document_at p (q + 8 + n.0) words.1) (Err (fault p causes.Scope)) >>= λ d. Ok (opens (q + 8 + n.0) (with_code words.0) d.0, d.1)) x a.2 in
+    let b = bind_ok (cond (ltb (length bytes) total.0) (Err (fault p causes.Truncated)) (told_at p (length_at 1 total.1))) (λ n. cond (ltb (total.0 - 13) n.0) (Err (fault p causes.Scope)) (told_at p (text_at (n.0 - 1) n.1)) >>= λ words. cond (eqb (from_le_bytes w32 (take 4 words.1)) (total.0 - 8 - n.0)) (document_at p (q + 8 + n.0) words.1) (Err (fault p causes.Scope)) >>= λ d. Ok (opens (q + 8 + n.0) (with_code words.0) d.0, d.1)) x a.2 in
     let n = b.0 in
-    let c = bind_ok (cond (ltb (total.0 - 13) n.0) (Err (fault p causes.Scope)) (at_place p (text_at (n.0 - 1) n.1))) (λ words. cond (eqb (from_le_bytes w32 (take 4 words.1)) (total.0 - 8 - n.0)) (document_at p (q + 8 + n.0) words.1) (Err (fault p causes.Scope)) >>= λ d. Ok (opens (q + 8 + n.0) (with_code words.0) d.0, d.1)) x b.2 in
+    let c = bind_ok (cond (ltb (total.0 - 13) n.0) (Err (fault p causes.Scope)) (told_at p (text_at (n.0 - 1) n.1))) (λ words. cond (eqb (from_le_bytes w32 (take 4 words.1)) (total.0 - 8 - n.0)) (document_at p (q + 8 + n.0) words.1) (Err (fault p causes.Scope)) >>= λ d. Ok (opens (q + 8 + n.0) (with_code words.0) d.0, d.1)) x b.2 in
     let words = c.0 in
     let d = bind_ok (cond (eqb (from_le_bytes w32 (take 4 words.1)) (total.0 - 8 - n.0)) (document_at p (q + 8 + n.0) words.1) (Err (fault p causes.Scope))) (λ d. Ok (opens (q + 8 + n.0) (with_code words.0) d.0, d.1)) x c.2 in
-    let g1 = guard_else (ltb (length bytes) total.0) (fault p causes.Truncated) (at_place p (length_at 1 total.1)) n b.1 in
-    let g2 = guard_else (ltb (total.0 - 13) n.0) (fault p causes.Scope) (at_place p (text_at (n.0 - 1) n.1)) words c.1 in
+    let g1 = guard_else (ltb (length bytes) total.0) (fault p causes.Truncated) (told_at p (length_at 1 total.1)) n b.1 in
+    let g2 = guard_else (ltb (total.0 - 13) n.0) (fault p causes.Scope) (told_at p (text_at (n.0 - 1) n.1)) words c.1 in
     let g3 = guard_then (eqb (from_le_bytes w32 (take 4 words.1)) (total.0 - 8 - n.0)) (fault p causes.Scope) (document_at p (q + 8 + n.0) words.1) d.0 d.1 in
-    let t0 = length_takes 14 bytes total fits (at_place_ok p (length_at 14 bytes) total a.1) in
-    let t1 = length_takes 1 total.1 n t0.0.rest_fits (at_place_ok p (length_at 1 total.1) n g1.1) in
+    let t0 = length_takes 14 bytes total fits (told_at_ok p (length_at 14 bytes) total a.1) in
+    let t1 = length_takes 1 total.1 n t0.0.rest_fits (told_at_ok p (length_at 1 total.1) n g1.1) in
     let long : total.0 ≤ length bytes = ltb-false _ _ g1.0 in
     let room : n.0 ≤ total.0 - 13 = ltb-false _ _ g2.0 in
     let l0 : length bytes ≡ 4 + length total.1 = ap length t0.0.parts ∙ length-append (little total.0) total.1 in
     let l1 : length total.1 ≡ 4 + length n.1 = ap length t1.0.parts ∙ length-append (little n.0) n.1 in
     let inside : n.0 - 1 < length n.1 = omega (arith, long, room, l0, l1, t0.1, t1.1) in
-    let t2 = text_takes (n.0 - 1) n.1 words t1.0.rest_fits inside (at_place_ok p (text_at (n.0 - 1) n.1) words g2.1) in
+    let t2 = text_takes (n.0 - 1) n.1 words t1.0.rest_fits inside (told_at_ok p (text_at (n.0 - 1) n.1) words g2.1) in
     let t3 = document_takes p (q + 8 + n.0) words.1 d.0 t2.0.rest_fits g3.1 in
     let n-is : n.0 ≡ length words.0 + 1 = omega (arith, t2.2, t1.1) in
     let total-is : total.0 ≡ length d.0.0 + length words.0 + 14 = let f = eqb-true _ _ g3.0 in omega (arith, f, t3.2, n-is, room, t0.1) in
@@ -158,10 +158,10 @@ inner_takes depth p q bytes x fits shallow e =
     subst (λ (y : Value × List ℕ). Takes bytes (value_bytes document_form y.0) y.1 × ValueFits depth document_form y.0 × IsPlaced q y.0) (ok_is {E = BsonFault} (opens q no_code a.0.0, a.0.1) x a.2)
     (t.0, (tt, shallow, omega (arith, length-document a.0.0, t.1)), refl)
 
-whole_takes : (depth p q : ℕ) (form : Form) (bytes : List ℕ) (x : Value × List ℕ) → IsBytes bytes → (at_place p (leaf_at form bytes) >>= λ v. Ok (a_leaf v.0, v.1)) ≡ Ok x → Takes bytes (value_bytes form x.0) x.1 × ValueFits depth form x.0 × IsPlaced q x.0
+whole_takes : (depth p q : ℕ) (form : Form) (bytes : List ℕ) (x : Value × List ℕ) → IsBytes bytes → (told_at p (leaf_at form bytes) >>= λ v. Ok (a_leaf v.0, v.1)) ≡ Ok x → Takes bytes (value_bytes form x.0) x.1 × ValueFits depth form x.0 × IsPlaced q x.0
 whole_takes depth p q form bytes x fits e =
-    let a = bind_ok (at_place p (leaf_at form bytes)) (λ v. Ok (a_leaf v.0, v.1)) x e in
-    let t = leaf_takes form bytes a.0 fits (at_place_ok p (leaf_at form bytes) a.0 a.1) in
+    let a = bind_ok (told_at p (leaf_at form bytes)) (λ v. Ok (a_leaf v.0, v.1)) x e in
+    let t = leaf_takes form bytes a.0 fits (told_at_ok p (leaf_at form bytes) a.0 a.1) in
     subst (λ (y : Value × List ℕ). Takes bytes (value_bytes form y.0) y.1 × ValueFits depth form y.0 × IsPlaced q y.0) (ok_is {E = BsonFault} (a_leaf a.0.0, a.0.1) x a.2) (t.0, t.1, tt)
 
 pub part_takes : (depth p q : ℕ) (form : Form) (bytes : List ℕ) (x : Value × List ℕ) → IsBytes bytes → value_at depth p q form bytes ≡ Ok x → Takes bytes (value_bytes form x.0) x.1 × ValueFits depth form x.0 × IsPlaced q x.0
@@ -230,9 +230,9 @@ made name k part rest = record { name = name; kind = k; value = part; rest = res
 kinded_takes : (depth p b : ℕ) (o : Option Kind) (bytes : List ℕ) (e : ElementRead) → kind_of b ≡ o → IsBytes bytes → kinded_at depth p o bytes ≡ Ok e → Takes (b ∷ bytes) (element_bytes e) e.rest × IsElement depth p e
 kinded_takes depth p b None bytes e o fits h = absurd cc
 kinded_takes depth p b (Some k) bytes e o fits h =
-    let a = bind_ok (at_place p (cstring_at bytes)) (λ name. value_at depth p (p + length name.0 + 2) (form_of k) name.1 >>= λ value. Ok (made name.0 k value.0 value.1)) e h in
+    let a = bind_ok (told_at p (cstring_at bytes)) (λ name. value_at depth p (p + length name.0 + 2) (form_of k) name.1 >>= λ value. Ok (made name.0 k value.0 value.1)) e h in
     let v = bind_ok (value_at depth p (p + length a.0.0 + 2) (form_of k) a.0.1) (λ value. Ok (made a.0.0 k value.0 value.1)) e a.2 in
-    let t = cstring_takes bytes a.0 fits (at_place_ok p (cstring_at bytes) a.0 a.1) in
+    let t = cstring_takes bytes a.0 fits (told_at_ok p (cstring_at bytes) a.0 a.1) in
     let u = part_takes depth p (p + length a.0.0 + 2) (form_of k) a.0.1 v.0 t.0.rest_fits v.1 in
     let both = Takes-then bytes (cstring a.0.0) a.0.1 (value_bytes (form_of k) v.0.0) v.0.1 t.0 u.0 in
     let byte_is : b ≡ byte_of k = kind_is all_kinds b k o in

@@ -7,7 +7,7 @@ use Rattle.std.proofs.lemmas.Simd.{map-map, mask_l-mod, length-chunk, trailing_m
 use Rattle.std.specs.List.{prefix_len}
 use lib.Count.{count_trailing_zeros}
 use lib.Lanes.{chunk, mask_l, top}
-use Rattle.bson_elem.proofs.NameLaws.{IsPlainTo}
+use Rattle.bson_elem.proofs.NameLaws.{IsNonzeroAsciiTo}
 
 -- a 0, or a byte outside ASCII
 abbrev pub is_stop : ℕ → Bool
@@ -18,8 +18,8 @@ plain_byte b e = (grind (arith, nat_tests), grind (arith, nat_tests))
 
 -- Where the lanes that were computed from 16 bytes have their top bits set just at the stops, the lowest bit of the mask
 -- is the first stop.
-pub stop_place : (d z : List ℕ) (f : ℕ → ℕ) → 16 ≤ length d → ((k : ℕ) → Fits w8 (get_or d k 0)) → z ≡ map f (chunk 0 16 d) → agree_below (λ x. top 7 (f x)) is_stop 256 ≡ true → mask_l (map (top 7) z) % 2 ^ 64 ≢ 0 → (count_trailing_zeros 64 (mask_l (map (top 7) z) % 2 ^ 64) ≤ 16) × IsPlainTo d (count_trailing_zeros 64 (mask_l (map (top 7) z) % 2 ^ 64))
-stop_place d z f room fits lanes all some =
+pub stop_offset : (d z : List ℕ) (f : ℕ → ℕ) → 16 ≤ length d → ((k : ℕ) → Fits w8 (get_or d k 0)) → z ≡ map f (chunk 0 16 d) → agree_below (λ x. top 7 (f x)) is_stop 256 ≡ true → mask_l (map (top 7) z) % 2 ^ 64 ≢ 0 → (count_trailing_zeros 64 (mask_l (map (top 7) z) % 2 ^ 64) ≤ 16) × IsNonzeroAsciiTo d (count_trailing_zeros 64 (mask_l (map (top 7) z) % 2 ^ 64))
+stop_offset d z f room fits lanes all some =
     let v = chunk 0 16 d in
     let stops : ℕ → Bool = λ x. top 7 (f x) in
     let r : ℕ = count_trailing_zeros 64 (mask_l (map (top 7) z) % 2 ^ 64) in

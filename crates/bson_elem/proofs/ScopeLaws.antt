@@ -7,7 +7,7 @@ use Rattle.bson_elem.specs.Tree.{Leaf, with_code}
 use Rattle.bson_elem.specs.declared.kind.Kind.{Kind}
 use Rattle.bson_elem.specs.declared.kind.Kind.TheVariants as kinds
 use Rattle.bson_elem.specs.Kinds.{form_of}
-use Rattle.bson_elem.specs.Checks.{◌>>=◌, Read, a_leaf, length_at, text_at, document_at, scope_at, leaf_at, at_place, value_at, opens}
+use Rattle.bson_elem.specs.Checks.{◌>>=◌, Read, a_leaf, length_at, text_at, document_at, scope_at, leaf_at, told_at, value_at, opens}
 use Rattle.bson_elem.specs.Items.{as_value}
 
 pub scope_read : (p q : ℕ) (bytes : List ℕ) (total : ℕ) (a : List ℕ) (n : ℕ) (b words c body d : List ℕ) → length_at 14 bytes ≡ Ok (total, a) → total ≤ length bytes → length_at 1 a ≡ Ok (n, b) → n ≤ total - 13 → text_at (n - 1) b ≡ Ok (words, c) → from_le_bytes w32 (take 4 c) ≡ total - 8 - n → document_at p (q + 8 + n) c ≡ Ok (body, d) → scope_at p q bytes ≡ Ok (opens (q + 8 + n) (with_code words) body, d)
@@ -23,12 +23,12 @@ pub checked_scope : (p q : ℕ) (bytes : List ℕ) (total : ℕ) (a : List ℕ) 
 unfolding scope_at
 checked_scope p q bytes total a n b words c body d ok e0 e1 e2 e3 = grind arith
 
-part_bind : (p : ℕ) (r : Read Leaf) → (at_place p r >>= λ v. Ok (a_leaf v.0, v.1)) ≡ at_place p (as_value r)
+part_bind : (p : ℕ) (r : Read Leaf) → (told_at p r >>= λ v. Ok (a_leaf v.0, v.1)) ≡ told_at p (as_value r)
 part_bind p (Ok v) = refl
 part_bind p (Err c) = refl
 
 -- The part of a kind that holds no document.
-pub leaf_value_at : (depth p q : ℕ) (k : Kind) (bytes : List ℕ) → (k ≡ kinds.Document → ⊥) → (k ≡ kinds.Array → ⊥) → (k ≡ kinds.CodeWithScope → ⊥) → value_at depth p q (form_of k) bytes ≡ at_place p (as_value (leaf_at (form_of k) bytes))
+pub leaf_value_at : (depth p q : ℕ) (k : Kind) (bytes : List ℕ) → (k ≡ kinds.Document → ⊥) → (k ≡ kinds.Array → ⊥) → (k ≡ kinds.CodeWithScope → ⊥) → value_at depth p q (form_of k) bytes ≡ told_at p (as_value (leaf_at (form_of k) bytes))
 unfolding value_at
 leaf_value_at depth p q kinds.Document bytes a b c = absurd (a refl)
 leaf_value_at depth p q kinds.Array bytes a b c = absurd (b refl)

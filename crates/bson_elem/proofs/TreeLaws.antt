@@ -79,8 +79,8 @@ step : (fuel depth s p b : ℕ) (bytes : List ℕ) (e : ElementRead) (within : T
 unfolding walk
 step fuel depth s p b bytes e within h i = rw (h, i) refl
 
-place_more : (fuel depth s a b c : ℕ) (rest : List ℕ) → a + b ≡ c → walk fuel depth s (a + b) rest ≡ walk fuel depth s c rest
-place_more fuel depth s a b c rest e = ap (λ (k : ℕ). walk fuel depth s k rest) e
+offset_more : (fuel depth s a b c : ℕ) (rest : List ℕ) → a + b ≡ c → walk fuel depth s (a + b) rest ≡ walk fuel depth s c rest
+offset_more fuel depth s a b c rest e = ap (λ (k : ℕ). walk fuel depth s k rest) e
 
 -- one pair of a tree, and then the others
 pair_then : (depth s p fuel : ℕ) (e : ElementRead) (within ps : Tree) (rest : List ℕ) → IsElement depth p e → entered (λ q body. walk fuel (depth + 1) q (q + 4) body) e.value ≡ Ok within → e.rest ≡ elements ps ++ rest

@@ -14,7 +14,7 @@ use Rattle.bson_elem.specs.declared.fault.BsonFault.{BsonFault}
 use Rattle.bson_elem.specs.declared.fault.BsonCause.TheVariants.{End}
 use Rattle.bson_elem.specs.declared.fault.BsonCause.TheVariants as causes
 use Rattle.bson_elem.specs.Kinds.{kind_of, form_of}
-use Rattle.bson_elem.specs.Checks.{◌>>=◌, Read, fault, at_place, cstring_at, Value, value_at, ElementRead, kinded_at, element_at, document_at}
+use Rattle.bson_elem.specs.Checks.{◌>>=◌, Read, fault, told_at, cstring_at, Value, value_at, ElementRead, kinded_at, element_at, document_at}
 use Rattle.bson_elem.specs.Extents.{document_place, value_extent}
 use Rattle.bson_elem.specs.declared.fault.BsonCause.{BsonCause}
 use Rattle.bson_elem.proofs.FieldLaws.{ok_is, IsBytes-take, IsBytes-drop}
@@ -45,7 +45,7 @@ rest_in bytes depth s at end e fits lt whole read =
     let place : length room - length e.rest ≡ (end - length e.rest) - at = omega (arith, size, shorter) in
     (shorter, a.1 ∙ ap (λ (k : ℕ). drop k room) place ∙ part_after bytes at (end - length e.rest) end (omega (arith, shorter, lt)) (omega arith))
 
--- The element between two places of the bytes has this name and this item, and so many bytes follow it.
+-- The element between two offsets of the bytes has this name and this item, and these bytes after it.
 pub record IsSeen (bytes : List ℕ) (depth s at end : ℕ) (name : List ℕ) (item : Item) (rest : List ℕ) : Type 0 where
   pub shorter : length rest < end - at
   pub read : element_at depth s at (slice_range bytes at end) ≡ Ok (record { name = name; kind = item_kind item; value = item_value (end - length rest) item; rest = slice_range bytes (end - length rest) end })
@@ -75,7 +75,7 @@ abbrev after_name : ℕ → ℕ → Kind → List ℕ × List ℕ → Result Ele
 after_name depth p k name = value_at depth p (p + length name.0 + 2) (form_of k) name.1 >>= with_value name.0 k
 
 abbrev after_kind : ℕ → ℕ → Kind × List ℕ → Result ElementRead BsonFault
-after_kind depth p k = at_place p (cstring_at k.1) >>= after_name depth p k.0
+after_kind depth p k = told_at p (cstring_at k.1) >>= after_name depth p k.0
 
 kinded_by_kind : (depth p : ℕ) (kind : Option Kind) (bytes : List ℕ) → kinded_at depth p kind bytes ≡ (known_kind p kind bytes >>= after_kind depth p)
 kinded_by_kind depth p None bytes = refl
@@ -91,11 +91,12 @@ element_by_kind depth s p (b ∷ bytes) = tested (eqb b 0)
     tested false = kinded_by_kind depth p (kind_of b) bytes
 
 -- an element of which the kind was read, and the name
-after_both : (depth s p : ℕ) (room after : List ℕ) (k : Kind) (name : Read (List ℕ)) → kind_at s p room ≡ Ok (k, after) → cstring_at after ≡ name → element_at depth s p room ≡ (at_place p name >>= after_name depth p k)
+after_both : (depth s p : ℕ) (room after : List ℕ) (k : Kind) (name : Read (List ℕ)) → kind_at s p room ≡ Ok (k, after) → cstring_at after ≡ name → element_at depth s p room ≡ (told_at p name >>= after_name depth p k)
 after_both depth s p room after k name kind is =
-    element_by_kind depth s p room ∙ ap (λ (r : Result (Kind × List ℕ) BsonFault). r >>= after_kind depth p) kind ∙ ap (λ (r : Read (List ℕ)). at_place p r >>= after_name depth p k) is
+    element_by_kind depth s p room ∙ ap (λ (r : Result (Kind × List ℕ) BsonFault). r >>= after_kind depth p) kind ∙ ap (λ (r : Read (List ℕ)). told_at p r >>= after_name depth p k) is
 
--- What was told of an element: its name and its kind, the place of a document in its value, and what follows it.
+-- What is known of a skipped element: its name and its kind, the offset of the document in its value, and the bytes after
+-- it.
 pub record IsSkipped (r : Result ElementRead BsonFault) (name : List ℕ) (k : Kind) (document : Option ℕ) (rest : List ℕ) : Type 0 where
   pub element : ElementRead
   pub is_read : r ≡ Ok element

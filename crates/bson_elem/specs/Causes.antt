@@ -1,4 +1,4 @@
--- The causes of a fault as fault lines give them: `fault NUMBER NAME at PLACE`.
+-- The number and the name of each cause, as fault lines give them: `fault NUMBER NAME at OFFSET`.
 use Rattle.std.specs.Prelude.{ℕ, List, codes}
 use Rattle.bson_elem.specs.declared.fault.BsonCause.{BsonCause}
 use Rattle.bson_elem.specs.declared.fault.BsonCause.TheVariants.{Truncated, Length, End, Kind, Name, Text, TextEnd, Boolean, OldBinary, Scope, Depth}

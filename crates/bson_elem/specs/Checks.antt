@@ -1,5 +1,5 @@
--- The order of the checks: what stands at the front of some bytes, or the first check that fails. Each function is
--- one step over a list of bytes; none enters a document that a value holds.
+-- The order of the checks. Each function is one step over a list of bytes: it gives what is read at the front of the bytes
+-- and the bytes after it, or the first check that fails. None enters a document that a value holds.
 use Rattle.std.specs.Prelude.{ℕ, ◌+◌, ◌-◌, ◌^◌, List, [], ◌∷◌, length, take, drop, Option, Some, None, Result, Ok, Err, Bool, true, false, nat_lt, nat_le, ◌==◌, ◌||◌, if◌then◌else◌, slice_index}
 use Rattle.std.specs.Str.{is_utf8}
 use Rattle.std.specs.List.{position_or_len}
@@ -12,7 +12,7 @@ use Rattle.bson_elem.specs.declared.fault.BsonFault.{BsonFault}
 use Rattle.bson_elem.specs.Kinds.{kind_of, Form, raw_form, boolean_form, int32_form, int64_form, timestamp_form, string_form, pointer_form, binary_form, regex_form, document_form, scope_form, form_of}
 use Rattle.bson_elem.specs.Tree.{Leaf, raw_value, boolean_value, number_value, timestamp_value, text_value, pointer_value, binary_value, regex_value, Beside, no_code, with_code}
 
--- one check after another: the first that fails is told
+-- one check after another: the first that fails is the result
 infixl 10 ◌>>=◌
 abbrev pub ◌>>=◌ : {A B E : Type 0} → Result A E → (A → Result B E) → Result B E
 (Ok x) >>= f = f x
@@ -24,28 +24,28 @@ Read A = Result (A × List ℕ) BsonCause
 
 -- ---- numbers and texts (bsonspec.org: `int32`, `int64`, `string`, `cstring`)
 
--- so many bytes
+-- n bytes
 abbrev pub bytes_at : ℕ → List ℕ → Read (List ℕ)
 bytes_at n bytes = if nat_lt (length bytes) n then Err Truncated else Ok (take n bytes, drop n bytes)
 
--- a number of four bytes, and of eight
+-- an unsigned number of four bytes, and of eight
 abbrev pub little_at : List ℕ → Read ℕ
 little_at bytes = if nat_lt (length bytes) 4 then Err Truncated else Ok (from_le_bytes w32 (take 4 bytes), drop 4 bytes)
 
 abbrev pub little64_at : List ℕ → Read ℕ
 little64_at bytes = if nat_lt (length bytes) 8 then Err Truncated else Ok (from_le_bytes w64 (take 8 bytes), drop 8 bytes)
 
--- a count that is not negative, and at least so much
+-- a signed number of four bytes that is at least `least` and not negative
 abbrev pub length_at : ℕ → List ℕ → Read ℕ
 length_at least bytes = do
   n ← little_at bytes
   if (nat_lt n.0 least || nat_le (2 ^ 31) n.0) then Err Length else Ok n
 
--- a text of so many bytes, and the 00 behind it
+-- a text of n bytes, and the 00 after it
 abbrev pub text_at : ℕ → List ℕ → Read (List ℕ)
 text_at n bytes = if is_utf8 (take n bytes) then (if slice_index bytes n == 0 then Ok (take n bytes, drop (n + 1) bytes) else Err TextEnd) else Err Text
 
--- a string: the count of the text and its last 00, the text, and that 00
+-- a string: the number of bytes of the text and the 00 after it, the text, and that 00
 unfoldable pub string_at : List ℕ → Read (List ℕ)
 string_at bytes = do
   n ← length_at 1 bytes
@@ -54,7 +54,7 @@ string_at bytes = do
 abbrev pub is_zero : ℕ → Bool
 is_zero b = b == 0
 
--- a cstring whose 00 stands at the place n
+-- a cstring whose 00 is at offset n
 abbrev pub name_until : ℕ → List ℕ → Read (List ℕ)
 name_until n bytes = if nat_lt n (length bytes) then (if is_utf8 (take n bytes) then Ok (take n bytes, drop (n + 1) bytes) else Err Name) else Err Truncated
 
@@ -69,7 +69,8 @@ unfoldable pub boolean_at : List ℕ → Read Leaf
 boolean_at [] = Err Truncated
 boolean_at (b ∷ rest) = if b == 0 then Ok (boolean_value false, rest) else if b == 1 then Ok (boolean_value true, rest) else Err causes.Boolean
 
--- a binary of this subtype and these bytes, in front of a rest; in subtype 02 the bytes begin with their own count
+-- a binary of this subtype and these bytes, in front of a rest; in subtype 02 the bytes begin with an inner count, of the
+-- bytes after it
 unfoldable pub binary_of : ℕ → List ℕ → List ℕ → Read Leaf
 binary_of subtype bytes rest =
     if subtype == 2 then
@@ -112,18 +113,18 @@ leaf_at regex_form bytes = do
 leaf_at document_form bytes = Err causes.Kind
 leaf_at scope_form bytes = Err causes.Kind
 
--- ---- with places: the element's type byte stands at p, and its value begins at q
+-- ---- with offsets: the element's type byte is at p, and its value begins at q
 
 abbrev pub fault : ℕ → BsonCause → BsonFault
 fault p c = record { at = p; cause = c }
 
--- a cause, told at a place
-abbrev pub at_place : {A : Type 0} → ℕ → Result A BsonCause → Result A BsonFault
-at_place p (Ok x) = Ok x
-at_place p (Err c) = Err (fault p c)
+-- what was read, or the cause as a fault at this offset
+abbrev pub told_at : {A : Type 0} → ℕ → Result A BsonCause → Result A BsonFault
+told_at p (Ok x) = Ok x
+told_at p (Err c) = Err (fault p c)
 
--- The elements of the document at the front, and what comes after it (bsonspec.org: `document`). It begins at q, in
--- the element at p.
+-- The elements of the document at the front, and the bytes after it (bsonspec.org: `document`). It begins at q, in the
+-- element at p.
 unfoldable pub document_at : ℕ → ℕ → List ℕ → Result (List ℕ × List ℕ) BsonFault
 document_at p q bytes =
     if nat_lt (length bytes) 4 then Err (fault p Truncated)
@@ -133,21 +134,21 @@ document_at p q bytes =
     else if slice_index bytes (n - 1) == 0 then Ok (take (n - 5) (drop 4 bytes), drop n bytes)
     else Err (fault q End)
 
--- a value: a leaf, or a document, by where it begins, what stands beside it, and its elements
+-- a value: a leaf, or a document, by its offset, what stands beside it, and its elements
 pub data Value : Type 0 where
   a_leaf : Leaf → Value
   opens : ℕ → Beside → List ℕ → Value
 
--- The code and the scope of the value at the front (bsonspec.org: `code_w_s`).
+-- The code and the scope at the front (bsonspec.org: `code_w_s`). The value begins at q, in the element at p.
 unfoldable pub scope_at : ℕ → ℕ → List ℕ → Result (Value × List ℕ) BsonFault
 scope_at p q bytes = do
-  total ← at_place p (length_at 14 bytes)
-  n ← if nat_lt (length bytes) total.0 then Err (fault p Truncated) else at_place p (length_at 1 total.1)
-  words ← if nat_lt (total.0 - 13) n.0 then Err (fault p Scope) else at_place p (text_at (n.0 - 1) n.1)
+  total ← told_at p (length_at 14 bytes)
+  n ← if nat_lt (length bytes) total.0 then Err (fault p Truncated) else told_at p (length_at 1 total.1)
+  words ← if nat_lt (total.0 - 13) n.0 then Err (fault p Scope) else told_at p (text_at (n.0 - 1) n.1)
   d ← if from_le_bytes w32 (take 4 words.1) == total.0 - 8 - n.0 then document_at p (q + 8 + n.0) words.1 else Err (fault p Scope)
   Ok (opens (q + 8 + n.0) (with_code words.0) d.0, d.1)
 
--- The value of a form at the front, in a container of this depth.
+-- The value of a form at the front, in a container of this depth. It begins at q, in the element at p.
 unfoldable pub value_at : ℕ → ℕ → ℕ → Form → List ℕ → Result (Value × List ℕ) BsonFault
 value_at depth p q document_form bytes =
     if nat_lt depth 200 then (do
@@ -156,7 +157,7 @@ value_at depth p q document_form bytes =
     else Err (fault p Depth)
 value_at depth p q scope_form bytes = if nat_lt depth 200 then scope_at p q bytes else Err (fault p Depth)
 value_at depth p q form bytes = do
-  v ← at_place p (leaf_at form bytes)
+  v ← told_at p (leaf_at form bytes)
   Ok (a_leaf v.0, v.1)
 
 -- an element, and the bytes after it
@@ -166,15 +167,15 @@ pub record ElementRead : Type 0 where
   pub value : Value
   pub rest : List ℕ
 
--- The rest of an element whose type byte stands for this kind, or for none.
+-- The element at p, whose type byte is that of this kind, or of none, from its name on.
 abbrev pub kinded_at : ℕ → ℕ → Option Kind → List ℕ → Result ElementRead BsonFault
 kinded_at depth p None bytes = Err (fault p causes.Kind)
 kinded_at depth p (Some k) bytes = do
-  name ← at_place p (cstring_at bytes)
+  name ← told_at p (cstring_at bytes)
   v ← value_at depth p (p + length name.0 + 2) (form_of k) name.1
   Ok (record { name = name.0; kind = k; value = v.0; rest = v.1 })
 
--- The element at the front, at p, in a container of this depth that begins at s.
+-- The element at the front, at offset p, in a container of this depth that begins at offset s.
 unfoldable pub element_at : ℕ → ℕ → ℕ → List ℕ → Result ElementRead BsonFault
 element_at depth s p [] = Err (fault s End)
 element_at depth s p (b ∷ bytes) = if b == 0 then Err (fault s End) else kinded_at depth p (kind_of b) bytes

@@ -1,4 +1,4 @@
--- How far values reach: the sizes that are fixed, what follows what was read, and the place of a document in it.
+-- How far values reach: the sizes that are fixed, the bytes after a value, and the offset of the document in it.
 use Rattle.std.specs.Prelude.{ℕ, List, Option, Some, None, Result, Ok, Err}
 use Rattle.bson_elem.specs.declared.kind.Kind.{Kind}
 use Rattle.bson_elem.specs.declared.kind.Kind.TheVariants as kinds
@@ -21,17 +21,17 @@ fixed_size kinds.ObjectId = Some 12
 fixed_size kinds.Decimal128 = Some 16
 fixed_size _ = None
 
--- the place where the document begins that a value is, if it is one
+-- the offset of the document that a value holds, if it holds one
 abbrev pub document_place : Value → Option ℕ
 document_place (a_leaf v) = None
 document_place (opens q b body) = Some q
 
--- what follows a number, a text or a leaf
+-- the bytes after what was read
 abbrev pub rest_of : {A : Type 0} → Read A → Result (List ℕ) BsonCause
 rest_of (Ok x) = Ok x.1
 rest_of (Err c) = Err c
 
--- the place of a document in a value, and what follows the value
+-- the offset of the document in a value, if it holds one, and the bytes after the value
 abbrev pub value_extent : Result (Value × List ℕ) BsonFault → Result (Option ℕ × List ℕ) BsonFault
 value_extent (Ok v) = Ok (document_place v.0, v.1)
 value_extent (Err f) = Err f

@@ -1,4 +1,4 @@
--- What an item of the code shows of the definitions.
+-- The values and elements that the items of the code stand for.
 use Rattle.std.specs.Prelude.{ℕ, ◌-◌, [], List, length, slice_range, Ok, Err}
 use Rattle.bson_elem.specs.declared.kind.Kind.{Kind}
 use Rattle.bson_elem.specs.declared.kind.Kind.TheVariants as kinds
@@ -34,7 +34,7 @@ item_kind (items.Decimal128 _) = kinds.Decimal128
 item_kind items.MinKey = kinds.MinKey
 item_kind items.MaxKey = kinds.MaxKey
 
--- the value that the item is, where the next element stands at this place
+-- the value that the item is, if the next element is at this offset
 abbrev pub item_value : ℕ → Item → Value
 item_value next (items.Double b) = a_leaf (raw_value b)
 item_value next (items.String s) = a_leaf (text_value s.now)
@@ -63,15 +63,15 @@ abbrev pub as_value : Read Leaf → Read Value
 as_value (Ok v) = Ok (a_leaf v.0, v.1)
 as_value (Err c) = Err c
 
--- The element that a name, an item and the bytes after them are, in a container whose last byte stands at this place.
+-- The element of this name and item, in front of these bytes, in a container whose last byte is at offset end.
 abbrev pub element_shown : ℕ → List ℕ → Item → List ℕ → checks.ElementRead
 element_shown end name item rest = record { name = name; kind = item_kind item; value = item_value (end - length rest) item; rest = rest }
 
--- what an element of the code shows of the bytes that it was read from, in a container whose last byte stands at end
+-- the element that an element of the code stands for, read from these bytes in a container whose last byte is at offset end
 abbrev pub element_view : List ℕ → ℕ → Element → checks.ElementRead
 element_view bytes end e = record { name = e.name.now; kind = item_kind e.value; value = item_value e.next e.value; rest = slice_range bytes e.next end }
 
--- Where the item holds a document, all bytes of that document are lent.
+-- If the item holds a document, it lends all bytes of that document.
 abbrev pub LendsFramed : Item → Type 0
 LendsFramed (items.Document d) = IsFramed d.now
 LendsFramed (items.Array d) = IsFramed d.now

@@ -35,13 +35,13 @@ abbrev pub kind_among : List Kind → ℕ → Option Kind
 kind_among [] byte = None
 kind_among (k ∷ ks) byte = if byte == byte_of k then Some k else kind_among ks byte
 
--- the kind that a type byte stands for
+-- the kind with this type byte
 abbrev pub kind_of : ℕ → Option Kind
 kind_of byte = kind_among all_kinds byte
 
 -- how a value is spelled
 pub data Form : Type 0 where
-  -- so many bytes
+  -- this number of bytes
   raw_form : ℕ → Form
   -- one byte, 00 or 01
   boolean_form : Form
@@ -54,13 +54,13 @@ pub data Form : Type 0 where
   string_form : Form
   -- a string and the 12 bytes of an ObjectId
   pointer_form : Form
-  -- a count, a subtype and data
+  -- a length, a subtype and data
   binary_form : Form
   -- two cstrings
   regex_form : Form
   -- a document
   document_form : Form
-  -- a count, a string and a document
+  -- a length, a string and a document
   scope_form : Form
 
 -- the form of a kind's values

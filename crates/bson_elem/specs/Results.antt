@@ -1,4 +1,4 @@
--- What a function of the code returned, beside what a definition gives.
+-- What a function of the code returns, by what a definition gives.
 use Rattle.std.specs.Prelude.{◌≡◌, Result, Ok, Err}
 
 -- the definition gives the value that the code's result shows, or the same error

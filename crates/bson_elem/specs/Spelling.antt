@@ -14,15 +14,16 @@ little n = to_le_bytes w32 n
 abbrev pub cstring : List ℕ → List ℕ
 cstring name = name ++ 0 ∷ []
 
--- `string`: the count of the bytes and the last 00, the bytes, and that 00
+-- `string`: the number of the bytes and the last 00, the bytes, and that 00
 abbrev pub string : List ℕ → List ℕ
 string words = little (length words + 1) ++ cstring words
 
--- `document`: the count of all its bytes, the elements, and 00
+-- `document`: the number of all its bytes, the elements, and 00
 abbrev pub document : List ℕ → List ℕ
 document elements = little (length elements + 5) ++ (elements ++ 0 ∷ [])
 
--- `binary`: the count of the data, the subtype, and the data; in subtype 02 the data begin with their own count
+-- `binary`: the number of bytes of data, the subtype, and the data; in subtype 02 the data begin with an inner count, of the
+-- bytes after it
 abbrev pub binary : ℕ → List ℕ → List ℕ
 binary subtype bytes =
     if subtype == 2 then little (length bytes + 4) ++ (2 ∷ (little (length bytes) ++ bytes))
@@ -40,7 +41,7 @@ leaf_bytes form (pointer_value namespace id) = string namespace ++ id
 leaf_bytes form (binary_value subtype bytes) = binary subtype bytes
 leaf_bytes form (regex_value pattern options) = cstring pattern ++ cstring options
 
--- a document with these elements, alone, or as the scope of a code: `code_w_s`, the count of all bytes of the
+-- a document with these elements, alone, or as the scope of a code: `code_w_s`, the number of all bytes of the
 -- value, the code, and the scope
 abbrev pub inner_bytes : Beside → List ℕ → List ℕ
 inner_bytes no_code elements = document elements
@@ -68,18 +69,18 @@ pub record IsName (name : List ℕ) : Type 0 where
   pub is_text : IsUtf8 name
   pub no_zero : HasNoZero name
 
--- the text of a string, which a count below 2 ^ 31 can count with its last 00
+-- the text of a string: UTF-8, of fewer than 2 ^ 31 bytes with its last 00
 pub record IsText (words : List ℕ) : Type 0 where
   pub is_text : IsUtf8 words
   pub short : length words + 1 < 2 ^ 31
 
--- a binary's subtype and its data, which a count below 2 ^ 31 can count
+-- a binary's subtype and its data, whose number of bytes, with the inner count of subtype 02, is below 2 ^ 31
 pub record IsBinary (subtype : ℕ) (bytes : List ℕ) : Type 0 where
   pub one_byte : subtype < 256
   pub are_bytes : IsBytes bytes
   pub short : (if subtype == 2 then length bytes + 4 else length bytes) < 2 ^ 31
 
--- so many bytes
+-- the list is this number of bytes
 pub record AreBytes (count : ℕ) (bytes : List ℕ) : Type 0 where
   pub count_is : length bytes ≡ count
   pub are_bytes : IsBytes bytes
@@ -103,8 +104,8 @@ StandsIn document_form no_code = Unit {0}
 StandsIn scope_form (with_code words) = IsUtf8 words
 StandsIn _ _ = ⊥
 
--- The pairs stand in a container of this depth: each leaf is of its kind's form, each inner document is counted by
--- a number below 2 ^ 31, and none is deeper than 200.
+-- The pairs can stand in a container of this depth: each name is UTF-8 without 00, each leaf is of its kind's form, each
+-- inner document has fewer than 2 ^ 31 bytes, and none is deeper than 200.
 abbrev pub Fits : ℕ → Tree → Type 0
 Fits depth no_pairs = Unit {0}
 Fits depth (leaf_pair name k v ps) = IsName name × IsOfForm (form_of k) v × Fits depth ps

@@ -4,7 +4,7 @@ use Rattle.bson_elem.specs.declared.kind.Kind.{Kind}
 
 -- a value that holds no document
 pub data Leaf : Type 0 where
-  -- so many bytes, which this project doesn't interpret
+  -- bytes that this project doesn't interpret
   raw_value : List ℕ → Leaf
   boolean_value : Bool → Leaf
   number_value : ℤ → Leaf

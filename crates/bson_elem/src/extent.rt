@@ -1,5 +1,5 @@
-//! How far values reach. Each is checked as `read_value` checks it, but it is not built: a walk that only checks needs the
-//! place of a document in the value, and what follows it.
+//! Skipping values. A value is checked as `read_value` checks it, but isn't returned: a walk that only checks needs the
+//! offset of the document in the value, if there is one, and the bytes after the value.
 
 ghost use Rattle.std.specs.Prelude.{◌≡◌, ◌+◌, ◌<◌, ◌^◌, ◌≤◌, length, max, None, IfErr};
 ghost use Rattle.bson_elem.specs.Checks.{bytes_at, leaf_at, value_at};
@@ -13,7 +13,7 @@ use crate::kind::Kind;
 use crate::leaf::{read_binary, read_boolean, read_pointer, read_regex};
 use crate::text::read_string;
 
-/// What follows so many bytes.
+/// Skips `n` bytes, and returns those after them.
 #[inline(always)]
 fn skip_bytes(n: usize, bytes: &[u8]) -> Result<&[u8], BsonCause>
     ensures { Gives (λ x. x.now) result (rest_of (bytes_at n bytes.now)) }
@@ -90,41 +90,43 @@ fn skip_leaf(kind: Kind, bytes: &[u8]) -> Result<&[u8], BsonCause>
     }
 }
 
-/// The place of a document in a value of a kind, and what follows the value. It begins at `q`, in the element at `p`, in
-/// a container of this depth.
+/// Checks a value of this `kind`, and returns the offset of the document in it, if it holds one, and the bytes after it.
+/// The value begins at offset `from`, in the element at offset `at`, in a container of this `depth`.
 ///
-/// Errs as `read_element` does where it comes to the value.
+/// # Errors
+///
+/// Returns the fault that `read_element` returns for the value.
 #[tactic(auto, using(crate::proofs::ScopeLaws::parts), unfolding(crate::specs::Checks::value_at))]
 #[inline(always)]
 pub fn skip_value(
     depth: u32,
-    p: usize,
-    q: usize,
+    at: usize,
+    from: usize,
     kind: Kind,
     bytes: &[u8],
 ) -> Result<(Option<usize>, &[u8]), BsonFault>
-    requires { q + length bytes.now < 2 ^ 64 }
-    ensures read { Gives (λ x. (x.0, x.1.now)) result (value_extent (value_at depth p q (form_of kind) bytes.now)) }
-    ensures place { IfErr result (λ f. f.at ≤ max p (q + length bytes.now)) }
+    requires { from + length bytes.now < 2 ^ 64 }
+    ensures read { Gives (λ x. (x.0, x.1.now)) result (value_extent (value_at depth at from (form_of kind) bytes.now)) }
+    ensures offset { IfErr result (λ f. f.at ≤ max at (from + length bytes.now)) }
 {
     match kind {
         Kind::Document | Kind::Array => {
             if depth >= MAX_DEPTH {
-                return Err(fault_at(p, BsonCause::Depth));
+                return Err(fault_at(at, BsonCause::Depth));
             }
-            let (_, rest) = read_document(p, q, bytes)?;
-            Ok((Some(q), rest))
+            let (_, rest) = read_document(at, from, bytes)?;
+            Ok((Some(from), rest))
         }
         Kind::CodeWithScope => {
             if depth >= MAX_DEPTH {
-                return Err(fault_at(p, BsonCause::Depth));
+                return Err(fault_at(at, BsonCause::Depth));
             }
-            let (_, scope, rest) = split_scope(p, q, bytes)?;
-            Ok((Some(q + bytes.len() - rest.len() - scope.len()), rest))
+            let (_, scope, rest) = split_scope(at, from, bytes)?;
+            Ok((Some(from + bytes.len() - rest.len() - scope.len()), rest))
         }
         _ => match skip_leaf(kind, bytes) {
             Ok(rest) => Ok((None, rest)),
-            Err(cause) => Err(fault_at(p, cause)),
+            Err(cause) => Err(fault_at(at, cause)),
         },
     }
 }

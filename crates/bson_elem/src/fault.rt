@@ -1,40 +1,40 @@
-//! Why bytes are no document, and where.
+//! What is wrong with bytes that are no document, and where.
 
 ghost use Rattle.std.specs.Prelude.{◌≡◌};
 ghost use Rattle.bson_elem.specs.Causes.{cause_name, cause_number};
 
 use std::fmt;
 
-/// What is wrong with the bytes. It displays as its name in a fault line.
+/// What is wrong with the bytes. Displays as its name.
 #[derive(Clone, Copy, Debug, PartialEq, Eq)]
 pub enum BsonCause {
-    /// An item reaches past its container, or a cstring has no 00 in it.
+    /// A value reaches past the end of its container, or a cstring has no 00 before it.
     Truncated,
-    /// A length below its least value (document 5, string 1, binary 0, code with scope 14), or the
-    /// length of a whole document unlike the bytes given.
+    /// A length is below its least value (5 for a document, 1 for a string, 0 for a binary, 14 for a code with scope), or
+    /// the length of a whole document isn't the number of bytes given.
     Length,
-    /// The last byte of a container isn't 00, or a 00 stands before it in place of a type byte.
+    /// The last byte of a container isn't 00, or a type byte before it is 00.
     End,
-    /// A type byte that stands for no kind.
+    /// A type byte is that of no kind.
     Kind,
-    /// A name, a pattern or options that isn't UTF-8.
+    /// A name, or the pattern or the options of a regular expression, isn't UTF-8.
     Name,
     /// The text of a string isn't UTF-8.
     Text,
     /// The last byte of a string isn't 00.
     TextEnd,
-    /// A boolean byte that is neither 00 nor 01.
+    /// The byte of a boolean is neither 00 nor 01.
     Boolean,
-    /// A binary of subtype 02 with fewer than 4 bytes, or whose inner count isn't that of the rest.
+    /// A binary of subtype 02 has fewer than 4 bytes of data, or its inner count isn't the number of bytes after it.
     OldBinary,
-    /// The inner parts of a code with scope don't fill its length.
+    /// The code and the scope of a code with scope don't fill its length.
     Scope,
-    /// A container deeper than 200.
+    /// A container is deeper than `MAX_DEPTH`.
     Depth,
 }
 
 impl BsonCause {
-    /// The number of the cause in a fault line, from 1 to 11.
+    /// Returns the number of the cause, from 1 to 11.
     pub fn number(self) -> u8
         ensures { result ≡ cause_number self }
     {
@@ -53,7 +53,7 @@ impl BsonCause {
         }
     }
 
-    /// The name of the cause in a fault line.
+    /// Returns the name of the cause.
     pub fn name(self) -> &'static str
         ensures { result.now ≡ cause_name self }
     {
@@ -85,11 +85,11 @@ impl fmt::Display for BsonCause {
 
 impl std::error::Error for BsonCause {}
 
-/// The first fault of some bytes, in the order of the checks. It displays as its fault line.
+/// The first fault of some bytes, in the order of the checks. Displays as `fault NUMBER CAUSE at OFFSET`.
 #[derive(Clone, Copy, Debug, PartialEq, Eq)]
 pub struct BsonFault {
-    /// The first byte of the innermost container, for its length and its last byte; else the type
-    /// byte of the innermost element at fault, or 0 where no element is open.
+    /// The offset of the fault: of the first byte of a container, if its length or its last byte is wrong; else of the
+    /// type byte of the innermost element that is at fault, or 0 outside any element.
     pub at: usize,
     pub cause: BsonCause,
 }

@@ -1,15 +1,15 @@
-//! The value of an element.
+//! The values of elements.
 
-/// A value, lent out of the bytes that it was read from, with one variant a kind (bsonspec.org, version 1.1: `element`).
-/// Documents, arrays and scopes are the bytes of a document, of which no element was checked yet.
+/// A value, borrowed from the bytes that it was read from, with one variant for each kind (bsonspec.org, version 1.1:
+/// `element`). A document, an array or a scope is the bytes of a document whose elements are not yet checked.
 #[derive(Clone, Copy, Debug, PartialEq, Eq)]
 pub enum Item<'a> {
-    /// The bytes of an IEEE 754 number of 64 bits, in file order.
+    /// The 8 bytes of an IEEE 754 number, the lowest first.
     Double([u8; 8]),
     String(&'a str),
     Document(&'a [u8]),
     Array(&'a [u8]),
-    /// The data of subtype 02 are given without their inner count.
+    /// A subtype and its data. For subtype 02, `bytes` is without the inner count.
     Binary { subtype: u8, bytes: &'a [u8] },
     Undefined,
     ObjectId([u8; 12]),
@@ -26,7 +26,7 @@ pub enum Item<'a> {
     Int32(i32),
     Timestamp { increment: u32, seconds: u32 },
     Int64(i64),
-    /// The bytes of an IEEE 754-2008 decimal number of 128 bits, in file order.
+    /// The 16 bytes of an IEEE 754-2008 decimal number, the lowest first.
     Decimal128([u8; 16]),
     MinKey,
     MaxKey,

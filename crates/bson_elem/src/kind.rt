@@ -30,12 +30,12 @@ pub enum Kind {
 }
 
 impl Kind {
-    /// The kind that a type byte stands for, or None where it stands for none.
+    /// Returns the kind with this type byte, or `None` if no kind has it.
     #[inline(always)]
     pub fn from_byte(byte: u8) -> Option<Kind>
         ensures { result ≡ kind_of byte }
     {
-        // The kinds of the low bytes come out of a table, where no other byte is among them.
+        // Told apart first, so that the `match` on the low bytes becomes a table.
         if byte > 0x13 {
             return match byte {
                 0xff => Some(Kind::MinKey),
@@ -66,7 +66,8 @@ impl Kind {
             _ => None,
         }
     }
-    /// The type byte of the kind.
+
+    /// Returns the type byte of the kind.
     pub fn byte(self) -> u8
         ensures { result ≡ byte_of self }
     {

@@ -1,5 +1,5 @@
-//! The laws that make the definitions of trees, spellings and faults trustworthy. The contract of each function is the
-//! law; the function does nothing.
+//! Laws of the definitions of trees, spellings, elements and faults. Each law is the contract of a function that does
+//! nothing.
 
 ghost use Rattle.std.specs.Prelude.{◌≡◌, ◌++◌, [], ℕ, List, Ok};
 ghost use Rattle.bson_elem.specs.declared.fault.BsonFault.{BsonFault};
@@ -9,40 +9,40 @@ ghost use Rattle.bson_elem.specs.Checks.{ElementRead, element_at};
 ghost use Rattle.bson_elem.specs.Elements.{element_bytes, IsElement};
 ghost use Rattle.bson_elem.specs.Faults.{FrontFault};
 
-/// A byte list spells at most one tree.
+/// States that bytes spell at most one tree.
 pub fn one_tree()
     ensures { (t u : Tree) (bytes : List ℕ) → Spells t bytes → Spells u bytes → t ≡ u }
 {}
 
-/// A tree has at most one spelling.
+/// States that a tree has at most one spelling.
 pub fn one_spelling()
     ensures { (t : Tree) (a b : List ℕ) → Spells t a → Spells t b → a ≡ b }
 {}
 
-/// No spelling begins another one.
+/// States that no spelling is a proper beginning of another.
 pub fn no_spelling_begins_another()
     ensures { (t u : Tree) (a rest : List ℕ) → Spells t a → Spells u (a ++ rest) → rest ≡ [] }
 {}
 
-/// At most one fault belongs to a byte list.
+/// States that bytes have at most one fault.
 pub fn one_fault()
     ensures { (bytes : List ℕ) (f g : BsonFault) → IsBytes bytes
         → FrontFault bytes f → FrontFault bytes g → f ≡ g }
 {}
 
-/// There is no fault where a tree is spelled at the front.
+/// States that bytes that begin with the spelling of a tree have no fault.
 pub fn no_fault_before_a_tree()
     ensures { (t : Tree) (a rest : List ℕ) (f : BsonFault) → IsBytes (a ++ rest)
         → Spells t a → FrontFault (a ++ rest) f → ⊥ }
 {}
 
-/// What is read as an element was spelled so, and is one that has a spelling.
+/// States that an element that is read has a spelling, and that the bytes begin with it.
 pub fn element_read_was_spelled()
     ensures { (depth s p : ℕ) (bytes : List ℕ) (e : ElementRead) → IsBytes bytes → element_at depth s p bytes ≡ Ok e
         → (bytes ≡ element_bytes e ++ e.rest) × IsElement depth p e }
 {}
 
-/// What is spelled as an element is read as that one, whatever follows it.
+/// States that the spelling of an element is read as that element, whatever follows it.
 pub fn element_spelled_is_read()
     ensures { (depth s p : ℕ) (e : ElementRead) → IsElement depth p e
         → element_at depth s p (element_bytes e ++ e.rest) ≡ Ok e }

@@ -1,4 +1,4 @@
-//! The values that hold no document.
+//! Reading values that hold no document.
 
 ghost use Rattle.std.specs.Prelude.{◌≡◌, ℕ, List, IfOk};
 ghost use Rattle.bson_elem.specs.Kinds.{form_of, boolean_form, binary_form, pointer_form, regex_form};
@@ -13,7 +13,7 @@ use crate::kind::Kind;
 use crate::number::{little_u32, read_bytes, read_i32, read_i64, read_length, read_u32};
 use crate::text::{read_cstring, read_string};
 
-/// Reads a boolean: one byte, 00 or 01.
+/// Reads a boolean, and returns it and the bytes after it.
 #[tactic(auto, unfolding(crate::specs::Checks::leaf_at, crate::specs::Checks::boolean_at))]
 #[inline(always)]
 pub(crate) fn read_boolean(bytes: &[u8]) -> Result<(bool, &[u8]), BsonCause>
@@ -27,7 +27,7 @@ pub(crate) fn read_boolean(bytes: &[u8]) -> Result<(bool, &[u8]), BsonCause>
     }
 }
 
-/// Returns the data of a binary of this subtype: `bytes`, but for subtype 02, in which they begin with their own count.
+/// Returns the data of a binary of this `subtype`: `bytes`, or for subtype 02 the bytes after their inner count.
 #[tactic(auto, unfolding(crate::specs::Checks::binary_of))]
 #[inline(always)]
 fn binary_data(subtype: u8, bytes: &[u8]) -> Result<&[u8], BsonCause>
@@ -46,7 +46,7 @@ fn binary_data(subtype: u8, bytes: &[u8]) -> Result<&[u8], BsonCause>
     Ok(&bytes[4..])
 }
 
-/// Reads a binary, and returns its subtype, its data and what follows it.
+/// Reads a binary, and returns its subtype, its data and the bytes after it.
 #[tactic(auto, unfolding(crate::specs::Checks::leaf_at))]
 #[inline(always)]
 pub(crate) fn read_binary(bytes: &[u8]) -> Result<(u8, &[u8], &[u8]), BsonCause>
@@ -63,7 +63,7 @@ pub(crate) fn read_binary(bytes: &[u8]) -> Result<(u8, &[u8], &[u8]), BsonCause>
     }
 }
 
-/// Reads a regular expression, and returns its pattern, its options and what follows it.
+/// Reads a regular expression, and returns its pattern, its options and the bytes after it.
 #[tactic(auto, unfolding(crate::specs::Checks::leaf_at))]
 #[inline(always)]
 pub(crate) fn read_regex(bytes: &[u8]) -> Result<(&str, &str, &[u8]), BsonCause>
@@ -74,7 +74,7 @@ pub(crate) fn read_regex(bytes: &[u8]) -> Result<(&str, &str, &[u8]), BsonCause>
     Ok((pattern, options, rest))
 }
 
-/// Reads a DBPointer, and returns its namespace, its ObjectId and what follows it.
+/// Reads a DBPointer, and returns its namespace, the bytes of its ObjectId and the bytes after it.
 #[tactic(auto, unfolding(crate::specs::Checks::leaf_at))]
 #[inline(always)]
 pub(crate) fn read_pointer(bytes: &[u8]) -> Result<(&str, [u8; 12], &[u8]), BsonCause>
@@ -85,7 +85,7 @@ pub(crate) fn read_pointer(bytes: &[u8]) -> Result<(&str, [u8; 12], &[u8]), Bson
     Ok((namespace, id, rest))
 }
 
-/// The value of a kind that holds no document.
+/// Reads a value of a `kind` that holds no document, and returns it and the bytes after it.
 #[tactic(auto, unfolding(crate::specs::Checks::leaf_at))]
 #[inline(always)]
 pub(crate) fn read_leaf(kind: Kind, bytes: &[u8]) -> Result<(Item<'_>, &[u8]), BsonCause>

@@ -1,5 +1,5 @@
-//! Numbers, the lowest byte first, and runs of so many bytes (bsonspec.org, version 1.1: `int32`, `int64`). Each is
-//! read from the front of some bytes, and given with what follows.
+//! Reading numbers, the lowest byte first, and a fixed number of bytes (bsonspec.org, version 1.1: `int32`, `int64`).
+//! Each function reads the front of `bytes`, and returns what it read and the bytes after it.
 
 ghost use Rattle.std.specs.Prelude.{◌≡◌, ◌+◌, ◌≤◌, length, take, IfOk};
 ghost use Rattle.std.specs.Int.{w32, w64, from_le_bytes};
@@ -11,7 +11,7 @@ ghost use Rattle.bson_elem.specs.Results.{Gives};
 use crate::fault::BsonCause;
 use byteorder::{ByteOrder, LittleEndian};
 
-/// The number that the first four bytes are.
+/// Returns the first four bytes as a number.
 #[inline(always)]
 pub fn little_u32(bytes: &[u8]) -> u32
     requires { 4 ≤ length bytes.now }
@@ -20,7 +20,7 @@ pub fn little_u32(bytes: &[u8]) -> u32
     LittleEndian::read_u32(bytes)
 }
 
-/// An unsigned number of four bytes.
+/// Reads an unsigned number of four bytes.
 #[inline(always)]
 pub(crate) fn read_u32(bytes: &[u8]) -> Result<(u32, &[u8]), BsonCause>
     ensures { Gives (λ x. (x.0, x.1.now)) result (little_at bytes.now) }
@@ -31,7 +31,7 @@ pub(crate) fn read_u32(bytes: &[u8]) -> Result<(u32, &[u8]), BsonCause>
     Ok((little_u32(bytes), &bytes[4..]))
 }
 
-/// A count that is not negative, and at least so much.
+/// Reads a length: a signed number of four bytes that is at least `least` and not negative.
 #[inline(always)]
 pub(crate) fn read_length(least: u32, bytes: &[u8]) -> Result<(usize, &[u8]), BsonCause>
     ensures read { Gives (λ x. (x.0, x.1.now)) result (length_at least bytes.now) }
@@ -44,7 +44,7 @@ pub(crate) fn read_length(least: u32, bytes: &[u8]) -> Result<(usize, &[u8]), Bs
     Ok((n as usize, rest))
 }
 
-/// A signed number of four bytes.
+/// Reads a signed number of four bytes.
 #[tactic(auto, unfolding(crate::specs::Checks::leaf_at))]
 #[inline(always)]
 pub(crate) fn read_i32(bytes: &[u8]) -> Result<(i32, &[u8]), BsonCause>
@@ -56,7 +56,7 @@ pub(crate) fn read_i32(bytes: &[u8]) -> Result<(i32, &[u8]), BsonCause>
     Ok((LittleEndian::read_i32(bytes), &bytes[4..]))
 }
 
-/// A signed number of eight bytes.
+/// Reads a signed number of eight bytes.
 #[tactic(auto, unfolding(crate::specs::Checks::leaf_at))]
 #[inline(always)]
 pub(crate) fn read_i64(bytes: &[u8]) -> Result<(i64, &[u8]), BsonCause>
@@ -68,7 +68,7 @@ pub(crate) fn read_i64(bytes: &[u8]) -> Result<(i64, &[u8]), BsonCause>
     Ok((LittleEndian::read_i64(bytes), &bytes[8..]))
 }
 
-/// So many bytes.
+/// Reads `N` bytes.
 #[inline(always)]
 pub(crate) fn read_bytes<const N: usize>(bytes: &[u8]) -> Result<([u8; N], &[u8]), BsonCause>
     ensures { Gives (λ x. (x.0, x.1.now)) result (bytes_at N bytes.now) }

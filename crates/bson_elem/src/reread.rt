@@ -1,5 +1,5 @@
-//! Elements of bytes that were checked before. It is known that each check of them succeeds, so there are no faults to
-//! tell, and no text is tested for UTF-8 again.
+//! Reading elements of bytes that were checked before. Every check is known to succeed, so nothing here returns a fault,
+//! and no text is tested for UTF-8 again.
 
 ghost use Rattle.std.specs.Prelude.{◌≡◌, ℕ, ◌+◌, ◌-◌, ◌<◌, ◌≤◌, ◌^◌, length, slice_range, IsOk};
 ghost use Rattle.bson_elem.specs.Checks.{cstring_at, element_at, scope_at, string_at, text_at, value_at};
@@ -13,7 +13,7 @@ use crate::kind::Kind;
 use crate::number::{read_bytes, read_length};
 use crate::text::{known_text, zero_of};
 
-/// A text of so many bytes and a 0.
+/// Reads a text of `n` bytes and the 00 after it.
 #[inline(always)]
 fn reread_text(n: usize, bytes: &[u8]) -> (&str, &[u8])
     requires inside { n < length bytes.now }
@@ -24,7 +24,7 @@ fn reread_text(n: usize, bytes: &[u8]) -> (&str, &[u8])
     (known_text(&bytes[..n]), &bytes[n + 1..])
 }
 
-/// A string: a length, a text and a 0.
+/// Reads a string: a length, a text and a 00.
 #[tactic(auto, unfolding(crate::specs::Checks::string_at))]
 #[inline(always)]
 fn reread_string(bytes: &[u8]) -> (&str, &[u8])
@@ -35,7 +35,7 @@ fn reread_string(bytes: &[u8]) -> (&str, &[u8])
     reread_text(n - 1, rest)
 }
 
-/// A name: a text with no 0 in it, and a 0.
+/// Reads a cstring: a text without 00, and a 00.
 #[tactic(auto, using(crate::proofs::NameLaws::names))]
 #[inline(always)]
 fn reread_cstring(bytes: &[u8]) -> (&str, &[u8])
@@ -47,29 +47,29 @@ fn reread_cstring(bytes: &[u8]) -> (&str, &[u8])
     (known_text(&bytes[..n]), &bytes[n + 1..])
 }
 
-/// A code and its scope. They begin at `q`, in the element at `p`.
+/// Reads a code with its scope. The value begins at offset `from`, in the element at offset `at`.
 #[tactic(auto, unfolding(crate::specs::Checks::scope_at))]
-fn reread_scope(p: usize, q: usize, bytes: &[u8]) -> (Item<'_>, &[u8])
-    requires room { q + length bytes.now < 2 ^ 64 }
-    requires checked { IsOk (scope_at p q bytes.now) }
-    ensures read { scope_at p q bytes.now ≡ Ok (item_value (q + length bytes.now - length result.1.now) result.0, result.1.now) }
+fn reread_scope(at: usize, from: usize, bytes: &[u8]) -> (Item<'_>, &[u8])
+    requires room { from + length bytes.now < 2 ^ 64 }
+    requires checked { IsOk (scope_at at from bytes.now) }
+    ensures read { scope_at at from bytes.now ≡ Ok (item_value (from + length bytes.now - length result.1.now) result.0, result.1.now) }
     ensures kind { item_kind result.0 ≡ Kind.CodeWithScope }
     ensures lent { LendsFramed result.0 }
 {
     let (_, rest) = read_length(14, bytes).unwrap();
     let (n, rest) = read_length(1, rest).unwrap();
     let (code, rest) = reread_text(n - 1, rest);
-    let (scope, rest) = read_document(p, q + 8 + n, rest).unwrap();
+    let (scope, rest) = read_document(at, from + 8 + n, rest).unwrap();
     (Item::CodeWithScope { code, scope }, rest)
 }
 
-/// As `reread_value`, for the kinds that are rare.
+/// Reads a value like `reread_value`, of the kinds that are rare.
 #[tactic(auto, unfolding(crate::specs::Checks::value_at, crate::specs::Checks::leaf_at))]
 #[inline(never)]
-fn reread_rare(p: usize, q: usize, kind: Kind, bytes: &[u8]) -> (Item<'_>, &[u8])
-    requires room { q + length bytes.now < 2 ^ 64 }
-    requires checked { IsOk (value_at 1 p q (form_of kind) bytes.now) }
-    ensures read { value_at 1 p q (form_of kind) bytes.now ≡ Ok (item_value (q + length bytes.now - length result.1.now) result.0, result.1.now) }
+fn reread_rare(at: usize, from: usize, kind: Kind, bytes: &[u8]) -> (Item<'_>, &[u8])
+    requires room { from + length bytes.now < 2 ^ 64 }
+    requires checked { IsOk (value_at 1 at from (form_of kind) bytes.now) }
+    ensures read { value_at 1 at from (form_of kind) bytes.now ≡ Ok (item_value (from + length bytes.now - length result.1.now) result.0, result.1.now) }
     ensures kind { item_kind result.0 ≡ kind }
     ensures lent { LendsFramed result.0 }
 {
@@ -92,43 +92,44 @@ fn reread_rare(p: usize, q: usize, kind: Kind, bytes: &[u8]) -> (Item<'_>, &[u8]
             let (id, rest) = read_bytes::<12>(rest).unwrap();
             (Item::DbPointer { namespace, id }, rest)
         }
-        Kind::CodeWithScope => reread_scope(p, q, bytes),
-        _ => read_value(1, p, q, kind, bytes).unwrap(),
+        Kind::CodeWithScope => reread_scope(at, from, bytes),
+        _ => read_value(1, at, from, kind, bytes).unwrap(),
     }
 }
 
-/// The value of a kind, and what follows it. It begins at `q`, in the element at `p`.
+/// Reads a value of this `kind`, and returns it and the bytes after it. The value begins at offset `from`, in the element
+/// at offset `at`.
 #[tactic(auto, unfolding(crate::specs::Checks::value_at, crate::specs::Checks::leaf_at))]
 #[inline(always)]
-fn reread_value(p: usize, q: usize, kind: Kind, bytes: &[u8]) -> (Item<'_>, &[u8])
-    requires room { q + length bytes.now < 2 ^ 64 }
-    requires checked { IsOk (value_at 1 p q (form_of kind) bytes.now) }
-    ensures read { value_at 1 p q (form_of kind) bytes.now ≡ Ok (item_value (q + length bytes.now - length result.1.now) result.0, result.1.now) }
+fn reread_value(at: usize, from: usize, kind: Kind, bytes: &[u8]) -> (Item<'_>, &[u8])
+    requires room { from + length bytes.now < 2 ^ 64 }
+    requires checked { IsOk (value_at 1 at from (form_of kind) bytes.now) }
+    ensures read { value_at 1 at from (form_of kind) bytes.now ≡ Ok (item_value (from + length bytes.now - length result.1.now) result.0, result.1.now) }
     ensures kind { item_kind result.0 ≡ kind }
     ensures lent { LendsFramed result.0 }
 {
-    // Each kind is named, so that one jump tells the kinds apart, and not one in each callee.
+    // Each kind is named, so that one jump tells the kinds apart, rather than one more in each callee.
     match kind {
         Kind::String => {
             let (value, rest) = reread_string(bytes);
             (Item::String(value), rest)
         }
-        Kind::Double => read_value(1, p, q, Kind::Double, bytes).unwrap(),
-        Kind::Document => read_value(1, p, q, Kind::Document, bytes).unwrap(),
-        Kind::Array => read_value(1, p, q, Kind::Array, bytes).unwrap(),
-        Kind::Binary => read_value(1, p, q, Kind::Binary, bytes).unwrap(),
-        Kind::ObjectId => read_value(1, p, q, Kind::ObjectId, bytes).unwrap(),
-        Kind::Boolean => read_value(1, p, q, Kind::Boolean, bytes).unwrap(),
-        Kind::DateTime => read_value(1, p, q, Kind::DateTime, bytes).unwrap(),
-        Kind::Null => read_value(1, p, q, Kind::Null, bytes).unwrap(),
-        Kind::Int32 => read_value(1, p, q, Kind::Int32, bytes).unwrap(),
-        Kind::Int64 => read_value(1, p, q, Kind::Int64, bytes).unwrap(),
-        _ => reread_rare(p, q, kind, bytes),
+        Kind::Double => read_value(1, at, from, Kind::Double, bytes).unwrap(),
+        Kind::Document => read_value(1, at, from, Kind::Document, bytes).unwrap(),
+        Kind::Array => read_value(1, at, from, Kind::Array, bytes).unwrap(),
+        Kind::Binary => read_value(1, at, from, Kind::Binary, bytes).unwrap(),
+        Kind::ObjectId => read_value(1, at, from, Kind::ObjectId, bytes).unwrap(),
+        Kind::Boolean => read_value(1, at, from, Kind::Boolean, bytes).unwrap(),
+        Kind::DateTime => read_value(1, at, from, Kind::DateTime, bytes).unwrap(),
+        Kind::Null => read_value(1, at, from, Kind::Null, bytes).unwrap(),
+        Kind::Int32 => read_value(1, at, from, Kind::Int32, bytes).unwrap(),
+        Kind::Int64 => read_value(1, at, from, Kind::Int64, bytes).unwrap(),
+        _ => reread_rare(at, from, kind, bytes),
     }
 }
 
-/// The element at the front of what is left of a document that no other holds, and what follows it. Its type byte stands
-/// at `at`.
+/// Reads the element at the front of `room`, and returns its name, its value and the bytes after it. `room` is what is
+/// left, from offset `at` on, of a document that no other holds.
 #[tactic(auto, unfolding(crate::specs::Checks::element_at))]
 #[inline(always)]
 fn reread_in(room: &[u8], at: usize) -> (&str, Item<'_>, &[u8])
@@ -146,8 +147,8 @@ fn reread_in(room: &[u8], at: usize) -> (&str, Item<'_>, &[u8])
     (name, value, rest)
 }
 
-/// The element whose type byte stands at `at`, as `read_element` gives it, where that is known to succeed: in a document
-/// that no other holds, and whose closing byte stands at `end`.
+/// Reads the element at offset `at` of `bytes`, for which `read_element` is known to succeed, and returns the same. The
+/// element is one of a document that no other holds, and whose last byte is at offset `end`.
 #[inline(always)]
 pub fn reread_element(bytes: &[u8], at: usize, end: usize) -> Element<'_>
     requires inside { at < end }

@@ -1,5 +1,5 @@
-//! Texts: strings and names (bsonspec.org, version 1.1: `string`, `cstring`). Each is read from the front of some
-//! bytes, and given with what follows.
+//! Reading texts (bsonspec.org, version 1.1: `string`, `cstring`). Each `read_` function reads the front of `bytes`, and
+//! returns the text and the bytes after it.
 
 ghost use Rattle.std.specs.Prelude.{◌≡◌, ◌+◌, ◌<◌, Some, length, take, IfOk, IfSome, MatchOption, position, true, false};
 ghost use Rattle.std.specs.Str.{is_utf8};
@@ -10,10 +10,10 @@ use crate::fault::BsonCause;
 use crate::number::read_length;
 use std::simd::prelude::*;
 
-/// A text of fewer bytes is tested for ASCII first.
+/// A text shorter than this is tested for ASCII first.
 const SHORT_TEXT: usize = 64;
 
-/// The bytes as a text, where it is known that they are one.
+/// Returns `bytes`, which are known to be UTF-8, as a text.
 #[inline(always)]
 pub(crate) fn known_text(bytes: &[u8]) -> &str
     requires { is_utf8 bytes.now ≡ true }
@@ -23,7 +23,7 @@ pub(crate) fn known_text(bytes: &[u8]) -> &str
     unsafe { std::str::from_utf8_unchecked(bytes) }
 }
 
-/// The bytes as a text, if they are one.
+/// Returns `bytes` as a text, or `None` if they aren't UTF-8.
 fn text_of(bytes: &[u8]) -> Option<&str>
     ensures { MatchOption result (is_utf8 bytes.now ≡ false) (λ s. (s.now ≡ bytes.now) × (is_utf8 bytes.now ≡ true)) }
 {
@@ -36,7 +36,7 @@ fn text_of(bytes: &[u8]) -> Option<&str>
     }
 }
 
-/// A text of so many bytes and a 0.
+/// Reads a text of `n` bytes and the 00 after it.
 #[inline(always)]
 pub(crate) fn read_text(n: usize, bytes: &[u8]) -> Result<(&str, &[u8]), BsonCause>
     requires { n < length bytes.now }
@@ -52,7 +52,13 @@ pub(crate) fn read_text(n: usize, bytes: &[u8]) -> Result<(&str, &[u8]), BsonCau
     Ok((text, &bytes[n + 1..]))
 }
 
-/// A string: a length, a text and a 0.
+/// Reads a string: a length, a text and a 00.
+///
+/// # Errors
+///
+/// - `Truncated` if `bytes` has fewer than 4 bytes, or fewer after them than the length.
+/// - `Length` if the length is below 1 or not below 2 ^ 31.
+/// - `Text` if the text isn't UTF-8, and then `TextEnd` if the byte after it isn't 00.
 #[tactic(auto, unfolding(crate::specs::Checks::string_at))]
 #[inline(always)]
 pub fn read_string(bytes: &[u8]) -> Result<(&str, &[u8]), BsonCause>
@@ -65,13 +71,13 @@ pub fn read_string(bytes: &[u8]) -> Result<(&str, &[u8]), BsonCause>
     read_text(n - 1, rest)
 }
 
-/// As `near_zero`, by one look at 16 bytes.
+/// Looks for the first 00 like `near_zero`, in the first 16 bytes at once.
 #[inline(always)]
 fn near_zero_wide(bytes: &[u8]) -> Option<usize>
     requires { 16 < length bytes.now }
     ensures { IfSome result (λ n. (position is_zero bytes.now ≡ Some n) × (is_utf8 (take n bytes.now) ≡ true)) }
 {
-    // One less, with 0 becoming 255, is 127 or more just for a 0 and for what is outside ASCII.
+    // A byte less one, with 0 becoming 255, is 127 or more just for 00 and for bytes outside ASCII.
     let stops = (u8x16::from_slice(bytes) - u8x16::splat(1))
         .simd_ge(u8x16::splat(0x7f))
         .to_bitmask();
@@ -82,7 +88,7 @@ fn near_zero_wide(bytes: &[u8]) -> Option<usize>
     if bytes[n] == 0 { Some(n) } else { None }
 }
 
-/// Where the first 0 stands, if it stands near and there is only ASCII before it.
+/// Returns the offset of the first 00, if it is near and only ASCII is before it.
 #[inline(always)]
 fn near_zero(bytes: &[u8]) -> Option<usize>
     ensures { IfSome result (λ n. (position is_zero bytes.now ≡ Some n) × (is_utf8 (take n bytes.now) ≡ true)) }
@@ -102,14 +108,14 @@ fn near_zero(bytes: &[u8]) -> Option<usize>
     None
 }
 
-/// Where the first 0 stands, which may be far off.
+/// Returns the offset of the first 00, which may be far off.
 fn far_zero(bytes: &[u8]) -> Option<usize>
     ensures { result ≡ position is_zero bytes.now }
 {
     memchr::memchr(0, bytes)
 }
 
-/// Where the first 0 stands.
+/// Returns the offset of the first 00.
 #[inline(always)]
 pub(crate) fn zero_of(bytes: &[u8]) -> Option<usize>
     ensures { result ≡ position is_zero bytes.now }
@@ -120,7 +126,7 @@ pub(crate) fn zero_of(bytes: &[u8]) -> Option<usize>
     }
 }
 
-/// As `read_cstring`, where the 0 may stand far off.
+/// Reads a cstring like `read_cstring`, whose 00 may be far off.
 #[tactic(auto, using(crate::proofs::NameLaws::names))]
 #[inline(never)]
 fn read_any_cstring(bytes: &[u8]) -> Result<(&str, &[u8]), BsonCause>
@@ -136,7 +142,12 @@ fn read_any_cstring(bytes: &[u8]) -> Result<(&str, &[u8]), BsonCause>
     }
 }
 
-/// A name: a text with no 0 in it, and a 0.
+/// Reads a cstring: a text without 00, and a 00.
+///
+/// # Errors
+///
+/// - `Truncated` if no byte is 00.
+/// - `Name` if the bytes before the first 00 aren't UTF-8.
 #[tactic(auto, using(crate::proofs::NameLaws::names))]
 #[inline(always)]
 pub fn read_cstring(bytes: &[u8]) -> Result<(&str, &[u8]), BsonCause>
