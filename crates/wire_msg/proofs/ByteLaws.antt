@@ -10,6 +10,7 @@ use Rattle.bson_elem.specs.Tree.{Leaf, raw_value, boolean_value, number_value, t
 use Rattle.bson_elem.specs.Spelling.{IsBytes, little, cstring, string, document, binary, leaf_bytes, inner_bytes, elements, IsName, IsOfForm, StandsIn, Fits, Spells}
 use Rattle.wire_msg.specs.Message.{Sequence, Message, AreDocuments, documents_bytes, sequence_size, IsSequence, AreSequences}
 use Rattle.wire_msg.specs.Spelling.{body_section, sequence_section, sequences_bytes, header_bytes, message_bytes, SpellsMsg}
+use Rattle.wire_msg.specs.Split.{AreSpelled}
 use Rattle.wire_msg.proofs.MsgAnswers.{AreSequences-split}
 
 -- ---- lists of bytes
@@ -188,3 +189,8 @@ msg_are_bytes m bytes s =
     let fits = AreSequences-split s.before s.after (subst AreSequences s.in_order s.content.sequences) in
     let behind : List ℕ = body_section m.content.body ++ sequences_bytes s.after in
     subst IsBytes (sym s.parts) (framed_are m s.word (sequences_bytes s.before ++ behind) (bytes_append (sequences_bytes s.before) behind (sequences_are s.before fits.0) (bytes_append (body_section m.content.body) (sequences_bytes s.after) (body_is m.content.body s.content.body) (sequences_are s.after fits.1))))
+
+-- the bytes of messages joined are bytes
+pub joined_are_bytes : (limit : ℕ) (messages : List Message) (bytes : List ℕ) → AreSpelled limit messages bytes → IsBytes bytes
+joined_are_bytes limit [] bytes a = subst IsBytes (sym a) none
+joined_are_bytes limit (m ∷ ms) bytes a = subst IsBytes (sym a.5) (bytes_append a.0 a.1 (msg_are_bytes m a.0 a.2) (joined_are_bytes limit ms a.1 a.4))

@@ -7,7 +7,7 @@ use Rattle.wire_msg.specs.Message.{Message}
 use Rattle.wire_msg.specs.Spelling.{SpellsMsg, IsMessage}
 use Rattle.wire_msg.specs.Standing.{IsOpen, IsWhole, IsBad}
 use Rattle.wire_msg.specs.Split.{AreSpelled, Split}
-use Rattle.wire_msg.proofs.StandingLaws.{least_length, one_front, open_not_whole, bad_not_whole}
+use Rattle.wire_msg.proofs.StandingLaws.{bad_longer, least_length, one_front, open_not_whole, bad_not_whole}
 use Rattle.wire_msg.proofs.FrontLaws.{IsBytes-front}
 
 abbrev NoneBegins : ℕ → List ℕ → Type 0
@@ -74,6 +74,24 @@ messages_first limit front after rest messages others a s = record {
   spelled = spelled-append limit messages others front s.joined a s.spelled;
   parts = ap (λ (x : List ℕ). front ++ x) s.parts ∙ sym (append_assoc front s.joined rest);
   none_begins = s.none_begins;
+}
+
+-- bytes that come after a split are split behind its messages
+pub goes_on : (limit : ℕ) (bytes more rest after : List ℕ) (messages others : List Message) → Split limit bytes messages rest → Split limit (rest ++ more) others after → Split limit (bytes ++ more) (messages ++ others) after
+goes_on limit bytes more rest after messages others s t = record {
+  joined = s.joined ++ t.joined;
+  spelled = spelled-append limit messages others s.joined t.joined s.spelled t.spelled;
+  parts = ap (λ (x : List ℕ). x ++ more) s.parts ∙ append_assoc s.joined rest more ∙ ap (λ (x : List ℕ). s.joined ++ x) t.parts ∙ sym (append_assoc s.joined t.joined after);
+  none_begins = t.none_begins;
+}
+
+-- bytes that come after a bad rest belong to it
+pub bad_goes_on : (limit : ℕ) (bytes more rest : List ℕ) (messages : List Message) (f : MsgFault) → IsBytes (rest ++ more) → Split limit bytes messages rest → IsBad limit rest f → Split limit (bytes ++ more) messages (rest ++ more)
+bad_goes_on limit bytes more rest messages f fits s bad = record {
+  joined = s.joined;
+  spelled = s.spelled;
+  parts = ap (λ (x : List ℕ). x ++ more) s.parts ∙ append_assoc s.joined rest more;
+  none_begins = λ m after w. bad_not_whole limit (rest ++ more) after m f fits (bad_longer limit rest more f bad) w;
 }
 
 -- ---- the walk that finds it

@@ -130,9 +130,11 @@ pub fn spelled_length()
         → length bytes ≡ message_len m.content }
 {}
 
-/// The bytes of a message are numbers below 256.
+/// The bytes of a message, and of messages joined, are numbers below 256.
 pub fn spelled_bytes_are_bytes()
-    ensures { (m : Message) (bytes : List ℕ) → SpellsMsg m bytes → IsBytes bytes }
+    ensures one { (m : Message) (bytes : List ℕ) → SpellsMsg m bytes → IsBytes bytes }
+    ensures joined { (limit : ℕ) (messages : List Message) (bytes : List ℕ)
+        → AreSpelled limit messages bytes → IsBytes bytes }
 {}
 
 /// A payload carries one content, lent or owned.
@@ -157,6 +159,15 @@ pub fn beginning_of_open_is_open()
 pub fn beginning_of_a_message_is_open()
     ensures { (limit : ℕ) (m : Message) (front rest : List ℕ) → SpellsMsg m (front ++ rest)
         → length (front ++ rest) ≤ limit → rest ≢ [] → IsOpen limit front }
+{}
+
+/// A message within the limit is spelled alone, and messages joined to others are spelled too.
+pub fn joined_are_spelled()
+    ensures one { (limit : ℕ) (m : Message) (bytes : List ℕ) → SpellsMsg m bytes
+        → length bytes ≤ limit → AreSpelled limit (m ∷ []) bytes }
+    ensures more { (limit : ℕ) (messages others : List Message) (front after : List ℕ)
+        → AreSpelled limit messages front → AreSpelled limit others after
+        → AreSpelled limit (messages ++ others) (front ++ after) }
 {}
 
 /// Bytes are split into messages and a rest in one way at most.
@@ -192,6 +203,20 @@ pub fn split_after_messages()
     ensures { (limit : ℕ) (joined after rest : List ℕ) (messages others : List Message)
         → AreSpelled limit messages joined → Split limit after others rest
         → Split limit (joined ++ after) (messages ++ others) rest }
+{}
+
+/// Bytes that come after split bytes are split with the rest of those.
+pub fn split_goes_on()
+    ensures { (limit : ℕ) (bytes more rest after : List ℕ) (messages others : List Message)
+        → Split limit bytes messages rest → Split limit (rest ++ more) others after
+        → Split limit (bytes ++ more) (messages ++ others) after }
+{}
+
+/// Bytes that come after a bad rest belong to it.
+pub fn split_stays_bad()
+    ensures { (limit : ℕ) (bytes more rest : List ℕ) (messages : List Message) (f : MsgFault)
+        → IsBytes (rest ++ more) → Split limit bytes messages rest → IsBad limit rest f
+        → Split limit (bytes ++ more) messages (rest ++ more) }
 {}
 
 /// Bytes are open, have a message in front, or are bad. Reads `bytes` to find out which.
