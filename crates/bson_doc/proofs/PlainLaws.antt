@@ -6,7 +6,7 @@ use Rattle.bson_elem.specs.Tree.{Tree, no_pairs, leaf_pair, inner_pair}
 use Rattle.bson_elem.specs.Spelling.{Spells}
 use Rattle.bson_elem.proofs.FrontLaws.{same_front}
 use Rattle.std.proofs.lemmas.List.{append-nil}
-use Rattle.bson_raw.specs.Pairs.{names_of, value_at}
+use Rattle.bson_raw.specs.Pairs.{names_of, nth_value}
 use Rattle.bson_raw.specs.Naming.{is_array_kind, name_at}
 use Rattle.bson_doc.specs.Plain.{plain_from}
 use Rattle.bson_doc.specs.Values.{plain_value}
@@ -48,7 +48,7 @@ pub array_names : (t : Tree) (k : ℕ) → k < length (names_of t) → slice_get
 array_names t k lt = names-numbered 0 t k lt ∙ ap (λ (n : ℕ). Some (decimal n)) (let e : 0 + k ≡ k = omega arith in e)
 
 -- the values stay in their places
-pub values-kept : (in_array : Bool) (place : ℕ) (t : Tree) (k : ℕ) → value_at k (plain_from in_array place t) ≡ option_map plain_value (value_at k t)
+pub values-kept : (in_array : Bool) (place : ℕ) (t : Tree) (k : ℕ) → nth_value k (plain_from in_array place t) ≡ option_map plain_value (nth_value k t)
 values-kept in_array place no_pairs k = refl
 values-kept in_array place (leaf_pair name kind v ps) zero = refl
 values-kept in_array place (inner_pair name kind b inner ps) zero = refl

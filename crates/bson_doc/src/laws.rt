@@ -5,7 +5,7 @@ ghost use Rattle.std.specs.Prelude.{◌≡◌, ◌↔◌, ◌<◌, ◌^◌, ℕ,
 ghost use Rattle.std.specs.Fmt.{decimal};
 ghost use Rattle.bson_elem.specs.Tree.{Tree};
 ghost use Rattle.bson_elem.specs.Spelling.{Spells, document, elements};
-ghost use Rattle.bson_raw.specs.Pairs.{names_of, TreeValue, value_at};
+ghost use Rattle.bson_raw.specs.Pairs.{names_of, TreeValue, nth_value};
 ghost use Rattle.bson_doc.specs.Codes.{coded_pairs, coded_values};
 ghost use Rattle.bson_doc.specs.Document.{tree_of};
 ghost use Rattle.bson_doc.specs.Plain.{plain, numbered, canonical_len};
@@ -59,13 +59,13 @@ pub fn array_names_are_places()
 
 /// The values of a document keep their places, their kinds and what they hold, but for the names in arrays inside.
 pub fn plain_keeps_values()
-    ensures { (t : Tree) (k : ℕ) → value_at k (plain t) ≡ option_map plain_value (value_at k t) }
+    ensures { (t : Tree) (k : ℕ) → nth_value k (plain t) ≡ option_map plain_value (nth_value k t) }
 {}
 
 /// The values of an array keep them, too.
 pub fn numbered_keeps_values()
     ensures { (t : Tree) (k : ℕ)
-        → value_at k (numbered 0 t) ≡ option_map plain_value (value_at k t) }
+        → nth_value k (numbered 0 t) ≡ option_map plain_value (nth_value k t) }
 {}
 
 /// A document has a canonical form where that isn't longer than a document may be.

@@ -36,24 +36,24 @@ opens_of (opens p b body) q is =
 -- ---- a pair
 
 -- a pair whose value is a leaf
-leaf_is_pair : (depth s at : ℕ) (room : List ℕ) (e : ElementRead) (in_array before canonical : Bool) (place : ℕ) → IsBytes room → element_at depth s at room ≡ Ok e → IsLeaf e.value → canonical ≡ (before && is_named in_array place e.name) → IsPair depth in_array place room (length room - length e.rest) e.rest before canonical
-leaf_is_pair depth s at room e in_array before canonical place fits read is name_is =
+leaf_is_pair : (depth s at : ℕ) (room : List ℕ) (e : ElementRead) (in_array before canonical : Bool) (index : ℕ) → IsBytes room → element_at depth s at room ≡ Ok e → IsLeaf e.value → canonical ≡ (before && is_named in_array index e.name) → IsPair depth in_array index room (length room - length e.rest) e.rest before canonical
+leaf_is_pair depth s at room e in_array before canonical index fits read is name_is =
     let t = element_takes depth s at room e fits read in
     let pair : Tree = leaf_pair e.name e.kind is.0 no_pairs in
     let text_is : element_bytes e ++ [] ≡ elements pair = ap (λ (p : Value). (byte_of e.kind ∷ (cstring e.name ++ value_bytes (form_of e.kind) p)) ++ []) is.1 in
     let fits' : ValueFits depth (form_of e.kind) (a_leaf is.0) = subst (ValueFits depth (form_of e.kind)) is.1 t.1.part in
     let parts : room ≡ elements pair ++ e.rest = t.0.parts ∙ ap (λ (x : List ℕ). x ++ e.rest) (sym (append-nil (element_bytes e)) ∙ text_is) in
-    record { pair = pair; name = e.name; is_one = refl; fits = (t.1.name, fits', tt); parts = parts; size = omega (arith, ap length parts, length-append (elements pair) e.rest); named = is_plain-leaf before (is_named in_array place e.name) canonical name_is }
+    record { pair = pair; name = e.name; is_one = refl; fits = (t.1.name, fits', tt); parts = parts; size = omega (arith, ap length parts, length-append (elements pair) e.rest); named = is_plain-leaf before (is_named in_array index e.name) canonical name_is }
 
 -- a pair whose value holds a tree
-inner_is_pair : (depth s at : ℕ) (room : List ℕ) (e : ElementRead) (q : ℕ) (b : Beside) (body : List ℕ) (in_array before canonical within : Bool) (place : ℕ) → IsBytes room → element_at depth s at room ≡ Ok e → e.value ≡ opens q b body → canonical ≡ (before && is_named in_array place e.name) → IsTree (depth + 1) (is_array_kind e.kind) body within → IsPair depth in_array place room (length room - length e.rest) e.rest before (canonical && within)
-inner_is_pair depth s at room e q b body in_array before canonical within place fits read is name_is tree =
+inner_is_pair : (depth s at : ℕ) (room : List ℕ) (e : ElementRead) (q : ℕ) (b : Beside) (body : List ℕ) (in_array before canonical within : Bool) (index : ℕ) → IsBytes room → element_at depth s at room ≡ Ok e → e.value ≡ opens q b body → canonical ≡ (before && is_named in_array index e.name) → IsTree (depth + 1) (is_array_kind e.kind) body within → IsPair depth in_array index room (length room - length e.rest) e.rest before (canonical && within)
+inner_is_pair depth s at room e q b body in_array before canonical within index fits read is name_is tree =
     let t = element_takes depth s at room e fits read in
     let pair : Tree = inner_pair e.name e.kind b tree.0 no_pairs in
     let fits' : ValueFits depth (form_of e.kind) (opens q b (elements tree.0)) = subst (ValueFits depth (form_of e.kind)) (is ∙ ap (opens q b) tree.2) t.1.part in
     let text_is : element_bytes e ++ [] ≡ elements pair = ap (λ (p : Value). (byte_of e.kind ∷ (cstring e.name ++ value_bytes (form_of e.kind) p)) ++ []) (is ∙ ap (opens q b) tree.2) in
     let parts : room ≡ elements pair ++ e.rest = t.0.parts ∙ ap (λ (x : List ℕ). x ++ e.rest) (sym (append-nil (element_bytes e)) ∙ text_is) in
-    record { pair = pair; name = e.name; is_one = refl; fits = (t.1.name, fits'.0, fits'.1, fits'.2, tree.1, tt); parts = parts; size = omega (arith, ap length parts, length-append (elements pair) e.rest); named = is_plain-inner before (is_named in_array place e.name) (is_plain (is_array_kind e.kind) 0 tree.0) canonical within name_is tree.3 }
+    record { pair = pair; name = e.name; is_one = refl; fits = (t.1.name, fits'.0, fits'.1, fits'.2, tree.1, tt); parts = parts; size = omega (arith, ap length parts, length-append (elements pair) e.rest); named = is_plain-inner before (is_named in_array index e.name) (is_plain (is_array_kind e.kind) 0 tree.0) canonical within name_is tree.3 }
 
 -- ---- faults
 
@@ -147,14 +147,14 @@ stands_at bytes depth s at end e q b body fits lt whole read is =
 
 -- ---- an element that the code went over
 
--- What was read at the front of the bytes between two places: a type byte of this kind, and a name of which this was
+-- What was read at the front of the bytes between two offsets: a type byte of this kind, and a name of which this was
 -- told. The value begins in front of the bytes from.
-pub record IsHead (bytes : List ℕ) (at end : ℕ) (in_array : Bool) (place : ℕ) (named : Bool) (k : Kind) (from : List ℕ) : Type 0 where
+pub record IsHead (bytes : List ℕ) (at end : ℕ) (in_array : Bool) (index : ℕ) (named : Bool) (k : Kind) (from : List ℕ) : Type 0 where
   pub name : List ℕ
   pub some : get_or bytes at 0 ≢ 0
   pub kind_is : kind_of (get_or bytes at 0) ≡ Some k
   pub name_read : cstring_at (slice_range bytes (at + 1) end) ≡ Ok (name, from)
-  pub name_is : named ≡ is_named in_array place name
+  pub name_is : named ≡ is_named in_array index name
   pub value_is : end - length from ≡ at + length name + 2
 
 -- the type byte, and the bytes after it
@@ -166,31 +166,31 @@ room_is bytes at end lt whole =
 abbrev a_name : List ℕ × List ℕ → Read (List ℕ)
 a_name x = Ok x
 
-named_ok : (r : Read (List ℕ)) (in_array : Bool) (place : ℕ) (named : Bool) (from : List ℕ) → named_at in_array place r ≡ Ok (named, from) → (name : List ℕ) × (r ≡ Ok (name, from)) × (named ≡ is_named in_array place name)
-named_ok (Ok x) in_array place named from is =
-    let same = ok_is {E = BsonCause} (is_named in_array place x.0, x.1) (named, from) is in
+named_ok : (r : Read (List ℕ)) (in_array : Bool) (index : ℕ) (named : Bool) (from : List ℕ) → named_at in_array index r ≡ Ok (named, from) → (name : List ℕ) × (r ≡ Ok (name, from)) × (named ≡ is_named in_array index name)
+named_ok (Ok x) in_array index named from is =
+    let same = ok_is {E = BsonCause} (is_named in_array index x.0, x.1) (named, from) is in
     (x.0, ap (λ (t : List ℕ). a_name (x.0, t)) (ap (λ (y : Bool × List ℕ). y.1) same), sym (ap (λ (y : Bool × List ℕ). y.0) same))
-named_ok (Err c) in_array place named from is = absurd cc
+named_ok (Err c) in_array index named from is = absurd cc
 
-named_err : (r : Read (List ℕ)) (in_array : Bool) (place : ℕ) (c : BsonCause) → named_at in_array place r ≡ Err c → r ≡ Err c
-named_err (Ok x) in_array place c is = absurd cc
-named_err (Err d) in_array place c is =
+named_err : (r : Read (List ℕ)) (in_array : Bool) (index : ℕ) (c : BsonCause) → named_at in_array index r ≡ Err c → r ≡ Err c
+named_err (Ok x) in_array index c is = absurd cc
+named_err (Err d) in_array index c is =
     let same : d ≡ c = cc in
     ap Err same
 
 room_bytes : (bytes : List ℕ) (at end : ℕ) → IsBytes bytes → IsBytes (slice_range bytes at end)
 room_bytes bytes at end fits = IsBytes-take (end - at) (drop at bytes) (IsBytes-drop at bytes fits)
 
-pub is_head : (bytes : List ℕ) (at end : ℕ) (in_array : Bool) (place : ℕ) (named : Bool) (k : Kind) (from : List ℕ) → IsBytes bytes → at < end → end < length bytes
-    → get_or bytes at 0 ≢ 0 → kind_of (get_or bytes at 0) ≡ Some k → named_at in_array place (cstring_at (slice_range bytes (at + 1) end)) ≡ Ok (named, from) → IsHead bytes at end in_array place named k from
-is_head bytes at end in_array place named k from fits lt whole some kind is =
+pub is_head : (bytes : List ℕ) (at end : ℕ) (in_array : Bool) (index : ℕ) (named : Bool) (k : Kind) (from : List ℕ) → IsBytes bytes → at < end → end < length bytes
+    → get_or bytes at 0 ≢ 0 → kind_of (get_or bytes at 0) ≡ Some k → named_at in_array index (cstring_at (slice_range bytes (at + 1) end)) ≡ Ok (named, from) → IsHead bytes at end in_array index named k from
+is_head bytes at end in_array index named k from fits lt whole some kind is =
     let after : List ℕ = slice_range bytes (at + 1) end in
-    let n = named_ok (cstring_at after) in_array place named from is in
+    let n = named_ok (cstring_at after) in_array index named from is in
     let parts = (cstring_takes after (n.0, from) (room_bytes bytes (at + 1) end fits) n.1).0.parts in
     let size : end - length from ≡ at + length n.0 + 2 = omega (arith, ap length parts, length-append (cstring n.0) from, length-append n.0 (0 ∷ []), length-take (end - (at + 1)) (drop (at + 1) bytes), length-drop (at + 1) bytes, lt, whole) in
     record { name = n.0; some = some; kind_is = kind; name_read = n.1; name_is = n.2; value_is = size }
 
--- the element at the front of the bytes between two places, by its type byte
+-- the element at the front of the bytes between two offsets, by its type byte
 at_room : (bytes : List ℕ) (depth s at end : ℕ) (r : Result ElementRead BsonFault) → at < end → end < length bytes → element_at depth s at (get_or bytes at 0 ∷ slice_range bytes (at + 1) end) ≡ r → element_at depth s at (slice_range bytes at end) ≡ r
 at_room bytes depth s at end r lt whole is = ap (element_at depth s at) (room_is bytes at end lt whole) ∙ is
 
@@ -205,45 +205,45 @@ kind_failed bytes depth s at end lt whole some none =
     at_room bytes depth s at end (Err (fault at causes.Kind)) lt whole (kind_fault depth s at (get_or bytes at 0) (slice_range bytes (at + 1) end) some none)
 
 -- a name that cannot be read
-pub name_failed : (bytes : List ℕ) (depth s at end : ℕ) (in_array : Bool) (place : ℕ) (k : Kind) (c : BsonCause) → at < end → end < length bytes → get_or bytes at 0 ≢ 0 → kind_of (get_or bytes at 0) ≡ Some k
-    → named_at in_array place (cstring_at (slice_range bytes (at + 1) end)) ≡ Err c → element_at depth s at (slice_range bytes at end) ≡ Err (fault at c)
-name_failed bytes depth s at end in_array place k c lt whole some kind is =
-    at_room bytes depth s at end (Err (fault at c)) lt whole (name_fault depth s at (get_or bytes at 0) (slice_range bytes (at + 1) end) k c some kind (named_err (cstring_at (slice_range bytes (at + 1) end)) in_array place c is))
+pub name_failed : (bytes : List ℕ) (depth s at end : ℕ) (in_array : Bool) (index : ℕ) (k : Kind) (c : BsonCause) → at < end → end < length bytes → get_or bytes at 0 ≢ 0 → kind_of (get_or bytes at 0) ≡ Some k
+    → named_at in_array index (cstring_at (slice_range bytes (at + 1) end)) ≡ Err c → element_at depth s at (slice_range bytes at end) ≡ Err (fault at c)
+name_failed bytes depth s at end in_array index k c lt whole some kind is =
+    at_room bytes depth s at end (Err (fault at c)) lt whole (name_fault depth s at (get_or bytes at 0) (slice_range bytes (at + 1) end) k c some kind (named_err (cstring_at (slice_range bytes (at + 1) end)) in_array index c is))
 
 -- and a value
-pub value_failed : (bytes : List ℕ) (depth s at end : ℕ) (in_array : Bool) (place : ℕ) (named : Bool) (k : Kind) (from : List ℕ) (f : BsonFault) → at < end → end < length bytes → IsHead bytes at end in_array place named k from
+pub value_failed : (bytes : List ℕ) (depth s at end : ℕ) (in_array : Bool) (index : ℕ) (named : Bool) (k : Kind) (from : List ℕ) (f : BsonFault) → at < end → end < length bytes → IsHead bytes at end in_array index named k from
     → value_extent (value_at depth at (end - length from) (form_of k) from) ≡ Err f → element_at depth s at (slice_range bytes at end) ≡ Err f
-value_failed bytes depth s at end in_array place named k from f lt whole h is =
+value_failed bytes depth s at end in_array index named k from f lt whole h is =
     at_room bytes depth s at end (Err f) lt whole
     (value_fault depth s at (get_or bytes at 0) (slice_range bytes (at + 1) end) h.name from k f h.some h.kind_is h.name_read (ap (λ (q : ℕ). value_extent (value_at depth at q (form_of k) from)) (sym h.value_is) ∙ is))
 
--- The element between two places of the bytes, where the next one stands, and what was told of it: its kind, whether its
--- name is canonical, and the place of a document in its value.
-pub record IsPassed (bytes : List ℕ) (depth s at end : ℕ) (in_array : Bool) (place : ℕ) (named : Bool) (k : Kind) (document : Option ℕ) (next : ℕ) : Type 0 where
+-- The element between two offsets of the bytes, where the next one stands, and what was told of it: its kind, whether its
+-- name is canonical, and the offset of a document in its value.
+pub record IsPassed (bytes : List ℕ) (depth s at end : ℕ) (in_array : Bool) (index : ℕ) (named : Bool) (k : Kind) (document : Option ℕ) (next : ℕ) : Type 0 where
   pub element : ElementRead
   pub is_read : element_at depth s at (slice_range bytes at end) ≡ Ok element
-  pub name_is : named ≡ is_named in_array place element.name
+  pub name_is : named ≡ is_named in_array index element.name
   pub kind_is : element.kind ≡ k
   pub place_is : document_place element.value ≡ document
   pub rest_is : element.rest ≡ slice_range bytes next end
   pub low : at < next
   pub high : next ≤ end
 
-pub passed : (bytes : List ℕ) (depth s at end : ℕ) (in_array : Bool) (place : ℕ) (named : Bool) (k : Kind) (from : List ℕ) (document : Option ℕ) (rest : List ℕ) → IsBytes bytes → at < end → end < length bytes → IsHead bytes at end in_array place named k from
-    → value_extent (value_at depth at (end - length from) (form_of k) from) ≡ Ok (document, rest) → IsPassed bytes depth s at end in_array place named k document (end - length rest)
-passed bytes depth s at end in_array place named k from document rest fits lt whole h is =
+pub passed : (bytes : List ℕ) (depth s at end : ℕ) (in_array : Bool) (index : ℕ) (named : Bool) (k : Kind) (from : List ℕ) (document : Option ℕ) (rest : List ℕ) → IsBytes bytes → at < end → end < length bytes → IsHead bytes at end in_array index named k from
+    → value_extent (value_at depth at (end - length from) (form_of k) from) ≡ Ok (document, rest) → IsPassed bytes depth s at end in_array index named k document (end - length rest)
+passed bytes depth s at end in_array index named k from document rest fits lt whole h is =
     let x = skipped depth s at (get_or bytes at 0) (slice_range bytes (at + 1) end) h.name from k document rest h.some h.kind_is h.name_read (ap (λ (q : ℕ). value_extent (value_at depth at q (form_of k) from)) (sym h.value_is) ∙ is) in
     let read = at_room bytes depth s at end (Ok x.element) lt whole x.is_read in
     let after = rest_in bytes depth s at end x.element fits lt whole read in
     let size : length x.element.rest ≡ length rest = ap length x.rest_is in
-    record { element = x.element; is_read = read; name_is = h.name_is ∙ ap (is_named in_array place) (sym x.name_is); kind_is = x.kind_is; place_is = x.place; rest_is = after.1 ∙ ap (λ (n : ℕ). slice_range bytes (end - n) end) size; low = omega (arith, after.0, size); high = omega arith }
+    record { element = x.element; is_read = read; name_is = h.name_is ∙ ap (is_named in_array index) (sym x.name_is); kind_is = x.kind_is; place_is = x.place; rest_is = after.1 ∙ ap (λ (n : ℕ). slice_range bytes (end - n) end) size; low = omega (arith, after.0, size); high = omega arith }
 
 -- the document that the element holds
 abbrev pub Inside : (bytes : List ℕ) (depth at next q : ℕ) (e : ElementRead) → Type 0
 Inside bytes depth at next q e = (depth < 200) × (at < q) × (q + 5 ≤ next) × ((b : Beside) × (e.value ≡ opens q b (slice_range bytes (q + 4) (next - 1))))
 
-pub inside_of : (bytes : List ℕ) (depth s at end : ℕ) (in_array : Bool) (place : ℕ) (named : Bool) (k : Kind) (q next : ℕ) (is : IsPassed bytes depth s at end in_array place named k (Some q) next) → IsBytes bytes → at < end → end < length bytes → Inside bytes depth at next q is.element
-inside_of bytes depth s at end in_array place named k q next is fits lt whole =
+pub inside_of : (bytes : List ℕ) (depth s at end : ℕ) (in_array : Bool) (index : ℕ) (named : Bool) (k : Kind) (q next : ℕ) (is : IsPassed bytes depth s at end in_array index named k (Some q) next) → IsBytes bytes → at < end → end < length bytes → Inside bytes depth at next q is.element
+inside_of bytes depth s at end in_array index named k q next is fits lt whole =
     let e = is.element in
     let o = opens_of e.value q is.place_is in
     let st = stands_at bytes depth s at end e q o.0 o.1 fits lt whole is.is_read o.2 in
@@ -251,30 +251,30 @@ inside_of bytes depth s at end in_array place named k q next is fits lt whole =
     (st.0, st.1.low, omega (arith, st.1.high, n), (o.0, o.2 ∙ ap (opens q o.0) (st.1.body_is ∙ ap (λ (m : ℕ). slice_range bytes (q + 4) (m - 1)) n)))
 
 -- what was told of a pair
-abbrev pub Passes : (bytes : List ℕ) (depth at end : ℕ) (in_array : Bool) (place : ℕ) (before : Bool) (next : ℕ) (canonical : Bool) → Type 0
-Passes bytes depth at end in_array place before next canonical = (at < next) × (next ≤ end) × IsPair depth in_array place (slice_range bytes at end) (next - at) (slice_range bytes next end) before canonical
+abbrev pub Passes : (bytes : List ℕ) (depth at end : ℕ) (in_array : Bool) (index : ℕ) (before : Bool) (next : ℕ) (canonical : Bool) → Type 0
+Passes bytes depth at end in_array index before next canonical = (at < next) × (next ≤ end) × IsPair depth in_array index (slice_range bytes at end) (next - at) (slice_range bytes next end) before canonical
 
 -- how far a pair reaches
-pair_size : (bytes : List ℕ) (depth s at end : ℕ) (in_array : Bool) (place : ℕ) (named : Bool) (k : Kind) (document : Option ℕ) (next : ℕ) (before canonical : Bool) (is : IsPassed bytes depth s at end in_array place named k document next) → at < end → end < length bytes
-    → IsPair depth in_array place (slice_range bytes at end) (length (slice_range bytes at end) - length is.element.rest) is.element.rest before canonical → Passes bytes depth at end in_array place before next canonical
-pair_size bytes depth s at end in_array place named k document next before canonical is lt whole pair =
+pair_size : (bytes : List ℕ) (depth s at end : ℕ) (in_array : Bool) (index : ℕ) (named : Bool) (k : Kind) (document : Option ℕ) (next : ℕ) (before canonical : Bool) (is : IsPassed bytes depth s at end in_array index named k document next) → at < end → end < length bytes
+    → IsPair depth in_array index (slice_range bytes at end) (length (slice_range bytes at end) - length is.element.rest) is.element.rest before canonical → Passes bytes depth at end in_array index before next canonical
+pair_size bytes depth s at end in_array index named k document next before canonical is lt whole pair =
     let a : length (slice_range bytes at end) ≡ end - at = omega (arith, length-take (end - at) (drop at bytes), length-drop at bytes, whole, lt) in
     let b : length is.element.rest ≡ end - next = omega (arith, ap length is.rest_is, length-take (end - next) (drop next bytes), length-drop next bytes, whole, is.high) in
     let n : length (slice_range bytes at end) - length is.element.rest ≡ next - at = omega (arith, a, b, is.high, is.low) in
     (is.low, is.high, record { pair = pair.pair; name = pair.name; is_one = pair.is_one; fits = pair.fits; parts = pair.parts ∙ ap (λ (x : List ℕ). elements pair.pair ++ x) is.rest_is; size = pair.size ∙ n; named = pair.named })
 
 -- a leaf is a pair
-pub leaf_passed : (bytes : List ℕ) (depth s at end : ℕ) (in_array : Bool) (place : ℕ) (named : Bool) (k : Kind) (next : ℕ) (before canonical : Bool) → IsPassed bytes depth s at end in_array place named k None next → IsBytes bytes → at < end → end < length bytes
-    → canonical ≡ (before && named) → Passes bytes depth at end in_array place before next canonical
-leaf_passed bytes depth s at end in_array place named k next before canonical is fits lt whole both =
-    pair_size bytes depth s at end in_array place named k None next before canonical is lt whole
-    (leaf_is_pair depth s at (slice_range bytes at end) is.element in_array before canonical place (room_bytes bytes at end fits) is.is_read (leaf_of is.element.value is.place_is) (both ∙ ap (λ (b : Bool). before && b) is.name_is))
+pub leaf_passed : (bytes : List ℕ) (depth s at end : ℕ) (in_array : Bool) (index : ℕ) (named : Bool) (k : Kind) (next : ℕ) (before canonical : Bool) → IsPassed bytes depth s at end in_array index named k None next → IsBytes bytes → at < end → end < length bytes
+    → canonical ≡ (before && named) → Passes bytes depth at end in_array index before next canonical
+leaf_passed bytes depth s at end in_array index named k next before canonical is fits lt whole both =
+    pair_size bytes depth s at end in_array index named k None next before canonical is lt whole
+    (leaf_is_pair depth s at (slice_range bytes at end) is.element in_array before canonical index (room_bytes bytes at end fits) is.is_read (leaf_of is.element.value is.place_is) (both ∙ ap (λ (b : Bool). before && b) is.name_is))
 
 -- and so is a document whose elements were checked
-pub inner_passed : (bytes : List ℕ) (depth s at end : ℕ) (in_array : Bool) (place : ℕ) (named : Bool) (k : Kind) (q next : ℕ) (before canonical is_array within : Bool) → IsPassed bytes depth s at end in_array place named k (Some q) next → IsBytes bytes → at < end → end < length bytes
-    → canonical ≡ (before && named) → is_array ≡ is_array_kind k → IsTree (depth + 1) is_array (slice_range bytes (q + 4) (next - 1)) within → Passes bytes depth at end in_array place before next (canonical && within)
-inner_passed bytes depth s at end in_array place named k q next before canonical is_array within is fits lt whole both kind_is tree =
-    let o = inside_of bytes depth s at end in_array place named k q next is fits lt whole in
+pub inner_passed : (bytes : List ℕ) (depth s at end : ℕ) (in_array : Bool) (index : ℕ) (named : Bool) (k : Kind) (q next : ℕ) (before canonical is_array within : Bool) → IsPassed bytes depth s at end in_array index named k (Some q) next → IsBytes bytes → at < end → end < length bytes
+    → canonical ≡ (before && named) → is_array ≡ is_array_kind k → IsTree (depth + 1) is_array (slice_range bytes (q + 4) (next - 1)) within → Passes bytes depth at end in_array index before next (canonical && within)
+inner_passed bytes depth s at end in_array index named k q next before canonical is_array within is fits lt whole both kind_is tree =
+    let o = inside_of bytes depth s at end in_array index named k q next is fits lt whole in
     let tree' : IsTree (depth + 1) (is_array_kind is.element.kind) (slice_range bytes (q + 4) (next - 1)) within = subst (λ (b : Bool). IsTree (depth + 1) b (slice_range bytes (q + 4) (next - 1)) within) (kind_is ∙ ap is_array_kind (sym is.kind_is)) tree in
-    pair_size bytes depth s at end in_array place named k (Some q) next before (canonical && within) is lt whole
-    (inner_is_pair depth s at (slice_range bytes at end) is.element q o.3.0 (slice_range bytes (q + 4) (next - 1)) in_array before canonical within place (room_bytes bytes at end fits) is.is_read o.3.1 (both ∙ ap (λ (b : Bool). before && b) is.name_is) tree')
+    pair_size bytes depth s at end in_array index named k (Some q) next before (canonical && within) is lt whole
+    (inner_is_pair depth s at (slice_range bytes at end) is.element q o.3.0 (slice_range bytes (q + 4) (next - 1)) in_array before canonical within index (room_bytes bytes at end fits) is.is_read o.3.1 (both ∙ ap (λ (b : Bool). before && b) is.name_is) tree')

@@ -9,7 +9,7 @@ use Rattle.bson_raw.specs.Pairs.{names_of}
 abbrev pub IsLeaf : Value → Type 0
 IsLeaf part = (v : Leaf) × (part ≡ a_leaf v)
 
--- the part is a document that begins at this place
+-- the part is a document that begins at this offset
 abbrev pub Opens : ℕ → Value → Type 0
 Opens q part = (b : Beside) × (body : List ℕ) × (part ≡ opens q b body)
 
@@ -17,13 +17,13 @@ Opens q part = (b : Beside) × (body : List ℕ) × (part ≡ opens q b body)
 abbrev pub IsTree : ℕ → Bool → List ℕ → Bool → Type 0
 IsTree depth in_array bytes canonical = (t : Tree) × Fits depth t × (bytes ≡ elements t) × (canonical ≡ is_plain in_array 0 t)
 
--- The bytes are a pair at this place of a container, and this rest, which stands n bytes behind. Where `before` tells
+-- The bytes are a pair at this index of a container, and this rest, which stands n bytes behind. Where `before` tells
 -- whether the names of the pairs before are canonical, `canonical` tells it of those and this pair together.
-pub record IsPair (depth : ℕ) (in_array : Bool) (place : ℕ) (bytes : List ℕ) (n : ℕ) (rest : List ℕ) (before canonical : Bool) : Type 0 where
+pub record IsPair (depth : ℕ) (in_array : Bool) (index : ℕ) (bytes : List ℕ) (n : ℕ) (rest : List ℕ) (before canonical : Bool) : Type 0 where
   pub pair : Tree
   pub name : List ℕ
   pub is_one : names_of pair ≡ name ∷ []
   pub fits : Fits depth pair
   pub parts : bytes ≡ elements pair ++ rest
   pub size : length (elements pair) ≡ n
-  pub named : canonical ≡ (before && is_plain in_array place pair)
+  pub named : canonical ≡ (before && is_plain in_array index pair)

@@ -1,12 +1,12 @@
--- The pairs that stand from a place of a document's bytes on.
+-- The pairs that stand from an offset of a document's bytes on.
 use Rattle.std.specs.Prelude.{◌≡◌, ℕ, ◌+◌, ◌-◌, ◌^◌, ◌<◌, ◌≤◌, List, length, slice_range}
 use Rattle.bson_elem.specs.Tree.{Tree}
 use Rattle.bson_elem.specs.Spelling.{elements, Fits}
 
--- the pairs from this place up to the last byte are those of the tree
+-- the pairs from this offset up to the last byte are those of the tree
 abbrev pub LeftIs : List ℕ → ℕ → Tree → Type 0
-LeftIs bytes at t = Fits 1 t × (slice_range bytes at (length bytes - 1) ≡ elements t)
+LeftIs bytes offset t = Fits 1 t × (slice_range bytes offset (length bytes - 1) ≡ elements t)
 
--- pairs are left from this place on
+-- pairs are left from this offset on
 abbrev pub HasLeft : List ℕ → ℕ → Type 0
-HasLeft bytes at = (at + 1 ≤ length bytes) × (length bytes < 2 ^ 31) × ((t : Tree) × LeftIs bytes at t)
+HasLeft bytes offset = (offset + 1 ≤ length bytes) × (length bytes < 2 ^ 31) × ((t : Tree) × LeftIs bytes offset t)

@@ -12,22 +12,22 @@ abbrev pub is_array_kind : Kind → Bool
 is_array_kind Array = true
 is_array_kind _ = false
 
--- the canonical name of the pair at a place, counted from 0: the place in decimal in an array, its own elsewhere
+-- the canonical name of the pair at an index, counted from 0: the index in decimal in an array, its own elsewhere
 abbrev pub name_at : Bool → ℕ → List ℕ → List ℕ
-name_at in_array place name = if in_array then decimal place else name
+name_at in_array index name = if in_array then decimal index else name
 
--- the pair at this place has its canonical name
+-- the pair at this index has its canonical name
 abbrev pub is_named : Bool → ℕ → List ℕ → Bool
-is_named in_array place name = bytes_eq name (name_at in_array place name)
+is_named in_array index name = bytes_eq name (name_at in_array index name)
 
--- the pairs from this place of a container on have their canonical names, at every depth
+-- the pairs from this index of a container on have their canonical names, at every depth
 abbrev pub is_plain : Bool → ℕ → Tree → Bool
-is_plain in_array place no_pairs = true
-is_plain in_array place (leaf_pair name k v ps) = is_named in_array place name && is_plain in_array (place + 1) ps
-is_plain in_array place (inner_pair name k b inner ps) =
-    is_named in_array place name && (is_plain (is_array_kind k) 0 inner && is_plain in_array (place + 1) ps)
+is_plain in_array index no_pairs = true
+is_plain in_array index (leaf_pair name k v ps) = is_named in_array index name && is_plain in_array (index + 1) ps
+is_plain in_array index (inner_pair name k b inner ps) =
+    is_named in_array index name && (is_plain (is_array_kind k) 0 inner && is_plain in_array (index + 1) ps)
 
--- what was read as the name of the pair at a place of a container: whether it is canonical, and what follows it
+-- what was read as the name of the pair at an index of a container: whether it is canonical, and what follows it
 abbrev pub named_at : Bool → ℕ → Read (List ℕ) → Read Bool
-named_at in_array place (Ok name) = Ok (is_named in_array place name.0, name.1)
-named_at in_array place (Err c) = Err c
+named_at in_array index (Ok name) = Ok (is_named in_array index name.0, name.1)
+named_at in_array index (Err c) = Err c

@@ -21,13 +21,13 @@ first_named name no_pairs = None
 first_named name (leaf_pair n k v ps) = if bytes_eq n name then Some (leaf_value k v) else first_named name ps
 first_named name (inner_pair n k b inner ps) = if bytes_eq n name then Some (document_value k b inner) else first_named name ps
 
--- the value of the pair at this place, counted from 0
-abbrev pub value_at : ℕ → Tree → Option TreeValue
-value_at k no_pairs = None
-value_at zero (leaf_pair n k v ps) = Some (leaf_value k v)
-value_at zero (inner_pair n k b inner ps) = Some (document_value k b inner)
-value_at (suc i) (leaf_pair n k v ps) = value_at i ps
-value_at (suc i) (inner_pair n k b inner ps) = value_at i ps
+-- the value of the pair at this index, counted from 0
+abbrev pub nth_value : ℕ → Tree → Option TreeValue
+nth_value k no_pairs = None
+nth_value zero (leaf_pair n k v ps) = Some (leaf_value k v)
+nth_value zero (inner_pair n k b inner ps) = Some (document_value k b inner)
+nth_value (suc i) (leaf_pair n k v ps) = nth_value i ps
+nth_value (suc i) (inner_pair n k b inner ps) = nth_value i ps
 
 -- the names of the pairs, in order
 abbrev pub names_of : Tree → List (List ℕ)

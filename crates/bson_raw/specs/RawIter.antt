@@ -26,7 +26,7 @@ pub record GivesFirst (t : Tree) (name : List ℕ) (value : RawBson) (IsLeft : T
 
 -- the pairs that are left are those of the tree
 abbrev pub PairsLeft : RawIter → Tree → Type 0
-PairsLeft s t = LeftIs s.bytes.now s.at t
+PairsLeft s t = LeftIs s.bytes.now s.offset t
 
 -- how many bytes the document has that is walked
 abbrev pub walked_len : RawIter → ℕ
@@ -38,7 +38,7 @@ BeginsAtFirstPair d s = ((t : Tree) → Spells t (document_bytes d) → PairsLef
 
 -- a bound on how many pairs are left
 abbrev pub pairs_bound : RawIter → ℕ
-pairs_bound s = length s.bytes.now - s.at
+pairs_bound s = length s.bytes.now - s.offset
 
 -- Of every tree left the first pair was given, or there is none. What a value holds is shorter than what is walked.
 abbrev pub GivesPair : RawIter → Option (Bor (List ℕ) × RawBson) → RawIter → Type 0

@@ -1,4 +1,4 @@
-//! An array that is lent out of its bytes.
+//! An array that borrows its bytes.
 
 ghost use Rattle.std.specs.Prelude.{◌≡◌, length, MatchOption, None};
 ghost use Rattle.bson_elem.specs.Tree.{Tree};
@@ -10,8 +10,8 @@ use crate::iter::RawArrayIter;
 use crate::value::RawBson;
 use std::convert::AsSlice;
 
-/// An array in its bytes, which spell a document whose values are those of the array. Its names, mostly "0", "1"
-/// and so on, stay in the bytes as they were.
+/// A borrowed array. Its bytes spell a document whose values are those of the array. The names, mostly "0", "1" and so
+/// on, stay in the bytes as they were.
 #[derive(Clone, Copy, Debug, PartialEq, Eq)]
 pub struct RawArray<'a> {
     bytes: &'a [u8],
@@ -21,11 +21,11 @@ pub struct RawArray<'a> {
 impl<'a> RawArray<'a> {
     ghost use Rattle.bson_raw.specs.RawArray.{array_bytes};
     ghost use Rattle.bson_raw.specs.RawDocument.{document_bytes};
-    ghost use Rattle.bson_raw.specs.Pairs.{value_at};
+    ghost use Rattle.bson_raw.specs.Pairs.{nth_value};
     ghost use Rattle.bson_raw.specs.RawBson.{ShowsFound};
     ghost use Rattle.bson_raw.specs.RawIter.{ValuesLeft, walked_array_len};
 
-    /// The array of bytes that are known to spell one.
+    /// Returns the array that the bytes are known to spell, without a check.
     pub(crate) fn of_spelled(bytes: &'a [u8]) -> RawArray<'a>
         requires { ∥ IsSpelled bytes.now ∥₁ }
         ensures { array_bytes result ≡ bytes.now }
@@ -33,21 +33,21 @@ impl<'a> RawArray<'a> {
         RawArray { bytes }
     }
 
-    /// The bytes of the array.
+    /// Returns the bytes of the array.
     pub fn as_bytes(self) -> &'a [u8]
         ensures { result.now ≡ array_bytes self.entry }
     {
         self.bytes
     }
 
-    /// The array as the document that spells it, with the names of its pairs as they were.
+    /// Returns the array as the document that spells it, with the names of its pairs as they were.
     pub fn as_document(self) -> RawDocument<'a>
         ensures { document_bytes result ≡ array_bytes self.entry }
     {
         RawDocument::from_spelled(self.bytes)
     }
 
-    /// The values, in order.
+    /// Returns an iterator over the values, in order.
     pub fn iter(self) -> RawArrayIter<'a>
         ensures values { (t : Tree) → Spells t (array_bytes self.entry) → ValuesLeft result t }
         ensures walked { walked_array_len result ≡ length (array_bytes self.entry) }
@@ -55,11 +55,11 @@ impl<'a> RawArray<'a> {
         RawArrayIter::of_spelled(self.bytes)
     }
 
-    /// The value at an index, counted from 0.
+    /// Returns the value at `index`, counted from 0, if there are so many.
     pub fn get(self, index: usize) -> Option<RawBson<'a>>
         ensures { (t : Tree) → Spells t (array_bytes self.entry)
-            → MatchOption result (value_at index t ≡ None)
-            (λ value. ShowsFound value (value_at index t)) }
+            → MatchOption result (nth_value index t ≡ None)
+            (λ value. ShowsFound value (nth_value index t)) }
     {
         let mut before = index;
         for value in self.iter() {
@@ -78,6 +78,6 @@ impl<'a> AsSlice<u8> for RawArray<'a> {
     ghost items = { array_bytes };
 
     fn as_slice(&self) -> &[u8] {
-        self.bytes
+        self.as_bytes()
     }
 }

@@ -10,46 +10,48 @@ use bson_elem::extent::skip_value;
 use bson_elem::fault::{BsonCause, BsonFault};
 use bson_elem::kind::Kind;
 
-/// The place after the pair at `at`, whose value is checked whole, and whether its names are canonical, as those before
-/// it are. So many pairs as `place` stand before it.
+/// Checks the pair at `offset`, and everything inside it. Returns the offset after it, and whether every name so far is
+/// canonical, where `canonical` says so of the `index` pairs before it.
+// The arguments stay apart: with the container's four as one struct, a check of small documents takes 13 % more
+// instructions, and of nested ones 20 %.
 #[cycle(check)]
 #[inline(always)]
 fn check_pair(
     bytes: &[u8],
     start: usize,
-    at: usize,
+    offset: usize,
     end: usize,
     depth: u32,
     in_array: bool,
-    place: usize,
+    index: usize,
     canonical: bool,
 ) -> Result<(usize, bool), BsonFault>
-    requires inside { at < end }
+    requires inside { offset < end }
     requires whole { end < length bytes.now }
     requires depth { depth ≤ 200 }
     ensures checked { MatchResult result
-        (λ x. (at < x.0) × (x.0 ≤ end)
-        × IsPair depth in_array place (slice_range bytes.now at end) (x.0 - at) (slice_range bytes.now x.0 end) canonical x.1)
-        (λ f. FaultIn depth start at (slice_range bytes.now at end) f) }
-    ensures place { IfErr result (λ f. f.at ≤ max start end) }
+        (λ x. (offset < x.0) × (x.0 ≤ end)
+        × IsPair depth in_array index (slice_range bytes.now offset end) (x.0 - offset) (slice_range bytes.now x.0 end) canonical x.1)
+        (λ f. FaultIn depth start offset (slice_range bytes.now offset end) f) }
+    ensures bound { IfErr result (λ f. f.at ≤ max start end) }
 {
-    let byte = bytes[at];
+    let byte = bytes[offset];
     if byte == 0 {
         return Err(fault_at(start, BsonCause::End));
     }
     let Some(kind) = Kind::from_byte(byte) else {
-        return Err(fault_at(at, BsonCause::Kind));
+        return Err(fault_at(offset, BsonCause::Kind));
     };
-    let (named, rest) = match skip_name(&bytes[at + 1..end], in_array, place) {
+    let (named, rest) = match skip_name(&bytes[offset + 1..end], in_array, index) {
         Ok(read) => read,
-        Err(cause) => return Err(fault_at(at, cause)),
+        Err(cause) => return Err(fault_at(offset, cause)),
     };
     let canonical = canonical && named;
-    let (document, rest) = skip_value(depth, at, end - rest.len(), kind, rest)?;
+    let (document, rest) = skip_value(depth, offset, end - rest.len(), kind, rest)?;
     let next = end - rest.len();
     if let Some(inner) = document {
         // Told by the byte: a test of the kind would turn its table of sizes into a jump for each kind.
-        let is_array = bytes[at] == Kind::Array.byte();
+        let is_array = bytes[offset] == Kind::Array.byte();
         let within = check(bytes, inner, next - 1, depth + 1, is_array)?;
         return Ok((next, canonical && within));
     }
@@ -72,14 +74,16 @@ fn check_elements(
     ensures checked { MatchResult result
         (λ canonical. IsTree depth in_array (slice_range bytes.now (start + 4) end) canonical)
         (λ f. FaultIn depth start (start + 4) (slice_range bytes.now (start + 4) end) f) }
-    ensures place { IfErr result (λ f. f.at ≤ end) }
+    ensures bound { IfErr result (λ f. f.at ≤ end) }
 {
-    let mut at = start + 4;
-    let mut place = 0;
+    let mut offset = start + 4;
+    let mut index = 0;
     let mut canonical = true;
-    while at < end {
-        (at, canonical) = check_pair(bytes, start, at, end, depth, in_array, place, canonical)?;
-        place += 1;
+    while offset < end {
+        (offset, canonical) = check_pair(
+            bytes, start, offset, end, depth, in_array, index, canonical,
+        )?;
+        index += 1;
     }
     Ok(canonical)
 }
@@ -94,7 +98,7 @@ fn check_document(bytes: &[u8], start: usize, end: usize, depth: u32) -> Result<
     ensures checked { MatchResult result
         (λ canonical. IsTree depth false (slice_range bytes.now (start + 4) end) canonical)
         (λ f. FaultIn depth start (start + 4) (slice_range bytes.now (start + 4) end) f) }
-    ensures place { IfErr result (λ f. f.at ≤ end) }
+    ensures bound { IfErr result (λ f. f.at ≤ end) }
 {
     check_elements(bytes, start, end, depth, false)
 }
@@ -109,13 +113,13 @@ fn check_array(bytes: &[u8], start: usize, end: usize, depth: u32) -> Result<boo
     ensures checked { MatchResult result
         (λ canonical. IsTree depth true (slice_range bytes.now (start + 4) end) canonical)
         (λ f. FaultIn depth start (start + 4) (slice_range bytes.now (start + 4) end) f) }
-    ensures place { IfErr result (λ f. f.at ≤ end) }
+    ensures bound { IfErr result (λ f. f.at ≤ end) }
 {
     check_elements(bytes, start, end, depth, true)
 }
 
-/// Checks the elements of a container of this depth, which begins at `start` and whose last byte stands at `end`. Tells
-/// whether its names are canonical at every depth; in an array these are "0", "1" and so on.
+/// Checks the elements of a container of this `depth`, whose first byte is at `start` and whose last is at `end`. Returns
+/// whether its names are canonical at every depth: in an array these are "0", "1" and so on.
 #[cycle(check)]
 #[inline(always)]
 pub(crate) fn check(
@@ -131,9 +135,9 @@ pub(crate) fn check(
     ensures checked { MatchResult result
         (λ canonical. IsTree depth in_array (slice_range bytes.now (start + 4) end) canonical)
         (λ f. FaultIn depth start (start + 4) (slice_range bytes.now (start + 4) end) f) }
-    ensures place { IfErr result (λ f. f.at ≤ end) }
+    ensures bound { IfErr result (λ f. f.at ≤ end) }
 {
-    // Each has a loop of its own, so that no name of a document is tested.
+    // Each has a loop of its own, so that no document's names are tested.
     if in_array {
         check_array(bytes, start, end, depth)
     } else {

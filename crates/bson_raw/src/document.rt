@@ -1,4 +1,4 @@
-//! A document that is lent out of its bytes.
+//! A document that borrows its bytes.
 
 ghost use Rattle.std.specs.Prelude.{◌≡◌, ◌≤◌, ◌<◌, ◌^◌, List, ℕ, ◌++◌, IfOk, IfErr, IsOkAnd, IsErrOf, length, MatchResult, MatchOption, IsTrue, IsOk, ◌↔◌, Some, None, [], take, false};
 ghost use Rattle.bson_elem.specs.declared.fault.BsonFault.{BsonFault};
@@ -16,18 +16,18 @@ use bson_elem::fault::{BsonCause, BsonFault};
 use bson_elem::number::little_u32;
 use std::convert::AsSlice;
 
-/// The bytes of the document in front, whether its names are canonical, and what follows it.
+/// Checks the document at the front. Returns its bytes, whether its names are canonical, and what follows it.
 fn front_parts(bytes: &[u8]) -> Result<(&[u8], bool, &[u8]), BsonFault>
     ensures parts { MatchResult result (λ x. FrontIs bytes.now x.0.now x.2.now) (λ f. FrontFault bytes.now f) }
     ensures canonical { IfOk result (λ x. (t : Tree) → Spells t x.0.now → x.1 ≡ is_plain false 0 t) }
-    ensures place { IfErr result (λ f. f.at ≤ length bytes.now) }
+    ensures bound { IfErr result (λ f. f.at ≤ length bytes.now) }
 {
     let (whole, rest) = read_document(0, 0, bytes)?;
     let canonical = check(whole, 0, whole.len() - 1, 1, false)?;
     Ok((whole, canonical, rest))
 }
 
-/// Whether the names in the document that the bytes are known to spell are canonical.
+/// Returns true if the names in the document that the bytes spell are canonical.
 fn spells_canonical(bytes: &[u8]) -> bool
     requires { ∥ IsSpelled bytes.now ∥₁ }
     ensures { (t : Tree) → Spells t bytes.now → result ≡ is_plain false 0 t }
@@ -38,7 +38,7 @@ fn spells_canonical(bytes: &[u8]) -> bool
     }
 }
 
-/// Whether the length in front, if there is one, is that of the bytes.
+/// Returns true if the length at the front is that of the bytes, or if there are too few bytes for one.
 fn is_length_of(bytes: &[u8]) -> bool
     ensures { IsTrue result ↔ IsLengthOf bytes.now }
 {
@@ -48,19 +48,19 @@ fn is_length_of(bytes: &[u8]) -> bool
     little_u32(bytes) as usize == bytes.len()
 }
 
-/// A document in its bytes, checked whole when it was made.
+/// A borrowed document, checked whole when it was made.
 #[derive(Clone, Copy, Debug, PartialEq, Eq)]
 pub struct RawDocument<'a> {
     bytes: &'a [u8],
     pub ghost spelled: { ∥ IsSpelled bytes.now ∥₁ },
 }
 
-/// What stands at the front of some bytes.
+/// A document at the front of some bytes, and what follows it.
 #[derive(Clone, Copy, Debug, PartialEq, Eq)]
 pub struct Front<'a> {
     /// The document.
     pub document: RawDocument<'a>,
-    /// Whether it is in canonical form: the names of each array in it are "0", "1" and so on.
+    /// Whether it is in canonical form: whether the names of each array in it are "0", "1" and so on.
     pub canonical: bool,
     /// What follows it.
     pub rest: &'a [u8],
@@ -69,11 +69,11 @@ pub struct Front<'a> {
 impl<'a> RawDocument<'a> {
     ghost use Rattle.bson_raw.specs.RawDocument.{document_bytes};
 
-    /// The document at the front of the bytes, and what follows it.
+    /// Checks the document at the front of the bytes. Returns it, and what follows it.
     ///
     /// # Errors
     ///
-    /// The first fault of the bytes and its place, in the order of the checks.
+    /// Returns the first fault of the bytes, in the order of the checks.
     pub fn front(bytes: &'a [u8]) -> Result<(RawDocument<'a>, &'a [u8]), BsonFault>
         ensures found { IfOk result (λ x.
             (bytes.now ≡ document_bytes x.0 ++ x.1.now) × IsSpelled (document_bytes x.0)) }
@@ -81,7 +81,7 @@ impl<'a> RawDocument<'a> {
             → IsOkAnd result (λ x. (document_bytes x.0 ≡ b) × (x.1.now ≡ rest)) }
         ensures fault { IfErr result (λ f. FrontFault bytes.now f) }
         ensures exact { (f : BsonFault) → FrontFault bytes.now f → IsErrOf result f }
-        ensures place { IfErr result (λ f. f.at ≤ length bytes.now) }
+        ensures bound { IfErr result (λ f. f.at ≤ length bytes.now) }
     {
         match RawDocument::front_with_form(bytes) {
             Ok(front) => Ok((front.document, front.rest)),
@@ -89,11 +89,11 @@ impl<'a> RawDocument<'a> {
         }
     }
 
-    /// As `front`, and with the document whether it is in canonical form, by the same walk.
+    /// Does what `front` does, and by the same walk finds out whether the document is in canonical form.
     ///
     /// # Errors
     ///
-    /// Those of `front`.
+    /// Returns the faults that `front` does.
     pub fn front_with_form(bytes: &'a [u8]) -> Result<Front<'a>, BsonFault>
         ensures found { IfOk result (λ x.
             (bytes.now ≡ document_bytes x.document ++ x.rest.now) × IsSpelled (document_bytes x.document)) }
@@ -103,7 +103,7 @@ impl<'a> RawDocument<'a> {
             → IsOkAnd result (λ x. (document_bytes x.document ≡ b) × (x.rest.now ≡ rest)) }
         ensures fault { IfErr result (λ f. FrontFault bytes.now f) }
         ensures exact { (f : BsonFault) → FrontFault bytes.now f → IsErrOf result f }
-        ensures place { IfErr result (λ f. f.at ≤ length bytes.now) }
+        ensures bound { IfErr result (λ f. f.at ≤ length bytes.now) }
     {
         match front_parts(bytes) {
             Ok((whole, canonical, rest)) => {
@@ -118,17 +118,17 @@ impl<'a> RawDocument<'a> {
         }
     }
 
-    /// The document that all of the bytes are.
+    /// Checks that all of the bytes are one document, and returns it.
     ///
     /// # Errors
     ///
-    /// A length in front that is not that of the bytes, and else the fault that `front` tells.
+    /// Returns `Length` at 0 if the length at the front isn't that of the bytes, and else the fault that `front` does.
     pub fn from_bytes(bytes: &'a [u8]) -> Result<RawDocument<'a>, BsonFault>
         ensures found { IfOk result (λ d. (document_bytes d ≡ bytes.now) × IsSpelled bytes.now) }
         ensures only { IsSpelled bytes.now → IsOk result }
         ensures fault { IfErr result (λ f. WholeFault bytes.now f) }
         ensures exact { (f : BsonFault) → WholeFault bytes.now f → IsErrOf result f }
-        ensures place { IfErr result (λ f. f.at ≤ length bytes.now) }
+        ensures bound { IfErr result (λ f. f.at ≤ length bytes.now) }
     {
         if !is_length_of(bytes) {
             return Err(BsonFault {
@@ -142,7 +142,7 @@ impl<'a> RawDocument<'a> {
         }
     }
 
-    /// The document of bytes that are known to spell one.
+    /// Returns the document that the bytes are known to spell, without a check.
     pub fn from_spelled(bytes: &'a [u8]) -> RawDocument<'a>
         requires { ∥ IsSpelled bytes.now ∥₁ }
         ensures { document_bytes result ≡ bytes.now }
@@ -150,7 +150,7 @@ impl<'a> RawDocument<'a> {
         RawDocument { bytes }
     }
 
-    /// The bytes of the document.
+    /// Returns the bytes of the document.
     pub fn as_bytes(self) -> &'a [u8]
         ensures bytes { result.now ≡ document_bytes self.entry }
         ensures short { length result.now < 2 ^ 31 }
@@ -158,8 +158,8 @@ impl<'a> RawDocument<'a> {
         self.bytes
     }
 
-    /// Whether the document is in canonical form: the names of each array in it are "0", "1" and so on. This checks the
-    /// whole document once more.
+    /// Returns true if the document is in canonical form: if the names of each array in it are "0", "1" and so on. This
+    /// checks the whole document once more.
     pub fn is_canonical(self) -> bool
         ensures { (t : Tree) → Spells t (document_bytes self.entry) → result ≡ is_plain false 0 t }
     {
@@ -173,7 +173,7 @@ impl<'a> RawDocument<'a> {
     ghost use Rattle.bson_raw.specs.RawBson.{ShowsFound};
     ghost use Rattle.bson_raw.specs.RawIter.{PairsLeft, walked_len};
 
-    /// The pairs of names and values, in order.
+    /// Returns an iterator over the pairs of names and values, in order.
     pub fn iter(self) -> RawIter<'a>
         ensures pairs { (t : Tree) → Spells t (document_bytes self.entry) → PairsLeft result t }
         ensures walked { walked_len result ≡ length (document_bytes self.entry) }
@@ -181,7 +181,7 @@ impl<'a> RawDocument<'a> {
         RawIter::of_spelled(self.bytes)
     }
 
-    /// The value of the first pair of this name.
+    /// Returns the value of the first pair named `name`, if there is one.
     pub fn get(self, name: &str) -> Option<RawBson<'a>>
         ensures { (t : Tree) → Spells t (document_bytes self.entry)
             → MatchOption result (first_named name.now t ≡ None)
@@ -195,7 +195,7 @@ impl<'a> RawDocument<'a> {
         None
     }
 
-    /// Whether one of the first pairs, so many as `count`, has this name.
+    /// Returns true if any of the first `count` pairs has this name.
     fn is_among_first(self, count: usize, name: &str) -> bool
         ensures { (t : Tree) → Spells t (document_bytes self.entry)
             → result ≡ is_among name.now (take count (names_of t)) }
@@ -213,7 +213,7 @@ impl<'a> RawDocument<'a> {
         false
     }
 
-    /// The name of the first pair whose name another pair before it has.
+    /// Returns the first name that an earlier pair has too.
     pub fn first_repeated_name(self) -> Option<&'a str>
         ensures { (t : Tree) → Spells t (document_bytes self.entry)
             → MatchOption result (first_repeated [] t ≡ None)
@@ -236,6 +236,6 @@ impl<'a> AsSlice<u8> for RawDocument<'a> {
     ghost items = { document_bytes };
 
     fn as_slice(&self) -> &[u8] {
-        self.bytes
+        self.as_bytes()
     }
 }

@@ -1,4 +1,4 @@
-//! The pairs of a document and the values of an array, in order.
+//! Iterators over the pairs of a document and over the values of an array, in order.
 
 ghost use Rattle.std.specs.Prelude.{◌≡◌, length};
 ghost use Rattle.std.specs.Iterator.{at_most};
@@ -12,24 +12,24 @@ use crate::document::RawDocument;
 use crate::value::RawBson;
 use bson_elem::reread::reread_element;
 
-/// The pairs of a document that are left.
+/// An iterator over the pairs of a document. After its end it stays at the end.
 #[derive(Debug, Drop)]
 pub struct RawIter<'a> {
     bytes: &'a [u8],
-    at: usize,
-    pub ghost left: { ∥ HasLeft bytes.now at ∥₁ },
+    offset: usize,
+    pub ghost left: { ∥ HasLeft bytes.now offset ∥₁ },
 }
 
 impl<'a> RawIter<'a> {
     ghost use Rattle.bson_raw.specs.RawIter.{PairsLeft, walked_len};
 
-    /// All pairs of the document that the bytes are known to spell.
+    /// Returns an iterator over all pairs of the document that the bytes are known to spell.
     pub(crate) fn of_spelled(bytes: &'a [u8]) -> RawIter<'a>
         requires { ∥ IsSpelled bytes.now ∥₁ }
         ensures pairs { (t : Tree) → Spells t bytes.now → PairsLeft result t }
         ensures walked { walked_len result ≡ length bytes.now }
     {
-        RawIter { bytes, at: 4 }
+        RawIter { bytes, offset: 4 }
     }
 }
 
@@ -42,16 +42,16 @@ impl<'a> Iterator for RawIter<'a> {
 
     ghost next_gives = { StepsTo };
 
-    // Kept apart, so that a caller that goes into inner documents has a small frame a level.
+    // Isn't inlined, so that a caller that goes into inner documents has a small frame for each level.
     #[inline(never)]
     fn next(&mut self) -> Option<(&'a str, RawBson<'a>)> {
         let bytes = self.bytes;
         let end = bytes.len() - 1;
-        if self.at >= end {
+        if self.offset >= end {
             return None;
         }
-        let element = reread_element(bytes, self.at, end);
-        self.at = element.next;
+        let element = reread_element(bytes, self.offset, end);
+        self.offset = element.next;
         Some((element.name, RawBson::of_item(element.value)))
     }
 }
@@ -70,7 +70,7 @@ impl<'a> IntoIterator for RawDocument<'a> {
     }
 }
 
-/// The values of an array that are left.
+/// An iterator over the values of an array. After its end it stays at the end.
 #[derive(Debug, Drop)]
 pub struct RawArrayIter<'a> {
     pairs: RawIter<'a>,
@@ -79,7 +79,7 @@ pub struct RawArrayIter<'a> {
 impl<'a> RawArrayIter<'a> {
     ghost use Rattle.bson_raw.specs.RawIter.{ValuesLeft, walked_array_len};
 
-    /// All values of the array that the bytes are known to spell.
+    /// Returns an iterator over all values of the array that the bytes are known to spell.
     pub(crate) fn of_spelled(bytes: &'a [u8]) -> RawArrayIter<'a>
         requires { ∥ IsSpelled bytes.now ∥₁ }
         ensures values { (t : Tree) → Spells t bytes.now → ValuesLeft result t }

@@ -1,4 +1,4 @@
-//! The laws of documents back to back. The contract of each function is the law.
+//! Laws of documents back to back. The contract of each function is the law.
 
 ghost use Rattle.std.specs.Prelude.{◌≡◌, ℕ, List};
 ghost use Rattle.bson_elem.specs.Tree.{Tree};
@@ -7,15 +7,15 @@ ghost use Rattle.bson_raw.specs.Split.{DocumentSplit};
 
 use crate::document::RawDocument;
 
-/// Bytes are split into documents and a rest in one way at most.
+/// Proves that bytes are documents and a rest in one way at most. Does nothing.
 pub fn one_document_split()
     ensures { (bytes : List ℕ) (documents others : List Tree) (rest after : List ℕ) → IsBytes bytes
         → DocumentSplit bytes documents rest → DocumentSplit bytes others after
         → (documents ≡ others) × (rest ≡ after) }
 {}
 
-/// Splits the bytes into documents and a rest, so that all bytes are split in one way. Returns the
-/// rest.
+/// Goes over the documents at the front of the bytes, and returns the rest. So bytes are always
+/// documents and a rest.
 pub fn documents_split(bytes: &[u8]) -> &[u8]
     ensures { (documents : List Tree) × DocumentSplit bytes.now documents result.now }
 {

@@ -1,9 +1,12 @@
 //! BSON documents that are checked whole once, and then walked without errors and without a copy.
 //!
-//! A `RawDocument` is lent out of bytes that spell a document. It is made by `from_bytes` or `front`, which run
-//! through every check, and tell the first fault and its place where there is one. From then on the type carries
-//! the fact that its bytes are a document, so `get` and `iter` can't fail. Its values are `RawBson`s, whose texts,
-//! bytes and inner documents are lent out of the same bytes. Nothing here takes memory.
+//! A `RawDocument` borrows bytes that spell a document. It is made by `from_bytes` or `front`, which make every check,
+//! and return the first fault and its offset where there is one. From then on the type carries the fact that its bytes
+//! are a document, so `get` and `iter` can't fail. Its values are `RawBson`s, whose texts, bytes and inner documents
+//! borrow the same bytes. Nothing here takes memory.
+//!
+//! `totals` counts what stands in a document at all depths. `laws` proves that bytes are documents back to back and a
+//! rest in just one way.
 #![tactic(auto)]
 
 pub mod array;

@@ -10,116 +10,116 @@ ghost use Rattle.bson_raw.specs.Naming.{named_at};
 use bson_elem::fault::BsonCause;
 use bson_elem::text::read_cstring;
 
-/// Whether the name is the digit of a place below 10.
+/// Returns true if the name is the digit of `index`, which is below 10.
 #[tactic(auto, using(crate::proofs::DigitLaws::digit_name))]
 #[inline(always)]
-fn is_digit(name: &[u8], place: usize) -> bool
-    requires { place < 10 }
-    ensures { result ≡ bytes_eq name.now (decimal place) }
+fn is_digit(name: &[u8], index: usize) -> bool
+    requires { index < 10 }
+    ensures { result ≡ bytes_eq name.now (decimal index) }
 {
-    name.len() == 1 && usize::from(name[0]) == 48 + place
+    name.len() == 1 && usize::from(name[0]) == 48 + index
 }
 
-/// Whether the name is the two digits of a place below 100.
+/// Returns true if the name is the two digits of `index`, which is from 10 to 99.
 #[tactic(auto, using(crate::proofs::DigitLaws::digits_name))]
 #[inline(always)]
-fn is_two_digits(name: &[u8], place: usize) -> bool
-    requires low { 10 ≤ place }
-    requires high { place < 100 }
-    ensures { result ≡ bytes_eq name.now (decimal place) }
+fn is_two_digits(name: &[u8], index: usize) -> bool
+    requires low { 10 ≤ index }
+    requires high { index < 100 }
+    ensures { result ≡ bytes_eq name.now (decimal index) }
 {
     name.len() == 2
-        && usize::from(name[0]) == 48 + place / 10
-        && usize::from(name[1]) == 48 + place % 10
+        && usize::from(name[0]) == 48 + index / 10
+        && usize::from(name[1]) == 48 + index % 10
 }
 
-/// Whether the name is the place in decimal.
-fn is_decimal(name: &[u8], place: usize) -> bool
-    ensures { result ≡ bytes_eq name.now (decimal place) }
+/// Returns true if the name is `index` in decimal.
+fn is_decimal(name: &[u8], index: usize) -> bool
+    ensures { result ≡ bytes_eq name.now (decimal index) }
 {
-    if place < 10 {
-        return is_digit(name, place);
+    if index < 10 {
+        return is_digit(name, index);
     }
     match name {
         [front @ .., last] => {
-            usize::from(*last) == 48 + place % 10 && is_decimal(front, place / 10)
+            usize::from(*last) == 48 + index % 10 && is_decimal(front, index / 10)
         }
         [] => false,
     }
 }
 
-/// Whether the name is the place in decimal. The shortest are compared without a loop.
+/// Returns true if the name is `index` in decimal. Compares names of one and two digits without a loop.
 #[inline(always)]
-fn is_place(name: &[u8], place: usize) -> bool
-    ensures { result ≡ bytes_eq name.now (decimal place) }
+fn is_index(name: &[u8], index: usize) -> bool
+    ensures { result ≡ bytes_eq name.now (decimal index) }
 {
-    if place < 10 {
-        return is_digit(name, place);
+    if index < 10 {
+        return is_digit(name, index);
     }
-    if place < 100 {
-        return is_two_digits(name, place);
+    if index < 100 {
+        return is_two_digits(name, index);
     }
-    is_decimal(name, place)
+    is_decimal(name, index)
 }
 
-/// What follows a name of so many bytes, if that is the name of the place.
+/// Returns what follows the name of `n` bytes at the front, if that is `index` in decimal.
 #[inline(always)]
-fn after_name(bytes: &[u8], n: usize, place: usize) -> Option<&[u8]>
-    ensures read { IfSome result (λ rest. cstring_at bytes.now ≡ Ok (decimal place, rest.now)) }
+fn after_name(bytes: &[u8], n: usize, index: usize) -> Option<&[u8]>
+    ensures read { IfSome result (λ rest. cstring_at bytes.now ≡ Ok (decimal index, rest.now)) }
     ensures shorter { IfSome result (λ rest. length rest.now < length bytes.now) }
 {
-    if bytes.len() > n && bytes[n] == 0 && is_place(&bytes[..n], place) {
+    if bytes.len() > n && bytes[n] == 0 && is_index(&bytes[..n], index) {
         return Some(&bytes[n + 1..]);
     }
     None
 }
 
-/// What follows the name of a place, if that stands at the front and has no more than five digits.
+/// Returns what follows the name at the front, if that is `index` in decimal and has at most five digits.
 #[inline(always)]
-fn after_place(bytes: &[u8], place: usize) -> Option<&[u8]>
-    ensures read { IfSome result (λ rest. cstring_at bytes.now ≡ Ok (decimal place, rest.now)) }
+fn after_index(bytes: &[u8], index: usize) -> Option<&[u8]>
+    ensures read { IfSome result (λ rest. cstring_at bytes.now ≡ Ok (decimal index, rest.now)) }
     ensures shorter { IfSome result (λ rest. length rest.now < length bytes.now) }
 {
-    if place < 10 {
-        return after_name(bytes, 1, place);
+    if index < 10 {
+        return after_name(bytes, 1, index);
     }
-    if place < 100 {
-        return after_name(bytes, 2, place);
+    if index < 100 {
+        return after_name(bytes, 2, index);
     }
-    let n = match place {
+    let n = match index {
         0..=999 => 3,
         1_000..=9_999 => 4,
         _ => 5,
     };
-    after_name(bytes, n, place)
+    after_name(bytes, n, index)
 }
 
-/// As `skip_name` in an array, for any name.
+/// Does what `skip_name` does in an array, for any name.
 #[inline(never)]
-fn skip_any_name(bytes: &[u8], place: usize) -> Result<(bool, &[u8]), BsonCause>
-    ensures read { Gives (λ x. (x.0, x.1.now)) result (named_at true place (cstring_at bytes.now)) }
+fn skip_any_name(bytes: &[u8], index: usize) -> Result<(bool, &[u8]), BsonCause>
+    ensures read { Gives (λ x. (x.0, x.1.now)) result (named_at true index (cstring_at bytes.now)) }
     ensures shorter { IfOk result (λ x. length x.1.now < length bytes.now) }
 {
     let (name, rest) = read_cstring(bytes)?;
-    Ok((is_decimal(name.as_bytes(), place), rest))
+    Ok((is_decimal(name.as_bytes(), index), rest))
 }
 
-/// Whether the name at the front is the canonical one of the pair at a place, and what follows the name. In a document or
-/// a scope each name is.
+/// Reads the name at the front, of the pair at `index` of a container. Returns whether it is canonical, and what follows
+/// it. In a document or a scope each name is canonical.
 #[inline(always)]
 pub(crate) fn skip_name(
     bytes: &[u8],
     in_array: bool,
-    place: usize,
+    index: usize,
 ) -> Result<(bool, &[u8]), BsonCause>
-    ensures read { Gives (λ x. (x.0, x.1.now)) result (named_at in_array place (cstring_at bytes.now)) }
+    ensures read { Gives (λ x. (x.0, x.1.now)) result (named_at in_array index (cstring_at bytes.now)) }
     ensures shorter { IfOk result (λ x. length x.1.now < length bytes.now) }
 {
     if in_array {
         // A canonical name, which is known beforehand, need not be searched for its end.
-        return match after_place(bytes, place) {
+        return match after_index(bytes, index) {
             Some(rest) => Ok((true, rest)),
-            None => skip_any_name(bytes, place),
+            None => skip_any_name(bytes, index),
         };
     }
     let (_, rest) = read_cstring(bytes)?;

@@ -1,4 +1,4 @@
-//! The totals of a document: what stands in it, at all depths.
+//! The totals of a document: how much stands in it, at all depths.
 
 ghost use Rattle.std.specs.Prelude.{◌≡◌, ◌+◌, ◌≤◌, length};
 ghost use Rattle.bson_elem.specs.Tree.{Tree};
@@ -11,7 +11,7 @@ ghost use Rattle.bson_raw.specs.Totals.{elements_in, elements_held, sizes_held, 
 use crate::document::RawDocument;
 use crate::value::RawBson;
 
-/// What stands in a document, with the documents, arrays and scopes inside.
+/// How much stands in a document, with the documents, arrays and scopes inside.
 #[derive(Clone, Copy, Debug, PartialEq, Eq)]
 pub struct DocumentTotals {
     /// The number of elements.

@@ -1,4 +1,4 @@
-//! A value that is lent out of a document.
+//! A value that borrows the bytes of its document.
 
 ghost use Rattle.std.specs.Prelude.{◌≡◌};
 
@@ -7,7 +7,7 @@ use crate::document::RawDocument;
 use bson_elem::item::Item;
 use bson_elem::kind::Kind;
 
-/// A value, one variant a kind. Its texts, bytes, documents and arrays are lent out of the document's bytes.
+/// A borrowed value, with one variant for each kind. Its texts, bytes, documents and arrays borrow the document's bytes.
 #[derive(Clone, Copy, Debug, PartialEq, Eq)]
 pub enum RawBson<'a> {
     /// The 8 bytes of the number, as they stand in the document.
@@ -15,7 +15,7 @@ pub enum RawBson<'a> {
     String(&'a str),
     Document(RawDocument<'a>),
     Array(RawArray<'a>),
-    /// Of subtype 2 these are the data alone, without the inner count.
+    /// The `bytes` of subtype 2 are the data alone, without the inner count.
     Binary {
         subtype: u8,
         bytes: &'a [u8],
@@ -23,7 +23,7 @@ pub enum RawBson<'a> {
     Undefined,
     ObjectId([u8; 12]),
     Boolean(bool),
-    /// Milliseconds since the beginning of 1970, in UTC.
+    /// Milliseconds since the beginning of 1970 in UTC.
     DateTime(i64),
     Null,
     Regex {
@@ -57,7 +57,7 @@ impl<'a> RawBson<'a> {
     ghost use Rattle.bson_raw.specs.Held.{IsItemOf, HoldsSpelled};
     ghost use Rattle.bson_raw.specs.RawBson.{Shows};
 
-    /// The value that an item of a checked document lends.
+    /// Returns the value that an item of a checked document lends.
     pub(crate) fn of_item(item: Item<'a>) -> RawBson<'a>
         requires { HoldsSpelled item }
         ensures { (v : TreeValue) → IsItemOf item.entry v → Shows result v }
@@ -98,7 +98,7 @@ impl<'a> RawBson<'a> {
     ghost use Rattle.bson_raw.specs.RawBson.{kind_of_value};
     ghost use Rattle.bson_raw.specs.RawBson as shown;
 
-    /// The kind of the value.
+    /// Returns the kind of the value.
     pub fn kind(self) -> Kind
         ensures { result ≡ kind_of_value self.entry }
     {
@@ -127,7 +127,7 @@ impl<'a> RawBson<'a> {
         }
     }
 
-    /// The text of a string.
+    /// Returns the text, if the value is a string.
     pub fn as_str(self) -> Option<&'a str>
         ensures { result ≡ shown.as_str self.entry }
     {
@@ -137,7 +137,7 @@ impl<'a> RawBson<'a> {
         }
     }
 
-    /// The number of an int32.
+    /// Returns the number, if the value is an int32.
     pub fn as_i32(self) -> Option<i32>
         ensures { result ≡ shown.as_i32 self.entry }
     {
@@ -147,7 +147,7 @@ impl<'a> RawBson<'a> {
         }
     }
 
-    /// The number of an int64.
+    /// Returns the number, if the value is an int64.
     pub fn as_i64(self) -> Option<i64>
         ensures { result ≡ shown.as_i64 self.entry }
     {
@@ -157,7 +157,7 @@ impl<'a> RawBson<'a> {
         }
     }
 
-    /// The truth value of a boolean.
+    /// Returns the truth value, if the value is a boolean.
     pub fn as_bool(self) -> Option<bool>
         ensures { result ≡ shown.as_bool self.entry }
     {
@@ -167,7 +167,7 @@ impl<'a> RawBson<'a> {
         }
     }
 
-    /// The document of a document.
+    /// Returns the document, if the value is one.
     pub fn as_document(self) -> Option<RawDocument<'a>>
         ensures { result ≡ shown.as_document self.entry }
     {
@@ -177,7 +177,7 @@ impl<'a> RawBson<'a> {
         }
     }
 
-    /// The array of an array.
+    /// Returns the array, if the value is one.
     pub fn as_array(self) -> Option<RawArray<'a>>
         ensures { result ≡ shown.as_array self.entry }
     {
@@ -187,7 +187,7 @@ impl<'a> RawBson<'a> {
         }
     }
 
-    /// The subtype and the data of a binary.
+    /// Returns the subtype and the data, if the value is a binary.
     pub fn as_binary(self) -> Option<(u8, &'a [u8])>
         ensures { result ≡ shown.as_binary self.entry }
     {

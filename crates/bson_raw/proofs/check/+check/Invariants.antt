@@ -22,14 +22,14 @@ decreases-check_elements l = 4 * (201 - l.depth) + 1
 abbrev pub decreases-check_pair : goal.decreases-check_pair
 decreases-check_pair l = 4 * (201 - l.depth)
 
--- whole pairs stand before the place, as many as were counted, and it is known whether their names are canonical
-abbrev pub invariant-check_elements-loop-at : goal.invariant-check_elements-loop-at
-invariant-check_elements-loop-at l =
-    (l.start + 4 ≤ l.at) × (l.at ≤ l.end) × (l.place ≤ l.at) ×
-    ((t : Tree) × Before l.depth (slice_range l.bytes (l.start + 4) l.end) t (slice_range l.bytes l.at l.end)
-    × (l.start + 4 + length (elements t) ≡ l.at)
-    × (length (names_of t) ≡ l.place)
+-- whole pairs stand before the offset, as many as were counted, and it is known whether their names are canonical
+abbrev pub invariant-check_elements-loop-offset : goal.invariant-check_elements-loop-offset
+invariant-check_elements-loop-offset l =
+    (l.start + 4 ≤ l.offset) × (l.offset ≤ l.end) × (l.index ≤ l.offset) ×
+    ((t : Tree) × Before l.depth (slice_range l.bytes (l.start + 4) l.end) t (slice_range l.bytes l.offset l.end)
+    × (l.start + 4 + length (elements t) ≡ l.offset)
+    × (length (names_of t) ≡ l.index)
     × (l.canonical ≡ is_plain l.in_array 0 t))
 
-abbrev pub decreases-check_elements-loop-at : goal.decreases-check_elements-loop-at
-decreases-check_elements-loop-at l = l.end - l.at
+abbrev pub decreases-check_elements-loop-offset : goal.decreases-check_elements-loop-offset
+decreases-check_elements-loop-offset l = l.end - l.offset

@@ -1,4 +1,4 @@
 use Rattle.bson_raw.proofs.name.+is_decimal.Given as goal
 
 abbrev pub decreases-is_decimal : goal.decreases-is_decimal
-decreases-is_decimal l = l.place
+decreases-is_decimal l = l.index

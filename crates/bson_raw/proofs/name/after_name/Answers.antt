@@ -6,11 +6,11 @@ use Rattle.bson_raw.proofs.DigitLaws.{read_decimal}
 use Rattle.bson_raw.proofs.name.after_name.Goals as goal
 
 abbrev then : ℕ → List ℕ → Read (List ℕ)
-then place rest = Ok (decimal place, rest)
+then index rest = Ok (decimal index, rest)
 
-pub returns-then-is_place-clause-read : goal.returns-then-is_place-clause-read
-returns-then-is_place-clause-read c =
+pub returns-then-is_index-clause-read : goal.returns-then-is_index-clause-read
+returns-then-is_index-clause-read c =
     let n : ℕ = c.args.n in
     let rest : List ℕ = drop (n + 1) c.args.bytes.now in
     let whole : take (length c.args.bytes.now - (n + 1)) rest ≡ rest = take_all _ rest (omega (arith, length-drop (n + 1) c.args.bytes.now)) in
-    read_decimal c.args.bytes.now n c.args.place c.if-bytes-n.true c.ranges.place.fits c.if-bytes-n-eq0.true (sym c.is_place.ensures ∙ c.if-is_place.true) ∙ ap (then c.args.place) (sym whole)
+    read_decimal c.args.bytes.now n c.args.index c.if-bytes-n.true c.ranges.index.fits c.if-bytes-n-eq0.true (sym c.is_index.ensures ∙ c.if-is_index.true) ∙ ap (then c.args.index) (sym whole)
