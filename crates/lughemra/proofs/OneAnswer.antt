@@ -1,12 +1,11 @@
 -- Of bytes, one answer at most is told.
-use Rattle.std.proofs.Common.{◌≡◌, ◌≢◌, ◌+◌, ◌≤◌, ◌++◌, [], ◌∷◌, ℕ, List, Option, Some, None, length, take, refl, sym, ap, subst, ◌∙◌, append-nil, arith, length-append}
+use Rattle.std.proofs.Common.{◌≡◌, ◌+◌, [], ℕ, List, Option, Some, length, sym, ap, subst, ◌∙◌, append-nil, arith}
 use Rattle.bson_elem.specs.declared.fault.BsonFault.{BsonFault}
 use Rattle.bson_elem.specs.Tree.{Tree}
-use Rattle.bson_elem.specs.Spelling.{IsBytes, Spells, document, elements}
+use Rattle.bson_elem.specs.Spelling.{IsBytes, Spells, elements}
 use Rattle.bson_elem.specs.Checks.{fault}
-use Rattle.bson_elem.specs.Faults.{FrontFault}
 use Rattle.bson_elem.proofs.ContainerLaws.{document_takes, length-document}
-use Rattle.bson_elem.proofs.FrontLaws.{spelled_read, same_front, one_front, no_front}
+use Rattle.bson_elem.proofs.FrontLaws.{spelled_read, one_front, no_front}
 use Rattle.bson_elem.proofs.TreeLaws.{IsBytes-after}
 use Rattle.bson_raw.specs.Split.{documents_bytes, DocumentSplit}
 use Rattle.bson_raw.specs.Spelled.{IsLengthOf, WholeFault, unlike, as_front}

@@ -7,8 +7,7 @@ use Rattle.wire_msg.specs.Causes.{msg_fault}
 use Rattle.wire_msg.specs.Message.{Message}
 use Rattle.wire_msg.specs.Standing.{IsOpen, in_header}
 use Rattle.wire_msg.proofs.MsgAnswers.{no_msg_fault, one_msg_fault}
-use Rattle.wire_msg.proofs.Lemmas.{one_split}
-use Rattle.wire_msg.proofs.Lemmas.{open_not_bad, bad_once}
+use Rattle.wire_msg.proofs.Lemmas.{one_split, open_not_bad, bad_once}
 use Rattle.lughemra.specs.declared.messages.MessageCheck.{MessageCheck}
 use Rattle.lughemra.specs.declared.messages.MessagesCheck.{MessagesCheck}
 use Rattle.lughemra.specs.Messages.{IsMessageCheck, is_message, has_fault, Ending, at_fault, EndsAs, is_nothing, is_open, is_bad, messages_check, IsMessagesCheck}

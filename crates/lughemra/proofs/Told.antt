@@ -1,8 +1,7 @@
 -- What is told of the documents that begin some bytes.
-use Rattle.std.proofs.Common.{◌≡◌, ◌+◌, ◌++◌, [], ◌∷◌, ℕ, List, Option, Some, length, refl, ap, subst, ◌∙◌, arith, length-append}
+use Rattle.std.proofs.Common.{◌≡◌, ◌+◌, ℕ, List, Option, Some, length, refl, ap, subst, arith, length-append}
 use Rattle.std.specs.List.{sum_by}
 use Rattle.bson_elem.specs.declared.fault.BsonFault.{BsonFault}
-use Rattle.bson_elem.specs.Causes.{cause_number}
 use Rattle.bson_elem.specs.Checks.{fault}
 use Rattle.bson_elem.specs.Tree.{Tree}
 use Rattle.bson_raw.specs.Split.{documents_bytes, DocumentSplit}

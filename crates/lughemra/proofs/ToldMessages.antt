@@ -7,11 +7,9 @@ use Rattle.wire_msg.specs.declared.fault.MsgFault.{MsgFault}
 use Rattle.wire_msg.specs.Causes.{msg_fault}
 use Rattle.wire_msg.specs.Message.{Message}
 use Rattle.wire_msg.specs.Spelling.{IsMessage}
-use Rattle.wire_msg.specs.Split.{AreSpelled, Split}
+use Rattle.wire_msg.specs.Split.{AreSpelled}
 use Rattle.wire_msg.specs.Standing.{IsBad, IsOpen, IsWhole, in_header}
-use Rattle.wire_msg.proofs.Lemmas.{msg_read}
-use Rattle.wire_msg.proofs.Lemmas.{spelled-append, spelled_alone}
-use Rattle.wire_msg.proofs.Lemmas.{open_not_whole, bad_not_whole}
+use Rattle.wire_msg.proofs.Lemmas.{msg_read, spelled-append, spelled_alone, open_not_whole, bad_not_whole}
 use Rattle.lughemra.specs.declared.fault.FirstFault.{FirstFault}
 use Rattle.lughemra.specs.declared.messages.MessageCheck.{MessageCheck}
 use Rattle.lughemra.specs.declared.messages.MessagesCheck.{MessagesCheck}

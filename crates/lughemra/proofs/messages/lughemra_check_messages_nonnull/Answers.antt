@@ -14,13 +14,13 @@ returns-in-Open-clause-read c = λ within.
     let i = c.loop-rest.invariant in
     let some : 0 < length c.loop-rest.rest.now = search rules in
     told_inside c.args.limit c.args.bytes.now c.loop-rest.rest.now i.so_far.0 _ _ _ _ (λ j. (c.type_inv.bytes j).fits, i.so_far.2, omega (arith, i.room)) i.so_far.1
-        (λ none. omega (arith, some, ap length none)) c.in-Open.ensures.front c.ended_inside.ensures c.none-none.ensures
+    (λ none. omega (arith, some, ap length none)) c.in-Open.ensures.front c.ended_inside.ensures c.none-none.ensures
 
 pub returns-in-Bad-clause-read : goal.returns-in-Bad-clause-read
 returns-in-Bad-clause-read c = λ within.
     let i = c.loop-rest.invariant in
     told_bad c.args.limit c.args.bytes.now c.loop-rest.rest.now i.so_far.0 _ _ c.in-Bad.found _ _ (λ j. (c.type_inv.bytes j).fits, i.so_far.2, omega (arith, i.room)) i.so_far.1
-        c.in-Bad.ensures.front.0 c.of_message.ensures c.inside.ensures
+    c.in-Bad.ensures.front.0 c.of_message.ensures c.inside.ensures
 
 pub loop-rest-preserved : goal.loop-rest-preserved
 loop-rest-preserved c =
