@@ -12,7 +12,7 @@ use crate::msg::{RawMsg, check_parts, check_parts_with};
 use std::alloc::Global;
 
 /// What stands in front of bytes, as `RawMsg::front` tells it.
-#[derive(Clone, Copy, Debug)]
+#[derive(Clone, Copy, Debug, PartialEq, Eq)]
 pub enum MsgFront<'a> {
     /// A message, and the bytes behind it.
     Whole {
