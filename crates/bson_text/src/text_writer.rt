@@ -1,6 +1,6 @@
 //! Text on its way to a writer.
 
-ghost use Rattle.std.specs.Prelude.{◌≡◌, [], Ok, OnOk};
+ghost use Rattle.std.specs.Prelude.{◌≡◌, [], Err, IfSome, IsSome, Ok, OnErr, OnOk};
 ghost use Rattle.std.specs.Io.KnownBytes.{Appends, Keeps};
 ghost use Rattle.bson_text.specs.TextWriter.{text_contents};
 
@@ -69,6 +69,7 @@ impl<W: Write> TextWriter<W> {
         ensures bytes { OnOk result (Keeps (text_contents W.contents self.old)
             (text_contents W.contents self.new)) }
         ensures empty { OnOk result (self.new.text.items ≡ []) }
+        ensures kept { OnErr result (IsSome self.new.error) }
     {
         match self.out.write_all(self.text.as_slice()) {
             Ok(()) => {
@@ -97,15 +98,25 @@ impl<W: Write> TextWriter<W> {
         }
     }
 
-    /// Ends a text that was written so far. Gives the writer, and its error where it failed.
+    /// Ends a text that was written so far. Returns the writer, and its error where it failed.
     pub(crate) fn finish(mut self, written: Result<(), Failed>) -> (W, io::Result<()>)
         ensures whole { OnOk result.1 (written ≡ Ok tt) }
         ensures bytes { OnOk result.1 (Keeps (text_contents W.contents self) (W.contents result.0)) }
+        ensures failed { OnErr written (IfSome self.error (λ e. result.1 ≡ Err e)) }
     {
         let ended = match written {
             Ok(()) => self.pass_on(),
             Err(failed) => Err(failed),
         };
+        self.into_writer(ended)
+    }
+
+    /// Returns the writer, and the error that was kept where it failed.
+    fn into_writer(self, ended: Result<(), Failed>) -> (W, io::Result<()>)
+        ensures whole { OnOk result.1 (ended ≡ Ok tt) }
+        ensures writer { result.0 ≡ self.out }
+        ensures failed { OnErr ended (IfSome self.error (λ e. result.1 ≡ Err e)) }
+    {
         let TextWriter {
             out,
             text: _,
