@@ -1,7 +1,7 @@
 -- A document with one more pair, in place of the 00 that ends it.
 use mathlib.Core.List.{is_set}
 use Rattle.std.proofs.Common.{◌≡◌, ℕ, ◌+◌, ◌<◌, ◌≤◌, ◌^◌, Bool, true, false, cond, ◌==◌, List, [], ◌∷◌, ◌++◌, Some, None, length, set, take, drop, refl, sym, ap, ◌∙◌, arith, append_assoc, length-append}
-use Rattle.std.specs.Prelude.{IsUtf8}
+use Rattle.std.specs.Prelude.{IsUtf8, Result, Ok, Err, IfErr, MatchResult}
 use Rattle.std.specs.Io.{StartsWith}
 use Rattle.std.proofs.Math.Logic.{∥∥₁_elim}
 use Rattle.std.proofs.Math.Nat.{ℕ_set}
@@ -20,7 +20,7 @@ use Rattle.bson_doc.specs.declared.refusal.DocRefusal.{DocRefusal}
 use Rattle.bson_doc.specs.declared.refusal.DocRefusal.TheVariants.{RepeatedName, OutOfMemory, TooLarge, ZeroInName, Depth}
 use Rattle.bson_doc.specs.Formed.{IsFormedValue}
 use Rattle.bson_doc.specs.Last.{with_last}
-use Rattle.bson_doc.specs.Refusals.{IsSizeRefusal}
+use Rattle.bson_doc.specs.Refusals.{IsLengthRefusal}
 use Rattle.bson_doc.specs.Unwritable.{has_zero, unwritable_leaf, unwritable, unwritable_value, IsUnwritable}
 use Rattle.bson_doc.specs.Values.{value_bytes, value_kind, element_bytes}
 use Rattle.bson_doc.proofs.Checking.{passes, name_fails, value_fails}
@@ -64,7 +64,7 @@ leaf_writable regex_form (regex_value pattern options) f =
     ap (λ (b : Bool). cond b (Some ZeroInName) None) (or_from (has_zero pattern) (has_zero options) (free pattern f.0.no_zero) (free options f.1.no_zero))
 leaf_writable _ _ f = absurd f
 
-writable : (depth : ℕ) (t : Tree) → Fits depth t → unwritable depth t ≡ None
+pub writable : (depth : ℕ) (t : Tree) → Fits depth t → unwritable depth t ≡ None
 writable depth no_pairs f = refl
 writable depth (leaf_pair n k v ps) f =
     let named = free n f.0.no_zero in
@@ -146,11 +146,22 @@ name_refused t bytes n v s e = unwritable-with_last 1 n v t s.fits ∙ name_fail
 pub value_refused : (t : Tree) (bytes : List ℕ) (n : List ℕ) (v : TreeValue) (e : DocRefusal) → Spells t bytes → has_zero n ≡ false → unwritable_value 1 v ≡ Some e → IsUnwritable (with_last n v t) e
 value_refused t bytes n v e s free is = is_reason (with_last n v t) e (unwritable-with_last 1 n v t s.fits ∙ value_fails 1 n v no_pairs e free is)
 
-pub size_refused : (t : Tree) (bytes more : List ℕ) (n : List ℕ) (v : TreeValue) (limit : ℕ) (e : DocRefusal) → limit + 1 ≡ 2 ^ 31 → Spells t bytes → has_zero n ≡ false → unwritable_value 1 v ≡ None
-    → more ≡ elements (with_last n v t) → IsSizeRefusal limit (length (document more)) e → IsUnwritable (with_last n v t) e
-size_refused t bytes more n v limit (RepeatedName depth) counted s free writable is r = absurd r
-size_refused t bytes more n v limit OutOfMemory counted s free writable is r = tt
-size_refused t bytes more n v limit TooLarge counted s free writable is r =
-    (unwritable-with_last 1 n v t s.fits ∙ passes 1 n v no_pairs free writable, omega (arith, counted, r, ap (λ (x : List ℕ). length (document x)) is))
-size_refused t bytes more n v limit ZeroInName counted s free writable is r = absurd r
-size_refused t bytes more n v limit Depth counted s free writable is r = absurd r
+length-with_last : (t : Tree) (bytes : List ℕ) (n : List ℕ) (v : TreeValue) → Spells t bytes → length (document (elements (with_last n v t))) ≡ length bytes + length (element_bytes n v)
+length-with_last t bytes n v s =
+    omega (arith, ap length s.parts, length-document (elements t), length-document (elements (with_last n v t)), ap length (elements-with_last n v t), length-append (elements t) (element_bytes n v))
+
+pub size_refused : (t : Tree) (bytes : List ℕ) (n : List ℕ) (v : TreeValue) (limit : ℕ) (e : DocRefusal) → limit + 1 ≡ 2 ^ 31 → Spells t bytes → has_zero n ≡ false → unwritable_value 1 v ≡ None
+    → IsLengthRefusal limit (length bytes + length (element_bytes n v)) e → IsUnwritable (with_last n v t) e
+size_refused t bytes n v limit (RepeatedName depth) counted s free writable r = absurd r
+size_refused t bytes n v limit OutOfMemory counted s free writable r =
+    (unwritable-with_last 1 n v t s.fits ∙ passes 1 n v no_pairs free writable, omega (arith, counted, r, length-with_last t bytes n v s))
+size_refused t bytes n v limit TooLarge counted s free writable r =
+    (unwritable-with_last 1 n v t s.fits ∙ passes 1 n v no_pairs free writable, omega (arith, counted, r, length-with_last t bytes n v s))
+size_refused t bytes n v limit ZeroInName counted s free writable r = absurd r
+size_refused t bytes n v limit Depth counted s free writable r = absurd r
+
+-- ---- what is spelled can be written, so memory alone is wanting
+
+pub only_memory : {T : Type 0} (r : Result T DocRefusal) (P : T → Type 0) (t : Tree) (bytes : List ℕ) → Spells t bytes → MatchResult r P (λ e. e ≡ OutOfMemory) → IfErr r (λ e. IsUnwritable t e)
+only_memory (Ok x) P t bytes s h = tt
+only_memory (Err e) P t bytes s h = rw h (writable 1 t s.fits, omega (arith, s.short, ap length s.parts))

@@ -10,3 +10,5 @@ pub mod Writing
 pub mod Owned
 pub mod Appending
 pub mod Equal
+pub mod Rooms
+pub mod RefusalTexts

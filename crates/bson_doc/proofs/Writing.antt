@@ -1,5 +1,5 @@
 -- The bytes of pairs, one after another, and which of them spell a document.
-use Rattle.std.proofs.Common.{◌≡◌, ℕ, ◌+◌, ◌<◌, ◌≤◌, ◌^◌, Bool, true, false, cond, nat_lt, ◌||◌, ◌==◌, List, [], ◌∷◌, ◌++◌, Option, Some, None, length, take, drop, refl, sym, ap, ◌∙◌, arith, append_assoc, length-append}
+use Rattle.std.proofs.Common.{◌≡◌, ℕ, ◌+◌, ◌<◌, ◌≤◌, ◌^◌, Bool, true, false, cond, nat_lt, ◌||◌, ◌==◌, List, [], ◌∷◌, ◌++◌, Option, Some, None, length, take, drop, refl, sym, subst, ap, ◌∙◌, arith, append_assoc, length-append}
 use Rattle.std.specs.Option.{option_or}
 use Rattle.std.specs.Io.{StartsWith}
 use Rattle.std.specs.Prelude.{IsUtf8, Result, Ok, Err, OnOk, OnErr}
@@ -19,7 +19,7 @@ use Rattle.bson_raw.proofs.Walks.{inner_len}
 use Rattle.bson_doc.specs.declared.refusal.DocRefusal.{DocRefusal}
 use Rattle.bson_doc.specs.declared.refusal.DocRefusal.TheVariants.{RepeatedName, OutOfMemory, TooLarge, ZeroInName, Depth}
 use Rattle.bson_doc.specs.Formed.{IsFormedLeaf, IsFormed, IsFormedValue}
-use Rattle.bson_doc.specs.Refusals.{IsSizeRefusal}
+use Rattle.bson_doc.specs.Refusals.{IsLengthRefusal, IsSizeRefusal}
 use Rattle.bson_doc.specs.Unwritable.{has_zero, unwritable_leaf, unwritable, IsUnwritable}
 use Rattle.bson_doc.specs.Values.{value_bytes, value_kind, element_bytes}
 
@@ -172,39 +172,50 @@ kept_front before added out after is kept =
 pub kept_begun : (t left : Tree) (before begin begun out after : List ℕ) → Written t left begun out → begun ≡ before ++ begin → StartsWith after out → StartsWith after before
 kept_begun t left before begin begun out after w is kept = kept_front before begin begun after is (kept_front begun w.added out after w.is_added kept)
 
--- ---- a length is no reason of the check
+-- ---- a reason of the check is a 00 or a depth
 
-zero_never : (b : Bool) (o : Option DocRefusal) → (o ≡ Some TooLarge → ⊥) → cond b (Some ZeroInName) o ≡ Some TooLarge → ⊥
-zero_never true o h e = cc
-zero_never false o h e = h e
+abbrev IsChecked : Option DocRefusal → Type 0
+IsChecked None = Unit {0}
+IsChecked (Some ZeroInName) = Unit {0}
+IsChecked (Some Depth) = Unit {0}
+IsChecked _ = ⊥
 
-or_never : (a b : Option DocRefusal) → (a ≡ Some TooLarge → ⊥) → (b ≡ Some TooLarge → ⊥) → option_or a b ≡ Some TooLarge → ⊥
-or_never None b g h e = h e
-or_never (Some r) b g h e = g e
+zero_checked : (b : Bool) (o : Option DocRefusal) → IsChecked o → IsChecked (cond b (Some ZeroInName) o)
+zero_checked true o h = tt
+zero_checked false o h = h
 
-deep_never : (b : Bool) (o : Option DocRefusal) → (o ≡ Some TooLarge → ⊥) → cond b o (Some Depth) ≡ Some TooLarge → ⊥
-deep_never true o h e = h e
-deep_never false o h e = cc
+or_checked : (a b : Option DocRefusal) → IsChecked a → IsChecked b → IsChecked (option_or a b)
+or_checked None b g h = h
+or_checked (Some r) b g h = g
 
-no_reason : (o : Option DocRefusal) → o ≡ None → o ≡ Some TooLarge → ⊥
-no_reason o n e = cc
+depth_checked : (b : Bool) (o : Option DocRefusal) → IsChecked o → IsChecked (cond b o (Some Depth))
+depth_checked true o h = h
+depth_checked false o h = tt
 
-leaf_never : (v : Leaf) → unwritable_leaf v ≡ Some TooLarge → ⊥
-leaf_never (regex_value pattern options) e = zero_never (has_zero pattern || has_zero options) None (no_reason None refl) e
-leaf_never _ e = no_reason None refl e
+leaf_checked : (v : Leaf) → IsChecked (unwritable_leaf v)
+leaf_checked (regex_value pattern options) = zero_checked (has_zero pattern || has_zero options) None tt
+leaf_checked _ = tt
 
-never_large : (depth : ℕ) (t : Tree) → unwritable depth t ≡ Some TooLarge → ⊥
-never_large depth no_pairs e = no_reason None refl e
-never_large depth (leaf_pair n k v ps) e = zero_never (has_zero n) _ (or_never (unwritable_leaf v) _ (leaf_never v) (never_large depth ps)) e
-never_large depth (inner_pair n k b inner ps) e =
-    zero_never (has_zero n) _ (or_never _ _ (deep_never (nat_lt depth 200) _ (never_large (depth + 1) inner)) (never_large depth ps)) e
+checked : (depth : ℕ) (t : Tree) → IsChecked (unwritable depth t)
+checked depth no_pairs = tt
+checked depth (leaf_pair n k v ps) = zero_checked (has_zero n) _ (or_checked (unwritable_leaf v) _ (leaf_checked v) (checked depth ps))
+checked depth (inner_pair n k b inner ps) =
+    zero_checked (has_zero n) _ (or_checked _ _ (depth_checked (nat_lt depth 200) _ (checked (depth + 1) inner)) (checked depth ps))
 
 pub is_reason : (t : Tree) (e : DocRefusal) → unwritable 1 t ≡ Some e → IsUnwritable t e
 is_reason t (RepeatedName depth) h = h
-is_reason t OutOfMemory h = tt
-is_reason t TooLarge h = absurd (never_large 1 t h)
+is_reason t OutOfMemory h = absurd (subst IsChecked h (checked 1 t))
+is_reason t TooLarge h = absurd (subst IsChecked h (checked 1 t))
 is_reason t ZeroInName h = h
 is_reason t Depth h = h
+
+-- the length is the reason, or memory
+pub length_refused : (t : Tree) (limit : ℕ) (e : DocRefusal) → limit + 1 ≡ 2 ^ 31 → unwritable 1 t ≡ None → IsLengthRefusal limit (length (document (elements t))) e → IsUnwritable t e
+length_refused t limit (RepeatedName depth) counted free r = absurd r
+length_refused t limit OutOfMemory counted free r = (free, omega (arith, counted, r))
+length_refused t limit TooLarge counted free r = (free, omega (arith, counted, r))
+length_refused t limit ZeroInName counted free r = absurd r
+length_refused t limit Depth counted free r = absurd r
 
 pub on_ok : {T E : Type 0} (r : Result T E) {P Q : Type 0} → (P → Q) → OnOk r P → OnOk r Q
 on_ok (Ok x) f p = f p

@@ -1,6 +1,7 @@
 pub mod Plain
 pub mod Values
 pub mod Refusals
+pub mod Room
 pub mod RawDocumentBuf
 pub mod Depths
 pub mod Codes

@@ -1,6 +1,6 @@
 -- Why a tree has no spelling, where that isn't its length: a 00 in a name, a pattern or options, or a container deeper
 -- than 200.
-use Rattle.std.specs.Prelude.{◌≡◌, ℕ, ◌+◌, ◌^◌, ◌≤◌, length, Bool, nat_lt, ◌||◌, List, Option, Some, None, if◌then◌else◌}
+use Rattle.std.specs.Prelude.{◌≡◌, ℕ, ◌+◌, ◌^◌, ◌≤◌, ◌<◌, length, Bool, nat_lt, ◌||◌, List, Option, Some, None, if◌then◌else◌}
 use Rattle.std.specs.Option.{option_or}
 use Rattle.std.specs.List.{list_any}
 use Rattle.bson_elem.specs.Checks.{is_zero}
@@ -33,8 +33,9 @@ abbrev pub unwritable_value : ℕ → TreeValue → Option DocRefusal
 unwritable_value depth (leaf_value k v) = unwritable_leaf v
 unwritable_value depth (document_value k b inner) = if nat_lt depth 200 then unwritable (depth + 1) inner else Some Depth
 
--- memory is wanting, or this is why the tree of a document has no spelling: its length counts last
+-- why the tree of a document isn't written: the first reason why it has no spelling, its length last; and want of
+-- memory, where it has one
 abbrev pub IsUnwritable : Tree → DocRefusal → Type 0
-IsUnwritable t OutOfMemory = Unit {0}
+IsUnwritable t OutOfMemory = (unwritable 1 t ≡ None) × (length (document (elements t)) < 2 ^ 31)
 IsUnwritable t TooLarge = (unwritable 1 t ≡ None) × (2 ^ 31 ≤ length (document (elements t)))
 IsUnwritable t e = unwritable 1 t ≡ Some e

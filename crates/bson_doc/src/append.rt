@@ -1,6 +1,6 @@
 //! A pair that is added to a document in its bytes.
 
-ghost use Rattle.std.specs.Prelude.{◌≡◌, ◌≤◌, ◌++◌, length, drop, vec_len, OnOk, OnErr, IfErr};
+ghost use Rattle.std.specs.Prelude.{◌≡◌, ◌≤◌, ◌+◌, ◌++◌, length, drop, vec_len, OnOk, OnErr, IfErr};
 ghost use Rattle.std.specs.Io.{StartsWith};
 ghost use Rattle.bson_elem.specs.Tree.{Tree};
 ghost use Rattle.bson_elem.specs.Spelling.{cstring, Spells};
@@ -9,14 +9,15 @@ ghost use Rattle.bson_raw.specs.Spelled.{IsSpelled};
 ghost use Rattle.bson_doc.specs.Bson.{value_of};
 ghost use Rattle.bson_doc.specs.Formed.{IsFormedValue};
 ghost use Rattle.bson_doc.specs.Last.{with_last};
-ghost use Rattle.bson_doc.specs.Refusals.{IsSizeRefusal};
+ghost use Rattle.bson_doc.specs.Refusals.{IsLengthRefusal, IsSizeRefusal};
 ghost use Rattle.bson_doc.specs.Unwritable.{IsUnwritable};
-ghost use Rattle.bson_doc.specs.Values.{value_bytes};
+ghost use Rattle.bson_doc.specs.Values.{element_bytes, value_bytes};
 
 use crate::bson::Bson;
 use crate::buf::MAX_LEN;
 use crate::bytes::{finish, write_cstring};
 use crate::refusal::DocRefusal;
+use crate::room::{refusal_of, room_after, room_after_pair};
 use crate::to_raw::write_value;
 use crate::unwritable::{check_cstring, check_value};
 
@@ -38,6 +39,17 @@ fn write_last(name: &str, value: &Bson, out: &mut Vec<u8>) -> Result<(), DocRefu
     finish(0, MAX_LEN, out)
 }
 
+/// Returns why the pair isn't added to a document of `len` bytes: `TooLarge` where it would have too many of them, else
+/// want of memory.
+fn refusal_of_pair(name: &str, value: &Bson, len: usize) -> DocRefusal
+    ensures { IsLengthRefusal MAX_LEN (len + length (element_bytes name.now (value_of value.now))) result }
+{
+    let Some(room) = room_after(len, MAX_LEN) else {
+        return DocRefusal::TooLarge;
+    };
+    refusal_of(room_after_pair(name, false, 0, value, room))
+}
+
 /// Adds the pair behind the others of the document that has these bytes. After a refusal they are
 /// what they were.
 pub(crate) fn append_pair(name: &str, value: &Bson, bytes: &mut Vec<u8>) -> Result<(), DocRefusal>
@@ -53,10 +65,10 @@ pub(crate) fn append_pair(name: &str, value: &Bson, bytes: &mut Vec<u8>) -> Resu
     check_value(value, 1)?;
     let end = bytes.len() - 1;
     bytes[end] = value.kind().byte();
-    if let Err(refusal) = write_last(name, value, bytes) {
+    if let Err(_) = write_last(name, value, bytes) {
         bytes.truncate(end + 1);
         bytes[end] = 0;
-        return Err(refusal);
+        return Err(refusal_of_pair(name, value, end + 1));
     }
     Ok(())
 }

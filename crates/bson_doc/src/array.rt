@@ -3,7 +3,7 @@
 ghost use Rattle.std.specs.Prelude.{◌≡◌, map, IfOk};
 
 use crate::bson::Bson;
-use std::alloc::{AllocError, Global};
+use std::alloc::AllocError;
 use std::marker::Model;
 
 /// The values of an array, in order.
@@ -66,12 +66,12 @@ impl Array {
     ///
     /// Want of memory.
     #[cycle(copy)]
-    pub fn try_clone(&self, alloc: Global) -> Result<Array, AllocError>
+    pub fn try_clone(&self) -> Result<Array, AllocError>
         ensures { IfOk result (λ copy. copy ≡ self.now) }
     {
-        let mut values = Vec::with_capacity(alloc, self.values.len())?;
+        let mut values = Vec::with_capacity(*self.values.allocator(), self.values.len())?;
         for value in self.values.iter() {
-            values.push(value.try_clone(alloc)?)?;
+            values.push(value.try_clone()?)?;
         }
         Ok(Array { values })
     }

@@ -5,7 +5,7 @@ ghost use Rattle.std.specs.Prelude.{◌≡◌, IfOk};
 use crate::array::Array;
 use crate::document::Document;
 use bson_elem::kind::Kind;
-use std::alloc::{AllocError, Global};
+use std::alloc::AllocError;
 
 /// A value, one variant a kind.
 #[derive(Debug, Drop, PartialEq)]
@@ -25,7 +25,7 @@ pub enum Bson {
     DateTime(i64),
     Null,
     Regex { pattern: String, options: String },
-    DbPointer { text: String, id: [u8; 12] },
+    DbPointer { namespace: String, id: [u8; 12] },
     Code(String),
     Symbol(String),
     CodeWithScope { code: String, scope: Document },
@@ -47,14 +47,14 @@ impl Bson {
     ///
     /// Want of memory.
     #[cycle(copy)]
-    pub fn try_clone(&self, alloc: Global) -> Result<Bson, AllocError>
+    pub fn try_clone(&self) -> Result<Bson, AllocError>
         ensures { IfOk result (λ copy. value_of copy ≡ value_of self.now) }
     {
         let copy = match self {
             Bson::Double(bytes) => Bson::Double(*bytes),
             Bson::String(text) => Bson::String(text.clone()?),
-            Bson::Document(document) => Bson::Document(document.try_clone(alloc)?),
-            Bson::Array(array) => Bson::Array(array.try_clone(alloc)?),
+            Bson::Document(document) => Bson::Document(document.try_clone()?),
+            Bson::Array(array) => Bson::Array(array.try_clone()?),
             Bson::Binary { subtype, bytes } => Bson::Binary {
                 subtype: *subtype,
                 bytes: bytes.clone()?,
@@ -68,15 +68,15 @@ impl Bson {
                 pattern: pattern.clone()?,
                 options: options.clone()?,
             },
-            Bson::DbPointer { text, id } => Bson::DbPointer {
-                text: text.clone()?,
+            Bson::DbPointer { namespace, id } => Bson::DbPointer {
+                namespace: namespace.clone()?,
                 id: *id,
             },
             Bson::Code(text) => Bson::Code(text.clone()?),
             Bson::Symbol(text) => Bson::Symbol(text.clone()?),
             Bson::CodeWithScope { code, scope } => Bson::CodeWithScope {
                 code: code.clone()?,
-                scope: scope.try_clone(alloc)?,
+                scope: scope.try_clone()?,
             },
             Bson::Int32(n) => Bson::Int32(*n),
             Bson::Timestamp { increment, seconds } => Bson::Timestamp {

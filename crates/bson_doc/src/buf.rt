@@ -56,7 +56,8 @@ impl RawDocumentBuf {
     ///
     /// `ZeroInName` for a 00 in the name, or in a name, a pattern or options in the value, and
     /// `Depth` for a container in it deeper than 200: the first of them in order. Else `TooLarge`
-    /// where the document would have more than 2,147,483,647 bytes. `OutOfMemory` in place of any.
+    /// where the document would have more than 2,147,483,647 bytes. `OutOfMemory` for a pair that could be added, where
+    /// memory is refused.
     pub fn append(&mut self, name: &str, value: &Bson) -> Result<(), DocRefusal>
         ensures added { (t : Tree) → Spells t (buf_bytes self.old)
             → OnOk result

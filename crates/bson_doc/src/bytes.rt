@@ -7,6 +7,7 @@ ghost use Rattle.std.specs.Io.{StartsWith};
 ghost use Rattle.bson_elem.specs.Kinds.{int32_form, int64_form, timestamp_form};
 ghost use Rattle.bson_elem.specs.Tree.{number_value, timestamp_value};
 ghost use Rattle.bson_elem.specs.Spelling.{little, cstring, string, binary, document, leaf_bytes};
+ghost use Rattle.bson_doc.specs.declared.refusal.DocRefusal.TheVariants.{TooLarge};
 ghost use Rattle.bson_doc.specs.Refusals.{IsSizeRefusal};
 
 use crate::buf::MAX_LEN;
@@ -177,7 +178,7 @@ pub(crate) fn put_len(start: usize, limit: usize, out: &mut Vec<u8>) -> Result<(
     requires counted { limit ≤ MAX_LEN }
     ensures added { OnOk result (out.new.items ≡ take start out.old.items ++ (little (vec_len out.old - start) ++ drop (start + 4) out.old.items)) }
     ensures within { OnOk result (vec_len out.old ≤ start + limit) }
-    ensures refused { IfErr result (λ e. IsSizeRefusal limit (vec_len out.old - start) e) }
+    ensures refused { IfErr result (λ e. (e ≡ TooLarge) × (limit < vec_len out.old - start)) }
     ensures kept { OnErr result (StartsWith out.new.items out.old.items) }
 {
     let len = out.len() - start;

@@ -1,17 +1,19 @@
 //! The canonical form of a document, in which the names of each array are "0", "1" and so on.
 
-ghost use Rattle.std.specs.Prelude.{◌≡◌, ◌≤◌, ◌<◌, ◌↔◌, ◌⊎◌, false, length, IsTrue, IfOk, IfErr, IsErrOf};
+ghost use Rattle.std.specs.Prelude.{◌≡◌, ◌≤◌, ◌↔◌, ◌⊎◌, false, length, IsTrue, IfOk, IfErr};
 ghost use Rattle.bson_elem.specs.Tree.{Tree};
 ghost use Rattle.bson_elem.specs.Spelling.{Spells};
 ghost use Rattle.bson_raw.specs.Naming.{is_plain};
 ghost use Rattle.bson_raw.specs.RawDocument.{document_bytes};
 ghost use Rattle.bson_doc.specs.Plain.{plain, canonical_len};
-ghost use Rattle.bson_doc.specs.Refusals.{IsSizeRefusal};
+ghost use Rattle.bson_doc.specs.Refusals.{IsLengthRefusal};
 ghost use Rattle.bson_doc.specs.RawDocumentBuf.{buf_bytes};
 
 use crate::buf::{MAX_LEN, RawDocumentBuf};
+use crate::canonical_room::room_after_document;
 use crate::element::write_document;
 use crate::refusal::DocRefusal;
+use crate::room::refusal_of;
 use bson_raw::document::RawDocument;
 use std::alloc::Global;
 
@@ -25,7 +27,22 @@ pub fn is_canonical(document: RawDocument<'_>) -> bool
     document.is_canonical()
 }
 
-/// The bytes of the canonical form, written anew, if these are no more than the limit.
+/// Returns the bytes of the canonical form, if these are no more than the limit.
+fn written_bytes(
+    alloc: Global,
+    document: RawDocument<'_>,
+    limit: usize,
+) -> Result<Vec<u8>, DocRefusal>
+    requires { limit ≤ MAX_LEN }
+    ensures { (t : Tree) → Spells t (document_bytes document.entry)
+        → IfOk result (λ bytes. Spells (plain t) bytes.items × (length bytes.items ≤ limit)) }
+{
+    let mut out = Vec::with_capacity(alloc, document.as_bytes().len())?;
+    write_document(document, false, limit, &mut out)?;
+    Ok(out)
+}
+
+/// Returns the bytes of the canonical form, written anew, if these are no more than the limit.
 fn renumbered_bytes(
     alloc: Global,
     document: RawDocument<'_>,
@@ -35,18 +52,20 @@ fn renumbered_bytes(
     ensures written { (t : Tree) → Spells t (document_bytes document.entry)
         → IfOk result (λ bytes. Spells (plain t) bytes.items × (length bytes.items ≤ limit)) }
     ensures refused { (t : Tree) → Spells t (document_bytes document.entry)
-        → IfErr result (λ e. IsSizeRefusal limit (canonical_len t) e) }
+        → IfErr result (λ e. IsLengthRefusal limit (canonical_len t) e) }
 {
-    let mut out = Vec::with_capacity(alloc, document.as_bytes().len())?;
-    write_document(document, false, limit, &mut out)?;
-    Ok(out)
+    match written_bytes(alloc, document, limit) {
+        Ok(bytes) => Ok(bytes),
+        Err(_) => Err(refusal_of(room_after_document(document, false, limit))),
+    }
 }
 
 /// The bytes of the canonical form, for a caller that takes no more than some number of them.
 ///
 /// # Errors
 ///
-/// `TooLarge` where the canonical form has more bytes than the limit, and `OutOfMemory`.
+/// `TooLarge` where the canonical form has more bytes than the limit. `OutOfMemory` where it hasn't, and memory is
+/// refused.
 pub fn canonical_bytes(
     alloc: Global,
     document: RawDocument<'_>,
@@ -56,7 +75,7 @@ pub fn canonical_bytes(
     ensures written { (t : Tree) → Spells t (document_bytes document.entry)
         → IfOk result (λ bytes. Spells (plain t) bytes.items × (length bytes.items ≤ limit)) }
     ensures refused { (t : Tree) → Spells t (document_bytes document.entry)
-        → IfErr result (λ e. IsSizeRefusal limit (canonical_len t) e) }
+        → IfErr result (λ e. IsLengthRefusal limit (canonical_len t) e) }
 {
     if !is_canonical(document) {
         return renumbered_bytes(alloc, document, limit);
@@ -73,13 +92,14 @@ pub fn canonical_bytes(
 ///
 /// # Errors
 ///
-/// `TooLarge` where the canonical form has more than 2,147,483,647 bytes, and `OutOfMemory`.
+/// `TooLarge` where the canonical form has more than 2,147,483,647 bytes. `OutOfMemory` where it hasn't, and memory is
+/// refused.
 pub fn to_canonical(alloc: Global, document: RawDocument<'_>) -> Result<RawDocumentBuf, DocRefusal>
     ensures canonical { (t : Tree) → Spells t (document_bytes document.entry)
         → IfOk result (λ d. Spells (plain t) (buf_bytes d)) }
     ensures only { IfErr result (λ e. (e ≡ DocRefusal.OutOfMemory) ⊎ (e ≡ DocRefusal.TooLarge)) }
-    ensures large { (t : Tree) → Spells t (document_bytes document.entry)
-        → IsErrOf result DocRefusal.TooLarge → MAX_LEN < canonical_len t }
+    ensures refused { (t : Tree) → Spells t (document_bytes document.entry)
+        → IfErr result (λ e. IsLengthRefusal MAX_LEN (canonical_len t) e) }
 {
     let bytes = canonical_bytes(alloc, document, MAX_LEN)?;
     Ok(RawDocumentBuf::from_spelled(bytes))
@@ -95,8 +115,8 @@ pub fn renumbered(alloc: Global, document: RawDocument<'_>) -> Result<RawDocumen
     ensures canonical { (t : Tree) → Spells t (document_bytes document.entry)
         → IfOk result (λ d. Spells (plain t) (buf_bytes d)) }
     ensures only { IfErr result (λ e. (e ≡ DocRefusal.OutOfMemory) ⊎ (e ≡ DocRefusal.TooLarge)) }
-    ensures large { (t : Tree) → Spells t (document_bytes document.entry)
-        → IsErrOf result DocRefusal.TooLarge → MAX_LEN < canonical_len t }
+    ensures refused { (t : Tree) → Spells t (document_bytes document.entry)
+        → IfErr result (λ e. IsLengthRefusal MAX_LEN (canonical_len t) e) }
 {
     let bytes = renumbered_bytes(alloc, document, MAX_LEN)?;
     Ok(RawDocumentBuf::from_spelled(bytes))

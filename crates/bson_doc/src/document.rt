@@ -183,13 +183,13 @@ impl Document {
     ///
     /// Want of memory.
     #[cycle(copy)]
-    pub fn try_clone(&self, alloc: Global) -> Result<Document, AllocError>
+    pub fn try_clone(&self) -> Result<Document, AllocError>
         ensures { IfOk result (λ copy. copy ≡ self.now) }
     {
         let names = self.names.clone()?;
-        let mut values = Vec::with_capacity(alloc, self.values.len())?;
+        let mut values = Vec::with_capacity(self.allocator(), self.values.len())?;
         for value in self.values.iter() {
-            values.push(value.try_clone(alloc)?)?;
+            values.push(value.try_clone()?)?;
         }
         Ok(Document { names, values })
     }

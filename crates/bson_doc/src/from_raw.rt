@@ -54,11 +54,8 @@ fn read_value(alloc: Global, value: RawBson<'_>, depth: u32) -> Result<Bson, Doc
             pattern: String::from_str(alloc, pattern)?,
             options: String::from_str(alloc, options)?,
         },
-        RawBson::DbPointer {
-            namespace: text,
-            id,
-        } => Bson::DbPointer {
-            text: String::from_str(alloc, text)?,
+        RawBson::DbPointer { text, id } => Bson::DbPointer {
+            namespace: String::from_str(alloc, text)?,
             id,
         },
         RawBson::Code(text) => Bson::Code(String::from_str(alloc, text)?),

@@ -28,6 +28,7 @@ use crate::bytes::{
 use crate::document::Document;
 use crate::name::write_name;
 use crate::refusal::DocRefusal;
+use crate::room::{refusal_of, room_after_document};
 use crate::unwritable::check_document;
 use bson_elem::kind::Kind;
 
@@ -107,7 +108,7 @@ pub(crate) fn write_value(value: &Bson, out: &mut Vec<u8>) -> Result<(), DocRefu
         Bson::Boolean(truth) => write_bytes(&[*truth as u8], out),
         Bson::DateTime(millis) => write_int64(*millis, out),
         Bson::Regex { pattern, options } => write_regex(pattern.as_str(), options.as_str(), out),
-        Bson::DbPointer { text, id } => write_pointer(text.as_str(), id, out),
+        Bson::DbPointer { namespace, id } => write_pointer(namespace.as_str(), id, out),
         Bson::Code(text) => write_string(text.as_str(), out),
         Bson::Symbol(text) => write_string(text.as_str(), out),
         Bson::CodeWithScope { code, scope } => write_scope(code.as_str(), scope, out),
@@ -175,7 +176,8 @@ impl Document {
     /// # Errors
     ///
     /// `ZeroInName` for a 00 in a name, a pattern or options and `Depth` for a container deeper than 200: the first of
-    /// them in the order of the pairs. Else `TooLarge` for more than 2,147,483,647 bytes. `OutOfMemory` in place of any.
+    /// them in the order of the pairs. Else `TooLarge` for more than 2,147,483,647 bytes. `OutOfMemory` for a document
+    /// that could be written, where memory is refused.
     pub fn to_raw(&self) -> Result<RawDocumentBuf, DocRefusal>
         ensures written { IfOk result (λ d. Spells (tree_of self.now) (buf_bytes d)) }
         ensures canonical { OnOk result (plain (tree_of self.now) ≡ tree_of self.now) }
@@ -184,7 +186,9 @@ impl Document {
     {
         check_document(self, 1)?;
         let mut out = Vec::new(self.allocator());
-        write_document(self, &mut out)?;
-        Ok(RawDocumentBuf::from_spelled(out))
+        match write_document(self, &mut out) {
+            Ok(()) => Ok(RawDocumentBuf::from_spelled(out)),
+            Err(_) => Err(refusal_of(room_after_document(self, MAX_LEN))),
+        }
     }
 }

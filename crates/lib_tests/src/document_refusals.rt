@@ -57,7 +57,7 @@ fn a_document_that_is_copied_or_written_stays(rt: HostRuntime) {
     let (Some(document), Some(before)) = (document(alloc), document(alloc)) else {
         return;
     };
-    if let Ok(copy) = document.try_clone(alloc) {
+    if let Ok(copy) = document.try_clone() {
         assert!(rt; copy == before);
     }
     assert!(rt; document == before);

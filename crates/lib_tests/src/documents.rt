@@ -19,7 +19,7 @@ fn is_written_as(alloc: Global, hex: &str, written: &str) -> Result<bool, Fail> 
         return Ok(false);
     };
     let document = Document::from_raw(alloc, raw)?;
-    let copy = document.try_clone(alloc)?;
+    let copy = document.try_clone()?;
     Ok(
         document.to_raw()?.as_raw().as_bytes() == wanted.as_slice()
             && copy.to_raw()?.as_raw().as_bytes() == wanted.as_slice(),

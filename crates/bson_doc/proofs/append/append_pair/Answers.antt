@@ -3,8 +3,11 @@ use Rattle.std.proofs.Common.{◌≡◌, ◌+◌, ◌-◌, ◌∙◌, sym, subst
 use Rattle.std.proofs.lemmas.Result.{err_from_is_err_and}
 use Rattle.bson_elem.specs.Kinds.{byte_of}
 use Rattle.bson_raw.specs.Spelled.{IsSpelled}
+use Rattle.bson_doc.specs.declared.buf.TheConstants.{MAX_LEN}
 use Rattle.bson_doc.specs.Bson.{value_of}
 use Rattle.bson_doc.specs.Last.{with_last}
+use Rattle.bson_doc.specs.Refusals.{IsLengthRefusal}
+use Rattle.bson_doc.specs.Values.{element_bytes}
 use Rattle.bson_doc.proofs.Appending.{least, cut_is, restored, elements_more, spells_more, name_refused, value_refused, size_refused}
 use Rattle.bson_doc.proofs.append.append_pair.Goals as goal
 
@@ -50,8 +53,8 @@ returns-in-Err-clause-refused c = λ t spelled.
     let bytes = c.args.bytes.now.items in
     let last : c.len-end.result - 1 + 1 ≡ length bytes = omega (arith, least bytes c.requires) in
     let v = value_of c.args.value.now in
-    size_refused t bytes _ c.args.name.now v _ c.in-Err.refusal refl spelled c.in_ok-check_cstring.ensures c.in_ok-check_value.ensures.reason
-    (elements_more t bytes (c.len-end.result - 1) c.byte.result c.args.name.now v spelled.parts last (c.byte.ensures ∙ ap byte_of c.kind.ensures)) c.in-Err.ensures.refused
+    size_refused t bytes c.args.name.now v MAX_LEN c.refusal_of_pair.result refl spelled c.in_ok-check_cstring.ensures c.in_ok-check_value.ensures.reason
+    (subst (λ (n : ℕ). IsLengthRefusal MAX_LEN (n + length (element_bytes c.args.name.now v)) c.refusal_of_pair.result) last c.refusal_of_pair.ensures)
 
 pub returns-clause-added : goal.returns-clause-added
 returns-clause-added c = λ t spelled.

@@ -1,0 +1,95 @@
+//! What is left of a limit behind the canonical form of a document, whose bytes are counted without being written. No
+//! function here takes memory.
+
+ghost use Rattle.std.specs.Prelude.{false, length};
+ghost use Rattle.bson_elem.specs.Spelling.{elements, inner_bytes, Spells};
+ghost use Rattle.bson_elem.specs.Spelling as spelling;
+ghost use Rattle.bson_elem.specs.Tree.{Tree, with_code};
+ghost use Rattle.bson_raw.specs.Naming.{name_at};
+ghost use Rattle.bson_raw.specs.Pairs.{TreeValue};
+ghost use Rattle.bson_raw.specs.RawBson.{Shows, held_len};
+ghost use Rattle.bson_raw.specs.RawDocument.{document_bytes};
+ghost use Rattle.bson_doc.specs.Plain.{plain_from};
+ghost use Rattle.bson_doc.specs.Room.{IsRoomLeft};
+ghost use Rattle.bson_doc.specs.Values.{plain_value, value_bytes, element_bytes};
+
+use crate::room::{
+    room_after, room_after_binary, room_after_bytes, room_after_dbpointer, room_after_head,
+    room_after_regex, room_after_string,
+};
+use bson_raw::document::RawDocument;
+use bson_raw::value::RawBson;
+
+/// Returns what is left of `room` behind the canonical bytes of a value.
+#[cycle(measure)]
+fn room_after_value(value: RawBson<'_>, room: usize) -> Option<usize>
+    ensures { (v : TreeValue) → Shows value.entry v
+        → IsRoomLeft room (length (value_bytes (plain_value v))) result }
+{
+    match value {
+        RawBson::Double(bytes) => room_after_bytes(&bytes, room),
+        RawBson::String(text) => room_after_string(text, room),
+        RawBson::Document(document) => room_after_document(document, false, room),
+        RawBson::Array(array) => room_after_document(array.as_document(), true, room),
+        RawBson::Binary { subtype, bytes } => room_after_binary(subtype, bytes, room),
+        RawBson::ObjectId(bytes) => room_after_bytes(&bytes, room),
+        RawBson::Boolean(_) => room_after(1, room),
+        RawBson::DateTime(_) => room_after(8, room),
+        RawBson::Regex { pattern, options } => room_after_regex(pattern, options, room),
+        RawBson::DbPointer { text, id } => room_after_dbpointer(text, &id, room),
+        RawBson::Code(text) => room_after_string(text, room),
+        RawBson::Symbol(text) => room_after_string(text, room),
+        RawBson::CodeWithScope { code, scope } => room_after_scope(code, scope, room),
+        RawBson::Int32(_) => room_after(4, room),
+        RawBson::Timestamp { .. } => room_after(8, room),
+        RawBson::Int64(_) => room_after(8, room),
+        RawBson::Decimal128(bytes) => room_after_bytes(&bytes, room),
+        RawBson::Undefined | RawBson::Null | RawBson::MinKey | RawBson::MaxKey => Some(room),
+    }
+}
+
+/// Returns what is left of `room` behind a code and the canonical form of its scope.
+#[cycle(measure)]
+fn room_after_scope(code: &str, scope: RawDocument<'_>, room: usize) -> Option<usize>
+    ensures { (t : Tree) → Spells t (document_bytes scope.entry)
+        → IsRoomLeft room (length (inner_bytes (with_code code.now) (elements (plain_from false 0 t)))) result }
+{
+    let left = room_after_string(code, room)?;
+    room_after_document(scope, false, room_after(4, left)?)
+}
+
+/// Returns what is left of `room` behind the pair at `index` of a container, in canonical form.
+#[cycle(measure)]
+fn room_after_pair(
+    name: &str,
+    in_array: bool,
+    index: usize,
+    value: RawBson<'_>,
+    room: usize,
+) -> Option<usize>
+    ensures { (v : TreeValue) → Shows value.entry v
+        → IsRoomLeft room (length (element_bytes (name_at in_array index name.now) (plain_value v))) result }
+{
+    let left = room_after_head(name, in_array, index, room)?;
+    room_after_value(value, left)
+}
+
+/// Returns what is left of `room` behind the document with the canonical names at every depth; in an array these are
+/// "0", "1" and so on.
+#[cycle(measure)]
+pub(crate) fn room_after_document(
+    document: RawDocument<'_>,
+    in_array: bool,
+    room: usize,
+) -> Option<usize>
+    ensures { (t : Tree) → Spells t (document_bytes document.entry)
+        → IsRoomLeft room (length (spelling.document (elements (plain_from in_array 0 t)))) result }
+{
+    let mut left = room_after(5, room)?;
+    let mut index = 0;
+    for (name, value) in document.iter() {
+        left = room_after_pair(name, in_array, index, value, left)?;
+        index += 1;
+    }
+    Some(left)
+}

@@ -1,0 +1,170 @@
+//! What is left of a limit behind the bytes of a document, which are counted without being written. No function here
+//! takes memory.
+
+ghost use Rattle.std.specs.Prelude.{ℕ, ◌+◌, ◌++◌, length};
+ghost use Rattle.bson_elem.specs.Spelling.{cstring, string, binary, elements, inner_bytes};
+ghost use Rattle.bson_elem.specs.Spelling as spelling;
+ghost use Rattle.bson_elem.specs.Tree.{with_code};
+ghost use Rattle.bson_raw.specs.Naming.{name_at};
+ghost use Rattle.bson_doc.specs.Array.{array_tree};
+ghost use Rattle.bson_doc.specs.Bson.{value_of};
+ghost use Rattle.bson_doc.specs.Document.{tree_of};
+ghost use Rattle.bson_doc.specs.Refusals.{IsLengthRefusal};
+ghost use Rattle.bson_doc.specs.Room.{IsRoomLeft};
+ghost use Rattle.bson_doc.specs.Values.{value_bytes, element_bytes};
+
+use crate::array::Array;
+use crate::bson::Bson;
+use crate::document::Document;
+use crate::refusal::DocRefusal;
+use itoa::Buffer;
+
+/// Returns what is left of `room` behind `count` bytes, or `None` where they are more.
+pub(crate) fn room_after(count: usize, room: usize) -> Option<usize>
+    ensures { IsRoomLeft room count result }
+{
+    room.checked_sub(count)
+}
+
+/// Returns why bytes aren't written that leave `left` of a limit: `TooLarge` where they are more than the limit, else
+/// want of memory.
+pub(crate) fn refusal_of(left: Option<usize>) -> DocRefusal
+    ensures { (limit count : ℕ) → IsRoomLeft limit count left → IsLengthRefusal limit count result }
+{
+    match left {
+        Some(_) => DocRefusal::OutOfMemory,
+        None => DocRefusal::TooLarge,
+    }
+}
+
+/// Returns what is left of `room` behind bytes as they are.
+pub(crate) fn room_after_bytes(bytes: &[u8], room: usize) -> Option<usize>
+    ensures { IsRoomLeft room (length bytes.now) result }
+{
+    room_after(bytes.len(), room)
+}
+
+/// Returns what is left of `room` behind the bytes of a string.
+pub(crate) fn room_after_string(text: &str, room: usize) -> Option<usize>
+    ensures { IsRoomLeft room (length (string text.now)) result }
+{
+    room_after(text.len() + 5, room)
+}
+
+/// Returns what is left of `room` behind a namespace and an ObjectId.
+pub(crate) fn room_after_dbpointer(namespace: &str, id: &[u8; 12], room: usize) -> Option<usize>
+    ensures { IsRoomLeft room (length (string namespace.now ++ id.now)) result }
+{
+    room_after(namespace.len() + 5 + id.len(), room)
+}
+
+/// Returns what is left of `room` behind a pattern and options.
+pub(crate) fn room_after_regex(pattern: &str, options: &str, room: usize) -> Option<usize>
+    ensures { IsRoomLeft room (length (cstring pattern.now ++ cstring options.now)) result }
+{
+    let left = room_after(pattern.len() + 1, room)?;
+    room_after(options.len() + 1, left)
+}
+
+/// Returns what is left of `room` behind the bytes of a binary.
+pub(crate) fn room_after_binary(subtype: u8, bytes: &[u8], room: usize) -> Option<usize>
+    ensures { IsRoomLeft room (length (binary subtype bytes.now)) result }
+{
+    if subtype == 2 {
+        return room_after(bytes.len() + 9, room);
+    }
+    room_after(bytes.len() + 5, room)
+}
+
+/// Returns what is left of `room` behind the type byte and the canonical name of the pair at `index`.
+pub(crate) fn room_after_head(
+    name: &str,
+    in_array: bool,
+    index: usize,
+    room: usize,
+) -> Option<usize>
+    ensures { IsRoomLeft room (length (cstring (name_at in_array index name.now)) + 1) result }
+{
+    if !in_array {
+        return room_after(name.len() + 2, room);
+    }
+    let mut digits = Buffer::new();
+    room_after(digits.format(index).len() + 2, room)
+}
+
+/// Returns what is left of `room` behind the bytes of a value.
+#[cycle(measure)]
+fn room_after_value(value: &Bson, room: usize) -> Option<usize>
+    ensures { IsRoomLeft room (length (value_bytes (value_of value.now))) result }
+{
+    match value {
+        Bson::Double(bytes) => room_after_bytes(bytes, room),
+        Bson::String(text) => room_after_string(text.as_str(), room),
+        Bson::Document(document) => room_after_document(document, room),
+        Bson::Array(array) => room_after_array(array, room),
+        Bson::Binary { subtype, bytes } => room_after_binary(*subtype, bytes, room),
+        Bson::ObjectId(bytes) => room_after_bytes(bytes, room),
+        Bson::Boolean(_) => room_after(1, room),
+        Bson::DateTime(_) => room_after(8, room),
+        Bson::Regex { pattern, options } => {
+            room_after_regex(pattern.as_str(), options.as_str(), room)
+        }
+        Bson::DbPointer { namespace, id } => room_after_dbpointer(namespace.as_str(), id, room),
+        Bson::Code(text) => room_after_string(text.as_str(), room),
+        Bson::Symbol(text) => room_after_string(text.as_str(), room),
+        Bson::CodeWithScope { code, scope } => room_after_scope(code.as_str(), scope, room),
+        Bson::Int32(_) => room_after(4, room),
+        Bson::Timestamp { .. } => room_after(8, room),
+        Bson::Int64(_) => room_after(8, room),
+        Bson::Decimal128(bytes) => room_after_bytes(bytes, room),
+        Bson::Undefined | Bson::Null | Bson::MinKey | Bson::MaxKey => Some(room),
+    }
+}
+
+/// Returns what is left of `room` behind a code and its scope.
+#[cycle(measure)]
+fn room_after_scope(code: &str, scope: &Document, room: usize) -> Option<usize>
+    ensures { IsRoomLeft room (length (inner_bytes (with_code code.now) (elements (tree_of scope.now)))) result }
+{
+    let left = room_after_string(code, room)?;
+    room_after_document(scope, room_after(4, left)?)
+}
+
+/// Returns what is left of `room` behind the pair at `index` of a container.
+#[cycle(measure)]
+pub(crate) fn room_after_pair(
+    name: &str,
+    in_array: bool,
+    index: usize,
+    value: &Bson,
+    room: usize,
+) -> Option<usize>
+    ensures { IsRoomLeft room (length (element_bytes (name_at in_array index name.now) (value_of value.now))) result }
+{
+    let left = room_after_head(name, in_array, index, room)?;
+    room_after_value(value, left)
+}
+
+/// Returns what is left of `room` behind the bytes of an array.
+#[cycle(measure)]
+fn room_after_array(array: &Array, room: usize) -> Option<usize>
+    ensures { IsRoomLeft room (length (spelling.document (elements (array_tree 0 array.now)))) result }
+{
+    let mut left = room_after(5, room)?;
+    for (index, value) in array.as_slice().iter().enumerate() {
+        left = room_after_pair("", true, index, value, left)?;
+    }
+    Some(left)
+}
+
+/// Returns what is left of `room` behind the bytes of a document.
+#[cycle(measure)]
+pub(crate) fn room_after_document(document: &Document, room: usize) -> Option<usize>
+    ensures { IsRoomLeft room (length (spelling.document (elements (tree_of document.now)))) result }
+{
+    let mut left = room_after(5, room)?;
+    for (name, value) in document.iter() {
+        left = room_after_pair(name, false, 0, value, left)?;
+    }
+    Some(left)
+}
