@@ -1,49 +1,38 @@
 -- Bytes have one text at most as messages.
-use Rattle.std.proofs.Common.{◌≡◌, ◌+◌, ◌++◌, [], ℕ, List, Bool, length, take, sym, ap, subst, ◌∙◌, arith, refl}
-use Rattle.std.proofs.lemmas.List.{take_at}
+use Rattle.std.proofs.Common.{◌≡◌, inl, inr, ◌+◌, ◌++◌, [], ◌∷◌, ℕ, List, Bool, Option, Some, sym, ap, subst, ◌∙◌}
+use Rattle.std.specs.Prelude.{flat_map}
 use Rattle.bson_elem.specs.Spelling.{IsBytes}
-use Rattle.bson_elem.proofs.FieldLaws.{IsBytes-take}
-use Rattle.bson_elem.proofs.TreeLaws.{IsBytes-after}
+use Rattle.bson_elem.proofs.Lemmas.{IsBytes-after}
 use Rattle.wire_msg.specs.declared.fault.MsgFault.{MsgFault}
 use Rattle.wire_msg.specs.Message.{Message}
-use Rattle.wire_msg.specs.Standing.{IsOpen, in_header}
-use Rattle.wire_msg.proofs.StandingLaws.{one_front, open_not_whole, open_not_bad, bad_not_whole, bad_once}
+use Rattle.wire_msg.proofs.SplitLaws.{one_split}
+use Rattle.wire_msg.proofs.StandingLaws.{open_not_bad, bad_once}
+use Rattle.engines.specs.Documents.{or_nothing, is_there}
 use Rattle.engines.specs.InputFault.{msg_line}
-use Rattle.engines.specs.Msg.{message_text, TextFrom, at_end, a_message, ended_inside, a_fault}
+use Rattle.engines.specs.Msg.{message_text, messages_len, IsLastMsg, MessagesAre, MsgText}
 
--- nothing is open
-none_open : (limit : ℕ) (bytes : List ℕ) → bytes ≡ [] → IsOpen limit bytes
-none_open limit bytes none = in_header (omega (arith, ap length none))
+-- there is one last line at most
+one_last : (limit start : ℕ) (rest : List ℕ) (last last' : Option (List ℕ)) → IsBytes rest → IsLastMsg limit start rest last → IsLastMsg limit start rest last' → last ≡ last'
+one_last limit start [] last last' fits a b = a ∙ sym b
+one_last limit start (x ∷ xs) last last' fits (inl a) (inl b) = a.1 ∙ sym b.1
+one_last limit start (x ∷ xs) last last' fits (inl a) (inr b) = absurd (open_not_bad limit (x ∷ xs) b.0 a.0 b.1)
+one_last limit start (x ∷ xs) last last' fits (inr a) (inl b) = absurd (open_not_bad limit (x ∷ xs) a.0 b.0 a.1)
+one_last limit start (x ∷ xs) last last' fits (inr a) (inr b) =
+    a.2 ∙ ap (λ (f : MsgFault). Some (msg_line (start + f.at) f.cause)) (bad_once limit (x ∷ xs) a.0 b.0 fits a.1 b.1) ∙ sym b.2
 
-IsBytes-front : (bytes front rest : List ℕ) → IsBytes bytes → bytes ≡ front ++ rest → IsBytes front
-IsBytes-front bytes front rest fits parts =
-    subst IsBytes (ap (take (length front)) parts ∙ take_at front rest (length front) refl) (IsBytes-take (length front) bytes fits)
+-- the texts of bytes, and the last line, are those of the one split that they have
+one_texts : (limit : ℕ) (bytes texts texts' : List ℕ) (last last' : Option (List ℕ)) → IsBytes bytes
+    → MessagesAre limit bytes texts last → MessagesAre limit bytes texts' last' → (texts ≡ texts') × (last ≡ last')
+one_texts limit bytes texts texts' last last' fits a b =
+    let same = one_split limit bytes a.0 b.0 a.1 b.1 fits a.2 b.2 in
+    let rest : IsBytes a.1 = IsBytes-after a.2.joined a.1 (subst IsBytes a.2.parts fits) in
+    let again : IsLastMsg limit (messages_len a.0) a.1 last' =
+    subst (λ (ms : List Message). IsLastMsg limit (messages_len ms) a.1 last') (sym same.0)
+    (subst (λ (r : List ℕ). IsLastMsg limit (messages_len b.0) r last') (sym same.1) b.4) in
+    (a.3 ∙ ap (flat_map message_text) same.0 ∙ sym b.3, one_last limit (messages_len a.0) a.1 last last' rest a.4 again)
 
--- bytes have one text at most
-pub one_msg_text : {limit p : ℕ} {bytes text text' : List ℕ} {fault fault' : Bool} → IsBytes bytes
-    → TextFrom limit p bytes text fault → TextFrom limit p bytes text' fault' → (text ≡ text') × (fault ≡ fault')
-one_msg_text fits (at_end none is l) (at_end none' is' l') = (is ∙ sym is', l ∙ sym l')
-one_msg_text {limit} {bytes = bytes} fits (at_end none is l) (a_message m rest more w is' d) = absurd (open_not_whole limit bytes rest m (none_open limit bytes none) w)
-one_msg_text fits (at_end none is l) (ended_inside some cut is' l') = absurd (some none)
-one_msg_text {limit} {bytes = bytes} fits (at_end none is l) (a_fault f bad is' l') = absurd (open_not_bad limit bytes f (none_open limit bytes none) bad)
-one_msg_text {limit} {bytes = bytes} fits (a_message m rest more w is d) (at_end none is' l') = absurd (open_not_whole limit bytes rest m (none_open limit bytes none) w)
-one_msg_text {limit} {p} {bytes} {fault' = fault'} fits (a_message m rest more w is d) (a_message n rest' more' w' is' d') =
-    let same = one_front m n w.front w'.front rest rest' (IsBytes-front bytes w.front rest fits w.parts) w.spelled w'.spelled (sym w.parts ∙ w'.parts) in
-    let again : TextFrom limit (p + length w.front) rest more' fault' =
-    subst (λ (x : List ℕ). TextFrom limit (p + length x) rest more' fault') (sym same.1) (subst (λ (x : List ℕ). TextFrom limit (p + length w'.front) x more' fault') (sym same.2) d') in
-    let ih = one_msg_text (IsBytes-after w.front rest (subst IsBytes w.parts fits)) d again in (
-      is ∙ ap (λ (x : List ℕ). message_text (length w.front) m ++ x) ih.0 ∙ ap (λ (x : Message). message_text (length w.front) x ++ more') same.0
-          ∙ ap (λ (x : List ℕ). message_text (length x) n ++ more') same.1 ∙ sym is',
-      ih.1,
-    )
-one_msg_text {limit} {bytes = bytes} fits (a_message m rest more w is d) (ended_inside some cut is' l') = absurd (open_not_whole limit bytes rest m cut w)
-one_msg_text {limit} {bytes = bytes} fits (a_message m rest more w is d) (a_fault f bad is' l') = absurd (bad_not_whole limit bytes rest m f fits bad w)
-one_msg_text fits (ended_inside some cut is l) (at_end none is' l') = absurd (some none)
-one_msg_text {limit} {bytes = bytes} fits (ended_inside some cut is l) (a_message m rest more w is' d) = absurd (open_not_whole limit bytes rest m cut w)
-one_msg_text fits (ended_inside some cut is l) (ended_inside some' cut' is' l') = (is ∙ sym is', l ∙ sym l')
-one_msg_text {limit} {bytes = bytes} fits (ended_inside some cut is l) (a_fault f bad is' l') = absurd (open_not_bad limit bytes f cut bad)
-one_msg_text {limit} {bytes = bytes} fits (a_fault f bad is l) (at_end none is' l') = absurd (open_not_bad limit bytes f (none_open limit bytes none) bad)
-one_msg_text {limit} {bytes = bytes} fits (a_fault f bad is l) (a_message m rest more w is' d) = absurd (bad_not_whole limit bytes rest m f fits bad w)
-one_msg_text {limit} {bytes = bytes} fits (a_fault f bad is l) (ended_inside some cut is' l') = absurd (open_not_bad limit bytes f cut bad)
-one_msg_text {limit} {p} {bytes} fits (a_fault f bad is l) (a_fault g bad' is' l') =
-    (is ∙ ap (λ (x : MsgFault). msg_line (p + x.at) x.cause) (bad_once limit bytes f g fits bad bad') ∙ sym is', l ∙ sym l')
+pub one_msg_text : (bytes text text' : List ℕ) (fault fault' : Bool) → IsBytes bytes
+    → MsgText bytes text fault → MsgText bytes text' fault' → (text ≡ text') × (fault ≡ fault')
+one_msg_text bytes text text' fault fault' fits w w' =
+    let same = one_texts 48000000 bytes w.0 w'.0 w.1 w'.1 fits w.2 w'.2 in
+    (w.3 ∙ ap (λ (x : List ℕ). x ++ or_nothing w.1) same.0 ∙ ap (λ (x : Option (List ℕ)). w'.0 ++ or_nothing x) same.1 ∙ sym w'.3, w.4 ∙ ap is_there same.1 ∙ sym w'.4)

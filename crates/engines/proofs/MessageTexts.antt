@@ -7,6 +7,7 @@ use Rattle.bson_elem.specs.Tree.{Tree}
 use Rattle.bson_elem.specs.Spelling.{Spells}
 use Rattle.bson_text.specs.Dump.{document_size, element_lines}
 use Rattle.wire_msg.specs.Message.{Message}
+use Rattle.wire_msg.specs.Spelling.{message_len}
 use Rattle.engines.specs.Msg.{flags_text, member_text, message_line}
 
 -- a piece is written, and then another
@@ -25,10 +26,10 @@ line_is size n id i to t flags f a b d e = rw (a, b, d, e) refl
 
 -- the first line of a message
 pub line_written : {E : Type 0} (r : Result (Unit {0}) E) (a b : Option (List ℕ)) (size : ℕ) (id to : ℤ) (flags : List ℕ) (n : ℕ) (m : Message)
-    → size ≡ n → id ≡ m.id → to ≡ m.response_to → flags ≡ flags_text m.more m.allows
-    → OnOk r (Appends a b (first_line size id to flags)) → OnOk r (Appends a b (message_line n m))
-line_written r a b size id to flags n m e f g h p =
-    subst (λ (x : List ℕ). OnOk r (Appends a b x)) (line_is size n id m.id to m.response_to flags (flags_text m.more m.allows) e f g h) p
+    → size ≡ n → n ≡ message_len m.content → id ≡ m.id → to ≡ m.response_to → flags ≡ flags_text m.more m.allows
+    → OnOk r (Appends a b (first_line size id to flags)) → OnOk r (Appends a b (message_line m))
+line_written r a b size id to flags n m e len f g h p =
+    subst (λ (x : List ℕ). OnOk r (Appends a b x)) (line_is size (message_len m.content) id m.id to m.response_to flags (flags_text m.more m.allows) (e ∙ len) f g h) p
 
 -- the line of a document's size, and those of its elements
 pub member_written : {E : Type 0} (r : Result (Unit {0}) E) (a b c : Option (List ℕ)) (t : Tree) (bytes : List ℕ) → Spells t bytes

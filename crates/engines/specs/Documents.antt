@@ -1,27 +1,55 @@
 -- What a command makes of documents back to back.
-use Rattle.std.specs.Prelude.{◌≡◌, ℕ, ◌+◌, List, [], ◌∷◌, ◌++◌, length, Bool, true, false, Option, None, Some}
+use Rattle.std.specs.Prelude.{◌≡◌, ℕ, ◌+◌, List, [], ◌∷◌, ◌++◌, length, Bool, true, false, Option, None, Some, is_some}
+use Rattle.std.specs.Io.KnownBytes.{Appends, Keeps}
 use Rattle.bson_elem.specs.declared.fault.BsonFault.{BsonFault}
 use Rattle.bson_elem.specs.Tree.{Tree}
-use Rattle.bson_elem.specs.Spelling.{Spells}
+use Rattle.bson_elem.specs.Spelling.{document, elements}
 use Rattle.bson_elem.specs.Faults.{FrontFault}
-use Rattle.std.specs.Io.KnownBytes.{Appends, Keeps}
+use Rattle.bson_raw.specs.Split.{DocumentSplit, documents_bytes}
 use Rattle.engines.specs.InputFault.{bson_line, too_large_line}
 
--- The bytes from the place p of an input on are read so: whether a document begins them, the texts of the documents
--- that they spell, one after another, and the line of the first fault, if there is one. A fault is that of bytes which no
--- document begins, or a document without a text. The place of a fault is counted from the input's start.
-pub data ReadsAs (text_of : Tree → Option (List ℕ)) : ℕ → List ℕ → Bool → List ℕ → Option (List ℕ) → Type 0 where
-  at_end : {p : ℕ} {bytes texts : List ℕ} {any : Bool} {last : Option (List ℕ)}
-      → bytes ≡ [] → any ≡ false → texts ≡ [] → last ≡ None → ReadsAs text_of p bytes any texts last
-  a_document : {p : ℕ} {bytes texts : List ℕ} {any : Bool} {last : Option (List ℕ)} (t : Tree) (b rest text more : List ℕ) (others : Bool)
-      → Spells t b → bytes ≡ b ++ rest → text_of t ≡ Some text → any ≡ true → texts ≡ text ++ more
-      → ReadsAs text_of (p + length b) rest others more last → ReadsAs text_of p bytes any texts last
-  without_text : {p : ℕ} {bytes texts : List ℕ} {any : Bool} {last : Option (List ℕ)} (t : Tree) (b rest : List ℕ)
-      → Spells t b → bytes ≡ b ++ rest → text_of t ≡ None → any ≡ false → texts ≡ []
-      → last ≡ Some (too_large_line p) → ReadsAs text_of p bytes any texts last
-  a_fault : {p : ℕ} {bytes texts : List ℕ} {any : Bool} {last : Option (List ℕ)} (b : ℕ) (rest : List ℕ) (f : BsonFault)
-      → bytes ≡ b ∷ rest → FrontFault bytes f → any ≡ false → texts ≡ []
-      → last ≡ Some (bson_line p f) → ReadsAs text_of p bytes any texts last
+-- ---- the documents of the input, where a document may have no text
+
+-- the text of a document, if it has one, and then others
+abbrev pub and_then : Option (List ℕ) → List ℕ → List ℕ
+and_then None others = []
+and_then (Some text) others = text ++ others
+
+-- the texts of the documents before the first without one, joined
+abbrev pub texts_of : (Tree → Option (List ℕ)) → List Tree → List ℕ
+texts_of text_of [] = []
+texts_of text_of (t ∷ ts) = and_then (text_of t) (texts_of text_of ts)
+
+-- whether the first document has a text
+abbrev pub any_text : (Tree → Option (List ℕ)) → List Tree → Bool
+any_text text_of [] = false
+any_text text_of (t ∷ ts) = is_some (text_of t)
+
+abbrev pub or_here : Option (List ℕ) → ℕ → Option ℕ → Option ℕ
+or_here None place others = Some place
+or_here (Some text) place others = others
+
+-- the place of the first document without a text, if there is one, where the documents begin at this place
+abbrev pub first_without : (Tree → Option (List ℕ)) → ℕ → List Tree → Option ℕ
+first_without text_of place [] = None
+first_without text_of place (t ∷ ts) =
+    or_here (text_of t) place (first_without text_of (place + length (document (elements t))) ts)
+
+-- The last line, if there is one: that of the first document without a text; or else that of the rest's fault, which is
+-- told at its place in the input, where the rest begins at this place.
+abbrev pub IsLast : Option ℕ → ℕ → List ℕ → Option (List ℕ) → Type 0
+IsLast (Some place) start rest last = last ≡ Some (too_large_line place)
+IsLast None start [] last = last ≡ None
+IsLast None start (b ∷ bs) last = (f : BsonFault) × FrontFault (b ∷ bs) f × (last ≡ Some (bson_line start f))
+
+-- ---- the text of the input
+
+-- The bytes are split into documents and a rest: whether the first document has a text, the texts joined, and the last
+-- line.
+abbrev pub TextsAre : (Tree → Option (List ℕ)) → List ℕ → Bool → List ℕ → Option (List ℕ) → Type 0
+TextsAre text_of bytes any texts last =
+    (documents : List Tree) × (rest : List ℕ) × DocumentSplit bytes documents rest × (any ≡ any_text text_of documents) × (texts ≡ texts_of text_of documents)
+    × IsLast (first_without text_of 0 documents) (length (documents_bytes documents)) rest last
 
 -- a line, or nothing
 abbrev pub or_nothing : Option (List ℕ) → List ℕ
@@ -34,10 +62,10 @@ is_there None = false
 is_there (Some line) = true
 
 -- The whole text of bytes, and whether it ends with a fault line: what is made of the texts of the documents, and of
--- whether there are any, and then the line of the first fault.
+-- whether there are any, and then the last line.
 abbrev pub IsWhole : (Tree → Option (List ℕ)) → (Bool → List ℕ → List ℕ) → List ℕ → List ℕ → Bool → Type 0
 IsWhole text_of joined bytes text fault =
-    (any : Bool) × (texts : List ℕ) × (last : Option (List ℕ)) × ReadsAs text_of 0 bytes any texts last
+    (any : Bool) × (texts : List ℕ) × (last : Option (List ℕ)) × TextsAre text_of bytes any texts last
     × (text ≡ joined any texts ++ or_nothing last) × (fault ≡ is_there last)
 
 -- the texts as they are

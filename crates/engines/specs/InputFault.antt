@@ -1,7 +1,7 @@
 -- The faults of an input, and their lines.
 use Rattle.std.specs.Prelude.{ℕ, ◌+◌, List, ◌++◌, codes, Option, None, Some}
 use Rattle.bson_elem.specs.declared.fault.BsonFault.{BsonFault}
-use Rattle.bson_elem.specs.Causes.{cause_name, cause_number}
+use Rattle.bson_elem.specs.FaultText.{bson_fault_text}
 use Rattle.wire_msg.specs.declared.fault.MsgCause.{MsgCause}
 use Rattle.wire_msg.specs.FaultText.{fault_text}
 use Rattle.engines.specs.FaultLine.{fault_line}
@@ -14,7 +14,7 @@ hex_line place = fault_line 0 (codes "Hex") place
 
 -- the line of a fault in a document, whose own places count from this one
 abbrev pub bson_line : ℕ → BsonFault → List ℕ
-bson_line start f = fault_line (cause_number f.cause) (cause_name f.cause) (start + f.at)
+bson_line start f = bson_fault_text (start + f.at) f.cause ++ codes "\n"
 
 -- the line of a document at this place whose canonical form is too long
 abbrev pub too_large_line : ℕ → List ℕ
@@ -30,7 +30,7 @@ ended_inside_line place = fault_line 14 (codes "EndedInside") place
 
 abbrev pub input_fault_line : InputFault → List ℕ
 input_fault_line (Hex place) = hex_line place
-input_fault_line (Bson f) = fault_line (cause_number f.cause) (cause_name f.cause) f.at
+input_fault_line (Bson f) = bson_fault_text f.at f.cause ++ codes "\n"
 input_fault_line (TooLarge place) = too_large_line place
 input_fault_line (Msg f) = msg_line f.at f.cause
 input_fault_line (EndedInside place) = ended_inside_line place

@@ -6,7 +6,7 @@ ghost use Rattle.bson_elem.specs.Tree.{Tree};
 ghost use Rattle.bson_elem.specs.Spelling.{Spells};
 ghost use Rattle.bson_raw.specs.Naming.{is_plain};
 ghost use Rattle.bson_raw.specs.RawDocument.{document_bytes};
-ghost use Rattle.engines.specs.Documents.{IsWhole, IsWritten, ReadsAs, is_there, or_nothing, plainly};
+ghost use Rattle.engines.specs.Documents.{IsWhole, IsWritten, TextsAre, is_there, or_nothing, plainly};
 ghost use Rattle.engines.specs.InputFault.{line_of};
 ghost use Rattle.engines.specs.Output.{AppendsText};
 ghost use Rattle.engines.specs.Run.{is_done};
@@ -15,6 +15,7 @@ use crate::input_fault::InputFault;
 use crate::run::RunEnd;
 use bson_elem::fault::BsonFault;
 use bson_raw::document::RawDocument;
+use bson_raw::laws::documents_split;
 use std::io::Write;
 
 /// What a command writes for a document.
@@ -56,7 +57,7 @@ pub fn write_each<E: EachDocument, W: Write>(
     out: &mut W,
 ) -> Result<Walk, RunEnd>
     ensures written { IfOk result (λ walk.
-        (texts : List ℕ) × ReadsAs (E.text_of each.now) 0 bytes.now walk.any texts (line_of walk.fault)
+        (texts : List ℕ) × TextsAre (E.text_of each.now) bytes.now walk.any texts (line_of walk.fault)
         × Appends (W.contents out.old) (W.contents out.new) texts) }
     ensures stopped { IfErr result (λ end. (is_done end ≡ false)
         × (end ≡ RunEnd.Memory → E.wants_memory each.now ≡ true)) }
@@ -76,6 +77,8 @@ pub fn write_each<E: EachDocument, W: Write>(
         };
         if !each.write_document(front.document, front.canonical, out)? {
             let fault = Some(InputFault::TooLarge { place });
+            // The text is that of all documents of the input, so those behind this one are found too.
+            let _ = documents_split(front.rest);
             return Ok(Walk { any, fault });
         }
         any = true;

@@ -1,15 +1,17 @@
 //! The line that ends a text whose input has a fault.
 
-ghost use Rattle.std.specs.Prelude.{OnOk};
+ghost use Rattle.std.specs.Prelude.{◌++◌, OnOk, codes};
 ghost use Rattle.std.specs.Io.KnownBytes.{Appends};
+ghost use Rattle.bson_elem.specs.FaultText.{bson_fault_text};
 ghost use Rattle.engines.specs.FaultLine.{fault_line};
 ghost use Rattle.engines.specs.InputFault.{msg_line};
 
+use bson_elem::fault::BsonFault;
 use std::io;
 use std::io::Write;
 use wire_msg::fault::MsgFault;
 
-/// The line of a fault, with its line feed.
+/// Writes the line of a fault.
 pub fn write_fault<W: Write>(number: u8, name: &str, place: usize, out: &mut W) -> io::Result<()>
     ensures { OnOk result (Appends (W.contents out.old) (W.contents out.new)
         (fault_line number name.now place)) }
@@ -17,7 +19,15 @@ pub fn write_fault<W: Write>(number: u8, name: &str, place: usize, out: &mut W) 
     writeln!(out, "fault {number} {name} at {place}")
 }
 
-/// The line of a message's fault, with its line feed.
+/// Writes the line of a document's fault.
+pub fn write_bson_fault<W: Write>(fault: BsonFault, out: &mut W) -> io::Result<()>
+    ensures { OnOk result (Appends (W.contents out.old) (W.contents out.new)
+        (bson_fault_text fault.at fault.cause ++ codes "\n")) }
+{
+    writeln!(out, "{fault}")
+}
+
+/// Writes the line of a message's fault.
 pub fn write_msg_fault<W: Write>(fault: MsgFault, out: &mut W) -> io::Result<()>
     ensures { OnOk result (Appends (W.contents out.old) (W.contents out.new)
         (msg_line fault.at fault.cause)) }

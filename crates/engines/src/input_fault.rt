@@ -4,7 +4,7 @@ ghost use Rattle.std.specs.Prelude.{OnOk};
 ghost use Rattle.std.specs.Io.KnownBytes.{Appends};
 ghost use Rattle.engines.specs.InputFault.{input_fault_line};
 
-use crate::fault_line::{write_fault, write_msg_fault};
+use crate::fault_line::{write_bson_fault, write_fault, write_msg_fault};
 use bson_elem::fault::BsonFault;
 use std::io;
 use std::io::Write;
@@ -34,9 +34,7 @@ impl InputFault {
     {
         match self {
             InputFault::Hex { place } => write_fault(0, "Hex", place, out),
-            InputFault::Bson(fault) => {
-                write_fault(fault.cause.number(), fault.cause.name(), fault.at, out)
-            }
+            InputFault::Bson(fault) => write_bson_fault(fault, out),
             InputFault::TooLarge { place } => write_fault(16, "TooLarge", place, out),
             InputFault::Msg(fault) => write_msg_fault(fault, out),
             InputFault::EndedInside { place } => write_fault(14, "EndedInside", place, out),

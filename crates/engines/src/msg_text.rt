@@ -1,6 +1,6 @@
 //! The text of a message. No function here takes memory.
 
-ghost use Rattle.std.specs.Prelude.{◌≡◌, List, OnOk, flat_map, length};
+ghost use Rattle.std.specs.Prelude.{◌≡◌, List, OnOk, flat_map};
 ghost use Rattle.std.specs.Io.KnownBytes.{Appends};
 ghost use Rattle.bson_elem.specs.Tree.{Tree};
 ghost use Rattle.bson_elem.specs.Spelling.{Spells};
@@ -37,7 +37,7 @@ fn flags_word(more: bool, allows: bool) -> &'static str
 fn write_message_line<W: Write>(message: RawMsg<'_>, out: &mut W) -> io::Result<()>
     ensures { (m : Message) → SpellsMsg m (msg_bytes message.entry) → OnOk result
         (Appends (W.contents out.old) (W.contents out.new)
-        (message_line (length (msg_bytes message.entry)) m)) }
+        (message_line m)) }
 {
     let size = message.as_bytes().len();
     let id = message.id();
@@ -113,7 +113,7 @@ fn write_sequences<W: Write>(payload: Payload<'_>, out: &mut W) -> io::Result<()
 pub fn write_message<W: Write>(message: RawMsg<'_>, out: &mut W) -> io::Result<()>
     ensures { (m : Message) → SpellsMsg m (msg_bytes message.entry) → OnOk result
         (Appends (W.contents out.old) (W.contents out.new)
-        (message_text (length (msg_bytes message.entry)) m)) }
+        (message_text m)) }
 {
     let payload = message.payload();
     write_message_line(message, out)?;

@@ -1,14 +1,14 @@
 use Rattle.std.proofs.Common.{◌≤◌, ℕ, List, length}
 use Rattle.std.specs.Io.KnownBytes.{Appends}
-use Rattle.engines.proofs.Readings.{GoesOn}
+use Rattle.engines.proofs.Readings.{Written}
 use Rattle.engines.proofs.documents.write_each.Given as goal
 
--- what was written, and the texts of the documents that are left, are the texts of all
+-- what was read, and what was written for it
 abbrev pub invariant-loop-rest : goal.invariant-loop-rest
 invariant-loop-rest g l =
     (length l.rest ≤ length l.bytes) ×
     ((texts : List ℕ) × Appends (g.W.Write.contents l.initial.out) (g.W.Write.contents l.out) texts
-    × GoesOn (g.E.EachDocument.text_of l.each) l.bytes l.rest l.any texts)
+    × Written (g.E.EachDocument.text_of l.each) l.bytes l.rest l.any texts)
 
 abbrev pub decreases-loop-rest : goal.decreases-loop-rest
 decreases-loop-rest g l = length l.rest

@@ -2,4 +2,4 @@ use Rattle.engines.proofs.MessageLaws.{one_msg_text}
 use Rattle.engines.proofs.laws.one_text_of_messages.Goals as goal
 
 pub returns : goal.returns
-returns c = λ bytes text other fault other_fault fits. one_msg_text fits
+returns c = one_msg_text

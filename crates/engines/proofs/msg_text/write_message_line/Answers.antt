@@ -2,6 +2,7 @@ use Rattle.std.proofs.Common.{◌≡◌, FitsSigned, sym, ap, subst, length, ◌
 use Rattle.std.specs.Int.{w32}
 use Rattle.std.proofs.lemmas.Int.{to_z-of_z}
 use Rattle.wire_msg.specs.RawMsg.{msg_bytes}
+use Rattle.wire_msg.proofs.ContentLaws.{length-spelled}
 use Rattle.engines.specs.Msg.{flags_text}
 use Rattle.engines.proofs.MessageTexts.{line_written}
 use Rattle.engines.proofs.msg_text.write_message_line.Goals as goal
@@ -12,7 +13,7 @@ returns g c = λ m s.
     let to : c.response_to-response_to.result ≡ m.response_to = c.response_to-response_to.ensures m s in
     let flags : c.flags_word-flags.result.now ≡ flags_text m.more m.allows =
     c.flags_word-flags.ensures ∙ ap (λ x. flags_text x c.allows_more.result) (c.more.ensures m s) ∙ ap (flags_text m.more) (c.allows_more.ensures m s) in
-    line_written c.writeln.result _ _ _ _ _ _ (length (msg_bytes c.args.message)) m (ap length c.as_bytes.ensures)
+    line_written c.writeln.result _ _ _ _ _ _ (length (msg_bytes c.args.message)) m (ap length c.as_bytes.ensures) (length-spelled m (msg_bytes c.args.message) s)
     (to_z-of_z w32 c.id-id.result (subst (FitsSigned w32) (sym id) s.id) ∙ id)
     (to_z-of_z w32 c.response_to-response_to.result (subst (FitsSigned w32) (sym to) s.response_to) ∙ to)
     flags c.writeln.ensures.bytes
