@@ -11,7 +11,7 @@ ghost use Rattle.bson_elem.specs.Results.{Gives};
 use crate::fault::{BsonCause, BsonFault};
 use crate::item::Item;
 use crate::kind::Kind;
-use crate::number::{little_u32, read_length};
+use crate::number::{MAX_LEN, little_u32, read_length};
 use crate::text::read_text;
 
 /// The greatest depth of a container. The outermost document has depth 1.
@@ -40,14 +40,13 @@ fn split_document(at: usize, from: usize, bytes: &[u8]) -> Result<(&[u8], &[u8])
             cause: BsonCause::Truncated,
         });
     }
-    let n = little_u32(bytes);
-    if n < 5 || n >= 0x8000_0000 {
+    let n = little_u32(bytes) as usize;
+    if n < 5 || n > MAX_LEN {
         return Err(BsonFault {
             at: from,
             cause: BsonCause::Length,
         });
     }
-    let n = n as usize;
     if bytes.len() < n {
         return Err(BsonFault {
             at,
@@ -70,7 +69,7 @@ fn split_document(at: usize, from: usize, bytes: &[u8]) -> Result<(&[u8], &[u8])
 /// # Errors
 ///
 /// - `Truncated` at `at` if `bytes` has fewer than 4 bytes, or fewer than the document's length.
-/// - `Length` at `from` if the length is below 5 or not below 2 ^ 31.
+/// - `Length` at `from` if the length is below 5 or above `MAX_LEN`.
 /// - `End` at `from` if the document's last byte isn't 00.
 #[inline(always)]
 pub fn read_document(at: usize, from: usize, bytes: &[u8]) -> Result<(&[u8], &[u8]), BsonFault>

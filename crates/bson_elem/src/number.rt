@@ -11,6 +11,9 @@ ghost use Rattle.bson_elem.specs.Results.{Gives};
 use crate::fault::BsonCause;
 use byteorder::{ByteOrder, LittleEndian};
 
+/// The greatest length of a document, a text or data: the greatest signed number of four bytes.
+pub const MAX_LEN: usize = 2_147_483_647;
+
 /// Returns the first four bytes as a number.
 #[inline(always)]
 pub fn little_u32(bytes: &[u8]) -> u32
@@ -33,15 +36,16 @@ pub(crate) fn read_u32(bytes: &[u8]) -> Result<(u32, &[u8]), BsonCause>
 
 /// Reads a length: a signed number of four bytes that is at least `least` and not negative.
 #[inline(always)]
-pub(crate) fn read_length(least: u32, bytes: &[u8]) -> Result<(usize, &[u8]), BsonCause>
+pub(crate) fn read_length(least: usize, bytes: &[u8]) -> Result<(usize, &[u8]), BsonCause>
     ensures read { Gives (λ x. (x.0, x.1.now)) result (length_at least bytes.now) }
     ensures parts { IfOk result (λ x. (least ≤ x.0) × (length x.1.now + 4 ≡ length bytes.now)) }
 {
     let (n, rest) = read_u32(bytes)?;
-    if n < least || n >= 0x8000_0000 {
+    let n = n as usize;
+    if n < least || n > MAX_LEN {
         return Err(BsonCause::Length);
     }
-    Ok((n as usize, rest))
+    Ok((n, rest))
 }
 
 /// Reads a signed number of four bytes.

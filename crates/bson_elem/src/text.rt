@@ -57,7 +57,7 @@ pub(crate) fn read_text(n: usize, bytes: &[u8]) -> Result<(&str, &[u8]), BsonCau
 /// # Errors
 ///
 /// - `Truncated` if `bytes` has fewer than 4 bytes, or fewer after them than the length.
-/// - `Length` if the length is below 1 or not below 2 ^ 31.
+/// - `Length` if the length is below 1 or above `MAX_LEN`.
 /// - `Text` if the text isn't UTF-8, and then `TextEnd` if the byte after it isn't 00.
 #[tactic(auto, unfolding(crate::specs::Checks::string_at))]
 #[inline(always)]
