@@ -88,7 +88,8 @@ enum lughemra_document_fault {
  * kind byte for faults of a section and of names; that of the document for one that has a fault of its own; that behind
  * the message if it has no body; and that of the message if the bytes end inside it. */
 enum lughemra_message_fault {
-    LUGHEMRA_MSG_LENGTH = 1,            /* a messageLength below 16 or above the limit */
+    /* a messageLength below 16 or above the limit, or, in the check of one message, not that of all bytes */
+    LUGHEMRA_MSG_LENGTH = 1,
     LUGHEMRA_MSG_OPCODE = 2,            /* an opCode that isn't 2013 */
     LUGHEMRA_MSG_FLAGS = 3,             /* an unknown bit is set among the flag bits 2 to 15 */
     LUGHEMRA_MSG_CHECKSUM = 4,          /* checksumPresent is set */
