@@ -1,4 +1,4 @@
-//! An array that owns its values.
+//! Arrays that own their values.
 
 ghost use Rattle.std.specs.Prelude.{◌≡◌, map, IfOk};
 
@@ -6,7 +6,7 @@ use crate::bson::Bson;
 use std::alloc::AllocError;
 use std::marker::Model;
 
-/// The values of an array, in order.
+/// An array: its values, in order.
 #[derive(Debug, Drop)]
 #[cycle(bson)]
 pub struct Array {
@@ -38,14 +38,14 @@ impl Model for Array {
 impl Array {
     ghost use Rattle.bson_doc.specs.Bson.{value_of};
 
-    /// The array of these values. It takes no memory.
+    /// Returns the array of these values. It takes no memory.
     pub fn from_vec(values: Vec<Bson>) -> Array
         ensures { result ≡ map value_of values.items }
     {
         Array { values }
     }
 
-    /// The values, in a `Vec`. It takes no memory.
+    /// Returns the values. It takes no memory.
     pub fn into_vec(self) -> Vec<Bson>
         ensures { map value_of result.items ≡ self }
     {
@@ -53,18 +53,18 @@ impl Array {
         values
     }
 
-    /// The values, in order.
+    /// Returns the values, in order.
     pub fn as_slice(&self) -> &[Bson]
         ensures { map value_of result.now ≡ self.now }
     {
         &self.values
     }
 
-    /// A copy of the array.
+    /// Returns a copy of the array.
     ///
     /// # Errors
     ///
-    /// Want of memory.
+    /// Returns `AllocError` if memory is refused.
     #[cycle(copy)]
     pub fn try_clone(&self) -> Result<Array, AllocError>
         ensures { IfOk result (λ copy. copy ≡ self.now) }

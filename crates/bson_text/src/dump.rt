@@ -27,7 +27,7 @@ use core::mem::replace_with;
 use std::io;
 use std::io::Write;
 
-/// The kind's word and the value of an element, behind its name.
+/// Writes the word of the value's kind and the value, which stand behind an element's name.
 fn write_value<W: Write>(value: RawBson<'_>, out: &mut TextWriter<W>) -> Result<(), Failed>
     ensures { (v : TreeValue) → Shows value.entry v → OnOk result
         (Appends (text_contents W.contents out.old) (text_contents W.contents out.new) (value_text v)) }
@@ -59,7 +59,7 @@ fn write_value<W: Write>(value: RawBson<'_>, out: &mut TextWriter<W>) -> Result<
     }
 }
 
-/// The line of an element.
+/// Writes the line of an element at depth `deep`.
 #[inline(always)]
 fn write_line<W: Write>(
     deep: u32,
@@ -77,7 +77,7 @@ fn write_line<W: Write>(
     out.write_all(b"\n")
 }
 
-/// The document of the elements that a value holds.
+/// Returns the document of the elements that a value holds, if it holds any kind of document.
 fn held_document(value: RawBson<'_>) -> Option<RawDocument<'_>>
     ensures tree { (v : TreeValue) → Shows value.entry v → MatchOption result (held_tree v ≡ None)
         (λ d. IsHeld v (document_bytes d)) }
@@ -91,8 +91,8 @@ fn held_document(value: RawBson<'_>) -> Option<RawDocument<'_>>
     }
 }
 
-/// Writes the lines of the next elements, up to that of one that holds elements, and gives the
-/// document of those, or `None` after the last element. It stands apart, so that a level of nesting
+/// Writes the lines of the next elements, up to and with the first that holds a document. Returns
+/// that document, or `None` after the last element. It isn't inlined, so that a level of nesting
 /// takes little of the stack.
 #[inline(never)]
 fn write_to_held<'a, W: Write>(
@@ -119,8 +119,8 @@ fn write_to_held<'a, W: Write>(
     Ok(None)
 }
 
-/// The lines of the elements of a document, and of those inside them. The outer ones have two
-/// spaces `deep` times.
+/// Writes the lines of a document's elements, and of those inside them. The outer lines begin with
+/// two spaces `deep` times.
 fn write_lines<W: Write>(
     document: RawDocument<'_>,
     deep: u32,
@@ -137,7 +137,7 @@ fn write_lines<W: Write>(
     Ok(())
 }
 
-/// As `dump_elements`, to a writer that is given back.
+/// Like `dump_elements`, but takes the writer by value and returns it.
 fn lines_through<W: Write>(out: W, what: (RawDocument<'_>, u32)) -> (W, io::Result<()>)
     requires { what.1 ≤ 2 }
     ensures { (t : Tree) → Spells t (document_bytes what.entry.0) → OnOk result.1
@@ -149,12 +149,12 @@ fn lines_through<W: Write>(out: W, what: (RawDocument<'_>, u32)) -> (W, io::Resu
     text.finish(written)
 }
 
-/// Writes the lines of a document's elements, and of those inside them. The outer ones have two
-/// spaces `deep` times.
+/// Writes the lines of a document's elements, and of those inside them. The outer lines begin with
+/// two spaces `deep` times, and those one level further in with two more.
 ///
 /// # Errors
 ///
-/// The error of the writer, which may have taken a part of the text.
+/// Returns the error of the writer, which may have taken a part of the text.
 pub fn dump_elements<W: Write>(document: RawDocument<'_>, deep: u32, out: &mut W) -> io::Result<()>
     requires { (1 ≤ deep) × (deep ≤ 2) }
     ensures { (t : Tree) → Spells t (document_bytes document.entry) → OnOk result
@@ -163,7 +163,7 @@ pub fn dump_elements<W: Write>(document: RawDocument<'_>, deep: u32, out: &mut W
     replace_with(out, (document, deep), lines_through)
 }
 
-/// The line of a document's size, and its elements' lines.
+/// Writes the line of a document's size, and its elements' lines.
 fn write_text<W: Write>(document: RawDocument<'_>, out: &mut TextWriter<W>) -> Result<(), Failed>
     ensures { (t : Tree) → Spells t (document_bytes document.entry) → OnOk result
         (Appends (text_contents W.contents out.old) (text_contents W.contents out.new) (document_text t)) }
@@ -174,7 +174,7 @@ fn write_text<W: Write>(document: RawDocument<'_>, out: &mut TextWriter<W>) -> R
     write_lines(document, 1, out)
 }
 
-/// As `dump_to`, to a writer that is given back.
+/// Like `dump_to`, but takes the writer by value and returns it.
 fn document_through<W: Write>(out: W, document: RawDocument<'_>) -> (W, io::Result<()>)
     ensures { (t : Tree) → Spells t (document_bytes document.entry) → OnOk result.1
         (Appends (W.contents out) (W.contents result.0) (document_text t)) }
@@ -188,7 +188,7 @@ fn document_through<W: Write>(out: W, document: RawDocument<'_>) -> (W, io::Resu
 ///
 /// # Errors
 ///
-/// The error of the writer, which may have taken a part of the text.
+/// Returns the error of the writer, which may have taken a part of the text.
 pub fn dump_to<W: Write>(document: RawDocument<'_>, out: &mut W) -> io::Result<()>
     ensures { (t : Tree) → Spells t (document_bytes document.entry) → OnOk result
         (Appends (W.contents out.old) (W.contents out.new) (document_text t)) }

@@ -1,4 +1,4 @@
-//! Indentation, quoted text and hexadecimal, the parts of which text of documents is made.
+//! Indentation, numbers, quoted text and hexadecimal digits: the parts of the text of documents.
 
 ghost use Rattle.std.specs.Prelude.{◌≡◌, ◌+◌, ◌≤◌, MatchOption, OnOk, Some, flat_map, length, position};
 ghost use Rattle.std.specs.Io.KnownBytes.{Appends};
@@ -11,13 +11,13 @@ use itoa::{Buffer, Integer};
 use std::io::Write;
 use std::simd::prelude::*;
 
-/// How many bytes are spelled at a time.
+/// The greatest count of bytes that are written as digits at a time.
 const HEX_CHUNK: usize = 128;
 
-/// How many bytes a number or an id has at most.
+/// The greatest count of bytes of a number or an id.
 const HEX_FEW: usize = 16;
 
-/// Two spaces for each level of depth.
+/// Writes two spaces `deep` times.
 pub(crate) fn write_indent<W: Write>(deep: u32, out: &mut TextWriter<W>) -> Result<(), Failed>
     ensures { OnOk result (Appends (text_contents W.contents out.old) (text_contents W.contents out.new) (indent deep)) }
 {
@@ -27,7 +27,7 @@ pub(crate) fn write_indent<W: Write>(deep: u32, out: &mut TextWriter<W>) -> Resu
     Ok(())
 }
 
-/// Whether quoted text writes the byte with a backslash.
+/// Returns true if quoted text has a backslash for the byte.
 #[inline(always)]
 fn is_escaped(b: u8) -> bool
     ensures { result ≡ needs_escape b }
@@ -35,7 +35,7 @@ fn is_escaped(b: u8) -> bool
     matches!(b, b'"' | b'\\' | 0..=31 | 127)
 }
 
-/// The place of the first byte to escape, if it is among the 16 bytes at `at`.
+/// Returns the offset of the first byte to escape, if it is one of the 16 bytes at offset `at`.
 #[inline(always)]
 fn escaped_in_16(bytes: &[u8], at: usize) -> Option<usize>
     requires { (at + 16 ≤ length bytes.now) × IsPlainTo bytes.now at }
@@ -53,7 +53,7 @@ fn escaped_in_16(bytes: &[u8], at: usize) -> Option<usize>
     Some(at + mask.trailing_zeros() as usize)
 }
 
-/// The place of the first byte to escape, if it is among the 4 bytes at `at`.
+/// Returns the offset of the first byte to escape, if it is one of the 4 bytes at offset `at`.
 #[inline(always)]
 fn escaped_in_4(bytes: &[u8], at: usize) -> Option<usize>
     requires { (at + 4 ≤ length bytes.now) × IsPlainTo bytes.now at }
@@ -71,7 +71,7 @@ fn escaped_in_4(bytes: &[u8], at: usize) -> Option<usize>
     Some(at + mask.trailing_zeros() as usize)
 }
 
-/// As `first_escaped`, in fewer than 4 bytes.
+/// Like `first_escaped`, for fewer than 4 bytes.
 #[inline(always)]
 fn escaped_one_by_one(bytes: &[u8]) -> Option<usize>
     ensures { result ≡ position needs_escape bytes.now }
@@ -84,7 +84,7 @@ fn escaped_one_by_one(bytes: &[u8]) -> Option<usize>
     None
 }
 
-/// As `first_escaped`, in fewer than 16 bytes.
+/// Like `first_escaped`, for fewer than 16 bytes.
 #[inline(always)]
 fn escaped_in_few(bytes: &[u8]) -> Option<usize>
     ensures { result ≡ position needs_escape bytes.now }
@@ -103,7 +103,7 @@ fn escaped_in_few(bytes: &[u8]) -> Option<usize>
     escaped_in_4(bytes, bytes.len() - 4)
 }
 
-/// The place of the first byte that quoted text writes with a backslash.
+/// Returns the offset of the first byte that quoted text has a backslash for.
 fn first_escaped(bytes: &[u8]) -> Option<usize>
     ensures { result ≡ position needs_escape bytes.now }
 {
@@ -121,7 +121,7 @@ fn first_escaped(bytes: &[u8]) -> Option<usize>
     escaped_in_16(bytes, bytes.len() - 16)
 }
 
-/// One byte as quoted text has it.
+/// Writes one byte as quoted text has it.
 fn write_escaped<W: Write>(b: u8, out: &mut TextWriter<W>) -> Result<(), Failed>
     ensures { OnOk result (Appends (text_contents W.contents out.old) (text_contents W.contents out.new) (escaped b)) }
 {
@@ -136,7 +136,7 @@ fn write_escaped<W: Write>(b: u8, out: &mut TextWriter<W>) -> Result<(), Failed>
     }
 }
 
-/// The bytes as quoted text has them. Each run of bytes that need no escape is written by one call.
+/// Writes bytes as quoted text has them, each run of bytes that need no escape by one call.
 #[inline(never)]
 fn write_runs<W: Write>(bytes: &[u8], out: &mut TextWriter<W>) -> Result<(), Failed>
     ensures { OnOk result (Appends (text_contents W.contents out.old) (text_contents W.contents out.new)
@@ -152,7 +152,7 @@ fn write_runs<W: Write>(bytes: &[u8], out: &mut TextWriter<W>) -> Result<(), Fai
     out.write_all(rest)
 }
 
-/// A text between quotes.
+/// Writes a text between quotes.
 pub(crate) fn write_quoted<W: Write>(text: &str, out: &mut TextWriter<W>) -> Result<(), Failed>
     ensures { OnOk result (Appends (text_contents W.contents out.old) (text_contents W.contents out.new) (quoted text.now)) }
 {
@@ -166,7 +166,7 @@ pub(crate) fn write_quoted<W: Write>(text: &str, out: &mut TextWriter<W>) -> Res
     out.write_all(b"\"")
 }
 
-/// A number in decimal, with `-` where it is negative.
+/// Writes a number in decimal, with `-` if it is negative.
 pub(crate) fn write_number<I: Integer, W: Write>(
     number: I,
     out: &mut TextWriter<W>,
@@ -177,7 +177,7 @@ pub(crate) fn write_number<I: Integer, W: Write>(
     out.write_all(digits.format(number).as_bytes())
 }
 
-/// At most 16 bytes as lower-case hexadecimal digits.
+/// Writes at most 16 bytes as lower-case hexadecimal digits.
 fn write_hex_few<W: Write>(few: &[u8], out: &mut TextWriter<W>) -> Result<(), Failed>
     requires { length few.now ≤ HEX_FEW }
     ensures { OnOk result (Appends (text_contents W.contents out.old) (text_contents W.contents out.new)
@@ -190,7 +190,7 @@ fn write_hex_few<W: Write>(few: &[u8], out: &mut TextWriter<W>) -> Result<(), Fa
     out.write_all(digits)
 }
 
-/// At most 128 bytes as lower-case hexadecimal digits.
+/// Writes at most 128 bytes as lower-case hexadecimal digits.
 fn write_hex_chunk<W: Write>(chunk: &[u8], out: &mut TextWriter<W>) -> Result<(), Failed>
     requires { length chunk.now ≤ HEX_CHUNK }
     ensures { OnOk result (Appends (text_contents W.contents out.old) (text_contents W.contents out.new)
@@ -203,7 +203,7 @@ fn write_hex_chunk<W: Write>(chunk: &[u8], out: &mut TextWriter<W>) -> Result<()
     out.write_all(digits)
 }
 
-/// Bytes of any number as lower-case hexadecimal digits.
+/// Writes any count of bytes as lower-case hexadecimal digits.
 pub(crate) fn write_hex<W: Write>(bytes: &[u8], out: &mut TextWriter<W>) -> Result<(), Failed>
     ensures { OnOk result (Appends (text_contents W.contents out.old) (text_contents W.contents out.new)
         (encode_lower bytes.now)) }

@@ -1,4 +1,4 @@
-//! Text on its way to a writer.
+//! A writer behind a small buffer, which keeps the first error.
 
 ghost use Rattle.std.specs.Prelude.{◌≡◌, [], Err, IfSome, IsSome, Ok, OnErr, OnOk};
 ghost use Rattle.std.specs.Io.KnownBytes.{Appends, Keeps};
@@ -8,17 +8,17 @@ use arrayvec::ArrayVec;
 use std::io;
 use std::io::{ErrorKind, Write};
 
-/// How many bytes of text wait for the writer at most.
+/// The greatest count of bytes that wait for the writer.
 const BUFFER: usize = 512;
 
-/// The writer failed. Its error waits in the `TextWriter`.
+/// Tells that the writer failed. The `TextWriter` keeps its error.
 #[derive(Clone, Copy, Debug, PartialEq, Eq)]
 pub(crate) struct Failed;
 
-/// A writer behind a few bytes that wait for it.
+/// Holds a writer, and a few bytes that wait for it.
 ///
-/// A line of text has some eight parts, and an `io::Result` has 96 bytes, which each part would set to zero and pass on.
-/// Here a part answers by one byte, and the error of the writer is kept for the end.
+/// A line of text has about eight parts, and an `io::Result` has 96 bytes, which each part would clear and pass on.
+/// Here each part returns one byte, and the error of the writer is kept until `finish`.
 pub(crate) struct TextWriter<W> {
     out: W,
     text: ArrayVec<u8, BUFFER>,
@@ -27,7 +27,7 @@ pub(crate) struct TextWriter<W> {
 
 #[tactic(auto, unfolding(crate::specs::TextWriter::text_contents))]
 impl<W: Write> TextWriter<W> {
-    /// The writer, for which no text waits.
+    /// Returns a `TextWriter` over `out` for which no bytes wait.
     pub(crate) fn new(out: W) -> TextWriter<W>
         ensures { Keeps (W.contents out) (text_contents W.contents result) }
     {
@@ -38,7 +38,7 @@ impl<W: Write> TextWriter<W> {
         }
     }
 
-    /// Adds the bytes to the text.
+    /// Writes all of `bytes`.
     #[inline(always)]
     pub(crate) fn write_all(&mut self, bytes: &[u8]) -> Result<(), Failed>
         ensures bytes { OnOk result (Appends (text_contents W.contents self.old)
@@ -50,7 +50,7 @@ impl<W: Write> TextWriter<W> {
         }
     }
 
-    /// Adds bytes for which there is no room left. It stands apart, so that the test for room is inlined.
+    /// Writes bytes for which the buffer has no room left. It isn't inlined, so that the test for room can be.
     #[cold]
     #[inline(never)]
     fn write_all_past(&mut self, bytes: &[u8]) -> Result<(), Failed>
@@ -64,7 +64,7 @@ impl<W: Write> TextWriter<W> {
         }
     }
 
-    /// Gives the writer the text that waits.
+    /// Passes the bytes that wait on to the writer.
     fn pass_on(&mut self) -> Result<(), Failed>
         ensures bytes { OnOk result (Keeps (text_contents W.contents self.old)
             (text_contents W.contents self.new)) }
@@ -83,7 +83,7 @@ impl<W: Write> TextWriter<W> {
         }
     }
 
-    /// Gives the writer bytes, where no text waits.
+    /// Passes `bytes` on to the writer. No bytes may wait.
     fn write_through(&mut self, bytes: &[u8]) -> Result<(), Failed>
         requires { self.old.text.items ≡ [] }
         ensures { OnOk result (Appends (text_contents W.contents self.old)
@@ -98,7 +98,7 @@ impl<W: Write> TextWriter<W> {
         }
     }
 
-    /// Ends a text that was written so far. Returns the writer, and its error where it failed.
+    /// Passes on what waits, if all writes before succeeded. Returns the writer, and its error if it failed.
     pub(crate) fn finish(mut self, written: Result<(), Failed>) -> (W, io::Result<()>)
         ensures whole { OnOk result.1 (written ≡ Ok tt) }
         ensures bytes { OnOk result.1 (Keeps (text_contents W.contents self) (W.contents result.0)) }
@@ -111,7 +111,7 @@ impl<W: Write> TextWriter<W> {
         self.into_writer(ended)
     }
 
-    /// Returns the writer, and the error that was kept where it failed.
+    /// Returns the writer, and the error that was kept if it failed.
     fn into_writer(self, ended: Result<(), Failed>) -> (W, io::Result<()>)
         ensures whole { OnOk result.1 (ended ≡ Ok tt) }
         ensures writer { result.0 ≡ self.out }

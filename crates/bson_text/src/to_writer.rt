@@ -1,4 +1,4 @@
-//! Parts of the text of documents, for texts in which documents stand.
+//! Numbers, quoted text and hexadecimal digits, for texts that have documents in them.
 
 ghost use Rattle.std.specs.Prelude.{OnOk};
 ghost use Rattle.std.specs.Io.KnownBytes.{Appends};
@@ -12,7 +12,7 @@ use itoa::{Buffer, Integer};
 use std::io;
 use std::io::Write;
 
-/// Writes a number in decimal, with `-` where it is negative.
+/// Writes a number in decimal, with `-` if it is negative.
 pub fn number_to<I: Integer, W: Write>(number: I, out: &mut W) -> io::Result<()>
     ensures { OnOk result (Appends (W.contents out.old) (W.contents out.new) (I.text number)) }
 {
@@ -20,7 +20,7 @@ pub fn number_to<I: Integer, W: Write>(number: I, out: &mut W) -> io::Result<()>
     out.write_all(digits.format(number).as_bytes())
 }
 
-/// As `quoted_to`, to a writer that is given back.
+/// Like `quoted_to`, but takes the writer by value and returns it.
 fn quoted_through<W: Write>(out: W, text: &str) -> (W, io::Result<()>)
     ensures { OnOk result.1 (Appends (W.contents out) (W.contents result.0) (quoted text.now)) }
 {
@@ -36,7 +36,7 @@ pub fn quoted_to<W: Write>(text: &str, out: &mut W) -> io::Result<()>
     replace_with(out, text, quoted_through)
 }
 
-/// As `hex_to`, to a writer that is given back.
+/// Like `hex_to`, but takes the writer by value and returns it.
 fn hex_through<W: Write>(out: W, bytes: &[u8]) -> (W, io::Result<()>)
     ensures { OnOk result.1 (Appends (W.contents out) (W.contents result.0) (encode_lower bytes.now)) }
 {

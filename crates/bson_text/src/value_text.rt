@@ -1,7 +1,7 @@
-//! What stands after an element's name: a space, the kind's word and, where there is one, the value.
+//! The text behind an element's name: a space, the word of the kind and the value, if the kind has one.
 //!
-//! None of these writes the element's name or the line feed. A kind with no value is its word alone,
-//! as ` null`, and has no function here.
+//! No function here writes the name or the line feed. A kind with no value is its word alone, as
+//! ` null`, and has no function here.
 
 ghost use Rattle.std.specs.Prelude.{OnOk};
 ghost use Rattle.std.specs.Io.KnownBytes.{Appends};
@@ -12,7 +12,7 @@ use crate::text::{write_hex, write_number, write_quoted};
 use crate::text_writer::{Failed, TextWriter};
 use std::io::Write;
 
-/// ` double ` and 16 digits, the bytes in file order.
+/// Writes ` double ` and 16 digits, the bytes in file order.
 pub(crate) fn write_double<W: Write>(bytes: &[u8; 8], out: &mut TextWriter<W>) -> Result<(), Failed>
     ensures { OnOk result (Appends (text_contents W.contents out.old) (text_contents W.contents out.new)
         (double_text bytes.now)) }
@@ -21,7 +21,7 @@ pub(crate) fn write_double<W: Write>(bytes: &[u8; 8], out: &mut TextWriter<W>) -
     write_hex(bytes, out)
 }
 
-/// ` string ` and the quoted text.
+/// Writes ` string ` and the quoted text.
 pub(crate) fn write_string<W: Write>(text: &str, out: &mut TextWriter<W>) -> Result<(), Failed>
     ensures { OnOk result (Appends (text_contents W.contents out.old) (text_contents W.contents out.new)
         (string_text text.now)) }
@@ -30,7 +30,7 @@ pub(crate) fn write_string<W: Write>(text: &str, out: &mut TextWriter<W>) -> Res
     write_quoted(text, out)
 }
 
-/// ` document ` and the count of its bytes.
+/// Writes ` document ` and the count of its bytes.
 pub(crate) fn write_inner_document<W: Write>(
     size: usize,
     out: &mut TextWriter<W>,
@@ -42,7 +42,7 @@ pub(crate) fn write_inner_document<W: Write>(
     write_number(size, out)
 }
 
-/// ` array ` and the count of its bytes.
+/// Writes ` array ` and the count of its bytes.
 pub(crate) fn write_array<W: Write>(size: usize, out: &mut TextWriter<W>) -> Result<(), Failed>
     ensures { OnOk result (Appends (text_contents W.contents out.old) (text_contents W.contents out.new)
         (array_text size)) }
@@ -51,7 +51,7 @@ pub(crate) fn write_array<W: Write>(size: usize, out: &mut TextWriter<W>) -> Res
     write_number(size, out)
 }
 
-/// ` binary `, the subtype, the count of the data and, where there are any, the data.
+/// Writes ` binary `, the subtype, the count of the data and, where there are any, the data.
 pub(crate) fn write_binary<W: Write>(
     subtype: u8,
     bytes: &[u8],
@@ -71,7 +71,7 @@ pub(crate) fn write_binary<W: Write>(
     write_hex(bytes, out)
 }
 
-/// ` objectid ` and 24 digits.
+/// Writes ` objectid ` and 24 digits.
 pub(crate) fn write_objectid<W: Write>(
     bytes: &[u8; 12],
     out: &mut TextWriter<W>,
@@ -83,7 +83,7 @@ pub(crate) fn write_objectid<W: Write>(
     write_hex(bytes, out)
 }
 
-/// ` boolean true` or ` boolean false`.
+/// Writes ` boolean true` or ` boolean false`.
 pub(crate) fn write_boolean<W: Write>(value: bool, out: &mut TextWriter<W>) -> Result<(), Failed>
     ensures { OnOk result (Appends (text_contents W.contents out.old) (text_contents W.contents out.new)
         (boolean_text value)) }
@@ -96,7 +96,7 @@ pub(crate) fn write_boolean<W: Write>(value: bool, out: &mut TextWriter<W>) -> R
     out.write_all(text.as_bytes())
 }
 
-/// ` datetime ` and the milliseconds since 1970 in UTC.
+/// Writes ` datetime ` and the milliseconds since 1970 in UTC.
 pub(crate) fn write_datetime<W: Write>(
     milliseconds: i64,
     out: &mut TextWriter<W>,
@@ -108,7 +108,7 @@ pub(crate) fn write_datetime<W: Write>(
     write_number(milliseconds, out)
 }
 
-/// ` regex `, the quoted pattern and the quoted options.
+/// Writes ` regex `, the quoted pattern and the quoted options.
 pub(crate) fn write_regex<W: Write>(
     pattern: &str,
     options: &str,
@@ -123,7 +123,7 @@ pub(crate) fn write_regex<W: Write>(
     write_quoted(options, out)
 }
 
-/// ` dbpointer `, the quoted name and the 24 digits of the id.
+/// Writes ` dbpointer `, the quoted name and the 24 digits of the id.
 pub(crate) fn write_dbpointer<W: Write>(
     name: &str,
     id: &[u8; 12],
@@ -138,7 +138,7 @@ pub(crate) fn write_dbpointer<W: Write>(
     write_hex(id, out)
 }
 
-/// ` code ` and the quoted code.
+/// Writes ` code ` and the quoted code.
 pub(crate) fn write_code<W: Write>(text: &str, out: &mut TextWriter<W>) -> Result<(), Failed>
     ensures { OnOk result (Appends (text_contents W.contents out.old) (text_contents W.contents out.new)
         (code_text text.now)) }
@@ -147,7 +147,7 @@ pub(crate) fn write_code<W: Write>(text: &str, out: &mut TextWriter<W>) -> Resul
     write_quoted(text, out)
 }
 
-/// ` symbol ` and the quoted text.
+/// Writes ` symbol ` and the quoted text.
 pub(crate) fn write_symbol<W: Write>(text: &str, out: &mut TextWriter<W>) -> Result<(), Failed>
     ensures { OnOk result (Appends (text_contents W.contents out.old) (text_contents W.contents out.new)
         (symbol_text text.now)) }
@@ -156,7 +156,7 @@ pub(crate) fn write_symbol<W: Write>(text: &str, out: &mut TextWriter<W>) -> Res
     write_quoted(text, out)
 }
 
-/// ` codescope `, the quoted code and the count of the scope's bytes.
+/// Writes ` codescope `, the quoted code and the count of the scope's bytes.
 pub(crate) fn write_codescope<W: Write>(
     code: &str,
     size: usize,
@@ -171,7 +171,7 @@ pub(crate) fn write_codescope<W: Write>(
     write_number(size, out)
 }
 
-/// ` int32 ` and the number.
+/// Writes ` int32 ` and the number.
 pub(crate) fn write_int32<W: Write>(value: i32, out: &mut TextWriter<W>) -> Result<(), Failed>
     ensures { OnOk result (Appends (text_contents W.contents out.old) (text_contents W.contents out.new)
         (int32_text value)) }
@@ -180,7 +180,7 @@ pub(crate) fn write_int32<W: Write>(value: i32, out: &mut TextWriter<W>) -> Resu
     write_number(value, out)
 }
 
-/// ` timestamp `, the seconds and the increment.
+/// Writes ` timestamp `, the seconds and the increment.
 pub(crate) fn write_timestamp<W: Write>(
     seconds: u32,
     increment: u32,
@@ -195,7 +195,7 @@ pub(crate) fn write_timestamp<W: Write>(
     write_number(increment, out)
 }
 
-/// ` int64 ` and the number.
+/// Writes ` int64 ` and the number.
 pub(crate) fn write_int64<W: Write>(value: i64, out: &mut TextWriter<W>) -> Result<(), Failed>
     ensures { OnOk result (Appends (text_contents W.contents out.old) (text_contents W.contents out.new)
         (int64_text value)) }
@@ -204,7 +204,7 @@ pub(crate) fn write_int64<W: Write>(value: i64, out: &mut TextWriter<W>) -> Resu
     write_number(value, out)
 }
 
-/// ` decimal128 ` and 32 digits, the bytes in file order.
+/// Writes ` decimal128 ` and 32 digits, the bytes in file order.
 pub(crate) fn write_decimal128<W: Write>(
     bytes: &[u8; 16],
     out: &mut TextWriter<W>,
