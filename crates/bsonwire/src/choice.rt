@@ -14,7 +14,7 @@ use std::alloc::{AllocError, Global};
 pub struct Source<'a> {
     /// The path of a file, or `-` for standard input.
     pub file: &'a str,
-    /// Says that the input is hexadecimal text.
+    /// True if the input is hexadecimal text.
     pub hex: bool,
 }
 

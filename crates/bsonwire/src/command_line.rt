@@ -7,7 +7,7 @@ ghost use Rattle.bsonwire.specs.CommandLine.{command_line, file_app, hex_rule, o
 use clap::{Arg, ArgAction, Command};
 use std::alloc::{AllocError, Global};
 
-/// The operand FILE.
+/// Makes the operand FILE.
 fn file_operand<'a>(alloc: Global) -> Arg<'a>
     ensures rule { rule_of result ≡ operand_rule (codes "file") }
     ensures local { result.global ≡ false }
@@ -18,7 +18,7 @@ fn file_operand<'a>(alloc: Global) -> Arg<'a>
         .required(true)
 }
 
-/// The flag `--hex`.
+/// Makes the flag `--hex`.
 fn hex_flag<'a>(alloc: Global) -> Arg<'a>
     ensures rule { rule_of result ≡ hex_rule }
     ensures local { result.global ≡ false }
@@ -29,7 +29,7 @@ fn hex_flag<'a>(alloc: Global) -> Arg<'a>
         .action(ArgAction::SetTrue)
 }
 
-/// A subcommand of this name that reads FILE. Errs where memory runs out.
+/// Makes a subcommand of this name that reads FILE. Errs if memory runs out.
 fn file_command<'a>(alloc: Global, name: &'a str, about: &'a str) -> Result<Command<'a>, AllocError>
     ensures app { IfOk result (λ c. app_of c ≡ file_app name.entry.now) }
     ensures local { IfOk result (λ c. (out-Command c).has_globals ≡ false) }
@@ -40,7 +40,7 @@ fn file_command<'a>(alloc: Global, name: &'a str, about: &'a str) -> Result<Comm
         .arg(hex_flag(alloc))
 }
 
-/// The program, with no subcommand yet.
+/// Makes the command line with no subcommand yet.
 fn top<'a>(alloc: Global) -> Command<'a>
     ensures app { app_of result ≡ top_app }
     ensures local { (out-Command result).has_globals ≡ false }
@@ -51,7 +51,7 @@ fn top<'a>(alloc: Global) -> Command<'a>
         .subcommand_required(true)
 }
 
-/// The command with one more subcommand, which reads FILE. Errs where memory runs out.
+/// Adds a subcommand of this name that reads FILE. Errs if memory runs out.
 fn with_file_command<'a>(
     line: Command<'a>,
     alloc: Global,
@@ -67,7 +67,7 @@ fn with_file_command<'a>(
     line.subcommand(sub)
 }
 
-/// The whole command line. Errs where memory runs out.
+/// Makes the whole command line. Errs if memory runs out.
 pub fn program<'a>(alloc: Global) -> Result<Command<'a>, AllocError>
     ensures app { IfOk result (λ c. app_of c ≡ command_line) }
     ensures local { IfOk result (λ c. (out-Command c).has_globals ≡ false) }

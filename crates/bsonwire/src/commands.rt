@@ -1,4 +1,4 @@
-//! Runs what the command line asks for, and gives the exit status.
+//! Runs what the command line asks for, and returns the exit status.
 ghost use Rattle.std.specs.Prelude.{◌≡◌, ◌⊎◌, IfSome, false, true};
 ghost use Rattle.std.specs.Io.KnownBytes.{IsAtEnd, Keeps};
 ghost use Rattle.std.specs.List.{list_any};
@@ -22,8 +22,8 @@ use std::io::{ErrorKind, Read, Write};
 use std::rt::Files;
 use std::{fmt, fs, io};
 
-/// The exit status of an end: 0 good, 1 a fault in the input, 3 reading or writing failed, 4 memory
-/// ran out.
+/// Returns the exit status of an end: 0 good, 1 a fault in the input, 3 reading or writing failed, 4
+/// memory ran out.
 pub fn status_of(end: RunEnd) -> u8
     ensures { result ≡ exit_status end }
 {
@@ -35,16 +35,17 @@ pub fn status_of(end: RunEnd) -> u8
     }
 }
 
-/// What a run reads, as a message names it.
+/// The name of an input in a message.
 #[derive(Clone, Copy)]
 enum InputName<'a> {
     StandardInput,
     File(&'a str),
-    /// A file that is named in quotes, so that the message stays one line and names something.
+    /// A file whose name is empty or has control characters. It stands in quotes, so that the message
+    /// stays one line and names something.
     Quoted(&'a str),
 }
 
-/// Returns true if one of the characters of a text is a control character.
+/// Returns true if one of the characters of `text` is a control character.
 fn has_control(text: &str) -> bool
     ensures { result ≡ list_any is_control (chars text.now) }
 {
@@ -54,7 +55,7 @@ fn has_control(text: &str) -> bool
 impl InputName<'_> {
     ghost use Rattle.bsonwire.specs.InputName.{NamesFile};
 
-    /// The name of this operand FILE.
+    /// Returns the name of the input that `file`, an operand FILE, asks for.
     fn of(file: &str) -> InputName<'_>
         ensures { NamesFile result file.now }
     {
@@ -96,7 +97,7 @@ pub fn run<R: Files + Input + Print + Eprint + AllocGlobal>(rt: &R, choice: Choi
     }
 }
 
-/// Opens a file to read. Errs at a directory too, which the system opens and then does not read.
+/// Opens a file to read. Errs for a directory too, which the system opens and then doesn't read.
 fn open<R: Files>(rt: &R, file: &str) -> io::Result<R::File> {
     let opened = fs::open(rt, file)?;
     if opened.metadata()?.is_dir() {
@@ -105,8 +106,8 @@ fn open<R: Files>(rt: &R, file: &str) -> io::Result<R::File> {
     Ok(opened)
 }
 
-/// Runs the choice over its input, says on standard error why it stopped short if it did, and returns
-/// the exit status.
+/// Runs the choice over its input, and returns the exit status. If the run stopped short, standard error
+/// says why.
 fn status_over<E: Eprint, R: Read, W: Write>(
     rt: &E,
     alloc: Global,
@@ -128,7 +129,7 @@ fn status_over<E: Eprint, R: Read, W: Write>(
     tell(rt, end, InputName::of(choice.source.file))
 }
 
-/// Runs the choice over its input.
+/// Runs the choice over its input. Returns how the run ended.
 fn run_over<R: Read, W: Write>(
     alloc: Global,
     choice: Choice<'_>,
@@ -153,7 +154,7 @@ fn run_over<R: Read, W: Write>(
     }
 }
 
-/// Says why a run stopped short, and gives its exit status.
+/// Says on standard error why a run stopped short, if it did. Returns its exit status.
 fn tell(rt: &impl Eprint, end: RunEnd, input: InputName<'_>) -> u8
     ensures { result ≡ exit_status end }
 {
@@ -168,7 +169,7 @@ fn tell(rt: &impl Eprint, end: RunEnd, input: InputName<'_>) -> u8
     status_of(end)
 }
 
-/// Says why the input could not be opened, and gives the exit status.
+/// Says on standard error why the input could not be opened. Returns the exit status.
 fn tell_unopened(rt: &impl Eprint, error: io::Error, input: InputName<'_>) -> u8
     ensures { result ≡ exit_status (end_of_error (error_kind error) (raw_os_error error)) }
 {

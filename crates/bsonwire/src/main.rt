@@ -34,7 +34,7 @@ fn main(rt: HostRuntime) -> ExitCode {
     ExitCode::from(status(&rt))
 }
 
-/// Reads the words, runs what they ask for, and gives the exit status.
+/// Reads the words, runs what they ask for, and returns the exit status.
 fn status(rt: &HostRuntime) -> u8 {
     let args = match env::args(rt) {
         Ok(args) => args,
@@ -56,7 +56,8 @@ fn status(rt: &HostRuntime) -> u8 {
     }
 }
 
-/// The words could not be read: there was no memory, or one of them is not text.
+/// Says on standard error why the words could not be read: there was no memory, or one of them isn't
+/// text. Returns the exit status.
 fn unread_words(rt: &impl Eprint, error: io::Error) -> u8
     ensures { result ≡ unread_status (end_of_error (error_kind error) (raw_os_error error)) }
 {
@@ -101,7 +102,7 @@ fn status_of_words(error: &clap::Error, printed: bool) -> u8
     }
 }
 
-/// Says that memory ran out, and returns the exit status.
+/// Says on standard error that memory ran out. Returns the exit status.
 fn out_of_memory(rt: &impl Eprint) -> u8
     ensures { result ≡ 4 }
 {

@@ -1,3 +1,5 @@
+//! What no contract says: which words are read as what, and the kind and status of each fault in them.
+
 use crate::choice::{Choice, Command, Source, choose};
 use crate::commands::run;
 use clap::error::ErrorKind;

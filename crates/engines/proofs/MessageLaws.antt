@@ -5,8 +5,8 @@ use Rattle.bson_elem.specs.Spelling.{IsBytes}
 use Rattle.bson_elem.proofs.Lemmas.{IsBytes-after}
 use Rattle.wire_msg.specs.declared.fault.MsgFault.{MsgFault}
 use Rattle.wire_msg.specs.Message.{Message}
-use Rattle.wire_msg.proofs.SplitLaws.{one_split}
-use Rattle.wire_msg.proofs.StandingLaws.{open_not_bad, bad_once}
+use Rattle.wire_msg.proofs.Lemmas.{one_split}
+use Rattle.wire_msg.proofs.Lemmas.{open_not_bad, bad_once}
 use Rattle.engines.specs.Documents.{or_nothing, is_there}
 use Rattle.engines.specs.InputFault.{msg_line}
 use Rattle.engines.specs.Msg.{message_text, messages_len, IsLastMsg, MessagesAre, MsgText}

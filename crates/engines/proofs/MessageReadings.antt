@@ -11,8 +11,8 @@ use Rattle.wire_msg.specs.Message.{Message}
 use Rattle.wire_msg.specs.Spelling.{SpellsMsg}
 use Rattle.wire_msg.specs.Split.{AreSpelled, Split}
 use Rattle.wire_msg.specs.Standing.{IsOpen, IsBad}
-use Rattle.wire_msg.proofs.ContentLaws.{length-spelled}
-use Rattle.wire_msg.proofs.SplitLaws.{spelled-append, spelled_alone, open_ends, bad_ends}
+use Rattle.wire_msg.proofs.Lemmas.{length-spelled}
+use Rattle.wire_msg.proofs.Lemmas.{spelled-append, spelled_alone, open_ends, bad_ends}
 use Rattle.engines.specs.Documents.{or_nothing, is_there}
 use Rattle.engines.specs.InputFault.{ended_inside_line, msg_line}
 use Rattle.engines.specs.Msg.{message_text, messages_len, IsLastMsg, MessagesAre, MsgText}

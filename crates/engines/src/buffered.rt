@@ -1,3 +1,5 @@
+//! A writer behind a buffer of a fixed size.
+
 ghost use Rattle.std.specs.Prelude.{◌≡◌, ◌<◌, ◌≤◌, [], IfOk, OnOk, drop, length, min, vec_capacity, vec_len};
 ghost use Rattle.std.specs.Io.{WritesAtMost};
 ghost use Rattle.std.specs.Io.KnownBytes.{Appends, Keeps, WriteAppends};
@@ -17,7 +19,7 @@ pub struct Buffered<W> {
 }
 
 impl<W: Write> Buffered<W> {
-    /// The writer behind an empty buffer, which holds as many bytes as its capacity.
+    /// Makes a writer of `inner` and an empty `buffer`, which takes as many bytes as its capacity.
     pub fn new(inner: W, buffer: Vec<u8>) -> Buffered<W>
         requires { buffer.items ≡ [] }
         ensures { Keeps (W.contents inner) (buffered_contents W.contents result) }
@@ -25,7 +27,7 @@ impl<W: Write> Buffered<W> {
         Buffered { inner, buffer }
     }
 
-    /// The inner writer. What is still in the buffer is lost.
+    /// Returns the inner writer. What is still in the buffer is lost.
     pub fn into_inner(self) -> W
         ensures { result ≡ self.inner }
     {
@@ -33,8 +35,8 @@ impl<W: Write> Buffered<W> {
         inner
     }
 
-    /// Gives the inner writer the front of the buffer, as much as it takes in one call. Errs where
-    /// that fails or takes nothing.
+    /// Gives the inner writer the front of the buffer, as much as it takes in one call. Errs if that
+    /// call fails or takes nothing.
     fn pass_on(&mut self) -> io::Result<()>
         requires { 0 < vec_len self.old.buffer }
         ensures bytes { Keeps (buffered_contents W.contents self.old)
@@ -49,7 +51,7 @@ impl<W: Write> Buffered<W> {
         Ok(())
     }
 
-    /// Gives the inner writer all of the buffer. A call that a signal interrupted is made again.
+    /// Gives the inner writer all of the buffer. Repeats a call that a signal interrupted.
     fn pass_on_all(&mut self) -> io::Result<()>
         ensures bytes { Keeps (buffered_contents W.contents self.old)
             (buffered_contents W.contents self.new) }
@@ -67,7 +69,7 @@ impl<W: Write> Buffered<W> {
         Err(io::Error::from(ErrorKind::Interrupted))
     }
 
-    /// Writes bytes for which the buffer has no room left. It stands apart, so that the test for room is inlined.
+    /// Writes `bytes` for which the buffer has no room left. It stands apart, so that the test for room is inlined.
     #[cold]
     #[inline(never)]
     fn write_all_past(&mut self, bytes: &[u8]) -> io::Result<()>
@@ -121,7 +123,7 @@ impl<W: Write> Write for Buffered<W> {
     }
 }
 
-/// Takes the first `count` bytes out.
+/// Removes the first `count` bytes.
 fn remove_front(buffer: &mut Vec<u8>, count: usize)
     requires { count ≤ vec_len buffer.old }
     ensures { buffer.new.items ≡ drop count buffer.old.items }

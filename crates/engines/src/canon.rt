@@ -1,4 +1,4 @@
-//! The command `canon`.
+//! The command `canon`: the canonical form of each document.
 
 ghost use Rattle.std.specs.Prelude.{◌≡◌, ◌⊎◌, ◌≤◌, ◌<◌, ◌^◌, IfErr, IfOk, IfSome, None, OnOk, Some, false, if◌then◌else◌, length, nat_lt, true};
 ghost use Rattle.std.specs.Io.KnownBytes.{Appends, IsAtEnd, Keeps};
@@ -21,15 +21,16 @@ use std::io::{Read, Write};
 #[derive(Drop)]
 struct Canon {
     alloc: Global,
-    /// Whether the canonical form is written as hexadecimal text.
+    /// True if the canonical form is written as hexadecimal text.
     hex: bool,
-    /// How many bytes the canonical form of a document has at most.
+    /// The most bytes that the canonical form of a document has.
     limit: usize,
     ghost within: { limit < 2 ^ 31 },
 }
 
 impl Canon {
-    /// Writes the bytes of a canonical form. False where they are more than the limit.
+    /// Writes `bytes`, the canonical form of a document. Returns false, with nothing written, if they are
+    /// more than the limit.
     fn write_bytes<W: Write>(&self, bytes: &[u8], out: &mut W) -> Result<bool, RunEnd>
         ensures written { IfOk result (λ there. IsWritten
             (if nat_lt self.now.limit (length bytes.now) then None
@@ -52,7 +53,7 @@ impl Canon {
     }
 }
 
-/// Ends a line, where there is one.
+/// Writes a line feed if `any` is true.
 fn write_line_end<W: Write>(any: bool, out: &mut W) -> Result<(), RunEnd>
     ensures written { OnOk result (Appends (W.contents out.old) (W.contents out.new)
         (line_end any)) }
@@ -66,8 +67,8 @@ fn write_line_end<W: Write>(any: bool, out: &mut W) -> Result<(), RunEnd>
 }
 
 impl Canon {
-    /// Writes the canonical forms in one line, and then the line of the first fault. Says whether
-    /// there is one.
+    /// Writes the canonical forms in one line, and then the line of the first fault. Returns true if there
+    /// is one.
     fn write_hex_line<W: Write>(&self, bytes: &[u8], out: &mut W) -> Result<bool, RunEnd>
         ensures written { IfOk result (λ fault.
             AppendsText (IsWhole (canon_of self.now.limit self.now.hex) hex_line bytes.now) fault
@@ -116,10 +117,10 @@ impl Engine for Canon {
     }
 }
 
-/// Writes the canonical form of each document that the reader has. With `hex` the input is
-/// hexadecimal text, and so is the output, in one line.
+/// Writes the canonical form of each document in the input. If `hex` is true, the input is hexadecimal
+/// text, and so is the output, in one line.
 ///
-/// The form of a document goes out before that of the next one is made.
+/// The form of a document is written before that of the next one is made.
 pub fn run_canon<R: Read, W: Write>(
     alloc: Global,
     hex: bool,
@@ -136,7 +137,7 @@ pub fn run_canon<R: Read, W: Write>(
     run_canon_within(alloc, MAX_LEN, hex, reader, writer)
 }
 
-/// As `run_canon`, with a limit of the caller's on the bytes of the canonical form of a document.
+/// Like `run_canon`, but a canonical form has at most `limit` bytes.
 pub fn run_canon_within<R: Read, W: Write>(
     alloc: Global,
     limit: usize,

@@ -1,4 +1,4 @@
-//! The command `check`.
+//! The command `check`: a line for each document.
 
 ghost use Rattle.std.specs.Prelude.{◌≡◌, ◌⊎◌, IfSome, OnOk, false, true};
 ghost use Rattle.std.specs.Io.KnownBytes.{Appends, IsAtEnd, Keeps};
@@ -17,7 +17,7 @@ use std::io::{Read, Write};
 /// The command `check`.
 struct Check;
 
-/// The end of a document's line.
+/// Returns the end of the line of a document.
 fn form_text(canonical: bool) -> &'static str
     ensures { result.now ≡ form_word canonical }
 {
@@ -28,7 +28,7 @@ fn form_text(canonical: bool) -> &'static str
     }
 }
 
-/// The line of a document of this size.
+/// Writes the line of a document of `size` bytes.
 fn write_check_line<W: Write>(size: usize, canonical: bool, out: &mut W) -> io::Result<()>
     ensures { OnOk result (Appends (W.contents out.old) (W.contents out.new)
         (sized_line size canonical)) }
@@ -66,8 +66,8 @@ impl Engine for Check {
     }
 }
 
-/// Writes a line for each document that the reader has: `ok`, how many bytes it has, and
-/// `canonical` or `other`. With `hex` the input is hexadecimal text.
+/// Writes a line for each document in the input: `ok`, the number of its bytes, and `canonical` or
+/// `other`. If `hex` is true, the input is hexadecimal text.
 pub fn run_check<R: Read, W: Write>(
     alloc: Global,
     hex: bool,

@@ -1,4 +1,4 @@
-//! Documents back to back, for each of which a command writes something.
+//! Documents back to back, for each of which a command writes a text.
 
 ghost use Rattle.std.specs.Prelude.{◌≡◌, ℕ, Bool, List, Option, IfErr, IfOk, false, true};
 ghost use Rattle.std.specs.Io.KnownBytes.{Appends};
@@ -25,8 +25,8 @@ pub trait EachDocument {
     // Whether it may want memory.
     ghost wants_memory: { Self → Bool };
 
-    /// Writes the text of a document, of which it is known whether it is canonical. False where it
-    /// has none; nothing is written then.
+    /// Writes the text of `document`, where `canonical` says whether it is in canonical form. Returns
+    /// false, with nothing written, if the document has no text.
     fn write_document<W: Write>(
         &self,
         document: RawDocument<'_>,
@@ -41,16 +41,16 @@ pub trait EachDocument {
             × (end ≡ RunEnd.Memory → wants_memory self.now ≡ true)) };
 }
 
-/// What a walk over documents back to back came to.
+/// The result of a walk over documents back to back.
 #[derive(Clone, Copy)]
 pub struct Walk {
-    /// Whether the text of a document was written.
+    /// True if the text of a document was written.
     pub any: bool,
     /// The first fault, which ended the walk.
     pub fault: Option<InputFault>,
 }
 
-/// Writes the texts of the documents that begin the bytes.
+/// Writes the texts of the documents in `bytes`, up to the first fault.
 pub fn write_each<E: EachDocument, W: Write>(
     each: &E,
     bytes: &[u8],
@@ -77,7 +77,7 @@ pub fn write_each<E: EachDocument, W: Write>(
         };
         if !each.write_document(front.document, front.canonical, out)? {
             let fault = Some(InputFault::TooLarge { place });
-            // The text is that of all documents of the input, so those behind this one are found too.
+            // The text is a function of all documents in the input, also of those behind this one.
             let _ = documents_split(front.rest);
             return Ok(Walk { any, fault });
         }
@@ -87,7 +87,7 @@ pub fn write_each<E: EachDocument, W: Write>(
     Ok(Walk { any, fault: None })
 }
 
-/// Writes the line of a fault, if there is one, and says whether there is.
+/// Writes the line of `fault`, if there is one. Returns true if there is.
 pub fn write_last<W: Write>(fault: Option<InputFault>, out: &mut W) -> Result<bool, RunEnd>
     ensures written { IfOk result (λ there. (there ≡ is_there (line_of fault))
         × Appends (W.contents out.old) (W.contents out.new) (or_nothing (line_of fault))) }
@@ -102,8 +102,8 @@ pub fn write_last<W: Write>(fault: Option<InputFault>, out: &mut W) -> Result<bo
     }
 }
 
-/// Writes the texts of the documents that begin the bytes, and the line of the first fault of what
-/// is left. Says whether there is one.
+/// Writes the texts of the documents in `bytes`, and then the line of the first fault. Returns true if
+/// there is one.
 pub fn write_documents<E: EachDocument, W: Write>(
     each: &E,
     bytes: &[u8],

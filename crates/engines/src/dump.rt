@@ -1,3 +1,5 @@
+//! The command `dump`: the text of each document.
+
 ghost use Rattle.std.specs.Prelude.{◌≡◌, ◌⊎◌, IfSome, false, true};
 ghost use Rattle.std.specs.Io.KnownBytes.{IsAtEnd, Keeps};
 ghost use Rattle.engines.specs.Dump.{DumpText, dump_of};
@@ -42,7 +44,7 @@ impl Engine for Dump {
     }
 }
 
-/// Writes the text of all that the reader has. With `hex` the input is hexadecimal text.
+/// Writes the text of each document in the input. If `hex` is true, the input is hexadecimal text.
 pub fn run_dump<R: Read, W: Write>(
     alloc: Global,
     hex: bool,

@@ -11,7 +11,7 @@ use std::io;
 use std::io::Write;
 use wire_msg::fault::MsgFault;
 
-/// Writes the line of a fault.
+/// Writes the line of the fault with this number and name, at offset `place` of the input.
 pub fn write_fault<W: Write>(number: u8, name: &str, place: usize, out: &mut W) -> io::Result<()>
     ensures { OnOk result (Appends (W.contents out.old) (W.contents out.new)
         (fault_line number name.now place)) }
@@ -19,7 +19,7 @@ pub fn write_fault<W: Write>(number: u8, name: &str, place: usize, out: &mut W) 
     writeln!(out, "fault {number} {name} at {place}")
 }
 
-/// Writes the line of a document's fault.
+/// Writes the line of the fault of a document.
 pub fn write_bson_fault<W: Write>(fault: BsonFault, out: &mut W) -> io::Result<()>
     ensures { OnOk result (Appends (W.contents out.old) (W.contents out.new)
         (bson_fault_text fault.at fault.cause ++ codes "\n")) }
@@ -27,7 +27,7 @@ pub fn write_bson_fault<W: Write>(fault: BsonFault, out: &mut W) -> io::Result<(
     writeln!(out, "{fault}")
 }
 
-/// Writes the line of a message's fault.
+/// Writes the line of the fault of a message.
 pub fn write_msg_fault<W: Write>(fault: MsgFault, out: &mut W) -> io::Result<()>
     ensures { OnOk result (Appends (W.contents out.old) (W.contents out.new)
         (msg_line fault.at fault.cause)) }

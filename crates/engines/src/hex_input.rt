@@ -1,31 +1,34 @@
+//! Hexadecimal text as an input.
+
 ghost use Rattle.std.specs.Prelude.{◌≡◌, IfOk, true};
 ghost use Rattle.engines.specs.Input.{bytes_of, is_space, packed, read_bytes};
 
 use hex::FromHexError;
 use std::alloc::{AllocError, Global};
 
-/// An input that was read: its bytes, or the place at which it is no hexadecimal text.
+/// The bytes of an input, or the offset at which it isn't hexadecimal text.
 #[derive(Drop)]
 pub enum Input {
     Bytes(Vec<u8>),
     NotHex { place: usize },
 }
 
-/// A space, a tab, a line feed or a carriage return.
+/// Returns true if `b` is a space, a tab, a line feed or a carriage return.
 fn is_white_space(b: u8) -> bool
     ensures { result ≡ is_space b }
 {
     matches!(b, b' ' | b'\t' | b'\n' | b'\r')
 }
 
-/// Takes the white space out in place.
+/// Removes the white space in place.
 fn pack(text: &mut Vec<u8>)
     ensures { text.new.items ≡ packed text.old.items }
 {
     text.retain(|b| !is_white_space(*b));
 }
 
-/// The bytes that hexadecimal text spells. Its white space is taken out in place.
+/// Returns the bytes that `text` spells, in hexadecimal digits and white space. An offset is counted
+/// without the white space.
 pub fn decode_hex(alloc: Global, mut text: Vec<u8>) -> Result<Input, AllocError>
     ensures { IfOk result (λ input. read_bytes input ≡ bytes_of true text.items) }
 {

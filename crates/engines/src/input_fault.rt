@@ -1,4 +1,4 @@
-//! What is wrong with an input, which is told by one line on standard output.
+//! What is wrong with an input. It is told by the last line of the text.
 
 ghost use Rattle.std.specs.Prelude.{OnOk};
 ghost use Rattle.std.specs.Io.KnownBytes.{Appends};
@@ -10,19 +10,19 @@ use std::io;
 use std::io::Write;
 use wire_msg::fault::MsgFault;
 
-/// A fault of an input. Places are counted from its start.
+/// A fault of an input. A `place` is an offset from the input's first byte.
 #[derive(Clone, Copy, Debug, PartialEq, Eq)]
 pub enum InputFault {
-    /// The input isn't hexadecimal text. The place is counted without its white space.
+    /// The input isn't hexadecimal text. White space isn't counted in `place`.
     Hex { place: usize },
     /// No document begins where one should.
     Bson(BsonFault),
-    /// The canonical form of the document that begins at the place is too long for a document.
+    /// The canonical form of the document at `place` has too many bytes for a document.
     TooLarge { place: usize },
-    /// The bytes of a message have this fault. The place of a document's own fault in it is counted
-    /// from the document's first byte.
+    /// A message has this fault. If the fault is a document's own, its offset inside the document is
+    /// counted from the document's first byte.
     Msg(MsgFault),
-    /// The input ends inside the message that begins at the place.
+    /// The input ends inside the message at `place`.
     EndedInside { place: usize },
 }
 

@@ -6,8 +6,8 @@ ghost use Rattle.bson_elem.specs.Spelling.{IsBytes};
 ghost use Rattle.engines.specs.Documents.{IsWhole};
 ghost use Rattle.engines.specs.Msg.{MsgText};
 
-/// Whatever a command writes for a document and however it joins that, bytes have at most one text, and it ends with a
-/// fault line or doesn't.
+/// Proves that bytes have at most one text as documents, which ends with a fault line or doesn't, whatever a command writes
+/// for a document and however it joins the texts.
 pub fn one_text()
     ensures { (text_of : Tree → Option (List ℕ)) (joined : Bool → List ℕ → List ℕ)
         (bytes text other : List ℕ) (fault other_fault : Bool) → IsBytes bytes
@@ -15,7 +15,7 @@ pub fn one_text()
         → (text ≡ other) × (fault ≡ other_fault) }
 {}
 
-/// Bytes have at most one text as messages, and it ends with a fault line or doesn't.
+/// Proves that bytes have at most one text as messages, which ends with a fault line or doesn't.
 pub fn one_text_of_messages()
     ensures { (bytes text other : List ℕ) (fault other_fault : Bool) → IsBytes bytes
         → MsgText bytes text fault → MsgText bytes other other_fault

@@ -1,4 +1,4 @@
-//! Messages back to back.
+//! Messages back to back, and the text of each.
 
 ghost use Rattle.std.specs.Prelude.{◌≡◌, ◌+◌, ◌<◌, ◌^◌, List, ℕ, IfErr, IfOk};
 ghost use Rattle.std.specs.Io.KnownBytes.{Appends};
@@ -10,6 +10,7 @@ use crate::documents::write_last;
 use crate::input_fault::InputFault;
 use crate::msg_text::write_message;
 use crate::run::RunEnd;
+use std::alloc::Global;
 use std::io::Write;
 use wire_msg::fault::MsgFault;
 use wire_msg::front::MsgFront;
@@ -28,9 +29,13 @@ fn fault_in_message(start: usize, fault: MsgFault) -> InputFault
     InputFault::Msg(MsgFault { at, cause })
 }
 
-/// Writes the texts of the messages that begin the bytes. Returns the fault of what is left, if it has
+/// Writes the texts of the messages in `bytes`, up to the first fault. Returns that fault, if there is
 /// one.
-fn write_each<W: Write>(bytes: &[u8], out: &mut W) -> Result<Option<InputFault>, RunEnd>
+fn write_each<W: Write>(
+    alloc: Global,
+    bytes: &[u8],
+    out: &mut W,
+) -> Result<Option<InputFault>, RunEnd>
     ensures written { IfOk result (λ fault. (texts : List ℕ)
         × MessagesAre LIMIT bytes.now texts (line_of fault)
         × Appends (W.contents out.old) (W.contents out.new) texts) }
@@ -39,7 +44,7 @@ fn write_each<W: Write>(bytes: &[u8], out: &mut W) -> Result<Option<InputFault>,
     let mut rest = bytes;
     while !rest.is_empty() {
         let start = bytes.len() - rest.len();
-        match RawMsg::front(rest, LIMIT) {
+        match RawMsg::front_with(alloc, rest, LIMIT) {
             MsgFront::Whole {
                 message,
                 rest: after,
@@ -54,13 +59,15 @@ fn write_each<W: Write>(bytes: &[u8], out: &mut W) -> Result<Option<InputFault>,
     Ok(None)
 }
 
-/// Writes the texts of the messages that begin the bytes, and the line of the fault of what is left.
-/// Returns true if there is one.
-pub fn write_messages<W: Write>(bytes: &[u8], out: &mut W) -> Result<bool, RunEnd>
+/// Writes the texts of the messages in `bytes`, and then the line of the first fault. Returns true if
+/// there is one.
+///
+/// Where memory is refused, the names in a message are compared in pairs.
+pub fn write_messages<W: Write>(alloc: Global, bytes: &[u8], out: &mut W) -> Result<bool, RunEnd>
     ensures written { IfOk result (λ fault. AppendsText (MsgText bytes.now) fault
         (W.contents out.old) (W.contents out.new)) }
     ensures stopped { IfErr result (λ end. end ≡ RunEnd.InOut) }
 {
-    let fault = write_each(bytes, out)?;
+    let fault = write_each(alloc, bytes, out)?;
     write_last(fault, out)
 }

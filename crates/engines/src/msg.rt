@@ -1,4 +1,4 @@
-//! The command `msg`.
+//! The command `msg`: the text of each message.
 
 ghost use Rattle.std.specs.Prelude.{◌≡◌, ◌⊎◌, IfSome, false, true};
 ghost use Rattle.std.specs.Io.KnownBytes.{IsAtEnd, Keeps};
@@ -12,7 +12,10 @@ use std::alloc::Global;
 use std::io::{Read, Write};
 
 /// The command `msg`.
-struct Msg;
+#[derive(Drop)]
+struct Msg {
+    alloc: Global,
+}
 
 impl Engine for Msg {
     ghost is_text = { λ _. MsgText };
@@ -20,12 +23,12 @@ impl Engine for Msg {
     ghost wants_memory = { λ _. false };
 
     fn write_text<W: Write>(&self, bytes: &[u8], out: &mut W) -> Result<bool, RunEnd> {
-        write_messages(bytes, out)
+        write_messages(self.alloc, bytes, out)
     }
 }
 
-/// Writes the text of each message of at most 48,000,000 bytes that the reader has, and the line of
-/// the first fault. With `hex` the input is hexadecimal text.
+/// Writes the text of each message in the input, which has at most 48,000,000 bytes. If `hex` is true,
+/// the input is hexadecimal text.
 pub fn run_msg<R: Read, W: Write>(
     alloc: Global,
     hex: bool,
@@ -41,5 +44,6 @@ pub fn run_msg<R: Read, W: Write>(
     ensures memory { result ≡ RunEnd.Memory →
         Keeps (W.contents writer.old) (W.contents writer.new) }
 {
-    run(alloc, &Msg, hex, reader, writer)
+    let msg = Msg { alloc };
+    run(alloc, &msg, hex, reader, writer)
 }

@@ -21,7 +21,7 @@ use wire_msg::documents::Documents;
 use wire_msg::msg::RawMsg;
 use wire_msg::payload::Payload;
 
-/// The flags moreToCome and exhaustAllowed in one word.
+/// Returns the word for the flags moreToCome and exhaustAllowed.
 fn flags_word(more: bool, allows: bool) -> &'static str
     ensures { result.now ≡ flags_text more allows }
 {
@@ -33,7 +33,7 @@ fn flags_word(more: bool, allows: bool) -> &'static str
     }
 }
 
-/// The first line of a message.
+/// Writes the first line of a message.
 fn write_message_line<W: Write>(message: RawMsg<'_>, out: &mut W) -> io::Result<()>
     ensures { (m : Message) → SpellsMsg m (msg_bytes message.entry) → OnOk result
         (Appends (W.contents out.old) (W.contents out.new)
@@ -46,7 +46,7 @@ fn write_message_line<W: Write>(message: RawMsg<'_>, out: &mut W) -> io::Result<
     writeln!(out, "message {size} id {id} to {response_to} flags {flags}")
 }
 
-/// The body: the line of its size, and those of its elements.
+/// Writes the line of the body's size, and those of its elements.
 fn write_body<W: Write>(body: RawDocument<'_>, out: &mut W) -> io::Result<()>
     ensures { (t : Tree) → Spells t (document_bytes body.entry) → OnOk result
         (Appends (W.contents out.old) (W.contents out.new) (body_text t)) }
@@ -56,7 +56,7 @@ fn write_body<W: Write>(body: RawDocument<'_>, out: &mut W) -> io::Result<()>
     dump_elements(body, 1, out)
 }
 
-/// A document of a sequence, one deeper than the body.
+/// Writes a document of a sequence, one deeper than the body.
 fn write_member<W: Write>(document: RawDocument<'_>, out: &mut W) -> io::Result<()>
     ensures { (t : Tree) → Spells t (document_bytes document.entry) → OnOk result
         (Appends (W.contents out.old) (W.contents out.new) (member_text t)) }
@@ -66,7 +66,7 @@ fn write_member<W: Write>(document: RawDocument<'_>, out: &mut W) -> io::Result<
     dump_elements(document, 2, out)
 }
 
-/// The documents of a sequence.
+/// Writes the documents of a sequence.
 fn write_documents<W: Write>(documents: Documents<'_>, out: &mut W) -> io::Result<()>
     ensures { (ts : List Tree) → DocumentsAre documents.entry ts → OnOk result
         (Appends (W.contents out.old) (W.contents out.new) (flat_map member_text ts)) }
@@ -77,7 +77,7 @@ fn write_documents<W: Write>(documents: Documents<'_>, out: &mut W) -> io::Resul
     Ok(())
 }
 
-/// A document sequence: the line of its identifier and the count of its documents, and those.
+/// Writes a document sequence: the line of its identifier and the count of its documents, and those.
 fn write_sequence<W: Write>(
     identifier: &str,
     documents: Documents<'_>,
@@ -94,7 +94,7 @@ fn write_sequence<W: Write>(
     write_documents(documents, out)
 }
 
-/// The document sequences of a payload, in order.
+/// Writes the document sequences of a payload, in order.
 fn write_sequences<W: Write>(payload: Payload<'_>, out: &mut W) -> io::Result<()>
     ensures { (c : Content) → Carries payload.entry c → OnOk result
         (Appends (W.contents out.old) (W.contents out.new) (flat_map sequence_text c.sequences)) }
@@ -109,7 +109,7 @@ fn write_sequences<W: Write>(payload: Payload<'_>, out: &mut W) -> io::Result<()
 ///
 /// # Errors
 ///
-/// The error of the writer, which may have taken a part of the text.
+/// Returns the error of the writer, which may have taken a part of the text.
 pub fn write_message<W: Write>(message: RawMsg<'_>, out: &mut W) -> io::Result<()>
     ensures { (m : Message) → SpellsMsg m (msg_bytes message.entry) → OnOk result
         (Appends (W.contents out.old) (W.contents out.new)

@@ -1,4 +1,4 @@
-//! The frame of an engine: reads all, decodes, writes through a buffer, and tells how that ended.
+//! The frame of a command: reads all of the input, decodes it, writes through a buffer, and tells how that ended.
 
 ghost use Rattle.std.specs.Prelude.{◌≡◌, ◌⊎◌, [], ℕ, Bool, List, IfErr, IfOk, IfSome, IsSome, None, Err, OnOk, Ok, codes, true, false};
 ghost use Rattle.std.specs.Io.KnownBytes.{Appends, IsAtEnd, Keeps};
@@ -16,16 +16,19 @@ use std::alloc::Global;
 use std::io;
 use std::io::{ErrorKind, Read, Write};
 
-/// How many bytes of text wait for the writer at most.
+/// The most bytes of text that wait for the writer.
 const BUFFER: usize = 64 * 1024;
 
-/// How a run ended: with its text written, with a text that ends with a fault line, because
-/// reading or writing failed, or for want of memory.
+/// How a run ended.
 #[derive(Clone, Copy, Debug, PartialEq, Eq, Drop)]
 pub enum RunEnd {
+    /// The whole text was written, and it has no fault line.
     Good,
+    /// The whole text was written, and it ends with a fault line.
     Fault,
+    /// Reading or writing failed.
     InOut,
+    /// Memory ran out.
     Memory,
 }
 
@@ -36,8 +39,8 @@ pub trait Engine {
     // Whether writing may want memory.
     ghost wants_memory: { Self → Bool };
 
-    /// Writes the text of the bytes, and says whether it ends with a fault line. Errs where the
-    /// writer does, and for want of memory.
+    /// Writes the text of `bytes`. Returns true if it ends with a fault line. Errs if the writer does, and
+    /// for want of memory.
     fn write_text<W: Write>(&self, bytes: &[u8], out: &mut W) -> Result<bool, RunEnd>
         ensures written { IfOk result (λ fault. AppendsText (is_text self.now bytes.now) fault
             (W.contents out.old) (W.contents out.new)) }
@@ -45,10 +48,10 @@ pub trait Engine {
             × (end ≡ RunEnd.Memory → wants_memory self.now ≡ true)) };
 }
 
-/// Writes the text of all that the reader has. With `hex` the input is hexadecimal text.
+/// Writes the text of the whole input. If `hex` is true, the input is hexadecimal text.
 ///
-/// Beside the input, the bytes that it spells and what the engine takes, the only memory is one
-/// buffer, which is taken before the first byte is written.
+/// Beside the input, the bytes that it spells and what the engine takes, the only memory is one buffer.
+/// It is taken before the first byte is written.
 pub fn run<E: Engine, R: Read, W: Write>(
     alloc: Global,
     engine: &E,
@@ -80,7 +83,7 @@ pub fn run<E: Engine, R: Read, W: Write>(
     replace_with(writer, job, write_through)
 }
 
-/// The input that the reader has, or the end of the run.
+/// Reads the whole input, and decodes it if `hex` is true. Errs with the end of the run.
 fn read_input<R: Read>(alloc: Global, hex: bool, reader: &mut R) -> Result<Input, RunEnd>
     ensures bytes { IfOk result (λ input. IfSome (R.remaining reader.old)
         (λ all. read_bytes input ≡ bytes_of hex all)) }
@@ -97,7 +100,7 @@ fn read_input<R: Read>(alloc: Global, hex: bool, reader: &mut R) -> Result<Input
     }
 }
 
-/// All that the reader has, or the end of the run.
+/// Reads the whole input. Errs with the end of the run.
 fn read_whole<R: Read>(alloc: Global, reader: &mut R) -> Result<Vec<u8>, RunEnd>
     ensures bytes { IfOk result (λ v. IfSome (R.remaining reader.old) (λ all. v.items ≡ all)) }
     ensures read { OnOk result (IsAtEnd (R.remaining reader.new)) }
@@ -110,8 +113,8 @@ fn read_whole<R: Read>(alloc: Global, reader: &mut R) -> Result<Vec<u8>, RunEnd>
     }
 }
 
-/// How a run ends that meets this error. A refused allocation has no code of the system; where there is one, it is the
-/// system that lacks memory, and not this program.
+/// Returns the end of a run that meets `error`. A refused allocation has no code of the system; if the error has one, it
+/// is the system that lacks memory, and not this program.
 pub fn end_of(error: &io::Error) -> RunEnd
     ensures { result ≡ end_of_error (error_kind error.now) (raw_os_error error.now) }
 {
@@ -122,7 +125,7 @@ pub fn end_of(error: &io::Error) -> RunEnd
     }
 }
 
-/// What is to be written, and the buffer for it.
+/// An input whose text is to be written, and the buffer for that.
 #[derive(Drop)]
 struct Job<'a, E> {
     engine: &'a E,
@@ -130,7 +133,7 @@ struct Job<'a, E> {
     buffer: Vec<u8>,
 }
 
-/// Does a job on a writer, which it gives back.
+/// Writes the text of a job. Returns the writer, and how the run ended.
 fn write_through<E: Engine, W: Write>(writer: W, job: Job<'_, E>) -> (W, RunEnd)
     requires { job.buffer.items ≡ [] }
     ensures written { is_done result.1 ≡ true →
@@ -143,7 +146,7 @@ fn write_through<E: Engine, W: Write>(writer: W, job: Job<'_, E>) -> (W, RunEnd)
     finish(out, written)
 }
 
-/// Writes the text of an input, and says whether it ends with a fault line.
+/// Writes the text of `input`. Returns true if it ends with a fault line.
 fn write_output<E: Engine, W: Write>(engine: &E, input: &Input, out: &mut W) -> Result<bool, RunEnd>
     ensures written { IfOk result (λ fault.
         AppendsText (IsTextOf (E.is_text engine.now) (read_bytes input.now)) fault
@@ -160,7 +163,8 @@ fn write_output<E: Engine, W: Write>(engine: &E, input: &Input, out: &mut W) -> 
     }
 }
 
-/// Passes on what is left of a text, and tells the end by what came of writing it.
+/// Passes on what is left in the buffer. Returns the inner writer, and how a run ended of which the
+/// writing ended as `written`.
 fn finish<W: Write>(mut out: Buffered<W>, written: Result<bool, RunEnd>) -> (W, RunEnd)
     requires { IfErr written (λ end. is_done end ≡ false) }
     ensures stopped { IfErr written (λ end. result.1 ≡ end) }

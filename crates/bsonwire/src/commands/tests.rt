@@ -1,3 +1,5 @@
+//! Names of inputs, as messages show them.
+
 use super::InputName;
 use std::test::Fail;
 

@@ -2,7 +2,7 @@ use Rattle.std.proofs.Common.{◌≡◌, FitsSigned, sym, ap, subst, length, ◌
 use Rattle.std.specs.Int.{w32}
 use Rattle.std.proofs.lemmas.Int.{to_z-of_z}
 use Rattle.wire_msg.specs.RawMsg.{msg_bytes}
-use Rattle.wire_msg.proofs.ContentLaws.{length-spelled}
+use Rattle.wire_msg.proofs.Lemmas.{length-spelled}
 use Rattle.engines.specs.Msg.{flags_text}
 use Rattle.engines.proofs.MessageTexts.{line_written}
 use Rattle.engines.proofs.msg_text.write_message_line.Goals as goal
