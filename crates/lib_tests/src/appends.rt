@@ -4,29 +4,69 @@ use bson_doc::array::Array;
 use bson_doc::bson::Bson;
 use bson_doc::buf::RawDocumentBuf;
 use bson_doc::refusal::DocRefusal;
-use std::test::Fail;
+use std::alloc::Global;
 
-// A name may repeat. After a refusal the document is what it was.
-#[test]
-fn a_pair_is_added_last(rt: HostRuntime) -> Result<(), Fail> {
-    let mut document = RawDocumentBuf::new(rt.alloc())?;
-    document.append("a", &Bson::Int32(1))?;
-    document.append("a", &Bson::Null)?;
-    let refusal = document.append("a\0", &Bson::Null).err();
-    assert_eq!(rt; refusal, Some(DocRefusal::ZeroInName));
-    let wanted = b"\x0f\0\0\0\x10a\0\x01\0\0\0\x0aa\0\0".as_slice();
-    assert_eq!(rt; document.as_raw().as_bytes(), wanted);
-    Ok(())
+/// Returns true if the pair is added, and the document is then these bytes.
+fn is_added(document: &mut RawDocumentBuf, name: &str, value: &Bson, wanted: &[u8]) -> bool {
+    document.append(name, value).is_ok() && document.as_raw().as_bytes() == wanted
+}
+
+/// Returns true if no pair of this name is added, for the byte 00 in it, and the document is still these bytes.
+fn is_refused(document: &mut RawDocumentBuf, name: &str, wanted: &[u8]) -> bool {
+    document.append(name, &Bson::Null) == Err(DocRefusal::ZeroInName)
+        && document.as_raw().as_bytes() == wanted
+}
+
+const ONE: &[u8] = b"\x0c\0\0\0\x10a\0\x01\0\0\0\0";
+
+const TWO: &[u8] = b"\x0f\0\0\0\x10a\0\x01\0\0\0\x0aa\0\0";
+
+/// Returns true if pairs are added last to an empty document, whose names may be those of pairs that are there.
+fn grows(document: &mut RawDocumentBuf) -> bool {
+    is_added(document, "a", &Bson::Int32(1), ONE)
+        && is_added(document, "a", &Bson::Null, TWO)
+        && is_refused(document, "a\0", TWO)
+}
+
+/// Returns true if an empty document is made, and grows.
+fn adds_pairs(alloc: Global) -> bool {
+    match RawDocumentBuf::new(alloc) {
+        Ok(mut document) => grows(&mut document),
+        Err(_) => false,
+    }
 }
 
 #[test]
-fn names_in_an_array_are_places(rt: HostRuntime) -> Result<(), Fail> {
-    let mut document = RawDocumentBuf::new(rt.alloc())?;
-    let mut values = Vec::new(rt.alloc());
-    values.push(Bson::Null)?;
-    values.push(Bson::Null)?;
-    document.append("a", &Bson::Array(Array::from_vec(values)))?;
-    let wanted = b"\x13\0\0\0\x04a\0\x0b\0\0\0\x0a0\0\x0a1\0\0\0".as_slice();
-    assert_eq!(rt; document.as_raw().as_bytes(), wanted);
-    Ok(())
+fn a_pair_is_added_last(rt: HostRuntime) {
+    assert!(rt; adds_pairs(rt.alloc()));
+}
+
+/// Returns an array of two nulls.
+fn nulls(alloc: Global) -> Option<Array> {
+    let mut values = Vec::new(alloc);
+    values.push(Bson::Null).ok()?;
+    values.push(Bson::Null).ok()?;
+    Some(Array::from_vec(values))
+}
+
+/// Returns true if the value under the name "a" makes an empty document these bytes.
+fn makes(alloc: Global, value: &Bson, wanted: &[u8]) -> bool {
+    match RawDocumentBuf::new(alloc) {
+        Ok(mut document) => is_added(&mut document, "a", value, wanted),
+        Err(_) => false,
+    }
+}
+
+/// Returns true if the names in an array are its indices.
+fn names_by_index(alloc: Global) -> bool {
+    let wanted = b"\x13\0\0\0\x04a\0\x0b\0\0\0\x0a0\0\x0a1\0\0\0";
+    match nulls(alloc) {
+        Some(array) => makes(alloc, &Bson::Array(array), wanted),
+        None => false,
+    }
+}
+
+#[test]
+fn names_in_an_array_are_indices(rt: HostRuntime) {
+    assert!(rt; names_by_index(rt.alloc()));
 }

@@ -1,5 +1,5 @@
-//! What no contract says: that the definitions mean the standard, by rows that were worked out by hand from it, and
-//! that calls succeed where memory is there.
+//! Canonical forms: rows that were worked out by hand from the standard (bsonspec.org, version 1.1), and that calls
+//! succeed where memory is there.
 
 ghost use Rattle.std.specs.Prelude.{◌≤◌};
 
@@ -9,24 +9,41 @@ use bson_doc::canon::{canonical_bytes, is_canonical, to_canonical};
 use bson_doc::refusal::DocRefusal;
 use bson_raw::document::RawDocument;
 use std::alloc::Global;
-use std::test::Fail;
 
-/// Whether the canonical form of the first document is the second one, whose own canonical form is itself. It also
-/// holds that the first one is canonical just where it is the second one.
-fn has_form(alloc: Global, hex: &str, canonical: &str) -> Result<bool, Fail> {
-    let bytes = bytes_of(alloc, hex)?;
-    let wanted = bytes_of(alloc, canonical)?;
-    let Ok(document) = RawDocument::from_bytes(&bytes) else {
-        return Ok(false);
-    };
-    let form = to_canonical(alloc, document)?;
-    let again = to_canonical(alloc, form.as_raw())?;
-    Ok(
-        form.as_raw().as_bytes() == wanted.as_slice()
-            && again.as_raw().as_bytes() == wanted.as_slice()
-            && is_canonical(form.as_raw())
-            && is_canonical(document) == (bytes.as_slice() == wanted.as_slice()),
-    )
+/// Returns true if the document's canonical form is these bytes.
+fn is_form(alloc: Global, document: RawDocument<'_>, wanted: &[u8]) -> bool {
+    match to_canonical(alloc, document) {
+        Ok(form) => form.as_raw().as_bytes() == wanted,
+        Err(_) => false,
+    }
+}
+
+/// Returns true if `wanted` is the canonical form of these bytes, and they are canonical just where they are `wanted`.
+fn bytes_have_form(alloc: Global, bytes: &[u8], wanted: &[u8]) -> bool {
+    match RawDocument::from_bytes(bytes) {
+        Ok(document) => {
+            is_canonical(document) == (bytes == wanted) && is_form(alloc, document, wanted)
+        }
+        Err(_) => false,
+    }
+}
+
+/// Returns true if `wanted` is the canonical form of these digits' bytes.
+fn digits_have_form(alloc: Global, hex: &str, wanted: &[u8]) -> bool {
+    match bytes_of(alloc, hex) {
+        Some(bytes) => bytes_have_form(alloc, &bytes, wanted),
+        None => false,
+    }
+}
+
+/// Returns true if the canonical form of the first document is the second one, whose own canonical form is itself.
+fn has_form(alloc: Global, hex: &str, canonical: &str) -> bool {
+    match bytes_of(alloc, canonical) {
+        Some(wanted) => {
+            digits_have_form(alloc, hex, &wanted) && bytes_have_form(alloc, &wanted, &wanted)
+        }
+        None => false,
+    }
 }
 
 const FORMS: [(&str, &str); 14] = [
@@ -112,71 +129,101 @@ const FORMS: [(&str, &str); 14] = [
 ];
 
 #[test]
-fn canonical_forms(rt: HostRuntime) -> Result<(), Fail> {
-    for (hex, canonical) in FORMS {
-        assert!(&rt; has_form(rt.alloc(), hex, canonical)?, "{hex}");
+fn canonical_forms(rt: HostRuntime) {
+    for (hex, canonical) in &FORMS {
+        assert!(rt; has_form(rt.alloc(), hex, canonical), "{hex}");
     }
-    Ok(())
 }
 
-/// How many bytes the canonical form of the document has, or why it isn't made under this limit.
-fn len_within(alloc: Global, bytes: &[u8], limit: usize) -> Result<Option<usize>, DocRefusal>
+/// Returns true if the canonical form has so many bytes, or, where `len` is none, is refused as too large.
+fn document_has_len(
+    alloc: Global,
+    document: RawDocument<'_>,
+    limit: usize,
+    len: Option<usize>,
+) -> bool
+    requires { limit ≤ MAX_LEN }
+{
+    match canonical_bytes(alloc, document, limit) {
+        Ok(form) => len == Some(form.len()),
+        Err(refusal) => len.is_none() && refusal == DocRefusal::TooLarge,
+    }
+}
+
+/// As `document_has_len`, for the document of these bytes.
+fn has_len(alloc: Global, bytes: &[u8], limit: usize, len: Option<usize>) -> bool
     requires { limit ≤ MAX_LEN }
 {
     match RawDocument::from_bytes(bytes) {
-        Ok(document) => Ok(Some(canonical_bytes(alloc, document, limit)?.len())),
-        Err(_) => Ok(None),
+        Ok(document) => document_has_len(alloc, document, limit, len),
+        Err(_) => false,
     }
 }
+
+/// An array of two values, both named "", whose canonical form is two bytes longer.
+const NAMED: &[u8] = b"\x12\0\0\0\x04a\0\x0a\0\0\0\x0a\0\x08\0\x01\0\0";
+
+/// A canonical document.
+const EMPTY: &[u8] = b"\x05\0\0\0\0";
+
+/// An array in a scope.
+const SCOPE: &[u8] =
+    b"\x21\0\0\0\x0fc\0\x19\0\0\0\x02\0\0\0x\0\x0f\0\0\0\x04a\0\x07\0\0\0\x0a\0\0\0\0";
 
 #[test]
 fn no_more_bytes_than_the_limit(rt: HostRuntime) {
-    let alloc = rt.alloc();
-    // An array of two values, both named "", whose canonical form is two bytes longer.
-    let named = b"\x12\0\0\0\x04a\0\x0a\0\0\0\x0a\0\x08\0\x01\0\0";
-    assert!(&rt; len_within(alloc, named, 20) == Ok(Some(20)));
-    assert!(&rt; len_within(alloc, named, 19) == Err(DocRefusal::TooLarge));
-    assert!(&rt; len_within(alloc, named, 0) == Err(DocRefusal::TooLarge));
-    // A canonical document.
-    let empty = b"\x05\0\0\0\0";
-    assert!(&rt; len_within(alloc, empty, 5) == Ok(Some(5)));
-    assert!(&rt; len_within(alloc, empty, 4) == Err(DocRefusal::TooLarge));
-    // An array in a scope.
-    let scope = b"\x21\0\0\0\x0fc\0\x19\0\0\0\x02\0\0\0x\0\x0f\0\0\0\x04a\0\x07\0\0\0\x0a\0\0\0\0";
-    assert!(&rt; len_within(alloc, scope, 34) == Ok(Some(34)));
-    assert!(&rt; len_within(alloc, scope, 33) == Err(DocRefusal::TooLarge));
-    assert!(&rt; len_within(alloc, scope, 20) == Err(DocRefusal::TooLarge));
+    assert!(rt; has_len(rt.alloc(), NAMED, 20, Some(20)));
+    assert!(rt; has_len(rt.alloc(), NAMED, 19, None));
+    assert!(rt; has_len(rt.alloc(), NAMED, 0, None));
+    assert!(rt; has_len(rt.alloc(), EMPTY, 5, Some(5)));
+    assert!(rt; has_len(rt.alloc(), EMPTY, 4, None));
+    assert!(rt; has_len(rt.alloc(), SCOPE, 34, Some(34)));
+    assert!(rt; has_len(rt.alloc(), SCOPE, 33, None));
+    assert!(rt; has_len(rt.alloc(), SCOPE, 20, None));
 }
 
-#[test]
-fn the_empty_document(rt: HostRuntime) -> Result<(), Fail> {
-    let document = RawDocumentBuf::new(rt.alloc())?;
-    assert!(&rt; document.as_raw().as_bytes() == b"\x05\x00\x00\x00\x00".as_slice());
-    assert!(&rt; document.as_raw().iter().next().is_none());
-    Ok(())
-}
-
-#[test]
-fn refusals_have_numbers(rt: HostRuntime) -> Result<(), Fail> {
-    let refusals = [
-        (
-            DocRefusal::RepeatedName { depth: 3 },
-            "a name is repeated at depth 3",
-        ),
-        (DocRefusal::OutOfMemory, "out of memory"),
-        (DocRefusal::TooLarge, "the document is too large"),
-        (
-            DocRefusal::ZeroInName,
-            "a name, a pattern or options have a 00 in them",
-        ),
-        (DocRefusal::Depth, "a container is too deep"),
-    ];
-    let mut number = 1;
-    for (refusal, text) in refusals {
-        assert_eq!(&rt; refusal.number(), number);
-        let shown = format!(in rt.alloc(); "{refusal}")?;
-        assert_eq!(&rt; shown.as_str(), text);
-        number = number.wrapping_add(1);
+/// Returns true if the empty document is made of five bytes, and has no pair.
+fn makes_empty(alloc: Global) -> bool {
+    match RawDocumentBuf::new(alloc) {
+        Ok(document) => {
+            document.as_raw().as_bytes() == EMPTY && document.as_raw().iter().next().is_none()
+        }
+        Err(_) => false,
     }
-    Ok(())
+}
+
+#[test]
+fn the_empty_document(rt: HostRuntime) {
+    assert!(rt; makes_empty(rt.alloc()));
+}
+
+/// Returns true if the refusal has this number, and displays as this text.
+fn is_shown(alloc: Global, refusal: DocRefusal, number: u8, text: &str) -> bool {
+    match format!(in alloc; "{refusal}") {
+        Ok(shown) => refusal.number() == number && shown.as_str() == text,
+        Err(_) => false,
+    }
+}
+
+const REFUSALS: [(DocRefusal, u8, &str); 5] = [
+    (
+        DocRefusal::RepeatedName { depth: 3 },
+        1,
+        "a name is repeated at depth 3",
+    ),
+    (DocRefusal::OutOfMemory, 2, "out of memory"),
+    (DocRefusal::TooLarge, 3, "the document is too large"),
+    (
+        DocRefusal::ZeroInName,
+        4,
+        "a name, a pattern or options have a 00 in them",
+    ),
+    (DocRefusal::Depth, 5, "a container is too deep"),
+];
+
+#[test]
+fn refusals_have_numbers(rt: HostRuntime) {
+    for (refusal, number, text) in &REFUSALS {
+        assert!(rt; is_shown(rt.alloc(), *refusal, *number, text), "{number}");
+    }
 }

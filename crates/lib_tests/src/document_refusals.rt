@@ -17,22 +17,71 @@ fn document(alloc: Global) -> Option<Document> {
     Document::from_raw(alloc, raw).ok()
 }
 
+/// Returns true if this is the pair that `inserts` inserts.
+fn is_inserted(name: &str, value: &Bson) -> bool {
+    name == "n" && matches!(value, Bson::Int32(2))
+}
+
+/// Inserts a pair, and returns how many the document then has, or 0 where the pair is handed back.
+fn inserts(changed: &mut Document, name: String) -> Option<usize> {
+    match changed.insert(name, Bson::Int32(2)) {
+        Ok(_) => Some(changed.len()),
+        Err(refused) => {
+            if is_inserted(refused.value.0.as_str(), &refused.value.1) {
+                Some(0)
+            } else {
+                None
+            }
+        }
+    }
+}
+
+/// Returns true if no name is made, or a pair is inserted, or is handed back and the document is equal to `before`.
+fn inserts_named(alloc: Global, changed: &mut Document, before: &Document) -> bool {
+    let Ok(name) = String::from_str(alloc, "n") else {
+        return true;
+    };
+    match inserts(changed, name) {
+        Some(0) => *changed == *before,
+        Some(len) => len == 2,
+        None => false,
+    }
+}
+
+/// Returns true if no second document is made, or a pair is inserted into it or handed back.
+fn inserts_into_another(alloc: Global, before: &Document) -> bool {
+    match document(alloc) {
+        Some(mut changed) => inserts_named(alloc, &mut changed, before),
+        None => true,
+    }
+}
+
+/// Returns true if no document is made, or a pair is inserted or handed back.
+fn hands_back(alloc: Global) -> bool {
+    match document(alloc) {
+        Some(before) => inserts_into_another(alloc, &before),
+        None => true,
+    }
+}
+
 #[test]
 fn insert_hands_the_pair_back(rt: HostRuntime) {
-    let alloc = rt.alloc();
-    let (Some(mut changed), Some(before)) = (document(alloc), document(alloc)) else {
-        return;
-    };
-    let Ok(name) = String::from_str(alloc, "n") else {
-        return;
-    };
-    match changed.insert(name, Bson::Int32(2)) {
-        Ok(_) => assert_eq!(rt; changed.len(), 2),
-        Err(refused) => {
-            assert!(rt; changed == before);
-            let (name, value) = refused.value;
-            assert!(rt; name.as_str() == "n" && value == Bson::Int32(2));
-        }
+    assert!(rt; hands_back(rt.alloc()));
+}
+
+/// Returns true if the document is read, or refused for want of memory.
+fn is_read(alloc: Global, raw: RawDocument<'_>) -> bool {
+    match Document::from_raw(alloc, raw) {
+        Ok(made) => made.len() == 1,
+        Err(refusal) => refusal == DocRefusal::OutOfMemory,
+    }
+}
+
+/// Returns true if the canonical form is made, or refused for want of memory.
+fn has_form(alloc: Global, raw: RawDocument<'_>) -> bool {
+    match to_canonical(alloc, raw) {
+        Ok(made) => made.as_raw().as_bytes().len() == 30,
+        Err(refusal) => refusal == DocRefusal::OutOfMemory,
     }
 }
 
@@ -41,44 +90,82 @@ fn a_refused_document_is_not_made(rt: HostRuntime) {
     let Ok(raw) = RawDocument::from_bytes(BYTES) else {
         return;
     };
-    match Document::from_raw(rt.alloc(), raw) {
-        Ok(made) => assert_eq!(rt; made.len(), 1),
-        Err(refusal) => assert_eq!(rt; refusal, DocRefusal::OutOfMemory),
+    assert!(rt; is_read(rt.alloc(), raw));
+    assert!(rt; has_form(rt.alloc(), raw));
+}
+
+/// Returns true if the document is written, or refused for want of memory.
+fn is_written(document: &Document) -> bool {
+    match document.to_raw() {
+        Ok(made) => made.as_raw().as_bytes().len() == 30,
+        Err(refusal) => refusal == DocRefusal::OutOfMemory,
     }
-    match to_canonical(rt.alloc(), raw) {
-        Ok(made) => assert_eq!(rt; made.as_raw().as_bytes().len(), 30),
-        Err(refusal) => assert_eq!(rt; refusal, DocRefusal::OutOfMemory),
+}
+
+/// Returns true if a copy of the document is equal to `before`, or isn't made.
+fn is_copied(alloc: Global, document: &Document, before: &Document) -> bool {
+    match document.try_clone(alloc) {
+        Ok(copy) => copy == *before,
+        Err(_) => true,
+    }
+}
+
+/// Returns true if the document is equal to `before` after it is copied and after it is written.
+fn stays_as(alloc: Global, document: &Document, before: &Document) -> bool {
+    is_copied(alloc, document, before)
+        && *document == *before
+        && is_written(document)
+        && *document == *before
+}
+
+/// Returns true if no second document is made, or it stays `before` when it is copied and when it is written.
+fn another_stays(alloc: Global, before: &Document) -> bool {
+    match document(alloc) {
+        Some(document) => stays_as(alloc, &document, before),
+        None => true,
+    }
+}
+
+/// Returns true if no document is made, or it stays when it is copied and when it is written.
+fn stays(alloc: Global) -> bool {
+    match document(alloc) {
+        Some(before) => another_stays(alloc, &before),
+        None => true,
     }
 }
 
 #[test]
 fn a_document_that_is_copied_or_written_stays(rt: HostRuntime) {
-    let alloc = rt.alloc();
-    let (Some(document), Some(before)) = (document(alloc), document(alloc)) else {
-        return;
-    };
-    if let Ok(copy) = document.try_clone() {
-        assert!(rt; copy == before);
+    assert!(rt; stays(rt.alloc()));
+}
+
+/// Returns true if the pair is appended to the empty document, or is refused and leaves its bytes.
+fn appends(bytes: &mut RawDocumentBuf, value: &Bson) -> bool {
+    match bytes.append("d", value) {
+        Ok(()) => bytes.as_raw().as_bytes().len() == 38,
+        Err(refusal) => {
+            refusal == DocRefusal::OutOfMemory && bytes.as_raw().as_bytes() == b"\x05\0\0\0\0".as_slice()
+        }
     }
-    assert!(rt; document == before);
-    match document.to_raw() {
-        Ok(made) => assert_eq!(rt; made.as_raw().as_bytes().len(), 30),
-        Err(refusal) => assert_eq!(rt; refusal, DocRefusal::OutOfMemory),
+}
+
+/// Returns true if no empty document is made, or the value is appended to it, or is refused and leaves its bytes.
+fn appends_to_empty(alloc: Global, value: &Bson) -> bool {
+    match RawDocumentBuf::new(alloc) {
+        Ok(mut bytes) => appends(&mut bytes, value),
+        Err(_) => true,
     }
-    assert!(rt; document == before);
+}
+
+/// Returns true if no document is made, or it is appended, or is refused and leaves the bytes.
+fn leaves_the_bytes(alloc: Global) -> bool {
+    match document(alloc) {
+        Some(document) => appends_to_empty(alloc, &Bson::Document(document)),
+        None => true,
+    }
 }
 
 #[test]
 fn append_leaves_the_bytes(rt: HostRuntime) {
-    let alloc = rt.alloc();
-    let (Some(document), Ok(mut bytes)) = (document(alloc), RawDocumentBuf::new(alloc)) else {
-        return;
-    };
-    match bytes.append("d", &Bson::Document(document)) {
-        Ok(()) => assert_eq!(rt; bytes.as_raw().as_bytes().len(), 38),
-        Err(refusal) => {
-            assert_eq!(rt; refusal, DocRefusal::OutOfMemory);
-            assert_eq!(rt; bytes.as_raw().as_bytes(), b"\x05\0\0\0\0".as_slice());
-        }
-    }
+    assert!(rt; leaves_the_bytes(rt.alloc()));
 }

@@ -1,132 +1,174 @@
 //! What no contract says: that the text is the one that was worked out by hand from the standard and the table of kinds,
 //! that a failed write ends the walk, and that the calls write a document's text.
 
+ghost use Rattle.std.specs.Prelude.{◌≤◌};
+
 use crate::hex_bytes::bytes_of;
 use bson_doc::{dump_elements, dump_to};
 use bson_raw::document::RawDocument;
+use std::alloc::Global;
 use std::io;
 use std::io::Write;
-use std::test::Fail;
+
+/// Returns true if the document's text is this one.
+fn has_text(alloc: Global, document: RawDocument<'_>, text: &str) -> bool {
+    let mut out = Vec::new(alloc);
+    dump_to(document, &mut out).is_ok() && out.as_slice() == text.as_bytes()
+}
+
+/// Like `has_text`, for the document of these bytes.
+fn bytes_have_text(alloc: Global, bytes: &[u8], text: &str) -> bool {
+    match RawDocument::from_bytes(bytes) {
+        Ok(document) => has_text(alloc, document, text),
+        Err(_) => false,
+    }
+}
+
+/// Like `has_text`, for the document of these digits.
+fn is_dumped_as(alloc: Global, digits: &str, text: &str) -> bool {
+    match bytes_of(alloc, digits) {
+        Some(bytes) => bytes_have_text(alloc, &bytes, text),
+        None => false,
+    }
+}
 
 // A document of one element, for each kind; and containers in containers, whose elements follow their line.
+const ROWS: [(&str, &str); 25] = [
+    ("05000000 00", "document 5\n"),
+    (
+        "16000000 02 68656c6c6f00 06000000 776f726c6400 00",
+        "document 22\n  \"hello\" string \"world\"\n",
+    ),
+    (
+        "14000000 04 6100 0c000000 10 7800 01000000 00 00",
+        "document 20\n  \"a\" array 12\n    \"x\" int32 1\n",
+    ),
+    (
+        "10000000 03 7600 08000000 0a 7700 00 00",
+        "document 16\n  \"v\" document 8\n    \"w\" null\n",
+    ),
+    (
+        "10000000 01 7600 000000000000f03f 00",
+        "document 16\n  \"v\" double 000000000000f03f\n",
+    ),
+    (
+        "0f000000 05 7600 02000000 00 aabb 00",
+        "document 15\n  \"v\" binary 00 2 aabb\n",
+    ),
+    (
+        "0d000000 05 7600 00000000 00 00",
+        "document 13\n  \"v\" binary 00 0\n",
+    ),
+    (
+        "0e000000 05 7600 01000000 ff 00 00",
+        "document 14\n  \"v\" binary ff 1 00\n",
+    ),
+    (
+        "13000000 05 7600 06000000 02 02000000 aabb 00",
+        "document 19\n  \"v\" binary 02 2 aabb\n",
+    ),
+    ("08000000 06 7600 00", "document 8\n  \"v\" undefined\n"),
+    (
+        "14000000 07 7600 000102030405060708090a0b 00",
+        "document 20\n  \"v\" objectid 000102030405060708090a0b\n",
+    ),
+    (
+        "09000000 08 7600 01 00",
+        "document 9\n  \"v\" boolean true\n",
+    ),
+    (
+        "09000000 08 7600 00 00",
+        "document 9\n  \"v\" boolean false\n",
+    ),
+    (
+        "10000000 09 7600 ffffffffffffffff 00",
+        "document 16\n  \"v\" datetime -1\n",
+    ),
+    ("08000000 0a 7600 00", "document 8\n  \"v\" null\n"),
+    (
+        "0e000000 0b 7600 612e6200 6900 00",
+        "document 14\n  \"v\" regex \"a.b\" \"i\"\n",
+    ),
+    (
+        "1a000000 0c 7600 02000000 6300 000102030405060708090a0b 00",
+        "document 26\n  \"v\" dbpointer \"c\" 000102030405060708090a0b\n",
+    ),
+    (
+        "0e000000 0d 7600 02000000 6300 00",
+        "document 14\n  \"v\" code \"c\"\n",
+    ),
+    (
+        "0e000000 0e 7600 02000000 6300 00",
+        "document 14\n  \"v\" symbol \"c\"\n",
+    ),
+    (
+        "0c000000 10 7600 00000080 00",
+        "document 12\n  \"v\" int32 -2147483648\n",
+    ),
+    (
+        "10000000 11 7600 01000000 02000000 00",
+        "document 16\n  \"v\" timestamp 2 1\n",
+    ),
+    (
+        "10000000 12 7600 0000000000000080 00",
+        "document 16\n  \"v\" int64 -9223372036854775808\n",
+    ),
+    (
+        "18000000 13 7600 01000000000000000000000000004030 00",
+        "document 24\n  \"v\" decimal128 01000000000000000000000000004030\n",
+    ),
+    ("08000000 ff 7600 00", "document 8\n  \"v\" minkey\n"),
+    ("08000000 7f 7600 00", "document 8\n  \"v\" maxkey\n"),
+];
+
 #[test]
-fn one_element_of_each_kind(rt: HostRuntime) -> Result<(), Fail> {
-    let rows = [
-        ("05000000 00", "document 5\n"),
-        (
-            "16000000 02 68656c6c6f00 06000000 776f726c6400 00",
-            "document 22\n  \"hello\" string \"world\"\n",
-        ),
-        (
-            "14000000 04 6100 0c000000 10 7800 01000000 00 00",
-            "document 20\n  \"a\" array 12\n    \"x\" int32 1\n",
-        ),
-        (
-            "10000000 03 7600 08000000 0a 7700 00 00",
-            "document 16\n  \"v\" document 8\n    \"w\" null\n",
-        ),
-        (
-            "10000000 01 7600 000000000000f03f 00",
-            "document 16\n  \"v\" double 000000000000f03f\n",
-        ),
-        (
-            "0f000000 05 7600 02000000 00 aabb 00",
-            "document 15\n  \"v\" binary 00 2 aabb\n",
-        ),
-        (
-            "0d000000 05 7600 00000000 00 00",
-            "document 13\n  \"v\" binary 00 0\n",
-        ),
-        (
-            "0e000000 05 7600 01000000 ff 00 00",
-            "document 14\n  \"v\" binary ff 1 00\n",
-        ),
-        (
-            "13000000 05 7600 06000000 02 02000000 aabb 00",
-            "document 19\n  \"v\" binary 02 2 aabb\n",
-        ),
-        ("08000000 06 7600 00", "document 8\n  \"v\" undefined\n"),
-        (
-            "14000000 07 7600 000102030405060708090a0b 00",
-            "document 20\n  \"v\" objectid 000102030405060708090a0b\n",
-        ),
-        (
-            "09000000 08 7600 01 00",
-            "document 9\n  \"v\" boolean true\n",
-        ),
-        (
-            "09000000 08 7600 00 00",
-            "document 9\n  \"v\" boolean false\n",
-        ),
-        (
-            "10000000 09 7600 ffffffffffffffff 00",
-            "document 16\n  \"v\" datetime -1\n",
-        ),
-        ("08000000 0a 7600 00", "document 8\n  \"v\" null\n"),
-        (
-            "0e000000 0b 7600 612e6200 6900 00",
-            "document 14\n  \"v\" regex \"a.b\" \"i\"\n",
-        ),
-        (
-            "1a000000 0c 7600 02000000 6300 000102030405060708090a0b 00",
-            "document 26\n  \"v\" dbpointer \"c\" 000102030405060708090a0b\n",
-        ),
-        (
-            "0e000000 0d 7600 02000000 6300 00",
-            "document 14\n  \"v\" code \"c\"\n",
-        ),
-        (
-            "0e000000 0e 7600 02000000 6300 00",
-            "document 14\n  \"v\" symbol \"c\"\n",
-        ),
-        (
-            "0c000000 10 7600 00000080 00",
-            "document 12\n  \"v\" int32 -2147483648\n",
-        ),
-        (
-            "10000000 11 7600 01000000 02000000 00",
-            "document 16\n  \"v\" timestamp 2 1\n",
-        ),
-        (
-            "10000000 12 7600 0000000000000080 00",
-            "document 16\n  \"v\" int64 -9223372036854775808\n",
-        ),
-        (
-            "18000000 13 7600 01000000000000000000000000004030 00",
-            "document 24\n  \"v\" decimal128 01000000000000000000000000004030\n",
-        ),
-        ("08000000 ff 7600 00", "document 8\n  \"v\" minkey\n"),
-        ("08000000 7f 7600 00", "document 8\n  \"v\" maxkey\n"),
-    ];
-    for (digits, text) in rows {
-        let bytes = bytes_of(rt.alloc(), digits)?;
-        let document = RawDocument::from_bytes(&bytes)?;
-        let mut out = Vec::new(rt.alloc());
-        dump_to(document, &mut out)?;
-        assert_eq!(rt; out.as_slice(), text.as_bytes(), "at {digits}");
+fn one_element_of_each_kind(rt: HostRuntime) {
+    for (digits, text) in &ROWS {
+        assert!(rt; is_dumped_as(rt.alloc(), digits, text), "{digits}");
     }
-    Ok(())
 }
+
+/// Returns true if the text of the document's elements, so deep, is this one.
+fn has_lines(alloc: Global, document: RawDocument<'_>, deep: u32, text: &str) -> bool
+    requires { (1 ≤ deep) × (deep ≤ 2) }
+{
+    let mut out = Vec::new(alloc);
+    dump_elements(document, deep, &mut out).is_ok() && out.as_slice() == text.as_bytes()
+}
+
+/// Like `has_lines`, for the document of these bytes.
+fn bytes_have_lines(alloc: Global, bytes: &[u8], deep: u32, text: &str) -> bool
+    requires { (1 ≤ deep) × (deep ≤ 2) }
+{
+    match RawDocument::from_bytes(bytes) {
+        Ok(document) => has_lines(alloc, document, deep, text),
+        Err(_) => false,
+    }
+}
+
+/// Like `has_lines`, for the document `DEEP`.
+fn has_lines_at(alloc: Global, deep: u32, text: &str) -> bool
+    requires { (1 ≤ deep) × (deep ≤ 2) }
+{
+    match bytes_of(alloc, DEEP) {
+        Some(bytes) => bytes_have_lines(alloc, &bytes, deep, text),
+        None => false,
+    }
+}
+
+/// A document and a scope between other elements.
+const DEEP: &str =
+    "28000000 0a 6100 03 6200 08000000 0a 6300 00 0f 6400 0f000000 02000000 7800 0500000000 ff 6500 00";
 
 // Elements after an inner document stand as deep as those before it.
 #[test]
-fn lines_of_elements(rt: HostRuntime) -> Result<(), Fail> {
-    let bytes = bytes_of(
-        rt.alloc(),
-        "28000000 0a 6100 03 6200 08000000 0a 6300 00 0f 6400 0f000000 02000000 7800 0500000000 ff 6500 00",
-    )?;
-    let document = RawDocument::from_bytes(&bytes)?;
-    let mut out = Vec::new(rt.alloc());
-    dump_elements(document, 1, &mut out)?;
+fn lines_of_elements(rt: HostRuntime) {
     let text =
         "  \"a\" null\n  \"b\" document 8\n    \"c\" null\n  \"d\" codescope \"x\" 5\n  \"e\" minkey\n";
-    assert_eq!(rt; out.as_slice(), text.as_bytes());
-    out.clear();
-    dump_elements(document, 2, &mut out)?;
+    assert!(rt; has_lines_at(rt.alloc(), 1, text));
     let text =
         "    \"a\" null\n    \"b\" document 8\n      \"c\" null\n    \"d\" codescope \"x\" 5\n    \"e\" minkey\n";
-    assert_eq!(rt; out.as_slice(), text.as_bytes());
-    Ok(())
+    assert!(rt; has_lines_at(rt.alloc(), 2, text));
 }
 
 /// A writer that takes so many bytes and then fails.
@@ -150,18 +192,28 @@ impl Write for Short {
     }
 }
 
+/// Returns true if the document's text fills this room and fails.
+fn fails_in(document: RawDocument<'_>, room: usize) -> bool {
+    let mut out = Short { room };
+    dump_to(document, &mut out).is_err() && out.room == 0
+}
+
+/// Returns true if the document's text just fills this room.
+fn fits_in(document: RawDocument<'_>, room: usize) -> bool {
+    let mut out = Short { room };
+    dump_to(document, &mut out).is_ok() && out.room == 0
+}
+
 #[test]
-fn ends_at_a_failed_write(rt: HostRuntime) -> Result<(), Fail> {
-    let bytes = bytes_of(rt.alloc(), "10000000 03 7600 08000000 0a 7700 00 00")?;
-    let document = RawDocument::from_bytes(&bytes)?;
+fn ends_at_a_failed_write(rt: HostRuntime) {
+    let bytes = b"\x10\0\0\0\x03v\0\x08\0\0\0\x0aw\0\0\0";
+    let Ok(document) = RawDocument::from_bytes(bytes) else {
+        assert!(rt; false);
+        return;
+    };
     // The text has 12 + 17 + 13 bytes.
     for room in 0..42 {
-        let mut out = Short { room };
-        assert!(rt; dump_to(document, &mut out).is_err(), "at {room}");
-        assert_eq!(rt; out.room, 0, "at {room}");
+        assert!(rt; fails_in(document, room), "at {room}");
     }
-    let mut out = Short { room: 42 };
-    dump_to(document, &mut out)?;
-    assert_eq!(rt; out.room, 0);
-    Ok(())
+    assert!(rt; fits_in(document, 42));
 }

@@ -6,8 +6,6 @@ ghost use Rattle.lib_tests.specs.Digits.{without_spaces};
 
 use hex::FromHexError;
 use std::alloc::Global;
-#[cfg(test)]
-use std::test::Fail;
 
 /// Takes the spaces out in place.
 fn pack(text: &mut Vec<u8>)
@@ -33,8 +31,8 @@ pub fn read_digits(alloc: Global, digits: &str) -> Result<Vec<u8>, FromHexError>
     hex::decode(alloc, packed.as_slice())
 }
 
-/// As `read_digits`, for a test.
+/// Returns the bytes of hexadecimal digits, for a test.
 #[cfg(test)]
-pub(crate) fn bytes_of(alloc: Global, digits: &str) -> Result<Vec<u8>, Fail> {
-    Ok(read_digits(alloc, digits)?)
+pub(crate) fn bytes_of(alloc: Global, digits: &str) -> Option<Vec<u8>> {
+    read_digits(alloc, digits).ok()
 }

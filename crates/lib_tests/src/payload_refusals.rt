@@ -5,6 +5,7 @@
 use bson_raw::document::RawDocument;
 use std::alloc::Global;
 use wire_msg::flags::MsgFlags;
+use wire_msg::payload::Payload;
 use wire_msg::payload_buf::PayloadBuf;
 use wire_msg::refusal::MsgRefusal;
 use wire_msg::write::write_msg;
@@ -24,71 +25,136 @@ fn begun(alloc: Global) -> Option<PayloadBuf> {
     Some(payload)
 }
 
+/// Returns true if a payload of this body is made, or refused for want of memory.
+fn is_made(alloc: Global, body: RawDocument<'_>) -> bool {
+    match PayloadBuf::new(alloc, body) {
+        Ok(made) => made.as_payload().msg_len() == 40,
+        Err(refusal) => refusal == MsgRefusal::OutOfMemory,
+    }
+}
+
+/// Returns true if a copy of the payload is equal to it, or isn't made.
+fn is_copied(alloc: Global, payload: &PayloadBuf) -> bool {
+    match payload.as_payload().to_buf(alloc) {
+        Ok(copy) => copy == *payload,
+        Err(_) => true,
+    }
+}
+
+/// Returns true if no payload is begun, or it stays when it is copied.
+fn stays(alloc: Global) -> bool {
+    match begun(alloc) {
+        Some(payload) => is_copied(alloc, &payload) && payload.as_payload().msg_len() == 55,
+        None => true,
+    }
+}
+
 #[test]
 fn a_refused_payload_is_not_made(rt: HostRuntime) {
-    let alloc = rt.alloc();
     let Ok(body) = RawDocument::from_bytes(BODY) else {
         return;
     };
-    match PayloadBuf::new(alloc, body) {
-        Ok(made) => assert_eq!(rt; made.as_payload().msg_len(), 40),
-        Err(refusal) => assert_eq!(rt; refusal, MsgRefusal::OutOfMemory),
+    assert!(rt; is_made(rt.alloc(), body));
+    assert!(rt; stays(rt.alloc()));
+}
+
+/// Returns true if a sequence is begun, or refused for want of memory, and the payload is then `before`.
+fn begins(changed: &mut PayloadBuf, before: &PayloadBuf) -> bool {
+    match changed.begin_sequence("documents") {
+        Ok(()) => changed.as_payload().msg_len() == 55,
+        Err(refusal) => {
+            refusal == MsgRefusal::OutOfMemory && changed.as_payload() == before.as_payload()
+        }
     }
-    let Some(payload) = begun(alloc) else {
-        return;
-    };
-    if let Ok(copy) = payload.as_payload().to_buf(alloc) {
-        assert!(rt; copy == payload);
+}
+
+/// Returns true if no second payload is made, or `begins` holds of it.
+fn begins_in_another(alloc: Global, before: &PayloadBuf) -> bool {
+    match payload(alloc) {
+        Some(mut changed) => begins(&mut changed, before),
+        None => true,
     }
-    assert_eq!(rt; payload.as_payload().msg_len(), 55);
+}
+
+/// Returns true if no payload is made, or a sequence is begun in it or refused.
+fn leaves_at_begin(alloc: Global) -> bool {
+    match payload(alloc) {
+        Some(before) => begins_in_another(alloc, &before),
+        None => true,
+    }
 }
 
 #[test]
 fn begin_sequence_leaves_the_payload(rt: HostRuntime) {
-    let (Some(mut changed), Some(before)) = (payload(rt.alloc()), payload(rt.alloc())) else {
-        return;
-    };
-    match changed.begin_sequence("documents") {
-        Ok(()) => assert_eq!(rt; changed.as_payload().msg_len(), 55),
+    assert!(rt; leaves_at_begin(rt.alloc()));
+}
+
+/// Returns true if the document is added, or refused for want of memory, and the payload is then `before`.
+fn pushes(changed: &mut PayloadBuf, document: RawDocument<'_>, before: &PayloadBuf) -> bool {
+    match changed.push_document(document) {
+        Ok(()) => changed.as_payload().msg_len() == 74,
         Err(refusal) => {
-            assert_eq!(rt; refusal, MsgRefusal::OutOfMemory);
-            assert!(rt; changed == before);
+            refusal == MsgRefusal::OutOfMemory && changed.as_payload() == before.as_payload()
         }
+    }
+}
+
+/// Returns true if no second payload is made, or `pushes` holds of it.
+fn pushes_in_another(alloc: Global, document: RawDocument<'_>, before: &PayloadBuf) -> bool {
+    match begun(alloc) {
+        Some(mut changed) => pushes(&mut changed, document, before),
+        None => true,
+    }
+}
+
+/// Returns true if no payload is made, or the document is added to it or refused.
+fn leaves_at_push(alloc: Global, document: RawDocument<'_>) -> bool {
+    match begun(alloc) {
+        Some(before) => pushes_in_another(alloc, document, &before),
+        None => true,
     }
 }
 
 #[test]
 fn push_document_leaves_the_payload(rt: HostRuntime) {
-    let (Some(mut changed), Some(before)) = (begun(rt.alloc()), begun(rt.alloc())) else {
-        return;
-    };
     let Ok(document) = RawDocument::from_bytes(BODY) else {
         return;
     };
-    match changed.push_document(document) {
-        Ok(()) => assert_eq!(rt; changed.as_payload().msg_len(), 74),
+    assert!(rt; leaves_at_push(rt.alloc(), document));
+}
+
+const NO_FLAGS: MsgFlags = MsgFlags {
+    more: false,
+    allows: false,
+};
+
+/// Returns true if the message is written behind two bytes, or refused for want of memory, and the bytes then stay.
+fn is_written(out: &mut Vec<u8>, payload: Payload<'_>) -> bool {
+    match write_msg(out, 2, 0, NO_FLAGS, payload, 55) {
+        Ok(()) => out.len() == 57,
         Err(refusal) => {
-            assert_eq!(rt; refusal, MsgRefusal::OutOfMemory);
-            assert!(rt; changed == before);
+            refusal == MsgRefusal::OutOfMemory && out.as_slice() == b"ab".as_slice()
         }
+    }
+}
+
+/// Returns true if no bytes are made, or `is_written` holds behind them.
+fn is_written_behind(alloc: Global, payload: Payload<'_>) -> bool {
+    match Vec::from_slice(alloc, b"ab") {
+        Ok(mut out) => is_written(&mut out, payload),
+        Err(_) => true,
+    }
+}
+
+/// Returns true if no payload is made, or its message is written or refused.
+fn adds_nothing(alloc: Global) -> bool {
+    match begun(alloc) {
+        Some(payload) => is_written_behind(alloc, payload.as_payload()),
+        None => true,
     }
 }
 
 #[test]
 fn a_refused_message_adds_nothing(rt: HostRuntime) {
-    let (Some(payload), Ok(mut out)) = (begun(rt.alloc()), Vec::from_slice(rt.alloc(), b"ab"))
-    else {
-        return;
-    };
-    let flags = MsgFlags {
-        more: false,
-        allows: false,
-    };
-    match write_msg(&mut out, 2, 0, flags, payload.as_payload(), 55) {
-        Ok(()) => assert_eq!(rt; out.len(), 57),
-        Err(refusal) => {
-            assert_eq!(rt; refusal, MsgRefusal::OutOfMemory);
-            assert_eq!(rt; out.as_slice(), b"ab".as_slice());
-        }
-    }
+    assert!(rt; adds_nothing(rt.alloc()));
 }

@@ -5,9 +5,10 @@ use crate::hex_bytes::bytes_of;
 use crate::messages::LIMIT;
 use crate::written_messages::BODY_FIRST;
 use bson_raw::document::RawDocument;
-use std::test::Fail;
+use std::alloc::Global;
 use wire_msg::flags::MsgFlags;
 use wire_msg::msg::RawMsg;
+use wire_msg::payload::Payload;
 use wire_msg::payload_buf::PayloadBuf;
 use wire_msg::refusal::MsgRefusal;
 use wire_msg::write::write_msg;
@@ -26,49 +27,116 @@ const ONE_MORE: &str = "44000000 02000000 00000000 dd070000 00000000 00 05000000
     01 14000000 6100 0e000000 105f69640001000000 00 \
     01 14000000 6200 0e000000 105f69640002000000 00";
 
+/// Returns true if what can't be added to a payload of `{"ping": 1}` is refused and leaves it, and what may be is added.
+fn refuses(payload: &mut PayloadBuf, document: RawDocument<'_>) -> bool {
+    payload.push_document(document) == Err(MsgRefusal::NoSequence)
+        && payload.begin_sequence("ping") == Err(MsgRefusal::SequenceInBody)
+        && payload.begin_sequence("a\0") == Err(MsgRefusal::ZeroInName)
+        && payload.as_payload().msg_len() == 36
+}
+
+/// Returns true if an identifier may be empty, and stand twice.
+fn takes_no_identifier_twice(payload: &mut PayloadBuf) -> bool {
+    payload.begin_sequence("").is_ok()
+        && payload.begin_sequence("").is_ok()
+        && payload.as_payload().msg_len() == 48
+}
+
+/// Returns true if a payload is made of `{"ping": 1}`, and refuses what can't be added.
+fn holds_of_ping(alloc: Global, body: RawDocument<'_>) -> bool {
+    match PayloadBuf::new(alloc, body) {
+        Ok(mut payload) => refuses(&mut payload, body) && takes_no_identifier_twice(&mut payload),
+        Err(_) => false,
+    }
+}
+
+const PING_BODY: &[u8] = b"\x0f\0\0\0\x10ping\0\x01\0\0\0\0";
+
 #[test]
-fn what_is_added_to_no_payload(rt: HostRuntime) -> Result<(), Fail> {
-    let bytes = bytes_of(rt.alloc(), "0f000000 1070696e670001000000 00")?;
-    let body = RawDocument::from_bytes(&bytes).expect(&rt, "a document");
-    let mut payload = PayloadBuf::new(rt.alloc(), body).expect(&rt, "a payload");
-    assert!(rt; payload.push_document(body) == Err(MsgRefusal::NoSequence));
-    assert!(rt; payload.begin_sequence("ping") == Err(MsgRefusal::SequenceInBody));
-    assert!(rt; payload.begin_sequence("a\0") == Err(MsgRefusal::ZeroInName));
-    assert_eq!(rt; payload.as_payload().msg_len(), 36);
-    // an identifier may be empty, and stand twice
-    payload.begin_sequence("").expect(&rt, "a sequence");
-    payload.begin_sequence("").expect(&rt, "a sequence");
-    assert_eq!(rt; payload.as_payload().msg_len(), 48);
-    Ok(())
+fn what_is_added_to_no_payload(rt: HostRuntime) {
+    let Ok(body) = RawDocument::from_bytes(PING_BODY) else {
+        assert!(rt; false);
+        return;
+    };
+    assert!(rt; holds_of_ping(rt.alloc(), body));
+}
+
+/// Returns true if the payload's message of request 2 is written as these bytes.
+fn writes(alloc: Global, payload: Payload<'_>, limit: u32, wanted: &[u8]) -> bool {
+    let mut out = Vec::new(alloc);
+    write_msg(&mut out, 2, 0, NO_FLAGS, payload, limit).is_ok() && out.as_slice() == wanted
+}
+
+/// Like `writes`, for the bytes of these digits.
+fn is_written_as(alloc: Global, payload: Payload<'_>, limit: u32, hex: &str) -> bool {
+    match bytes_of(alloc, hex) {
+        Some(wanted) => writes(alloc, payload, limit, &wanted),
+        None => false,
+    }
+}
+
+/// Returns true if the message of this body, with one document in the sequence "documents", is `BODY_FIRST`.
+fn builds(alloc: Global, body: RawDocument<'_>, document: RawDocument<'_>) -> bool {
+    match PayloadBuf::new(alloc, body) {
+        Ok(mut payload) => {
+            payload.begin_sequence("documents").is_ok()
+                && payload.push_document(document).is_ok()
+                && is_written_as(alloc, payload.as_payload(), 69, BODY_FIRST)
+        }
+        Err(_) => false,
+    }
+}
+
+const INSERT_BODY: &[u8] = b"\x13\0\0\0\x02insert\0\x02\0\0\0c\0\0";
+
+const FIRST: &[u8] = b"\x0e\0\0\0\x10_id\0\x01\0\0\0\0";
+
+const SECOND: &[u8] = b"\x0e\0\0\0\x10_id\0\x02\0\0\0\0";
+
+#[test]
+fn an_insert_is_built(rt: HostRuntime) {
+    let (Ok(body), Ok(document)) = (
+        RawDocument::from_bytes(INSERT_BODY),
+        RawDocument::from_bytes(FIRST),
+    ) else {
+        assert!(rt; false);
+        return;
+    };
+    assert!(rt; builds(rt.alloc(), body, document));
+}
+
+/// Returns true if a copy of the payload takes the document into its last sequence, and is then `ONE_MORE`.
+fn copy_takes(alloc: Global, payload: Payload<'_>, document: RawDocument<'_>) -> bool {
+    match payload.to_buf(alloc) {
+        Ok(mut copy) => {
+            copy.push_document(document).is_ok()
+                && is_written_as(alloc, copy.as_payload(), 68, ONE_MORE)
+        }
+        Err(_) => false,
+    }
+}
+
+/// Like `copy_takes`, for the payload of the message in these bytes.
+fn bytes_take(alloc: Global, bytes: &[u8], document: RawDocument<'_>) -> bool {
+    match RawMsg::parse(bytes, LIMIT) {
+        Ok(msg) => copy_takes(alloc, msg.payload(), document),
+        Err(_) => false,
+    }
+}
+
+/// Like `copy_takes`, for the payload of `TWO_SEQUENCES`.
+fn two_take(alloc: Global, document: RawDocument<'_>) -> bool {
+    match bytes_of(alloc, TWO_SEQUENCES) {
+        Some(bytes) => bytes_take(alloc, &bytes, document),
+        None => false,
+    }
 }
 
 #[test]
-fn an_insert_is_built(rt: HostRuntime) -> Result<(), Fail> {
-    let bytes = bytes_of(rt.alloc(), "13000000 02696e73657274000200000063 00 00")?;
-    let body = RawDocument::from_bytes(&bytes).expect(&rt, "a document");
-    let mut payload = PayloadBuf::new(rt.alloc(), body).expect(&rt, "a payload");
-    let bytes = bytes_of(rt.alloc(), "0e000000 105f69640001000000 00")?;
-    let document = RawDocument::from_bytes(&bytes).expect(&rt, "a document");
-    payload
-        .begin_sequence("documents")
-        .expect(&rt, "a sequence");
-    payload.push_document(document).expect(&rt, "a document");
-    let mut out = Vec::new(rt.alloc());
-    write_msg(&mut out, 2, 0, NO_FLAGS, payload.as_payload(), 69).expect(&rt, "a message");
-    assert!(rt; out == bytes_of(rt.alloc(), BODY_FIRST)?);
-    Ok(())
-}
-
-#[test]
-fn a_copy_takes_documents_into_its_last_sequence(rt: HostRuntime) -> Result<(), Fail> {
-    let bytes = bytes_of(rt.alloc(), TWO_SEQUENCES)?;
-    let msg = RawMsg::parse(&bytes, LIMIT).expect(&rt, "a message");
-    let mut copy = msg.payload().to_buf(rt.alloc())?;
-    let bytes = bytes_of(rt.alloc(), "0e000000 105f69640002000000 00")?;
-    let document = RawDocument::from_bytes(&bytes).expect(&rt, "a document");
-    copy.push_document(document).expect(&rt, "a document");
-    let mut out = Vec::new(rt.alloc());
-    write_msg(&mut out, 2, 0, NO_FLAGS, copy.as_payload(), 68).expect(&rt, "a message");
-    assert!(rt; out == bytes_of(rt.alloc(), ONE_MORE)?);
-    Ok(())
+fn a_copy_takes_documents_into_its_last_sequence(rt: HostRuntime) {
+    let Ok(document) = RawDocument::from_bytes(SECOND) else {
+        assert!(rt; false);
+        return;
+    };
+    assert!(rt; two_take(rt.alloc(), document));
 }

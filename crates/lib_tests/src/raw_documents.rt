@@ -8,286 +8,305 @@ use bson_elem::kind::Kind;
 use bson_raw::document::RawDocument;
 use bson_raw::value::RawBson;
 use std::alloc::Global;
-use std::test::Fail;
 
 const ID: [u8; 12] = [0, 1, 2, 3, 4, 5, 6, 7, 8, 9, 10, 11];
 
-/// Whether both calls take the bytes as a document whose first value, named "v", is this one.
-fn is_seen(alloc: Global, hex: &str, value: RawBson<'_>) -> Result<bool, Fail> {
-    let bytes = bytes_of(alloc, hex)?;
-    let whole = match RawDocument::from_bytes(&bytes) {
-        Ok(document) => document.as_bytes() == bytes.as_slice() && document.get("v") == Some(value),
+const ONE: [u8; 8] = [0, 0, 0, 0, 0, 0, 0xf0, 0x3f];
+
+const DIGITS: [u8; 16] = [1, 0, 0, 0, 0, 0, 0, 0, 0, 0, 0, 0, 0, 0, 0x40, 0x30];
+
+/// Returns true if `from_bytes` takes the bytes as a document whose value named "v" is this one.
+fn is_whole(bytes: &[u8], value: RawBson<'_>) -> bool {
+    match RawDocument::from_bytes(bytes) {
+        Ok(document) => document.as_bytes() == bytes && document.get("v") == Some(value),
         Err(_) => false,
-    };
-    let front = match RawDocument::front(&bytes) {
+    }
+}
+
+/// Returns true if `front` takes the bytes as a document whose first value, named "v", is this one.
+fn is_front(bytes: &[u8], value: RawBson<'_>) -> bool {
+    match RawDocument::front(bytes) {
         Ok((document, rest)) => { document.iter().next() == Some(("v", value)) && rest.is_empty() }
         Err(_) => false,
-    };
-    Ok(whole && front)
+    }
 }
+
+/// Returns true if both calls take the bytes of these digits as a document whose first value, named "v", is this one.
+fn is_seen(alloc: Global, hex: &str, value: RawBson<'_>) -> bool {
+    match bytes_of(alloc, hex) {
+        Some(bytes) => is_whole(&bytes, value) && is_front(&bytes, value),
+        None => false,
+    }
+}
+
+const VALUES: [(&str, RawBson<'static>); 21] = [
+    ("10000000 01 7600 000000000000f03f 00", RawBson::Double(ONE)),
+    ("0e000000 02 7600 02000000 6300 00", RawBson::String("c")),
+    (
+        "0f000000 05 7600 02000000 00 aabb 00",
+        RawBson::Binary {
+            subtype: 0,
+            bytes: b"\xaa\xbb",
+        },
+    ),
+    (
+        "0d000000 05 7600 00000000 00 00",
+        RawBson::Binary {
+            subtype: 0,
+            bytes: b"",
+        },
+    ),
+    (
+        "13000000 05 7600 06000000 02 02000000 aabb 00",
+        RawBson::Binary {
+            subtype: 2,
+            bytes: b"\xaa\xbb",
+        },
+    ),
+    ("08000000 06 7600 00", RawBson::Undefined),
+    (
+        "14000000 07 7600 000102030405060708090a0b 00",
+        RawBson::ObjectId(ID),
+    ),
+    ("09000000 08 7600 01 00", RawBson::Boolean(true)),
+    ("09000000 08 7600 00 00", RawBson::Boolean(false)),
+    (
+        "10000000 09 7600 ffffffffffffffff 00",
+        RawBson::DateTime(-1),
+    ),
+    ("08000000 0a 7600 00", RawBson::Null),
+    (
+        "0e000000 0b 7600 612e6200 6900 00",
+        RawBson::Regex {
+            pattern: "a.b",
+            options: "i",
+        },
+    ),
+    (
+        "1a000000 0c 7600 02000000 6300 000102030405060708090a0b 00",
+        RawBson::DbPointer { text: "c", id: ID },
+    ),
+    ("0e000000 0d 7600 02000000 6300 00", RawBson::Code("c")),
+    ("0e000000 0e 7600 02000000 6300 00", RawBson::Symbol("c")),
+    ("0c000000 10 7600 00000080 00", RawBson::Int32(-2147483648)),
+    (
+        "10000000 11 7600 01000000 02000000 00",
+        RawBson::Timestamp {
+            increment: 1,
+            seconds: 2,
+        },
+    ),
+    (
+        "10000000 12 7600 0000000000000080 00",
+        RawBson::Int64(-9223372036854775808),
+    ),
+    (
+        "18000000 13 7600 01000000000000000000000000004030 00",
+        RawBson::Decimal128(DIGITS),
+    ),
+    ("08000000 ff 7600 00", RawBson::MinKey),
+    ("08000000 7f 7600 00", RawBson::MaxKey),
+];
 
 #[test]
-fn values(rt: HostRuntime) -> Result<(), Fail> {
-    let alloc = rt.alloc();
-    let one = [0, 0, 0, 0, 0, 0, 0xf0, 0x3f];
-    let digits = [1, 0, 0, 0, 0, 0, 0, 0, 0, 0, 0, 0, 0, 0, 0x40, 0x30];
-    let table = [
-        ("10000000 01 7600 000000000000f03f 00", RawBson::Double(one)),
-        ("0e000000 02 7600 02000000 6300 00", RawBson::String("c")),
-        (
-            "0f000000 05 7600 02000000 00 aabb 00",
-            RawBson::Binary {
-                subtype: 0,
-                bytes: b"\xaa\xbb",
-            },
-        ),
-        (
-            "0d000000 05 7600 00000000 00 00",
-            RawBson::Binary {
-                subtype: 0,
-                bytes: b"",
-            },
-        ),
-        (
-            "13000000 05 7600 06000000 02 02000000 aabb 00",
-            RawBson::Binary {
-                subtype: 2,
-                bytes: b"\xaa\xbb",
-            },
-        ),
-        ("08000000 06 7600 00", RawBson::Undefined),
-        (
-            "14000000 07 7600 000102030405060708090a0b 00",
-            RawBson::ObjectId(ID),
-        ),
-        ("09000000 08 7600 01 00", RawBson::Boolean(true)),
-        ("09000000 08 7600 00 00", RawBson::Boolean(false)),
-        (
-            "10000000 09 7600 ffffffffffffffff 00",
-            RawBson::DateTime(-1),
-        ),
-        ("08000000 0a 7600 00", RawBson::Null),
-        (
-            "0e000000 0b 7600 612e6200 6900 00",
-            RawBson::Regex {
-                pattern: "a.b",
-                options: "i",
-            },
-        ),
-        (
-            "1a000000 0c 7600 02000000 6300 000102030405060708090a0b 00",
-            RawBson::DbPointer {
-                namespace: "c",
-                id: ID,
-            },
-        ),
-        ("0e000000 0d 7600 02000000 6300 00", RawBson::Code("c")),
-        ("0e000000 0e 7600 02000000 6300 00", RawBson::Symbol("c")),
-        ("0c000000 10 7600 00000080 00", RawBson::Int32(-2147483648)),
-        (
-            "10000000 11 7600 01000000 02000000 00",
-            RawBson::Timestamp {
-                increment: 1,
-                seconds: 2,
-            },
-        ),
-        (
-            "10000000 12 7600 0000000000000080 00",
-            RawBson::Int64(-9223372036854775808),
-        ),
-        (
-            "18000000 13 7600 01000000000000000000000000004030 00",
-            RawBson::Decimal128(digits),
-        ),
-        ("08000000 ff 7600 00", RawBson::MinKey),
-        ("08000000 7f 7600 00", RawBson::MaxKey),
-    ];
-    for (hex, value) in table {
-        assert!(&rt; is_seen(alloc, hex, value)?, "{hex}");
+fn values(rt: HostRuntime) {
+    for (hex, value) in &VALUES {
+        assert!(rt; is_seen(rt.alloc(), hex, *value), "{hex}");
     }
-    Ok(())
 }
 
-/// Whether the bytes are refused at this place for this cause, by both calls.
-fn is_refused(alloc: Global, hex: &str, cause: BsonCause, at: usize) -> Result<bool, Fail> {
-    let bytes = bytes_of(alloc, hex)?;
-    let whole = match RawDocument::from_bytes(&bytes) {
+/// Returns true if `from_bytes` refuses the bytes at this offset for this cause.
+fn is_no_whole(bytes: &[u8], cause: BsonCause, at: usize) -> bool {
+    match RawDocument::from_bytes(bytes) {
         Ok(_) => false,
         Err(fault) => fault.cause == cause && fault.at == at,
-    };
-    let front = match RawDocument::front(&bytes) {
-        Ok(_) => false,
-        Err(fault) => fault.cause == cause && fault.at == at,
-    };
-    Ok(whole && front)
+    }
 }
+
+/// Returns true if `front` refuses the bytes at this offset for this cause.
+fn is_no_front(bytes: &[u8], cause: BsonCause, at: usize) -> bool {
+    match RawDocument::front(bytes) {
+        Ok(_) => false,
+        Err(fault) => fault.cause == cause && fault.at == at,
+    }
+}
+
+/// Returns true if both calls refuse the bytes of these digits at this offset for this cause.
+fn is_refused(alloc: Global, hex: &str, cause: BsonCause, at: usize) -> bool {
+    match bytes_of(alloc, hex) {
+        Some(bytes) => is_no_whole(&bytes, cause, at) && is_no_front(&bytes, cause, at),
+        None => false,
+    }
+}
+
+const FAULTS: [(&str, BsonCause, usize); 23] = [
+    ("", BsonCause::Truncated, 0),
+    ("050000", BsonCause::Truncated, 0),
+    ("04000000", BsonCause::Length, 0),
+    ("0500000001", BsonCause::End, 0),
+    ("06000000 00 00", BsonCause::End, 0),
+    ("08000000 14 7600 00", BsonCause::Kind, 4),
+    ("08000000 0a ff00 00", BsonCause::Name, 4),
+    ("07000000 0a 76 00", BsonCause::Truncated, 4),
+    ("0f000000 02 6100 03000000 c328 00 00", BsonCause::Text, 4),
+    ("0e000000 02 6100 02000000 7878 00", BsonCause::TextEnd, 4),
+    ("0d000000 03 6100 04000000 00 00", BsonCause::Length, 7),
+    ("0d000000 03 6100 06000000 00 00", BsonCause::Truncated, 4),
+    ("0d000000 03 6100 05000000 01 00", BsonCause::End, 7),
+    (
+        "13000000 05 6200 06000000 02 03000000 aabb 00",
+        BsonCause::OldBinary,
+        4,
+    ),
+    (
+        "17000000 0f 6300 0e000000 02000000 7800 0500000000 00",
+        BsonCause::Scope,
+        4,
+    ),
+    ("09000000 08 7400 02 00", BsonCause::Boolean, 4),
+    // A string of no bytes, not even its 0.
+    ("0d000000 02 6100 00000000 00 00", BsonCause::Length, 4),
+    // A binary of -1 bytes.
+    ("0d000000 05 6200 ffffffff 00 00", BsonCause::Length, 4),
+    // A code with scope that is too short for its parts, and one whose scope leaves a byte over.
+    (
+        "17000000 0f 6300 0d000000 02000000 7800 0500000000 00",
+        BsonCause::Length,
+        4,
+    ),
+    (
+        "18000000 0f 6300 10000000 02000000 7800 0500000000 00 00",
+        BsonCause::Scope,
+        4,
+    ),
+    // A boolean of 2 in a scope whose code is "x", and in a document in an array.
+    (
+        "1b000000 0f 6300 13000000 02000000 7800 09000000 08 7400 02 00 00",
+        BsonCause::Boolean,
+        21,
+    ),
+    (
+        "19000000 04 6100 11000000 03 3000 09000000 08 7400 02 00 00 00",
+        BsonCause::Boolean,
+        18,
+    ),
+    // The last byte of a document is tested before its elements are.
+    (
+        "11000000 03 6100 09000000 08 7400 02 01 00",
+        BsonCause::End,
+        7,
+    ),
+];
 
 #[test]
-fn faults(rt: HostRuntime) -> Result<(), Fail> {
-    let alloc = rt.alloc();
-    let table = [
-        ("", BsonCause::Truncated, 0),
-        ("050000", BsonCause::Truncated, 0),
-        ("04000000", BsonCause::Length, 0),
-        ("0500000001", BsonCause::End, 0),
-        ("06000000 00 00", BsonCause::End, 0),
-        ("08000000 14 7600 00", BsonCause::Kind, 4),
-        ("08000000 0a ff00 00", BsonCause::Name, 4),
-        ("07000000 0a 76 00", BsonCause::Truncated, 4),
-        ("0f000000 02 6100 03000000 c328 00 00", BsonCause::Text, 4),
-        ("0e000000 02 6100 02000000 7878 00", BsonCause::TextEnd, 4),
-        ("0d000000 03 6100 04000000 00 00", BsonCause::Length, 7),
-        ("0d000000 03 6100 06000000 00 00", BsonCause::Truncated, 4),
-        ("0d000000 03 6100 05000000 01 00", BsonCause::End, 7),
-        (
-            "13000000 05 6200 06000000 02 03000000 aabb 00",
-            BsonCause::OldBinary,
-            4,
-        ),
-        (
-            "17000000 0f 6300 0e000000 02000000 7800 0500000000 00",
-            BsonCause::Scope,
-            4,
-        ),
-        ("09000000 08 7400 02 00", BsonCause::Boolean, 4),
-        // A string of no bytes, not even its 0.
-        ("0d000000 02 6100 00000000 00 00", BsonCause::Length, 4),
-        // A binary of -1 bytes.
-        ("0d000000 05 6200 ffffffff 00 00", BsonCause::Length, 4),
-        // A code with scope that is too short for its parts, and one whose scope leaves a byte over.
-        (
-            "17000000 0f 6300 0d000000 02000000 7800 0500000000 00",
-            BsonCause::Length,
-            4,
-        ),
-        (
-            "18000000 0f 6300 10000000 02000000 7800 0500000000 00 00",
-            BsonCause::Scope,
-            4,
-        ),
-        // A boolean of 2 in a scope whose code is "x", and in a document in an array.
-        (
-            "1b000000 0f 6300 13000000 02000000 7800 09000000 08 7400 02 00 00",
-            BsonCause::Boolean,
-            21,
-        ),
-        (
-            "19000000 04 6100 11000000 03 3000 09000000 08 7400 02 00 00 00",
-            BsonCause::Boolean,
-            18,
-        ),
-        // The last byte of a document is tested before its elements are.
-        (
-            "11000000 03 6100 09000000 08 7400 02 01 00",
-            BsonCause::End,
-            7,
-        ),
-    ];
-    for (hex, cause, at) in table {
-        assert!(&rt; is_refused(alloc, hex, cause, at)?, "{hex}");
+fn faults(rt: HostRuntime) {
+    for (hex, cause, at) in &FAULTS {
+        assert!(rt; is_refused(rt.alloc(), hex, *cause, *at), "{hex}");
     }
-    Ok(())
 }
 
 /// A length that isn't that of the bytes is the first fault of `from_bytes`, and to `front` they end too early.
 #[test]
 fn lengths(rt: HostRuntime) {
     let bytes = b"\x06\x00\x00\x00\x00";
-    match RawDocument::from_bytes(bytes) {
-        Ok(_) => assert!(&rt; false),
-        Err(fault) => assert_eq!(&rt; (fault.cause, fault.at), (BsonCause::Length, 0)),
-    }
+    assert!(rt; is_no_whole(bytes, BsonCause::Length, 0));
+    assert!(rt; is_no_front(bytes, BsonCause::Truncated, 0));
+}
+
+/// Returns true if `front` takes an empty document from the bytes, and gives this rest back.
+fn is_split(bytes: &[u8], wanted: &[u8]) -> bool {
     match RawDocument::front(bytes) {
-        Ok(_) => assert!(&rt; false),
-        Err(fault) => assert_eq!(&rt; (fault.cause, fault.at), (BsonCause::Truncated, 0)),
+        Ok((document, rest)) => document.as_bytes().len() == 5 && rest == wanted,
+        Err(_) => false,
     }
 }
 
 #[test]
 fn a_rest_is_given_back(rt: HostRuntime) {
-    match RawDocument::front(b"\x05\x00\x00\x00\x00\x07\x08") {
-        Ok((document, rest)) => {
-            assert_eq!(&rt; document.as_bytes().len(), 5);
-            assert!(&rt; rest == b"\x07\x08".as_slice());
-        }
-        Err(fault) => assert!(&rt; false, "{fault:?}"),
-    }
+    assert!(rt; is_split(b"\x05\x00\x00\x00\x00\x07\x08", b"\x07\x08"));
 }
 
-#[test]
-fn a_code_has_its_scope(rt: HostRuntime) -> Result<(), Fail> {
-    let bytes = bytes_of(
-        rt.alloc(),
-        "17000000 0f 6300 0f000000 02000000 7800 0500000000 00",
-    )?;
-    let value = match RawDocument::from_bytes(&bytes) {
-        Ok(document) => document.get("c"),
-        Err(_) => None,
-    };
+/// Returns true if the value is the code "x" and the empty scope.
+fn is_code(value: Option<RawBson<'_>>) -> bool {
     match value {
         Some(RawBson::CodeWithScope { code, scope }) => {
-            assert_eq!(&rt; code, "x");
-            assert!(&rt; scope.as_bytes() == b"\x05\x00\x00\x00\x00".as_slice());
+            code == "x" && scope.as_bytes() == b"\x05\x00\x00\x00\x00".as_slice()
         }
-        _ => assert!(&rt; false),
+        _ => false,
     }
-    Ok(())
 }
 
 #[test]
-fn the_first_of_a_name_is_found(rt: HostRuntime) -> Result<(), Fail> {
-    let bytes = bytes_of(rt.alloc(), "13000000 10 6100 01000000 10 6100 02000000 00")?;
-    match RawDocument::from_bytes(&bytes) {
+fn a_code_has_its_scope(rt: HostRuntime) {
+    let bytes =
+        b"\x17\0\0\0\x0fc\0\x0f\0\0\0\x02\0\0\0x\0\x05\0\0\0\0\0";
+    match RawDocument::from_bytes(bytes) {
+        Ok(document) => assert!(rt; is_code(document.get("c"))),
+        Err(_) => assert!(rt; false),
+    }
+}
+
+/// Returns true if the values found under "a" and "b", and the first repeated name, are these.
+fn finds(
+    bytes: &[u8],
+    a: Option<RawBson<'_>>,
+    b: Option<RawBson<'_>>,
+    repeated: Option<&str>,
+) -> bool {
+    match RawDocument::from_bytes(bytes) {
         Ok(document) => {
-            assert!(&rt; document.get("a") == Some(RawBson::Int32(1)));
-            assert!(&rt; document.get("b") == None);
-            assert!(&rt; document.first_repeated_name() == Some("a"));
+            document.get("a") == a
+                && document.get("b") == b
+                && document.first_repeated_name() == repeated
         }
-        Err(fault) => assert!(&rt; false, "{fault:?}"),
+        Err(_) => false,
     }
-    let bytes = bytes_of(rt.alloc(), "0b000000 0a 6100 0a 6200 00")?;
-    match RawDocument::from_bytes(&bytes) {
-        Ok(document) => assert!(&rt; document.first_repeated_name() == None),
-        Err(fault) => assert!(&rt; false, "{fault:?}"),
+}
+
+#[test]
+fn the_first_of_a_name_is_found(rt: HostRuntime) {
+    let twice = b"\x13\0\0\0\x10a\0\x01\0\0\0\x10a\0\x02\0\0\0\0";
+    assert!(rt; finds(twice, Some(RawBson::Int32(1)), None, Some("a")));
+    let once = b"\x0b\0\0\0\x0aa\0\x0ab\0\0";
+    assert!(rt; finds(once, Some(RawBson::Null), Some(RawBson::Null), None));
+}
+
+/// Returns true if the value is an array of 7 and 8, in 19 bytes.
+fn is_array(value: Option<RawBson<'_>>) -> bool {
+    match value.and_then(|value| value.as_array()) {
+        Some(array) => {
+            array.as_bytes().len() == 19
+                && array.iter().count() == 2
+                && array.get(0) == Some(RawBson::Int32(7))
+                && array.get(1) == Some(RawBson::Int32(8))
+                && array.get(2) == None
+        }
+        None => false,
     }
-    Ok(())
 }
 
 /// An array of 7 and 8, whose names are "5" and "5".
 #[test]
-fn array_values_go_by_their_order(rt: HostRuntime) -> Result<(), Fail> {
-    let bytes = bytes_of(
-        rt.alloc(),
-        "1b000000 04 6100 13000000 10 3500 07000000 10 3500 08000000 00 00",
-    )?;
-    let value = match RawDocument::from_bytes(&bytes) {
-        Ok(document) => document.get("a"),
-        Err(_) => None,
-    };
-    match value.and_then(|value| value.as_array()) {
-        Some(array) => {
-            assert_eq!(&rt; array.as_bytes().len(), 19);
-            assert_eq!(&rt; array.iter().count(), 2);
-            assert!(&rt; array.get(0) == Some(RawBson::Int32(7)));
-            assert!(&rt; array.get(1) == Some(RawBson::Int32(8)));
-            assert!(&rt; array.get(2) == None);
-        }
-        None => assert!(&rt; false),
+fn array_values_go_by_their_order(rt: HostRuntime) {
+    let bytes =
+        b"\x1b\0\0\0\x04a\0\x13\0\0\0\x105\0\x07\0\0\0\x105\0\x08\0\0\0\0\0";
+    match RawDocument::from_bytes(bytes) {
+        Ok(document) => assert!(rt; is_array(document.get("a"))),
+        Err(_) => assert!(rt; false),
     }
-    Ok(())
 }
 
 #[test]
 fn a_part_is_given_for_its_kind_alone(rt: HostRuntime) {
-    assert!(&rt; RawBson::String("a").as_str() == Some("a"));
-    assert!(&rt; RawBson::Symbol("a").as_str() == None);
-    assert!(&rt; RawBson::Int32(-1).as_i32() == Some(-1));
-    assert!(&rt; RawBson::Int64(1).as_i32() == None);
-    assert!(&rt; RawBson::Int64(-1).as_i64() == Some(-1));
-    assert!(&rt; RawBson::DateTime(1).as_i64() == None);
-    assert!(&rt; RawBson::Boolean(true).as_bool() == Some(true));
-    assert!(&rt; RawBson::Null.as_bool() == None);
-    assert!(&rt;
+    assert!(rt; RawBson::String("a").as_str() == Some("a"));
+    assert!(rt; RawBson::Symbol("a").as_str() == None);
+    assert!(rt; RawBson::Int32(-1).as_i32() == Some(-1));
+    assert!(rt; RawBson::Int64(1).as_i32() == None);
+    assert!(rt; RawBson::Int64(-1).as_i64() == Some(-1));
+    assert!(rt; RawBson::DateTime(1).as_i64() == None);
+    assert!(rt; RawBson::Boolean(true).as_bool() == Some(true));
+    assert!(rt; RawBson::Null.as_bool() == None);
+    assert!(rt;
         RawBson::Binary {
             subtype: 2,
             bytes: b"\xaa"
@@ -295,10 +314,10 @@ fn a_part_is_given_for_its_kind_alone(rt: HostRuntime) {
         .as_binary()
             == Some((2, b"\xaa"))
     );
-    assert!(&rt; RawBson::Undefined.as_binary() == None);
-    assert!(&rt; RawBson::Null.as_document() == None);
-    assert!(&rt; RawBson::Null.as_array() == None);
-    assert!(&rt; RawBson::MinKey.kind() == Kind::MinKey);
+    assert!(rt; RawBson::Undefined.as_binary() == None);
+    assert!(rt; RawBson::Null.as_document() == None);
+    assert!(rt; RawBson::Null.as_array() == None);
+    assert!(rt; RawBson::MinKey.kind() == Kind::MinKey);
 }
 
 /// Fills the bytes with as many documents, each in the one before, in an element named "a".
@@ -316,21 +335,26 @@ fn nest(bytes: &mut [u8; 1605], count: usize)
     }
 }
 
+/// Returns true if 200 documents, one in another, are read by both calls.
+fn is_deep(bytes: &[u8]) -> bool {
+    match RawDocument::front(bytes) {
+        Ok((document, _)) => {
+            document.as_bytes().len() == 1597
+                && RawDocument::from_bytes(document.as_bytes()).is_ok()
+        }
+        Err(_) => false,
+    }
+}
+
 #[test]
 fn documents_are_200_deep_at_most(rt: HostRuntime) {
     let mut bytes = [0; 1605];
     nest(&mut bytes, 200);
-    match RawDocument::front(&bytes) {
-        Ok((document, _)) => {
-            assert_eq!(&rt; document.as_bytes().len(), 1597);
-            assert!(&rt; RawDocument::from_bytes(document.as_bytes()).is_ok());
-        }
-        Err(fault) => assert!(&rt; false, "{fault:?}"),
-    }
+    assert!(rt; is_deep(&bytes));
     let mut bytes = [0; 1605];
     nest(&mut bytes, 201);
     match RawDocument::from_bytes(&bytes) {
-        Ok(_) => assert!(&rt; false),
-        Err(fault) => assert_eq!(&rt; (fault.cause, fault.at), (BsonCause::Depth, 1397)),
+        Ok(_) => assert!(rt; false),
+        Err(fault) => assert!(rt; fault.cause == BsonCause::Depth && fault.at == 1397),
     }
 }
