@@ -150,7 +150,7 @@ fn document_has_len(
     }
 }
 
-/// As `document_has_len`, for the document of these bytes.
+/// Like `document_has_len`, for the document of these bytes.
 fn has_len(alloc: Global, bytes: &[u8], limit: usize, len: Option<usize>) -> bool
     requires { limit ≤ MAX_LEN }
 {

@@ -1,5 +1,5 @@
-//! What stands after a refused allocation. `./try-refusals` runs these tests with each of their allocations refused in
-//! turn. What a test makes for itself may be refused, too, and then there is nothing to see.
+//! Tests of what stays unchanged after a refused allocation. `./try-refusals` runs them with each of their allocations
+//! refused in turn. Where what a test makes for itself is refused, the test passes, since there is nothing to see.
 
 use bson_doc::bson::Bson;
 use bson_doc::buf::RawDocumentBuf;
@@ -12,6 +12,7 @@ use std::alloc::Global;
 /// `{"a": [{"": "c"}]}`, whose canonical form has another name in the array.
 const BYTES: &[u8] = b"\x1d\0\0\0\x04a\0\x15\0\0\0\x03\0\x0e\0\0\0\x02b\0\x02\0\0\0c\0\0\0\0";
 
+/// Returns the document of `BYTES`.
 fn document(alloc: Global) -> Option<Document> {
     let raw = RawDocument::from_bytes(BYTES).ok()?;
     Document::from_raw(alloc, raw).ok()
@@ -22,7 +23,7 @@ fn is_inserted(name: &str, value: &Bson) -> bool {
     name == "n" && matches!(value, Bson::Int32(2))
 }
 
-/// Inserts a pair, and returns how many the document then has, or 0 where the pair is handed back.
+/// Inserts a pair. Returns how many pairs the document then has, 0 if the pair is handed back, or none if another one is.
 fn inserts(changed: &mut Document, name: String) -> Option<usize> {
     match changed.insert(name, Bson::Int32(2)) {
         Ok(_) => Some(changed.len()),
@@ -144,7 +145,8 @@ fn appends(bytes: &mut RawDocumentBuf, value: &Bson) -> bool {
     match bytes.append("d", value) {
         Ok(()) => bytes.as_raw().as_bytes().len() == 38,
         Err(refusal) => {
-            refusal == DocRefusal::OutOfMemory && bytes.as_raw().as_bytes() == b"\x05\0\0\0\0".as_slice()
+            refusal == DocRefusal::OutOfMemory
+                && bytes.as_raw().as_bytes() == b"\x05\0\0\0\0".as_slice()
         }
     }
 }

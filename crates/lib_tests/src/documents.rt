@@ -386,7 +386,12 @@ fn made(alloc: Global) -> Option<Document> {
     if puts(alloc, &mut document, "b", Bson::from(true))
         && puts(alloc, &mut document, "c", Bson::from(7i64))
         && puts_text(alloc, &mut document)
-        && puts(alloc, &mut document, "e", Bson::from(Array::from_vec(Vec::new(alloc))))
+        && puts(
+            alloc,
+            &mut document,
+            "e",
+            Bson::from(Array::from_vec(Vec::new(alloc))),
+        )
     {
         Some(document)
     } else {

@@ -1,5 +1,5 @@
-//! What no contract says: that the text is the one that was worked out by hand from the standard and the table of kinds,
-//! that a failed write ends the walk, and that the calls write a document's text.
+//! Texts of documents that were worked out by hand from the standard (bsonspec.org, version 1.1) and the table of kinds,
+//! and writers that fail.
 
 ghost use Rattle.std.specs.Prelude.{◌≤◌};
 
@@ -171,7 +171,7 @@ fn lines_of_elements(rt: HostRuntime) {
     assert!(rt; has_lines_at(rt.alloc(), 2, text));
 }
 
-/// A writer that takes so many bytes and then fails.
+/// A writer that takes `room` bytes and then fails.
 #[derive(Drop)]
 struct Short {
     room: usize,

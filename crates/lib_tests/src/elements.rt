@@ -1,5 +1,5 @@
-//! What no contract says: that faults display as their fault lines, and that the contracts mean the standard, by rows
-//! that were worked out by hand from it.
+//! Elements, kinds and texts by rows that were worked out by hand from the standard (bsonspec.org, version 1.1), and what
+//! faults display as.
 
 ghost use Rattle.std.specs.Prelude.{◌<◌, length};
 

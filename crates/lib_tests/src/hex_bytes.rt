@@ -1,4 +1,4 @@
-//! Bytes by their digits. The tests stand on what is read here, so that it is proved.
+//! The reader of the hexadecimal digits in which the rows of the tests are written.
 
 ghost use Rattle.std.specs.Prelude.{◌≡◌, ◌⊎◌, IfErr, IfOk, Err, Ok};
 ghost use Rattle.hex.specs.Hex.{decode_of};
@@ -7,18 +7,18 @@ ghost use Rattle.lib_tests.specs.Digits.{without_spaces};
 use hex::FromHexError;
 use std::alloc::Global;
 
-/// Takes the spaces out in place.
+/// Removes the spaces from `text`.
 fn pack(text: &mut Vec<u8>)
     ensures { text.new.items ≡ without_spaces text.old.items }
 {
     text.retain(|b| *b != b' ');
 }
 
-/// The bytes of hexadecimal digits, in either case. Spaces are passed over.
+/// Returns the bytes that hexadecimal `digits`, in either case, spell. Spaces are skipped.
 ///
 /// # Errors
 ///
-/// Those of `hex::decode`: an odd number of digits, another character, and want of memory.
+/// Those of `hex::decode`: an odd number of digits, a character that is no digit, and want of memory.
 pub fn read_digits(alloc: Global, digits: &str) -> Result<Vec<u8>, FromHexError>
     ensures read { IfOk result (λ bytes. decode_of (without_spaces digits.now) ≡ Ok bytes.items) }
     ensures refused { IfErr result (λ e. (e ≡ FromHexError.OutOfMemory)

@@ -1,5 +1,9 @@
-//! Tests of the libraries: rows that were worked out by hand from the standards, printed text, and that calls succeed where
-//! memory is there. They stand in a crate of their own, since a crate is proved once more with its tests.
+//! Tests of the libraries, by what no contract says: rows that were worked out by hand from the standards, printed text,
+//! and that calls succeed where memory is there. They stand in a crate of their own, since a crate is proved once more
+//! with its tests.
+//!
+//! A test is proved like any function, and what it costs is its code. So a table is a constant, gone over by reference;
+//! a test asserts what a function answers by `bool`; and a function owns one value at most, and lends it to the next.
 #![tactic(auto)]
 
 #[cfg(test)]

@@ -1,5 +1,4 @@
-//! What no contract says: that faults display as their fault lines, and that the contracts mean the
-//! manual, by rows that were worked out by hand from it.
+//! Messages and their faults by rows that were worked out by hand from the Wire Protocol manual, and what faults display as.
 
 ghost use Rattle.std.specs.Prelude.{◌<◌};
 
@@ -13,7 +12,7 @@ use wire_msg::header::MsgHeader;
 use wire_msg::msg::RawMsg;
 use wire_msg::payload::Payload;
 
-/// The greatest limit of a connection.
+/// The greatest limit of a message's bytes.
 pub(crate) const LIMIT: u32 = 48_000_000;
 
 /// Request 1, `{"ping": 1, "$db": "admin"}`, of 51 bytes.
@@ -413,9 +412,7 @@ fn the_first_of_two_faults_is_told(rt: HostRuntime) {
 fn bytes_have_flag(bytes: &[u8], bit: u32) -> bool {
     match RawMsg::parse(bytes, LIMIT) {
         Ok(msg) => {
-            (bit == 1 || bit >= 16)
-                && msg.more() == (bit == 1)
-                && msg.allows_more() == (bit == 16)
+            (bit == 1 || bit >= 16) && msg.more() == (bit == 1) && msg.allows_more() == (bit == 16)
         }
         Err(fault) => {
             let cause = if bit == 0 {

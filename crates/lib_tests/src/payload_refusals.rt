@@ -1,6 +1,5 @@
-//! What stands after a refused allocation. `./try-refusals` runs these tests with each of their
-//! allocations refused in turn. What a test makes for itself may be refused, too, and then there is
-//! nothing to see.
+//! Tests of what stays unchanged after a refused allocation. `./try-refusals` runs them with each of their allocations
+//! refused in turn. Where what a test makes for itself is refused, the test passes, since there is nothing to see.
 
 use bson_raw::document::RawDocument;
 use std::alloc::Global;
@@ -13,12 +12,13 @@ use wire_msg::write::write_msg;
 /// `{"insert": "c"}`
 const BODY: &[u8] = b"\x13\0\0\0\x02insert\0\x02\0\0\0c\0\0";
 
+/// Returns a payload of `BODY` alone.
 fn payload(alloc: Global) -> Option<PayloadBuf> {
     let body = RawDocument::from_bytes(BODY).ok()?;
     PayloadBuf::new(alloc, body).ok()
 }
 
-/// A payload with an empty sequence.
+/// Returns a payload of `BODY` and an empty sequence.
 fn begun(alloc: Global) -> Option<PayloadBuf> {
     let mut payload = payload(alloc)?;
     payload.begin_sequence("documents").ok()?;
@@ -132,9 +132,7 @@ const NO_FLAGS: MsgFlags = MsgFlags {
 fn is_written(out: &mut Vec<u8>, payload: Payload<'_>) -> bool {
     match write_msg(out, 2, 0, NO_FLAGS, payload, 55) {
         Ok(()) => out.len() == 57,
-        Err(refusal) => {
-            refusal == MsgRefusal::OutOfMemory && out.as_slice() == b"ab".as_slice()
-        }
+        Err(refusal) => { refusal == MsgRefusal::OutOfMemory && out.as_slice() == b"ab".as_slice() }
     }
 }
 

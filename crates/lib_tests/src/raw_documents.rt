@@ -205,7 +205,7 @@ fn faults(rt: HostRuntime) {
     }
 }
 
-/// A length that isn't that of the bytes is the first fault of `from_bytes`, and to `front` they end too early.
+// A length that isn't that of the bytes is the first fault of `from_bytes`, and to `front` they end too early.
 #[test]
 fn lengths(rt: HostRuntime) {
     let bytes = b"\x06\x00\x00\x00\x00";
@@ -238,8 +238,7 @@ fn is_code(value: Option<RawBson<'_>>) -> bool {
 
 #[test]
 fn a_code_has_its_scope(rt: HostRuntime) {
-    let bytes =
-        b"\x17\0\0\0\x0fc\0\x0f\0\0\0\x02\0\0\0x\0\x05\0\0\0\0\0";
+    let bytes = b"\x17\0\0\0\x0fc\0\x0f\0\0\0\x02\0\0\0x\0\x05\0\0\0\0\0";
     match RawDocument::from_bytes(bytes) {
         Ok(document) => assert!(rt; is_code(document.get("c"))),
         Err(_) => assert!(rt; false),
@@ -285,11 +284,10 @@ fn is_array(value: Option<RawBson<'_>>) -> bool {
     }
 }
 
-/// An array of 7 and 8, whose names are "5" and "5".
+// An array of 7 and 8, whose names are "5" and "5".
 #[test]
 fn array_values_go_by_their_order(rt: HostRuntime) {
-    let bytes =
-        b"\x1b\0\0\0\x04a\0\x13\0\0\0\x105\0\x07\0\0\0\x105\0\x08\0\0\0\0\0";
+    let bytes = b"\x1b\0\0\0\x04a\0\x13\0\0\0\x105\0\x07\0\0\0\x105\0\x08\0\0\0\0\0";
     match RawDocument::from_bytes(bytes) {
         Ok(document) => assert!(rt; is_array(document.get("a"))),
         Err(_) => assert!(rt; false),
@@ -320,7 +318,7 @@ fn a_part_is_given_for_its_kind_alone(rt: HostRuntime) {
     assert!(rt; RawBson::MinKey.kind() == Kind::MinKey);
 }
 
-/// Fills the bytes with as many documents, each in the one before, in an element named "a".
+/// Fills `bytes` with `count` documents, each in the one before, in an element named "a".
 fn nest(bytes: &mut [u8; 1605], count: usize)
     requires { count ≤ 201 }
 {

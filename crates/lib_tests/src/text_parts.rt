@@ -1,4 +1,4 @@
-//! What no contract says: the worked texts, and how a text reaches its writer, whole or cut short.
+//! Texts in quotes and bytes in hexadecimal that were worked out by hand, and how a text reaches its writer, whole or cut short.
 
 ghost use Rattle.std.specs.Prelude.{◌<◌, ◌≤◌};
 
@@ -66,7 +66,7 @@ fn is_escaped(alloc: Global, at: usize, len: usize) -> bool
 }
 
 #[test]
-fn finds_an_escape_at_each_place(rt: HostRuntime) {
+fn finds_an_escape_at_each_offset(rt: HostRuntime) {
     for len in [3, 4, 7, 15, 16, 17, 40] {
         for at in 0..len {
             assert!(rt; is_escaped(rt.alloc(), at, len), "at {at} of {len}");
@@ -88,7 +88,7 @@ fn is_spelled(alloc: Global, bytes: &[u8]) -> bool {
     }
 }
 
-/// Fills the bytes with numbers that repeat after 251.
+/// Fills `data` with the numbers from 0 to 250, over and over.
 fn count_up(data: &mut [u8; 300]) {
     for (i, byte) in data.iter_mut().enumerate() {
         *byte = (i % 251) as u8;
@@ -105,7 +105,7 @@ fn spells_bytes_of_any_number(rt: HostRuntime) {
     }
 }
 
-/// A writer that counts its calls, and fails past `limit` of them.
+/// A writer that counts its calls, and fails after `limit` of them.
 #[derive(Drop)]
 struct Calls {
     limit: usize,
@@ -146,9 +146,7 @@ fn ends_after(limit: usize) -> bool {
     let mut calls = Calls { limit, count: 0 };
     match hex_to(&[7; 300], &mut calls) {
         Ok(()) => false,
-        Err(error) => {
-            error.kind() == io::ErrorKind::PermissionDenied && calls.count == limit
-        }
+        Err(error) => { error.kind() == io::ErrorKind::PermissionDenied && calls.count == limit }
     }
 }
 

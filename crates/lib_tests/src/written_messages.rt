@@ -17,7 +17,7 @@ pub(crate) const BODY_FIRST: &str = "45000000 02000000 00000000 dd070000 0000000
     00 13000000 02696e73657274000200000063 00 00 \
     01 1c000000 646f63756d656e747300 0e000000 105f69640001000000 00";
 
-/// Writes the message again behind these bytes.
+/// Writes the message again behind the bytes of `out`.
 fn write_again(out: &mut Vec<u8>, msg: RawMsg<'_>, limit: u32) -> Result<(), MsgRefusal> {
     let flags = MsgFlags {
         more: msg.more(),
@@ -106,7 +106,8 @@ fn messages_are_written_canonically(rt: HostRuntime) {
 
 /// Returns true if the message is too large behind two bytes, which stay.
 fn is_too_large(out: &mut Vec<u8>, msg: RawMsg<'_>, limit: u32) -> bool {
-    write_again(out, msg, limit) == Err(MsgRefusal::TooLarge) && out.as_slice() == b"\xaa\xbb".as_slice()
+    write_again(out, msg, limit) == Err(MsgRefusal::TooLarge)
+        && out.as_slice() == b"\xaa\xbb".as_slice()
 }
 
 /// Returns true if the message is written behind two bytes, or refused for want of memory, and they stay.
