@@ -237,6 +237,22 @@ fn ends_unwritten(alloc: Global, code: Option<i32>, hex: bool) -> bool {
     run_dump(alloc, hex, &mut reader, &mut writer) == RunEnd::InOut && writer.calls == 0
 }
 
+/// A reader that memory is refused to.
+#[derive(Drop)]
+struct Refused;
+
+impl Read for Refused {
+    fn read(&mut self, _buf: &mut [u8]) -> io::Result<usize> {
+        Err(io::Error::from(io::ErrorKind::OutOfMemory))
+    }
+}
+
+#[test]
+fn a_read_without_memory_ends_for_want_of_it(rt: HostRuntime) {
+    let end = run_dump(rt.alloc(), false, &mut Refused, &mut Counter::failing_at(0));
+    assert!(rt; end == RunEnd::Memory);
+}
+
 #[test]
 fn a_failed_read_writes_nothing(rt: HostRuntime) {
     for hex in [false, true] {
