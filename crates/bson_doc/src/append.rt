@@ -1,4 +1,4 @@
-//! Appending a pair to the bytes of a document.
+//! A pair that is added to a document in its bytes.
 
 ghost use Rattle.std.specs.Prelude.{◌≡◌, ◌≤◌, ◌+◌, ◌++◌, length, drop, vec_len, OnOk, OnErr, IfErr};
 ghost use Rattle.std.specs.Io.{StartsWith};
@@ -9,7 +9,7 @@ ghost use Rattle.bson_raw.specs.Spelled.{IsSpelled};
 ghost use Rattle.bson_doc.specs.Bson.{value_of};
 ghost use Rattle.bson_doc.specs.Formed.{IsFormedValue};
 ghost use Rattle.bson_doc.specs.Last.{with_last};
-ghost use Rattle.bson_doc.specs.Refusals.{IsLengthRefusal};
+ghost use Rattle.bson_doc.specs.Refusals.{IsLengthRefusal, IsSizeRefusal};
 ghost use Rattle.bson_doc.specs.Unwritable.{IsUnwritable};
 ghost use Rattle.bson_doc.specs.Values.{element_bytes, value_bytes};
 
@@ -21,7 +21,7 @@ use crate::room::{refusal_of, room_after, room_after_pair};
 use crate::to_raw::write_value;
 use crate::unwritable::{check_cstring, check_value};
 
-/// Appends the name and the value of the last pair behind its type byte, and ends the document.
+/// Adds the name and the value of the last pair behind its type byte, and ends the document.
 fn write_last(name: &str, value: &Bson, out: &mut Vec<u8>) -> Result<(), DocRefusal>
     requires begun { 4 ≤ vec_len out.old }
     ensures added { let pair = cstring name.now ++ value_bytes (value_of value.now) in
@@ -29,6 +29,9 @@ fn write_last(name: &str, value: &Bson, out: &mut Vec<u8>) -> Result<(), DocRefu
     ensures within { let pair = cstring name.now ++ value_bytes (value_of value.now) in
         OnOk result (length (spelling.document (drop 4 out.old.items ++ pair)) ≤ MAX_LEN) }
     ensures formed { OnOk result (IsFormedValue (value_of value.now)) }
+    ensures refused { let pair = cstring name.now ++ value_bytes (value_of value.now) in
+        let len = length (spelling.document (drop 4 out.old.items ++ pair)) in
+        IfErr result (λ e. IsSizeRefusal MAX_LEN len e) }
     ensures kept { OnErr result (StartsWith out.new.items out.old.items) }
 {
     write_cstring(name, out)?;
@@ -36,8 +39,8 @@ fn write_last(name: &str, value: &Bson, out: &mut Vec<u8>) -> Result<(), DocRefu
     finish(0, MAX_LEN, out)
 }
 
-/// Returns why the pair wasn't appended to a document of `len` bytes: `TooLarge` if the document would have more than
-/// `MAX_LEN` bytes, else `OutOfMemory`.
+/// Returns why the pair isn't added to a document of `len` bytes: `TooLarge` where it would have too many of them, else
+/// want of memory.
 fn refusal_of_pair(name: &str, value: &Bson, len: usize) -> DocRefusal
     ensures { IsLengthRefusal MAX_LEN (len + length (element_bytes name.now (value_of value.now))) result }
 {
@@ -47,7 +50,8 @@ fn refusal_of_pair(name: &str, value: &Bson, len: usize) -> DocRefusal
     refusal_of(room_after_pair(name, false, 0, value, room))
 }
 
-/// Appends a pair to the document that `bytes` spell. If it is refused, `bytes` are unchanged.
+/// Adds the pair behind the others of the document that has these bytes. After a refusal they are
+/// what they were.
 pub(crate) fn append_pair(name: &str, value: &Bson, bytes: &mut Vec<u8>) -> Result<(), DocRefusal>
     requires { ∥ IsSpelled bytes.old.items ∥₁ }
     ensures spelled { ∥ IsSpelled bytes.new.items ∥₁ }

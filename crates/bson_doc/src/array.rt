@@ -1,4 +1,4 @@
-//! Arrays that own their values.
+//! An array that owns its values.
 
 ghost use Rattle.std.specs.Prelude.{◌≡◌, map, IfOk};
 
@@ -6,7 +6,7 @@ use crate::bson::Bson;
 use std::alloc::AllocError;
 use std::marker::Model;
 
-/// An array: its values, in order.
+/// The values of an array, in order.
 #[derive(Debug, Drop)]
 #[cycle(bson)]
 pub struct Array {
@@ -38,14 +38,14 @@ impl Model for Array {
 impl Array {
     ghost use Rattle.bson_doc.specs.Bson.{value_of};
 
-    /// Returns the array of these values. It takes no memory.
+    /// The array of these values. It takes no memory.
     pub fn from_vec(values: Vec<Bson>) -> Array
         ensures { result ≡ map value_of values.items }
     {
         Array { values }
     }
 
-    /// Returns the values. It takes no memory.
+    /// The values, in a `Vec`. It takes no memory.
     pub fn into_vec(self) -> Vec<Bson>
         ensures { map value_of result.items ≡ self }
     {
@@ -53,18 +53,18 @@ impl Array {
         values
     }
 
-    /// Returns the values, in order.
+    /// The values, in order.
     pub fn as_slice(&self) -> &[Bson]
         ensures { map value_of result.now ≡ self.now }
     {
         &self.values
     }
 
-    /// Returns a copy of the array.
+    /// A copy of the array.
     ///
     /// # Errors
     ///
-    /// Returns `AllocError` if memory is refused.
+    /// Want of memory.
     #[cycle(copy)]
     pub fn try_clone(&self) -> Result<Array, AllocError>
         ensures { IfOk result (λ copy. copy ≡ self.now) }

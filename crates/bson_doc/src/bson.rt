@@ -1,4 +1,4 @@
-//! Values that own what they hold.
+//! A value that owns what it holds.
 
 ghost use Rattle.std.specs.Prelude.{◌≡◌, IfOk};
 
@@ -7,7 +7,7 @@ use crate::document::Document;
 use bson_elem::kind::Kind;
 use std::alloc::AllocError;
 
-/// A value: one variant for each kind.
+/// A value, one variant a kind.
 #[derive(Debug, Drop, PartialEq)]
 #[cycle(bson)]
 pub enum Bson {
@@ -16,7 +16,7 @@ pub enum Bson {
     String(String),
     Document(Document),
     Array(Array),
-    /// In subtype 2 `bytes` are the data alone, without the inner count.
+    /// Of subtype 2 these are the data alone, without the inner count.
     Binary { subtype: u8, bytes: Vec<u8> },
     Undefined,
     ObjectId([u8; 12]),
@@ -41,11 +41,11 @@ pub enum Bson {
 impl Bson {
     ghost use Rattle.bson_doc.specs.Bson.{value_of};
 
-    /// Returns a copy of the value.
+    /// A copy of the value.
     ///
     /// # Errors
     ///
-    /// Returns `AllocError` if memory is refused.
+    /// Want of memory.
     #[cycle(copy)]
     pub fn try_clone(&self) -> Result<Bson, AllocError>
         ensures { IfOk result (λ copy. value_of copy ≡ value_of self.now) }
@@ -96,7 +96,7 @@ impl Bson {
     ghost use Rattle.bson_doc.specs.Bson.{value_of};
     ghost use Rattle.bson_doc.specs.Values.{value_kind};
 
-    /// Returns the kind of the value.
+    /// The kind of the value.
     pub fn kind(&self) -> Kind
         ensures { result ≡ value_kind (value_of self.now) }
     {

@@ -1,4 +1,4 @@
-//! Documents that own their bytes.
+//! A document in bytes of its own.
 
 ghost use Rattle.std.specs.Prelude.{◌≡◌, IfOk};
 ghost use Rattle.bson_elem.specs.Tree.{no_pairs};
@@ -12,10 +12,10 @@ use crate::refusal::DocRefusal;
 use bson_raw::document::RawDocument;
 use std::alloc::{AllocError, Global};
 
-/// The greatest length of a document in bytes, which is the greatest int32.
+/// How many bytes a document has at most, which is the greatest number that its length can be.
 pub const MAX_LEN: usize = 2_147_483_647;
 
-/// A document that owns its bytes.
+/// A document in bytes of its own.
 #[derive(Debug, Drop, PartialEq, Eq)]
 pub struct RawDocumentBuf {
     bytes: Vec<u8>,
@@ -30,18 +30,18 @@ impl RawDocumentBuf {
     ghost use Rattle.bson_doc.specs.RawDocumentBuf.{buf_bytes};
     ghost use Rattle.bson_doc.specs.Unwritable.{IsUnwritable};
 
-    /// Returns the empty document.
+    /// The empty document.
     ///
     /// # Errors
     ///
-    /// Returns `AllocError` if memory is refused.
+    /// Want of memory.
     pub fn new(alloc: Global) -> Result<RawDocumentBuf, AllocError>
         ensures { IfOk result (λ d. Spells no_pairs (buf_bytes d)) }
     {
         Ok(RawDocumentBuf::from_spelled(Vec::from_slice(alloc, &[5, 0, 0, 0, 0])?))
     }
 
-    /// Returns the document that `bytes` spell.
+    /// The document of bytes that are known to spell one.
     pub(crate) fn from_spelled(bytes: Vec<u8>) -> RawDocumentBuf
         requires { ∥ IsSpelled bytes.items ∥₁ }
         ensures { buf_bytes result ≡ bytes.items }
@@ -49,15 +49,15 @@ impl RawDocumentBuf {
         RawDocumentBuf { bytes }
     }
 
-    /// Appends a pair, with canonical names in the arrays of `value`. The name may be there already.
-    /// If the pair is refused, the document is unchanged.
+    /// Adds a pair behind the others, with the canonical names in the arrays of the value. Names
+    /// may repeat. After a refusal the document is what it was.
     ///
     /// # Errors
     ///
-    /// Returns `ZeroInName` for a 00 in `name`, or in a name, a pattern or options in `value`, and
-    /// `Depth` for a container in it deeper than 200: the first of them in order. Else returns
-    /// `TooLarge` if the document would have more than 2,147,483,647 bytes, and else `OutOfMemory`
-    /// if memory is refused.
+    /// `ZeroInName` for a 00 in the name, or in a name, a pattern or options in the value, and
+    /// `Depth` for a container in it deeper than 200: the first of them in order. Else `TooLarge`
+    /// where the document would have more than 2,147,483,647 bytes. `OutOfMemory` for a pair that could be added, where
+    /// memory is refused.
     pub fn append(&mut self, name: &str, value: &Bson) -> Result<(), DocRefusal>
         ensures added { (t : Tree) → Spells t (buf_bytes self.old)
             → OnOk result
@@ -69,7 +69,7 @@ impl RawDocumentBuf {
         append_pair(name, value, &mut self.bytes)
     }
 
-    /// Returns the document, borrowed.
+    /// The document, lent.
     pub fn as_raw(&self) -> RawDocument<'_>
         ensures { document_bytes result ≡ buf_bytes self.now }
     {

@@ -1,6 +1,6 @@
-//! Appending the parts of a document to bytes (bsonspec.org, version 1.1). Each function appends all bytes of its part,
-//! or returns `OutOfMemory`, or `TooLarge` if the part is too long for the count in front of it. After an error the bytes
-//! from before are unchanged, and some bytes of the part may stand behind them.
+//! The parts of a document, added to bytes (bsonspec.org, version 1.1). Each function adds all bytes of its part, or
+//! refuses: with `OutOfMemory`, or with `TooLarge` where the part is too long for the count in front of it. What stood
+//! there before then stands there still, with some bytes of the part behind it or none.
 
 ghost use Rattle.std.specs.Prelude.{◌≡◌, ◌≤◌, ◌<◌, ◌+◌, ◌-◌, ◌++◌, ◌∷◌, [], length, take, drop, vec_len, OnOk, OnErr, IfErr};
 ghost use Rattle.std.specs.Io.{StartsWith};
@@ -8,23 +8,26 @@ ghost use Rattle.bson_elem.specs.Kinds.{int32_form, int64_form, timestamp_form};
 ghost use Rattle.bson_elem.specs.Tree.{number_value, timestamp_value};
 ghost use Rattle.bson_elem.specs.Spelling.{little, cstring, string, binary, document, leaf_bytes};
 ghost use Rattle.bson_doc.specs.declared.refusal.DocRefusal.TheVariants.{TooLarge};
+ghost use Rattle.bson_doc.specs.Refusals.{IsSizeRefusal};
 
 use crate::buf::MAX_LEN;
 use crate::refusal::DocRefusal;
 use byteorder::{ByteOrder, LittleEndian};
 
-/// Appends bytes as they are.
+/// Adds bytes as they are.
 pub(crate) fn write_bytes(bytes: &[u8], out: &mut Vec<u8>) -> Result<(), DocRefusal>
     ensures added { OnOk result (out.new.items ≡ out.old.items ++ bytes.now) }
+    ensures refused { IfErr result (λ e. IsSizeRefusal MAX_LEN (length bytes.now) e) }
     ensures kept { OnErr result (StartsWith out.new.items out.old.items) }
 {
     out.extend_from_slice(bytes)?;
     Ok(())
 }
 
-/// Appends a text and the 00 that ends it. The text should have no 00 in it.
+/// Adds a text and the 00 that ends it. The text must have no 00 in it.
 pub(crate) fn write_cstring(text: &str, out: &mut Vec<u8>) -> Result<(), DocRefusal>
     ensures added { OnOk result (out.new.items ≡ out.old.items ++ cstring text.now) }
+    ensures refused { IfErr result (λ e. IsSizeRefusal MAX_LEN (length (cstring text.now)) e) }
     ensures kept { OnErr result (StartsWith out.new.items out.old.items) }
 {
     out.extend_from_slice(text.as_bytes())?;
@@ -32,9 +35,10 @@ pub(crate) fn write_cstring(text: &str, out: &mut Vec<u8>) -> Result<(), DocRefu
     Ok(())
 }
 
-/// Appends an unsigned number of four bytes.
+/// Adds an unsigned number of four bytes.
 pub(crate) fn write_u32(n: u32, out: &mut Vec<u8>) -> Result<(), DocRefusal>
     ensures added { OnOk result (out.new.items ≡ out.old.items ++ little n) }
+    ensures refused { IfErr result (λ e. IsSizeRefusal MAX_LEN 4 e) }
     ensures kept { OnErr result (StartsWith out.new.items out.old.items) }
 {
     let mut bytes = [0; 4];
@@ -43,9 +47,10 @@ pub(crate) fn write_u32(n: u32, out: &mut Vec<u8>) -> Result<(), DocRefusal>
     Ok(())
 }
 
-/// Appends an int32.
+/// Adds an int32.
 pub(crate) fn write_int32(n: i32, out: &mut Vec<u8>) -> Result<(), DocRefusal>
     ensures added { OnOk result (out.new.items ≡ out.old.items ++ leaf_bytes int32_form (number_value n)) }
+    ensures refused { IfErr result (λ e. IsSizeRefusal MAX_LEN 4 e) }
     ensures kept { OnErr result (StartsWith out.new.items out.old.items) }
 {
     let mut bytes = [0; 4];
@@ -54,9 +59,10 @@ pub(crate) fn write_int32(n: i32, out: &mut Vec<u8>) -> Result<(), DocRefusal>
     Ok(())
 }
 
-/// Appends an int64.
+/// Adds an int64.
 pub(crate) fn write_int64(n: i64, out: &mut Vec<u8>) -> Result<(), DocRefusal>
     ensures added { OnOk result (out.new.items ≡ out.old.items ++ leaf_bytes int64_form (number_value n)) }
+    ensures refused { IfErr result (λ e. IsSizeRefusal MAX_LEN 8 e) }
     ensures kept { OnErr result (StartsWith out.new.items out.old.items) }
 {
     let mut bytes = [0; 8];
@@ -65,22 +71,24 @@ pub(crate) fn write_int64(n: i64, out: &mut Vec<u8>) -> Result<(), DocRefusal>
     Ok(())
 }
 
-/// Appends a timestamp.
+/// Adds a timestamp.
 pub(crate) fn write_timestamp(
     increment: u32,
     seconds: u32,
     out: &mut Vec<u8>,
 ) -> Result<(), DocRefusal>
     ensures added { OnOk result (out.new.items ≡ out.old.items ++ leaf_bytes timestamp_form (timestamp_value increment seconds)) }
+    ensures refused { IfErr result (λ e. IsSizeRefusal MAX_LEN 8 e) }
     ensures kept { OnErr result (StartsWith out.new.items out.old.items) }
 {
     write_u32(increment, out)?;
     write_u32(seconds, out)
 }
 
-/// Appends a count.
+/// Adds a count.
 fn write_count(count: usize, out: &mut Vec<u8>) -> Result<(), DocRefusal>
     ensures added { OnOk result (out.new.items ≡ out.old.items ++ little count) }
+    ensures refused { IfErr result (λ e. IsSizeRefusal MAX_LEN count e) }
     ensures kept { OnErr result (StartsWith out.new.items out.old.items) }
 {
     if count > MAX_LEN {
@@ -89,27 +97,30 @@ fn write_count(count: usize, out: &mut Vec<u8>) -> Result<(), DocRefusal>
     write_u32(count as u32, out)
 }
 
-/// Appends a string: the count of the text and the 00, the text, and that 00.
+/// Adds a string: the count of the text and the 00, the text, and that 00.
 pub(crate) fn write_string(text: &str, out: &mut Vec<u8>) -> Result<(), DocRefusal>
     ensures added { OnOk result (out.new.items ≡ out.old.items ++ string text.now) }
+    ensures refused { IfErr result (λ e. IsSizeRefusal MAX_LEN (length (string text.now)) e) }
     ensures kept { OnErr result (StartsWith out.new.items out.old.items) }
 {
     write_count(text.len() + 1, out)?;
     write_cstring(text, out)
 }
 
-/// Appends the count of bytes, and these.
+/// Adds the count of bytes, and these.
 fn write_counted(bytes: &[u8], out: &mut Vec<u8>) -> Result<(), DocRefusal>
     ensures added { OnOk result (out.new.items ≡ out.old.items ++ (little (length bytes.now) ++ bytes.now)) }
+    ensures refused { IfErr result (λ e. IsSizeRefusal MAX_LEN (length (little (length bytes.now) ++ bytes.now)) e) }
     ensures kept { OnErr result (StartsWith out.new.items out.old.items) }
 {
     write_count(bytes.len(), out)?;
     write_bytes(bytes, out)
 }
 
-/// Appends what stands before the data of a binary: their count and the subtype.
+/// Adds what stands before the data of a binary: their count and the subtype.
 fn write_binary_head(count: usize, subtype: u8, out: &mut Vec<u8>) -> Result<(), DocRefusal>
     ensures added { OnOk result (out.new.items ≡ out.old.items ++ (little count ++ subtype ∷ [])) }
+    ensures refused { IfErr result (λ e. IsSizeRefusal MAX_LEN count e) }
     ensures kept { OnErr result (StartsWith out.new.items out.old.items) }
 {
     write_count(count, out)?;
@@ -117,9 +128,10 @@ fn write_binary_head(count: usize, subtype: u8, out: &mut Vec<u8>) -> Result<(),
     Ok(())
 }
 
-/// Appends a binary: the count of the data, the subtype and the data, which in subtype 02 begin with their own count.
+/// Adds a binary: the count of the data, the subtype and the data, which in subtype 02 begin with their own count.
 pub(crate) fn write_binary(subtype: u8, bytes: &[u8], out: &mut Vec<u8>) -> Result<(), DocRefusal>
     ensures added { OnOk result (out.new.items ≡ out.old.items ++ binary subtype bytes.now) }
+    ensures refused { IfErr result (λ e. IsSizeRefusal MAX_LEN (length (binary subtype bytes.now)) e) }
     ensures kept { OnErr result (StartsWith out.new.items out.old.items) }
 {
     if subtype == 2 {
@@ -130,35 +142,37 @@ pub(crate) fn write_binary(subtype: u8, bytes: &[u8], out: &mut Vec<u8>) -> Resu
     write_bytes(bytes, out)
 }
 
-/// Appends a regular expression: its pattern and its options, neither with a 00 in it.
+/// Adds a regular expression: its pattern and its options, neither with a 00 in it.
 pub(crate) fn write_regex(pattern: &str, options: &str, out: &mut Vec<u8>) -> Result<(), DocRefusal>
     ensures added { OnOk result (out.new.items ≡ out.old.items ++ (cstring pattern.now ++ cstring options.now)) }
+    ensures refused { IfErr result (λ e. IsSizeRefusal MAX_LEN (length (cstring pattern.now ++ cstring options.now)) e) }
     ensures kept { OnErr result (StartsWith out.new.items out.old.items) }
 {
     write_cstring(pattern, out)?;
     write_cstring(options, out)
 }
 
-/// Appends a pointer: the namespace and the ObjectId.
+/// Adds a pointer: the namespace and the ObjectId.
 pub(crate) fn write_dbpointer(text: &str, id: &[u8], out: &mut Vec<u8>) -> Result<(), DocRefusal>
     ensures added { OnOk result (out.new.items ≡ out.old.items ++ (string text.now ++ id.now)) }
+    ensures refused { IfErr result (λ e. IsSizeRefusal MAX_LEN (length (string text.now ++ id.now)) e) }
     ensures kept { OnErr result (StartsWith out.new.items out.old.items) }
 {
     write_string(text, out)?;
     write_bytes(id, out)
 }
 
-/// Begins a document, with four bytes for its length, which isn't known yet.
+/// Begins a document, whose length isn't known yet.
 pub(crate) fn begin(out: &mut Vec<u8>) -> Result<(), DocRefusal>
     ensures added { OnOk result (out.new.items ≡ out.old.items ++ 0 ∷ 0 ∷ 0 ∷ 0 ∷ []) }
+    ensures refused { IfErr result (λ e. IsSizeRefusal MAX_LEN 4 e) }
     ensures kept { OnErr result (StartsWith out.new.items out.old.items) }
 {
     out.extend_from_slice(&[0; 4])?;
     Ok(())
 }
 
-/// Overwrites the four bytes at offset `start` with the count of all bytes from there on. Returns `TooLarge` if that is
-/// more than `limit`.
+/// Puts the count of all bytes from `start` on in place of the first four of them. Refuses more than the limit.
 pub(crate) fn put_len(start: usize, limit: usize, out: &mut Vec<u8>) -> Result<(), DocRefusal>
     requires begun { start + 4 ≤ vec_len out.old }
     requires counted { limit ≤ MAX_LEN }
@@ -175,13 +189,13 @@ pub(crate) fn put_len(start: usize, limit: usize, out: &mut Vec<u8>) -> Result<(
     Ok(())
 }
 
-/// Ends the document that begins at offset `start`, and puts its length there. Returns `TooLarge` if that is more than
-/// `limit`.
+/// Ends the document that begins at `start`, and puts its length there. Refuses one with more bytes than the limit.
 pub(crate) fn finish(start: usize, limit: usize, out: &mut Vec<u8>) -> Result<(), DocRefusal>
     requires begun { start + 4 ≤ vec_len out.old }
     requires counted { limit ≤ MAX_LEN }
     ensures added { OnOk result (out.new.items ≡ take start out.old.items ++ document (drop (start + 4) out.old.items)) }
     ensures within { OnOk result (length (document (drop (start + 4) out.old.items)) ≤ limit) }
+    ensures refused { IfErr result (λ e. IsSizeRefusal limit (length (document (drop (start + 4) out.old.items))) e) }
     ensures kept { OnErr result (StartsWith out.new.items out.old.items) }
 {
     out.push(0)?;

@@ -17,8 +17,7 @@ use crate::room::refusal_of;
 use bson_raw::document::RawDocument;
 use std::alloc::Global;
 
-/// Returns true if the document is in canonical form: the names in each array are "0", "1" and so on. It takes no
-/// memory.
+/// Whether the document is in canonical form: the names of each array in it are "0", "1" and so on. Takes no memory.
 pub fn is_canonical(document: RawDocument<'_>) -> bool
     ensures named { (t : Tree) → Spells t (document_bytes document.entry)
         → result ≡ is_plain false 0 t }
@@ -28,7 +27,7 @@ pub fn is_canonical(document: RawDocument<'_>) -> bool
     document.is_canonical()
 }
 
-/// Writes the canonical form, and returns its bytes, if they are no more than `limit`.
+/// Returns the bytes of the canonical form, if these are no more than the limit.
 fn written_bytes(
     alloc: Global,
     document: RawDocument<'_>,
@@ -43,7 +42,7 @@ fn written_bytes(
     Ok(out)
 }
 
-/// Like `canonical_bytes`, but writes every document anew.
+/// Returns the bytes of the canonical form, written anew, if these are no more than the limit.
 fn renumbered_bytes(
     alloc: Global,
     document: RawDocument<'_>,
@@ -61,11 +60,12 @@ fn renumbered_bytes(
     }
 }
 
-/// Returns the bytes of the canonical form, if they are no more than `limit`.
+/// The bytes of the canonical form, for a caller that takes no more than some number of them.
 ///
 /// # Errors
 ///
-/// Returns `TooLarge` if the canonical form has more than `limit` bytes, else `OutOfMemory` if memory is refused.
+/// `TooLarge` where the canonical form has more bytes than the limit. `OutOfMemory` where it hasn't, and memory is
+/// refused.
 pub fn canonical_bytes(
     alloc: Global,
     document: RawDocument<'_>,
@@ -87,12 +87,13 @@ pub fn canonical_bytes(
     Ok(Vec::from_slice(alloc, whole)?)
 }
 
-/// Returns the canonical form of the document: the names in each array become "0", "1" and so on, and nothing else
-/// changes. A document that is canonical already is copied.
+/// The canonical form of the document: the names of each array become "0", "1" and so on, and all else stays as it is.
+/// A document that is canonical already is copied.
 ///
 /// # Errors
 ///
-/// Returns `TooLarge` if the canonical form has more than 2,147,483,647 bytes, else `OutOfMemory` if memory is refused.
+/// `TooLarge` where the canonical form has more than 2,147,483,647 bytes. `OutOfMemory` where it hasn't, and memory is
+/// refused.
 pub fn to_canonical(alloc: Global, document: RawDocument<'_>) -> Result<RawDocumentBuf, DocRefusal>
     ensures canonical { (t : Tree) → Spells t (document_bytes document.entry)
         → IfOk result (λ d. Spells (plain t) (buf_bytes d)) }
@@ -104,11 +105,12 @@ pub fn to_canonical(alloc: Global, document: RawDocument<'_>) -> Result<RawDocum
     Ok(RawDocumentBuf::from_spelled(bytes))
 }
 
-/// Like `to_canonical`, but writes every document anew: it doesn't test whether the document is canonical already.
+/// As `to_canonical`, but every document is written anew: whether it is canonical already is not tested. It serves where
+/// that is known.
 ///
 /// # Errors
 ///
-/// Returns the errors of `to_canonical`.
+/// Those of `to_canonical`.
 pub fn renumbered(alloc: Global, document: RawDocument<'_>) -> Result<RawDocumentBuf, DocRefusal>
     ensures canonical { (t : Tree) → Spells t (document_bytes document.entry)
         → IfOk result (λ d. Spells (plain t) (buf_bytes d)) }

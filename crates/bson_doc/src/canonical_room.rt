@@ -1,4 +1,4 @@
-//! How much room a limit leaves behind the canonical form of a document: its bytes are counted without being written. No
+//! What is left of a limit behind the canonical form of a document, whose bytes are counted without being written. No
 //! function here takes memory.
 
 ghost use Rattle.std.specs.Prelude.{false, length};

@@ -1,4 +1,4 @@
-//! Documents that own their names and values.
+//! A document that owns its names and its values.
 
 ghost use Rattle.std.specs.Prelude.{◌≡◌, ◌↔◌, [], length, map, option_map, string_bytes, None, IfOk, IfErr, IsOk, IsSome, IsTrue, OnErr, OnOk};
 ghost use Rattle.std.specs.List.{IsDistinct};
@@ -11,7 +11,7 @@ use std::alloc::{AllocError, AllocFailed, Global};
 use std::marker::Model;
 use std::mem;
 
-/// A document: pairs of a name and a value, in order. No two pairs have one name.
+/// Pairs of a name and a value, in order. No name is there twice.
 #[derive(Debug, Drop)]
 #[cycle(bson)]
 pub struct Document {
@@ -47,7 +47,7 @@ impl Document {
     ghost use Rattle.bson_doc.specs.Bson.{value_of};
     ghost use Rattle.bson_doc.specs.Document.{paired, value_named, put, without};
 
-    /// Returns a document with no pairs. It takes no memory.
+    /// A document with no pairs. It takes no memory.
     pub fn new(alloc: Global) -> Document
         ensures { result ≡ [] }
     {
@@ -57,7 +57,7 @@ impl Document {
         }
     }
 
-    /// Returns the document of these names and their values.
+    /// The document of these names and their values.
     pub(crate) fn of_parts(names: IndexSet<String>, values: Vec<Bson>) -> Document
         requires { length names.keys ≡ length values.items }
         ensures { result ≡ paired (map string_bytes names.keys) (map value_of values.items) }
@@ -65,26 +65,26 @@ impl Document {
         Document { names, values }
     }
 
-    /// Returns the allocator that the document takes its memory from.
+    /// Where the document takes its memory.
     pub(crate) fn allocator(&self) -> Global {
         *self.values.allocator()
     }
 
-    /// Returns the number of pairs.
+    /// The number of pairs.
     pub fn len(&self) -> usize
         ensures { result ≡ length self.now }
     {
         self.values.len()
     }
 
-    /// Returns true if there are no pairs.
+    /// Whether there are no pairs.
     pub fn is_empty(&self) -> bool
         ensures { IsTrue result ↔ (length self.now ≡ 0) }
     {
         self.len() == 0
     }
 
-    /// Returns the value of the pair with this name, if there is one.
+    /// The value of this name.
     pub fn get(&self, name: &str) -> Option<&Bson>
         ensures { option_map (λ v. value_of v.now) result ≡ value_named name.now self.now }
     {
@@ -92,19 +92,19 @@ impl Document {
         Some(&self.values[index])
     }
 
-    /// Returns true if a pair has this name.
+    /// Whether a pair has this name.
     pub fn contains_key(&self, name: &str) -> bool
         ensures { IsTrue result ↔ IsSome (value_named name.now self.now) }
     {
         self.get(name).is_some()
     }
 
-    /// Sets the value of a name, and returns the value that it had. A name that is there keeps its index, and no memory
-    /// is taken for it. A new name goes last.
+    /// Puts the value at the name, and gives the value that was there. A name that is there keeps its place, and no
+    /// memory is taken for it. A new name goes last.
     ///
     /// # Errors
     ///
-    /// Returns the name and the value if the name is new and memory is refused.
+    /// Want of memory, for a new name only. The name and the value are handed back.
     pub fn insert(
         &mut self,
         name: String,
@@ -145,7 +145,7 @@ impl Document {
         }
     }
 
-    /// Removes the pair with this name, and returns its value. The pairs after it close up.
+    /// Takes the pair of this name out, and gives its value. The pairs after it close up.
     pub fn remove(&mut self, name: &str) -> Option<Bson>
         ensures after { self.new ≡ without name.now self.old }
         ensures value { option_map value_of result ≡ value_named name.now self.old }
@@ -155,21 +155,21 @@ impl Document {
         Some(self.values.remove(index))
     }
 
-    /// Returns the names, in order.
+    /// The names, in order.
     pub fn keys(&self) -> &[String]
         ensures { map string_bytes result.now ≡ map (λ p. p.0) self.now }
     {
         self.names.as_slice()
     }
 
-    /// Returns the values, in order.
+    /// The values, in order.
     pub fn values(&self) -> &[Bson]
         ensures { map value_of result.now ≡ map (λ p. p.1) self.now }
     {
         &self.values
     }
 
-    /// Returns an iterator over the pairs, in order.
+    /// The pairs of names and values, in order.
     pub fn iter(&self) -> DocumentIter<'_>
         ensures pairs { result ≡ self.now }
         ensures distinct { IsDistinct bytes_eq (map (λ p. p.0) self.now) }
@@ -177,11 +177,11 @@ impl Document {
         DocumentIter::of_parts(self.names.as_slice(), &self.values)
     }
 
-    /// Returns a copy of the document.
+    /// A copy of the document.
     ///
     /// # Errors
     ///
-    /// Returns `AllocError` if memory is refused.
+    /// Want of memory.
     #[cycle(copy)]
     pub fn try_clone(&self) -> Result<Document, AllocError>
         ensures { IfOk result (λ copy. copy ≡ self.now) }

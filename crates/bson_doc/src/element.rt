@@ -1,4 +1,4 @@
-//! Appending the canonical form of a borrowed document to bytes.
+//! The canonical spelling of the elements of a document.
 
 ghost use Rattle.std.specs.Prelude.{◌≡◌, ◌≤◌, ◌++◌, ◌∷◌, ℕ, length, OnOk, IfErr, false};
 ghost use Rattle.bson_elem.specs.Tree.{Tree, with_code};
@@ -10,6 +10,7 @@ ghost use Rattle.bson_raw.specs.RawDocument.{document_bytes};
 ghost use Rattle.bson_raw.specs.Naming.{name_at};
 ghost use Rattle.bson_doc.specs.Plain.{plain_from};
 ghost use Rattle.bson_doc.specs.Values.{plain_value, value_bytes, element_bytes};
+ghost use Rattle.bson_doc.specs.Refusals.{IsSizeRefusal};
 
 use crate::buf::MAX_LEN;
 use crate::bytes::{
@@ -21,13 +22,14 @@ use crate::refusal::DocRefusal;
 use bson_raw::document::RawDocument;
 use bson_raw::value::RawBson;
 
-/// Appends a value, with canonical names in what it holds. Returns `TooLarge` if a container in it has more than `limit`
-/// bytes.
+/// Adds a value, with the canonical names in what it holds. Refuses a container with more bytes than the limit.
 #[cycle(write)]
 fn write_value(value: RawBson<'_>, limit: usize, out: &mut Vec<u8>) -> Result<(), DocRefusal>
     requires { limit ≤ MAX_LEN }
-    ensures { (v : TreeValue) → Shows value.entry v
+    ensures added { (v : TreeValue) → Shows value.entry v
         → OnOk result (out.new.items ≡ out.old.items ++ value_bytes (plain_value v)) }
+    ensures refused { (v : TreeValue) → Shows value.entry v
+        → IfErr result (λ e. IsSizeRefusal limit (length (value_bytes (plain_value v))) e) }
 {
     match value {
         RawBson::Double(bytes) => write_bytes(&bytes, out),
@@ -51,8 +53,7 @@ fn write_value(value: RawBson<'_>, limit: usize, out: &mut Vec<u8>) -> Result<()
     }
 }
 
-/// Appends a code and its scope, with canonical names in the scope. Returns `TooLarge` if they have more than `limit`
-/// bytes.
+/// Adds a code and its scope, with the canonical names in the scope. Refuses more bytes than the limit.
 #[cycle(write)]
 fn write_scope(
     code: &str,
@@ -61,8 +62,10 @@ fn write_scope(
     out: &mut Vec<u8>,
 ) -> Result<(), DocRefusal>
     requires { limit ≤ MAX_LEN }
-    ensures { (t : Tree) → Spells t (document_bytes scope.entry)
+    ensures added { (t : Tree) → Spells t (document_bytes scope.entry)
         → OnOk result (out.new.items ≡ out.old.items ++ inner_bytes (with_code code.now) (elements (plain_from false 0 t))) }
+    ensures refused { (t : Tree) → Spells t (document_bytes scope.entry)
+        → IfErr result (λ e. IsSizeRefusal limit (length (inner_bytes (with_code code.now) (elements (plain_from false 0 t)))) e) }
 {
     let start = out.len();
     begin(out)?;
@@ -71,8 +74,7 @@ fn write_scope(
     put_len(start, limit, out)
 }
 
-/// Appends the pair at index `place` of a container, with canonical names. Returns `TooLarge` if a container in it has
-/// more than `limit` bytes.
+/// Adds the pair at a place of a container, with the canonical names. Refuses a container with more bytes than the limit.
 #[cycle(write)]
 fn write_element(
     name: &str,
@@ -83,16 +85,18 @@ fn write_element(
     out: &mut Vec<u8>,
 ) -> Result<(), DocRefusal>
     requires { limit ≤ MAX_LEN }
-    ensures { (v : TreeValue) → Shows value.entry v
+    ensures added { (v : TreeValue) → Shows value.entry v
         → OnOk result (out.new.items ≡ out.old.items ++ element_bytes (name_at in_array place name.now) (plain_value v)) }
+    ensures refused { (v : TreeValue) → Shows value.entry v
+        → IfErr result (λ e. IsSizeRefusal limit (length (element_bytes (name_at in_array place name.now) (plain_value v))) e) }
 {
     out.push(value.kind().byte())?;
     write_name(name, in_array, place, out)?;
     write_value(value, limit, out)
 }
 
-/// Appends the document with canonical names at every depth; in an array these are "0", "1" and so on. Returns
-/// `TooLarge` if it has more than `limit` bytes.
+/// Adds the document with the canonical names at every depth; in an array these are "0", "1" and so on. Refuses a
+/// container with more bytes than the limit.
 #[cycle(write)]
 pub(crate) fn write_document(
     document: RawDocument<'_>,
@@ -105,6 +109,8 @@ pub(crate) fn write_document(
         → OnOk result (out.new.items ≡ out.old.items ++ spelling.document (elements (plain_from in_array 0 t))) }
     ensures within { (t : Tree) → Spells t (document_bytes document.entry)
         → OnOk result (length (spelling.document (elements (plain_from in_array 0 t))) ≤ limit) }
+    ensures refused { (t : Tree) → Spells t (document_bytes document.entry)
+        → IfErr result (λ e. IsSizeRefusal limit (length (spelling.document (elements (plain_from in_array 0 t)))) e) }
 {
     let start = out.len();
     begin(out)?;

@@ -1,4 +1,4 @@
-//! Reading documents out of their bytes.
+//! Documents that are read out of their bytes.
 
 ghost use Rattle.std.specs.Prelude.{◌≡◌, ◌+◌, ◌<◌, ◌^◌, [], None, false, true, length, ℕ, List, IfOk, IfErr, MatchResult, OnOk};
 ghost use Rattle.bson_elem.specs.Tree.{Tree};
@@ -25,7 +25,7 @@ use bson_raw::value::RawBson;
 use indexmap::IndexSet;
 use std::alloc::Global;
 
-/// Returns the owned value of one that stands in a container of depth `depth`.
+/// The value, which stands in a container of this depth.
 #[cycle(read)]
 fn read_value(alloc: Global, value: RawBson<'_>, depth: u32) -> Result<Bson, DocRefusal>
     requires { depth + 1 + held_len value < 2 ^ 32 }
@@ -74,7 +74,7 @@ fn read_value(alloc: Global, value: RawBson<'_>, depth: u32) -> Result<Bson, Doc
     Ok(owned)
 }
 
-/// Returns the owned array of one of depth `depth`. Its names are not kept.
+/// The array, whose depth this is. The names in it are not kept.
 #[cycle(read)]
 fn read_array(alloc: Global, array: RawArray<'_>, depth: u32) -> Result<Array, DocRefusal>
     requires { depth + length (array_bytes array) < 2 ^ 32 }
@@ -92,7 +92,7 @@ fn read_array(alloc: Global, array: RawArray<'_>, depth: u32) -> Result<Array, D
     Ok(Array::from_vec(values))
 }
 
-/// Returns the owned document of one of depth `depth`.
+/// The document, whose depth this is.
 #[cycle(read)]
 fn read_document(
     alloc: Global,
@@ -119,12 +119,13 @@ fn read_document(
 }
 
 impl Document {
-    /// Returns the document that the bytes spell, with the pairs in their order. The names in an array are not kept.
+    /// The document that the bytes are, with the pairs in their order. The values of an array come without the names
+    /// that they have in the bytes.
     ///
     /// # Errors
     ///
-    /// Returns `RepeatedName` if a document or a scope has a name twice, with the depth of that container; of several
-    /// repeated names, the first in the bytes. Returns `OutOfMemory` if memory is refused.
+    /// `RepeatedName` where a document or a scope has a name twice, with the depth of that container, and
+    /// `OutOfMemory`. Of several repeated names the first in the bytes is told.
     pub fn from_raw(alloc: Global, raw: RawDocument<'_>) -> Result<Document, DocRefusal>
         ensures read { (t : Tree) → Spells t (document_bytes raw.entry)
             → IfOk result (λ d. tree_of d ≡ plain t) }

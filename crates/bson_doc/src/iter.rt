@@ -1,4 +1,4 @@
-//! The iterator over the pairs of a document.
+//! The pairs of a document, in order.
 
 ghost use Rattle.std.specs.Prelude.{◌≡◌, length, map, string_bytes};
 ghost use Rattle.std.specs.Iterator.{at_most};
@@ -7,7 +7,7 @@ use crate::bson::Bson;
 use crate::document::Document;
 use std::marker::Model;
 
-/// An iterator over the pairs of a document, in order.
+/// The pairs of a document that are left.
 #[derive(Drop)]
 pub struct DocumentIter<'a> {
     names: &'a [String],
@@ -34,7 +34,7 @@ impl<'a> DocumentIter<'a> {
     ghost use Rattle.bson_doc.specs.Bson.{value_of};
     ghost use Rattle.bson_doc.specs.Document.{paired};
 
-    /// Returns an iterator over these names and values.
+    /// The pairs of these names and values.
     pub(crate) fn of_parts(names: &'a [String], values: &'a [Bson]) -> DocumentIter<'a>
         requires { length names.now ≡ length values.now }
         ensures { result ≡ paired (map string_bytes names.now) (map value_of values.now) }

@@ -1,5 +1,5 @@
-//! Laws of the canonical form, of equality, and of writing and reading. The contract of each function is the law; those
-//! about definitions alone do nothing.
+//! The laws that make the definition of the canonical form trustworthy, and the law of writing and reading. The contract
+//! of each function is the law; those about definitions alone do nothing.
 
 ghost use Rattle.std.specs.Prelude.{◌≡◌, ◌↔◌, ◌<◌, ◌^◌, ℕ, IsTrue, List, length, slice_get, Some, option_map, IfOk, IfErr};
 ghost use Rattle.std.specs.Fmt.{decimal};
@@ -82,11 +82,11 @@ pub fn equal_where_same()
     ensures arrays { (a b : List TreeValue) → (IsTrue (same coded_values a b) ↔ (a ≡ b)) }
 {}
 
-/// Writes a document and reads it back, which gives the same document.
+/// A document that is written and read back is that document.
 ///
 /// # Errors
 ///
-/// Returns the errors of `Document::to_raw`.
+/// Those of `Document::to_raw`, and `OutOfMemory`.
 pub fn round_trip(alloc: Global, document: &Document) -> Result<Document, DocRefusal>
     ensures same { IfOk result (λ again. again ≡ document.now) }
     ensures refused { IfErr result (λ e. IsUnwritable (tree_of document.now) e) }

@@ -4,13 +4,14 @@ ghost use Rattle.std.specs.Prelude.{◌≡◌, ◌++◌, length, OnOk, OnErr, If
 ghost use Rattle.std.specs.Io.{StartsWith};
 ghost use Rattle.bson_elem.specs.Spelling.{cstring};
 ghost use Rattle.bson_raw.specs.Naming.{name_at};
+ghost use Rattle.bson_doc.specs.Refusals.{IsSizeRefusal};
 
 use crate::buf::MAX_LEN;
 use crate::bytes::write_cstring;
 use crate::refusal::DocRefusal;
 use itoa::Buffer;
 
-/// Appends the canonical name of the pair at index `place`, whose name is `name`: in an array that index.
+/// Adds the canonical name of the pair at a place, which has this name.
 pub(crate) fn write_name(
     name: &str,
     in_array: bool,
@@ -18,6 +19,7 @@ pub(crate) fn write_name(
     out: &mut Vec<u8>,
 ) -> Result<(), DocRefusal>
     ensures added { OnOk result (out.new.items ≡ out.old.items ++ cstring (name_at in_array place name.now)) }
+    ensures refused { IfErr result (λ e. IsSizeRefusal MAX_LEN (length (cstring (name_at in_array place name.now))) e) }
     ensures kept { OnErr result (StartsWith out.new.items out.old.items) }
 {
     if !in_array {

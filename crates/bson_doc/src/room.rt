@@ -1,5 +1,5 @@
-//! How much room a limit leaves behind the bytes of a document, which are counted without being written. No function
-//! here takes memory.
+//! What is left of a limit behind the bytes of a document, which are counted without being written. No function here
+//! takes memory.
 
 ghost use Rattle.std.specs.Prelude.{ℕ, ◌+◌, ◌++◌, length};
 ghost use Rattle.bson_elem.specs.Spelling.{cstring, string, binary, elements, inner_bytes};

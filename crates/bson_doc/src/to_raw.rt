@@ -1,4 +1,4 @@
-//! Writing owned documents to bytes.
+//! Documents that are written to bytes of their own.
 
 ghost use Rattle.std.specs.Prelude.{◌≡◌, ◌++◌, ◌∷◌, IsUtf8, IfErr, IfOk, OnErr, OnOk, None, Some, length, ◌≤◌, ◌<◌};
 ghost use Rattle.std.specs.Io.{StartsWith};
@@ -10,6 +10,7 @@ ghost use Rattle.bson_doc.specs.Array.{array_tree};
 ghost use Rattle.bson_doc.specs.Bson.{value_of};
 ghost use Rattle.bson_doc.specs.Document.{tree_of};
 ghost use Rattle.bson_doc.specs.Formed.{IsFormed, IsFormedValue};
+ghost use Rattle.bson_doc.specs.Refusals.{IsSizeRefusal};
 ghost use Rattle.bson_raw.specs.Naming.{name_at};
 ghost use Rattle.bson_doc.specs.Plain.{plain};
 ghost use Rattle.bson_doc.specs.RawDocumentBuf.{buf_bytes};
@@ -31,7 +32,7 @@ use crate::room::{refusal_of, room_after_document};
 use crate::unwritable::check_document;
 use bson_elem::kind::Kind;
 
-/// Appends the type byte of the pair at index `place` of a container, and its name, which in an array is that index.
+/// Adds the type byte of the pair at a place of a container, and its name, which in an array is that place.
 fn write_head(
     kind: Kind,
     name: &str,
@@ -41,54 +42,60 @@ fn write_head(
 ) -> Result<(), DocRefusal>
     ensures added { OnOk result (out.new.items ≡ out.old.items ++ (byte_of kind ∷ cstring (name_at in_array place name.now))) }
     ensures text { OnOk result (IsUtf8 (name_at in_array place name.now)) }
+    ensures refused { IfErr result (λ e. IsSizeRefusal MAX_LEN (length (byte_of kind ∷ cstring (name_at in_array place name.now))) e) }
     ensures kept { OnErr result (StartsWith out.new.items out.old.items) }
 {
     out.push(kind.byte())?;
     write_name(name, in_array, place, out)
 }
 
-/// Appends bytes as they are.
+/// Adds bytes as they are.
 fn write_slice(bytes: &[u8], out: &mut Vec<u8>) -> Result<(), DocRefusal>
     ensures added { OnOk result (out.new.items ≡ out.old.items ++ bytes.now) }
     ensures formed { OnOk result (IsBytes bytes.now) }
+    ensures refused { IfErr result (λ e. IsSizeRefusal MAX_LEN (length bytes.now) e) }
     ensures kept { OnErr result (StartsWith out.new.items out.old.items) }
 {
     write_bytes(bytes, out)
 }
 
-/// Appends `N` bytes as they are.
+/// Adds so many bytes as they are.
 fn write_raw<const N: usize>(bytes: &[u8; N], out: &mut Vec<u8>) -> Result<(), DocRefusal>
     ensures added { OnOk result (out.new.items ≡ out.old.items ++ bytes.now) }
     ensures formed { OnOk result (AreBytes N bytes.now) }
+    ensures refused { IfErr result (λ e. IsSizeRefusal MAX_LEN (length bytes.now) e) }
     ensures kept { OnErr result (StartsWith out.new.items out.old.items) }
 {
     write_slice(bytes, out)
 }
 
-/// Appends a subtype and data.
+/// Adds a subtype and data.
 fn write_data(subtype: u8, bytes: &[u8], out: &mut Vec<u8>) -> Result<(), DocRefusal>
     ensures added { OnOk result (out.new.items ≡ out.old.items ++ spelling.binary subtype bytes.now) }
     ensures formed { OnOk result ((subtype < 256) × IsBytes bytes.now) }
+    ensures refused { IfErr result (λ e. IsSizeRefusal MAX_LEN (length (spelling.binary subtype bytes.now)) e) }
     ensures kept { OnErr result (StartsWith out.new.items out.old.items) }
 {
     write_binary(subtype, bytes, out)
 }
 
-/// Appends a namespace and an ObjectId.
+/// Adds a namespace and an ObjectId.
 fn write_pointer(text: &str, id: &[u8; 12], out: &mut Vec<u8>) -> Result<(), DocRefusal>
     ensures added { OnOk result (out.new.items ≡ out.old.items ++ (string text.now ++ id.now)) }
     ensures formed { OnOk result (IsUtf8 text.now × AreBytes 12 id.now) }
+    ensures refused { IfErr result (λ e. IsSizeRefusal MAX_LEN (length (string text.now ++ id.now)) e) }
     ensures kept { OnErr result (StartsWith out.new.items out.old.items) }
 {
     write_string(text, out)?;
     write_raw(id, out)
 }
 
-/// Appends a value.
+/// Adds a value.
 #[cycle(write)]
 pub(crate) fn write_value(value: &Bson, out: &mut Vec<u8>) -> Result<(), DocRefusal>
     ensures added { OnOk result (out.new.items ≡ out.old.items ++ value_bytes (value_of value.now)) }
     ensures formed { OnOk result (IsFormedValue (value_of value.now)) }
+    ensures refused { IfErr result (λ e. IsSizeRefusal MAX_LEN (length (value_bytes (value_of value.now))) e) }
     ensures kept { OnErr result (StartsWith out.new.items out.old.items) }
 {
     match value {
@@ -113,11 +120,12 @@ pub(crate) fn write_value(value: &Bson, out: &mut Vec<u8>) -> Result<(), DocRefu
     }
 }
 
-/// Appends a code and its scope.
+/// Adds a code and its scope.
 #[cycle(write)]
 fn write_scope(code: &str, scope: &Document, out: &mut Vec<u8>) -> Result<(), DocRefusal>
     ensures added { OnOk result (out.new.items ≡ out.old.items ++ inner_bytes (with_code code.now) (elements (tree_of scope.now))) }
     ensures formed { OnOk result (IsFormed (tree_of scope.now)) }
+    ensures refused { IfErr result (λ e. IsSizeRefusal MAX_LEN (length (inner_bytes (with_code code.now) (elements (tree_of scope.now)))) e) }
     ensures kept { OnErr result (StartsWith out.new.items out.old.items) }
 {
     let start = out.len();
@@ -127,11 +135,12 @@ fn write_scope(code: &str, scope: &Document, out: &mut Vec<u8>) -> Result<(), Do
     put_len(start, MAX_LEN, out)
 }
 
-/// Appends an array.
+/// Adds an array.
 #[cycle(write)]
 fn write_array(array: &Array, out: &mut Vec<u8>) -> Result<(), DocRefusal>
     ensures added { OnOk result (out.new.items ≡ out.old.items ++ spelling.document (elements (array_tree 0 array.now))) }
     ensures formed { OnOk result (IsFormed (array_tree 0 array.now)) }
+    ensures refused { IfErr result (λ e. IsSizeRefusal MAX_LEN (length (spelling.document (elements (array_tree 0 array.now)))) e) }
     ensures kept { OnErr result (StartsWith out.new.items out.old.items) }
 {
     let start = out.len();
@@ -143,12 +152,13 @@ fn write_array(array: &Array, out: &mut Vec<u8>) -> Result<(), DocRefusal>
     finish(start, MAX_LEN, out)
 }
 
-/// Appends a document.
+/// Adds a document.
 #[cycle(write)]
 pub(crate) fn write_document(document: &Document, out: &mut Vec<u8>) -> Result<(), DocRefusal>
     ensures added { OnOk result (out.new.items ≡ out.old.items ++ spelling.document (elements (tree_of document.now))) }
     ensures within { OnOk result (length (spelling.document (elements (tree_of document.now))) ≤ MAX_LEN) }
     ensures formed { OnOk result (IsFormed (tree_of document.now)) }
+    ensures refused { IfErr result (λ e. IsSizeRefusal MAX_LEN (length (spelling.document (elements (tree_of document.now)))) e) }
     ensures kept { OnErr result (StartsWith out.new.items out.old.items) }
 {
     let start = out.len();
@@ -161,13 +171,13 @@ pub(crate) fn write_document(document: &Document, out: &mut Vec<u8>) -> Result<(
 }
 
 impl Document {
-    /// Returns the document in bytes of its own.
+    /// The document in bytes of its own.
     ///
     /// # Errors
     ///
-    /// Returns `ZeroInName` for a 00 in a name, a pattern or options, and `Depth` for a container deeper than 200: the
-    /// first of them in the order of the pairs. Else returns `TooLarge` for more than 2,147,483,647 bytes, and else
-    /// `OutOfMemory` if memory is refused.
+    /// `ZeroInName` for a 00 in a name, a pattern or options and `Depth` for a container deeper than 200: the first of
+    /// them in the order of the pairs. Else `TooLarge` for more than 2,147,483,647 bytes. `OutOfMemory` for a document
+    /// that could be written, where memory is refused.
     pub fn to_raw(&self) -> Result<RawDocumentBuf, DocRefusal>
         ensures written { IfOk result (λ d. Spells (tree_of self.now) (buf_bytes d)) }
         ensures canonical { OnOk result (plain (tree_of self.now) ≡ tree_of self.now) }

@@ -34,7 +34,7 @@ write_document-loop-name-preserved t c = (
         first.others,
         left.1 ++ this,
         first.left,
-        c.in_ok-write_element.ensures first.tree_value first.shown ∙ ap (λ (x : List ℕ). x ++ this) left.3 ∙ append_assoc c.begin.new.out.items left.1 this,
+        c.in_ok-write_element.ensures.added first.tree_value first.shown ∙ ap (λ (x : List ℕ). x ++ this) left.3 ∙ append_assoc c.begin.new.out.items left.1 this,
         left.4 ∙ ap (λ (x : List ℕ). left.1 ++ x) (ap (λ (x : Tree). elements (plain_from c.args.in_array c.loop-name.place x)) first.is_first ∙ elements-first c.args.in_array c.loop-name.place c.in-Some.name.now first.tree_value first.others) ∙ sym (append_assoc left.1 this others),
         omega (arith, left.5, ap length names),
       ),
@@ -60,10 +60,10 @@ write_scope-put_len-requires-clause-begun t c =
     omega (arith, lt, more, still, l, k)) in
     omega (arith, no)
 
-pub write_element-returns : goal.write_element-returns
-write_element-returns t c = λ v shown.
+pub write_element-returns-clause-added : goal.write_element-returns-clause-added
+write_element-returns-clause-added t c = λ v shown.
     let kind : c.byte.result ≡ byte_of (value_kind (plain_value v)) = c.byte.ensures ∙ ap byte_of (c.kind.ensures ∙ kind_shown c.args.value v shown) in
     let name : List ℕ = cstring (name_at c.args.in_array c.args.place c.args.name.now) in
     subst (λ (x : List ℕ). OnOk c.write_value.result (c.write_value.new.out.items ≡ x))
     (one_element c.args.out.now.items c.push.new.self.items c.write_name.new.out.items c.byte.result (byte_of (value_kind (plain_value v))) name (value_bytes (plain_value v)) kind c.in_ok-push.ensures.items c.in_ok-write_name.ensures.added)
-    (c.write_value.ensures v shown)
+    (c.write_value.ensures.added v shown)
