@@ -12,8 +12,8 @@ use Rattle.std.proofs.lemmas.Grind.{not_there}
 use Rattle.std.proofs.lemmas.List.{append-nil, length-set, set-set}
 use Rattle.bson_elem.specs.Kinds.{byte_of, Form, raw_form, boolean_form, int32_form, int64_form, timestamp_form, string_form, pointer_form, binary_form, regex_form, form_of}
 use Rattle.bson_elem.specs.Spelling.{little, cstring, document, elements, leaf_bytes, inner_bytes, HasNoZero, IsOfForm, Fits, Spells}
-use Rattle.bson_elem.specs.Tree.{Leaf, raw_value, boolean_value, number_value, timestamp_value, text_value, pointer_value, binary_value, regex_value, Tree, no_pairs, leaf_pair, inner_pair}
-use Rattle.bson_elem.proofs.ContainerLaws.{length-document}
+use Rattle.bson_elem.specs.Trees.{Leaf, raw_value, boolean_value, number_value, timestamp_value, text_value, pointer_value, binary_value, regex_value, Tree, no_pairs, leaf_pair, inner_pair}
+use Rattle.bson_elem.proofs.Lemmas.{length-document}
 use Rattle.bson_raw.specs.Pairs.{TreeValue, with_first}
 use Rattle.bson_raw.specs.Spelled.{IsSpelled}
 use Rattle.bson_doc.specs.declared.refusal.DocRefusal.{DocRefusal}

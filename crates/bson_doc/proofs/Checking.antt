@@ -6,11 +6,11 @@ use Rattle.std.proofs.lemmas.Bool.Decides.{nat_tests}
 use Rattle.std.proofs.lemmas.Fmt.{decimal_is_IsNumeral}
 use Rattle.std.proofs.lemmas.Str.Parse.{digit_from_value}
 use Rattle.std.specs.Fmt.{decimal}
-use Rattle.bson_elem.specs.Tree.{Tree}
+use Rattle.bson_elem.specs.Trees.{Tree}
 use Rattle.bson_raw.specs.Pairs.{TreeValue, leaf_value, document_value, with_first}
 use Rattle.bson_doc.specs.declared.refusal.DocRefusal.{DocRefusal}
 use Rattle.bson_doc.specs.declared.refusal.DocRefusal.TheVariants.{ZeroInName}
-use Rattle.bson_doc.specs.declared.bson.Bson.{Bson}
+use Rattle.bson_doc.specs.declared.bson_values.Bson.{Bson}
 use Rattle.bson_doc.specs.Array.{array_tree}
 use Rattle.bson_doc.specs.Bson.{value_of}
 use Rattle.bson_doc.specs.Depths.{tree_depth, value_depth}

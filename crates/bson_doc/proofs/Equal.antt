@@ -9,16 +9,16 @@ use mathlib.Core.Bool.{beq}
 use Rattle.std.proofs.lemmas.Bool.Decides.{nat_tests}
 use Rattle.std.proofs.lemmas.List.{length-map, take_more, map-append, get_or-map}
 use Rattle.std.proofs.lemmas.Slice.Eq.{bytes_eq-Decides}
-use Rattle.bson_doc.specs.declared.bson.Bson.{Bson}
-use Rattle.bson_doc.specs.declared.bson.Bson.TheVariants as values
-use Rattle.bson_doc.specs.contracts.bson.Bson.{the_type}
-use Rattle.bson_doc.specs.contracts.bson.BsonPartialEq.TheImpl.{ghosts}
+use Rattle.bson_doc.specs.declared.bson_values.Bson.{Bson}
+use Rattle.bson_doc.specs.declared.bson_values.Bson.TheVariants as values
+use Rattle.bson_doc.specs.contracts.bson_values.Bson.{the_type}
+use Rattle.bson_doc.specs.contracts.bson_values.BsonPartialEq.TheImpl.{ghosts}
 use denote.Enum.Declared.{tag_of}
 use Rattle.bson_doc.specs.Bson.{value_of}
 use Rattle.bson_doc.specs.Codes.{coded_value, coded_values, coded_pairs}
-use Rattle.bson_elem.specs.declared.kind.Kind.{Kind}
-use Rattle.bson_elem.specs.declared.kind.Kind.TheVariants as kinds
-use Rattle.bson_elem.specs.Tree.{raw_value, boolean_value, number_value, timestamp_value, text_value, pointer_value, binary_value, regex_value, Beside, no_code, with_code}
+use Rattle.bson_elem.specs.declared.kinds.Kind.{Kind}
+use Rattle.bson_elem.specs.declared.kinds.Kind.TheVariants as kinds
+use Rattle.bson_elem.specs.Trees.{raw_value, boolean_value, number_value, timestamp_value, text_value, pointer_value, binary_value, regex_value, Beside, no_code, with_code}
 use Rattle.bson_raw.specs.Pairs.{TreeValue, leaf_value, document_value}
 use Rattle.std.specs.Fmt.{decimal}
 use Rattle.bson_doc.specs.Array.{array_tree}

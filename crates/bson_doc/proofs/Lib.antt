@@ -12,3 +12,4 @@ pub mod Appending
 pub mod Equal
 pub mod Rooms
 pub mod RefusalTexts
+pub mod Lemmas

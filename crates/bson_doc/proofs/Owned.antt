@@ -8,11 +8,11 @@ use Rattle.std.specs.Str.{bytes_eq}
 use Rattle.std.specs.String.{string_eq}
 use Rattle.std.proofs.lemmas.List.{length-map}
 use Rattle.std.proofs.lemmas.Map.Keys.{IsDistinct-head, IsDistinct-tail}
-use Rattle.bson_elem.specs.Tree.{Tree, no_pairs, leaf_pair, inner_pair}
+use Rattle.bson_elem.specs.Trees.{Tree, no_pairs, leaf_pair, inner_pair}
 use Rattle.bson_raw.specs.Pairs.{TreeValue, leaf_value, document_value, with_first, is_among}
 use Rattle.bson_doc.specs.declared.refusal.DocRefusal.{DocRefusal}
 use Rattle.bson_doc.specs.declared.refusal.DocRefusal.TheVariants.{RepeatedName, OutOfMemory, TooLarge, ZeroInName, Depth}
-use Rattle.bson_doc.specs.declared.bson.Bson.{Bson}
+use Rattle.bson_doc.specs.declared.bson_values.Bson.{Bson}
 use Rattle.bson_doc.specs.Array.{array_tree}
 use Rattle.bson_doc.specs.Bson.{value_of}
 use Rattle.bson_doc.specs.Document.{paired, tree_of}

@@ -5,7 +5,7 @@ use Rattle.std.specs.Prelude.{bytes_eq, remove, position, nat_lt}
 use Rattle.std.proofs.lemmas.Grind.{common_steps}
 use Rattle.std.specs.List.{position_or_len, AllZip}
 use Rattle.std.proofs.lemmas.List.Edits.{length-remove}
-use Rattle.bson_doc.specs.declared.bson.Bson.{Bson}
+use Rattle.bson_doc.specs.declared.bson_values.Bson.{Bson}
 use Rattle.bson_raw.specs.Pairs.{TreeValue}
 use Rattle.bson_doc.specs.Bson.{value_of}
 use Rattle.bson_doc.specs.Document.{paired, value_named, put, without}

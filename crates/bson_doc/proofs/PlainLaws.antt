@@ -2,9 +2,9 @@
 use Rattle.std.proofs.Common.{◌≡◌, ℕ, zero, suc, ◌+◌, ◌<◌, Bool, true, false, List, [], ◌∷◌, length, Some, refl, sym, ap, ◌∙◌, arith}
 use Rattle.std.specs.Prelude.{slice_get, option_map}
 use Rattle.std.specs.Fmt.{decimal}
-use Rattle.bson_elem.specs.Tree.{Tree, no_pairs, leaf_pair, inner_pair}
+use Rattle.bson_elem.specs.Trees.{Tree, no_pairs, leaf_pair, inner_pair}
 use Rattle.bson_elem.specs.Spelling.{Spells}
-use Rattle.bson_elem.proofs.FrontLaws.{same_front}
+use Rattle.bson_elem.proofs.Lemmas.{same_front}
 use Rattle.std.proofs.lemmas.List.{append-nil}
 use Rattle.bson_raw.specs.Pairs.{names_of, nth_value}
 use Rattle.bson_raw.specs.Naming.{is_array_kind, name_at}

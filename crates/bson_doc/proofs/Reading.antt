@@ -1,7 +1,7 @@
 -- A document that is read out of its tree, one pair after another.
 use Rattle.std.proofs.Common.{◌≡◌, ℕ, suc, ◌+◌, Bool, true, false, cond, List, [], ◌∷◌, ◌++◌, Option, Some, None, length, refl, sym, ap, ◌∙◌, arith, add-zero, zero-add, length-append}
 use Rattle.std.specs.Fmt.{decimal}
-use Rattle.bson_elem.specs.Tree.{Tree, no_pairs}
+use Rattle.bson_elem.specs.Trees.{Tree, no_pairs}
 use Rattle.bson_raw.specs.Pairs.{TreeValue, leaf_value, document_value, with_first, is_among}
 use Rattle.bson_doc.specs.declared.refusal.DocRefusal.{DocRefusal}
 use Rattle.bson_doc.specs.declared.refusal.DocRefusal.TheVariants.{RepeatedName, OutOfMemory, TooLarge, ZeroInName, Depth}

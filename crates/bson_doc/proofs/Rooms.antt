@@ -1,7 +1,7 @@
 -- The room left behind the pairs of a container, one pair after another.
 use Rattle.std.proofs.Common.{◌≡◌, ℕ, ◌+◌, ◌<◌, Bool, List, Option, Some, None, length, ap, ◌∙◌, arith, length-append}
 use Rattle.bson_elem.specs.Spelling.{document, elements}
-use Rattle.bson_elem.specs.Tree.{Tree}
+use Rattle.bson_elem.specs.Trees.{Tree}
 use Rattle.bson_raw.specs.Naming.{name_at}
 use Rattle.bson_raw.specs.Pairs.{TreeValue, with_first}
 use Rattle.bson_doc.specs.Plain.{plain_from}

@@ -1,11 +1,10 @@
 -- What spells the canonical form of a tree.
 use Rattle.std.proofs.Common.{◌≡◌, ℕ, ◌+◌, ◌<◌, ◌≤◌, ◌^◌, Bool, true, false, List, ◌∷◌, ◌++◌, length, ap, arith, length-append}
 use Rattle.bson_elem.specs.Kinds.{byte_of, form_of}
-use Rattle.bson_elem.specs.Tree.{Tree, no_pairs, leaf_pair, inner_pair}
+use Rattle.bson_elem.specs.Trees.{Tree, no_pairs, leaf_pair, inner_pair}
 use Rattle.bson_elem.specs.Spelling.{cstring, leaf_bytes, inner_bytes, document, elements, IsName, Fits, Spells}
-use Rattle.bson_elem.proofs.ContainerLaws.{length-document}
-use Rattle.bson_raw.proofs.DigitLaws.{decimal_is_name}
-use Rattle.bson_raw.proofs.Walks.{inner_len}
+use Rattle.bson_elem.proofs.Lemmas.{length-document}
+use Rattle.bson_raw.proofs.Lemmas.{decimal_is_name, inner_len}
 use Rattle.bson_raw.specs.Naming.{is_array_kind, name_at}
 use Rattle.bson_doc.specs.Plain.{plain_from, plain}
 

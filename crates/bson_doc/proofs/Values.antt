@@ -1,7 +1,7 @@
 -- The values and the elements of a tree in canonical form.
 use Rattle.std.proofs.Common.{◌≡◌, ℕ, ◌+◌, ◌≤◌, Bool, List, [], ◌∷◌, ◌++◌, length, refl, sym, ap, ◌∙◌, arith, append_assoc, length-append}
-use Rattle.bson_elem.specs.declared.kind.Kind.{Kind}
-use Rattle.bson_elem.specs.Tree.{Beside, Tree}
+use Rattle.bson_elem.specs.declared.kinds.Kind.{Kind}
+use Rattle.bson_elem.specs.Trees.{Beside, Tree}
 use Rattle.bson_elem.specs.Spelling.{elements, Spells}
 use Rattle.bson_raw.specs.declared.value.RawBson.{RawBson}
 use Rattle.bson_raw.specs.declared.value.RawBson.TheVariants as values

@@ -12,10 +12,10 @@ use Rattle.bson_raw.specs.Naming.{name_at}
 use Rattle.std.specs.Fmt.{decimal}
 use Rattle.bson_elem.specs.Kinds.{byte_of, Form, raw_form, boolean_form, int32_form, int64_form, timestamp_form, string_form, pointer_form, binary_form, regex_form, form_of}
 use Rattle.bson_elem.specs.Spelling.{little, cstring, string, document, leaf_bytes, inner_bytes, elements, HasNoZero, IsOfForm, Fits, Spells}
-use Rattle.bson_elem.specs.Tree.{Leaf, raw_value, boolean_value, number_value, timestamp_value, text_value, pointer_value, binary_value, regex_value, Tree, no_pairs, leaf_pair, inner_pair}
-use Rattle.bson_elem.proofs.ContainerLaws.{length-document}
+use Rattle.bson_elem.specs.Trees.{Leaf, raw_value, boolean_value, number_value, timestamp_value, text_value, pointer_value, binary_value, regex_value, Tree, no_pairs, leaf_pair, inner_pair}
+use Rattle.bson_elem.proofs.Lemmas.{length-document}
 use Rattle.bson_raw.specs.Pairs.{TreeValue, leaf_value, document_value, with_first}
-use Rattle.bson_raw.proofs.Walks.{inner_len}
+use Rattle.bson_raw.proofs.Lemmas.{inner_len}
 use Rattle.bson_doc.specs.declared.refusal.DocRefusal.{DocRefusal}
 use Rattle.bson_doc.specs.declared.refusal.DocRefusal.TheVariants.{RepeatedName, OutOfMemory, TooLarge, ZeroInName, Depth}
 use Rattle.bson_doc.specs.Formed.{IsFormedLeaf, IsFormed, IsFormedValue}

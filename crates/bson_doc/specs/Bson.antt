@@ -1,10 +1,10 @@
 -- Which value of a tree an owned value is.
 use Rattle.std.specs.Prelude.{[], string_bytes}
-use Rattle.bson_elem.specs.declared.kind.Kind.TheVariants as kinds
-use Rattle.bson_elem.specs.Tree.{raw_value, boolean_value, number_value, timestamp_value, text_value, pointer_value, binary_value, regex_value, no_code, with_code}
-use Rattle.bson_raw.specs.Pairs.{TreeValue, leaf_value, document_value}
-use Rattle.bson_doc.specs.declared.bson.Bson.{Bson}
-use Rattle.bson_doc.specs.declared.bson.Bson.TheVariants as values
+use Rattle.bson_elem.specs.declared.kinds.Kind.TheVariants as kinds
+use Rattle.bson_elem.specs.{binary_value, boolean_value, no_code, number_value, pointer_value, raw_value, regex_value, text_value, timestamp_value, with_code}
+use Rattle.bson_raw.specs.{TreeValue, document_value, leaf_value}
+use Rattle.bson_doc.specs.declared.bson_values.Bson.{Bson}
+use Rattle.bson_doc.specs.declared.bson_values.Bson.TheVariants as values
 use Rattle.bson_doc.specs.Document.{tree_of}
 use Rattle.bson_doc.specs.Array.{array_tree}
 

@@ -1,7 +1,7 @@
 -- How many documents stand one in another.
 use Rattle.std.specs.Prelude.{ℕ, ◌+◌, max}
-use Rattle.bson_elem.specs.Tree.{Tree, no_pairs, leaf_pair, inner_pair}
-use Rattle.bson_raw.specs.Pairs.{TreeValue, leaf_value, document_value}
+use Rattle.bson_elem.specs.{Tree, inner_pair, leaf_pair, no_pairs}
+use Rattle.bson_raw.specs.{TreeValue, document_value, leaf_value}
 
 -- of the values in a tree, the depth of the deepest
 abbrev pub tree_depth : Tree → ℕ

@@ -1,8 +1,8 @@
 -- What an owned document holds: pairs of a name and a value, in order.
 use Rattle.std.specs.Prelude.{ℕ, List, [], ◌∷◌, Option, Some, None, if◌then◌else◌}
 use Rattle.std.specs.Str.{bytes_eq}
-use Rattle.bson_elem.specs.Tree.{Tree, no_pairs}
-use Rattle.bson_raw.specs.Pairs.{TreeValue, with_first}
+use Rattle.bson_elem.specs.{Tree, no_pairs}
+use Rattle.bson_raw.specs.{TreeValue, with_first}
 
 -- each name with the value that stands at its place
 abbrev pub paired : List (List ℕ) → List TreeValue → List (List ℕ × TreeValue)

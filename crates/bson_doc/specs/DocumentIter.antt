@@ -1,8 +1,8 @@
 -- What the iterator over the pairs of a document gives.
 use Rattle.std.specs.Prelude.{◌≡◌, ℕ, List, [], ◌∷◌, Option, Some, None}
 use Rattle.std.specs.Borrow.{Bor}
-use Rattle.bson_raw.specs.Pairs.{TreeValue}
-use Rattle.bson_doc.specs.declared.bson.Bson.{Bson}
+use Rattle.bson_raw.specs.{TreeValue}
+use Rattle.bson_doc.specs.declared.bson_values.Bson.{Bson}
 use Rattle.bson_doc.specs.Bson.{value_of}
 
 -- the first of the pairs left was given, or there is none

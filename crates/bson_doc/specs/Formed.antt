@@ -1,10 +1,8 @@
 -- What each owned value has by its type: texts are UTF-8, bytes are bytes, and numbers fit.
 use Rattle.std.specs.Prelude.{◌^◌, ◌<◌, FitsSigned, IsUtf8}
 use Rattle.std.specs.Int.{w32, w64}
-use Rattle.bson_elem.specs.Kinds.{Form, raw_form, boolean_form, int32_form, int64_form, timestamp_form, string_form, pointer_form, binary_form, regex_form, form_of}
-use Rattle.bson_elem.specs.Spelling.{IsBytes, AreBytes, StandsIn}
-use Rattle.bson_elem.specs.Tree.{Leaf, raw_value, boolean_value, number_value, timestamp_value, text_value, pointer_value, binary_value, regex_value, Tree, no_pairs, leaf_pair, inner_pair}
-use Rattle.bson_raw.specs.Pairs.{TreeValue, leaf_value, document_value}
+use Rattle.bson_elem.specs.{AreBytes, Form, IsBytes, Leaf, StandsIn, Tree, binary_form, binary_value, boolean_form, boolean_value, form_of, inner_pair, int32_form, int64_form, leaf_pair, no_pairs, number_value, pointer_form, pointer_value, raw_form, raw_value, regex_form, regex_value, string_form, text_value, timestamp_form, timestamp_value}
+use Rattle.bson_raw.specs.{TreeValue, document_value, leaf_value}
 
 -- the leaf is one of this form, but for its length and for a 00 in a pattern or options
 abbrev pub IsFormedLeaf : Form → Leaf → Type 0

@@ -1,7 +1,7 @@
 -- A tree with one more pair.
 use Rattle.std.specs.Prelude.{ℕ, List}
-use Rattle.bson_elem.specs.Tree.{Tree, no_pairs, leaf_pair, inner_pair}
-use Rattle.bson_raw.specs.Pairs.{TreeValue, with_first}
+use Rattle.bson_elem.specs.{Tree, inner_pair, leaf_pair, no_pairs}
+use Rattle.bson_raw.specs.{TreeValue, with_first}
 
 -- the pairs of the tree, and after them a pair of this name and value
 abbrev pub with_last : List ℕ → TreeValue → Tree → Tree

@@ -18,3 +18,5 @@ pub mod Same
 pub use Rattle.bson_text.specs.Text
 pub use Rattle.bson_text.specs.ValueText
 pub use Rattle.bson_text.specs.Dump
+-- the words that clauses of other crates cite
+pub use Rattle.bson_doc.specs.Plain.{canonical_len, plain}

@@ -1,8 +1,7 @@
 -- Trees in canonical form (bsonspec.org, version 1.1: an array is a document whose names are "0", "1" and so on).
 use Rattle.std.specs.Prelude.{ℕ, ◌+◌, Bool, true, false, length}
-use Rattle.bson_elem.specs.Tree.{Tree, no_pairs, leaf_pair, inner_pair}
-use Rattle.bson_elem.specs.Spelling.{document, elements}
-use Rattle.bson_raw.specs.Naming.{is_array_kind, name_at}
+use Rattle.bson_elem.specs.{Tree, document, elements, inner_pair, leaf_pair, no_pairs}
+use Rattle.bson_raw.specs.{is_array_kind, name_at}
 
 -- the pairs from this place of a container on, with the canonical names at every depth
 abbrev pub plain_from : Bool → ℕ → Tree → Tree

@@ -1,10 +1,9 @@
 -- The first name, in file order, that a document or a scope has twice. The names in an array don't count.
 use Rattle.std.specs.Prelude.{◌≡◌, ℕ, ◌+◌, Bool, false, List, [], ◌∷◌, ◌++◌, Option, Some, None, if◌then◌else◌}
-use Rattle.bson_elem.specs.Tree.{Tree, no_pairs, leaf_pair, inner_pair}
-use Rattle.bson_raw.specs.Pairs.{TreeValue, leaf_value, document_value, is_among}
+use Rattle.bson_elem.specs.{Tree, inner_pair, leaf_pair, no_pairs}
+use Rattle.bson_raw.specs.{TreeValue, document_value, is_among, is_array_kind, leaf_value}
 use Rattle.bson_doc.specs.declared.refusal.DocRefusal.{DocRefusal}
 use Rattle.bson_doc.specs.declared.refusal.DocRefusal.TheVariants.{RepeatedName, OutOfMemory}
-use Rattle.bson_raw.specs.Naming.{is_array_kind}
 
 -- the first that is there
 abbrev pub first_of : Option ℕ → Option ℕ → Option ℕ

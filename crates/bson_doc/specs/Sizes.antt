@@ -4,11 +4,11 @@ use Rattle.std.specs.declared.alloc.Global.{Global}
 use Rattle.std.specs.Fmt.{decimal}
 use Rattle.std.proofs.Common.{arith}
 use denote.Param.Weighed.{most}
-use Rattle.bson_elem.specs.Tree.{Tree}
-use Rattle.bson_raw.specs.Pairs.{TreeValue, leaf_value, document_value, with_first}
-use Rattle.bson_doc.specs.declared.bson.Bson.{Bson}
-use Rattle.bson_doc.specs.declared.bson.Bson.TheVariants.{Double, String as Text, Document, Array, Binary, Undefined, ObjectId, Boolean, DateTime, Null, Regex, DbPointer, Code, Symbol, CodeWithScope, Int32, Timestamp, Int64, Decimal128, MinKey, MaxKey}
-use Rattle.bson_doc.specs.declared.array.Array.TheDeep.{deep-Bson}
+use Rattle.bson_elem.specs.{Tree}
+use Rattle.bson_raw.specs.{TreeValue, document_value, leaf_value, with_first}
+use Rattle.bson_doc.specs.declared.bson_values.Bson.{Bson}
+use Rattle.bson_doc.specs.declared.bson_values.Bson.TheVariants.{Double, String as Text, Document, Array, Binary, Undefined, ObjectId, Boolean, DateTime, Null, Regex, DbPointer, Code, Symbol, CodeWithScope, Int32, Timestamp, Int64, Decimal128, MinKey, MaxKey}
+use Rattle.bson_doc.specs.declared.arrays.Array.TheDeep.{deep-Bson}
 use Rattle.bson_doc.specs.Depths.{tree_depth, value_depth}
 use Rattle.bson_doc.specs.Bson.{value_of}
 use Rattle.bson_doc.specs.Document.{paired, tree_of}

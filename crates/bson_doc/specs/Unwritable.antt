@@ -3,10 +3,8 @@
 use Rattle.std.specs.Prelude.{◌≡◌, ℕ, ◌+◌, ◌^◌, ◌≤◌, ◌<◌, length, Bool, nat_lt, ◌||◌, List, Option, Some, None, if◌then◌else◌}
 use Rattle.std.specs.Option.{option_or}
 use Rattle.std.specs.List.{list_any}
-use Rattle.bson_elem.specs.Checks.{is_zero}
-use Rattle.bson_elem.specs.Spelling.{document, elements}
-use Rattle.bson_elem.specs.Tree.{Leaf, regex_value, Tree, no_pairs, leaf_pair, inner_pair}
-use Rattle.bson_raw.specs.Pairs.{TreeValue, leaf_value, document_value}
+use Rattle.bson_elem.specs.{Leaf, Tree, document, elements, inner_pair, is_zero, leaf_pair, no_pairs, regex_value}
+use Rattle.bson_raw.specs.{TreeValue, document_value, leaf_value}
 use Rattle.bson_doc.specs.declared.refusal.DocRefusal.{DocRefusal}
 use Rattle.bson_doc.specs.declared.refusal.DocRefusal.TheVariants.{OutOfMemory, TooLarge, ZeroInName, Depth}
 

@@ -1,10 +1,8 @@
 -- The values of a tree in canonical form, and the bytes of a value.
 use Rattle.std.specs.Prelude.{ℕ, List, ◌∷◌, ◌++◌}
-use Rattle.bson_elem.specs.declared.kind.Kind.{Kind}
-use Rattle.bson_elem.specs.Kinds.{byte_of, form_of}
-use Rattle.bson_elem.specs.Spelling.{cstring, leaf_bytes, inner_bytes, elements}
-use Rattle.bson_raw.specs.Pairs.{TreeValue, leaf_value, document_value}
-use Rattle.bson_raw.specs.Naming.{is_array_kind}
+use Rattle.bson_elem.specs.declared.kinds.Kind.{Kind}
+use Rattle.bson_elem.specs.{byte_of, cstring, elements, form_of, inner_bytes, leaf_bytes}
+use Rattle.bson_raw.specs.{TreeValue, document_value, is_array_kind, leaf_value}
 use Rattle.bson_doc.specs.Plain.{plain_from}
 
 -- the value with the canonical names in what it holds

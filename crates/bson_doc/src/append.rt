@@ -1,11 +1,10 @@
-//! A pair that is added to a document in its bytes.
+//! Appending a pair to the bytes of a document.
 
 ghost use Rattle.std.specs.Prelude.{◌≡◌, ◌≤◌, ◌+◌, ◌++◌, length, drop, vec_len, OnOk, OnErr, IfErr};
 ghost use Rattle.std.specs.Io.{StartsWith};
-ghost use Rattle.bson_elem.specs.Tree.{Tree};
-ghost use Rattle.bson_elem.specs.Spelling.{cstring, Spells};
+ghost use Rattle.bson_elem.specs.{Spells, Tree, cstring};
 ghost use Rattle.bson_elem.specs.Spelling as spelling;
-ghost use Rattle.bson_raw.specs.Spelled.{IsSpelled};
+ghost use Rattle.bson_raw.specs.{IsSpelled};
 ghost use Rattle.bson_doc.specs.Bson.{value_of};
 ghost use Rattle.bson_doc.specs.Formed.{IsFormedValue};
 ghost use Rattle.bson_doc.specs.Last.{with_last};
@@ -13,15 +12,15 @@ ghost use Rattle.bson_doc.specs.Refusals.{IsLengthRefusal, IsSizeRefusal};
 ghost use Rattle.bson_doc.specs.Unwritable.{IsUnwritable};
 ghost use Rattle.bson_doc.specs.Values.{element_bytes, value_bytes};
 
-use crate::bson::Bson;
-use crate::buf::MAX_LEN;
+use crate::bson_values::Bson;
 use crate::bytes::{finish, write_cstring};
 use crate::refusal::DocRefusal;
 use crate::room::{refusal_of, room_after, room_after_pair};
 use crate::to_raw::write_value;
 use crate::unwritable::{check_cstring, check_value};
+use bson_elem::MAX_LEN;
 
-/// Adds the name and the value of the last pair behind its type byte, and ends the document.
+/// Appends the name and the value of the last pair behind its type byte, and ends the document.
 fn write_last(name: &str, value: &Bson, out: &mut Vec<u8>) -> Result<(), DocRefusal>
     requires begun { 4 ≤ vec_len out.old }
     ensures added { let pair = cstring name.now ++ value_bytes (value_of value.now) in
@@ -39,8 +38,8 @@ fn write_last(name: &str, value: &Bson, out: &mut Vec<u8>) -> Result<(), DocRefu
     finish(0, MAX_LEN, out)
 }
 
-/// Returns why the pair isn't added to a document of `len` bytes: `TooLarge` where it would have too many of them, else
-/// want of memory.
+/// Returns why the pair wasn't appended to a document of `len` bytes: `TooLarge` if the document would have more than
+/// `MAX_LEN` bytes, else `OutOfMemory`.
 fn refusal_of_pair(name: &str, value: &Bson, len: usize) -> DocRefusal
     ensures { IsLengthRefusal MAX_LEN (len + length (element_bytes name.now (value_of value.now))) result }
 {
@@ -50,8 +49,7 @@ fn refusal_of_pair(name: &str, value: &Bson, len: usize) -> DocRefusal
     refusal_of(room_after_pair(name, false, 0, value, room))
 }
 
-/// Adds the pair behind the others of the document that has these bytes. After a refusal they are
-/// what they were.
+/// Appends a pair to the document that `bytes` spell. If it is refused, `bytes` are unchanged.
 pub(crate) fn append_pair(name: &str, value: &Bson, bytes: &mut Vec<u8>) -> Result<(), DocRefusal>
     requires { ∥ IsSpelled bytes.old.items ∥₁ }
     ensures spelled { ∥ IsSpelled bytes.new.items ∥₁ }

@@ -1,20 +1,18 @@
-//! The parts of a document, added to bytes (bsonspec.org, version 1.1). Each function adds all bytes of its part, or
-//! refuses: with `OutOfMemory`, or with `TooLarge` where the part is too long for the count in front of it. What stood
-//! there before then stands there still, with some bytes of the part behind it or none.
+//! Appending the parts of a document to bytes (bsonspec.org, version 1.1). Each function appends all bytes of its part,
+//! or returns `OutOfMemory`, or `TooLarge` if the part is too long for the count in front of it. After an error the bytes
+//! from before are unchanged, and some bytes of the part may stand behind them.
 
 ghost use Rattle.std.specs.Prelude.{◌≡◌, ◌≤◌, ◌<◌, ◌+◌, ◌-◌, ◌++◌, ◌∷◌, [], length, take, drop, vec_len, OnOk, OnErr, IfErr};
 ghost use Rattle.std.specs.Io.{StartsWith};
-ghost use Rattle.bson_elem.specs.Kinds.{int32_form, int64_form, timestamp_form};
-ghost use Rattle.bson_elem.specs.Tree.{number_value, timestamp_value};
-ghost use Rattle.bson_elem.specs.Spelling.{little, cstring, string, binary, document, leaf_bytes};
+ghost use Rattle.bson_elem.specs.{binary, cstring, document, int32_form, int64_form, leaf_bytes, little, number_value, string, timestamp_form, timestamp_value};
 ghost use Rattle.bson_doc.specs.declared.refusal.DocRefusal.TheVariants.{TooLarge};
 ghost use Rattle.bson_doc.specs.Refusals.{IsSizeRefusal};
 
-use crate::buf::MAX_LEN;
 use crate::refusal::DocRefusal;
+use bson_elem::MAX_LEN;
 use byteorder::{ByteOrder, LittleEndian};
 
-/// Adds bytes as they are.
+/// Appends bytes as they are.
 pub(crate) fn write_bytes(bytes: &[u8], out: &mut Vec<u8>) -> Result<(), DocRefusal>
     ensures added { OnOk result (out.new.items ≡ out.old.items ++ bytes.now) }
     ensures refused { IfErr result (λ e. IsSizeRefusal MAX_LEN (length bytes.now) e) }
@@ -24,7 +22,7 @@ pub(crate) fn write_bytes(bytes: &[u8], out: &mut Vec<u8>) -> Result<(), DocRefu
     Ok(())
 }
 
-/// Adds a text and the 00 that ends it. The text must have no 00 in it.
+/// Appends a text and the 00 that ends it. The text should have no 00 in it.
 pub(crate) fn write_cstring(text: &str, out: &mut Vec<u8>) -> Result<(), DocRefusal>
     ensures added { OnOk result (out.new.items ≡ out.old.items ++ cstring text.now) }
     ensures refused { IfErr result (λ e. IsSizeRefusal MAX_LEN (length (cstring text.now)) e) }
@@ -35,7 +33,7 @@ pub(crate) fn write_cstring(text: &str, out: &mut Vec<u8>) -> Result<(), DocRefu
     Ok(())
 }
 
-/// Adds an unsigned number of four bytes.
+/// Appends an unsigned number of four bytes.
 pub(crate) fn write_u32(n: u32, out: &mut Vec<u8>) -> Result<(), DocRefusal>
     ensures added { OnOk result (out.new.items ≡ out.old.items ++ little n) }
     ensures refused { IfErr result (λ e. IsSizeRefusal MAX_LEN 4 e) }
@@ -47,7 +45,7 @@ pub(crate) fn write_u32(n: u32, out: &mut Vec<u8>) -> Result<(), DocRefusal>
     Ok(())
 }
 
-/// Adds an int32.
+/// Appends an int32.
 pub(crate) fn write_int32(n: i32, out: &mut Vec<u8>) -> Result<(), DocRefusal>
     ensures added { OnOk result (out.new.items ≡ out.old.items ++ leaf_bytes int32_form (number_value n)) }
     ensures refused { IfErr result (λ e. IsSizeRefusal MAX_LEN 4 e) }
@@ -59,7 +57,7 @@ pub(crate) fn write_int32(n: i32, out: &mut Vec<u8>) -> Result<(), DocRefusal>
     Ok(())
 }
 
-/// Adds an int64.
+/// Appends an int64.
 pub(crate) fn write_int64(n: i64, out: &mut Vec<u8>) -> Result<(), DocRefusal>
     ensures added { OnOk result (out.new.items ≡ out.old.items ++ leaf_bytes int64_form (number_value n)) }
     ensures refused { IfErr result (λ e. IsSizeRefusal MAX_LEN 8 e) }
@@ -71,7 +69,7 @@ pub(crate) fn write_int64(n: i64, out: &mut Vec<u8>) -> Result<(), DocRefusal>
     Ok(())
 }
 
-/// Adds a timestamp.
+/// Appends a timestamp.
 pub(crate) fn write_timestamp(
     increment: u32,
     seconds: u32,
@@ -85,7 +83,7 @@ pub(crate) fn write_timestamp(
     write_u32(seconds, out)
 }
 
-/// Adds a count.
+/// Appends a count.
 fn write_count(count: usize, out: &mut Vec<u8>) -> Result<(), DocRefusal>
     ensures added { OnOk result (out.new.items ≡ out.old.items ++ little count) }
     ensures refused { IfErr result (λ e. IsSizeRefusal MAX_LEN count e) }
@@ -97,7 +95,7 @@ fn write_count(count: usize, out: &mut Vec<u8>) -> Result<(), DocRefusal>
     write_u32(count as u32, out)
 }
 
-/// Adds a string: the count of the text and the 00, the text, and that 00.
+/// Appends a string: the count of the text and the 00, the text, and that 00.
 pub(crate) fn write_string(text: &str, out: &mut Vec<u8>) -> Result<(), DocRefusal>
     ensures added { OnOk result (out.new.items ≡ out.old.items ++ string text.now) }
     ensures refused { IfErr result (λ e. IsSizeRefusal MAX_LEN (length (string text.now)) e) }
@@ -107,7 +105,7 @@ pub(crate) fn write_string(text: &str, out: &mut Vec<u8>) -> Result<(), DocRefus
     write_cstring(text, out)
 }
 
-/// Adds the count of bytes, and these.
+/// Appends the count of bytes, and these.
 fn write_counted(bytes: &[u8], out: &mut Vec<u8>) -> Result<(), DocRefusal>
     ensures added { OnOk result (out.new.items ≡ out.old.items ++ (little (length bytes.now) ++ bytes.now)) }
     ensures refused { IfErr result (λ e. IsSizeRefusal MAX_LEN (length (little (length bytes.now) ++ bytes.now)) e) }
@@ -117,7 +115,7 @@ fn write_counted(bytes: &[u8], out: &mut Vec<u8>) -> Result<(), DocRefusal>
     write_bytes(bytes, out)
 }
 
-/// Adds what stands before the data of a binary: their count and the subtype.
+/// Appends what stands before the data of a binary: their count and the subtype.
 fn write_binary_head(count: usize, subtype: u8, out: &mut Vec<u8>) -> Result<(), DocRefusal>
     ensures added { OnOk result (out.new.items ≡ out.old.items ++ (little count ++ subtype ∷ [])) }
     ensures refused { IfErr result (λ e. IsSizeRefusal MAX_LEN count e) }
@@ -128,7 +126,7 @@ fn write_binary_head(count: usize, subtype: u8, out: &mut Vec<u8>) -> Result<(),
     Ok(())
 }
 
-/// Adds a binary: the count of the data, the subtype and the data, which in subtype 02 begin with their own count.
+/// Appends a binary: the count of the data, the subtype and the data, which in subtype 02 begin with their own count.
 pub(crate) fn write_binary(subtype: u8, bytes: &[u8], out: &mut Vec<u8>) -> Result<(), DocRefusal>
     ensures added { OnOk result (out.new.items ≡ out.old.items ++ binary subtype bytes.now) }
     ensures refused { IfErr result (λ e. IsSizeRefusal MAX_LEN (length (binary subtype bytes.now)) e) }
@@ -142,7 +140,7 @@ pub(crate) fn write_binary(subtype: u8, bytes: &[u8], out: &mut Vec<u8>) -> Resu
     write_bytes(bytes, out)
 }
 
-/// Adds a regular expression: its pattern and its options, neither with a 00 in it.
+/// Appends a regular expression: its pattern and its options, neither with a 00 in it.
 pub(crate) fn write_regex(pattern: &str, options: &str, out: &mut Vec<u8>) -> Result<(), DocRefusal>
     ensures added { OnOk result (out.new.items ≡ out.old.items ++ (cstring pattern.now ++ cstring options.now)) }
     ensures refused { IfErr result (λ e. IsSizeRefusal MAX_LEN (length (cstring pattern.now ++ cstring options.now)) e) }
@@ -152,7 +150,7 @@ pub(crate) fn write_regex(pattern: &str, options: &str, out: &mut Vec<u8>) -> Re
     write_cstring(options, out)
 }
 
-/// Adds a pointer: the namespace and the ObjectId.
+/// Appends a pointer: the namespace and the ObjectId.
 pub(crate) fn write_dbpointer(text: &str, id: &[u8], out: &mut Vec<u8>) -> Result<(), DocRefusal>
     ensures added { OnOk result (out.new.items ≡ out.old.items ++ (string text.now ++ id.now)) }
     ensures refused { IfErr result (λ e. IsSizeRefusal MAX_LEN (length (string text.now ++ id.now)) e) }
@@ -162,7 +160,7 @@ pub(crate) fn write_dbpointer(text: &str, id: &[u8], out: &mut Vec<u8>) -> Resul
     write_bytes(id, out)
 }
 
-/// Begins a document, whose length isn't known yet.
+/// Begins a document, with four bytes for its length, which isn't known yet.
 pub(crate) fn begin(out: &mut Vec<u8>) -> Result<(), DocRefusal>
     ensures added { OnOk result (out.new.items ≡ out.old.items ++ 0 ∷ 0 ∷ 0 ∷ 0 ∷ []) }
     ensures refused { IfErr result (λ e. IsSizeRefusal MAX_LEN 4 e) }
@@ -172,7 +170,8 @@ pub(crate) fn begin(out: &mut Vec<u8>) -> Result<(), DocRefusal>
     Ok(())
 }
 
-/// Puts the count of all bytes from `start` on in place of the first four of them. Refuses more than the limit.
+/// Overwrites the four bytes at offset `start` with the count of all bytes from there on. Returns `TooLarge` if that is
+/// more than `limit`.
 pub(crate) fn put_len(start: usize, limit: usize, out: &mut Vec<u8>) -> Result<(), DocRefusal>
     requires begun { start + 4 ≤ vec_len out.old }
     requires counted { limit ≤ MAX_LEN }
@@ -189,7 +188,8 @@ pub(crate) fn put_len(start: usize, limit: usize, out: &mut Vec<u8>) -> Result<(
     Ok(())
 }
 
-/// Ends the document that begins at `start`, and puts its length there. Refuses one with more bytes than the limit.
+/// Ends the document that begins at offset `start`, and puts its length there. Returns `TooLarge` if that is more than
+/// `limit`.
 pub(crate) fn finish(start: usize, limit: usize, out: &mut Vec<u8>) -> Result<(), DocRefusal>
     requires begun { start + 4 ≤ vec_len out.old }
     requires counted { limit ≤ MAX_LEN }

@@ -1,23 +1,23 @@
 //! The canonical form of a document, in which the names of each array are "0", "1" and so on.
 
 ghost use Rattle.std.specs.Prelude.{◌≡◌, ◌≤◌, ◌↔◌, ◌⊎◌, false, length, IsTrue, IfOk, IfErr};
-ghost use Rattle.bson_elem.specs.Tree.{Tree};
-ghost use Rattle.bson_elem.specs.Spelling.{Spells};
-ghost use Rattle.bson_raw.specs.Naming.{is_plain};
-ghost use Rattle.bson_raw.specs.RawDocument.{document_bytes};
+ghost use Rattle.bson_elem.specs.{Spells, Tree};
+ghost use Rattle.bson_raw.specs.{document_bytes, is_plain};
 ghost use Rattle.bson_doc.specs.Plain.{plain, canonical_len};
 ghost use Rattle.bson_doc.specs.Refusals.{IsLengthRefusal};
 ghost use Rattle.bson_doc.specs.RawDocumentBuf.{buf_bytes};
 
-use crate::buf::{MAX_LEN, RawDocumentBuf};
+use crate::buf::RawDocumentBuf;
 use crate::canonical_room::room_after_document;
 use crate::element::write_document;
 use crate::refusal::DocRefusal;
 use crate::room::refusal_of;
-use bson_raw::document::RawDocument;
+use bson_elem::MAX_LEN;
+use bson_raw::RawDocument;
 use std::alloc::Global;
 
-/// Whether the document is in canonical form: the names of each array in it are "0", "1" and so on. Takes no memory.
+/// Returns true if the document is in canonical form: the names in each array are "0", "1" and so on. It takes no
+/// memory.
 pub fn is_canonical(document: RawDocument<'_>) -> bool
     ensures named { (t : Tree) → Spells t (document_bytes document.entry)
         → result ≡ is_plain false 0 t }
@@ -27,7 +27,7 @@ pub fn is_canonical(document: RawDocument<'_>) -> bool
     document.is_canonical()
 }
 
-/// Returns the bytes of the canonical form, if these are no more than the limit.
+/// Writes the canonical form, and returns its bytes, if they are no more than `limit`.
 fn written_bytes(
     alloc: Global,
     document: RawDocument<'_>,
@@ -42,7 +42,7 @@ fn written_bytes(
     Ok(out)
 }
 
-/// Returns the bytes of the canonical form, written anew, if these are no more than the limit.
+/// Like `canonical_bytes`, but writes every document anew.
 fn renumbered_bytes(
     alloc: Global,
     document: RawDocument<'_>,
@@ -60,12 +60,11 @@ fn renumbered_bytes(
     }
 }
 
-/// The bytes of the canonical form, for a caller that takes no more than some number of them.
+/// Returns the bytes of the canonical form, if they are no more than `limit`.
 ///
 /// # Errors
 ///
-/// `TooLarge` where the canonical form has more bytes than the limit. `OutOfMemory` where it hasn't, and memory is
-/// refused.
+/// Returns `TooLarge` if the canonical form has more than `limit` bytes, else `OutOfMemory` if memory is refused.
 pub fn canonical_bytes(
     alloc: Global,
     document: RawDocument<'_>,
@@ -87,13 +86,12 @@ pub fn canonical_bytes(
     Ok(Vec::from_slice(alloc, whole)?)
 }
 
-/// The canonical form of the document: the names of each array become "0", "1" and so on, and all else stays as it is.
-/// A document that is canonical already is copied.
+/// Returns the canonical form of the document: the names in each array become "0", "1" and so on, and nothing else
+/// changes. A document that is canonical already is copied.
 ///
 /// # Errors
 ///
-/// `TooLarge` where the canonical form has more than 2,147,483,647 bytes. `OutOfMemory` where it hasn't, and memory is
-/// refused.
+/// Returns `TooLarge` if the canonical form has more than 2,147,483,647 bytes, else `OutOfMemory` if memory is refused.
 pub fn to_canonical(alloc: Global, document: RawDocument<'_>) -> Result<RawDocumentBuf, DocRefusal>
     ensures canonical { (t : Tree) → Spells t (document_bytes document.entry)
         → IfOk result (λ d. Spells (plain t) (buf_bytes d)) }
@@ -105,12 +103,11 @@ pub fn to_canonical(alloc: Global, document: RawDocument<'_>) -> Result<RawDocum
     Ok(RawDocumentBuf::from_spelled(bytes))
 }
 
-/// As `to_canonical`, but every document is written anew: whether it is canonical already is not tested. It serves where
-/// that is known.
+/// Like `to_canonical`, but writes every document anew: it doesn't test whether the document is canonical already.
 ///
 /// # Errors
 ///
-/// Those of `to_canonical`.
+/// Returns the errors of `to_canonical`.
 pub fn renumbered(alloc: Global, document: RawDocument<'_>) -> Result<RawDocumentBuf, DocRefusal>
     ensures canonical { (t : Tree) → Spells t (document_bytes document.entry)
         → IfOk result (λ d. Spells (plain t) (buf_bytes d)) }

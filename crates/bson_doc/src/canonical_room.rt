@@ -1,14 +1,10 @@
-//! What is left of a limit behind the canonical form of a document, whose bytes are counted without being written. No
+//! How much room a limit leaves behind the canonical form of a document: its bytes are counted without being written. No
 //! function here takes memory.
 
 ghost use Rattle.std.specs.Prelude.{false, length};
-ghost use Rattle.bson_elem.specs.Spelling.{elements, inner_bytes, Spells};
+ghost use Rattle.bson_elem.specs.{Spells, Tree, elements, inner_bytes, with_code};
 ghost use Rattle.bson_elem.specs.Spelling as spelling;
-ghost use Rattle.bson_elem.specs.Tree.{Tree, with_code};
-ghost use Rattle.bson_raw.specs.Naming.{name_at};
-ghost use Rattle.bson_raw.specs.Pairs.{TreeValue};
-ghost use Rattle.bson_raw.specs.RawBson.{Shows, held_len};
-ghost use Rattle.bson_raw.specs.RawDocument.{document_bytes};
+ghost use Rattle.bson_raw.specs.{Shows, TreeValue, document_bytes, held_len, name_at};
 ghost use Rattle.bson_doc.specs.Plain.{plain_from};
 ghost use Rattle.bson_doc.specs.Room.{IsRoomLeft};
 ghost use Rattle.bson_doc.specs.Values.{plain_value, value_bytes, element_bytes};
@@ -17,8 +13,7 @@ use crate::room::{
     room_after, room_after_binary, room_after_bytes, room_after_dbpointer, room_after_head,
     room_after_regex, room_after_string,
 };
-use bson_raw::document::RawDocument;
-use bson_raw::value::RawBson;
+use bson_raw::{RawBson, RawDocument};
 
 /// Returns what is left of `room` behind the canonical bytes of a value.
 #[cycle(measure)]
@@ -36,7 +31,7 @@ fn room_after_value(value: RawBson<'_>, room: usize) -> Option<usize>
         RawBson::Boolean(_) => room_after(1, room),
         RawBson::DateTime(_) => room_after(8, room),
         RawBson::Regex { pattern, options } => room_after_regex(pattern, options, room),
-        RawBson::DbPointer { text, id } => room_after_dbpointer(text, &id, room),
+        RawBson::DbPointer { namespace, id } => room_after_dbpointer(namespace, &id, room),
         RawBson::Code(text) => room_after_string(text, room),
         RawBson::Symbol(text) => room_after_string(text, room),
         RawBson::CodeWithScope { code, scope } => room_after_scope(code, scope, room),

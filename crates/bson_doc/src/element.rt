@@ -1,28 +1,24 @@
-//! The canonical spelling of the elements of a document.
+//! Appending the canonical form of a borrowed document to bytes.
 
 ghost use Rattle.std.specs.Prelude.{◌≡◌, ◌≤◌, ◌++◌, ◌∷◌, ℕ, length, OnOk, IfErr, false};
-ghost use Rattle.bson_elem.specs.Tree.{Tree, with_code};
-ghost use Rattle.bson_elem.specs.Spelling.{inner_bytes, elements, Spells};
+ghost use Rattle.bson_elem.specs.{Spells, Tree, elements, inner_bytes, with_code};
 ghost use Rattle.bson_elem.specs.Spelling as spelling;
-ghost use Rattle.bson_raw.specs.Pairs.{TreeValue};
-ghost use Rattle.bson_raw.specs.RawBson.{Shows, held_len};
-ghost use Rattle.bson_raw.specs.RawDocument.{document_bytes};
-ghost use Rattle.bson_raw.specs.Naming.{name_at};
+ghost use Rattle.bson_raw.specs.{Shows, TreeValue, document_bytes, held_len, name_at};
 ghost use Rattle.bson_doc.specs.Plain.{plain_from};
 ghost use Rattle.bson_doc.specs.Values.{plain_value, value_bytes, element_bytes};
 ghost use Rattle.bson_doc.specs.Refusals.{IsSizeRefusal};
 
-use crate::buf::MAX_LEN;
 use crate::bytes::{
     begin, finish, put_len, write_binary, write_bytes, write_dbpointer, write_int32, write_int64,
     write_regex, write_string, write_timestamp,
 };
 use crate::name::write_name;
 use crate::refusal::DocRefusal;
-use bson_raw::document::RawDocument;
-use bson_raw::value::RawBson;
+use bson_elem::MAX_LEN;
+use bson_raw::{RawBson, RawDocument};
 
-/// Adds a value, with the canonical names in what it holds. Refuses a container with more bytes than the limit.
+/// Appends a value, with canonical names in what it holds. Returns `TooLarge` if a container in it has more than `limit`
+/// bytes.
 #[cycle(write)]
 fn write_value(value: RawBson<'_>, limit: usize, out: &mut Vec<u8>) -> Result<(), DocRefusal>
     requires { limit ≤ MAX_LEN }
@@ -53,7 +49,8 @@ fn write_value(value: RawBson<'_>, limit: usize, out: &mut Vec<u8>) -> Result<()
     }
 }
 
-/// Adds a code and its scope, with the canonical names in the scope. Refuses more bytes than the limit.
+/// Appends a code and its scope, with canonical names in the scope. Returns `TooLarge` if they have more than `limit`
+/// bytes.
 #[cycle(write)]
 fn write_scope(
     code: &str,
@@ -74,7 +71,8 @@ fn write_scope(
     put_len(start, limit, out)
 }
 
-/// Adds the pair at a place of a container, with the canonical names. Refuses a container with more bytes than the limit.
+/// Appends the pair at index `place` of a container, with canonical names. Returns `TooLarge` if a container in it has
+/// more than `limit` bytes.
 #[cycle(write)]
 fn write_element(
     name: &str,
@@ -95,8 +93,8 @@ fn write_element(
     write_value(value, limit, out)
 }
 
-/// Adds the document with the canonical names at every depth; in an array these are "0", "1" and so on. Refuses a
-/// container with more bytes than the limit.
+/// Appends the document with canonical names at every depth; in an array these are "0", "1" and so on. Returns
+/// `TooLarge` if it has more than `limit` bytes.
 #[cycle(write)]
 pub(crate) fn write_document(
     document: RawDocument<'_>,

@@ -1,12 +1,8 @@
-//! Documents that are read out of their bytes.
+//! Reading documents out of their bytes.
 
 ghost use Rattle.std.specs.Prelude.{◌≡◌, ◌+◌, ◌<◌, ◌^◌, [], None, false, true, length, ℕ, List, IfOk, IfErr, MatchResult, OnOk};
-ghost use Rattle.bson_elem.specs.Tree.{Tree};
-ghost use Rattle.bson_elem.specs.Spelling.{Spells};
-ghost use Rattle.bson_raw.specs.Pairs.{TreeValue};
-ghost use Rattle.bson_raw.specs.RawArray.{array_bytes};
-ghost use Rattle.bson_raw.specs.RawBson.{Shows, held_len};
-ghost use Rattle.bson_raw.specs.RawDocument.{document_bytes};
+ghost use Rattle.bson_elem.specs.{Spells, Tree};
+ghost use Rattle.bson_raw.specs.{Shows, TreeValue, array_bytes, document_bytes, held_len};
 ghost use Rattle.bson_doc.specs.declared.refusal.DocRefusal.TheVariants.{OutOfMemory};
 ghost use Rattle.bson_doc.specs.Array.{array_tree};
 ghost use Rattle.bson_doc.specs.Bson.{value_of};
@@ -15,17 +11,15 @@ ghost use Rattle.bson_doc.specs.Plain.{plain, plain_from};
 ghost use Rattle.bson_doc.specs.Repeats.{repeat_depth, repeat_in, repeat_in_value, IsRepeat};
 ghost use Rattle.bson_doc.specs.Values.{plain_value};
 
-use crate::array::Array;
-use crate::bson::Bson;
-use crate::document::Document;
+use crate::arrays::Array;
+use crate::bson_values::Bson;
+use crate::documents::Document;
 use crate::refusal::DocRefusal;
-use bson_raw::array::RawArray;
-use bson_raw::document::RawDocument;
-use bson_raw::value::RawBson;
+use bson_raw::{RawArray, RawBson, RawDocument};
 use indexmap::IndexSet;
 use std::alloc::Global;
 
-/// The value, which stands in a container of this depth.
+/// Returns the owned value of one that stands in a container of depth `depth`.
 #[cycle(read)]
 fn read_value(alloc: Global, value: RawBson<'_>, depth: u32) -> Result<Bson, DocRefusal>
     requires { depth + 1 + held_len value < 2 ^ 32 }
@@ -54,8 +48,8 @@ fn read_value(alloc: Global, value: RawBson<'_>, depth: u32) -> Result<Bson, Doc
             pattern: String::from_str(alloc, pattern)?,
             options: String::from_str(alloc, options)?,
         },
-        RawBson::DbPointer { text, id } => Bson::DbPointer {
-            namespace: String::from_str(alloc, text)?,
+        RawBson::DbPointer { namespace, id } => Bson::DbPointer {
+            namespace: String::from_str(alloc, namespace)?,
             id,
         },
         RawBson::Code(text) => Bson::Code(String::from_str(alloc, text)?),
@@ -74,7 +68,7 @@ fn read_value(alloc: Global, value: RawBson<'_>, depth: u32) -> Result<Bson, Doc
     Ok(owned)
 }
 
-/// The array, whose depth this is. The names in it are not kept.
+/// Returns the owned array of one of depth `depth`. Its names are not kept.
 #[cycle(read)]
 fn read_array(alloc: Global, array: RawArray<'_>, depth: u32) -> Result<Array, DocRefusal>
     requires { depth + length (array_bytes array) < 2 ^ 32 }
@@ -92,7 +86,7 @@ fn read_array(alloc: Global, array: RawArray<'_>, depth: u32) -> Result<Array, D
     Ok(Array::from_vec(values))
 }
 
-/// The document, whose depth this is.
+/// Returns the owned document of one of depth `depth`.
 #[cycle(read)]
 fn read_document(
     alloc: Global,
@@ -119,13 +113,12 @@ fn read_document(
 }
 
 impl Document {
-    /// The document that the bytes are, with the pairs in their order. The values of an array come without the names
-    /// that they have in the bytes.
+    /// Returns the document that the bytes spell, with the pairs in their order. The names in an array are not kept.
     ///
     /// # Errors
     ///
-    /// `RepeatedName` where a document or a scope has a name twice, with the depth of that container, and
-    /// `OutOfMemory`. Of several repeated names the first in the bytes is told.
+    /// Returns `RepeatedName` if a document or a scope has a name twice, with the depth of that container; of several
+    /// repeated names, the first in the bytes. Returns `OutOfMemory` if memory is refused.
     pub fn from_raw(alloc: Global, raw: RawDocument<'_>) -> Result<Document, DocRefusal>
         ensures read { (t : Tree) → Spells t (document_bytes raw.entry)
             → IfOk result (λ d. tree_of d ≡ plain t) }

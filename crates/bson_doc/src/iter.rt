@@ -1,13 +1,13 @@
-//! The pairs of a document, in order.
+//! The iterator over the pairs of a document.
 
 ghost use Rattle.std.specs.Prelude.{◌≡◌, length, map, string_bytes};
 ghost use Rattle.std.specs.Iterator.{at_most};
 
-use crate::bson::Bson;
-use crate::document::Document;
+use crate::bson_values::Bson;
+use crate::documents::Document;
 use std::marker::Model;
 
-/// The pairs of a document that are left.
+/// An iterator over the pairs of a document, in order.
 #[derive(Drop)]
 pub struct DocumentIter<'a> {
     names: &'a [String],
@@ -16,7 +16,7 @@ pub struct DocumentIter<'a> {
 
 impl<'a> Model for DocumentIter<'a> {
     ghost use Rattle.std.specs.Prelude.{◌≡◌, ℕ, List, length, map, string_bytes};
-    ghost use Rattle.bson_raw.specs.Pairs.{TreeValue};
+    ghost use Rattle.bson_raw.specs.{TreeValue};
     ghost use Rattle.bson_doc.specs.Bson.{value_of};
     ghost use Rattle.bson_doc.specs.Document.{paired};
     ghost use Rattle.bson_doc.specs.Codes.{coded_pairs};
@@ -34,7 +34,7 @@ impl<'a> DocumentIter<'a> {
     ghost use Rattle.bson_doc.specs.Bson.{value_of};
     ghost use Rattle.bson_doc.specs.Document.{paired};
 
-    /// The pairs of these names and values.
+    /// Returns an iterator over these names and values.
     pub(crate) fn of_parts(names: &'a [String], values: &'a [Bson]) -> DocumentIter<'a>
         requires { length names.now ≡ length values.now }
         ensures { result ≡ paired (map string_bytes names.now) (map value_of values.now) }

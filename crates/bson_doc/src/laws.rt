@@ -1,11 +1,10 @@
-//! The laws that make the definition of the canonical form trustworthy, and the law of writing and reading. The contract
-//! of each function is the law; those about definitions alone do nothing.
+//! Laws of the canonical form, of equality, and of writing and reading. The contract of each function is the law; those
+//! about definitions alone do nothing.
 
 ghost use Rattle.std.specs.Prelude.{◌≡◌, ◌↔◌, ◌<◌, ◌^◌, ℕ, IsTrue, List, length, slice_get, Some, option_map, IfOk, IfErr};
 ghost use Rattle.std.specs.Fmt.{decimal};
-ghost use Rattle.bson_elem.specs.Tree.{Tree};
-ghost use Rattle.bson_elem.specs.Spelling.{Spells, document, elements};
-ghost use Rattle.bson_raw.specs.Pairs.{names_of, TreeValue, nth_value};
+ghost use Rattle.bson_elem.specs.{Spells, Tree, document, elements};
+ghost use Rattle.bson_raw.specs.{TreeValue, names_of, nth_value};
 ghost use Rattle.bson_doc.specs.Codes.{coded_pairs, coded_values};
 ghost use Rattle.bson_doc.specs.Document.{tree_of};
 ghost use Rattle.bson_doc.specs.Plain.{plain, numbered, canonical_len};
@@ -13,7 +12,7 @@ ghost use Rattle.bson_doc.specs.Same.{same};
 ghost use Rattle.bson_doc.specs.Unwritable.{IsUnwritable};
 ghost use Rattle.bson_doc.specs.Values.{plain_value};
 
-use crate::document::Document;
+use crate::documents::Document;
 use crate::refusal::DocRefusal;
 use std::alloc::Global;
 
@@ -82,11 +81,11 @@ pub fn equal_where_same()
     ensures arrays { (a b : List TreeValue) → (IsTrue (same coded_values a b) ↔ (a ≡ b)) }
 {}
 
-/// A document that is written and read back is that document.
+/// Writes a document and reads it back, which gives the same document.
 ///
 /// # Errors
 ///
-/// Those of `Document::to_raw`, and `OutOfMemory`.
+/// Returns the errors of `Document::to_raw`.
 pub fn round_trip(alloc: Global, document: &Document) -> Result<Document, DocRefusal>
     ensures same { IfOk result (λ again. again ≡ document.now) }
     ensures refused { IfErr result (λ e. IsUnwritable (tree_of document.now) e) }

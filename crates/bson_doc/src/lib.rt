@@ -12,22 +12,29 @@
 //! `dump_to` and `dump_elements` of the crate `bson_text`, which write the text of a borrowed document, are given on.
 #![tactic(auto)]
 
-pub use bson_text::dump::{dump_elements, dump_to};
-
 mod append;
-pub mod array;
-pub mod bson;
-pub mod buf;
+mod arrays;
+mod bson_values;
+mod buf;
 mod bytes;
-pub mod canon;
+mod canon;
 mod canonical_room;
-pub mod document;
+mod documents;
 mod element;
 mod from_raw;
-pub mod iter;
+mod iter;
 pub mod laws;
 mod name;
-pub mod refusal;
+mod refusal;
 mod room;
 mod to_raw;
 mod unwritable;
+
+pub use arrays::Array;
+pub use bson_text::{dump_elements, dump_to};
+pub use bson_values::Bson;
+pub use buf::RawDocumentBuf;
+pub use canon::{canonical_bytes, is_canonical, renumbered, to_canonical};
+pub use documents::Document;
+pub use iter::DocumentIter;
+pub use refusal::DocRefusal;

@@ -2,16 +2,16 @@
 
 ghost use Rattle.std.specs.Prelude.{◌≡◌, ◌++◌, length, OnOk, OnErr, IfErr};
 ghost use Rattle.std.specs.Io.{StartsWith};
-ghost use Rattle.bson_elem.specs.Spelling.{cstring};
-ghost use Rattle.bson_raw.specs.Naming.{name_at};
+ghost use Rattle.bson_elem.specs.{cstring};
+ghost use Rattle.bson_raw.specs.{name_at};
 ghost use Rattle.bson_doc.specs.Refusals.{IsSizeRefusal};
 
-use crate::buf::MAX_LEN;
 use crate::bytes::write_cstring;
 use crate::refusal::DocRefusal;
+use bson_elem::MAX_LEN;
 use itoa::Buffer;
 
-/// Adds the canonical name of the pair at a place, which has this name.
+/// Appends the canonical name of the pair at index `place`, whose name is `name`: in an array that index.
 pub(crate) fn write_name(
     name: &str,
     in_array: bool,

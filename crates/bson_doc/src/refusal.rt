@@ -1,4 +1,4 @@
-//! Why a document isn't made.
+//! Why a document isn't made or written.
 
 ghost use Rattle.std.specs.Prelude.{◌≡◌};
 ghost use Rattle.bson_doc.specs.Refusals.{refusal_number, refusal_words};
@@ -10,8 +10,8 @@ use std::fmt;
 /// Why a document isn't made, or isn't written.
 #[derive(Clone, Copy, Debug, PartialEq, Eq)]
 pub enum DocRefusal {
-    /// Two elements of a document or a scope have the same name. This is the depth of that
-    /// container; the outermost document has depth 1.
+    /// Two elements of a document or a scope have the same name. `depth` is that of this container;
+    /// the outermost document has depth 1.
     RepeatedName { depth: u32 },
     OutOfMemory,
     /// The document would have more than 2,147,483,647 bytes.
@@ -23,7 +23,7 @@ pub enum DocRefusal {
 }
 
 impl DocRefusal {
-    /// The number of the refusal, from 1 to 5.
+    /// Returns the number of the refusal, from 1 to 5.
     pub fn number(self) -> u8
         ensures { result ≡ refusal_number self }
     {

@@ -1,11 +1,10 @@
-//! What is left of a limit behind the bytes of a document, which are counted without being written. No function here
-//! takes memory.
+//! How much room a limit leaves behind the bytes of a document, which are counted without being written. No function
+//! here takes memory.
 
 ghost use Rattle.std.specs.Prelude.{ℕ, ◌+◌, ◌++◌, length};
-ghost use Rattle.bson_elem.specs.Spelling.{cstring, string, binary, elements, inner_bytes};
+ghost use Rattle.bson_elem.specs.{binary, cstring, elements, inner_bytes, string, with_code};
 ghost use Rattle.bson_elem.specs.Spelling as spelling;
-ghost use Rattle.bson_elem.specs.Tree.{with_code};
-ghost use Rattle.bson_raw.specs.Naming.{name_at};
+ghost use Rattle.bson_raw.specs.{name_at};
 ghost use Rattle.bson_doc.specs.Array.{array_tree};
 ghost use Rattle.bson_doc.specs.Bson.{value_of};
 ghost use Rattle.bson_doc.specs.Document.{tree_of};
@@ -13,9 +12,9 @@ ghost use Rattle.bson_doc.specs.Refusals.{IsLengthRefusal};
 ghost use Rattle.bson_doc.specs.Room.{IsRoomLeft};
 ghost use Rattle.bson_doc.specs.Values.{value_bytes, element_bytes};
 
-use crate::array::Array;
-use crate::bson::Bson;
-use crate::document::Document;
+use crate::arrays::Array;
+use crate::bson_values::Bson;
+use crate::documents::Document;
 use crate::refusal::DocRefusal;
 use itoa::Buffer;
 

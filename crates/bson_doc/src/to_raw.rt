@@ -1,38 +1,36 @@
-//! Documents that are written to bytes of their own.
+//! Writing owned documents to bytes.
 
 ghost use Rattle.std.specs.Prelude.{◌≡◌, ◌++◌, ◌∷◌, IsUtf8, IfErr, IfOk, OnErr, OnOk, None, Some, length, ◌≤◌, ◌<◌};
 ghost use Rattle.std.specs.Io.{StartsWith};
-ghost use Rattle.bson_elem.specs.Kinds.{byte_of};
-ghost use Rattle.bson_elem.specs.Spelling.{cstring, string, elements, inner_bytes, AreBytes, IsBytes, Spells};
+ghost use Rattle.bson_elem.specs.{AreBytes, IsBytes, Spells, byte_of, cstring, elements, inner_bytes, string, with_code};
 ghost use Rattle.bson_elem.specs.Spelling as spelling;
-ghost use Rattle.bson_elem.specs.Tree.{with_code};
 ghost use Rattle.bson_doc.specs.Array.{array_tree};
 ghost use Rattle.bson_doc.specs.Bson.{value_of};
 ghost use Rattle.bson_doc.specs.Document.{tree_of};
 ghost use Rattle.bson_doc.specs.Formed.{IsFormed, IsFormedValue};
 ghost use Rattle.bson_doc.specs.Refusals.{IsSizeRefusal};
-ghost use Rattle.bson_raw.specs.Naming.{name_at};
+ghost use Rattle.bson_raw.specs.{name_at};
 ghost use Rattle.bson_doc.specs.Plain.{plain};
 ghost use Rattle.bson_doc.specs.RawDocumentBuf.{buf_bytes};
 ghost use Rattle.bson_doc.specs.Repeats.{repeat_depth};
 ghost use Rattle.bson_doc.specs.Unwritable.{IsUnwritable};
 ghost use Rattle.bson_doc.specs.Values.{value_bytes};
 
-use crate::array::Array;
-use crate::bson::Bson;
-use crate::buf::{MAX_LEN, RawDocumentBuf};
+use crate::arrays::Array;
+use crate::bson_values::Bson;
+use crate::buf::RawDocumentBuf;
 use crate::bytes::{
     begin, finish, put_len, write_binary, write_bytes, write_int32, write_int64, write_regex,
     write_string, write_timestamp,
 };
-use crate::document::Document;
+use crate::documents::Document;
 use crate::name::write_name;
 use crate::refusal::DocRefusal;
 use crate::room::{refusal_of, room_after_document};
 use crate::unwritable::check_document;
-use bson_elem::kind::Kind;
+use bson_elem::{Kind, MAX_LEN};
 
-/// Adds the type byte of the pair at a place of a container, and its name, which in an array is that place.
+/// Appends the type byte of the pair at index `place` of a container, and its name, which in an array is that index.
 fn write_head(
     kind: Kind,
     name: &str,
@@ -49,7 +47,7 @@ fn write_head(
     write_name(name, in_array, place, out)
 }
 
-/// Adds bytes as they are.
+/// Appends bytes as they are.
 fn write_slice(bytes: &[u8], out: &mut Vec<u8>) -> Result<(), DocRefusal>
     ensures added { OnOk result (out.new.items ≡ out.old.items ++ bytes.now) }
     ensures formed { OnOk result (IsBytes bytes.now) }
@@ -59,7 +57,7 @@ fn write_slice(bytes: &[u8], out: &mut Vec<u8>) -> Result<(), DocRefusal>
     write_bytes(bytes, out)
 }
 
-/// Adds so many bytes as they are.
+/// Appends `N` bytes as they are.
 fn write_raw<const N: usize>(bytes: &[u8; N], out: &mut Vec<u8>) -> Result<(), DocRefusal>
     ensures added { OnOk result (out.new.items ≡ out.old.items ++ bytes.now) }
     ensures formed { OnOk result (AreBytes N bytes.now) }
@@ -69,7 +67,7 @@ fn write_raw<const N: usize>(bytes: &[u8; N], out: &mut Vec<u8>) -> Result<(), D
     write_slice(bytes, out)
 }
 
-/// Adds a subtype and data.
+/// Appends a subtype and data.
 fn write_data(subtype: u8, bytes: &[u8], out: &mut Vec<u8>) -> Result<(), DocRefusal>
     ensures added { OnOk result (out.new.items ≡ out.old.items ++ spelling.binary subtype bytes.now) }
     ensures formed { OnOk result ((subtype < 256) × IsBytes bytes.now) }
@@ -79,7 +77,7 @@ fn write_data(subtype: u8, bytes: &[u8], out: &mut Vec<u8>) -> Result<(), DocRef
     write_binary(subtype, bytes, out)
 }
 
-/// Adds a namespace and an ObjectId.
+/// Appends a namespace and an ObjectId.
 fn write_pointer(text: &str, id: &[u8; 12], out: &mut Vec<u8>) -> Result<(), DocRefusal>
     ensures added { OnOk result (out.new.items ≡ out.old.items ++ (string text.now ++ id.now)) }
     ensures formed { OnOk result (IsUtf8 text.now × AreBytes 12 id.now) }
@@ -90,7 +88,7 @@ fn write_pointer(text: &str, id: &[u8; 12], out: &mut Vec<u8>) -> Result<(), Doc
     write_raw(id, out)
 }
 
-/// Adds a value.
+/// Appends a value.
 #[cycle(write)]
 pub(crate) fn write_value(value: &Bson, out: &mut Vec<u8>) -> Result<(), DocRefusal>
     ensures added { OnOk result (out.new.items ≡ out.old.items ++ value_bytes (value_of value.now)) }
@@ -120,7 +118,7 @@ pub(crate) fn write_value(value: &Bson, out: &mut Vec<u8>) -> Result<(), DocRefu
     }
 }
 
-/// Adds a code and its scope.
+/// Appends a code and its scope.
 #[cycle(write)]
 fn write_scope(code: &str, scope: &Document, out: &mut Vec<u8>) -> Result<(), DocRefusal>
     ensures added { OnOk result (out.new.items ≡ out.old.items ++ inner_bytes (with_code code.now) (elements (tree_of scope.now))) }
@@ -135,7 +133,7 @@ fn write_scope(code: &str, scope: &Document, out: &mut Vec<u8>) -> Result<(), Do
     put_len(start, MAX_LEN, out)
 }
 
-/// Adds an array.
+/// Appends an array.
 #[cycle(write)]
 fn write_array(array: &Array, out: &mut Vec<u8>) -> Result<(), DocRefusal>
     ensures added { OnOk result (out.new.items ≡ out.old.items ++ spelling.document (elements (array_tree 0 array.now))) }
@@ -152,7 +150,7 @@ fn write_array(array: &Array, out: &mut Vec<u8>) -> Result<(), DocRefusal>
     finish(start, MAX_LEN, out)
 }
 
-/// Adds a document.
+/// Appends a document.
 #[cycle(write)]
 pub(crate) fn write_document(document: &Document, out: &mut Vec<u8>) -> Result<(), DocRefusal>
     ensures added { OnOk result (out.new.items ≡ out.old.items ++ spelling.document (elements (tree_of document.now))) }
@@ -171,13 +169,13 @@ pub(crate) fn write_document(document: &Document, out: &mut Vec<u8>) -> Result<(
 }
 
 impl Document {
-    /// The document in bytes of its own.
+    /// Returns the document in bytes of its own.
     ///
     /// # Errors
     ///
-    /// `ZeroInName` for a 00 in a name, a pattern or options and `Depth` for a container deeper than 200: the first of
-    /// them in the order of the pairs. Else `TooLarge` for more than 2,147,483,647 bytes. `OutOfMemory` for a document
-    /// that could be written, where memory is refused.
+    /// Returns `ZeroInName` for a 00 in a name, a pattern or options, and `Depth` for a container deeper than 200: the
+    /// first of them in the order of the pairs. Else returns `TooLarge` for more than 2,147,483,647 bytes, and else
+    /// `OutOfMemory` if memory is refused.
     pub fn to_raw(&self) -> Result<RawDocumentBuf, DocRefusal>
         ensures written { IfOk result (λ d. Spells (tree_of self.now) (buf_bytes d)) }
         ensures canonical { OnOk result (plain (tree_of self.now) ≡ tree_of self.now) }

@@ -1,4 +1,4 @@
-//! Whether a document can be written, but for its length.
+//! The test whether a document can be written, but for its length.
 
 ghost use Rattle.std.specs.Prelude.{◌≡◌, ◌≤◌, ◌<◌, [], Some, None, true, false, MatchResult, OnOk};
 ghost use Rattle.bson_doc.specs.declared.refusal.DocRefusal.TheVariants.{ZeroInName, Depth};
@@ -11,22 +11,20 @@ ghost use Rattle.bson_doc.specs.Unwritable.{unwritable, unwritable_value};
 ghost use Rattle.bson_doc.specs.Unwritable as spec;
 ghost use Rattle.bson_doc.specs.Values.{plain_value};
 
-use crate::array::Array;
-use crate::bson::Bson;
-use crate::document::Document;
+use crate::arrays::Array;
+use crate::bson_values::Bson;
+use crate::documents::Document;
 use crate::refusal::DocRefusal;
+use bson_elem::MAX_DEPTH;
 
-/// The greatest depth of a container. The outermost document has depth 1.
-const MAX_DEPTH: u32 = 200;
-
-/// Whether one of the bytes is 00.
+/// Returns true if one of the bytes is 00.
 fn has_zero(bytes: &[u8]) -> bool
     ensures { result ≡ spec.has_zero bytes.now }
 {
     bytes.iter().any(|b| *b == 0)
 }
 
-/// Refuses a name, a pattern or options with a 00.
+/// Checks that a name, a pattern or options have no 00.
 pub(crate) fn check_cstring(text: &str) -> Result<(), DocRefusal>
     ensures { MatchResult result (λ _. spec.has_zero text.now ≡ false)
         (λ e. (spec.has_zero text.now ≡ true) × (e ≡ ZeroInName)) }
@@ -37,7 +35,7 @@ pub(crate) fn check_cstring(text: &str) -> Result<(), DocRefusal>
     Ok(())
 }
 
-/// Refuses a container that would be deeper than the greatest depth, in one of this depth.
+/// Checks that a container may stand in one of depth `depth`.
 fn check_depth(depth: u32) -> Result<(), DocRefusal>
     ensures { MatchResult result (λ _. depth < 200) (λ e. (200 ≤ depth) × (e ≡ Depth)) }
 {
@@ -47,7 +45,7 @@ fn check_depth(depth: u32) -> Result<(), DocRefusal>
     Ok(())
 }
 
-/// Refuses what can't be written in a value, which stands in a container of this depth.
+/// Checks a value that stands in a container of depth `depth`.
 #[cycle(check)]
 pub(crate) fn check_value(value: &Bson, depth: u32) -> Result<(), DocRefusal>
     ensures reason { MatchResult result (λ _. unwritable_value depth (value_of value.now) ≡ None)
@@ -76,7 +74,7 @@ pub(crate) fn check_value(value: &Bson, depth: u32) -> Result<(), DocRefusal>
     }
 }
 
-/// Refuses what can't be written in an array, whose depth this is.
+/// Checks an array of depth `depth`.
 #[cycle(check)]
 fn check_array(array: &Array, depth: u32) -> Result<(), DocRefusal>
     ensures reason { MatchResult result (λ _. unwritable depth (array_tree 0 array.now) ≡ None)
@@ -91,8 +89,8 @@ fn check_array(array: &Array, depth: u32) -> Result<(), DocRefusal>
     Ok(())
 }
 
-/// Refuses what can't be written in a document, whose depth this is: the first refusal in the order of the pairs, a
-/// name before its value, and a container's depth before its pairs.
+/// Checks a document of depth `depth`. Returns the first refusal in the order of the pairs: a name comes before its
+/// value, and the depth of a container before its pairs.
 #[cycle(check)]
 pub(crate) fn check_document(document: &Document, depth: u32) -> Result<(), DocRefusal>
     ensures reason { MatchResult result (λ _. unwritable depth (tree_of document.now) ≡ None)

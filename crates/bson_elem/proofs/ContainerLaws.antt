@@ -6,13 +6,13 @@ use Rattle.std.proofs.lemmas.Bool.{ltb-false, ltb-true, leb-false, eqb-true, le-
 use Rattle.std.proofs.lemmas.List.{take_at, drop_at, take-append-drop, length-append, length-take, length-drop, get_or-drop, drop-drop, get_or_at}
 use Rattle.std.proofs.lemmas.Nat.{le_bytes_4, from_le_bytes-to_le_bytes_4}
 use Rattle.std.proofs.lemmas.Str.{is_utf8-from_IsUtf8}
-use Rattle.bson_elem.specs.declared.kind.Kind.{Kind}
-use Rattle.bson_elem.specs.declared.kind.Kind.TheVariants as kinds
+use Rattle.bson_elem.specs.declared.kinds.Kind.{Kind}
+use Rattle.bson_elem.specs.declared.kinds.Kind.TheVariants as kinds
 use Rattle.bson_elem.specs.declared.fault.BsonCause.{BsonCause}
 use Rattle.bson_elem.specs.declared.fault.BsonCause.TheVariants as causes
 use Rattle.bson_elem.specs.declared.fault.BsonFault.{BsonFault}
 use Rattle.bson_elem.specs.Kinds.{byte_of, all_kinds, kind_among, kind_of, Form, raw_form, boolean_form, int32_form, int64_form, timestamp_form, string_form, pointer_form, binary_form, regex_form, document_form, scope_form, form_of}
-use Rattle.bson_elem.specs.Tree.{Leaf, Beside, no_code, with_code}
+use Rattle.bson_elem.specs.Trees.{Leaf, Beside, no_code, with_code}
 use Rattle.bson_elem.specs.Spelling.{IsBytes, leaf_bytes, little, cstring, string, document, inner_bytes, IsOfForm, StandsIn}
 use Rattle.bson_elem.specs.Checks.{◌>>=◌, length_at, text_at, cstring_at, leaf_at, fault, told_at, document_at, Value, a_leaf, opens, scope_at, value_at, ElementRead, kinded_at, element_at}
 pub use Rattle.bson_elem.specs.Elements.{value_bytes, ValueFits, place_of, IsPlaced, element_bytes, IsElement}

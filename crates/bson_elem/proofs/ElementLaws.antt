@@ -12,7 +12,7 @@ use Rattle.bson_elem.specs.declared.fault.BsonCause.{BsonCause}
 use Rattle.bson_elem.specs.declared.fault.BsonCause.TheVariants.{Truncated, Length, TextEnd, Text, Name}
 use Rattle.bson_elem.specs.declared.fault.BsonCause.TheVariants as causes
 use Rattle.bson_elem.specs.Kinds.{Form, raw_form, boolean_form, int32_form, int64_form, timestamp_form, string_form, pointer_form, binary_form, regex_form, document_form, scope_form}
-use Rattle.bson_elem.specs.Tree.{Leaf, raw_value, boolean_value, number_value, timestamp_value, text_value, pointer_value, binary_value, regex_value}
+use Rattle.bson_elem.specs.Trees.{Leaf, raw_value, boolean_value, number_value, timestamp_value, text_value, pointer_value, binary_value, regex_value}
 use Rattle.bson_elem.specs.Spelling.{little, cstring, string, leaf_bytes, IsBytes, IsBinary, AreBytes, IsOfForm}
 use Rattle.bson_elem.specs.Checks.{◌>>=◌, bytes_at, little_at, little64_at, length_at, string_at, cstring_at, boolean_at, binary_of, leaf_at}
 use Rattle.bson_elem.proofs.FieldLaws.{IsBytes-drop, IsBytes-take, bind_ok, guard_else, guard_then, ok_is, Takes, Takes-then, little_takes, little_again, length_takes, length_again, string_takes, string_again, cstring_takes, cstring_again}

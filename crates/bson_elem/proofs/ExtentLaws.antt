@@ -2,8 +2,8 @@
 use Rattle.std.proofs.Common.{◌≡◌, ℕ, List, length, Some, refl, subst, arith, inl, inr, ltb}
 use Rattle.std.proofs.lemmas.Bool.{cases_Bool}
 use Rattle.std.proofs.lemmas.List.{drop-drop, length-drop}
-use Rattle.bson_elem.specs.declared.kind.Kind.{Kind}
-use Rattle.bson_elem.specs.declared.kind.Kind.TheVariants as kinds
+use Rattle.bson_elem.specs.declared.kinds.Kind.{Kind}
+use Rattle.bson_elem.specs.declared.kinds.Kind.TheVariants as kinds
 use Rattle.bson_elem.specs.Kinds.{Form, form_of, raw_form, int32_form, int64_form, timestamp_form}
 use Rattle.bson_elem.specs.Checks.{bytes_at, leaf_at}
 use Rattle.bson_elem.specs.Extents.{fixed_size, rest_of}

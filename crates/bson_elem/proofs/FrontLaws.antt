@@ -1,7 +1,7 @@
 -- The document at the front of some bytes: a tree or a fault, one of them at most.
 use Rattle.std.proofs.Common.{◌≡◌, ℕ, ◌+◌, List, [], ◌∷◌, ◌++◌, length, Result, Ok, Err, sym, ap, subst, ◌∙◌, append_assoc, arith}
 use Rattle.bson_elem.specs.declared.fault.BsonFault.{BsonFault}
-use Rattle.bson_elem.specs.Tree.{Tree}
+use Rattle.bson_elem.specs.Trees.{Tree}
 use Rattle.bson_elem.specs.Spelling.{IsBytes, little, document, elements, Spells}
 use Rattle.bson_elem.specs.Checks.{document_at}
 use Rattle.bson_elem.specs.Faults.{FaultIn, FrontFault, of_length, of_elements}

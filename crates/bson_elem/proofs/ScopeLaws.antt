@@ -3,9 +3,9 @@ use Rattle.std.proofs.Common.{◌≡◌, ℕ, ◌+◌, ◌-◌, ◌≤◌, List,
 use Rattle.std.specs.Prelude.{IsOk}
 use Rattle.std.specs.Int.{w32, from_le_bytes}
 use Rattle.std.proofs.lemmas.Bool.{le-ltb, eq-eqb}
-use Rattle.bson_elem.specs.Tree.{Leaf, with_code}
-use Rattle.bson_elem.specs.declared.kind.Kind.{Kind}
-use Rattle.bson_elem.specs.declared.kind.Kind.TheVariants as kinds
+use Rattle.bson_elem.specs.Trees.{Leaf, with_code}
+use Rattle.bson_elem.specs.declared.kinds.Kind.{Kind}
+use Rattle.bson_elem.specs.declared.kinds.Kind.TheVariants as kinds
 use Rattle.bson_elem.specs.Kinds.{form_of}
 use Rattle.bson_elem.specs.Checks.{◌>>=◌, Read, a_leaf, length_at, text_at, document_at, scope_at, leaf_at, told_at, value_at, opens}
 use Rattle.bson_elem.specs.Items.{as_value}

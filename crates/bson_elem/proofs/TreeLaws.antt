@@ -3,10 +3,10 @@
 use Rattle.std.proofs.Common.{◌≡◌, ℕ, zero, suc, ◌+◌, ◌<◌, ◌≤◌, List, [], ◌∷◌, ◌++◌, length, Result, Ok, Err, refl, sym, ap, subst, ◌∙◌, append_assoc, arith, inl, inr, add-zero}
 use Rattle.std.proofs.lemmas.Bool.{cases_lt}
 use Rattle.std.proofs.lemmas.List.{length-append, append-nil, get_or-append-add, get_or_append_left, get_or_past}
-use Rattle.bson_elem.specs.declared.kind.Kind.{Kind}
+use Rattle.bson_elem.specs.declared.kinds.Kind.{Kind}
 use Rattle.bson_elem.specs.declared.fault.BsonFault.{BsonFault}
 use Rattle.bson_elem.specs.Kinds.{byte_of, form_of}
-use Rattle.bson_elem.specs.Tree.{Beside, no_code, with_code, Tree, no_pairs, leaf_pair, inner_pair}
+use Rattle.bson_elem.specs.Trees.{Beside, no_code, with_code, Tree, no_pairs, leaf_pair, inner_pair}
 use Rattle.bson_elem.specs.Spelling.{IsBytes, leaf_bytes, little, string, cstring, elements, document, inner_bytes, Fits}
 use Rattle.bson_elem.specs.Checks.{◌>>=◌, Value, a_leaf, opens, ElementRead, element_at}
 use Rattle.bson_elem.specs.Faults.{FaultIn, at_element, in_document}

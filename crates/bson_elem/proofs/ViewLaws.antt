@@ -3,10 +3,10 @@ use Rattle.std.proofs.Common.{◌≢◌, ◌≡◌, ℕ, ◌+◌, ◌-◌, ◌<�
 use Rattle.std.specs.Prelude.{slice_range}
 use Rattle.std.proofs.lemmas.Bool.{ne_eqb}
 use Rattle.std.proofs.lemmas.List.{append_cancel_right, drop_at, drop-take, drop-drop, length-append, length-take, length-drop}
-use Rattle.bson_elem.specs.declared.kind.Kind.{Kind}
-use Rattle.bson_elem.specs.declared.kind.Kind.TheVariants as kinds
-use Rattle.bson_elem.specs.declared.item.Item.{Item}
-use Rattle.bson_elem.specs.declared.item.Item.TheVariants as items
+use Rattle.bson_elem.specs.declared.kinds.Kind.{Kind}
+use Rattle.bson_elem.specs.declared.kinds.Kind.TheVariants as kinds
+use Rattle.bson_elem.specs.declared.items.Item.{Item}
+use Rattle.bson_elem.specs.declared.items.Item.TheVariants as items
 use Rattle.bson_elem.specs.Spelling.{IsBytes, document}
 use Rattle.bson_elem.specs.Documents.{elements_of, IsFramed}
 use Rattle.bson_elem.specs.Items.{item_kind, item_value, element_shown, LendsFramed}

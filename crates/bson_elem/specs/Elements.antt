@@ -1,7 +1,7 @@
 -- An element that was read, as a pair that has a spelling (bsonspec.org, version 1.1: `element`).
 use Rattle.std.specs.Prelude.{◌≡◌, ℕ, ◌+◌, ◌^◌, ◌<◌, List, ◌∷◌, ◌++◌, length}
 use Rattle.bson_elem.specs.Kinds.{byte_of, Form, form_of}
-use Rattle.bson_elem.specs.Tree.{Beside, no_code, with_code}
+use Rattle.bson_elem.specs.Trees.{Beside, no_code, with_code}
 use Rattle.bson_elem.specs.Spelling.{cstring, leaf_bytes, inner_bytes, IsName, IsOfForm, StandsIn}
 use Rattle.bson_elem.specs.Checks.{Value, a_leaf, opens, ElementRead}
 

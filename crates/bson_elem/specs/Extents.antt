@@ -1,7 +1,7 @@
 -- How far values reach: the sizes that are fixed, the bytes after a value, and the offset of the document in it.
 use Rattle.std.specs.Prelude.{ℕ, List, Option, Some, None, Result, Ok, Err}
-use Rattle.bson_elem.specs.declared.kind.Kind.{Kind}
-use Rattle.bson_elem.specs.declared.kind.Kind.TheVariants as kinds
+use Rattle.bson_elem.specs.declared.kinds.Kind.{Kind}
+use Rattle.bson_elem.specs.declared.kinds.Kind.TheVariants as kinds
 use Rattle.bson_elem.specs.declared.fault.BsonCause.{BsonCause}
 use Rattle.bson_elem.specs.declared.fault.BsonFault.{BsonFault}
 use Rattle.bson_elem.specs.Checks.{Read, Value, a_leaf, opens}

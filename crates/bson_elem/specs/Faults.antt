@@ -1,7 +1,7 @@
 -- The first fault of bytes that are no document.
 use Rattle.std.specs.Prelude.{◌≡◌, ℕ, ◌+◌, List, ◌∷◌, ◌++◌, length, Ok, Err}
 use Rattle.bson_elem.specs.declared.fault.BsonFault.{BsonFault}
-use Rattle.bson_elem.specs.Tree.{Beside, Tree}
+use Rattle.bson_elem.specs.Trees.{Beside, Tree}
 use Rattle.bson_elem.specs.Spelling.{elements, Fits}
 use Rattle.bson_elem.specs.Checks.{ElementRead, element_at, opens, document_at}
 

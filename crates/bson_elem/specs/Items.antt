@@ -1,13 +1,13 @@
 -- The values and elements that the items of the code stand for.
 use Rattle.std.specs.Prelude.{ℕ, ◌-◌, [], List, length, slice_range, Ok, Err}
-use Rattle.bson_elem.specs.declared.kind.Kind.{Kind}
-use Rattle.bson_elem.specs.declared.kind.Kind.TheVariants as kinds
-use Rattle.bson_elem.specs.declared.item.Item.{Item}
-use Rattle.bson_elem.specs.declared.item.Item.TheVariants as items
-use Rattle.bson_elem.specs.Tree.{Leaf, raw_value, boolean_value, number_value, timestamp_value, text_value, pointer_value, binary_value, regex_value, no_code, with_code}
+use Rattle.bson_elem.specs.declared.kinds.Kind.{Kind}
+use Rattle.bson_elem.specs.declared.kinds.Kind.TheVariants as kinds
+use Rattle.bson_elem.specs.declared.items.Item.{Item}
+use Rattle.bson_elem.specs.declared.items.Item.TheVariants as items
+use Rattle.bson_elem.specs.Trees.{Leaf, raw_value, boolean_value, number_value, timestamp_value, text_value, pointer_value, binary_value, regex_value, no_code, with_code}
 use Rattle.bson_elem.specs.Checks.{Read, Value, a_leaf, opens}
 use Rattle.bson_elem.specs.Checks as checks
-use Rattle.bson_elem.specs.declared.element.Element.{Element}
+use Rattle.bson_elem.specs.declared.elements.Element.{Element}
 use Rattle.bson_elem.specs.Documents.{elements_of, IsFramed}
 
 -- the kind of the item

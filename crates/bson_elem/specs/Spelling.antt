@@ -2,7 +2,7 @@
 use Rattle.std.specs.Prelude.{◌≡◌, ◌≢◌, ℕ, ◌+◌, ◌^◌, ◌<◌, FitsSigned, List, [], ◌∷◌, ◌++◌, length, IsUtf8, slice_index, ◌==◌, if◌then◌else◌}
 use Rattle.std.specs.Int.{w32, w64, to_le_bytes, cast_unsigned, from_bool}
 use Rattle.bson_elem.specs.Kinds.{byte_of, Form, raw_form, boolean_form, int32_form, int64_form, timestamp_form, string_form, pointer_form, binary_form, regex_form, document_form, scope_form, form_of}
-use Rattle.bson_elem.specs.Tree.{Leaf, raw_value, boolean_value, number_value, timestamp_value, text_value, pointer_value, binary_value, regex_value, Beside, no_code, with_code, Tree, no_pairs, leaf_pair, inner_pair}
+use Rattle.bson_elem.specs.Trees.{Leaf, raw_value, boolean_value, number_value, timestamp_value, text_value, pointer_value, binary_value, regex_value, Beside, no_code, with_code, Tree, no_pairs, leaf_pair, inner_pair}
 
 -- ---- the bytes
 

@@ -2,15 +2,15 @@
 //! `document`, `code_w_s`).
 
 ghost use Rattle.std.specs.Prelude.{◌≡◌, ◌+◌, ◌-◌, ◌≤◌, ◌<◌, ◌^◌, ◌++◌, length, max, IfOk, IfErr};
-ghost use Rattle.bson_elem.specs.Tree.{with_code};
+ghost use Rattle.bson_elem.specs.Trees.{with_code};
 ghost use Rattle.bson_elem.specs.Checks.{document_at, fault, opens, scope_at};
 ghost use Rattle.bson_elem.specs.Documents.{elements_of, IsFramed};
 ghost use Rattle.bson_elem.specs.Items.{item_kind, item_value, LendsFramed};
 ghost use Rattle.bson_elem.specs.Results.{Gives};
 
 use crate::fault::{BsonCause, BsonFault};
-use crate::item::Item;
-use crate::kind::Kind;
+use crate::items::Item;
+use crate::kinds::Kind;
 use crate::number::{MAX_LEN, little_u32, read_length};
 use crate::text::read_text;
 

@@ -9,7 +9,7 @@ ghost use Rattle.bson_elem.specs.Results.{Gives};
 
 use crate::container::{MAX_DEPTH, fault_at, read_document, split_scope};
 use crate::fault::{BsonCause, BsonFault};
-use crate::kind::Kind;
+use crate::kinds::Kind;
 use crate::leaf::{read_binary, read_boolean, read_pointer, read_regex};
 use crate::text::read_string;
 

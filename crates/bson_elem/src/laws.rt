@@ -3,7 +3,7 @@
 
 ghost use Rattle.std.specs.Prelude.{◌≡◌, ◌++◌, [], ℕ, List, Ok};
 ghost use Rattle.bson_elem.specs.declared.fault.BsonFault.{BsonFault};
-ghost use Rattle.bson_elem.specs.Tree.{Tree};
+ghost use Rattle.bson_elem.specs.Trees.{Tree};
 ghost use Rattle.bson_elem.specs.Spelling.{IsBytes, Spells};
 ghost use Rattle.bson_elem.specs.Checks.{ElementRead, element_at};
 ghost use Rattle.bson_elem.specs.Elements.{element_bytes, IsElement};

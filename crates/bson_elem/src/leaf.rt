@@ -3,13 +3,13 @@
 ghost use Rattle.std.specs.Prelude.{◌≡◌, ℕ, List, IfOk};
 ghost use Rattle.bson_elem.specs.Kinds.{form_of, boolean_form, binary_form, pointer_form, regex_form};
 ghost use Rattle.bson_elem.specs.Checks.{binary_of, leaf_at};
-ghost use Rattle.bson_elem.specs.Tree.{binary_value, boolean_value, pointer_value, regex_value};
+ghost use Rattle.bson_elem.specs.Trees.{binary_value, boolean_value, pointer_value, regex_value};
 ghost use Rattle.bson_elem.specs.Items.{item_kind, item_value, as_value};
 ghost use Rattle.bson_elem.specs.Results.{Gives};
 
 use crate::fault::BsonCause;
-use crate::item::Item;
-use crate::kind::Kind;
+use crate::items::Item;
+use crate::kinds::Kind;
 use crate::number::{little_u32, read_bytes, read_i32, read_i64, read_length, read_u32};
 use crate::text::{read_cstring, read_string};
 

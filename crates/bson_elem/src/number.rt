@@ -5,7 +5,7 @@ ghost use Rattle.std.specs.Prelude.{◌≡◌, ◌+◌, ◌≤◌, length, take,
 ghost use Rattle.std.specs.Int.{w32, w64, from_le_bytes};
 ghost use Rattle.bson_elem.specs.Checks.{bytes_at, leaf_at, length_at, little_at};
 ghost use Rattle.bson_elem.specs.Kinds.{int32_form, int64_form};
-ghost use Rattle.bson_elem.specs.Tree.{number_value};
+ghost use Rattle.bson_elem.specs.Trees.{number_value};
 ghost use Rattle.bson_elem.specs.Results.{Gives};
 
 use crate::fault::BsonCause;

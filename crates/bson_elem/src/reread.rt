@@ -7,9 +7,9 @@ ghost use Rattle.bson_elem.specs.Kinds.{form_of};
 ghost use Rattle.bson_elem.specs.Items.{element_shown, element_view, item_kind, item_value, LendsFramed};
 
 use crate::container::read_document;
-use crate::element::{Element, read_value};
-use crate::item::Item;
-use crate::kind::Kind;
+use crate::elements::{Element, read_value};
+use crate::items::Item;
+use crate::kinds::Kind;
 use crate::number::{read_bytes, read_length};
 use crate::text::{known_text, zero_of};
 

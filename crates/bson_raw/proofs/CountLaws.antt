@@ -1,6 +1,6 @@
 -- A count of elements is small.
 use Rattle.std.proofs.Common.{ℕ, ◌≤◌, List, length, arith, Fits, w64}
-use Rattle.bson_elem.specs.Tree.{Tree, no_pairs, leaf_pair, inner_pair}
+use Rattle.bson_elem.specs.Trees.{Tree, no_pairs, leaf_pair, inner_pair}
 use Rattle.bson_elem.specs.Spelling.{Spells}
 use Rattle.bson_raw.specs.Spelled.{IsSpelled}
 use Rattle.bson_raw.specs.Pairs.{names_of}

@@ -11,7 +11,7 @@ use Rattle.std.proofs.lemmas.Str.{IsUtf8-from_ascii}
 use Rattle.std.proofs.lemmas.Str.Parse.{digit_from_value}
 use Rattle.bson_elem.specs.Spelling.{cstring, HasNoZero, IsName}
 use Rattle.bson_elem.specs.Checks.{cstring_at}
-use Rattle.bson_elem.proofs.FieldLaws.{past_one, cstring_again}
+use Rattle.bson_elem.proofs.Lemmas.{cstring_again, past_one}
 use Rattle.bson_raw.proofs.Naming.{and_true}
 
 and_false : (a : Bool) → (a && false) ≡ false

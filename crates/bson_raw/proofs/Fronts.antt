@@ -4,15 +4,12 @@ use Rattle.std.specs.Prelude.{slice_range}
 use Rattle.std.proofs.lemmas.Grind.{not_there}
 use Rattle.std.proofs.lemmas.List.{append-nil, append_cancel_right, length-take, length-drop}
 use Rattle.bson_elem.specs.declared.fault.BsonFault.{BsonFault}
-use Rattle.bson_elem.specs.Tree.{Tree}
+use Rattle.bson_elem.specs.Trees.{Tree}
 use Rattle.bson_elem.specs.Spelling.{IsBytes, document, elements, Spells}
 use Rattle.bson_elem.specs.Checks.{document_at}
 use Rattle.bson_elem.specs.Documents.{elements_of}
 use Rattle.bson_elem.specs.Faults.{FaultIn, FrontFault}
-use Rattle.bson_elem.proofs.FieldLaws.{ok_is, IsBytes-take, IsBytes-drop}
-use Rattle.bson_elem.proofs.ContainerLaws.{length-document, document_takes}
-use Rattle.bson_elem.proofs.FrontLaws.{spelled_read, no_front}
-use Rattle.bson_elem.proofs.TreeLaws.{no_both, one_tree}
+use Rattle.bson_elem.proofs.Lemmas.{IsBytes-drop, IsBytes-take, document_takes, length-document, no_both, no_front, ok_is, one_tree, spelled_read}
 use Rattle.bson_raw.specs.Naming.{is_plain}
 use Rattle.bson_raw.specs.Checks.{IsTree}
 use Rattle.bson_raw.specs.Spelled.{IsSpelled, FrontIs, IsLengthOf, WholeFault, unlike, as_front}

@@ -1,10 +1,10 @@
 -- An item that was read from the elements of a tree lends a value of the tree.
 use Rattle.std.proofs.Common.{◌≡◌, ℕ, List, length, ap, ◌∙◌, arith}
 use mathlib.Core.Logic.{∥∥₁_map}
-use Rattle.bson_elem.specs.declared.kind.Kind.{Kind}
-use Rattle.bson_elem.specs.declared.item.Item.{Item}
-use Rattle.bson_elem.specs.declared.item.Item.TheVariants as items
-use Rattle.bson_elem.specs.Tree.{Leaf, Beside, Tree}
+use Rattle.bson_elem.specs.declared.kinds.Kind.{Kind}
+use Rattle.bson_elem.specs.declared.items.Item.{Item}
+use Rattle.bson_elem.specs.declared.items.Item.TheVariants as items
+use Rattle.bson_elem.specs.Trees.{Leaf, Beside, Tree}
 use Rattle.bson_elem.specs.Spelling.{elements, document, Spells}
 use Rattle.bson_elem.specs.Checks.{a_leaf, opens}
 use Rattle.bson_elem.specs.Documents.{elements_of, IsFramed}

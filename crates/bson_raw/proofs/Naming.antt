@@ -1,11 +1,10 @@
 -- The names of pairs that stand one after another.
 use Rattle.std.proofs.Common.{eqb, Some, ◌≡◌, ℕ, suc, ◌+◌, Bool, true, false, ◌&&◌, List, ◌∷◌, [], length, refl, sym, ap, ◌∙◌, arith, add-zero, zero-add}
-use Rattle.bson_elem.specs.declared.kind.Kind.{Kind}
-use Rattle.bson_elem.specs.declared.kind.Kind.TheVariants as kinds
+use Rattle.bson_elem.specs.declared.kinds.Kind.{Kind}
+use Rattle.bson_elem.specs.declared.kinds.Kind.TheVariants as kinds
 use Rattle.bson_elem.specs.Kinds.{byte_of, kind_of, all_kinds}
-use Rattle.bson_elem.proofs.ContainerLaws.{kind_is}
-use Rattle.bson_elem.specs.Tree.{Tree, no_pairs, leaf_pair, inner_pair}
-use Rattle.bson_elem.proofs.TreeLaws.{joined}
+use Rattle.bson_elem.proofs.Lemmas.{joined, kind_is}
+use Rattle.bson_elem.specs.Trees.{Tree, no_pairs, leaf_pair, inner_pair}
 use Rattle.bson_raw.specs.Naming.{is_array_kind, is_named, is_plain}
 use Rattle.bson_raw.specs.Pairs.{names_of}
 

@@ -2,7 +2,7 @@
 use Rattle.std.proofs.Common.{◌≡◌, ◌≢◌, ℕ, zero, suc, ◌-◌, true, false, cond, List, [], ◌∷◌, ◌++◌, length, take, Some, refl, ap, ◌∙◌, arith}
 use Rattle.std.specs.Str.{bytes_eq}
 use Rattle.std.proofs.lemmas.List.{take_at}
-use Rattle.bson_elem.specs.Tree.{Tree}
+use Rattle.bson_elem.specs.Trees.{Tree}
 use Rattle.bson_raw.specs.Pairs.{TreeValue, leaf_value, document_value, with_first, names_of, is_among, first_repeated}
 
 pub names_of-with_first : (name : List ℕ) (v : TreeValue) (ps : Tree) → names_of (with_first name v ps) ≡ name ∷ names_of ps

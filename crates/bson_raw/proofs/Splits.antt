@@ -2,12 +2,10 @@
 use Rattle.std.proofs.Common.{◌≡◌, ◌⊎◌, inl, inr, ℕ, ◌+◌, ◌≤◌, List, [], ◌∷◌, ◌++◌, length, refl, sym, ap, subst, ◌∙◌, append_assoc, arith, length-append}
 use Rattle.std.proofs.lemmas.List.{append-nil}
 use Rattle.bson_elem.specs.declared.fault.BsonFault.{BsonFault}
-use Rattle.bson_elem.specs.Tree.{Tree}
+use Rattle.bson_elem.specs.Trees.{Tree}
 use Rattle.bson_elem.specs.Spelling.{IsBytes, document, elements, Spells}
 use Rattle.bson_elem.specs.Faults.{FrontFault}
-use Rattle.bson_elem.proofs.ContainerLaws.{length-document}
-use Rattle.bson_elem.proofs.FrontLaws.{same_front, no_front}
-use Rattle.bson_elem.proofs.TreeLaws.{IsBytes-after}
+use Rattle.bson_elem.proofs.Lemmas.{IsBytes-after, length-document, no_front, same_front}
 use Rattle.bson_raw.specs.Split.{IsDocument, AreDocuments, documents_bytes, DocumentSplit}
 
 -- ---- documents joined

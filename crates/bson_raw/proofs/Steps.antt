@@ -4,19 +4,16 @@ use Rattle.std.specs.Prelude.{slice_range}
 use Rattle.std.proofs.lemmas.List.{length-append, append-nil, take_at, take-take, drop_at, length-take, length-drop}
 use Rattle.bson_elem.specs.declared.fault.BsonFault.{BsonFault}
 use Rattle.bson_elem.specs.Kinds.{kind_of, byte_of, form_of}
-use Rattle.bson_elem.specs.Tree.{Beside, no_code, with_code, Tree, no_pairs, leaf_pair, inner_pair}
+use Rattle.bson_elem.specs.Trees.{Beside, no_code, with_code, Tree, no_pairs, leaf_pair, inner_pair}
 use Rattle.bson_elem.specs.Spelling.{IsBytes, little, string, cstring, inner_bytes, elements}
 use Rattle.bson_elem.specs.Checks.{Read, fault, cstring_at, Value, a_leaf, opens, value_at, ElementRead, element_at}
 use Rattle.bson_elem.specs.Extents.{document_place, value_extent}
-use Rattle.bson_elem.specs.declared.kind.Kind.{Kind}
+use Rattle.bson_elem.specs.declared.kinds.Kind.{Kind}
 use Rattle.bson_elem.specs.declared.fault.BsonCause.{BsonCause}
 use Rattle.bson_elem.specs.declared.fault.BsonCause.TheVariants.{End}
 use Rattle.bson_elem.specs.declared.fault.BsonCause.TheVariants as causes
 use Rattle.bson_elem.specs.Faults.{Before, FaultIn, at_element, in_document}
-use Rattle.bson_elem.proofs.FieldLaws.{ok_is, cstring_takes, IsBytes-take, IsBytes-drop}
-use Rattle.bson_elem.proofs.ContainerLaws.{value_bytes, element_bytes, ValueFits, IsPlaced, place_of, element_takes}
-use Rattle.bson_elem.proofs.TreeLaws.{joined, elements-joined, Fits-joined}
-use Rattle.bson_elem.proofs.ViewLaws.{skipped, end_fault, kind_fault, name_fault, value_fault, part_after, rest_in}
+use Rattle.bson_elem.proofs.Lemmas.{Fits-joined, IsBytes-drop, IsBytes-take, IsPlaced, ValueFits, cstring_takes, element_bytes, element_takes, elements-joined, end_fault, joined, kind_fault, name_fault, ok_is, part_after, place_of, rest_in, skipped, value_bytes, value_fault}
 use Rattle.bson_raw.specs.Naming.{is_array_kind, is_named, is_plain, named_at}
 use Rattle.bson_raw.specs.Checks.{IsLeaf, Opens, IsTree, IsPair}
 use Rattle.bson_raw.proofs.Naming.{is_plain-leaf, is_plain-inner}

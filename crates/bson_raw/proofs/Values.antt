@@ -1,9 +1,9 @@
 -- A value that is lent, and the pairs that it stands in.
 use Rattle.std.proofs.Common.{◌≡◌, ℕ, ◌-◌, ◌<◌, ◌≤◌, List, ◌∷◌, ◌++◌, length, ap, arith, length-append}
 use Rattle.std.proofs.lemmas.Grind.{not_there}
-use Rattle.bson_elem.specs.declared.kind.Kind.{Kind}
+use Rattle.bson_elem.specs.declared.kinds.Kind.{Kind}
 use Rattle.bson_elem.specs.Kinds.{byte_of}
-use Rattle.bson_elem.specs.Tree.{Beside, Tree}
+use Rattle.bson_elem.specs.Trees.{Beside, Tree}
 use Rattle.bson_elem.specs.Spelling.{cstring, inner_bytes, document, elements, Spells}
 use Rattle.bson_raw.specs.declared.value.RawBson.{RawBson}
 use Rattle.bson_raw.specs.declared.value.RawBson.TheVariants as values

@@ -4,13 +4,12 @@ use Rattle.std.proofs.Math.Bool.{Bool-set}
 use Rattle.std.proofs.Math.Logic.{∥∥₁_elim}
 use Rattle.std.specs.Prelude.{slice_range, is_ok, IsOk}
 use Rattle.std.proofs.lemmas.List.{take_at}
-use Rattle.bson_elem.specs.declared.kind.Kind.{Kind}
+use Rattle.bson_elem.specs.declared.kinds.Kind.{Kind}
 use Rattle.bson_elem.specs.declared.fault.BsonFault.{BsonFault}
-use Rattle.bson_elem.specs.Tree.{Beside, no_code, with_code, Tree, no_pairs, leaf_pair, inner_pair}
+use Rattle.bson_elem.specs.Trees.{Beside, no_code, with_code, Tree, no_pairs, leaf_pair, inner_pair}
 use Rattle.bson_elem.specs.Spelling.{little, string, document, inner_bytes, elements, Fits, Spells}
 use Rattle.bson_elem.specs.Checks.{Value, a_leaf, opens, ElementRead, element_at}
-use Rattle.bson_elem.proofs.FieldLaws.{ok_is}
-use Rattle.bson_elem.proofs.ContainerLaws.{made, place_of, element_again, length-document}
+use Rattle.bson_elem.proofs.Lemmas.{element_again, length-document, made, ok_is, place_of}
 use Rattle.bson_raw.specs.Left.{LeftIs, HasLeft}
 use Rattle.bson_raw.specs.Pairs.{TreeValue, leaf_value, document_value, with_first}
 

@@ -1,8 +1,6 @@
 -- What the parts of the check tell.
 use Rattle.std.specs.Prelude.{◌≡◌, ℕ, Bool, ◌&&◌, List, ◌∷◌, [], ◌++◌, length}
-use Rattle.bson_elem.specs.Tree.{Leaf, Beside, Tree}
-use Rattle.bson_elem.specs.Spelling.{elements, Fits}
-use Rattle.bson_elem.specs.Checks.{Value, a_leaf, opens}
+use Rattle.bson_elem.specs.{Beside, Fits, Leaf, Tree, Value, a_leaf, elements, opens}
 use Rattle.bson_raw.specs.Naming.{is_plain}
 use Rattle.bson_raw.specs.Pairs.{names_of}
 

@@ -1,13 +1,10 @@
 -- What an item, read from the bytes of a checked document, holds of the tree.
 use Rattle.std.specs.Prelude.{◌≡◌}
-use Rattle.bson_elem.specs.declared.kind.Kind.{Kind}
-use Rattle.bson_elem.specs.declared.kind.Kind.TheVariants as kinds
-use Rattle.bson_elem.specs.declared.item.Item.{Item}
-use Rattle.bson_elem.specs.declared.item.Item.TheVariants as items
-use Rattle.bson_elem.specs.Tree.{Tree, no_code, with_code}
-use Rattle.bson_elem.specs.Spelling.{Spells}
-use Rattle.bson_elem.specs.Checks.{Value, a_leaf, opens}
-use Rattle.bson_elem.specs.Items.{item_kind, item_value}
+use Rattle.bson_elem.specs.declared.kinds.Kind.{Kind}
+use Rattle.bson_elem.specs.declared.kinds.Kind.TheVariants as kinds
+use Rattle.bson_elem.specs.declared.items.Item.{Item}
+use Rattle.bson_elem.specs.declared.items.Item.TheVariants as items
+use Rattle.bson_elem.specs.{Spells, Tree, Value, a_leaf, item_kind, item_value, no_code, opens, with_code}
 use Rattle.bson_raw.specs.Pairs.{TreeValue, leaf_value, document_value}
 use Rattle.bson_raw.specs.Spelled.{IsSpelled}
 

@@ -1,7 +1,6 @@
 -- The pairs that stand from an offset of a document's bytes on.
 use Rattle.std.specs.Prelude.{◌≡◌, ℕ, ◌+◌, ◌-◌, ◌^◌, ◌<◌, ◌≤◌, List, length, slice_range}
-use Rattle.bson_elem.specs.Tree.{Tree}
-use Rattle.bson_elem.specs.Spelling.{elements, Fits}
+use Rattle.bson_elem.specs.{Fits, Tree, elements}
 
 -- the pairs from this offset up to the last byte are those of the tree
 abbrev pub LeftIs : List ℕ → ℕ → Tree → Type 0

@@ -2,8 +2,8 @@
 use Rattle.std.specs.Prelude.{ℕ, zero, suc, List, [], ◌∷◌, ◌++◌, Option, Some, None, Bool, if◌then◌else◌}
 use Rattle.std.specs.List.{list_any}
 use Rattle.std.specs.Str.{bytes_eq}
-use Rattle.bson_elem.specs.declared.kind.Kind.{Kind}
-use Rattle.bson_elem.specs.Tree.{Leaf, Beside, Tree, no_pairs, leaf_pair, inner_pair}
+use Rattle.bson_elem.specs.declared.kinds.Kind.{Kind}
+use Rattle.bson_elem.specs.{Beside, Leaf, Tree, inner_pair, leaf_pair, no_pairs}
 
 -- the value of a pair: of a kind and a leaf, or of a kind, what stands beside, and the tree of the document held
 pub data TreeValue : Type 0 where

@@ -1,10 +1,9 @@
 -- What a borrowed value shows of the tree.
 use Rattle.std.specs.Prelude.{◌≡◌, ℕ, ℤ, [], List, length, Bool, Option, Some, None}
 use Rattle.std.specs.Borrow.{Bor}
-use Rattle.bson_elem.specs.declared.kind.Kind.{Kind}
-use Rattle.bson_elem.specs.declared.kind.Kind.TheVariants as kinds
-use Rattle.bson_elem.specs.Tree.{raw_value, boolean_value, number_value, timestamp_value, text_value, pointer_value, binary_value, regex_value, no_code, with_code, Tree}
-use Rattle.bson_elem.specs.Spelling.{Spells}
+use Rattle.bson_elem.specs.declared.kinds.Kind.{Kind}
+use Rattle.bson_elem.specs.declared.kinds.Kind.TheVariants as kinds
+use Rattle.bson_elem.specs.{Spells, Tree, binary_value, boolean_value, no_code, number_value, pointer_value, raw_value, regex_value, text_value, timestamp_value, with_code}
 use Rattle.bson_raw.specs.declared.document.RawDocument.{RawDocument}
 use Rattle.bson_raw.specs.declared.array.RawArray.{RawArray}
 use Rattle.bson_raw.specs.declared.value.RawBson.{RawBson}

@@ -1,8 +1,7 @@
 -- What the iterators over the pairs of a document and over the values of an array give.
 use Rattle.std.specs.Prelude.{◌≡◌, ℕ, ◌-◌, ◌<◌, List, length, Option, Some, None}
 use Rattle.std.specs.Borrow.{Bor}
-use Rattle.bson_elem.specs.Tree.{Tree, no_pairs}
-use Rattle.bson_elem.specs.Spelling.{Spells}
+use Rattle.bson_elem.specs.{Spells, Tree, no_pairs}
 use Rattle.bson_raw.specs.declared.document.RawDocument.{RawDocument}
 use Rattle.bson_raw.specs.declared.array.RawArray.{RawArray}
 use Rattle.bson_raw.specs.declared.iter.RawIter.{RawIter}

@@ -3,11 +3,7 @@ use Rattle.std.specs.Prelude.{◌≡◌, ◌≤◌, ℕ, List, ◌++◌, length,
 use Rattle.std.specs.Int.{w32, from_le_bytes}
 use Rattle.bson_elem.specs.declared.fault.BsonCause.TheVariants.{Length}
 use Rattle.bson_elem.specs.declared.fault.BsonFault.{BsonFault}
-use Rattle.bson_elem.specs.Faults.{FrontFault}
-use Rattle.bson_elem.specs.Checks.{document_at, fault}
-use Rattle.bson_elem.specs.Documents.{elements_of}
-use Rattle.bson_elem.specs.Tree.{Tree}
-use Rattle.bson_elem.specs.Spelling.{Spells}
+use Rattle.bson_elem.specs.{FrontFault, Spells, Tree, document_at, elements_of, fault}
 
 abbrev pub IsSpelled : List ℕ → Type 0
 IsSpelled bytes = (t : Tree) × Spells t bytes

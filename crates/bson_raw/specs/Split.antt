@@ -1,9 +1,7 @@
 -- Documents back to back.
 use Rattle.std.specs.Prelude.{◌≡◌, ◌⊎◌, ℕ, List, [], ◌∷◌, ◌++◌}
 use Rattle.bson_elem.specs.declared.fault.BsonFault.{BsonFault}
-use Rattle.bson_elem.specs.Tree.{Tree}
-use Rattle.bson_elem.specs.Spelling.{document, elements, Spells}
-use Rattle.bson_elem.specs.Faults.{FrontFault}
+use Rattle.bson_elem.specs.{FrontFault, Spells, Tree, document, elements}
 
 -- the tree is that of a document
 abbrev pub IsDocument : Tree → Type 0

@@ -1,6 +1,6 @@
 -- What stands in a document, at all depths.
 use Rattle.std.specs.Prelude.{ℕ, ◌+◌, length}
-use Rattle.bson_elem.specs.Tree.{Leaf, text_value, pointer_value, binary_value, regex_value, Beside, no_code, with_code, Tree, no_pairs, leaf_pair, inner_pair}
+use Rattle.bson_elem.specs.{Beside, Leaf, Tree, binary_value, inner_pair, leaf_pair, no_code, no_pairs, pointer_value, regex_value, text_value, with_code}
 use Rattle.bson_raw.specs.Pairs.{TreeValue, leaf_value, document_value}
 
 -- how many elements there are, with those of the documents, arrays and scopes inside

@@ -1,8 +1,7 @@
 //! An array that borrows its bytes.
 
 ghost use Rattle.std.specs.Prelude.{◌≡◌, length, MatchOption, None};
-ghost use Rattle.bson_elem.specs.Tree.{Tree};
-ghost use Rattle.bson_elem.specs.Spelling.{Spells};
+ghost use Rattle.bson_elem.specs.{Spells, Tree};
 ghost use Rattle.bson_raw.specs.Spelled.{IsSpelled};
 
 use crate::document::RawDocument;

@@ -1,14 +1,11 @@
 //! The check of a whole document.
 
 ghost use Rattle.std.specs.Prelude.{◌≡◌, ◌+◌, ◌-◌, ◌<◌, ◌≤◌, ◌^◌, length, slice_range, max, IfErr, MatchResult, false, true};
-ghost use Rattle.bson_elem.specs.Faults.{FaultIn};
+ghost use Rattle.bson_elem.specs.{FaultIn};
 ghost use Rattle.bson_raw.specs.Checks.{IsTree, IsPair};
 
 use crate::name::skip_name;
-use bson_elem::container::fault_at;
-use bson_elem::extent::skip_value;
-use bson_elem::fault::{BsonCause, BsonFault};
-use bson_elem::kind::Kind;
+use bson_elem::{BsonCause, BsonFault, Kind, fault_at, skip_value};
 
 /// Checks the pair at `offset`, and everything inside it. Returns the offset after it, and whether every name so far is
 /// canonical, where `canonical` says so of the `index` pairs before it.

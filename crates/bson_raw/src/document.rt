@@ -2,18 +2,14 @@
 
 ghost use Rattle.std.specs.Prelude.{◌≡◌, ◌≤◌, ◌<◌, ◌^◌, List, ℕ, ◌++◌, IfOk, IfErr, IsOkAnd, IsErrOf, length, MatchResult, MatchOption, IsTrue, IsOk, ◌↔◌, Some, None, [], take, false};
 ghost use Rattle.bson_elem.specs.declared.fault.BsonFault.{BsonFault};
-ghost use Rattle.bson_elem.specs.Tree.{Tree};
-ghost use Rattle.bson_elem.specs.Spelling.{Spells};
-ghost use Rattle.bson_elem.specs.Faults.{FrontFault};
+ghost use Rattle.bson_elem.specs.{FrontFault, Spells, Tree};
 ghost use Rattle.bson_raw.specs.Naming.{is_plain};
 ghost use Rattle.bson_raw.specs.Spelled.{IsSpelled, FrontIs, IsLengthOf, WholeFault};
 
 use crate::check::check;
 use crate::iter::RawIter;
 use crate::value::RawBson;
-use bson_elem::container::read_document;
-use bson_elem::fault::{BsonCause, BsonFault};
-use bson_elem::number::little_u32;
+use bson_elem::{BsonCause, BsonFault, little_u32, read_document};
 use std::convert::AsSlice;
 
 /// Checks the document at the front. Returns its bytes, whether its names are canonical, and what follows it.

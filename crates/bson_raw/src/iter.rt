@@ -2,15 +2,14 @@
 
 ghost use Rattle.std.specs.Prelude.{◌≡◌, length};
 ghost use Rattle.std.specs.Iterator.{at_most};
-ghost use Rattle.bson_elem.specs.Tree.{Tree};
-ghost use Rattle.bson_elem.specs.Spelling.{Spells};
+ghost use Rattle.bson_elem.specs.{Spells, Tree};
 ghost use Rattle.bson_raw.specs.Spelled.{IsSpelled};
 ghost use Rattle.bson_raw.specs.Left.{HasLeft};
 
 use crate::array::RawArray;
 use crate::document::RawDocument;
 use crate::value::RawBson;
-use bson_elem::reread::reread_element;
+use bson_elem::reread_element;
 
 /// An iterator over the pairs of a document. After its end it stays at the end.
 #[derive(Debug, Drop)]

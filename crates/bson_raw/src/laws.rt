@@ -1,8 +1,7 @@
 //! Laws of documents back to back. The contract of each function is the law.
 
 ghost use Rattle.std.specs.Prelude.{◌≡◌, ℕ, List};
-ghost use Rattle.bson_elem.specs.Tree.{Tree};
-ghost use Rattle.bson_elem.specs.Spelling.{IsBytes};
+ghost use Rattle.bson_elem.specs.{IsBytes, Tree};
 ghost use Rattle.bson_raw.specs.Split.{DocumentSplit};
 
 use crate::document::RawDocument;

@@ -9,11 +9,17 @@
 //! rest in just one way.
 #![tactic(auto)]
 
-pub mod array;
+mod array;
 mod check;
-pub mod document;
-pub mod iter;
+mod document;
+mod iter;
 pub mod laws;
 mod name;
-pub mod totals;
-pub mod value;
+mod totals;
+mod value;
+
+pub use array::RawArray;
+pub use document::{Front, RawDocument};
+pub use iter::{RawArrayIter, RawIter};
+pub use totals::DocumentTotals;
+pub use value::RawBson;

@@ -3,12 +3,10 @@
 ghost use Rattle.std.specs.Prelude.{◌≡◌, ◌≤◌, ◌<◌, length, IfOk, IfSome, Ok, true};
 ghost use Rattle.std.specs.Fmt.{decimal};
 ghost use Rattle.std.specs.Str.{bytes_eq};
-ghost use Rattle.bson_elem.specs.Checks.{cstring_at};
-ghost use Rattle.bson_elem.specs.Results.{Gives};
+ghost use Rattle.bson_elem.specs.{Gives, cstring_at};
 ghost use Rattle.bson_raw.specs.Naming.{named_at};
 
-use bson_elem::fault::BsonCause;
-use bson_elem::text::read_cstring;
+use bson_elem::{BsonCause, read_cstring};
 
 /// Returns true if the name is the digit of `index`, which is below 10.
 #[tactic(auto, using(crate::proofs::DigitLaws::digit_name))]

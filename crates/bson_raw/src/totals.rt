@@ -1,8 +1,7 @@
 //! The totals of a document: how much stands in it, at all depths.
 
 ghost use Rattle.std.specs.Prelude.{◌≡◌, ◌+◌, ◌≤◌, length};
-ghost use Rattle.bson_elem.specs.Tree.{Tree};
-ghost use Rattle.bson_elem.specs.Spelling.{Spells};
+ghost use Rattle.bson_elem.specs.{Spells, Tree};
 ghost use Rattle.bson_raw.specs.Pairs.{TreeValue};
 ghost use Rattle.bson_raw.specs.RawBson.{Shows};
 ghost use Rattle.bson_raw.specs.RawDocument.{document_bytes};

@@ -4,8 +4,7 @@ ghost use Rattle.std.specs.Prelude.{◌≡◌};
 
 use crate::array::RawArray;
 use crate::document::RawDocument;
-use bson_elem::item::Item;
-use bson_elem::kind::Kind;
+use bson_elem::{Item, Kind};
 
 /// A borrowed value, with one variant for each kind. Its texts, bytes, documents and arrays borrow the document's bytes.
 #[derive(Clone, Copy, Debug, PartialEq, Eq)]
@@ -74,10 +73,7 @@ impl<'a> RawBson<'a> {
             Item::DateTime(millis) => RawBson::DateTime(millis),
             Item::Null => RawBson::Null,
             Item::Regex { pattern, options } => RawBson::Regex { pattern, options },
-            Item::DbPointer { namespace, id } => RawBson::DbPointer {
-                text: namespace,
-                id,
-            },
+            Item::DbPointer { namespace, id } => RawBson::DbPointer { namespace, id },
             Item::Code(text) => RawBson::Code(text),
             Item::Symbol(text) => RawBson::Symbol(text),
             Item::CodeWithScope { code, scope } => RawBson::CodeWithScope {

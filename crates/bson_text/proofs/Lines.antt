@@ -1,6 +1,6 @@
 -- The lines of a tree's pairs, one pair after another.
 use Rattle.std.proofs.Common.{◌≡◌, ◌++◌, ◌+◌, ℕ, List, Some, None, refl, sym, ap, ◌∙◌, append_assoc}
-use Rattle.bson_elem.specs.Tree.{Tree}
+use Rattle.bson_elem.specs.Trees.{Tree}
 use Rattle.bson_raw.specs.Pairs.{TreeValue, leaf_value, document_value, with_first}
 use Rattle.bson_text.specs.Dump.{element_line, element_lines}
 use Rattle.bson_text.specs.DumpValues.{value_text, held_tree}

@@ -1,10 +1,9 @@
 -- The text of a document.
 use Rattle.std.specs.Prelude.{ℕ, ◌+◌, List, [], ◌++◌, length, codes}
 use Rattle.std.specs.Fmt.{decimal}
-use Rattle.bson_elem.specs.declared.kind.Kind.{Kind}
-use Rattle.bson_elem.specs.declared.kind.Kind.TheVariants.{Double, String, Document, Array, Binary, Undefined, ObjectId, Boolean, DateTime, Null, Regex, DbPointer, Code, Symbol, CodeWithScope, Int32, Timestamp, Int64, Decimal128, MinKey, MaxKey}
-use Rattle.bson_elem.specs.Tree.{Leaf, raw_value, boolean_value, number_value, timestamp_value, text_value, pointer_value, binary_value, regex_value, Beside, no_code, with_code, Tree, no_pairs, leaf_pair, inner_pair}
-use Rattle.bson_elem.specs.Spelling.{document, elements}
+use Rattle.bson_elem.specs.declared.kinds.Kind.{Kind}
+use Rattle.bson_elem.specs.declared.kinds.Kind.TheVariants.{Double, String, Document, Array, Binary, Undefined, ObjectId, Boolean, DateTime, Null, Regex, DbPointer, Code, Symbol, CodeWithScope, Int32, Timestamp, Int64, Decimal128, MinKey, MaxKey}
+use Rattle.bson_elem.specs.{Beside, Leaf, Tree, binary_value, boolean_value, document, elements, inner_pair, leaf_pair, no_code, no_pairs, number_value, pointer_value, raw_value, regex_value, text_value, timestamp_value, with_code}
 use Rattle.bson_text.specs.Text.{indent, quoted}
 use Rattle.bson_text.specs.ValueText.{double_text, string_text, inner_document_text, array_text, binary_text, objectid_text, boolean_text, datetime_text, regex_text, dbpointer_text, code_text, symbol_text, codescope_text, int32_text, timestamp_text, int64_text, decimal128_text}
 

@@ -1,8 +1,7 @@
 -- The text of one value of a tree, and the elements that it holds.
 use Rattle.std.specs.Prelude.{◌≡◌, ℕ, ◌+◌, List, ◌++◌, Option, Some, None}
-use Rattle.bson_elem.specs.Tree.{Tree}
-use Rattle.bson_elem.specs.Spelling.{Spells}
-use Rattle.bson_raw.specs.Pairs.{TreeValue, leaf_value, document_value}
+use Rattle.bson_elem.specs.{Spells, Tree}
+use Rattle.bson_raw.specs.{TreeValue, document_value, leaf_value}
 use Rattle.bson_text.specs.Dump.{leaf_text, inner_text, document_size, element_lines}
 
 -- the value, as its line has it behind the name

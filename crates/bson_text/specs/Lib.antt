@@ -3,3 +3,6 @@ pub mod ValueText
 pub mod Dump
 pub mod DumpValues
 pub mod TextWriter
+-- the words that clauses of other crates cite
+pub use Rattle.bson_text.specs.Dump.{document_size, document_text, element_lines}
+pub use Rattle.bson_text.specs.Text.{quoted}

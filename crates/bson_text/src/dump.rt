@@ -3,12 +3,8 @@
 
 ghost use Rattle.std.specs.Prelude.{◌≡◌, ◌+◌, ◌<◌, ◌≤◌, ◌^◌, IfOk, IfSome, MatchOption, None, OnOk, length};
 ghost use Rattle.std.specs.Io.KnownBytes.{Appends};
-ghost use Rattle.bson_elem.specs.Tree.{Tree};
-ghost use Rattle.bson_elem.specs.Spelling.{Spells};
-ghost use Rattle.bson_raw.specs.Pairs.{TreeValue};
-ghost use Rattle.bson_raw.specs.RawBson.{Shows, held_len};
-ghost use Rattle.bson_raw.specs.RawDocument.{document_bytes};
-ghost use Rattle.bson_raw.specs.RawIter.{PairsLeft, pairs_bound, walked_len};
+ghost use Rattle.bson_elem.specs.{Spells, Tree};
+ghost use Rattle.bson_raw.specs.{PairsLeft, Shows, TreeValue, document_bytes, held_len, pairs_bound, walked_len};
 ghost use Rattle.bson_text.specs.Dump.{document_text, element_line, element_lines};
 ghost use Rattle.bson_text.specs.TextWriter.{text_contents};
 ghost use Rattle.bson_text.specs.DumpValues.{IsHeld, StopsAt, held_tree, value_text};
@@ -20,9 +16,7 @@ use crate::value_text::{
     write_dbpointer, write_decimal128, write_double, write_inner_document, write_int32,
     write_int64, write_objectid, write_regex, write_string, write_symbol, write_timestamp,
 };
-use bson_raw::document::RawDocument;
-use bson_raw::iter::RawIter;
-use bson_raw::value::RawBson;
+use bson_raw::{RawBson, RawDocument, RawIter};
 use core::mem::replace_with;
 use std::io;
 use std::io::Write;

@@ -5,8 +5,11 @@
 //! other texts share with it: numbers, quoted text and hexadecimal digits. No function of this crate takes memory.
 #![tactic(auto)]
 
-pub mod dump;
+mod dump;
 mod text;
 mod text_writer;
-pub mod to_writer;
+mod to_writer;
 mod value_text;
+
+pub use dump::{dump_elements, dump_to};
+pub use to_writer::{hex_to, number_to, quoted_to};

@@ -6,11 +6,7 @@ use Rattle.bsonwire.specs.declared.choice.Choice.{Choice}
 use Rattle.bsonwire.specs.declared.choice.Command.{Command}
 use Rattle.bsonwire.specs.declared.choice.Command.TheVariants.{Dump, Check, Canon, Msg}
 use Rattle.bsonwire.specs.CommandLine.{command_line}
-use Rattle.engines.specs.Output.{IsOutput}
-use Rattle.engines.specs.Dump.{DumpText}
-use Rattle.engines.specs.Check.{CheckText}
-use Rattle.engines.specs.Canon.{CanonText}
-use Rattle.engines.specs.Msg.{MsgText}
+use Rattle.engines.specs.{CanonText, CheckText, DumpText, IsOutput, MsgText}
 
 -- the subcommand that stands for a command
 abbrev pub command_name : Command → Text

@@ -7,15 +7,10 @@ ghost use Rattle.core.specs.Char.{is_control};
 ghost use Rattle.std.specs.IoError.{error_kind, raw_os_error};
 ghost use Rattle.bsonwire.specs.Choices.{ChosenText, wants_memory};
 ghost use Rattle.bsonwire.specs.ExitStatus.{exit_status, tells_done, tells_fault};
-ghost use Rattle.engines.specs.Output.{AppendsText};
-ghost use Rattle.engines.specs.Run.{end_of_error, is_done, is_fault};
+ghost use Rattle.engines.specs.{AppendsText, end_of_error, is_done, is_fault};
 
 use crate::choice::{Choice, Command};
-use engines::canon::run_canon;
-use engines::check::run_check;
-use engines::dump::run_dump;
-use engines::msg::run_msg;
-use engines::run::{RunEnd, end_of};
+use engines::{RunEnd, end_of, run_canon, run_check, run_dump, run_msg};
 use std::alloc::Global;
 use std::fs::OpenFile;
 use std::io::{ErrorKind, Read, Write};

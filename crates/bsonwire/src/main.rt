@@ -17,13 +17,13 @@ mod tests;
 ghost use Rattle.std.specs.Prelude.{◌≡◌, Bool};
 ghost use Rattle.std.specs.IoError.{error_kind, raw_os_error};
 ghost use Rattle.clap.specs.Words.{kind_of};
-ghost use Rattle.engines.specs.Run.{end_of_error};
+ghost use Rattle.engines.specs.{end_of_error};
 ghost use Rattle.bsonwire.specs.ExitStatus.{unread_status, words_status};
 
 use choice::choose;
 use clap::error::ErrorKind;
 use commands::status_of;
-use engines::run::{RunEnd, end_of};
+use engines::{RunEnd, end_of};
 use std::process::ExitCode;
 use std::{env, io};
 

@@ -4,9 +4,8 @@ use Rattle.std.specs.Prelude.{flat_map}
 use Rattle.bson_elem.specs.Spelling.{IsBytes}
 use Rattle.bson_elem.proofs.Lemmas.{IsBytes-after}
 use Rattle.wire_msg.specs.declared.fault.MsgFault.{MsgFault}
-use Rattle.wire_msg.specs.Message.{Message}
-use Rattle.wire_msg.proofs.Lemmas.{one_split}
-use Rattle.wire_msg.proofs.Lemmas.{open_not_bad, bad_once}
+use Rattle.wire_msg.specs.Messages.{Message}
+use Rattle.wire_msg.proofs.Lemmas.{bad_once, one_split, open_not_bad}
 use Rattle.engines.specs.Documents.{or_nothing, is_there}
 use Rattle.engines.specs.InputFault.{msg_line}
 use Rattle.engines.specs.Msg.{message_text, messages_len, IsLastMsg, MessagesAre, MsgText}

@@ -7,12 +7,11 @@ use Rattle.std.proofs.KnownBytes.{Appends-trans}
 use Rattle.bson_elem.specs.Spelling.{IsBytes}
 use Rattle.bson_elem.proofs.Lemmas.{IsBytes-after}
 use Rattle.wire_msg.specs.declared.fault.MsgFault.{MsgFault}
-use Rattle.wire_msg.specs.Message.{Message}
+use Rattle.wire_msg.specs.Messages.{Message}
 use Rattle.wire_msg.specs.Spelling.{SpellsMsg}
-use Rattle.wire_msg.specs.Split.{AreSpelled, Split}
+use Rattle.wire_msg.specs.Splits.{AreSpelled, Split}
 use Rattle.wire_msg.specs.Standing.{IsOpen, IsBad}
-use Rattle.wire_msg.proofs.Lemmas.{length-spelled}
-use Rattle.wire_msg.proofs.Lemmas.{spelled-append, spelled_alone, open_ends, bad_ends}
+use Rattle.wire_msg.proofs.Lemmas.{bad_ends, length-spelled, open_ends, spelled-append, spelled_alone}
 use Rattle.engines.specs.Documents.{or_nothing, is_there}
 use Rattle.engines.specs.InputFault.{ended_inside_line, msg_line}
 use Rattle.engines.specs.Msg.{message_text, messages_len, IsLastMsg, MessagesAre, MsgText}

@@ -3,11 +3,11 @@ use Rattle.std.proofs.Common.{◌≡◌, ◌+◌, ◌-◌, ◌<◌, ◌++◌, []
 use Rattle.std.specs.Io.KnownBytes.{Appends, Keeps}
 use Rattle.std.proofs.KnownBytes.{Appends-trans}
 use Rattle.bson_elem.specs.declared.fault.BsonFault.{BsonFault}
-use Rattle.bson_elem.specs.Tree.{Tree}
+use Rattle.bson_elem.specs.Trees.{Tree}
 use Rattle.bson_elem.specs.Spelling.{document, elements, Spells}
 use Rattle.bson_elem.specs.Faults.{FrontFault}
 use Rattle.bson_raw.specs.Split.{DocumentSplit, documents_bytes}
-use Rattle.bson_raw.proofs.Lemmas.{Walked, one_more, walked_all, walked_to_fault, documents_bytes-append, AreDocuments-append}
+use Rattle.bson_raw.proofs.Lemmas.{AreDocuments-append, Walked, documents_bytes-append, one_more, walked_all, walked_to_fault}
 use Rattle.engines.specs.InputFault.{bson_line, too_large_line}
 use Rattle.engines.specs.Documents.{TextsAre, IsLast, texts_of, any_text, first_without, and_then, or_here, IsWritten, IsWhole, is_there, or_nothing}
 use Rattle.engines.specs.Output.{AppendsText}

@@ -1,9 +1,9 @@
 -- Bytes have one text at most.
 use Rattle.std.proofs.Common.{◌≡◌, ◌++◌, [], ◌∷◌, ℕ, List, Bool, Option, None, Some, length, sym, ap, subst, ◌∙◌}
 use Rattle.bson_elem.specs.declared.fault.BsonFault.{BsonFault}
-use Rattle.bson_elem.specs.Tree.{Tree}
+use Rattle.bson_elem.specs.Trees.{Tree}
 use Rattle.bson_elem.specs.Spelling.{IsBytes}
-use Rattle.bson_elem.proofs.Lemmas.{one_front, IsBytes-after}
+use Rattle.bson_elem.proofs.Lemmas.{IsBytes-after, one_front}
 use Rattle.bson_raw.specs.Split.{documents_bytes}
 use Rattle.bson_raw.proofs.Lemmas.{same_split}
 use Rattle.engines.specs.InputFault.{bson_line}

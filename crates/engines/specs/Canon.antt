@@ -1,9 +1,8 @@
 -- What `canon` writes.
 use Rattle.std.specs.Prelude.{ℕ, nat_lt, List, [], ◌++◌, codes, Bool, true, false, Option, Some, None, if◌then◌else◌}
 use Rattle.hex.specs.Hex.{encode_lower}
-use Rattle.bson_elem.specs.Tree.{Tree}
-use Rattle.bson_elem.specs.Spelling.{document, elements}
-use Rattle.bson_doc.specs.Plain.{plain, canonical_len}
+use Rattle.bson_elem.specs.{Tree, document, elements}
+use Rattle.bson_doc.specs.{canonical_len, plain}
 use Rattle.engines.specs.Documents.{IsWhole, plainly}
 
 -- bytes as they are, or as hexadecimal text

@@ -1,10 +1,10 @@
 -- What `check` writes.
 use Rattle.std.specs.Prelude.{ℕ, List, ◌++◌, codes, Bool, false, Option, Some, if◌then◌else◌}
 use Rattle.std.specs.Fmt.{decimal}
-use Rattle.bson_elem.specs.Tree.{Tree}
-use Rattle.bson_raw.specs.Naming.{is_plain}
-use Rattle.bson_text.specs.Dump.{document_size}
-use Rattle.bsonwire.specs.Documents.{IsWhole, plainly}
+use Rattle.bson_elem.specs.{Tree}
+use Rattle.bson_raw.specs.{is_plain}
+use Rattle.bson_text.specs.{document_size}
+use Rattle.engines.specs.Documents.{IsWhole, plainly}
 
 -- the end of a document's line, by whether it is in canonical form
 abbrev pub form_word : Bool → List ℕ

@@ -2,10 +2,8 @@
 use Rattle.std.specs.Prelude.{◌≡◌, ℕ, ◌+◌, List, [], ◌∷◌, ◌++◌, length, Bool, true, false, Option, None, Some, is_some}
 use Rattle.std.specs.Io.KnownBytes.{Appends, Keeps}
 use Rattle.bson_elem.specs.declared.fault.BsonFault.{BsonFault}
-use Rattle.bson_elem.specs.Tree.{Tree}
-use Rattle.bson_elem.specs.Spelling.{document, elements}
-use Rattle.bson_elem.specs.Faults.{FrontFault}
-use Rattle.bson_raw.specs.Split.{DocumentSplit, documents_bytes}
+use Rattle.bson_elem.specs.{FrontFault, Tree, document, elements}
+use Rattle.bson_raw.specs.{DocumentSplit, documents_bytes}
 use Rattle.engines.specs.InputFault.{bson_line, too_large_line}
 
 -- ---- the documents of the input, where a document may have no text

@@ -1,8 +1,8 @@
 -- The text that `dump` writes for documents back to back.
 use Rattle.std.specs.Prelude.{ℕ, List, Bool, Option, Some}
-use Rattle.bson_elem.specs.Tree.{Tree}
-use Rattle.bson_text.specs.Dump.{document_text}
-use Rattle.bsonwire.specs.Documents.{IsWhole, plainly}
+use Rattle.bson_elem.specs.{Tree}
+use Rattle.bson_text.specs.{document_text}
+use Rattle.engines.specs.Documents.{IsWhole, plainly}
 
 -- what `dump` writes for a document
 abbrev pub dump_of : Tree → Option (List ℕ)

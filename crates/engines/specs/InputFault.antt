@@ -1,9 +1,9 @@
 -- The faults of an input, and their lines.
 use Rattle.std.specs.Prelude.{ℕ, ◌+◌, List, ◌++◌, codes, Option, None, Some}
 use Rattle.bson_elem.specs.declared.fault.BsonFault.{BsonFault}
-use Rattle.bson_elem.specs.FaultText.{bson_fault_text}
+use Rattle.bson_elem.specs.{bson_fault_text}
 use Rattle.wire_msg.specs.declared.fault.MsgCause.{MsgCause}
-use Rattle.wire_msg.specs.FaultText.{fault_text}
+use Rattle.wire_msg.specs.{fault_text}
 use Rattle.engines.specs.FaultLine.{fault_line}
 use Rattle.engines.specs.declared.input_fault.InputFault.{InputFault}
 use Rattle.engines.specs.declared.input_fault.InputFault.TheVariants.{Hex, Bson, TooLarge, Msg, EndedInside}

@@ -1,14 +1,10 @@
 -- What `msg` writes.
 use Rattle.std.specs.Prelude.{◌≡◌, ◌⊎◌, ℕ, ◌+◌, List, [], ◌∷◌, ◌++◌, length, codes, flat_map, Bool, true, false, Option, None, Some}
 use Rattle.std.specs.Fmt.{decimal, signed_decimal}
-use Rattle.bson_elem.specs.Tree.{Tree}
-use Rattle.bson_text.specs.Dump.{document_size, element_lines}
-use Rattle.bson_text.specs.Text.{quoted}
+use Rattle.bson_elem.specs.{Tree}
+use Rattle.bson_text.specs.{document_size, element_lines, quoted}
 use Rattle.wire_msg.specs.declared.fault.MsgFault.{MsgFault}
-use Rattle.wire_msg.specs.Message.{Sequence, Message}
-use Rattle.wire_msg.specs.Spelling.{message_len}
-use Rattle.wire_msg.specs.Split.{Split}
-use Rattle.wire_msg.specs.Standing.{IsOpen, IsBad}
+use Rattle.wire_msg.specs.{IsBad, IsOpen, Message, Sequence, Split, message_len}
 use Rattle.engines.specs.Documents.{or_nothing, is_there}
 use Rattle.engines.specs.InputFault.{msg_line, ended_inside_line}
 

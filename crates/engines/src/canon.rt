@@ -9,11 +9,10 @@ ghost use Rattle.engines.specs.Run.{is_done, is_fault};
 
 use crate::documents::{EachDocument, write_documents, write_each, write_last};
 use crate::run::{Engine, RunEnd, run};
-use bson_doc::buf::MAX_LEN;
-use bson_doc::canon::renumbered;
-use bson_doc::refusal::DocRefusal;
-use bson_text::to_writer::hex_to;
-use bson_raw::document::RawDocument;
+use bson_doc::{DocRefusal, renumbered};
+use bson_elem::MAX_LEN;
+use bson_raw::RawDocument;
+use bson_text::hex_to;
 use std::alloc::Global;
 use std::io::{Read, Write};
 

@@ -2,10 +2,8 @@
 
 ghost use Rattle.std.specs.Prelude.{◌≡◌, ℕ, Bool, List, Option, IfErr, IfOk, false, true};
 ghost use Rattle.std.specs.Io.KnownBytes.{Appends};
-ghost use Rattle.bson_elem.specs.Tree.{Tree};
-ghost use Rattle.bson_elem.specs.Spelling.{Spells};
-ghost use Rattle.bson_raw.specs.Naming.{is_plain};
-ghost use Rattle.bson_raw.specs.RawDocument.{document_bytes};
+ghost use Rattle.bson_elem.specs.{Spells, Tree};
+ghost use Rattle.bson_raw.specs.{document_bytes, is_plain};
 ghost use Rattle.engines.specs.Documents.{IsWhole, IsWritten, TextsAre, is_there, or_nothing, plainly};
 ghost use Rattle.engines.specs.InputFault.{line_of};
 ghost use Rattle.engines.specs.Output.{AppendsText};
@@ -13,8 +11,8 @@ ghost use Rattle.engines.specs.Run.{is_done};
 
 use crate::input_fault::InputFault;
 use crate::run::RunEnd;
-use bson_elem::fault::BsonFault;
-use bson_raw::document::RawDocument;
+use bson_elem::BsonFault;
+use bson_raw::RawDocument;
 use bson_raw::laws::documents_split;
 use std::io::Write;
 

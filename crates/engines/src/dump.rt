@@ -8,8 +8,8 @@ ghost use Rattle.engines.specs.Run.{is_done, is_fault};
 
 use crate::documents::{EachDocument, write_documents};
 use crate::run::{Engine, RunEnd, run};
-use bson_text::dump::dump_to;
-use bson_raw::document::RawDocument;
+use bson_raw::RawDocument;
+use bson_text::dump_to;
 use std::alloc::Global;
 use std::io::{Read, Write};
 

@@ -2,14 +2,14 @@
 
 ghost use Rattle.std.specs.Prelude.{◌++◌, OnOk, codes};
 ghost use Rattle.std.specs.Io.KnownBytes.{Appends};
-ghost use Rattle.bson_elem.specs.FaultText.{bson_fault_text};
+ghost use Rattle.bson_elem.specs.{bson_fault_text};
 ghost use Rattle.engines.specs.FaultLine.{fault_line};
 ghost use Rattle.engines.specs.InputFault.{msg_line};
 
-use bson_elem::fault::BsonFault;
+use bson_elem::BsonFault;
 use std::io;
 use std::io::Write;
-use wire_msg::fault::MsgFault;
+use wire_msg::MsgFault;
 
 /// Writes the line of the fault with this number and name, at offset `place` of the input.
 pub fn write_fault<W: Write>(number: u8, name: &str, place: usize, out: &mut W) -> io::Result<()>

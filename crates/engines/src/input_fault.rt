@@ -5,10 +5,10 @@ ghost use Rattle.std.specs.Io.KnownBytes.{Appends};
 ghost use Rattle.engines.specs.InputFault.{input_fault_line};
 
 use crate::fault_line::{write_bson_fault, write_fault, write_msg_fault};
-use bson_elem::fault::BsonFault;
+use bson_elem::BsonFault;
 use std::io;
 use std::io::Write;
-use wire_msg::fault::MsgFault;
+use wire_msg::MsgFault;
 
 /// A fault of an input. A `place` is an offset from the input's first byte.
 #[derive(Clone, Copy, Debug, PartialEq, Eq)]

@@ -1,8 +1,7 @@
 //! The laws that make the texts of commands exact. The contract of each function is the law; the function does nothing.
 
 ghost use Rattle.std.specs.Prelude.{◌≡◌, Bool, List, Option, ℕ};
-ghost use Rattle.bson_elem.specs.Tree.{Tree};
-ghost use Rattle.bson_elem.specs.Spelling.{IsBytes};
+ghost use Rattle.bson_elem.specs.{IsBytes, Tree};
 ghost use Rattle.engines.specs.Documents.{IsWhole};
 ghost use Rattle.engines.specs.Msg.{MsgText};
 

@@ -6,15 +6,22 @@
 #![tactic(auto)]
 
 mod buffered;
-pub mod canon;
-pub mod check;
+mod canon;
+mod check;
 mod documents;
-pub mod dump;
-pub mod fault_line;
+mod dump;
+mod fault_line;
 mod hex_input;
 mod input_fault;
 pub mod laws;
 mod messages;
-pub mod msg;
+mod msg;
 mod msg_text;
-pub mod run;
+mod run;
+
+pub use canon::{run_canon, run_canon_within};
+pub use check::run_check;
+pub use dump::run_dump;
+pub use fault_line::write_fault;
+pub use msg::run_msg;
+pub use run::{Engine, RunEnd, end_of};

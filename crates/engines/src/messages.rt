@@ -12,9 +12,7 @@ use crate::msg_text::write_message;
 use crate::run::RunEnd;
 use std::alloc::Global;
 use std::io::Write;
-use wire_msg::fault::MsgFault;
-use wire_msg::front::MsgFront;
-use wire_msg::msg::RawMsg;
+use wire_msg::{MsgFault, MsgFront, RawMsg};
 
 /// The most bytes that a message has.
 const LIMIT: u32 = 48_000_000;

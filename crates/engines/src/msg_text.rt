@@ -2,24 +2,16 @@
 
 ghost use Rattle.std.specs.Prelude.{◌≡◌, List, OnOk, flat_map};
 ghost use Rattle.std.specs.Io.KnownBytes.{Appends};
-ghost use Rattle.bson_elem.specs.Tree.{Tree};
-ghost use Rattle.bson_elem.specs.Spelling.{Spells};
-ghost use Rattle.bson_raw.specs.RawDocument.{document_bytes};
-ghost use Rattle.wire_msg.specs.Carries.{Carries};
-ghost use Rattle.wire_msg.specs.Documents.{DocumentsAre};
-ghost use Rattle.wire_msg.specs.Message.{Content, Message, Sequence};
-ghost use Rattle.wire_msg.specs.RawMsg.{msg_bytes};
-ghost use Rattle.wire_msg.specs.Spelling.{SpellsMsg};
+ghost use Rattle.bson_elem.specs.{Spells, Tree};
+ghost use Rattle.bson_raw.specs.{document_bytes};
+ghost use Rattle.wire_msg.specs.{Carries, Content, DocumentsAre, Message, Sequence, SpellsMsg, msg_bytes};
 ghost use Rattle.engines.specs.Msg.{body_text, flags_text, member_text, message_line, message_text, sequence_text};
 
-use bson_text::dump::dump_elements;
-use bson_text::to_writer::quoted_to;
-use bson_raw::document::RawDocument;
+use bson_raw::RawDocument;
+use bson_text::{dump_elements, quoted_to};
 use std::io;
 use std::io::Write;
-use wire_msg::documents::Documents;
-use wire_msg::msg::RawMsg;
-use wire_msg::payload::Payload;
+use wire_msg::{Documents, Payload, RawMsg};
 
 /// Returns the word for the flags moreToCome and exhaustAllowed.
 fn flags_word(more: bool, allows: bool) -> &'static str

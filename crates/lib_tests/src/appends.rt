@@ -1,9 +1,6 @@
 //! Pairs that are added to a document in its bytes (bsonspec.org, version 1.1).
 
-use bson_doc::array::Array;
-use bson_doc::bson::Bson;
-use bson_doc::buf::RawDocumentBuf;
-use bson_doc::refusal::DocRefusal;
+use bson_doc::{Array, Bson, DocRefusal, RawDocumentBuf};
 use std::alloc::Global;
 
 /// Returns true if the pair is added, and the document is then these bytes.

@@ -4,10 +4,9 @@
 ghost use Rattle.std.specs.Prelude.{◌≤◌};
 
 use crate::hex_bytes::bytes_of;
-use bson_doc::buf::{MAX_LEN, RawDocumentBuf};
-use bson_doc::canon::{canonical_bytes, is_canonical, to_canonical};
-use bson_doc::refusal::DocRefusal;
-use bson_raw::document::RawDocument;
+use bson_doc::{DocRefusal, RawDocumentBuf, canonical_bytes, is_canonical, to_canonical};
+use bson_elem::MAX_LEN;
+use bson_raw::RawDocument;
 use std::alloc::Global;
 
 /// Returns true if the document's canonical form is these bytes.

@@ -1,12 +1,8 @@
 //! Tests of what stays unchanged after a refused allocation. `./try-refusals` runs them with each of their allocations
 //! refused in turn. Where what a test makes for itself is refused, the test passes, since there is nothing to see.
 
-use bson_doc::bson::Bson;
-use bson_doc::buf::RawDocumentBuf;
-use bson_doc::canon::to_canonical;
-use bson_doc::document::Document;
-use bson_doc::refusal::DocRefusal;
-use bson_raw::document::RawDocument;
+use bson_doc::{Bson, DocRefusal, Document, RawDocumentBuf, to_canonical};
+use bson_raw::RawDocument;
 use std::alloc::Global;
 
 /// `{"a": [{"": "c"}]}`, whose canonical form has another name in the array.
@@ -105,7 +101,7 @@ fn is_written(document: &Document) -> bool {
 
 /// Returns true if a copy of the document is equal to `before`, or isn't made.
 fn is_copied(alloc: Global, document: &Document, before: &Document) -> bool {
-    match document.try_clone(alloc) {
+    match document.try_clone() {
         Ok(copy) => copy == *before,
         Err(_) => true,
     }

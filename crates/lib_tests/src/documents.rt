@@ -1,13 +1,10 @@
 //! Owned documents by their bytes (bsonspec.org, version 1.1), and that calls succeed where memory is there.
 
 use crate::hex_bytes::bytes_of;
-use bson_doc::array::Array;
-use bson_doc::bson::Bson;
-use bson_doc::document::Document;
 use bson_doc::laws::round_trip;
-use bson_doc::refusal::DocRefusal;
-use bson_elem::kind::Kind;
-use bson_raw::document::RawDocument;
+use bson_doc::{Array, Bson, DocRefusal, Document};
+use bson_elem::Kind;
+use bson_raw::RawDocument;
 use std::alloc::Global;
 
 /// Returns true if the document is written as these bytes.
@@ -20,7 +17,7 @@ fn writes(document: &Document, wanted: &[u8]) -> bool {
 
 /// Returns true if a copy of the document is written as these bytes.
 fn copy_writes(alloc: Global, document: &Document, wanted: &[u8]) -> bool {
-    match document.try_clone(alloc) {
+    match document.try_clone() {
         Ok(copy) => writes(&copy, wanted),
         Err(_) => false,
     }

@@ -5,7 +5,7 @@ ghost use Rattle.std.specs.Prelude.{◌≤◌};
 
 use crate::hex_bytes::bytes_of;
 use bson_doc::{dump_elements, dump_to};
-use bson_raw::document::RawDocument;
+use bson_raw::RawDocument;
 use std::alloc::Global;
 use std::io;
 use std::io::Write;

@@ -3,12 +3,10 @@
 
 ghost use Rattle.std.specs.Prelude.{◌<◌, length};
 
-use bson_elem::element::{Element, read_element};
-use bson_elem::fault::{BsonCause, BsonFault};
-use bson_elem::item::Item;
-use bson_elem::kind::Kind;
-use bson_elem::reread::reread_element;
-use bson_elem::text::{read_cstring, read_string};
+use bson_elem::{
+    BsonCause, BsonFault, Element, Item, Kind, read_cstring, read_element, read_string,
+    reread_element,
+};
 use std::alloc::Global;
 
 const CAUSES: [BsonCause; 11] = [

@@ -2,8 +2,7 @@
 //! run.
 
 use crate::engine_dump::Counter;
-use engines::check::run_check;
-use engines::run::RunEnd;
+use engines::{RunEnd, run_check};
 use std::alloc::Global;
 
 const TEXTS: [(&str, &str, RunEnd); 9] = [

@@ -1,8 +1,7 @@
 //! What no contract says of `dump`: that the text is the one that was worked out by hand from the standard and the table of
 //! kinds, that reads, writes and allocations which fail end the run as they should, and that the writer is flushed.
 
-use engines::dump::run_dump;
-use engines::run::RunEnd;
+use engines::{RunEnd, run_dump};
 use std::alloc::{AllocError, Global};
 use std::io;
 use std::io::{Read, Write};

@@ -2,8 +2,7 @@
 //! checks, and that writes and allocations which fail end the run as they should.
 
 use crate::engine_dump::Counter;
-use engines::msg::run_msg;
-use engines::run::RunEnd;
+use engines::{RunEnd, run_msg};
 use std::alloc::Global;
 use std::process::Abort;
 

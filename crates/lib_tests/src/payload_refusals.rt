@@ -1,13 +1,9 @@
 //! Tests of what stays unchanged after a refused allocation. `./try-refusals` runs them with each of their allocations
 //! refused in turn. Where what a test makes for itself is refused, the test passes, since there is nothing to see.
 
-use bson_raw::document::RawDocument;
+use bson_raw::RawDocument;
 use std::alloc::Global;
-use wire_msg::flags::MsgFlags;
-use wire_msg::payload::Payload;
-use wire_msg::payload_buf::PayloadBuf;
-use wire_msg::refusal::MsgRefusal;
-use wire_msg::write::write_msg;
+use wire_msg::{MsgFlags, MsgRefusal, Payload, PayloadBuf, write_msg};
 
 /// `{"insert": "c"}`
 const BODY: &[u8] = b"\x13\0\0\0\x02insert\0\x02\0\0\0c\0\0";
@@ -62,9 +58,7 @@ fn a_refused_payload_is_not_made(rt: HostRuntime) {
 fn begins(changed: &mut PayloadBuf, before: &PayloadBuf) -> bool {
     match changed.begin_sequence("documents") {
         Ok(()) => changed.as_payload().msg_len() == 55,
-        Err(refusal) => {
-            refusal == MsgRefusal::OutOfMemory && changed.as_payload() == before.as_payload()
-        }
+        Err(refusal) => { refusal == MsgRefusal::OutOfMemory && &*changed == before }
     }
 }
 
@@ -93,9 +87,7 @@ fn begin_sequence_leaves_the_payload(rt: HostRuntime) {
 fn pushes(changed: &mut PayloadBuf, document: RawDocument<'_>, before: &PayloadBuf) -> bool {
     match changed.push_document(document) {
         Ok(()) => changed.as_payload().msg_len() == 74,
-        Err(refusal) => {
-            refusal == MsgRefusal::OutOfMemory && changed.as_payload() == before.as_payload()
-        }
+        Err(refusal) => { refusal == MsgRefusal::OutOfMemory && &*changed == before }
     }
 }
 

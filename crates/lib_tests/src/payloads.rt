@@ -4,14 +4,9 @@
 use crate::hex_bytes::bytes_of;
 use crate::messages::LIMIT;
 use crate::written_messages::BODY_FIRST;
-use bson_raw::document::RawDocument;
+use bson_raw::RawDocument;
 use std::alloc::Global;
-use wire_msg::flags::MsgFlags;
-use wire_msg::msg::RawMsg;
-use wire_msg::payload::Payload;
-use wire_msg::payload_buf::PayloadBuf;
-use wire_msg::refusal::MsgRefusal;
-use wire_msg::write::write_msg;
+use wire_msg::{MsgFlags, MsgRefusal, Payload, PayloadBuf, RawMsg, write_msg};
 
 const NO_FLAGS: MsgFlags = MsgFlags {
     more: false,

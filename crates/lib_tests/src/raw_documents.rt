@@ -3,10 +3,8 @@
 ghost use Rattle.std.specs.Prelude.{◌≤◌};
 
 use crate::hex_bytes::bytes_of;
-use bson_elem::fault::BsonCause;
-use bson_elem::kind::Kind;
-use bson_raw::document::RawDocument;
-use bson_raw::value::RawBson;
+use bson_elem::{BsonCause, Kind};
+use bson_raw::{RawBson, RawDocument};
 use std::alloc::Global;
 
 const ID: [u8; 12] = [0, 1, 2, 3, 4, 5, 6, 7, 8, 9, 10, 11];
@@ -84,7 +82,10 @@ const VALUES: [(&str, RawBson<'static>); 21] = [
     ),
     (
         "1a000000 0c 7600 02000000 6300 000102030405060708090a0b 00",
-        RawBson::DbPointer { text: "c", id: ID },
+        RawBson::DbPointer {
+            namespace: "c",
+            id: ID,
+        },
     ),
     ("0e000000 0d 7600 02000000 6300 00", RawBson::Code("c")),
     ("0e000000 0e 7600 02000000 6300 00", RawBson::Symbol("c")),

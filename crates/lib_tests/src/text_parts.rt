@@ -2,7 +2,7 @@
 
 ghost use Rattle.std.specs.Prelude.{◌<◌, ◌≤◌};
 
-use bson_doc::to_writer::{hex_to, quoted_to};
+use bson_text::{hex_to, quoted_to};
 use std::alloc::Global;
 use std::io;
 use std::io::Write;

@@ -1,12 +1,10 @@
 -- Of bytes, one answer at most is told.
 use Rattle.std.proofs.Common.{◌≡◌, ◌+◌, [], ℕ, List, Option, Some, length, sym, ap, subst, ◌∙◌, append-nil, arith}
 use Rattle.bson_elem.specs.declared.fault.BsonFault.{BsonFault}
-use Rattle.bson_elem.specs.Tree.{Tree}
+use Rattle.bson_elem.specs.Trees.{Tree}
 use Rattle.bson_elem.specs.Spelling.{IsBytes, Spells, elements}
 use Rattle.bson_elem.specs.Checks.{fault}
-use Rattle.bson_elem.proofs.ContainerLaws.{document_takes, length-document}
-use Rattle.bson_elem.proofs.FrontLaws.{spelled_read, one_front, no_front}
-use Rattle.bson_elem.proofs.TreeLaws.{IsBytes-after}
+use Rattle.bson_elem.proofs.Lemmas.{IsBytes-after, document_takes, length-document, no_front, one_front, spelled_read}
 use Rattle.bson_raw.specs.Split.{documents_bytes, DocumentSplit}
 use Rattle.bson_raw.specs.Spelled.{IsLengthOf, WholeFault, unlike, as_front}
 use Rattle.bson_raw.proofs.Lemmas.{same_split}

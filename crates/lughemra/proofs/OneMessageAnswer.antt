@@ -1,13 +1,12 @@
 -- Of bytes as messages, one answer at most is told.
 use Rattle.std.proofs.Common.{◌≡◌, ◌+◌, [], ℕ, List, length, sym, ap, subst, ◌∙◌, arith, length-append}
 use Rattle.bson_elem.specs.Spelling.{IsBytes}
-use Rattle.bson_elem.proofs.TreeLaws.{IsBytes-after}
+use Rattle.bson_elem.proofs.Lemmas.{IsBytes-after}
 use Rattle.wire_msg.specs.declared.fault.MsgFault.{MsgFault}
 use Rattle.wire_msg.specs.Causes.{msg_fault}
-use Rattle.wire_msg.specs.Message.{Message}
+use Rattle.wire_msg.specs.Messages.{Message}
 use Rattle.wire_msg.specs.Standing.{IsOpen, in_header}
-use Rattle.wire_msg.proofs.MsgAnswers.{no_msg_fault, one_msg_fault}
-use Rattle.wire_msg.proofs.Lemmas.{one_split, open_not_bad, bad_once}
+use Rattle.wire_msg.proofs.Lemmas.{bad_once, no_msg_fault, one_msg_fault, one_split, open_not_bad}
 use Rattle.lughemra.specs.declared.messages.MessageCheck.{MessageCheck}
 use Rattle.lughemra.specs.declared.messages.MessagesCheck.{MessagesCheck}
 use Rattle.lughemra.specs.Messages.{IsMessageCheck, is_message, has_fault, Ending, at_fault, EndsAs, is_nothing, is_open, is_bad, messages_check, IsMessagesCheck}

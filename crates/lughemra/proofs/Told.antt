@@ -3,7 +3,7 @@ use Rattle.std.proofs.Common.{◌≡◌, ◌+◌, ℕ, List, Option, Some, lengt
 use Rattle.std.specs.List.{sum_by}
 use Rattle.bson_elem.specs.declared.fault.BsonFault.{BsonFault}
 use Rattle.bson_elem.specs.Checks.{fault}
-use Rattle.bson_elem.specs.Tree.{Tree}
+use Rattle.bson_elem.specs.Trees.{Tree}
 use Rattle.bson_raw.specs.Split.{documents_bytes, DocumentSplit}
 use Rattle.bson_raw.proofs.Lemmas.{Walked, walked_all, walked_to_fault}
 use Rattle.lughemra.specs.declared.documents.DocumentsCheck.{DocumentsCheck}

@@ -2,14 +2,14 @@
 use Rattle.std.proofs.Common.{◌≡◌, ◌+◌, ◌≤◌, ◌++◌, [], ◌∷◌, ℕ, List, length, refl, sym, ap, subst, ◌∙◌, append_assoc, arith, length-append}
 use Rattle.std.specs.Prelude.{None}
 use Rattle.bson_elem.specs.Spelling.{IsBytes}
-use Rattle.bson_elem.proofs.TreeLaws.{IsBytes-after}
+use Rattle.bson_elem.proofs.Lemmas.{IsBytes-after}
 use Rattle.wire_msg.specs.declared.fault.MsgFault.{MsgFault}
 use Rattle.wire_msg.specs.Causes.{msg_fault}
-use Rattle.wire_msg.specs.Message.{Message}
+use Rattle.wire_msg.specs.Messages.{Message}
 use Rattle.wire_msg.specs.Spelling.{IsMessage}
-use Rattle.wire_msg.specs.Split.{AreSpelled}
+use Rattle.wire_msg.specs.Splits.{AreSpelled}
 use Rattle.wire_msg.specs.Standing.{IsBad, IsOpen, IsWhole, in_header}
-use Rattle.wire_msg.proofs.Lemmas.{msg_read, spelled-append, spelled_alone, open_not_whole, bad_not_whole}
+use Rattle.wire_msg.proofs.Lemmas.{bad_not_whole, msg_read, open_not_whole, spelled-append, spelled_alone}
 use Rattle.lughemra.specs.declared.fault.FirstFault.{FirstFault}
 use Rattle.lughemra.specs.declared.messages.MessageCheck.{MessageCheck}
 use Rattle.lughemra.specs.declared.messages.MessagesCheck.{MessagesCheck}

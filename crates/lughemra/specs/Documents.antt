@@ -1,13 +1,8 @@
 -- What a C program is told of bytes as documents.
 use Rattle.std.specs.Prelude.{◌≡◌, ◌≢◌, ℕ, ◌+◌, true, false, List, [], length, Option, Some, None}
 use Rattle.bson_elem.specs.declared.fault.BsonFault.{BsonFault}
-use Rattle.bson_elem.specs.Tree.{Tree}
-use Rattle.bson_elem.specs.Spelling.{Spells}
-use Rattle.bson_elem.specs.Checks.{fault}
-use Rattle.bson_elem.specs.Faults.{FrontFault}
-use Rattle.bson_raw.specs.Naming.{is_plain}
-use Rattle.bson_raw.specs.Spelled.{WholeFault}
-use Rattle.bson_raw.specs.Split.{documents_bytes, DocumentSplit}
+use Rattle.bson_elem.specs.{FrontFault, Spells, Tree, fault}
+use Rattle.bson_raw.specs.{DocumentSplit, WholeFault, documents_bytes, is_plain}
 use Rattle.lughemra.specs.declared.documents.DocumentsCheck.{DocumentsCheck}
 use Rattle.lughemra.specs.declared.fault.FirstFault.{FirstFault}
 use Rattle.lughemra.specs.Fault.{first_fault}

@@ -1,7 +1,7 @@
 -- The first fault of some bytes, as a C program is told of it.
 use Rattle.std.specs.Prelude.{ℕ, Option, Some, None}
 use Rattle.bson_elem.specs.declared.fault.BsonFault.{BsonFault}
-use Rattle.bson_elem.specs.Causes.{cause_number}
+use Rattle.bson_elem.specs.{cause_number}
 use Rattle.wire_msg.specs.declared.fault.MsgCause.{MsgCause}
 use Rattle.wire_msg.specs.declared.fault.MsgCause.TheVariants.{Document}
 use Rattle.wire_msg.specs.declared.fault.MsgFault.{MsgFault}

@@ -1,12 +1,7 @@
 -- What a C program is told of bytes as messages.
 use Rattle.std.specs.Prelude.{◌≡◌, ◌≢◌, ℕ, ◌+◌, ◌≤◌, List, [], length, None}
 use Rattle.wire_msg.specs.declared.fault.MsgFault.{MsgFault}
-use Rattle.wire_msg.specs.Causes.{msg_fault}
-use Rattle.wire_msg.specs.Faults.{FaultMsg}
-use Rattle.wire_msg.specs.Message.{Message}
-use Rattle.wire_msg.specs.Spelling.{SpellsMsg}
-use Rattle.wire_msg.specs.Split.{Split}
-use Rattle.wire_msg.specs.Standing.{IsOpen, IsBad}
+use Rattle.wire_msg.specs.{FaultMsg, IsBad, IsOpen, Message, SpellsMsg, Split, msg_fault}
 use Rattle.lughemra.specs.declared.messages.MessageCheck.{MessageCheck}
 use Rattle.lughemra.specs.declared.messages.MessagesCheck.{MessagesCheck}
 use Rattle.lughemra.specs.Fault.{document_fault, ended_inside_fault, first_fault, limit_fault, message_fault}

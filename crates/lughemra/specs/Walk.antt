@@ -2,9 +2,8 @@
 use Rattle.std.specs.Prelude.{◌≡◌, List, ℕ, length, Option}
 use Rattle.std.specs.List.{sum_by}
 use Rattle.bson_elem.specs.declared.fault.BsonFault.{BsonFault}
-use Rattle.bson_elem.specs.Tree.{Tree}
-use Rattle.bson_raw.specs.Split.{documents_bytes, DocumentSplit}
-use Rattle.bson_raw.specs.Totals.{elements_in, sizes_in}
+use Rattle.bson_elem.specs.{Tree}
+use Rattle.bson_raw.specs.{DocumentSplit, documents_bytes, elements_in, sizes_in}
 use Rattle.lughemra.specs.declared.walk.DocumentsWalk.{DocumentsWalk}
 use Rattle.lughemra.specs.Documents.{EndsAs}
 use Rattle.lughemra.specs.Fault.{first_fault}

@@ -4,7 +4,7 @@ ghost use Rattle.std.specs.Prelude.{IsTrue, ◌↔◌};
 ghost use Rattle.lughemra.specs.Documents.{IsCanonical, IsDocumentCheck, IsDocumentsCheck};
 
 use crate::fault::FirstFault;
-use bson_raw::document::RawDocument;
+use bson_raw::RawDocument;
 
 /// Checks that `bytes` are exactly one document. Returns the first fault, by the number of its
 /// cause, from 1 to 11.

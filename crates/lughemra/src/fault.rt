@@ -1,13 +1,13 @@
 //! The first fault of some bytes, as a C program is told of it.
 
 ghost use Rattle.std.specs.Prelude.{◌≡◌, ◌+◌, ◌<◌, ◌^◌, None, Some};
-ghost use Rattle.bson_elem.specs.Checks.{fault};
-ghost use Rattle.wire_msg.specs.Causes.{msg_fault};
+ghost use Rattle.bson_elem.specs.{fault};
+ghost use Rattle.wire_msg.specs.{msg_fault};
 ghost use Rattle.lughemra.specs.Fault.{document_fault, first_fault, message_fault};
 ghost use Rattle.lughemra.specs.Fault.{ended_inside_fault, limit_fault};
 
-use bson_elem::fault::BsonFault;
-use wire_msg::fault::{MsgCause, MsgFault};
+use bson_elem::BsonFault;
+use wire_msg::{MsgCause, MsgFault};
 
 /// The first fault of some bytes, if there is one.
 #[derive(Clone, Copy)]

@@ -2,7 +2,7 @@
 //! is the law; the function does nothing.
 
 ghost use Rattle.std.specs.Prelude.{◌≡◌, ℕ, List};
-ghost use Rattle.bson_elem.specs.Spelling.{IsBytes};
+ghost use Rattle.bson_elem.specs.{IsBytes};
 ghost use Rattle.lughemra.specs.declared.documents.DocumentsCheck.{DocumentsCheck};
 ghost use Rattle.lughemra.specs.declared.fault.FirstFault.{FirstFault};
 ghost use Rattle.lughemra.specs.declared.walk.DocumentsWalk.{DocumentsWalk};

@@ -7,8 +7,13 @@
 //! The checks of messages take memory for the names of a body, and go on without where there is none.
 #![tactic(auto)]
 
-pub mod documents;
-pub mod fault;
+mod documents;
+mod fault;
 pub mod laws;
-pub mod messages;
-pub mod walk;
+mod messages;
+mod walk;
+
+pub use documents::DocumentsCheck;
+pub use fault::FirstFault;
+pub use messages::{MessageCheck, MessagesCheck};
+pub use walk::DocumentsWalk;

@@ -6,9 +6,7 @@ ghost use Rattle.lughemra.specs.Messages.{IsMessagesCheck, limit_messages_check}
 
 use crate::fault::FirstFault;
 use std::alloc::Global;
-use wire_msg::front::MsgFront;
-use wire_msg::header::MAX_MESSAGE_LEN;
-use wire_msg::msg::RawMsg;
+use wire_msg::{MAX_MESSAGE_LEN, MsgFront, RawMsg};
 
 /// What the check of one message came to.
 #[derive(Clone, Copy)]

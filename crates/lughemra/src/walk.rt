@@ -3,7 +3,7 @@
 ghost use Rattle.lughemra.specs.Walk.{IsDocumentsWalk};
 
 use crate::fault::FirstFault;
-use bson_raw::document::RawDocument;
+use bson_raw::RawDocument;
 
 /// What the walk over documents back to back came to.
 #[derive(Clone, Copy)]

@@ -8,14 +8,15 @@ use Rattle.std.proofs.lemmas.Grind.{not_there}
 use mathlib.Core.Logic.{∥∥₁_map}
 use Rattle.std.proofs.lemmas.Bool.{eqb-false}
 use Rattle.std.proofs.lemmas.List.{append-nil, take_at, drop_at}
-use Rattle.bson_elem.specs.Tree.{Tree}
+use Rattle.bson_elem.specs.Trees.{Tree}
 use Rattle.bson_elem.specs.Spelling.{little, cstring, document, elements, HasNoZero, Spells}
 use Rattle.bson_raw.specs.declared.value.RawBson.{RawBson}
 use Rattle.bson_raw.specs.Pairs.{first_named}
 use Rattle.bson_raw.specs.Spelled.{IsSpelled}
 use Rattle.bson_raw.specs.RawBson.{ShowsFound}
-use Rattle.bson_elem.proofs.ContainerLaws.{length-document}
-use Rattle.wire_msg.specs.Message.{Sequence, Content, IsDocument, documents_bytes, sequence_size, AreSequences, AreApart, IsContent}
+use Rattle.bson_elem.proofs.Lemmas.{length-document}
+use Rattle.bson_raw.specs.Split.{IsDocument, documents_bytes}
+use Rattle.wire_msg.specs.Messages.{Sequence, Content, sequence_size, AreSequences, AreApart, IsContent}
 use Rattle.wire_msg.specs.Spelling.{body_section, sequence_section, sequences_bytes, message_len}
 use Rattle.wire_msg.specs.Payload.{AreParts, IsPayload}
 use Rattle.wire_msg.specs.Known.{last_offset, IsLastOffset}

@@ -2,11 +2,11 @@
 use Rattle.std.proofs.Common.{◌≡◌, ℕ, ◌+◌, ◌^◌, ◌<◌, List, [], ◌++◌, length, Option, Some, None, false, refl, sym, ap, subst, ◌∙◌, arith, length-append}
 use Rattle.std.specs.Prelude.{MatchOption, is_some}
 use Rattle.std.specs.Borrow.{Bor}
-use Rattle.bson_elem.specs.Tree.{Tree}
+use Rattle.bson_elem.specs.Trees.{Tree}
 use Rattle.bson_elem.specs.Spelling.{Spells}
 use Rattle.bson_raw.specs.Pairs.{first_repeated}
 use Rattle.bson_raw.specs.Spelled.{IsSpelled}
-use Rattle.wire_msg.specs.Message.{Content}
+use Rattle.wire_msg.specs.Messages.{Content}
 use Rattle.wire_msg.specs.Spelling.{body_section, sequences_bytes, message_len}
 use Rattle.wire_msg.specs.Payload.{AreParts, IsPayload}
 use Rattle.wire_msg.specs.Buf.{body_alone}

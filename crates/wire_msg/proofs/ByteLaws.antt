@@ -3,14 +3,15 @@ use Rattle.std.proofs.Common.{◌≡◌, inl, inr, ℕ, zero, suc, ◌+◌, ◌/
 use Rattle.std.specs.Int.{w32, w64, cast_unsigned, to_le_bytes, from_bool, byte_at, bytes_low_first}
 use Rattle.std.proofs.lemmas.Bool.{ltb-true}
 use lib.Utf8.{scalar, scalars, encode, encodes, next, scalar_cases}
-use Rattle.bson_elem.specs.declared.kind.Kind.{Kind}
-use Rattle.bson_elem.specs.declared.kind.Kind.TheVariants as kinds
+use Rattle.bson_elem.specs.declared.kinds.Kind.{Kind}
+use Rattle.bson_elem.specs.declared.kinds.Kind.TheVariants as kinds
 use Rattle.bson_elem.specs.Kinds.{byte_of, Form, raw_form, boolean_form, int32_form, int64_form, timestamp_form, string_form, pointer_form, binary_form, regex_form, scope_form, form_of}
-use Rattle.bson_elem.specs.Tree.{Leaf, raw_value, boolean_value, number_value, timestamp_value, text_value, pointer_value, binary_value, regex_value, Beside, no_code, with_code, Tree, no_pairs, leaf_pair, inner_pair}
+use Rattle.bson_elem.specs.Trees.{Leaf, raw_value, boolean_value, number_value, timestamp_value, text_value, pointer_value, binary_value, regex_value, Beside, no_code, with_code, Tree, no_pairs, leaf_pair, inner_pair}
 use Rattle.bson_elem.specs.Spelling.{IsBytes, little, cstring, string, document, binary, leaf_bytes, inner_bytes, elements, IsName, IsOfForm, StandsIn, Fits, Spells}
-use Rattle.wire_msg.specs.Message.{Sequence, Message, AreDocuments, documents_bytes, sequence_size, IsSequence, AreSequences}
+use Rattle.bson_raw.specs.Split.{AreDocuments, documents_bytes}
+use Rattle.wire_msg.specs.Messages.{Sequence, Message, sequence_size, IsSequence, AreSequences}
 use Rattle.wire_msg.specs.Spelling.{body_section, sequence_section, sequences_bytes, header_bytes, message_bytes, SpellsMsg}
-use Rattle.wire_msg.specs.Split.{AreSpelled}
+use Rattle.wire_msg.specs.Splits.{AreSpelled}
 use Rattle.wire_msg.proofs.MsgAnswers.{AreSequences-split}
 
 -- ---- lists of bytes

@@ -1,10 +1,10 @@
 -- What a message and a payload carry, by their bytes.
 use Rattle.std.proofs.Common.{◌≡◌, ℕ, [], List, ◌++◌, length, refl, sym, ap, subst, ◌∙◌, arith, length-append, length-drop}
 use Rattle.std.proofs.lemmas.List.{append-nil}
-use Rattle.bson_elem.specs.Tree.{Tree}
+use Rattle.bson_elem.specs.Trees.{Tree}
 use Rattle.bson_elem.specs.Spelling.{Spells}
-use Rattle.bson_elem.proofs.FrontLaws.{same_front}
-use Rattle.wire_msg.specs.Message.{Sequence, Content, Message, AreSequences}
+use Rattle.bson_elem.proofs.Lemmas.{same_front}
+use Rattle.wire_msg.specs.Messages.{Sequence, Content, Message, AreSequences}
 use Rattle.wire_msg.specs.Spelling.{body_section, sequences_bytes, SpellsMsg, message_len}
 use Rattle.wire_msg.specs.Payload.{AreParts}
 use Rattle.wire_msg.proofs.SequenceLaws.{sequences-append}

@@ -2,13 +2,13 @@
 use Rattle.std.proofs.Common.{◌≡◌, ◌≢◌, ℕ, ◌+◌, ◌-◌, List, [], ◌∷◌, ◌++◌, length, refl, sym, ap, subst, ◌∙◌, append_assoc, arith, length-append}
 use Rattle.std.proofs.lemmas.List.{append-nil}
 use Rattle.bson_elem.specs.declared.fault.BsonFault.{BsonFault}
-use Rattle.bson_elem.specs.Tree.{Tree}
+use Rattle.bson_elem.specs.Trees.{Tree}
 use Rattle.bson_elem.specs.Spelling.{document, elements, Spells}
 use Rattle.bson_elem.specs.Faults.{FrontFault}
 use Rattle.bson_raw.specs.Spelled.{IsSpelled}
 use Rattle.wire_msg.specs.declared.fault.MsgCause.TheVariants.{Document}
 use Rattle.wire_msg.specs.Causes.{msg_fault}
-use Rattle.wire_msg.specs.Message.{IsDocument, AreDocuments, documents_bytes}
+use Rattle.bson_raw.specs.Split.{IsDocument, AreDocuments, documents_bytes}
 use Rattle.wire_msg.specs.Faults.{DocumentsFault}
 
 -- ---- one document more

@@ -3,21 +3,21 @@ use Rattle.std.proofs.Common.{◌≡◌, ℕ, ◌+◌, ◌-◌, ◌^◌, ◌%◌
 use Rattle.std.specs.Prelude.{nat_le, if◌then◌else◌, ◌==◌}
 use Rattle.std.specs.Option.{option_or}
 use Rattle.std.specs.Int.{bit_at}
-use Rattle.bson_elem.specs.Tree.{Tree}
+use Rattle.bson_elem.specs.Trees.{Tree}
 use Rattle.bson_elem.specs.Spelling.{IsBytes, cstring}
-use Rattle.bson_elem.proofs.FieldLaws.{IsBytes-take, IsBytes-drop, cstring_takes}
-use Rattle.bson_elem.proofs.TreeLaws.{IsBytes-after}
+use Rattle.bson_elem.proofs.Lemmas.{IsBytes-after, IsBytes-drop, IsBytes-take, cstring_takes}
 use Rattle.wire_msg.specs.declared.fault.MsgFault.{MsgFault}
 use Rattle.wire_msg.specs.declared.fault.MsgCause.{MsgCause}
 use Rattle.wire_msg.specs.declared.header.MsgHeader.{MsgHeader}
 use Rattle.wire_msg.specs.declared.fault.MsgCause.TheVariants.{Flags, Checksum}
 use Rattle.wire_msg.specs.Causes.{msg_fault}
 use Rattle.wire_msg.specs.Header.{HeaderFault, of_length, of_opcode, number_at}
-use Rattle.wire_msg.specs.Message.{Sequence, documents_bytes}
+use Rattle.bson_raw.specs.Split.{documents_bytes}
+use Rattle.wire_msg.specs.Messages.{Sequence}
 use Rattle.wire_msg.specs.Spelling.{body_section, sequence_section, sequences_bytes, sections_bytes}
 use Rattle.wire_msg.specs.Faults.{DocumentsFault, SequenceFault, of_size, of_identifier, of_documents, sequence_rest, Seen, seen_bytes, SectionFault, two_bodies, of_body, of_sequence, of_kind, first_in_body, identifier_fault, field_fault, names_fault, SectionsFault, at_section, without_body, of_names, flags_fault, FrameFault, no_header, of_header, unlike, PartsFault, no_flags, of_flags, of_sections, FaultMsg, of_frame, of_parts}
 use Rattle.bson_raw.specs.Pairs.{first_repeated}
-use Rattle.wire_msg.specs.Message.{is_field}
+use Rattle.wire_msg.specs.Messages.{is_field}
 
 stands_at : (f : MsgFault) (p : ℕ) (c : MsgCause) → f ≡ msg_fault p c → f.at ≡ p
 stands_at f p c is = ap (λ (g : MsgFault). g.at) is

@@ -8,7 +8,7 @@ use Rattle.std.specs.Map.Iter.{deref}
 use Rattle.std.specs.Str.{bytes_eq}
 use Rattle.std.proofs.lemmas.Bool.{cond-true, cond-false}
 use Rattle.std.proofs.lemmas.List.{map-append}
-use Rattle.bson_elem.specs.Tree.{Tree}
+use Rattle.bson_elem.specs.Trees.{Tree}
 use Rattle.bson_raw.specs.Pairs.{TreeValue, leaf_value, document_value, with_first, names_of, is_among, first_repeated}
 
 -- whether the set has the name

@@ -5,7 +5,7 @@ use Rattle.std.proofs.lemmas.List.{take-append-drop, take-take, drop-take, drop-
 use Rattle.std.proofs.lemmas.Nat.{le_bytes_4}
 use Rattle.std.proofs.lemmas.Int.{of_z-to_z}
 use Rattle.bson_elem.specs.Spelling.{IsBytes, little}
-use Rattle.bson_elem.proofs.FieldLaws.{IsBytes-take, IsBytes-drop}
+use Rattle.bson_elem.proofs.Lemmas.{IsBytes-drop, IsBytes-take}
 use Rattle.wire_msg.specs.declared.header.MsgHeader.{MsgHeader}
 use Rattle.wire_msg.specs.Header.{number_at, header_of}
 use Rattle.wire_msg.specs.Spelling.{signed, header_bytes, message_bytes}

@@ -3,7 +3,7 @@ use Rattle.std.proofs.Common.{◌≡◌, ◌⊎◌, inl, inr, ℕ, ◌≤◌, Li
 use Rattle.std.proofs.lemmas.List.{take_at, take-append-drop}
 use Rattle.std.specs.Borrow.{Bor}
 use Rattle.bson_elem.specs.Spelling.{IsBytes}
-use Rattle.bson_elem.proofs.FieldLaws.{IsBytes-take}
+use Rattle.bson_elem.proofs.Lemmas.{IsBytes-take}
 use Rattle.wire_msg.specs.declared.header.MsgHeader.{MsgHeader}
 use Rattle.wire_msg.specs.declared.fault.MsgFault.{MsgFault}
 use Rattle.wire_msg.specs.declared.front.MsgFront.{MsgFront}
@@ -11,7 +11,7 @@ use Rattle.wire_msg.specs.declared.front.MsgFront.TheVariants.{Whole, Open, Bad}
 use Rattle.wire_msg.specs.declared.msg.RawMsg.{RawMsg}
 use Rattle.wire_msg.specs.RawMsg.{msg_bytes}
 use Rattle.wire_msg.specs.Header.{number_at, header_of, IsGoodHeader, HeaderFault}
-use Rattle.wire_msg.specs.Message.{Message}
+use Rattle.wire_msg.specs.Messages.{Message}
 use Rattle.wire_msg.specs.Spelling.{IsMessage}
 use Rattle.wire_msg.specs.Faults.{IsFramedMsg, PartsFault, FaultMsg, of_parts}
 use Rattle.wire_msg.specs.Standing.{IsOpen, IsWhole, IsBad, bad_header, bad_message, Stands, is_open, is_whole, is_bad}

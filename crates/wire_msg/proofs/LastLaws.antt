@@ -1,7 +1,7 @@
 -- The last of some document sequences: where it begins, and the walk that finds it.
 use Rattle.std.proofs.Common.{◌≡◌, ◌≢◌, ℕ, ◌+◌, ◌<◌, ◌≤◌, List, [], ◌∷◌, ◌++◌, length, drop, refl, sym, ap, ◌∙◌, arith, length-append, length-drop}
 use Rattle.std.proofs.lemmas.List.{drop-drop, drop_at}
-use Rattle.wire_msg.specs.Message.{Sequence, sequence_size, IsSequence, AreSequences}
+use Rattle.wire_msg.specs.Messages.{Sequence, sequence_size, IsSequence, AreSequences}
 use Rattle.wire_msg.specs.Spelling.{sequence_section, sequences_bytes}
 use Rattle.wire_msg.specs.Checks.{HasSequences}
 use Rattle.wire_msg.specs.Known.{last_offset, IsLastOffset}

@@ -15,3 +15,4 @@ pub use Rattle.wire_msg.proofs.WriteLaws.{length-canonical, canonical_spelled}
 pub use Rattle.wire_msg.proofs.ContentLaws.{length-spelled, one_content}
 -- spelled bytes
 pub use Rattle.wire_msg.proofs.ByteLaws.{bytes_append, spelled_bytes, msg_are_bytes, joined_are_bytes}
+pub use Rattle.wire_msg.proofs.MsgAnswers.{no_msg_fault, one_msg_fault}

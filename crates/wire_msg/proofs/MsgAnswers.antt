@@ -6,11 +6,11 @@ use Rattle.std.proofs.lemmas.Int.{to_z-of_z}
 use Rattle.std.proofs.lemmas.List.{take_at, drop_at, drop-drop}
 use Rattle.std.proofs.lemmas.Nat.{from_le_bytes-to_le_bytes_4}
 use Rattle.bson_elem.specs.Spelling.{IsBytes, little}
-use Rattle.bson_elem.proofs.FieldLaws.{IsBytes-drop}
+use Rattle.bson_elem.proofs.Lemmas.{IsBytes-drop}
 use Rattle.wire_msg.specs.declared.header.MsgHeader.{MsgHeader}
 use Rattle.wire_msg.specs.declared.fault.MsgFault.{MsgFault}
 use Rattle.wire_msg.specs.Header.{number_at, header_of, IsGoodHeader, HeaderFault, of_length, of_opcode}
-use Rattle.wire_msg.specs.Message.{Sequence, Message, AreSequences, AreApart}
+use Rattle.wire_msg.specs.Messages.{Sequence, Message, AreSequences, AreApart}
 use Rattle.wire_msg.specs.Spelling.{signed, header_bytes, message_bytes, sections_bytes, SpellsMsg}
 use Rattle.wire_msg.specs.Faults.{flags_fault, IsFramedMsg, FrameFault, no_header, of_header, unlike, PartsFault, no_flags, of_flags, of_sections, FaultMsg, of_frame, of_parts}
 use Rattle.wire_msg.proofs.FlagLaws.{flags_are_sound}

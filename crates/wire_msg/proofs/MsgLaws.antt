@@ -7,7 +7,7 @@ use Rattle.std.proofs.lemmas.List.{take_at, drop_at, drop-drop}
 use Rattle.bson_elem.specs.Spelling.{IsBytes}
 use Rattle.wire_msg.specs.declared.fault.MsgFault.{MsgFault}
 use Rattle.wire_msg.specs.Header.{number_at}
-use Rattle.wire_msg.specs.Message.{Content, Message, IsContent}
+use Rattle.wire_msg.specs.Messages.{Content, Message, IsContent}
 use Rattle.wire_msg.specs.Spelling.{body_section, sequences_bytes, sections_bytes, FlagsAre, SpellsMsg, IsMessage}
 use Rattle.wire_msg.specs.Faults.{names_fault, flags_fault, of_names, IsFramedMsg, PartsFault, of_sections}
 use Rattle.wire_msg.specs.Checks.{HasSequences, HasSections, HasParts}

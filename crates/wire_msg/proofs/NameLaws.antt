@@ -5,11 +5,11 @@ use Rattle.std.specs.Prelude.{MatchOption, is_some}
 use Rattle.std.specs.Borrow.{Bor}
 use Rattle.std.specs.Str.{bytes_eq}
 use Rattle.std.proofs.lemmas.Bool.{cases_Bool}
-use Rattle.bson_elem.specs.Tree.{Tree, no_pairs, leaf_pair, inner_pair}
+use Rattle.bson_elem.specs.Trees.{Tree, no_pairs, leaf_pair, inner_pair}
 use Rattle.bson_raw.specs.declared.value.RawBson.{RawBson}
 use Rattle.bson_raw.specs.Pairs.{TreeValue, first_named, first_repeated}
 use Rattle.bson_raw.specs.RawBson.{ShowsFound}
-use Rattle.wire_msg.specs.Message.{Sequence, AreSequences, is_field, AreApart}
+use Rattle.wire_msg.specs.Messages.{Sequence, AreSequences, is_field, AreApart}
 use Rattle.wire_msg.specs.Spelling.{body_section, sequence_section, sequences_bytes}
 use Rattle.wire_msg.specs.declared.fault.MsgFault.{MsgFault}
 use Rattle.wire_msg.specs.declared.fault.MsgCause.TheVariants.{RepeatedField, SequenceInBody}

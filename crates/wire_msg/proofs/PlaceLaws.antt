@@ -4,10 +4,10 @@ use Rattle.std.specs.Prelude.{slice_range}
 use Rattle.std.specs.Int.{w32, from_le_bytes}
 use Rattle.std.proofs.lemmas.Grind.{not_there}
 use Rattle.std.proofs.lemmas.List.{get_or-drop, drop-drop, drop_at, take_at}
-use Rattle.bson_elem.specs.Tree.{Tree}
+use Rattle.bson_elem.specs.Trees.{Tree}
 use Rattle.bson_elem.specs.Spelling.{document, elements, Spells}
 use Rattle.bson_raw.specs.Spelled.{IsSpelled}
-use Rattle.wire_msg.specs.Message.{Sequence, Content, Message, AreSequences, sequence_size}
+use Rattle.wire_msg.specs.Messages.{Sequence, Content, Message, AreSequences, sequence_size}
 use Rattle.wire_msg.specs.Spelling.{body_section, sequence_section, sequences_bytes, message_len, SpellsMsg, IsSpelledMsg}
 use Rattle.wire_msg.specs.Checks.{HasSequences}
 use Rattle.wire_msg.specs.Known.{BeginsSequence}

@@ -6,13 +6,13 @@ use Rattle.std.proofs.lemmas.List.{take_at, drop_at, drop-drop}
 use Rattle.std.proofs.lemmas.Nat.{from_le_bytes-to_le_bytes_4}
 use Rattle.std.proofs.lemmas.Grind.{not_there}
 use Rattle.bson_elem.specs.declared.fault.BsonCause.{BsonCause}
-use Rattle.bson_elem.specs.Tree.{Tree}
+use Rattle.bson_elem.specs.Trees.{Tree}
 use Rattle.bson_elem.specs.Spelling.{little, cstring, document, elements, Spells}
 use Rattle.bson_elem.specs.Checks.{cstring_at}
-use Rattle.bson_elem.proofs.ContainerLaws.{length-document}
-use Rattle.bson_elem.proofs.FieldLaws.{cstring_again, ok_is}
+use Rattle.bson_elem.proofs.Lemmas.{cstring_again, length-document, ok_is}
 use Rattle.bson_raw.specs.Spelled.{IsSpelled}
-use Rattle.wire_msg.specs.Message.{Sequence, AreDocuments, documents_bytes, sequence_size, IsSequence, AreSequences}
+use Rattle.bson_raw.specs.Split.{AreDocuments, documents_bytes}
+use Rattle.wire_msg.specs.Messages.{Sequence, sequence_size, IsSequence, AreSequences}
 use Rattle.wire_msg.specs.Spelling.{sequence_section, sequences_bytes}
 use Rattle.wire_msg.specs.Checks.{HasDocuments, HasSequences}
 use Rattle.wire_msg.specs.Known.{BeginsSequence, ArePartsOf}

@@ -1,7 +1,7 @@
 -- Two runs of sequences, one after the other.
 use Rattle.std.proofs.Common.{◌≡◌, ◌≢◌, ℕ, ◌+◌, List, [], ◌∷◌, ◌++◌, length, refl, sym, ap, ◌∙◌, arith}
 use Rattle.std.proofs.lemmas.List.{append-nil}
-use Rattle.wire_msg.specs.Message.{Sequence, AreSequences}
+use Rattle.wire_msg.specs.Messages.{Sequence, AreSequences}
 use Rattle.wire_msg.specs.Spelling.{sequences_bytes}
 use Rattle.wire_msg.specs.Known.{AreRuns}
 use Rattle.wire_msg.proofs.ReadLaws.{length-sequence}

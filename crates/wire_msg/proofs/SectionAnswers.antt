@@ -2,13 +2,14 @@
 use Rattle.std.proofs.Common.{◌≡◌, ◌≢◌, ℕ, ◌+◌, false, eqb, List, [], ◌∷◌, ◌++◌, length, Option, Result, Ok, Err, Some, None, refl, sym, ap, subst, ◌∙◌, append_assoc, arith, length-append}
 use Rattle.std.proofs.lemmas.List.{append-nil}
 use Rattle.std.proofs.lemmas.Bool.{ne_eqb}
-use Rattle.bson_elem.specs.Tree.{Tree}
+use Rattle.bson_elem.specs.Trees.{Tree}
 use Rattle.bson_elem.specs.Spelling.{IsBytes, document, elements}
-use Rattle.bson_elem.proofs.FieldLaws.{ok_is}
+use Rattle.bson_elem.proofs.Lemmas.{ok_is}
 use Rattle.wire_msg.specs.declared.fault.MsgFault.{MsgFault}
 use Rattle.wire_msg.specs.declared.fault.MsgCause.TheVariants as causes
 use Rattle.wire_msg.specs.Causes.{msg_fault}
-use Rattle.wire_msg.specs.Message.{Sequence, IsDocument, AreSequences}
+use Rattle.bson_raw.specs.Split.{IsDocument}
+use Rattle.wire_msg.specs.Messages.{Sequence, AreSequences}
 use Rattle.wire_msg.specs.Spelling.{body_section, sequences_bytes, sections_bytes}
 use Rattle.wire_msg.specs.Faults.{SequenceFault, no_body_yet, body_seen, SectionFault, two_bodies, of_body, of_sequence, of_kind, SectionsFault, at_section, without_body, of_names, names_fault}
 use Rattle.wire_msg.proofs.SectionVerdicts.{ends_here, fails_here, Run, Parts, after_body, other_kind, bad_body, good_body, Verdict, one_verdict}

@@ -2,14 +2,14 @@
 use Rattle.std.proofs.Common.{◌≡◌, ◌≢◌, ℕ, ◌+◌, ◌-◌, ◌<◌, ◌≤◌, List, [], ◌∷◌, ◌++◌, length, get_or, drop, refl, sym, ap, subst, ◌∙◌, append_assoc, arith, length-append, length-drop}
 use Rattle.std.proofs.lemmas.List.{append-nil, drop_more, drop-drop, drop_at, drop_all}
 use Rattle.bson_elem.specs.declared.fault.BsonFault.{BsonFault}
-use Rattle.bson_elem.specs.Tree.{Tree}
+use Rattle.bson_elem.specs.Trees.{Tree}
 use Rattle.bson_elem.specs.Spelling.{document, elements, Spells}
 use Rattle.bson_elem.specs.Faults.{FrontFault}
 use Rattle.bson_raw.specs.Spelled.{IsSpelled}
 use Rattle.wire_msg.specs.declared.fault.MsgFault.{MsgFault}
 use Rattle.wire_msg.specs.declared.fault.MsgCause.TheVariants as causes
 use Rattle.wire_msg.specs.Causes.{msg_fault}
-use Rattle.wire_msg.specs.Message.{Sequence, AreSequences}
+use Rattle.wire_msg.specs.Messages.{Sequence, AreSequences}
 use Rattle.wire_msg.specs.Spelling.{body_section, sequences_bytes, sections_bytes}
 use Rattle.wire_msg.specs.Faults.{Seen, no_body_yet, body_seen, AreSeen, SectionFault, two_bodies, of_body, of_sequence, of_kind, SectionsFault, at_section, without_body}
 use Rattle.wire_msg.specs.Checks.{IsNoSequence, IsRun, IsBadRun, HasSections}

@@ -1,16 +1,15 @@
 -- All sections: what they are, or their first fault, but for the names; one of them at most.
 use Rattle.std.proofs.Common.{◌≡◌, ◌≢◌, ℕ, ◌+◌, cond, eqb, List, [], ◌∷◌, ◌++◌, length, Result, Ok, Err, refl, sym, ap, subst, ◌∙◌, append_assoc, arith, length-append}
 use Rattle.bson_elem.specs.declared.fault.BsonFault.{BsonFault}
-use Rattle.bson_elem.specs.Tree.{Tree}
+use Rattle.bson_elem.specs.Trees.{Tree}
 use Rattle.bson_elem.specs.Spelling.{IsBytes, document, elements}
 use Rattle.bson_elem.specs.Faults.{FrontFault}
-use Rattle.bson_elem.proofs.FieldLaws.{ok_is}
-use Rattle.bson_elem.proofs.TreeLaws.{IsBytes-after}
-use Rattle.bson_elem.proofs.FrontLaws.{same_front, one_front, no_front}
+use Rattle.bson_elem.proofs.Lemmas.{IsBytes-after, no_front, ok_is, one_front, same_front}
 use Rattle.wire_msg.specs.declared.fault.MsgFault.{MsgFault}
 use Rattle.wire_msg.specs.declared.fault.MsgCause.TheVariants as causes
 use Rattle.wire_msg.specs.Causes.{msg_fault}
-use Rattle.wire_msg.specs.Message.{Sequence, IsDocument, IsSequence, AreSequences}
+use Rattle.bson_raw.specs.Split.{IsDocument}
+use Rattle.wire_msg.specs.Messages.{Sequence, IsSequence, AreSequences}
 use Rattle.wire_msg.specs.Spelling.{body_section, sequence_section, sequences_bytes}
 use Rattle.wire_msg.specs.Faults.{SequenceFault}
 use Rattle.wire_msg.specs.Checks.{IsNoSequence}

@@ -6,10 +6,11 @@ use Rattle.std.proofs.lemmas.Nat.{le_bytes_4}
 use Rattle.std.proofs.Math.Seq.{take-add}
 use Rattle.bson_elem.specs.Spelling.{IsBytes, little, cstring}
 use Rattle.bson_elem.specs.Checks.{cstring_at}
-use Rattle.bson_elem.proofs.FieldLaws.{IsBytes-take, IsBytes-drop, cstring_takes}
+use Rattle.bson_elem.proofs.Lemmas.{IsBytes-drop, IsBytes-take, cstring_takes}
 use Rattle.wire_msg.specs.declared.fault.MsgFault.{MsgFault}
 use Rattle.wire_msg.specs.Header.{number_at}
-use Rattle.wire_msg.specs.Message.{Sequence, documents_bytes, sequence_size, AreSequences}
+use Rattle.bson_raw.specs.Split.{documents_bytes}
+use Rattle.wire_msg.specs.Messages.{Sequence, sequence_size, AreSequences}
 use Rattle.wire_msg.specs.Spelling.{sequence_section, sequences_bytes}
 use Rattle.wire_msg.specs.Faults.{IsSized, SequenceFault}
 use Rattle.wire_msg.specs.Checks.{HasDocuments, IsSequenceAt, IsBadRun}

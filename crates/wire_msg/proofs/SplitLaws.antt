@@ -1,12 +1,12 @@
 -- Bytes are messages and a rest in one way.
 use Rattle.std.proofs.Common.{◌≡◌, ◌⊎◌, inl, inr, ℕ, ◌<◌, ◌≤◌, List, [], ◌∷◌, ◌++◌, length, refl, sym, ap, subst, ◌∙◌, append_assoc, append-nil, arith, length-append}
 use Rattle.bson_elem.specs.Spelling.{IsBytes}
-use Rattle.bson_elem.proofs.TreeLaws.{IsBytes-after}
+use Rattle.bson_elem.proofs.Lemmas.{IsBytes-after}
 use Rattle.wire_msg.specs.declared.fault.MsgFault.{MsgFault}
-use Rattle.wire_msg.specs.Message.{Message}
+use Rattle.wire_msg.specs.Messages.{Message}
 use Rattle.wire_msg.specs.Spelling.{SpellsMsg, IsMessage}
 use Rattle.wire_msg.specs.Standing.{IsOpen, IsWhole, IsBad}
-use Rattle.wire_msg.specs.Split.{AreSpelled, Split}
+use Rattle.wire_msg.specs.Splits.{AreSpelled, Split}
 use Rattle.wire_msg.proofs.StandingLaws.{bad_longer, least_length, one_front, open_not_whole, bad_not_whole}
 use Rattle.wire_msg.proofs.FrontLaws.{IsBytes-front}
 

@@ -3,14 +3,13 @@ use Rattle.std.proofs.Common.{◌≡◌, ◌≢◌, ℕ, ℤ, ◌+◌, ◌<◌, 
 use Rattle.std.specs.Int.{w32, from_le_bytes, cast_signed}
 use Rattle.std.proofs.lemmas.Bool.{cases_lt}
 use Rattle.std.proofs.lemmas.List.{take_at, drop_at, take-append-le, drop-append-le, nil_from_length}
-use Rattle.bson_elem.specs.Tree.{Tree}
+use Rattle.bson_elem.specs.Trees.{Tree}
 use Rattle.bson_elem.specs.Spelling.{IsBytes, elements}
-use Rattle.bson_elem.proofs.ContainerLaws.{length-document}
-use Rattle.bson_elem.proofs.FieldLaws.{ok_is, IsBytes-drop, IsBytes-take}
+use Rattle.bson_elem.proofs.Lemmas.{IsBytes-drop, IsBytes-take, length-document, ok_is}
 use Rattle.wire_msg.specs.declared.header.MsgHeader.{MsgHeader}
 use Rattle.wire_msg.specs.declared.fault.MsgFault.{MsgFault}
 use Rattle.wire_msg.specs.Header.{number_at, header_of, IsGoodHeader, HeaderFault}
-use Rattle.wire_msg.specs.Message.{Sequence, Message}
+use Rattle.wire_msg.specs.Messages.{Sequence, Message}
 use Rattle.wire_msg.specs.Spelling.{body_section, sequences_bytes, FlagsAre, SpellsMsg}
 use Rattle.wire_msg.specs.Faults.{FaultMsg}
 use Rattle.wire_msg.specs.Standing.{IsOpen, in_header, in_message, IsWhole, IsBad, bad_header, bad_message}

@@ -3,18 +3,17 @@ use Rattle.std.proofs.Common.{◌≡◌, ℕ, ◌+◌, ◌-◌, List, [], ◌∷
 use Rattle.std.specs.Prelude.{slice_range}
 use Rattle.bson_elem.specs.declared.fault.BsonCause.{BsonCause}
 use Rattle.bson_elem.specs.declared.fault.BsonFault.{BsonFault}
-use Rattle.bson_elem.specs.Tree.{Tree}
+use Rattle.bson_elem.specs.Trees.{Tree}
 use Rattle.bson_elem.specs.Spelling.{IsBytes, document, elements}
 use Rattle.bson_elem.specs.Checks.{cstring_at}
 use Rattle.bson_elem.specs.Faults.{FrontFault}
-use Rattle.bson_elem.proofs.FieldLaws.{ok_is, IsBytes-take, IsBytes-drop, cstring_takes}
-use Rattle.bson_elem.proofs.TreeLaws.{IsBytes-after}
-use Rattle.bson_elem.proofs.FrontLaws.{same_front, one_front, no_front}
+use Rattle.bson_elem.proofs.Lemmas.{IsBytes-after, IsBytes-drop, IsBytes-take, cstring_takes, no_front, ok_is, one_front, same_front}
 use Rattle.wire_msg.specs.declared.fault.MsgFault.{MsgFault}
 use Rattle.wire_msg.specs.declared.fault.MsgCause.TheVariants as causes
 use Rattle.wire_msg.specs.Causes.{msg_fault}
 use Rattle.wire_msg.specs.Header.{number_at}
-use Rattle.wire_msg.specs.Message.{Sequence, AreDocuments, documents_bytes, sequence_size, IsSequence}
+use Rattle.bson_raw.specs.Split.{AreDocuments, documents_bytes}
+use Rattle.wire_msg.specs.Messages.{Sequence, sequence_size, IsSequence}
 use Rattle.wire_msg.specs.Spelling.{sequence_section}
 use Rattle.wire_msg.specs.Faults.{IsSized, sequence_rest, DocumentsFault, SequenceFault, of_size, of_identifier, of_documents}
 use Rattle.wire_msg.proofs.ReadLaws.{SequenceRead, sequence_read}

@@ -5,9 +5,9 @@ use Rattle.std.specs.Prelude.{OnOk, OnErr, is_ok, if◌then◌else◌}
 use Rattle.std.specs.Int.{w32}
 use Rattle.std.proofs.Math.Seq.{take-append_seam}
 use Rattle.std.proofs.lemmas.List.{take-append-le, take-append-drop}
-use Rattle.bson_elem.specs.Tree.{Tree}
+use Rattle.bson_elem.specs.Trees.{Tree}
 use Rattle.bson_elem.specs.Spelling.{little, document, elements}
-use Rattle.wire_msg.specs.Message.{Content, Message, IsContent}
+use Rattle.wire_msg.specs.Messages.{Content, Message, IsContent}
 use Rattle.wire_msg.specs.Spelling.{body_section, sequences_bytes, sections_bytes, signed, header_bytes, message_bytes, flag_word, canonical, message_len, FlagsAre, SpellsMsg}
 use Rattle.wire_msg.specs.Payload.{AreParts}
 use Rattle.wire_msg.proofs.SequenceLaws.{sequences-append}

@@ -1,12 +1,11 @@
 -- What an owned payload carries, what is added to it, and why none is made or nothing is added.
 use Rattle.std.specs.Prelude.{◌≡◌, ◌≢◌, ℕ, ◌^◌, ◌<◌, ◌≤◌, List, [], ◌∷◌, ◌++◌, true, false, None, Contains}
-use Rattle.bson_elem.specs.Tree.{Tree}
-use Rattle.bson_elem.specs.Spelling.{HasNoZero}
-use Rattle.bson_raw.specs.Pairs.{first_repeated}
+use Rattle.bson_elem.specs.{HasNoZero, Tree}
+use Rattle.bson_raw.specs.{first_repeated}
 use Rattle.wire_msg.specs.declared.payload_buf.PayloadBuf.{PayloadBuf}
 use Rattle.wire_msg.specs.declared.refusal.MsgRefusal.{MsgRefusal}
 use Rattle.wire_msg.specs.declared.refusal.MsgRefusal.TheVariants.{TooLarge, RepeatedField, SequenceInBody, ZeroInName, NoSequence, OutOfMemory}
-use Rattle.wire_msg.specs.Message.{Sequence, Content, is_field}
+use Rattle.wire_msg.specs.Messages.{Sequence, Content, is_field}
 use Rattle.wire_msg.specs.Spelling.{message_len}
 use Rattle.wire_msg.specs.Payload.{AreParts}
 

@@ -1,9 +1,9 @@
 -- What the parts of the check tell.
 use Rattle.std.specs.Prelude.{◌≡◌, ◌≢◌, ℕ, ◌+◌, ◌≤◌, Bool, None, List, [], ◌∷◌, ◌++◌, length, take, drop}
-use Rattle.bson_elem.specs.Tree.{Tree}
-use Rattle.bson_elem.specs.Spelling.{Spells}
+use Rattle.bson_elem.specs.{Spells, Tree}
 use Rattle.wire_msg.specs.declared.fault.MsgFault.{MsgFault}
-use Rattle.wire_msg.specs.Message.{Sequence, AreDocuments, IsSequence, AreSequences, documents_bytes}
+use Rattle.bson_raw.specs.{AreDocuments, documents_bytes}
+use Rattle.wire_msg.specs.Messages.{Sequence, IsSequence, AreSequences}
 use Rattle.wire_msg.specs.Spelling.{sequence_section, sequences_bytes, sections_bytes, FlagsAre}
 use Rattle.wire_msg.specs.Header.{number_at}
 use Rattle.wire_msg.specs.Faults.{SequenceFault, flags_fault}

@@ -1,12 +1,10 @@
 -- What the walk over documents back to back gives.
 use Rattle.std.specs.Prelude.{◌≡◌, ℕ, List, [], ◌∷◌, length, Option, Some, None}
-use Rattle.bson_elem.specs.Tree.{Tree}
-use Rattle.bson_elem.specs.Spelling.{Spells}
+use Rattle.bson_elem.specs.{Spells, Tree}
 use Rattle.bson_raw.specs.declared.document.RawDocument.{RawDocument}
-use Rattle.bson_raw.specs.RawDocument.{document_bytes}
-use Rattle.wire_msg.specs.Message.{AreDocuments, documents_bytes}
-use Rattle.wire_msg.specs.declared.documents.Documents.{Documents}
-use Rattle.wire_msg.specs.declared.documents.DocumentsIter.{DocumentsIter}
+use Rattle.bson_raw.specs.{AreDocuments, document_bytes, documents_bytes}
+use Rattle.wire_msg.specs.declared.document_iter.Documents.{Documents}
+use Rattle.wire_msg.specs.declared.document_iter.DocumentsIter.{DocumentsIter}
 
 -- the documents are these
 abbrev pub DocumentsAre : Documents → List Tree → Type 0

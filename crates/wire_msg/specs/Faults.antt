@@ -4,14 +4,12 @@ use Rattle.std.specs.Option.{option_or}
 use Rattle.std.specs.Int.{bit_at}
 use Rattle.bson_elem.specs.declared.fault.BsonCause.{BsonCause}
 use Rattle.bson_elem.specs.declared.fault.BsonFault.{BsonFault}
-use Rattle.bson_elem.specs.Tree.{Tree}
-use Rattle.bson_elem.specs.Checks.{cstring_at}
-use Rattle.bson_elem.specs.Faults.{FrontFault}
-use Rattle.bson_raw.specs.Pairs.{first_repeated}
+use Rattle.bson_elem.specs.{FrontFault, Tree, cstring_at}
+use Rattle.bson_raw.specs.{AreDocuments, IsDocument, documents_bytes, first_repeated}
 use Rattle.wire_msg.specs.declared.fault.MsgFault.{MsgFault}
 use Rattle.wire_msg.specs.declared.fault.MsgCause.TheVariants as causes
 use Rattle.wire_msg.specs.Causes.{msg_fault}
-use Rattle.wire_msg.specs.Message.{Sequence, IsDocument, AreDocuments, AreSequences, documents_bytes, is_field}
+use Rattle.wire_msg.specs.Messages.{Sequence, AreSequences, is_field}
 use Rattle.wire_msg.specs.Spelling.{body_section, sequence_section, sequences_bytes, sections_bytes}
 use Rattle.wire_msg.specs.Header.{number_at, header_of, IsGoodHeader, HeaderFault}
 

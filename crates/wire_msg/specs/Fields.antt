@@ -1,10 +1,8 @@
 -- The top-level names of a body, as they are looked up.
 use Rattle.std.specs.Prelude.{◌≡◌, map}
 use Rattle.std.specs.Map.Iter.{deref}
-use Rattle.bson_elem.specs.Tree.{Tree}
-use Rattle.bson_elem.specs.Spelling.{Spells}
-use Rattle.bson_raw.specs.Pairs.{names_of}
-use Rattle.bson_raw.specs.RawDocument.{document_bytes}
+use Rattle.bson_elem.specs.{Spells, Tree}
+use Rattle.bson_raw.specs.{document_bytes, names_of}
 use Rattle.wire_msg.specs.declared.fields.Fields.{Fields}
 use Rattle.wire_msg.specs.declared.fields.Fields.TheVariants.{Pairs, Set}
 

@@ -1,6 +1,7 @@
 -- Bytes that are known to be documents back to back, or document sequences, one after another.
 use Rattle.std.specs.Prelude.{◌≡◌, ℕ, ◌+◌, List, [], ◌∷◌, ◌++◌, length}
-use Rattle.wire_msg.specs.Message.{Sequence, IsSequence, AreSequences, documents_bytes}
+use Rattle.bson_raw.specs.{documents_bytes}
+use Rattle.wire_msg.specs.Messages.{Sequence, IsSequence, AreSequences}
 use Rattle.wire_msg.specs.Spelling.{sequence_section, sequences_bytes}
 
 -- a document sequence begins the bytes

@@ -1,20 +1,31 @@
 pub mod Causes
 pub mod Refusals
-pub mod Message
+pub mod Messages
 pub mod Spelling
 pub mod Header
 pub mod Faults
 pub mod FaultText
 pub mod Payload
-pub mod Carries
+pub mod Carrying
 pub mod Checks
 pub mod Known
 pub mod Documents
 pub mod Sequences
 pub mod RawMsg
 pub mod Standing
-pub mod Split
+pub mod Splits
 pub mod Front
 pub mod Writing
 pub mod Buf
 pub mod Fields
+-- the words that clauses of other crates cite
+pub use Rattle.wire_msg.specs.Carrying.{Carries}
+pub use Rattle.wire_msg.specs.Causes.{msg_fault}
+pub use Rattle.wire_msg.specs.Documents.{DocumentsAre}
+pub use Rattle.wire_msg.specs.FaultText.{fault_text}
+pub use Rattle.wire_msg.specs.Faults.{FaultMsg}
+pub use Rattle.wire_msg.specs.Messages.{Content, Message, Sequence}
+pub use Rattle.wire_msg.specs.RawMsg.{msg_bytes}
+pub use Rattle.wire_msg.specs.Spelling.{SpellsMsg, message_len}
+pub use Rattle.wire_msg.specs.Splits.{Split}
+pub use Rattle.wire_msg.specs.Standing.{IsBad, IsOpen}

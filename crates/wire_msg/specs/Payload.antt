@@ -1,7 +1,7 @@
 -- What a borrowed payload carries.
 use Rattle.std.specs.Prelude.{◌≡◌, ℕ, ◌^◌, ◌<◌, List, ◌++◌}
-use Rattle.bson_elem.specs.Spelling.{Spells}
-use Rattle.wire_msg.specs.Message.{Sequence, Content, IsContent}
+use Rattle.bson_elem.specs.{Spells}
+use Rattle.wire_msg.specs.Messages.{Sequence, Content, IsContent}
 use Rattle.wire_msg.specs.Spelling.{sequences_bytes, message_len}
 
 -- These are the bytes of the sequences before a body, of the body's document, and of the sequences behind it.

@@ -1,10 +1,10 @@
 -- What the walk over document sequences gives.
 use Rattle.std.specs.Prelude.{◌≡◌, ℕ, ◌+◌, List, [], ◌∷◌, length, Option, Some, None}
 use Rattle.std.specs.Borrow.{Bor}
-use Rattle.wire_msg.specs.Message.{Sequence}
+use Rattle.wire_msg.specs.Messages.{Sequence}
 use Rattle.wire_msg.specs.Known.{AreRuns}
 use Rattle.wire_msg.specs.Documents.{DocumentsAre}
-use Rattle.wire_msg.specs.declared.documents.Documents.{Documents}
+use Rattle.wire_msg.specs.declared.document_iter.Documents.{Documents}
 use Rattle.wire_msg.specs.declared.sequence_iter.SequencesIter.{SequencesIter}
 
 -- the sequences that are left are these

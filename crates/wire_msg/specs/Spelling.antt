@@ -1,9 +1,9 @@
 -- The bytes of a message (MongoDB Wire Protocol manual: Standard Message Header, OP_MSG).
 use Rattle.std.specs.Prelude.{◌≡◌, ℕ, ℤ, ◌+◌, ◌*◌, ◌%◌, ◌^◌, ◌<◌, ◌≤◌, FitsSigned, List, [], ◌∷◌, ◌++◌, length, Bool}
 use Rattle.std.specs.Int.{w32, cast_unsigned, from_bool, bit_at}
-use Rattle.bson_elem.specs.Tree.{Tree}
-use Rattle.bson_elem.specs.Spelling.{little, cstring, document, elements}
-use Rattle.wire_msg.specs.Message.{Sequence, Content, Message, documents_bytes, sequence_size, IsContent}
+use Rattle.bson_elem.specs.{Tree, cstring, document, elements, little}
+use Rattle.bson_raw.specs.{documents_bytes}
+use Rattle.wire_msg.specs.Messages.{Sequence, Content, Message, sequence_size, IsContent}
 
 -- ---- sections
 

@@ -3,7 +3,7 @@
 ghost use Rattle.std.specs.Prelude.{◌≡◌};
 ghost use Rattle.wire_msg.specs.Causes.{cause_name, cause_number};
 
-use bson_elem::fault::BsonFault;
+use bson_elem::BsonFault;
 use std::fmt;
 
 /// What is wrong with the bytes. A cause displays as its name, and `Opcode` with the opcode behind

@@ -2,14 +2,12 @@
 
 ghost use Rattle.std.specs.Prelude.{◌≡◌, [], map, None, IfOk, IsSome, MatchOption};
 ghost use Rattle.std.specs.Map.Iter.{deref};
-ghost use Rattle.bson_elem.specs.Tree.{Tree};
-ghost use Rattle.bson_elem.specs.Spelling.{Spells};
-ghost use Rattle.bson_raw.specs.Pairs.{first_repeated, names_of};
-ghost use Rattle.bson_raw.specs.RawDocument.{document_bytes};
+ghost use Rattle.bson_elem.specs.{Spells, Tree};
+ghost use Rattle.bson_raw.specs.{document_bytes, first_repeated, names_of};
 ghost use Rattle.wire_msg.specs.Fields.{AreFields};
-ghost use Rattle.wire_msg.specs.Message.{is_field};
+ghost use Rattle.wire_msg.specs.Messages.{is_field};
 
-use bson_raw::document::RawDocument;
+use bson_raw::RawDocument;
 use indexmap::IndexSet;
 use std::alloc::{AllocError, Global};
 

@@ -2,7 +2,7 @@
 
 ghost use Rattle.std.specs.Prelude.{◌≡◌, ◌≤◌, ℕ, List};
 ghost use Rattle.wire_msg.specs.declared.fault.MsgFault.{MsgFault};
-ghost use Rattle.wire_msg.specs.Message.{Message};
+ghost use Rattle.wire_msg.specs.Messages.{Message};
 ghost use Rattle.wire_msg.specs.Standing.{IsBad, IsOpen, IsWhole};
 ghost use Rattle.wire_msg.specs.Front.{HasWhole, IsFrame, IsFront};
 

@@ -43,7 +43,7 @@ impl MsgHeader {
         }
     }
 
-    /// Whether a message of at most `limit` bytes can have this header.
+    /// Checks that a message of at most `limit` bytes can have this header.
     ///
     /// # Errors
     ///

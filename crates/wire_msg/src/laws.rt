@@ -3,19 +3,19 @@
 
 ghost use Rattle.std.specs.Prelude.{◌≡◌, ◌≢◌, ◌<◌, ◌≤◌, ◌^◌, ◌++◌, ◌∷◌, ◌⊎◌, [], ℕ, FitsSigned, List, length, take};
 ghost use Rattle.std.specs.Int.{w32};
-ghost use Rattle.bson_elem.specs.Spelling.{IsBytes};
+ghost use Rattle.bson_elem.specs.{IsBytes};
 ghost use Rattle.wire_msg.specs.declared.fault.MsgFault.{MsgFault};
 ghost use Rattle.wire_msg.specs.declared.header.MsgHeader.{MsgHeader};
-ghost use Rattle.wire_msg.specs.declared.payload.Payload.{Payload};
+ghost use Rattle.wire_msg.specs.declared.payloads.Payload.{Payload};
 ghost use Rattle.wire_msg.specs.declared.payload_buf.PayloadBuf.{PayloadBuf};
 ghost use Rattle.wire_msg.specs.Buf.{BufCarries};
-ghost use Rattle.wire_msg.specs.Carries.{Carries};
+ghost use Rattle.wire_msg.specs.Carrying.{Carries};
 ghost use Rattle.wire_msg.specs.Header.{header_of, HeaderFault, IsGoodHeader, number_at};
-ghost use Rattle.wire_msg.specs.Message.{Content, IsContent, Message};
+ghost use Rattle.wire_msg.specs.Messages.{Content, IsContent, Message};
 ghost use Rattle.wire_msg.specs.Spelling.{canonical, message_len, SpellsMsg};
 ghost use Rattle.wire_msg.specs.Faults.{FaultMsg};
 ghost use Rattle.wire_msg.specs.Standing.{IsBad, IsOpen, IsWhole, Stands};
-ghost use Rattle.wire_msg.specs.Split.{AreSpelled, Split};
+ghost use Rattle.wire_msg.specs.Splits.{AreSpelled, Split};
 
 use crate::front::MsgFront;
 use crate::msg::RawMsg;

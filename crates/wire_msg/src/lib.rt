@@ -14,19 +14,31 @@
 #![tactic(auto)]
 
 mod append;
-pub mod documents;
-pub mod fault;
+mod document_iter;
+mod fault;
 mod fields;
-pub mod flags;
-pub mod front;
-pub mod header;
+mod flags;
+mod front;
+mod header;
 pub mod laws;
-pub mod msg;
+mod msg;
 mod names;
-pub mod payload;
-pub mod payload_buf;
-pub mod refusal;
+mod payload_buf;
+mod payloads;
+mod refusal;
 mod sections;
 mod sequence;
-pub mod sequence_iter;
-pub mod write;
+mod sequence_iter;
+mod write;
+
+pub use document_iter::{Documents, DocumentsIter};
+pub use fault::{MsgCause, MsgFault};
+pub use flags::MsgFlags;
+pub use front::MsgFront;
+pub use header::{HEADER_LEN, MAX_MESSAGE_LEN, MsgHeader, OP_MSG};
+pub use msg::RawMsg;
+pub use payload_buf::PayloadBuf;
+pub use payloads::Payload;
+pub use refusal::MsgRefusal;
+pub use sequence_iter::SequencesIter;
+pub use write::write_msg;

@@ -1,11 +1,11 @@
 //! A message, borrowed from its bytes (MongoDB Wire Protocol manual: OP_MSG).
 
 ghost use Rattle.std.specs.Prelude.{◌≡◌, ◌+◌, ◌<◌, ◌≤◌, ◌^◌, ℕ, length, MatchResult, IfOk, IfErr, IsOk, IsErrOf};
-ghost use Rattle.bson_elem.specs.Spelling.{document, elements};
-ghost use Rattle.bson_raw.specs.RawDocument.{document_bytes};
+ghost use Rattle.bson_elem.specs.{document, elements};
+ghost use Rattle.bson_raw.specs.{document_bytes};
 ghost use Rattle.wire_msg.specs.declared.fault.MsgFault.{MsgFault};
 ghost use Rattle.wire_msg.specs.Header.{header_of};
-ghost use Rattle.wire_msg.specs.Message.{Message};
+ghost use Rattle.wire_msg.specs.Messages.{Message};
 ghost use Rattle.wire_msg.specs.Spelling.{IsMessage, IsSpelledMsg, sequences_bytes, SpellsMsg};
 ghost use Rattle.wire_msg.specs.Checks.{HasParts};
 ghost use Rattle.wire_msg.specs.Faults.{FaultMsg, IsFramedMsg, PartsFault};
@@ -14,12 +14,12 @@ use crate::fault::{MsgCause, MsgFault};
 use crate::flags::MsgFlags;
 use crate::header::{MAX_MESSAGE_LEN, MsgHeader};
 use crate::names::{check_names, check_names_with};
-use crate::payload::Payload;
+use crate::payloads::Payload;
 use crate::sections::{SECTIONS, split_sections};
 use crate::sequence::{SEQUENCE, fault_at};
 use crate::sequence_iter::known_size;
-use bson_elem::number::little_u32;
-use bson_raw::document::RawDocument;
+use bson_elem::little_u32;
+use bson_raw::RawDocument;
 use std::alloc::Global;
 use std::convert::AsSlice;
 
@@ -147,7 +147,7 @@ impl<'a> AsSlice<u8> for RawMsg<'a> {
 }
 
 impl<'a> RawMsg<'a> {
-    ghost use Rattle.wire_msg.specs.Carries.{Carries};
+    ghost use Rattle.wire_msg.specs.Carrying.{Carries};
     ghost use Rattle.wire_msg.specs.RawMsg.{msg_bytes};
 
     /// Reads `bytes` as one message of at most `limit` bytes. It takes no memory; the time to find

@@ -2,12 +2,10 @@
 //! one of them.
 
 ghost use Rattle.std.specs.Prelude.{◌≡◌, ◌+◌, ◌<◌, ◌^◌, length, [], List, MatchResult, Some, None};
-ghost use Rattle.bson_elem.specs.Tree.{Tree};
-ghost use Rattle.bson_elem.specs.Spelling.{Spells};
-ghost use Rattle.bson_raw.specs.Pairs.{first_repeated};
-ghost use Rattle.bson_raw.specs.RawDocument.{document_bytes};
+ghost use Rattle.bson_elem.specs.{Spells, Tree};
+ghost use Rattle.bson_raw.specs.{document_bytes, first_repeated};
 ghost use Rattle.wire_msg.specs.Fields.{AreFields};
-ghost use Rattle.wire_msg.specs.Message.{AreSequences, Sequence};
+ghost use Rattle.wire_msg.specs.Messages.{AreSequences, Sequence};
 ghost use Rattle.wire_msg.specs.Spelling.{sequences_bytes};
 ghost use Rattle.wire_msg.specs.Faults.{first_in_body, names_fault};
 ghost use Rattle.wire_msg.specs.Checks.{HasSequences};
@@ -17,7 +15,7 @@ use crate::fields::{Fields, unique_names};
 use crate::sections::SECTIONS;
 use crate::sequence::fault_at;
 use crate::sequence_iter::split_sequence;
-use bson_raw::document::RawDocument;
+use bson_raw::RawDocument;
 use std::alloc::Global;
 
 /// Returns the offset of the first of `sequences` whose identifier is one of `fields`. The first

@@ -1,23 +1,22 @@
 //! The payload of a message, in bytes of its own.
 
 ghost use Rattle.std.specs.Prelude.{◌≡◌, ◌≢◌, ◌+◌, ◌^◌, [], IfOk, OnOk, OnErr, IfErr};
-ghost use Rattle.bson_elem.specs.Tree.{Tree};
-ghost use Rattle.bson_elem.specs.Spelling.{Spells};
-ghost use Rattle.bson_raw.specs.RawDocument.{document_bytes};
-ghost use Rattle.wire_msg.specs.Message.{Content};
+ghost use Rattle.bson_elem.specs.{Spells, Tree};
+ghost use Rattle.bson_raw.specs.{document_bytes};
+ghost use Rattle.wire_msg.specs.Messages.{Content};
 ghost use Rattle.wire_msg.specs.Spelling.{message_len};
 ghost use Rattle.wire_msg.specs.Payload.{AreParts, IsPayload};
 ghost use Rattle.wire_msg.specs.Known.{IsLastOffset};
 
 use crate::append::{append_document, append_sequence};
-use crate::payload::Payload;
+use crate::payloads::Payload;
 use crate::refusal::MsgRefusal;
 use crate::sequence_iter::last_offset;
-use bson_raw::document::RawDocument;
+use bson_raw::RawDocument;
 use std::alloc::{AllocError, Global};
 
 /// The greatest length of a message, in bytes: the greatest int32.
-const MAX_LEN: u64 = 2_147_483_647;
+const MAX_LEN: u64 = bson_elem::MAX_LEN as u64;
 
 /// The body and the document sequences of a message of at most 2,147,483,647 bytes. The top-level
 /// names of the body are unique, and no identifier is one of them.
@@ -36,7 +35,7 @@ impl PayloadBuf {
     ghost use Rattle.wire_msg.specs.Buf.{body_alone, with_sequence, with_document};
     ghost use Rattle.wire_msg.specs.Buf.{BufCarries, HasSameBytes};
     ghost use Rattle.wire_msg.specs.Buf.{IsBodyRefusal, IsSequenceRefusal, IsDocumentRefusal};
-    ghost use Rattle.wire_msg.specs.Carries.{Carries};
+    ghost use Rattle.wire_msg.specs.Carrying.{Carries};
 
     /// Makes the payload of a body and no document sequence.
     ///

@@ -1,13 +1,13 @@
 //! Checks the sections of a message (MongoDB Wire Protocol manual: OP_MSG, sections).
 
 ghost use Rattle.std.specs.Prelude.{◌≡◌, ◌<◌, ◌≤◌, ◌^◌, length, drop, MatchResult};
-ghost use Rattle.bson_raw.specs.RawDocument.{document_bytes};
+ghost use Rattle.bson_raw.specs.{document_bytes};
 ghost use Rattle.wire_msg.specs.Faults.{SectionsFault};
 ghost use Rattle.wire_msg.specs.Checks.{HasSections};
 
 use crate::fault::{MsgCause, MsgFault};
 use crate::sequence::{check_sequences, fault_at};
-use bson_raw::document::RawDocument;
+use bson_raw::RawDocument;
 
 /// The kind byte of a body.
 const BODY: u8 = 0;

@@ -7,9 +7,8 @@ ghost use Rattle.wire_msg.specs.Faults.{DocumentsFault, IsSized, SequenceFault};
 ghost use Rattle.wire_msg.specs.Checks.{HasDocuments, IsBadRun, IsRun, IsSequenceAt};
 
 use crate::fault::{MsgCause, MsgFault};
-use bson_elem::number::little_u32;
-use bson_elem::text::read_cstring;
-use bson_raw::document::RawDocument;
+use bson_elem::{little_u32, read_cstring};
+use bson_raw::RawDocument;
 
 /// The kind byte of a document sequence.
 pub(crate) const SEQUENCE: u8 = 1;

@@ -2,14 +2,13 @@
 
 ghost use Rattle.std.specs.Prelude.{◌≡◌, ◌≢◌, ◌+◌, ◌<◌, ◌≤◌, ◌++◌, ◌∷◌, List, ℕ, length};
 ghost use Rattle.std.specs.Iterator.{at_most};
-ghost use Rattle.wire_msg.specs.Message.{AreSequences, IsSequence, Sequence, sequence_size};
+ghost use Rattle.wire_msg.specs.Messages.{AreSequences, IsSequence, Sequence, sequence_size};
 ghost use Rattle.wire_msg.specs.Spelling.{sequence_section, sequences_bytes};
 ghost use Rattle.wire_msg.specs.Checks.{HasDocuments, HasSequences};
 ghost use Rattle.wire_msg.specs.Known.{ArePartsOf, AreRuns, BeginsSequence, IsLastOffset};
 
-use crate::documents::Documents;
-use bson_elem::number::little_u32;
-use bson_elem::text::read_cstring;
+use crate::document_iter::Documents;
+use bson_elem::{little_u32, read_cstring};
 
 /// Reads the size of the sequence that is known to begin `bytes`.
 pub(crate) fn known_size(bytes: &[u8]) -> usize

@@ -3,15 +3,15 @@
 
 ghost use Rattle.std.specs.Prelude.{◌≡◌, ◌≤◌, ◌++◌, OnOk, OnErr, IfErr};
 ghost use Rattle.std.specs.Io.{StartsWith};
-ghost use Rattle.bson_elem.specs.Spelling.{little};
-ghost use Rattle.wire_msg.specs.Carries.{Carries};
-ghost use Rattle.wire_msg.specs.Message.{Content, Message};
+ghost use Rattle.bson_elem.specs.{little};
+ghost use Rattle.wire_msg.specs.Carrying.{Carries};
+ghost use Rattle.wire_msg.specs.Messages.{Content, Message};
 ghost use Rattle.wire_msg.specs.Spelling.{canonical, flag_word, header_bytes, message_len, signed};
 ghost use Rattle.wire_msg.specs.Writing.{IsWriteRefusal};
 
 use crate::flags::MsgFlags;
 use crate::header::OP_MSG;
-use crate::payload::Payload;
+use crate::payloads::Payload;
 use crate::refusal::MsgRefusal;
 use byteorder::{ByteOrder, LittleEndian};
 use std::alloc::AllocError;

@@ -3,7 +3,7 @@ use Rattle.std.proofs.Common.{◌≡◌, ◌+◌, ◌-◌, ◌∙◌, sym, subst
 use Rattle.std.proofs.lemmas.Result.{err_from_is_err_and}
 use Rattle.bson_elem.specs.Kinds.{byte_of}
 use Rattle.bson_raw.specs.Spelled.{IsSpelled}
-use Rattle.bson_doc.specs.declared.buf.TheConstants.{MAX_LEN}
+use Rattle.bson_elem.specs.declared.number.TheConstants.{MAX_LEN}
 use Rattle.bson_doc.specs.Bson.{value_of}
 use Rattle.bson_doc.specs.Last.{with_last}
 use Rattle.bson_doc.specs.Refusals.{IsLengthRefusal}

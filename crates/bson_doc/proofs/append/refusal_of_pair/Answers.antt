@@ -1,7 +1,7 @@
 use Rattle.std.proofs.Common.{◌+◌, length}
 use Rattle.bson_doc.specs.Bson.{value_of}
 use Rattle.bson_doc.specs.Values.{element_bytes}
-use Rattle.bson_doc.specs.declared.buf.TheConstants.{MAX_LEN}
+use Rattle.bson_elem.specs.declared.number.TheConstants.{MAX_LEN}
 use Rattle.bson_doc.proofs.Rooms.{room_behind}
 use Rattle.bson_doc.proofs.append.refusal_of_pair.Goals as goal
 

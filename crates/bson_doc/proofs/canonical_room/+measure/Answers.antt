@@ -1,7 +1,6 @@
 use Rattle.std.proofs.Common.{◌+◌, length, ap, ◌∙◌, arith}
 use Rattle.bson_raw.specs.Pairs.{names_of}
-use Rattle.bson_raw.proofs.CountLaws.{count_fits, length-names_of-le}
-use Rattle.bson_raw.proofs.PairLaws.{names_of-with_first}
+use Rattle.bson_raw.proofs.Lemmas.{count_fits, length-names_of-le, names_of-with_first}
 use Rattle.bson_doc.proofs.Rooms.{plain_room_more}
 use Rattle.bson_doc.proofs.canonical_room.+measure.Goals as goal
 

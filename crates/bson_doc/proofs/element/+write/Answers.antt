@@ -1,11 +1,10 @@
 use Rattle.std.proofs.Common.{◌≡◌, ◌+◌, ◌≤◌, ◌<◌, ◌++◌, ℕ, List, length, sym, ap, ◌∙◌, append_assoc, arith, vec_len, rules, subst, OnOk}
 use Rattle.std.proofs.lemmas.Grind.{not_there}
-use Rattle.bson_elem.specs.Tree.{Tree}
+use Rattle.bson_elem.specs.Trees.{Tree}
 use Rattle.bson_elem.specs.Kinds.{byte_of}
 use Rattle.bson_elem.specs.Spelling.{cstring, string, elements}
 use Rattle.bson_raw.specs.Pairs.{names_of}
-use Rattle.bson_raw.proofs.CountLaws.{count_fits, length-names_of-le}
-use Rattle.bson_raw.proofs.PairLaws.{names_of-with_first}
+use Rattle.bson_raw.proofs.Lemmas.{count_fits, length-names_of-le, names_of-with_first}
 use Rattle.bson_raw.specs.Naming.{name_at}
 use Rattle.bson_doc.specs.Plain.{plain_from}
 use Rattle.bson_doc.specs.Values.{plain_value, value_kind, value_bytes, element_bytes}

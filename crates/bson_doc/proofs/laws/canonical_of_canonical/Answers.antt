@@ -1,5 +1,5 @@
 use Rattle.std.proofs.Common.{◌≡◌, false, sym, ◌∙◌, ap}
-use Rattle.bson_elem.specs.Tree.{Tree}
+use Rattle.bson_elem.specs.Trees.{Tree}
 use Rattle.bson_elem.specs.Spelling.{document, elements}
 use Rattle.bson_doc.specs.Plain.{plain}
 use Rattle.bson_doc.proofs.PlainLaws.{plain-again, one_tree}

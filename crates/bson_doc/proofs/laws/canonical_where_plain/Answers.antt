@@ -1,5 +1,5 @@
 use Rattle.std.proofs.Common.{sym, subst}
-use Rattle.bson_elem.specs.Tree.{Tree}
+use Rattle.bson_elem.specs.Trees.{Tree}
 use Rattle.bson_elem.specs.Spelling.{Spells}
 use Rattle.bson_doc.specs.Plain.{plain}
 use Rattle.bson_doc.proofs.PlainLaws.{one_tree}

@@ -1,5 +1,5 @@
 use Rattle.std.proofs.Common.{sym, ◌∙◌, ap}
-use Rattle.bson_elem.specs.Tree.{Tree}
+use Rattle.bson_elem.specs.Trees.{Tree}
 use Rattle.bson_elem.specs.Spelling.{document, elements}
 use Rattle.bson_doc.proofs.laws.same_plain_tree_same_bytes.Goals as goal
 

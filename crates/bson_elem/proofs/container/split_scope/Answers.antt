@@ -1,6 +1,6 @@
 use Rattle.std.proofs.Common.{rules, ◌≡◌, ℕ, ◌+◌, ◌-◌, ◌∙◌, Ok, length, take, ap, arith}
 use Rattle.std.specs.Int.{w32, from_le_bytes}
-use Rattle.bson_elem.specs.Tree.{with_code}
+use Rattle.bson_elem.specs.Trees.{with_code}
 use Rattle.bson_elem.specs.Checks.{opens}
 use Rattle.bson_elem.specs.Documents.{elements_of}
 use Rattle.bson_elem.proofs.ScopeLaws.{scope_read}

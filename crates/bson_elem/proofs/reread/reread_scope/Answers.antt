@@ -1,5 +1,5 @@
 use Rattle.std.proofs.Common.{◌≡◌, ℕ, ◌+◌, ◌-◌, ◌∙◌, Ok, length, ap, arith}
-use Rattle.bson_elem.specs.Tree.{with_code}
+use Rattle.bson_elem.specs.Trees.{with_code}
 use Rattle.bson_elem.specs.Checks.{opens}
 use Rattle.bson_elem.specs.Documents.{elements_of}
 use Rattle.bson_elem.proofs.ScopeLaws.{checked_scope}

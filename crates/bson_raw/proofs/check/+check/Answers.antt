@@ -1,7 +1,7 @@
 use Rattle.std.proofs.Common.{eqb, get_or, ◌≡◌, ℕ, ◌+◌, ◌-◌, ◌<◌, Bool, ◌&&◌, List, Option, Some, Err, ap, sym, subst, ◌∙◌, length, drop, arith, length-take, length-drop}
 use Rattle.std.specs.Prelude.{slice_range}
 use Rattle.std.proofs.lemmas.Result.{err_from_is_err_and}
-use Rattle.bson_elem.proofs.TreeLaws.{joined}
+use Rattle.bson_elem.proofs.Lemmas.{joined}
 use Rattle.bson_elem.specs.declared.fault.BsonFault.{BsonFault}
 use Rattle.bson_elem.specs.Checks.{element_at}
 use Rattle.bson_elem.specs.Faults.{Before, FaultIn}

@@ -1,6 +1,6 @@
 use Rattle.std.proofs.Common.{◌-◌, ◌≡◌, ◌+◌, ◌≤◌, ◌*◌, length}
 use Rattle.std.specs.Prelude.{slice_range}
-use Rattle.bson_elem.specs.Tree.{Tree}
+use Rattle.bson_elem.specs.Trees.{Tree}
 use Rattle.bson_elem.specs.Spelling.{elements}
 use Rattle.bson_elem.specs.Faults.{Before}
 use Rattle.bson_raw.specs.Naming.{is_plain}

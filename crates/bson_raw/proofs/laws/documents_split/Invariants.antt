@@ -1,5 +1,5 @@
 use Rattle.std.proofs.Common.{List, length}
-use Rattle.bson_elem.specs.Tree.{Tree}
+use Rattle.bson_elem.specs.Trees.{Tree}
 use Rattle.bson_raw.proofs.Splits.{Walked}
 use Rattle.bson_raw.proofs.laws.documents_split.Given as goal
 

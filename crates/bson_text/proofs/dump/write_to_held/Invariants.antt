@@ -1,6 +1,6 @@
 use Rattle.std.proofs.Common.{◌≡◌, ◌≤◌, ◌++◌, ℕ, List}
 use Rattle.std.specs.Io.KnownBytes.{Appends}
-use Rattle.bson_elem.specs.Tree.{Tree}
+use Rattle.bson_elem.specs.Trees.{Tree}
 use Rattle.bson_raw.specs.RawIter.{PairsLeft, pairs_bound, walked_len}
 use Rattle.bson_text.specs.Dump.{element_lines}
 use Rattle.bson_text.specs.TextWriter.{text_contents}

@@ -1,7 +1,7 @@
 use Rattle.std.proofs.Common.{◌≡◌, ◌++◌, List, ℕ}
 use Rattle.std.specs.Prelude.{flat_map}
 use Rattle.std.specs.Io.KnownBytes.{Appends}
-use Rattle.bson_elem.specs.Tree.{Tree}
+use Rattle.bson_elem.specs.Trees.{Tree}
 use Rattle.wire_msg.specs.Documents.{DocumentsAre, DocumentsLeft}
 use Rattle.engines.specs.Msg.{member_text}
 use Rattle.engines.proofs.msg_text.write_documents.Given as goal

@@ -1,8 +1,8 @@
 use Rattle.std.proofs.Common.{◌≡◌, ◌++◌, List, ℕ}
 use Rattle.std.specs.Prelude.{flat_map}
 use Rattle.std.specs.Io.KnownBytes.{Appends}
-use Rattle.wire_msg.specs.Carries.{Carries}
-use Rattle.wire_msg.specs.Message.{Content, Sequence}
+use Rattle.wire_msg.specs.Carrying.{Carries}
+use Rattle.wire_msg.specs.Messages.{Content, Sequence}
 use Rattle.wire_msg.specs.Sequences.{SequencesLeft}
 use Rattle.engines.specs.Msg.{sequence_text}
 use Rattle.engines.proofs.msg_text.write_sequences.Given as goal

@@ -1,5 +1,5 @@
 use Rattle.std.proofs.Common.{◌≡◌, ◌+◌, ◌≤◌, List, length}
-use Rattle.bson_elem.specs.Tree.{Tree}
+use Rattle.bson_elem.specs.Trees.{Tree}
 use Rattle.bson_raw.proofs.Lemmas.{Walked}
 use Rattle.lughemra.proofs.documents.lughemra_check_documents_nonnull.Given as goal
 

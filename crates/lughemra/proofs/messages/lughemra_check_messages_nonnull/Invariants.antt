@@ -1,5 +1,5 @@
 use Rattle.std.proofs.Common.{◌≡◌, ◌+◌, ◌≤◌, List, length}
-use Rattle.wire_msg.specs.Message.{Message}
+use Rattle.wire_msg.specs.Messages.{Message}
 use Rattle.lughemra.proofs.ToldMessages.{Seen}
 use Rattle.lughemra.proofs.messages.lughemra_check_messages_nonnull.Given as goal
 

@@ -1,6 +1,6 @@
 use Rattle.std.proofs.Common.{◌≡◌, ◌+◌, ◌≤◌, List, length}
 use Rattle.std.specs.List.{sum_by}
-use Rattle.bson_elem.specs.Tree.{Tree}
+use Rattle.bson_elem.specs.Trees.{Tree}
 use Rattle.bson_raw.proofs.Lemmas.{Walked}
 use Rattle.bson_raw.specs.Totals.{elements_in, sizes_in}
 use Rattle.lughemra.proofs.walk.lughemra_walk_documents_nonnull.Given as goal

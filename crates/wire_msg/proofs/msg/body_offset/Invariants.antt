@@ -1,5 +1,5 @@
 use Rattle.std.proofs.Common.{◌-◌, length}
-use Rattle.wire_msg.specs.Message.{Message}
+use Rattle.wire_msg.specs.Messages.{Message}
 use Rattle.wire_msg.specs.Spelling.{SpellsMsg}
 use Rattle.wire_msg.proofs.PlaceLaws.{PlaceSoFar}
 use Rattle.wire_msg.proofs.msg.body_offset.Given as goal

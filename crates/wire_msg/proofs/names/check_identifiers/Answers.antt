@@ -1,8 +1,8 @@
 use Rattle.std.proofs.Common.{◌≡◌, ℕ, ◌+◌, List, length, Some, sym, ap, ◌∙◌, arith}
-use Rattle.bson_elem.specs.Tree.{Tree}
+use Rattle.bson_elem.specs.Trees.{Tree}
 use Rattle.bson_elem.specs.Spelling.{Spells}
 use Rattle.bson_raw.specs.RawDocument.{document_bytes}
-use Rattle.wire_msg.specs.Message.{Sequence}
+use Rattle.wire_msg.specs.Messages.{Sequence}
 use Rattle.wire_msg.specs.Spelling.{body_section, sequences_bytes}
 use Rattle.wire_msg.proofs.SectionLaws.{length-body}
 use Rattle.wire_msg.proofs.NameLaws.{names_before, names_after, names_none}

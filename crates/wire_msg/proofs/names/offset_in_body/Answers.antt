@@ -1,6 +1,6 @@
 use Rattle.std.proofs.Common.{◌≡◌, ◌≢◌, true, false, length, sym, arith, ◌∙◌}
 use Rattle.std.proofs.lemmas.Bool.Decides.{nat_tests}
-use Rattle.wire_msg.specs.Message.{is_field}
+use Rattle.wire_msg.specs.Messages.{is_field}
 use Rattle.wire_msg.proofs.NameLaws.{all_left, first_left, here_in_body, later_in_body, none_in_body}
 use Rattle.wire_msg.proofs.names.offset_in_body.Goals as goal
 

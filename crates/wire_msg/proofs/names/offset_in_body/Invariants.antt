@@ -1,7 +1,7 @@
 use Rattle.std.proofs.Common.{◌≡◌, ◌≤◌, List, length}
-use Rattle.bson_elem.specs.Tree.{Tree}
+use Rattle.bson_elem.specs.Trees.{Tree}
 use Rattle.wire_msg.specs.Fields.{AreFields}
-use Rattle.wire_msg.specs.Message.{Sequence, AreSequences}
+use Rattle.wire_msg.specs.Messages.{Sequence, AreSequences}
 use Rattle.wire_msg.specs.Spelling.{sequences_bytes}
 use Rattle.wire_msg.specs.Checks.{HasSequences}
 use Rattle.wire_msg.proofs.NameLaws.{IsLeftOf}

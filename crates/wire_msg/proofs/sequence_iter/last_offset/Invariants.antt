@@ -1,5 +1,5 @@
 use Rattle.std.proofs.Common.{◌≡◌, ◌-◌, ◌≤◌, List, length}
-use Rattle.wire_msg.specs.Message.{AreSequences, Sequence}
+use Rattle.wire_msg.specs.Messages.{AreSequences, Sequence}
 use Rattle.wire_msg.specs.Spelling.{sequences_bytes}
 use Rattle.wire_msg.proofs.LastLaws.{IsWalked}
 use Rattle.wire_msg.proofs.sequence_iter.last_offset.Given as goal

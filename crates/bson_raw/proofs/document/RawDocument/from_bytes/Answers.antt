@@ -1,7 +1,7 @@
 use Rattle.std.proofs.Common.{refl, ap, Err}
 use Rattle.std.proofs.lemmas.Bool.{iff_false}
 use Rattle.bson_raw.specs.Spelled.{IsLengthOf, unlike, as_front}
-use Rattle.bson_elem.proofs.FrontLaws.{one_front}
+use Rattle.bson_elem.proofs.Lemmas.{one_front}
 use Rattle.bson_raw.proofs.Fronts.{front_no_fault, whole_only, fault_front}
 use Rattle.bson_raw.proofs.document.RawDocument.from_bytes.Goals as goal
 

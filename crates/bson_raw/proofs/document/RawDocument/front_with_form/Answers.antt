@@ -1,5 +1,5 @@
 use Rattle.std.proofs.Common.{ap, Err}
-use Rattle.bson_elem.proofs.FrontLaws.{one_front, no_front}
+use Rattle.bson_elem.proofs.Lemmas.{no_front, one_front}
 use Rattle.bson_raw.proofs.Fronts.{front_only, front_no_fault}
 use Rattle.bson_raw.proofs.document.RawDocument.front_with_form.Goals as goal
 

@@ -1,5 +1,5 @@
 use Rattle.std.proofs.Common.{◌≡◌, take}
-use Rattle.bson_elem.specs.Tree.{Tree}
+use Rattle.bson_elem.specs.Trees.{Tree}
 use Rattle.bson_elem.specs.Spelling.{Spells}
 use Rattle.bson_raw.specs.RawDocument.{document_bytes}
 use Rattle.bson_raw.specs.Pairs.{names_of, is_among}

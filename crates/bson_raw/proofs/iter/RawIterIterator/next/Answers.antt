@@ -1,6 +1,6 @@
 use Rattle.std.proofs.Common.{◌≡◌, ◌-◌, length, refl, arith}
 use mathlib.Core.Logic.{∥∥₁_map}
-use Rattle.bson_elem.specs.Tree.{Tree}
+use Rattle.bson_elem.specs.Trees.{Tree}
 use Rattle.bson_elem.specs.Items.{element_view}
 use Rattle.bson_raw.specs.Left.{LeftIs}
 use Rattle.bson_raw.specs.Pairs.{TreeValue, with_first}

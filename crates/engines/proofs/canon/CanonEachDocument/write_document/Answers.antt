@@ -1,9 +1,9 @@
 use Rattle.std.proofs.Common.{◌≡◌, ℕ, Bool, false, List, Option, Some, None, Result, length, cond, sym, ap, subst, ◌∙◌}
 use Rattle.std.specs.Prelude.{IfOk, nat_lt}
-use Rattle.bson_elem.specs.Tree.{Tree}
+use Rattle.bson_elem.specs.Trees.{Tree}
 use Rattle.bson_elem.specs.Spelling.{document, elements}
 use Rattle.bson_doc.specs.Plain.{plain}
-use Rattle.bson_doc.proofs.Naming.{plain_where_named}
+use Rattle.bson_doc.proofs.Lemmas.{plain_where_named}
 use Rattle.engines.specs.Canon.{canon_of, in_form}
 use Rattle.engines.specs.Documents.{IsWritten}
 use Rattle.engines.proofs.canon.CanonEachDocument.write_document.Goals as goal

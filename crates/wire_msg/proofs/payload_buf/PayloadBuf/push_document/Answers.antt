@@ -3,11 +3,11 @@ use Rattle.std.proofs.lemmas.Bool.Decides.{nat_tests}
 use Rattle.std.proofs.lemmas.Grind.{not_there}
 use Rattle.std.proofs.lemmas.Result.{err_from_is_err_and}
 use Rattle.std.specs.Vec.{vec_len}
-use Rattle.bson_elem.specs.Tree.{Tree}
+use Rattle.bson_elem.specs.Trees.{Tree}
 use Rattle.bson_elem.specs.Spelling.{Spells}
 use Rattle.bson_raw.specs.Spelled.{IsSpelled}
 use Rattle.bson_raw.specs.RawDocument.{document_bytes}
-use Rattle.wire_msg.specs.Message.{Content}
+use Rattle.wire_msg.specs.Messages.{Content}
 use Rattle.wire_msg.specs.Spelling.{message_len}
 use Rattle.wire_msg.specs.Payload.{AreParts}
 use Rattle.wire_msg.specs.Buf.{with_document}

@@ -1,0 +1,2 @@
+-- The lemmas that proofs of other crates cite.
+pub use Rattle.bson_doc.proofs.Naming.{plain_where_named}

@@ -1,0 +1,187 @@
+//! Values that own what they hold.
+
+ghost use Rattle.std.specs.Prelude.{◌≡◌, IfOk};
+
+use crate::arrays::Array;
+use crate::documents::Document;
+use bson_elem::Kind;
+use std::alloc::AllocError;
+
+/// A value: one variant for each kind.
+#[derive(Debug, Drop, PartialEq)]
+#[cycle(bson)]
+pub enum Bson {
+    /// The 8 bytes of the number, as they stand in a document.
+    Double([u8; 8]),
+    String(String),
+    Document(Document),
+    Array(Array),
+    /// In subtype 2 `bytes` are the data alone, without the inner count.
+    Binary { subtype: u8, bytes: Vec<u8> },
+    Undefined,
+    ObjectId([u8; 12]),
+    Boolean(bool),
+    /// Milliseconds since the beginning of 1970, in UTC.
+    DateTime(i64),
+    Null,
+    Regex { pattern: String, options: String },
+    DbPointer { namespace: String, id: [u8; 12] },
+    Code(String),
+    Symbol(String),
+    CodeWithScope { code: String, scope: Document },
+    Int32(i32),
+    Timestamp { increment: u32, seconds: u32 },
+    Int64(i64),
+    /// The 16 bytes of the number, as they stand in a document.
+    Decimal128([u8; 16]),
+    MinKey,
+    MaxKey,
+}
+
+impl Bson {
+    ghost use Rattle.bson_doc.specs.Bson.{value_of};
+
+    /// Returns a copy of the value.
+    ///
+    /// # Errors
+    ///
+    /// Returns `AllocError` if memory is refused.
+    #[cycle(copy)]
+    pub fn try_clone(&self) -> Result<Bson, AllocError>
+        ensures { IfOk result (λ copy. value_of copy ≡ value_of self.now) }
+    {
+        let copy = match self {
+            Bson::Double(bytes) => Bson::Double(*bytes),
+            Bson::String(text) => Bson::String(text.clone()?),
+            Bson::Document(document) => Bson::Document(document.try_clone()?),
+            Bson::Array(array) => Bson::Array(array.try_clone()?),
+            Bson::Binary { subtype, bytes } => Bson::Binary {
+                subtype: *subtype,
+                bytes: bytes.clone()?,
+            },
+            Bson::Undefined => Bson::Undefined,
+            Bson::ObjectId(bytes) => Bson::ObjectId(*bytes),
+            Bson::Boolean(truth) => Bson::Boolean(*truth),
+            Bson::DateTime(millis) => Bson::DateTime(*millis),
+            Bson::Null => Bson::Null,
+            Bson::Regex { pattern, options } => Bson::Regex {
+                pattern: pattern.clone()?,
+                options: options.clone()?,
+            },
+            Bson::DbPointer { namespace, id } => Bson::DbPointer {
+                namespace: namespace.clone()?,
+                id: *id,
+            },
+            Bson::Code(text) => Bson::Code(text.clone()?),
+            Bson::Symbol(text) => Bson::Symbol(text.clone()?),
+            Bson::CodeWithScope { code, scope } => Bson::CodeWithScope {
+                code: code.clone()?,
+                scope: scope.try_clone()?,
+            },
+            Bson::Int32(n) => Bson::Int32(*n),
+            Bson::Timestamp { increment, seconds } => Bson::Timestamp {
+                increment: *increment,
+                seconds: *seconds,
+            },
+            Bson::Int64(n) => Bson::Int64(*n),
+            Bson::Decimal128(bytes) => Bson::Decimal128(*bytes),
+            Bson::MinKey => Bson::MinKey,
+            Bson::MaxKey => Bson::MaxKey,
+        };
+        Ok(copy)
+    }
+}
+
+impl Bson {
+    ghost use Rattle.bson_doc.specs.Bson.{value_of};
+    ghost use Rattle.bson_doc.specs.Values.{value_kind};
+
+    /// Returns the kind of the value.
+    pub fn kind(&self) -> Kind
+        ensures { result ≡ value_kind (value_of self.now) }
+    {
+        match self {
+            Bson::Double(_) => Kind::Double,
+            Bson::String(_) => Kind::String,
+            Bson::Document(_) => Kind::Document,
+            Bson::Array(_) => Kind::Array,
+            Bson::Binary { .. } => Kind::Binary,
+            Bson::Undefined => Kind::Undefined,
+            Bson::ObjectId(_) => Kind::ObjectId,
+            Bson::Boolean(_) => Kind::Boolean,
+            Bson::DateTime(_) => Kind::DateTime,
+            Bson::Null => Kind::Null,
+            Bson::Regex { .. } => Kind::Regex,
+            Bson::DbPointer { .. } => Kind::DbPointer,
+            Bson::Code(_) => Kind::Code,
+            Bson::Symbol(_) => Kind::Symbol,
+            Bson::CodeWithScope { .. } => Kind::CodeWithScope,
+            Bson::Int32(_) => Kind::Int32,
+            Bson::Timestamp { .. } => Kind::Timestamp,
+            Bson::Int64(_) => Kind::Int64,
+            Bson::Decimal128(_) => Kind::Decimal128,
+            Bson::MinKey => Kind::MinKey,
+            Bson::MaxKey => Kind::MaxKey,
+        }
+    }
+}
+
+impl From<bool> for Bson {
+    ghost use Rattle.bson_doc.specs.declared.bson_values.Bson.TheVariants.{Boolean};
+
+    ghost from_gives = { λ truth value. value ≡ Boolean truth };
+
+    fn from(truth: bool) -> Bson {
+        Bson::Boolean(truth)
+    }
+}
+
+impl From<i32> for Bson {
+    ghost use Rattle.bson_doc.specs.declared.bson_values.Bson.TheVariants.{Int32};
+
+    ghost from_gives = { λ n value. value ≡ Int32 n };
+
+    fn from(n: i32) -> Bson {
+        Bson::Int32(n)
+    }
+}
+
+impl From<i64> for Bson {
+    ghost use Rattle.bson_doc.specs.declared.bson_values.Bson.TheVariants.{Int64};
+
+    ghost from_gives = { λ n value. value ≡ Int64 n };
+
+    fn from(n: i64) -> Bson {
+        Bson::Int64(n)
+    }
+}
+
+impl From<String> for Bson {
+    ghost use Rattle.bson_doc.specs.declared.bson_values.Bson.TheVariants as values;
+
+    ghost from_gives = { λ text value. value ≡ values.String text };
+
+    fn from(text: String) -> Bson {
+        Bson::String(text)
+    }
+}
+
+impl From<Document> for Bson {
+    ghost use Rattle.bson_doc.specs.declared.bson_values.Bson.TheVariants as values;
+
+    ghost from_gives = { λ document value. value ≡ values.Document document };
+
+    fn from(document: Document) -> Bson {
+        Bson::Document(document)
+    }
+}
+
+impl From<Array> for Bson {
+    ghost use Rattle.bson_doc.specs.declared.bson_values.Bson.TheVariants as values;
+
+    ghost from_gives = { λ array value. value ≡ values.Array array };
+
+    fn from(array: Array) -> Bson {
+        Bson::Array(array)
+    }
+}
