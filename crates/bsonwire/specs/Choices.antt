@@ -1,5 +1,5 @@
 -- What a choice says of the matches that `clap` has of the words, and what it asks for.
-use Rattle.std.specs.Prelude.{◌≡◌, ◌≢◌, ℕ, List, Bool, true, false, Option, Some, None, codes, if◌then◌else◌}
+use Rattle.std.specs.Prelude.{◌≡◌, ℕ, List, Bool, true, false, Option, Some, None, is_some, codes, if◌then◌else◌}
 use Rattle.clap.specs.Words.{Row, Text, first_of, one_of, subcommand_of}
 use Rattle.bsonwire.specs.declared.choice.Source.{Source}
 use Rattle.bsonwire.specs.declared.choice.Choice.{Choice}
@@ -15,9 +15,9 @@ command_name Check = codes "check"
 command_name Canon = codes "canon"
 command_name Msg = codes "msg"
 
--- no command has this name
-abbrev pub NamesNone : Text → Type 0
-NamesNone name = (c : Command) → name ≢ command_name c
+-- a command has this name
+abbrev pub NamesCommand : Text → Type 0
+NamesCommand name = (c : Command) × (name ≡ command_name c)
 
 -- the matches of a subcommand hold this `--hex`
 abbrev pub HoldsHex : Bool → List Row → Type 0
@@ -27,6 +27,15 @@ HoldsHex hex rows =
 -- the matches of a subcommand hold this operand FILE and this `--hex`
 abbrev pub HoldsSource : Source → List Row → Type 0
 HoldsSource s rows = (first_of (codes "file") rows ≡ Some s.file.now) × HoldsHex s.hex rows
+
+-- the matches of a subcommand hold an operand FILE, and tell whether `--hex` was given
+abbrev pub NamesSource : List Row → Type 0
+NamesSource rows = (is_some (first_of (codes "file") rows) ≡ true) × ((hex : Bool) × HoldsHex hex rows)
+
+-- a subcommand was met that stands for a command, and its matches name a source
+abbrev pub NamesChoice : Option (Text × List Row) → Type 0
+NamesChoice None = ⊥
+NamesChoice (Some met) = NamesCommand met.0 × NamesSource met.1
 
 -- the choice is the subcommand of this name, with what its matches hold
 abbrev pub IsSubcommand : Choice → Text → List Row → Type 0

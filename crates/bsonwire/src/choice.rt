@@ -1,13 +1,13 @@
 //! What the words of the command line ask for.
 
-ghost use Rattle.std.specs.Prelude.{◌≡◌, IfOk, MatchOption, map, codes, Some};
-ghost use Rattle.clap.specs.Words.{FailsBy, fault_of, first_of, found_of, rows_of};
+ghost use Rattle.std.specs.Prelude.{◌≡◌, Bool, IfOk, IsErrAnd, IsOkAnd, MatchResult, Some, is_some, map, true};
+ghost use Rattle.clap.specs.Words.{FailsBy, fault_of, first_of, found_of, rows_of, subcommand_rows_of};
 ghost use Rattle.bsonwire.specs.CommandLine.{command_line};
-ghost use Rattle.bsonwire.specs.Choices.{HoldsHex, HoldsSource, IsChosen, IsSubcommand, NamesNone, command_name};
+ghost use Rattle.bsonwire.specs.Choices.{HoldsHex, HoldsSource, IsChosen, IsMetSubcommand, NamesChoice, NamesCommand, NamesSource, command_name};
 
 use crate::command_line::program;
 use clap::{ArgMatches, Error};
-use std::alloc::{AllocError, Global};
+use std::alloc::Global;
 
 /// The input of a command.
 #[derive(Clone, Copy, Debug, PartialEq, Eq)]
@@ -38,67 +38,87 @@ pub struct Choice<'a> {
     pub source: Source<'a>,
 }
 
-/// Returns the operand of this id. A parse that succeeded has it, so no caller gets the error.
-fn operand_of<'a>(matches: &ArgMatches<'a>, id: &str) -> Result<&'a str, AllocError>
-    ensures { IfOk result (λ text.
-        first_of id.now (rows_of (found_of matches.now)) ≡ Some text.now) }
+/// Returns the operand of this id.
+fn operand_of<'a>(matches: &ArgMatches<'a>, id: &str) -> &'a str
+    requires { is_some (first_of id.now (rows_of (found_of matches.now))) ≡ true }
+    ensures { first_of id.now (rows_of (found_of matches.now)) ≡ Some result.now }
 {
-    let text = matches.get_str(id).ok_or(AllocError)?;
-    Ok(text)
-}
-
-/// Returns true if `--hex` was given. A parse that succeeded says, so no caller gets the error.
-fn hex_of(matches: &ArgMatches<'_>) -> Result<bool, AllocError>
-    ensures { IfOk result (λ hex. HoldsHex hex (rows_of (found_of matches.now))) }
-{
-    let hex = matches.get_one::<bool>("hex").ok_or(AllocError)?;
-    Ok(hex)
-}
-
-/// Returns the input that the matches of a subcommand name.
-fn source_of<'a>(matches: &ArgMatches<'a>) -> Result<Source<'a>, AllocError>
-    ensures { IfOk result (λ s. HoldsSource s (rows_of (found_of matches.now))) }
-{
-    let file = operand_of(matches, "file")?;
-    let hex = hex_of(matches)?;
-    Ok(Source { file, hex })
-}
-
-/// Returns the command of this name.
-fn command_of(name: &str) -> Option<Command>
-    ensures { MatchOption result (NamesNone name.now) (λ c. name.now ≡ command_name c) }
-{
-    match name {
-        "dump" => Some(Command::Dump),
-        "check" => Some(Command::Check),
-        "canon" => Some(Command::Canon),
-        "msg" => Some(Command::Msg),
-        _ => None,
+    match matches.get_str(id) {
+        Some(text) => text,
+        None => unreachable!(),
     }
 }
 
-/// Returns the choice that a subcommand of this name and its matches make. `clap` lets no other name
-/// through, so no caller gets the error.
-fn choice_of<'a>(name: &str, matches: &ArgMatches<'a>) -> Result<Choice<'a>, AllocError>
-    ensures { IfOk result (λ c. IsSubcommand c name.now (rows_of (found_of matches.now))) }
+/// Returns true if `--hex` was given.
+fn hex_of(matches: &ArgMatches<'_>) -> bool
+    requires { (hex : Bool) × HoldsHex hex (rows_of (found_of matches.now)) }
+    ensures { HoldsHex result (rows_of (found_of matches.now)) }
 {
-    let command = command_of(name).ok_or(AllocError)?;
-    let source = source_of(matches)?;
-    Ok(Choice { command, source })
+    match matches.get_one::<bool>("hex") {
+        Some(hex) => hex,
+        None => unreachable!(),
+    }
+}
+
+/// Returns the input that the matches of a subcommand name.
+fn source_of<'a>(matches: &ArgMatches<'a>) -> Source<'a>
+    requires { NamesSource (rows_of (found_of matches.now)) }
+    ensures { HoldsSource result (rows_of (found_of matches.now)) }
+{
+    let file = operand_of(matches, "file");
+    let hex = hex_of(matches);
+    Source { file, hex }
+}
+
+/// Returns the command of this name.
+fn command_of(name: &str) -> Command
+    requires { NamesCommand name.now }
+    ensures { name.now ≡ command_name result }
+{
+    match name {
+        "dump" => Command::Dump,
+        "check" => Command::Check,
+        "canon" => Command::Canon,
+        "msg" => Command::Msg,
+        _ => unreachable!(),
+    }
+}
+
+/// Returns the choice that the subcommand of `matches` makes.
+fn choice_of<'a>(matches: &ArgMatches<'a>) -> Choice<'a>
+    requires { NamesChoice (subcommand_rows_of matches.now) }
+    ensures { IsMetSubcommand result (subcommand_rows_of matches.now) }
+{
+    match matches.subcommand() {
+        Some((name, inner)) => Choice {
+            command: command_of(name),
+            source: source_of(inner),
+        },
+        None => unreachable!(),
+    }
+}
+
+/// Returns the choice that the matches of a parse name, or the error of the parse as it is.
+fn chosen(parse: Result<ArgMatches<'_>, Error>) -> Result<Choice<'_>, Error>
+    requires { IfOk parse (λ m. NamesChoice (subcommand_rows_of m)) }
+    ensures { MatchResult parse.entry
+        (λ m. IsOkAnd result (λ c. IsMetSubcommand c (subcommand_rows_of m)))
+        (λ e. IsErrAnd result (λ r. r ≡ e)) }
+{
+    let matches = parse?;
+    Ok(choice_of(&matches))
 }
 
 /// Returns what the words ask for, of which the first is the program's own name.
 ///
 /// # Errors
 ///
-/// `clap`'s own error: a fault in the words, a request for help or the version, or want of memory.
+/// `clap`'s own error: a fault in the words, a request for help or the version, or want of memory. What
+/// `clap` lets through always names a choice.
 pub fn choose<'a>(alloc: Global, words: &'a [&'a str]) -> Result<Choice<'a>, Error>
     ensures chosen { IfOk result (λ c. IsChosen c (map (λ w. w.now) words.now)) }
     ensures kinds { FailsBy (fault_of command_line (map (λ w. w.now) words.now)) result }
 {
     let command = program(alloc)?;
-    let matches = command.try_get_matches_from(words)?;
-    let (name, inner) = matches.subcommand().ok_or(AllocError)?;
-    let choice = choice_of(name, inner)?;
-    Ok(choice)
+    chosen(command.try_get_matches_from(words))
 }
