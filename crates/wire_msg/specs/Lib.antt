@@ -26,6 +26,7 @@ pub use Rattle.wire_msg.specs.FaultText.{fault_text}
 pub use Rattle.wire_msg.specs.Faults.{FaultMsg}
 pub use Rattle.wire_msg.specs.Messages.{Content, Message, Sequence}
 pub use Rattle.wire_msg.specs.RawMsg.{msg_bytes}
-pub use Rattle.wire_msg.specs.Spelling.{SpellsMsg, message_len}
+pub use Rattle.wire_msg.specs.Spelling.{SpellsMsg, canonical, message_len}
 pub use Rattle.wire_msg.specs.Splits.{Split}
 pub use Rattle.wire_msg.specs.Standing.{IsBad, IsOpen}
+pub use Rattle.wire_msg.specs.Writing.{IsWriteRefusal}

@@ -1,0 +1,59 @@
+-- How what calls did to known bytes goes together.
+use Rattle.std.proofs.Common.{◌≡◌, ℕ, ◌+◌, ◌-◌, ◌≤◌, List, [], ◌++◌, length, take, drop, Option, Some, None, refl, sym, ap, ◌∙◌, arith, append_assoc, append-nil, take-add, take-append-drop, length-take}
+use Rattle.std.proofs.lemmas.List.{drop-take, drop-drop}
+use Rattle.std.proofs.Math.Seq.{take-append_seam, take-length}
+use Rattle.std.specs.Io.KnownBytes.{Appends, Keeps}
+
+pub Keeps-refl : (a : Option (List ℕ)) → Keeps a a
+Keeps-refl None = tt
+Keeps-refl (Some x) = refl
+
+pub Keeps-trans : (a b c : Option (List ℕ)) → Keeps a b → Keeps b c → Keeps a c
+Keeps-trans None b c k l = tt
+Keeps-trans (Some x) None c k l = absurd k
+Keeps-trans (Some x) (Some y) None k l = absurd l
+Keeps-trans (Some x) (Some y) (Some z) k l = l ∙ k
+
+pub Appends-nil : (a : Option (List ℕ)) → Appends a a []
+Appends-nil None = tt
+Appends-nil (Some x) = sym (append-nil x)
+
+pub Appends-trans : (a b c : Option (List ℕ)) (xs ys : List ℕ) → Appends a b xs → Appends b c ys → Appends a c (xs ++ ys)
+Appends-trans None b c xs ys k l = tt
+Appends-trans (Some x) None c xs ys k l = absurd k
+Appends-trans (Some x) (Some y) None xs ys k l = absurd l
+Appends-trans (Some x) (Some y) (Some z) xs ys k l = l ∙ ap (λ q. q ++ ys) k ∙ append_assoc x xs ys
+
+pub Keeps-Appends : (a b c : Option (List ℕ)) (ys : List ℕ) → Keeps a b → Appends b c ys → Appends a c ys
+Keeps-Appends None b c ys k l = tt
+Keeps-Appends (Some x) None c ys k l = absurd k
+Keeps-Appends (Some x) (Some y) None ys k l = absurd l
+Keeps-Appends (Some x) (Some y) (Some z) ys k l = l ∙ ap (λ q. q ++ ys) k
+
+pub Appends-Keeps : (a b c : Option (List ℕ)) (xs : List ℕ) → Appends a b xs → Keeps b c → Appends a c xs
+Appends-Keeps None b c xs k l = tt
+Appends-Keeps (Some x) None c xs k l = absurd k
+Appends-Keeps (Some x) (Some y) None xs k l = absurd l
+Appends-Keeps (Some x) (Some y) (Some z) xs k l = l ∙ k
+
+-- what a copy put in front
+pub copied : (input buf new : List ℕ) (at n : ℕ) → new ≡ take n (drop at input) → length new ≡ n → take (at + n) input ≡ take at input ++ take n (new ++ drop n buf)
+copied input buf new at n e l =
+    take-add at n input ∙ ap (λ q. take at input ++ q) (sym e ∙ sym (take-append_seam new (drop n buf)) ∙ ap (λ k. take k (new ++ drop n buf)) l)
+
+-- one more send
+pub sent_on : (a b c : Option (List ℕ)) (all gone rest out rest' : List ℕ) (n : ℕ) → Appends a b gone → all ≡ gone ++ rest → out ≡ rest → Appends b c (take n out) → rest' ≡ drop n rest
+    → (more : List ℕ) × Appends a c more × (all ≡ more ++ rest')
+sent_on a b c all gone rest out rest' n k e o l f = (
+  gone ++ take n out,
+  Appends-trans a b c gone (take n out) k l,
+  rw (o, f) (e ∙ ap (λ q. gone ++ q) (sym (take-append-drop n rest)) ∙ sym (append_assoc gone (take n rest) (drop n rest))),
+)
+
+pub window : (p : List ℕ) (from to n : ℕ) → n ≤ length (take (to - from) (drop from p)) → take (to - (from + n)) (drop (from + n) p) ≡ drop n (take (to - from) (drop from p))
+window p from to n le =
+    let within : n ≤ to - from = omega (arith, length-take (to - from) (drop from p)) in
+    let m : ℕ = to - (from + n) in
+    let e : to - from ≡ n + m = omega arith in
+    let d : drop n (take (n + m) (drop from p)) ≡ take m (drop (from + n) p) = drop-take n m (drop from p) ∙ ap (take m) (drop-drop n from p) in
+    sym (ap (λ k. drop n (take k (drop from p))) e ∙ d)

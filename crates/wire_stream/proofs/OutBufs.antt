@@ -1,0 +1,24 @@
+-- What an output holds once a message was written behind its bytes.
+use Rattle.std.proofs.Common.{◌≡◌, ℕ, ℤ, Bool, ◌+◌, ◌≤◌, List, ◌++◌, length, drop, Result, Ok, Err, OnOk, OnErr, arith, length-append, ◌∙◌, ap}
+use Rattle.std.proofs.lemmas.List.{drop-append-le}
+use Rattle.wire_msg.specs.Messages.{Content}
+use Rattle.wire_msg.specs.Spelling.{canonical}
+
+-- bytes that grew or stayed have at least the place that they had
+pub start_stays : {A E : Type 0} (r : Result A E) (old new added : List ℕ) (start : ℕ)
+    → start ≤ length old → OnOk r (new ≡ old ++ added) → OnErr r (new ≡ old) → start ≤ length new
+start_stays (Ok x) old new added start le grown kept = omega (arith, ap length grown, length-append old added)
+start_stays (Err e) old new added start le grown kept = omega (arith, ap length kept)
+
+-- what is added behind the bytes is added behind those that weren't sent
+pub added_behind : {A E : Type 0} (r : Result A E) (old new added same : List ℕ) (start : ℕ)
+    → start ≤ length old → added ≡ same → OnOk r (new ≡ old ++ added) → OnOk r (drop start new ≡ drop start old ++ same)
+added_behind (Ok x) old new added same start le e grown = ap (drop start) grown ∙ drop-append-le start old added le ∙ ap (λ (a : List ℕ). drop start old ++ a) e
+added_behind (Err x) old new added same start le e grown = tt
+
+-- messages of the same numbers have one canonical spelling
+pub same_canonical : (i j t u : ℤ) (more allows : Bool) (c : Content) → i ≡ j → t ≡ u
+    → canonical (record { id = i; response_to = t; more = more; allows = allows; content = c }) ≡ canonical (record { id = j; response_to = u; more = more; allows = allows; content = c })
+same_canonical i j t u more allows c e f =
+    ap (λ (z : ℤ). canonical (record { id = z; response_to = t; more = more; allows = allows; content = c })) e
+    ∙ ap (λ (z : ℤ). canonical (record { id = j; response_to = z; more = more; allows = allows; content = c })) f

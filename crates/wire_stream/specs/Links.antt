@@ -1,0 +1,13 @@
+-- What the calls of a link tell of it.
+use Rattle.std.specs.Prelude.{◌≡◌, ℕ, zero, suc, ◌-◌, ◌^◌, ◌<◌, Result, Ok, Err}
+use Rattle.wire_stream.specs.declared.link.LinkFault.{LinkFault}
+
+-- the count rose, or stood at its greatest value
+abbrev pub Rose : ℕ → ℕ → Type 0
+Rose old new = old < 2 ^ 64 - 1 → old < new
+
+-- A `recv` into room for so many bytes came to this result, and told the link's end where it gave none of the bytes that
+-- it had room for, and at no other time.
+abbrev pub TellsEnd : ℕ → Result ℕ LinkFault → ℕ → ℕ → Type 0
+TellsEnd (suc room) (Ok zero) old new = Rose old new
+TellsEnd room result old new = new ≡ old

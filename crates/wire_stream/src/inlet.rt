@@ -1,0 +1,106 @@
+//! The piece of bytes that a link gave last.
+
+ghost use Rattle.std.specs.Prelude.{◌≡◌, ◌≢◌, ◌≤◌, ◌<◌, ◌++◌, [], Ok, OnErr, OnOk, IfOk, List, drop, length, ℕ};
+ghost use Rattle.std.specs.Io.KnownBytes.{Appends, Keeps};
+ghost use Rattle.wire_stream.specs.Links.{Rose};
+ghost use Rattle.wire_stream.specs.Pulls.{IsPulled};
+
+use crate::link::{Link, LinkFault};
+use std::alloc::{AllocError, Global};
+use std::marker::Model;
+
+/// How many bytes a piece has at most.
+const PIECE: usize = 4096;
+
+/// What `pull` found.
+#[derive(Clone, Copy, Debug, PartialEq, Eq)]
+pub enum Pulled {
+    /// Bytes are held.
+    Bytes,
+    /// The link has ended, and no byte is held.
+    End,
+}
+
+/// Holds one piece of at most 4,096 received bytes, of which the first may have been used. A contract sees it as the
+/// bytes that it holds.
+#[derive(Drop)]
+pub struct Inlet {
+    piece: Vec<u8>,
+    start: usize,
+    end: usize,
+}
+
+impl Model for Inlet {
+    ghost use Rattle.std.specs.Prelude.{List, ℕ, ◌≡◌, ◌≤◌, ◌-◌, take, drop, length};
+
+    ghost Value = { List ℕ };
+
+    ghost view = { λ s. take (s.end - s.start) (drop s.start s.piece.items) };
+
+    ghost invariant = { λ s. record {
+      in_order : s.start ≤ s.end;
+      within : s.end ≤ length s.piece.items;
+      whole : length s.piece.items ≡ 4096;
+    } };
+}
+
+impl Inlet {
+    /// Returns an inlet that holds nothing. It takes the memory for a piece, and no call of it takes more.
+    ///
+    /// # Errors
+    ///
+    /// `AllocError` where memory is wanting.
+    pub fn new(alloc: Global) -> Result<Inlet, AllocError>
+        ensures { IfOk result (λ inlet. inlet ≡ []) }
+    {
+        let piece = vec![in alloc; 0u8; PIECE]?;
+        Ok(Inlet {
+            piece,
+            start: 0,
+            end: 0,
+        })
+    }
+
+    /// Returns the bytes that are held.
+    pub fn bytes(&self) -> &[u8]
+        ensures { result.now ≡ self.now }
+    {
+        &self.piece[self.start..self.end]
+    }
+
+    /// Takes the first `n` of the bytes that are held off.
+    pub fn used(&mut self, n: usize)
+        requires { n ≤ length self.old }
+        ensures { self.new ≡ drop n self.old }
+    {
+        self.start += n;
+    }
+
+    /// Receives a piece from `link` where no byte is held. Where some are, it receives nothing and returns `Bytes`.
+    ///
+    /// # Errors
+    ///
+    /// `LinkFault` where the link failed. What is held is then as before.
+    pub fn pull<L: Link>(&mut self, link: &mut L) -> Result<Pulled, LinkFault>
+        ensures held { self.old ≢ [] → (result ≡ Ok Pulled.Bytes) × (self.new ≡ self.old) × (link.new ≡ link.old) }
+        ensures received { (more : List ℕ) × Appends (L.received link.old) (L.received link.new) more
+            × (self.new ≡ self.old ++ more) }
+        ensures found { IsPulled result (self.new) (L.ends link.old) (L.ends link.new) }
+        ensures sent { Keeps (L.sent link.old) (L.sent link.new) }
+        ensures works { OnOk result (L.failures link.new ≡ L.failures link.old) }
+        ensures fails { OnErr result (Rose (L.failures link.old) (L.failures link.new)) }
+        ensures unchanged { OnErr result (self.new ≡ self.old) }
+    {
+        if self.start < self.end {
+            return Ok(Pulled::Bytes);
+        }
+        let n = link.recv(&mut self.piece)?;
+        self.start = 0;
+        self.end = n;
+        if n == 0 {
+            Ok(Pulled::End)
+        } else {
+            Ok(Pulled::Bytes)
+        }
+    }
+}

@@ -1,0 +1,53 @@
+//! Links, which move bytes both ways.
+
+ghost use Rattle.std.specs.Prelude.{◌≡◌, ◌<◌, ◌≤◌, ℕ, List, Option, IfOk, OnErr, OnOk, length, take};
+ghost use Rattle.std.specs.Io.KnownBytes.{Appends, Keeps};
+ghost use Rattle.wire_stream.specs.Links.{Rose, TellsEnd};
+
+/// A link failed to move bytes.
+#[derive(Clone, Copy, Debug, PartialEq, Eq)]
+pub struct LinkFault;
+
+/// Moves bytes both ways, in the order in which they were put in.
+pub trait Link {
+    // The bytes received since the link was made, where the link tells them.
+    ghost received: { Self → Option (List ℕ) };
+    // The bytes sent since the link was made, where the link tells them.
+    ghost sent: { Self → Option (List ℕ) };
+    // How often a call failed, counted up to 2 ^ 64 - 1.
+    ghost failures: { Self → ℕ };
+    // How often `recv` told the end of the link, counted up to 2 ^ 64 - 1.
+    ghost ends: { Self → ℕ };
+
+    /// Receives at most as many bytes as `buffer` has, writes them to its front and returns how many there are. Where
+    /// `buffer` isn't empty, 0 tells that the link has ended.
+    ///
+    /// # Errors
+    ///
+    /// `LinkFault` where the link failed; no byte was received then.
+    fn recv(&mut self, buffer: &mut [u8]) -> Result<usize, LinkFault>
+        ensures within { IfOk result (λ n. n ≤ length buffer.old) }
+        ensures received { IfOk result (λ n.
+            Appends (received self.old) (received self.new) (take n buffer.new)) }
+        ensures none_received { OnErr result (Keeps (received self.old) (received self.new)) }
+        ensures sent { Keeps (sent self.old) (sent self.new) }
+        ensures end { TellsEnd (length buffer.old) result (ends self.old) (ends self.new) }
+        ensures works { OnOk result (failures self.new ≡ failures self.old) }
+        ensures fails { OnErr result (Rose (failures self.old) (failures self.new)) };
+
+    /// Sends some of the first bytes of `bytes` and returns how many; at least one, where there is any.
+    ///
+    /// # Errors
+    ///
+    /// `LinkFault` where the link failed; no byte was sent then.
+    fn send(&mut self, bytes: &[u8]) -> Result<usize, LinkFault>
+        ensures within { IfOk result (λ n. n ≤ length bytes.now) }
+        ensures some { 0 < length bytes.now → IfOk result (λ n. 0 < n) }
+        ensures sent { IfOk result (λ n.
+            Appends (sent self.old) (sent self.new) (take n bytes.now)) }
+        ensures none_sent { OnErr result (Keeps (sent self.old) (sent self.new)) }
+        ensures received { Keeps (received self.old) (received self.new) }
+        ensures end { ends self.new ≡ ends self.old }
+        ensures works { OnOk result (failures self.new ≡ failures self.old) }
+        ensures fails { OnErr result (Rose (failures self.old) (failures self.new)) };
+}

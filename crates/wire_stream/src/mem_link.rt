@@ -1,0 +1,214 @@
+//! A link in memory.
+
+ghost use Rattle.std.specs.Prelude.{◌≡◌, ◌≢◌, ◌<◌, ◌≤◌, ◌-◌, ◌^◌, ◌++◌, [], Ok, IfOk, IsErr, OnErr, OnOk, None, Some, drop, false, length, take, true};
+ghost use Rattle.std.specs.Io.KnownBytes.{Appends, Keeps};
+ghost use Rattle.wire_stream.specs.Links.{Rose, TellsEnd};
+ghost use Rattle.wire_stream.specs.MemLinks.{is_due, moved, one_less};
+
+use crate::link::{Link, LinkFault};
+use std::alloc::{AllocError, Global};
+use std::marker::Model;
+
+/// A link that gives the bytes of a vector and keeps what is sent, as far as there is room. It tells its bytes.
+#[derive(Drop)]
+pub struct MemLink {
+    input: Vec<u8>,
+    /// How many bytes of the input were received.
+    start: usize,
+    output: Vec<u8>,
+    /// How many bytes may be sent in all.
+    room: usize,
+    /// How many bytes a call moves at most.
+    most: usize,
+    fails_after: Option<u64>,
+    failures: u64,
+    ends: u64,
+}
+
+impl Model for MemLink {
+    ghost use Rattle.std.specs.Prelude.{◌≤◌, ◌<◌, ◌-◌, drop, length, take, vec_capacity};
+    ghost use Rattle.wire_stream.specs.MemLinks.{Memory};
+
+    ghost Value = { Memory };
+
+    ghost view = { λ s. record {
+      received = take s.start s.input.items;
+      left = drop s.start s.input.items;
+      sent = s.output.items;
+      room = s.room - length s.output.items;
+      most = s.most;
+      fails_after = s.fails_after;
+      failures = s.failures;
+      ends = s.ends;
+    } };
+
+    ghost invariant = { λ s. record {
+      read : s.start ≤ length s.input.items;
+      fits : length s.output.items ≤ s.room;
+      kept : s.room ≤ vec_capacity s.output;
+      some : 0 < s.most;
+    } };
+}
+
+impl MemLink {
+    /// Returns a link that gives the bytes of `input` and has room for `room` bytes. It takes the memory for these, and no
+    /// call of it takes more.
+    ///
+    /// # Errors
+    ///
+    /// `AllocError` where memory is wanting.
+    pub fn new(alloc: Global, input: Vec<u8>, room: usize) -> Result<MemLink, AllocError>
+        ensures { IfOk result (λ link. link ≡ record {
+          received = [];
+          left = input.items;
+          sent = [];
+          room = room;
+          most = 2 ^ 64 - 1;
+          fails_after = None;
+          failures = 0;
+          ends = 0;
+        }) }
+    {
+        let output = Vec::with_capacity(alloc, room)?;
+        Ok(MemLink {
+            input,
+            start: 0,
+            output,
+            room,
+            most: usize::MAX,
+            fails_after: None,
+            failures: 0,
+            ends: 0,
+        })
+    }
+
+    /// Returns the link with at most `most` bytes moved in a call.
+    pub fn moving_at_most(self, most: usize) -> MemLink
+        requires { 0 < most }
+        ensures { result ≡ record self { most = most } }
+    {
+        let mut link = self;
+        link.most = most;
+        link
+    }
+
+    /// Returns the link with one call that fails, after `calls` others.
+    pub fn failing_after(self, calls: u64) -> MemLink
+        ensures { result ≡ record self { fails_after = Some calls } }
+    {
+        let mut link = self;
+        link.fails_after = Some(calls);
+        link
+    }
+
+    /// Returns the bytes that were sent.
+    pub fn sent_bytes(&self) -> &[u8]
+        ensures { result.now ≡ self.now.sent }
+    {
+        &self.output
+    }
+
+    /// Tells whether this call is the one that fails, and counts the call.
+    fn is_failing(&mut self) -> bool
+        ensures { (result ≡ is_due self.old.fails_after) × (self.new ≡ record self.old { fails_after = one_less self.old.fails_after }) }
+    {
+        match self.fails_after {
+            None => false,
+            Some(0) => {
+                self.fails_after = None;
+                true
+            }
+            Some(calls) => {
+                self.fails_after = Some(calls - 1);
+                false
+            }
+        }
+    }
+
+    /// Moves bytes of the input to the front of `buffer`, as many as a call may, and returns how many.
+    fn give(&mut self, buffer: &mut [u8]) -> usize
+        ensures count { result ≡ moved self.old.most (length buffer.old) (length self.old.left) }
+        ensures received { self.new.received ≡ self.old.received ++ take result buffer.new }
+        ensures left { self.old.received ++ self.old.left ≡ self.new.received ++ self.new.left }
+        ensures others { self.new ≡ record self.old { received = self.new.received; left = self.new.left } }
+    {
+        let n = buffer
+            .len()
+            .min(self.input.len() - self.start)
+            .min(self.most);
+        buffer[..n].copy_from_slice(&self.input[self.start..self.start + n]);
+        self.start += n;
+        n
+    }
+}
+
+impl Link for MemLink {
+    ghost received = { λ s. Some s.received };
+
+    ghost sent = { λ s. Some s.sent };
+
+    ghost failures = { λ s. s.failures };
+
+    ghost ends = { λ s. s.ends };
+
+    fn recv(&mut self, buffer: &mut [u8]) -> Result<usize, LinkFault>
+        ensures within { IfOk result (λ n. n ≤ length buffer.old) }
+        ensures received { IfOk result (λ n.
+            self.new.received ≡ self.old.received ++ take n buffer.new) }
+        ensures none_received { OnErr result (self.new.received ≡ self.old.received) }
+        ensures sent { self.new.sent ≡ self.old.sent }
+        ensures end { TellsEnd (length buffer.old) result self.old.ends self.new.ends }
+        ensures works { OnOk result (self.new.failures ≡ self.old.failures) }
+        ensures fails { OnErr result (Rose self.old.failures self.new.failures) }
+        ensures given { self.old.received ++ self.old.left ≡ self.new.received ++ self.new.left }
+        ensures fault { is_due self.old.fails_after ≡ true → IsErr result }
+        ensures moved { is_due self.old.fails_after ≡ false
+            → result ≡ Ok (moved self.old.most (length buffer.old) (length self.old.left)) }
+        ensures counted { self.new.fails_after ≡ one_less self.old.fails_after }
+        ensures limits { (self.new.room ≡ self.old.room) × (self.new.most ≡ self.old.most) }
+    {
+        if self.is_failing() {
+            self.failures = self.failures.saturating_add(1);
+            return Err(LinkFault);
+        }
+        let n = self.give(buffer);
+        if n == 0 && !buffer.is_empty() {
+            self.ends = self.ends.saturating_add(1);
+        }
+        Ok(n)
+    }
+
+    fn send(&mut self, bytes: &[u8]) -> Result<usize, LinkFault>
+        ensures within { IfOk result (λ n. n ≤ length bytes.now) }
+        ensures some { 0 < length bytes.now → IfOk result (λ n. 0 < n) }
+        ensures sent { IfOk result (λ n. self.new.sent ≡ self.old.sent ++ take n bytes.now) }
+        ensures none_sent { OnErr result (self.new.sent ≡ self.old.sent) }
+        ensures received { (self.new.received ≡ self.old.received) × (self.new.left ≡ self.old.left) }
+        ensures end { self.new.ends ≡ self.old.ends }
+        ensures works { OnOk result (self.new.failures ≡ self.old.failures) }
+        ensures fails { OnErr result (Rose self.old.failures self.new.failures) }
+        ensures fault { is_due self.old.fails_after ≡ true → IsErr result }
+        ensures full { self.old.room ≡ 0 → bytes.now ≢ [] → IsErr result }
+        ensures moved { is_due self.old.fails_after ≡ false → 0 < moved self.old.most (length bytes.now) self.old.room
+            → result ≡ Ok (moved self.old.most (length bytes.now) self.old.room) }
+        ensures counted { self.new.fails_after ≡ one_less self.old.fails_after }
+        ensures limits { (self.new.room ≡ self.old.room - (length self.new.sent - length self.old.sent)) × (self.new.most ≡ self.old.most) }
+    {
+        if self.is_failing() {
+            self.failures = self.failures.saturating_add(1);
+            return Err(LinkFault);
+        }
+        let n = bytes
+            .len()
+            .min(self.room - self.output.len())
+            .min(self.most);
+        if n == 0 && !bytes.is_empty() {
+            self.failures = self.failures.saturating_add(1);
+            return Err(LinkFault);
+        }
+        match self.output.extend_from_slice(&bytes[..n]) {
+            Ok(()) => Ok(n),
+            Err(_) => unreachable!(),
+        }
+    }
+}

@@ -1,0 +1,142 @@
+//! Messages that wait to be sent.
+
+ghost use Rattle.std.specs.Prelude.{◌≡◌, ◌≤◌, ◌++◌, [], IfErr, List, OnErr, OnOk, drop, length, take, ℕ};
+ghost use Rattle.wire_msg.specs.{Carries, Content, IsWriteRefusal, Message, canonical, message_len};
+
+use crate::outlet::Outlet;
+use std::alloc::Global;
+use std::marker::Model;
+use wire_msg::{MsgFlags, MsgRefusal, Payload, write_msg};
+
+/// Sent bytes are kept up to so many before the others are moved to the front.
+const KEPT: usize = 4096;
+
+/// Room for more bytes than this is given back when all were sent.
+const ROOM: usize = 64 * 1024;
+
+/// Holds bytes until they are sent. A contract sees it as the bytes that weren't sent yet.
+#[derive(Drop)]
+pub struct OutBuf {
+    bytes: Vec<u8>,
+    /// How many of them were sent.
+    start: usize,
+}
+
+impl Model for OutBuf {
+    ghost use Rattle.std.specs.Prelude.{List, ℕ, ◌≤◌, drop, length};
+
+    ghost Value = { List ℕ };
+
+    ghost view = { λ s. drop s.start s.bytes.items };
+
+    ghost invariant = { λ s. s.start ≤ length s.bytes.items };
+}
+
+impl OutBuf {
+    /// Returns a buffer without bytes. It takes no memory.
+    pub fn new(alloc: Global) -> OutBuf
+        ensures { result ≡ [] }
+    {
+        OutBuf {
+            bytes: Vec::new(alloc),
+            start: 0,
+        }
+    }
+
+    /// Appends a message, in its canonical spelling.
+    ///
+    /// # Errors
+    ///
+    /// `TooLarge` where the message has more than `limit` bytes, and else `OutOfMemory`. Nothing is appended then.
+    pub fn push_msg(
+        &mut self,
+        id: i32,
+        response_to: i32,
+        flags: MsgFlags,
+        payload: Payload<'_>,
+        limit: u32,
+    ) -> Result<(), MsgRefusal>
+        ensures written { (c : Content) → Carries payload.entry c
+            → OnOk result (self.new ≡ self.old ++ canonical (record {
+              id = id;
+              response_to = response_to;
+              more = flags.more;
+              allows = flags.allows;
+              content = c;
+            })) }
+        ensures within { (c : Content) → Carries payload.entry c
+            → OnOk result (message_len c ≤ limit) }
+        ensures refused { (c : Content) → Carries payload.entry c
+            → IfErr result (λ e. IsWriteRefusal limit (message_len c) e) }
+        ensures unchanged { OnErr result (self.new ≡ self.old) }
+    {
+        write_msg(&mut self.bytes, id, response_to, flags, payload, limit)
+    }
+
+    /// Returns the bytes that weren't sent yet.
+    pub fn output(&self) -> &[u8]
+        ensures { result.now ≡ self.now }
+    {
+        &self.bytes[self.start..]
+    }
+
+    /// Takes the first `n` bytes off, since they were sent.
+    ///
+    /// Bytes are moved only where at least as many were sent since the last move, so that taking off a byte costs the
+    /// same however many wait.
+    pub fn sent(&mut self, n: usize)
+        requires { n ≤ length self.old }
+        ensures { self.new ≡ drop n self.old }
+    {
+        self.start += n;
+        if self.start == self.bytes.len() {
+            self.empty();
+        } else if self.start >= KEPT && self.start >= self.bytes.len() - self.start {
+            self.close_up();
+        }
+    }
+
+    /// Keeps the first `n` of the bytes that weren't sent, and drops the others.
+    pub fn keep(&mut self, n: usize)
+        requires { n ≤ length self.old }
+        ensures { self.new ≡ take n self.old }
+    {
+        self.bytes.truncate(self.start + n);
+    }
+
+    /// Drops the sent bytes where all were sent, and gives much room back.
+    fn empty(&mut self)
+        requires { self.old ≡ [] }
+        ensures { self.new ≡ [] }
+    {
+        if self.bytes.capacity() > ROOM {
+            let alloc = *self.bytes.allocator();
+            self.bytes = Vec::new(alloc);
+        } else {
+            self.bytes.clear();
+        }
+        self.start = 0;
+    }
+
+    /// Moves the bytes that weren't sent to the front.
+    fn close_up(&mut self)
+        ensures { self.new ≡ self.old }
+    {
+        let left = self.bytes.len() - self.start;
+        self.bytes.as_mut_slice().copy_within(self.start.., 0);
+        self.bytes.truncate(left);
+        self.start = 0;
+    }
+}
+
+impl Outlet for OutBuf {
+    ghost waiting = { λ s. s };
+
+    fn output(&self) -> &[u8] {
+        OutBuf::output(self)
+    }
+
+    fn sent(&mut self, n: usize) {
+        OutBuf::sent(self, n);
+    }
+}

@@ -1,0 +1,43 @@
+//! Bytes that wait to be sent, and sending them.
+
+ghost use Rattle.std.specs.Prelude.{◌≡◌, ◌≤◌, ◌++◌, [], ℕ, List, OnErr, OnOk, drop, length};
+ghost use Rattle.std.specs.Io.KnownBytes.{Appends, Keeps};
+ghost use Rattle.wire_stream.specs.Links.{Rose};
+
+use crate::link::{Link, LinkFault};
+
+/// What has bytes that wait to be sent.
+pub trait Outlet {
+    // The bytes that wait, in order.
+    ghost waiting: { Self → List ℕ };
+
+    /// Returns the bytes that wait.
+    fn output(&self) -> &[u8]
+        ensures { result.now ≡ waiting self.now };
+
+    /// Takes the first `n` of the bytes that wait off, since they were sent.
+    fn sent(&mut self, n: usize)
+        requires { n ≤ length (waiting self.old) }
+        ensures { waiting self.new ≡ drop n (waiting self.old) };
+}
+
+/// Sends over `link` all bytes that wait in `outlet`.
+///
+/// # Errors
+///
+/// `LinkFault` where the link failed. What was sent by then no longer waits.
+pub fn flush<L: Link, O: Outlet>(link: &mut L, outlet: &mut O) -> Result<(), LinkFault>
+    ensures sent { (gone : List ℕ) × Appends (L.sent link.old) (L.sent link.new) gone
+        × (O.waiting outlet.old ≡ gone ++ O.waiting outlet.new) }
+    ensures all { OnOk result (O.waiting outlet.new ≡ []) }
+    ensures received { Keeps (L.received link.old) (L.received link.new) }
+    ensures end { L.ends link.new ≡ L.ends link.old }
+    ensures works { OnOk result (L.failures link.new ≡ L.failures link.old) }
+    ensures fails { OnErr result (Rose (L.failures link.old) (L.failures link.new)) }
+{
+    while !outlet.output().is_empty() {
+        let n = link.send(outlet.output())?;
+        outlet.sent(n);
+    }
+    Ok(())
+}
