@@ -115,7 +115,7 @@ fn ends_with_3_where_nothing_can_be_read(rt: HostRuntime) {
     }
 }
 
-/// Meant for `rt try --test --fail-alloc 1..`, where one allocation of `choose` fails in each run.
+/// Meant for `rt try --test --fail-alloc N`, where one allocation of `choose` fails.
 #[test]
 fn wants_memory(rt: HostRuntime) {
     let words = ["bsonwire", "dump", "a", "--hex"];
