@@ -1,11 +1,12 @@
--- The flag bits, as masks find them.
+-- The flag bits, as masks find them and as they are written.
 use Rattle.std.proofs.Common.{◌≡◌, ℕ, zero, suc, ◌*◌, ◌%◌, ◌^◌, ◌<◌, ◌≤◌, Bool, true, false, eqb, refl, sym, ◌∙◌, arith}
 use Rattle.std.specs.Prelude.{not, bit_and, nat_le, None}
 use Rattle.std.proofs.lemmas.Bool.{ne_eqb, lt-leb}
 use Rattle.std.specs.Int.{bit_at, from_bool}
 use Rattle.std.proofs.lemmas.Nat.{and_mask}
 use Rattle.std.proofs.lemmas.Nat.Bits.{and_pow}
-use Rattle.wire_msg.specs.Spelling.{FlagsAre}
+use Rattle.wire_msg.specs.declared.flags.MsgFlags.{MsgFlags}
+use Rattle.wire_msg.specs.Spelling.{flag_word, FlagsAre}
 use Rattle.wire_msg.specs.Faults.{flags_fault}
 
 -- of the required bits one alone may be set
@@ -21,7 +22,10 @@ one_bit zero n lt e = rw e refl
 one_bit (suc zero) n lt e = rw e refl
 one_bit (suc (suc b)) n lt e = absurd (omega (arith, lt))
 
-pub flags_are : (word : ℕ) → word < 2 ^ 32 → bit_and word 65535 ≤ 3 → bit_and (bit_and word 65535) 1 ≡ 0 → FlagsAre word (not (eqb (bit_and (bit_and word 65535) 2) 0)) (not (eqb (bit_and word 65536) 0))
+abbrev flags_of : Bool → Bool → MsgFlags
+flags_of more allows = record { more = more; allows = allows }
+
+pub flags_are : (word : ℕ) → word < 2 ^ 32 → bit_and word 65535 ≤ 3 → bit_and (bit_and word 65535) 1 ≡ 0 → FlagsAre word (flags_of (not (eqb (bit_and (bit_and word 65535) 2) 0)) (not (eqb (bit_and word 65536) 0)))
 flags_are word four le even = record {
   four_bytes = four;
   required = sym (and_mask word 16) ∙ only_more (bit_and word 65535) le even;
@@ -41,8 +45,8 @@ small : (more : Bool) → from_bool more * 2 < 4
 small true = omega arith
 small false = omega arith
 
-pub flags_are_sound : (word : ℕ) (more allows : Bool) → FlagsAre word more allows → flags_fault word ≡ None
-flags_are_sound word more allows f = rw (no_unknown word (from_bool more * 2) f.required (small more), no_checksum word more f.required) refl
+pub flags_are_sound : (word : ℕ) (flags : MsgFlags) → FlagsAre word flags → flags_fault word ≡ None
+flags_are_sound word flags f = rw (no_unknown word (from_bool flags.more * 2) f.required (small flags.more), no_checksum word flags.more f.required) refl
 
 same_bool : (a b : Bool) → from_bool a ≡ from_bool b → a ≡ b
 same_bool true true e = refl
@@ -56,6 +60,21 @@ same_twice false false e = refl
 same_twice true false e = absurd (omega (arith, e))
 same_twice false true e = absurd (omega (arith, e))
 
+same_flags_of : (more more' allows allows' : Bool) → more ≡ more' → allows ≡ allows' → flags_of more allows ≡ flags_of more' allows'
+same_flags_of more more' allows allows' e f = rw (e, f) refl
+
 -- a word has one reading
-pub same_flags : (word : ℕ) (more allows more' allows' : Bool) → FlagsAre word more allows → FlagsAre word more' allows' → (more ≡ more') × (allows ≡ allows')
-same_flags word more allows more' allows' f g = (same_twice more more' (sym f.required ∙ g.required), same_bool allows allows' (sym f.optional ∙ g.optional))
+pub same_flags : (word : ℕ) (a b : MsgFlags) → FlagsAre word a → FlagsAre word b → a ≡ b
+same_flags word a b f g = same_flags_of a.more b.more a.allows b.allows (same_twice a.more b.more (sym f.required ∙ g.required)) (same_bool a.allows b.allows (sym f.optional ∙ g.optional))
+
+-- ---- the flags as they are written
+
+flag_word_of : (more allows : Bool) → FlagsAre (flag_word (flags_of more allows)) (flags_of more allows)
+flag_word_of true true = record { four_bytes = omega arith; required = refl; optional = refl }
+flag_word_of true false = record { four_bytes = omega arith; required = refl; optional = refl }
+flag_word_of false true = record { four_bytes = omega arith; required = refl; optional = refl }
+flag_word_of false false = record { four_bytes = omega arith; required = refl; optional = refl }
+
+-- the word of flags is read as those
+pub flag_word_is : (flags : MsgFlags) → FlagsAre (flag_word flags) flags
+flag_word_is flags = flag_word_of flags.more flags.allows

@@ -112,7 +112,7 @@ no_frame_fault limit m bytes f s le (unlike room good ne e) = ne (msg_read m byt
 no_parts_fault : (m : Message) (bytes : List ℕ) (f : MsgFault) (s : SpellsMsg m bytes) → IsBytes bytes → PartsFault bytes f → ⊥
 no_parts_fault m bytes f s fits (no_flags lt e) = let r = msg_read m bytes s in omega (arith, lt, r.long)
 no_parts_fault m bytes f s fits (of_flags room e) =
-    let sound : flags_fault (number_at bytes 16) ≡ None = ap flags_fault (msg_read m bytes s).word ∙ flags_are_sound s.word m.more m.allows s.flags in
+    let sound : flags_fault (number_at bytes 16) ≡ None = ap flags_fault (msg_read m bytes s).word ∙ flags_are_sound s.word m.flags s.flags in
     let same : None ≡ Some f = sym sound ∙ e in
     absurd cc
 no_parts_fault m bytes f s fits (of_sections room flags fault) =

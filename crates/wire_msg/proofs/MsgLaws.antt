@@ -1,11 +1,12 @@
 -- A framed message whose parts were checked.
-use Rattle.std.proofs.Common.{◌≡◌, ℕ, ◌+◌, ◌-◌, ◌^◌, ◌<◌, ◌≤◌, Bool, List, ◌++◌, length, take, drop, Result, Ok, Err, None, Some, refl, sym, ap, ◌∙◌, append_assoc, arith, length-append, Fits}
+use Rattle.std.proofs.Common.{◌≡◌, ℕ, ◌+◌, ◌-◌, ◌^◌, ◌<◌, ◌≤◌, List, ◌++◌, length, take, drop, Result, Ok, Err, None, Some, refl, sym, ap, ◌∙◌, append_assoc, arith, length-append, Fits}
 use Rattle.std.specs.Prelude.{slice_range, MatchResult}
 use Rattle.std.specs.Int.{w32, cast_signed}
 use Rattle.std.proofs.Math.Facts.{sfits_to_z}
 use Rattle.std.proofs.lemmas.List.{take_at, drop_at, drop-drop}
 use Rattle.bson_elem.specs.Spelling.{IsBytes}
 use Rattle.wire_msg.specs.declared.fault.MsgFault.{MsgFault}
+use Rattle.wire_msg.specs.declared.flags.MsgFlags.{MsgFlags}
 use Rattle.wire_msg.specs.Header.{number_at}
 use Rattle.wire_msg.specs.Messages.{Content, Message, IsContent}
 use Rattle.wire_msg.specs.Spelling.{body_section, sequences_bytes, sections_bytes, FlagsAre, SpellsMsg, IsMessage}
@@ -20,11 +21,11 @@ use Rattle.wire_msg.proofs.FrameLaws.{framed_parts, number_fits}
 pub short_msg : (limit : ℕ) (bytes : List ℕ) → limit ≤ 48000000 → IsFramedMsg limit bytes → length bytes < 2 ^ 31
 short_msg limit bytes le framed = omega (arith, framed.whole, framed.good.most)
 
-pub msg_found : (limit : ℕ) (bytes : List ℕ) (more allows : Bool) (at next : ℕ) (d : List ℕ) → IsBytes bytes → length bytes < 2 ^ 31 → IsFramedMsg limit bytes → 20 ≤ length bytes → FlagsAre (number_at bytes 16) more allows → (s : HasSections bytes at d next) → names_fault s.before s.body s.after ≡ None → IsMessage limit bytes
-msg_found limit bytes more allows at next d fits short framed room flags s names =
+pub msg_found : (limit : ℕ) (bytes : List ℕ) (flags : MsgFlags) (at next : ℕ) (d : List ℕ) → IsBytes bytes → length bytes < 2 ^ 31 → IsFramedMsg limit bytes → 20 ≤ length bytes → FlagsAre (number_at bytes 16) flags → (s : HasSections bytes at d next) → names_fault s.before s.body s.after ≡ None → IsMessage limit bytes
+msg_found limit bytes flags at next d fits short framed room flags_are s names =
     let n = no_names_fault s.before s.body s.after names in
     let c : Content = record { body = s.body; sequences = s.before ++ s.after } in
-    let m : Message = record { id = cast_signed w32 (number_at bytes 4); response_to = cast_signed w32 (number_at bytes 8); more = more; allows = allows; content = c } in
+    let m : Message = record { id = cast_signed w32 (number_at bytes 4); response_to = cast_signed w32 (number_at bytes 8); flags = flags; content = c } in
     let is : IsContent c = record { body = is_document s.body d s.spelled; sequences = AreSequences-append s.before s.after s.before_fit s.after_fit; unique = n.0; apart = n.1 } in
     let id_fits : Fits w32 (number_at bytes 4) = record { fits = number_fits bytes 4 fits } in
     let to_fits : Fits w32 (number_at bytes 8) = record { fits = number_fits bytes 8 fits } in
@@ -36,7 +37,7 @@ msg_found limit bytes more allows at next d fits short framed room flags s names
       short = short;
       id = sfits_to_z id_fits;
       response_to = sfits_to_z to_fits;
-      flags = flags;
+      flags = flags_are;
       in_order = refl;
       content = is;
     } in
@@ -76,6 +77,6 @@ pub named : (bytes : List ℕ) (at next : ℕ) (d : List ℕ) (r : Result (Unit 
     → MatchResult r (λ _. (limit : ℕ) → IsFramedMsg limit bytes → IsMessage limit bytes) (λ f. PartsFault bytes f)
 named bytes at next d r fits short s names =
     decided r (names_fault s.sections.before s.sections.body s.sections.after ≡ None) (λ (f : MsgFault). names_fault s.sections.before s.sections.body s.sections.after ≡ Some f) ((limit : ℕ) → IsFramedMsg limit bytes → IsMessage limit bytes) (λ (f : MsgFault). PartsFault bytes f)
-    (λ none limit framed. msg_found limit bytes s.more s.allows at next d fits short framed s.room s.flags s.sections none)
+    (λ none limit framed. msg_found limit bytes s.flags at next d fits short framed s.room s.flags_are s.sections none)
     (λ f found. names_fail bytes at next d f s.room s.faultless s.sections found)
     names

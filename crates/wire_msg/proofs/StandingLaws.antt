@@ -1,5 +1,5 @@
 -- How bytes stand that come one after another.
-use Rattle.std.proofs.Common.{◌≡◌, ◌≢◌, ℕ, ℤ, ◌+◌, ◌<◌, ◌≤◌, inl, inr, Bool, List, [], ◌++◌, length, take, drop, Ok, refl, sym, ap, subst, ◌∙◌, arith, length-append, length-drop}
+use Rattle.std.proofs.Common.{◌≡◌, ◌≢◌, ℕ, ℤ, ◌+◌, ◌<◌, ◌≤◌, inl, inr, List, [], ◌++◌, length, take, drop, Ok, refl, sym, ap, subst, ◌∙◌, arith, length-append, length-drop}
 use Rattle.std.specs.Int.{w32, from_le_bytes, cast_signed}
 use Rattle.std.proofs.lemmas.Bool.{cases_lt}
 use Rattle.std.proofs.lemmas.List.{take_at, drop_at, take-append-le, drop-append-le, nil_from_length}
@@ -8,6 +8,7 @@ use Rattle.bson_elem.specs.Spelling.{IsBytes, elements}
 use Rattle.bson_elem.proofs.Lemmas.{IsBytes-drop, IsBytes-take, length-document, ok_is}
 use Rattle.wire_msg.specs.declared.header.MsgHeader.{MsgHeader}
 use Rattle.wire_msg.specs.declared.fault.MsgFault.{MsgFault}
+use Rattle.wire_msg.specs.declared.flags.MsgFlags.{MsgFlags}
 use Rattle.wire_msg.specs.Header.{number_at, header_of, IsGoodHeader, HeaderFault}
 use Rattle.wire_msg.specs.Messages.{Sequence, Message}
 use Rattle.wire_msg.specs.Spelling.{body_section, sequences_bytes, FlagsAre, SpellsMsg}
@@ -20,11 +21,11 @@ use Rattle.wire_msg.proofs.MsgAnswers.{msg_read, msg_verdict, no_msg_fault, one_
 
 -- ---- one message
 
-abbrev msg : ℤ → ℤ → Bool → Bool → Tree → List Sequence → Message
-msg id to more allows body sequences = record { id = id; response_to = to; more = more; allows = allows; content = record { body = body; sequences = sequences } }
+abbrev msg : ℤ → ℤ → MsgFlags → Tree → List Sequence → Message
+msg id to flags body sequences = record { id = id; response_to = to; flags = flags; content = record { body = body; sequences = sequences } }
 
-same_msg : (id id' to to' : ℤ) (more more' allows allows' : Bool) (body body' : Tree) (qs qs' : List Sequence) → id ≡ id' → to ≡ to' → more ≡ more' → allows ≡ allows' → body ≡ body' → qs ≡ qs' → msg id to more allows body qs ≡ msg id' to' more' allows' body' qs'
-same_msg id id' to to' more more' allows allows' body body' qs qs' a b d e f g = rw (a, b, d, e, f, g) refl
+same_msg : (id id' to to' : ℤ) (flags flags' : MsgFlags) (body body' : Tree) (qs qs' : List Sequence) → id ≡ id' → to ≡ to' → flags ≡ flags' → body ≡ body' → qs ≡ qs' → msg id to flags body qs ≡ msg id' to' flags' body' qs'
+same_msg id id' to to' flags flags' body body' qs qs' a b d e f = rw (a, b, d, e, f) refl
 
 abbrev joined : Parts → List Sequence
 joined p = p.0 ++ p.2
@@ -33,11 +34,11 @@ pub one_message : (m n : Message) (bytes : List ℕ) → IsBytes bytes → Spell
 one_message m n bytes fits s t =
     let a = msg_read m bytes s in
     let b = msg_read n bytes t in
-    let flags = same_flags s.word m.more m.allows n.more n.allows s.flags (subst (λ (w : ℕ). FlagsAre w n.more n.allows) (sym b.word ∙ a.word) t.flags) in
+    let flags = same_flags s.word m.flags n.flags s.flags (subst (λ (w : ℕ). FlagsAre w n.flags) (sym b.word ∙ a.word) t.flags) in
     let parts = ok_is {E = MsgFault} (s.before, m.content.body, s.after) (t.before, n.content.body, t.after) (one_verdict (drop 20 bytes) (Ok (s.before, m.content.body, s.after)) (Ok (t.before, n.content.body, t.after)) (IsBytes-drop 20 bytes fits) (msg_verdict m bytes s) (msg_verdict n bytes t)) in
     let body : m.content.body ≡ n.content.body = ap (λ (p : Parts). p.1) parts in
     let sequences : m.content.sequences ≡ n.content.sequences = s.in_order ∙ ap joined parts ∙ sym t.in_order in
-    same_msg m.id n.id m.response_to n.response_to m.more n.more m.allows n.allows m.content.body n.content.body m.content.sequences n.content.sequences (sym a.id ∙ b.id) (sym a.response_to ∙ b.response_to) flags.0 flags.1 body sequences
+    same_msg m.id n.id m.response_to n.response_to m.flags n.flags m.content.body n.content.body m.content.sequences n.content.sequences (sym a.id ∙ b.id) (sym a.response_to ∙ b.response_to) flags body sequences
 
 -- ---- a message in front
 

@@ -1,5 +1,5 @@
 -- The parts of a message, added one after another.
-use Rattle.std.proofs.Common.{◌≡◌, ℕ, ℤ, pos, ◌+◌, ◌<◌, ◌≤◌, ◌^◌, FitsSigned, Bool, true, false, List, [], ◌∷◌, ◌++◌, length, take, drop, refl, sym, ap, ◌∙◌, append_assoc, arith, length-append, Result, Ok, Err}
+use Rattle.std.proofs.Common.{◌≡◌, ℕ, ℤ, pos, ◌+◌, ◌<◌, ◌≤◌, ◌^◌, FitsSigned, List, [], ◌∷◌, ◌++◌, length, take, drop, refl, sym, ap, ◌∙◌, append_assoc, arith, length-append, Result, Ok, Err}
 use Rattle.std.specs.Io.{StartsWith}
 use Rattle.std.specs.Prelude.{OnOk, OnErr, is_ok, if◌then◌else◌}
 use Rattle.std.specs.Int.{w32}
@@ -8,8 +8,9 @@ use Rattle.std.proofs.lemmas.List.{take-append-le, take-append-drop}
 use Rattle.bson_elem.specs.Trees.{Tree}
 use Rattle.bson_elem.specs.Spelling.{little, document, elements}
 use Rattle.wire_msg.specs.Messages.{Content, Message, IsContent}
-use Rattle.wire_msg.specs.Spelling.{body_section, sequences_bytes, sections_bytes, signed, header_bytes, message_bytes, flag_word, canonical, message_len, FlagsAre, SpellsMsg}
+use Rattle.wire_msg.specs.Spelling.{body_section, sequences_bytes, sections_bytes, signed, header_bytes, message_bytes, flag_word, canonical, message_len, SpellsMsg}
 use Rattle.wire_msg.specs.Payload.{AreParts}
+use Rattle.wire_msg.proofs.FlagLaws.{flag_word_is}
 use Rattle.wire_msg.proofs.SequenceLaws.{sequences-append}
 
 pub on_ok : {T E : Type 0} (r : Result T E) (P Q : Type 0) → (P → Q) → OnOk r P → OnOk r Q
@@ -48,14 +49,14 @@ header_added len id response_to old one two three new a b d e =
 pub same_header : (len : ℕ) (i id r response_to : ℤ) → i ≡ id → r ≡ response_to → header_bytes len i r ≡ header_bytes len id response_to
 same_header len i id r response_to e f = ap (λ (z : ℤ). header_bytes len z r) e ∙ ap (header_bytes len id) f
 
-pub message_added : (m : Message) (len word : ℕ) (old one two new : List ℕ) → len ≡ message_len m.content → word ≡ flag_word m.more m.allows → one ≡ old ++ header_bytes len m.id m.response_to → two ≡ one ++ little word → new ≡ two ++ sections_bytes [] m.content.body m.content.sequences → new ≡ old ++ canonical m
+pub message_added : (m : Message) (len word : ℕ) (old one two new : List ℕ) → len ≡ message_len m.content → word ≡ flag_word m.flags → one ≡ old ++ header_bytes len m.id m.response_to → two ≡ one ++ little word → new ≡ two ++ sections_bytes [] m.content.body m.content.sequences → new ≡ old ++ canonical m
 unfolding message_bytes
 message_added m len word old one two new is flags a b d =
     let sections : List ℕ = sections_bytes [] m.content.body m.content.sequences in
     let n : len ≡ length sections + 20 = omega (arith, is) in
-    then_more old (header_bytes (length sections + 20) m.id m.response_to) (little (flag_word m.more m.allows) ++ sections) one new
+    then_more old (header_bytes (length sections + 20) m.id m.response_to) (little (flag_word m.flags) ++ sections) one new
     (a ∙ ap (λ (k : ℕ). old ++ header_bytes k m.id m.response_to) n)
-    (then_more one (little (flag_word m.more m.allows)) sections two new (b ∙ ap (λ (k : ℕ). one ++ little k) flags) d)
+    (then_more one (little (flag_word m.flags)) sections two new (b ∙ ap (λ (k : ℕ). one ++ little k) flags) d)
 
 body_cell : (body : Tree) (x : List ℕ) → body_section body ++ x ≡ 0 ∷ (document (elements body) ++ x)
 unfolding body_section
@@ -69,26 +70,20 @@ sections_added before body after c old one two three new p a b d e =
 
 -- ---- the canonical spelling
 
-pub flag_word_is : (more allows : Bool) → FlagsAre (flag_word more allows) more allows
-flag_word_is true true = record { four_bytes = omega arith; required = refl; optional = refl }
-flag_word_is true false = record { four_bytes = omega arith; required = refl; optional = refl }
-flag_word_is false true = record { four_bytes = omega arith; required = refl; optional = refl }
-flag_word_is false false = record { four_bytes = omega arith; required = refl; optional = refl }
-
 pub length-canonical : (m : Message) → length (canonical m) ≡ message_len m.content
 unfolding header_bytes message_bytes
 length-canonical m = omega arith
 
 pub canonical_spelled : (m : Message) → FitsSigned w32 m.id → FitsSigned w32 m.response_to → IsContent m.content → message_len m.content < 2 ^ 31 → SpellsMsg m (canonical m)
 canonical_spelled m id response_to content short = record {
-  word = flag_word m.more m.allows;
+  word = flag_word m.flags;
   before = [];
   after = m.content.sequences;
   parts = refl;
   short = omega (arith, short, length-canonical m);
   id = id;
   response_to = response_to;
-  flags = flag_word_is m.more m.allows;
+  flags = flag_word_is m.flags;
   in_order = refl;
   content = content;
 }

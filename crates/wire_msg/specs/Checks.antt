@@ -1,7 +1,8 @@
 -- What the parts of the check tell.
-use Rattle.std.specs.Prelude.{◌≡◌, ◌≢◌, ℕ, ◌+◌, ◌≤◌, Bool, None, List, [], ◌∷◌, ◌++◌, length, take, drop}
+use Rattle.std.specs.Prelude.{◌≡◌, ◌≢◌, ℕ, ◌+◌, ◌≤◌, None, List, [], ◌∷◌, ◌++◌, length, take, drop}
 use Rattle.bson_elem.specs.{Spells, Tree}
 use Rattle.wire_msg.specs.declared.fault.MsgFault.{MsgFault}
+use Rattle.wire_msg.specs.declared.flags.MsgFlags.{MsgFlags}
 use Rattle.bson_raw.specs.{AreDocuments, documents_bytes}
 use Rattle.wire_msg.specs.Messages.{Sequence, IsSequence, AreSequences}
 use Rattle.wire_msg.specs.Spelling.{sequence_section, sequences_bytes, sections_bytes, FlagsAre}
@@ -62,8 +63,7 @@ pub record HasSections (bytes : List ℕ) (at : ℕ) (document : List ℕ) (next
 -- The flags have no fault, and these are the sections.
 pub record HasParts (bytes : List ℕ) (at : ℕ) (document : List ℕ) (next : ℕ) : Type 0 where
   pub room : 20 ≤ length bytes
-  pub more : Bool
-  pub allows : Bool
-  pub flags : FlagsAre (number_at bytes 16) more allows
+  pub flags : MsgFlags
+  pub flags_are : FlagsAre (number_at bytes 16) flags
   pub faultless : flags_fault (number_at bytes 16) ≡ None
   pub sections : HasSections bytes at document next

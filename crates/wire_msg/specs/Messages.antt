@@ -1,7 +1,8 @@
 -- A message as a value (MongoDB Wire Protocol manual: OP_MSG).
-use Rattle.std.specs.Prelude.{◌≡◌, ℕ, ℤ, ◌+◌, ◌^◌, ◌<◌, List, [], ◌∷◌, ◌++◌, length, Bool, false, None}
-use Rattle.bson_elem.specs.{IsName, Spells, Tree, cstring, document, elements}
+use Rattle.std.specs.Prelude.{◌≡◌, ℕ, ℤ, ◌+◌, ◌^◌, ◌<◌, List, [], ◌∷◌, length, Bool, false, None}
+use Rattle.bson_elem.specs.{IsName, Tree, cstring}
 use Rattle.bson_raw.specs.{AreDocuments, IsDocument, documents_bytes, first_repeated, is_among, names_of}
+use Rattle.wire_msg.specs.declared.flags.MsgFlags.{MsgFlags}
 
 -- a document sequence: its identifier, and its documents in order
 pub record Sequence : Type 0 where
@@ -13,12 +14,11 @@ pub record Content : Type 0 where
   pub body : Tree
   pub sequences : List Sequence
 
--- requestID, responseTo, the flags moreToCome and exhaustAllowed, and what the message carries
+-- requestID, responseTo, the flags, and what the message carries
 pub record Message : Type 0 where
   pub id : ℤ
   pub response_to : ℤ
-  pub more : Bool
-  pub allows : Bool
+  pub flags : MsgFlags
   pub content : Content
 
 -- ---- which of them have a spelling

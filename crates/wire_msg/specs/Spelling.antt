@@ -1,8 +1,9 @@
 -- The bytes of a message (MongoDB Wire Protocol manual: Standard Message Header, OP_MSG).
-use Rattle.std.specs.Prelude.{◌≡◌, ℕ, ℤ, ◌+◌, ◌*◌, ◌%◌, ◌^◌, ◌<◌, ◌≤◌, FitsSigned, List, [], ◌∷◌, ◌++◌, length, Bool}
+use Rattle.std.specs.Prelude.{◌≡◌, ℕ, ℤ, ◌+◌, ◌*◌, ◌%◌, ◌^◌, ◌<◌, ◌≤◌, FitsSigned, List, [], ◌∷◌, ◌++◌, length}
 use Rattle.std.specs.Int.{w32, cast_unsigned, from_bool, bit_at}
 use Rattle.bson_elem.specs.{Tree, cstring, document, elements, little}
 use Rattle.bson_raw.specs.{documents_bytes}
+use Rattle.wire_msg.specs.declared.flags.MsgFlags.{MsgFlags}
 use Rattle.wire_msg.specs.Messages.{Sequence, Content, Message, sequence_size, IsContent}
 
 -- ---- sections
@@ -39,10 +40,10 @@ message_bytes id response_to word sections = header_bytes (length sections + 20)
 
 -- The flag bits. Of the required ones, 0 to 15, only moreToCome may be set, which is bit 1. Of the optional ones, 16 to
 -- 31, only exhaustAllowed means something, which is bit 16.
-pub record FlagsAre (word : ℕ) (more allows : Bool) : Type 0 where
+pub record FlagsAre (word : ℕ) (flags : MsgFlags) : Type 0 where
   pub four_bytes : word < 2 ^ 32
-  pub required : word % 2 ^ 16 ≡ from_bool more * 2
-  pub optional : bit_at word 16 ≡ from_bool allows
+  pub required : word % 2 ^ 16 ≡ from_bool flags.more * 2
+  pub optional : bit_at word 16 ≡ from_bool flags.allows
 
 -- ---- messages
 
@@ -56,7 +57,7 @@ pub record SpellsMsg (m : Message) (bytes : List ℕ) : Type 0 where
   pub short : length bytes < 2 ^ 31
   pub id : FitsSigned w32 m.id
   pub response_to : FitsSigned w32 m.response_to
-  pub flags : FlagsAre word m.more m.allows
+  pub flags : FlagsAre word m.flags
   pub in_order : m.content.sequences ≡ before ++ after
   pub content : IsContent m.content
 
@@ -70,11 +71,11 @@ IsMessage limit bytes = (length bytes ≤ limit) × IsSpelledMsg bytes
 
 -- ---- the canonical spelling: the body first, and no free flag bit set
 
-abbrev pub flag_word : Bool → Bool → ℕ
-flag_word more allows = from_bool more * 2 + from_bool allows * 2 ^ 16
+abbrev pub flag_word : MsgFlags → ℕ
+flag_word flags = from_bool flags.more * 2 + from_bool flags.allows * 2 ^ 16
 
 abbrev pub canonical : Message → List ℕ
-canonical m = message_bytes m.id m.response_to (flag_word m.more m.allows) (sections_bytes [] m.content.body m.content.sequences)
+canonical m = message_bytes m.id m.response_to (flag_word m.flags) (sections_bytes [] m.content.body m.content.sequences)
 
 -- how many bytes the canonical spelling of a message has that carries this
 abbrev pub message_len : Content → ℕ

@@ -29,6 +29,12 @@ pub struct MsgFlags {
 }
 
 impl MsgFlags {
+    /// No flag is set.
+    pub const NONE: MsgFlags = MsgFlags {
+        more: false,
+        allows: false,
+    };
+
     /// Reads the flags from `word`, the number that their four bytes are, the lowest first.
     ///
     /// # Errors
@@ -37,7 +43,7 @@ impl MsgFlags {
     /// offset 16 if bit 0 is set.
     pub(crate) fn read(word: u32) -> Result<MsgFlags, MsgFault>
         ensures read { MatchResult result
-            (λ flags. FlagsAre word flags.more flags.allows)
+            (λ flags. FlagsAre word flags)
             (λ f. flags_fault word ≡ Some f) }
         ensures none { MatchResult result (λ _. flags_fault word ≡ None) (λ _. Unit {0}) }
     {
@@ -62,7 +68,7 @@ impl MsgFlags {
 
     /// Returns the flag bits as a number, with no other bit set.
     pub(crate) fn word(self) -> u32
-        ensures { result ≡ flag_word self.more self.allows }
+        ensures { result ≡ flag_word self }
     {
         u32::from(self.more) * MORE_TO_COME + u32::from(self.allows) * EXHAUST_ALLOWED
     }

@@ -232,24 +232,23 @@ impl<'a> RawMsg<'a> {
         self.header().response_to
     }
 
-    /// Reads the flags of the message.
-    fn flags(self) -> MsgFlags
-        ensures { (m : Message) → SpellsMsg m (msg_bytes self.entry)
-            → (result.more ≡ m.more) × (result.allows ≡ m.allows) }
+    /// Returns the flags.
+    pub fn flags(self) -> MsgFlags
+        ensures { (m : Message) → SpellsMsg m (msg_bytes self.entry) → result ≡ m.flags }
     {
         MsgFlags::read(little_u32(&self.bytes[16..20])).unwrap()
     }
 
     /// Returns moreToCome: on a request, no reply is wanted; on a reply, another one follows.
     pub fn more(self) -> bool
-        ensures { (m : Message) → SpellsMsg m (msg_bytes self.entry) → result ≡ m.more }
+        ensures { (m : Message) → SpellsMsg m (msg_bytes self.entry) → result ≡ m.flags.more }
     {
         self.flags().more
     }
 
     /// Returns exhaustAllowed: more than one reply may be sent to this request.
     pub fn allows_more(self) -> bool
-        ensures { (m : Message) → SpellsMsg m (msg_bytes self.entry) → result ≡ m.allows }
+        ensures { (m : Message) → SpellsMsg m (msg_bytes self.entry) → result ≡ m.flags.allows }
     {
         self.flags().allows
     }

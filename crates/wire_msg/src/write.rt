@@ -62,8 +62,7 @@ fn write_parts(
         → OnOk result (out.new.items ≡ out.old.items ++ canonical (record {
           id = id;
           response_to = response_to;
-          more = flags.more;
-          allows = flags.allows;
+          flags = flags;
           content = c;
         })) }
     ensures kept { OnErr result (StartsWith out.new.items out.old.items) }
@@ -91,8 +90,7 @@ pub fn write_msg(
         → OnOk result (out.new.items ≡ out.old.items ++ canonical (record {
           id = id;
           response_to = response_to;
-          more = flags.more;
-          allows = flags.allows;
+          flags = flags;
           content = c;
         })) }
     ensures within { (c : Content) → Carries payload.entry c

@@ -1,6 +1,7 @@
 -- What an output holds once a message was written behind its bytes.
-use Rattle.std.proofs.Common.{◌≡◌, ℕ, ℤ, Bool, ◌+◌, ◌≤◌, List, ◌++◌, length, drop, Result, Ok, Err, OnOk, OnErr, arith, length-append, ◌∙◌, ap}
+use Rattle.std.proofs.Common.{◌≡◌, ℕ, ℤ, ◌+◌, ◌≤◌, List, ◌++◌, length, drop, Result, Ok, Err, OnOk, OnErr, arith, length-append, ◌∙◌, ap}
 use Rattle.std.proofs.lemmas.List.{drop-append-le}
+use Rattle.wire_msg.specs.declared.flags.MsgFlags.{MsgFlags}
 use Rattle.wire_msg.specs.Messages.{Content}
 use Rattle.wire_msg.specs.Spelling.{canonical}
 
@@ -17,8 +18,8 @@ added_behind (Ok x) old new added same start le e grown = ap (drop start) grown 
 added_behind (Err x) old new added same start le e grown = tt
 
 -- messages of the same numbers have one canonical spelling
-pub same_canonical : (i j t u : ℤ) (more allows : Bool) (c : Content) → i ≡ j → t ≡ u
-    → canonical (record { id = i; response_to = t; more = more; allows = allows; content = c }) ≡ canonical (record { id = j; response_to = u; more = more; allows = allows; content = c })
-same_canonical i j t u more allows c e f =
-    ap (λ (z : ℤ). canonical (record { id = z; response_to = t; more = more; allows = allows; content = c })) e
-    ∙ ap (λ (z : ℤ). canonical (record { id = j; response_to = z; more = more; allows = allows; content = c })) f
+pub same_canonical : (i j t u : ℤ) (flags : MsgFlags) (c : Content) → i ≡ j → t ≡ u
+    → canonical (record { id = i; response_to = t; flags = flags; content = c }) ≡ canonical (record { id = j; response_to = u; flags = flags; content = c })
+same_canonical i j t u flags c e f =
+    ap (λ (z : ℤ). canonical (record { id = z; response_to = t; flags = flags; content = c })) e
+    ∙ ap (λ (z : ℤ). canonical (record { id = j; response_to = z; flags = flags; content = c })) f

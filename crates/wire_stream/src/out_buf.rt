@@ -60,8 +60,7 @@ impl OutBuf {
             → OnOk result (self.new ≡ self.old ++ canonical (record {
               id = id;
               response_to = response_to;
-              more = flags.more;
-              allows = flags.allows;
+              flags = flags;
               content = c;
             })) }
         ensures within { (c : Content) → Carries payload.entry c

@@ -36,8 +36,8 @@ returns c =
     let room = c.if-bytes-lt-SECTIONS.false in
     let w = word_is bytes c.little_u32.result c.little_u32.ensures in
     let faultless = ap flags_fault (sym w) ∙ c.in_ok-read.ensures.none in
-    let flags = subst (λ (n : ℕ). FlagsAre n c.in_ok-read.field-0.more c.in_ok-read.field-0.allows) w c.in_ok-read.ensures.read in
+    let flags_are = subst (λ (n : ℕ). FlagsAre n c.in_ok-read.field-0) w c.in_ok-read.ensures.read in
     each c.split_sections.result (λ x. HasSections bytes x.0 (document_bytes x.1) x.2) (λ x. HasParts bytes x.0 (document_bytes x.1) x.2) (λ f. SectionsFault (drop 20 bytes) f) (λ f. PartsFault bytes f)
-    (λ x sections. record { room = room; more = c.in_ok-read.field-0.more; allows = c.in_ok-read.field-0.allows; flags = flags; faultless = faultless; sections = sections })
+    (λ x sections. record { room = room; flags = c.in_ok-read.field-0; flags_are = flags_are; faultless = faultless; sections = sections })
     (λ f fault. of_sections room faultless fault)
     c.split_sections.ensures

@@ -18,7 +18,7 @@ use Rattle.wire_msg.proofs.msg.RawMsg.flags.Goals as goal
 word_is : (bytes : List ℕ) (word : ℕ) → word ≡ from_le_bytes w32 (take 4 (slice_range bytes 16 20)) → word ≡ number_at bytes 16
 word_is bytes word e = e ∙ ap (from_le_bytes w32) (take-take 4 4 (drop 16 bytes) (omega arith))
 
-read_ok : (word : ℕ) (r : Result MsgFlags MsgFault) → MatchResult r (λ flags. FlagsAre word flags.more flags.allows) (λ f. flags_fault word ≡ Some f) → flags_fault word ≡ None → IsOk r
+read_ok : (word : ℕ) (r : Result MsgFlags MsgFault) → MatchResult r (λ flags. FlagsAre word flags) (λ f. flags_fault word ≡ Some f) → flags_fault word ≡ None → IsOk r
 read_ok word (Ok flags) m none = refl
 read_ok word (Err f) m none = absurd (let same : None ≡ Some f = sym none ∙ m in cc)
 
@@ -31,10 +31,10 @@ pub unwrap-requires : goal.unwrap-requires
 unwrap-requires c =
     ∥∥₁_elim c.args.self.spelled (Bool-set _ _) (λ s.
     let w = word_is c.args.self.bytes.now c.little_u32.result c.little_u32.ensures in
-    read_ok c.little_u32.result c.read.result c.read.ensures.read (ap flags_fault (w ∙ (msg_read s.0 c.args.self.bytes.now s.1).word) ∙ flags_are_sound s.1.word s.0.more s.0.allows s.1.flags))
+    read_ok c.little_u32.result c.read.result c.read.ensures.read (ap flags_fault (w ∙ (msg_read s.0 c.args.self.bytes.now s.1).word) ∙ flags_are_sound s.1.word s.0.flags s.1.flags))
 
 pub returns : goal.returns
 returns c = λ m s.
     let w = word_is c.args.self.bytes.now c.little_u32.result c.little_u32.ensures in
     let read = rw c.unwrap.ensures at c.read.ensures.read in
-    same_flags s.word c.unwrap.result.more c.unwrap.result.allows m.more m.allows (subst (λ (n : ℕ). FlagsAre n c.unwrap.result.more c.unwrap.result.allows) (w ∙ (msg_read m c.args.self.bytes.now s).word) read) s.flags
+    same_flags s.word c.unwrap.result m.flags (subst (λ (n : ℕ). FlagsAre n c.unwrap.result) (w ∙ (msg_read m c.args.self.bytes.now s).word) read) s.flags

@@ -14,5 +14,5 @@ invariant_of-self c =
 pub returns-clause-written : goal.returns-clause-written
 returns-clause-written c = λ content carried.
     rw (← c.self.view_is) (added_behind c.write_msg.result c.self.inside.bytes.items c.write_msg.new.out.items _ _ c.self.inside.start c.self.invariant
-    (same_canonical _ c.args.id _ c.args.response_to c.args.flags.more c.args.flags.allows content (to_z-of_z w32 c.args.id c.ranges.id) (to_z-of_z w32 c.args.response_to c.ranges.response_to))
+    (same_canonical _ c.args.id _ c.args.response_to c.args.flags content (to_z-of_z w32 c.args.id c.ranges.id) (to_z-of_z w32 c.args.response_to c.ranges.response_to))
     (c.write_msg.ensures.written content carried))
