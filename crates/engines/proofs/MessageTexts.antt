@@ -26,10 +26,10 @@ line_is size n id i to t flags f a b d e = rw (a, b, d, e) refl
 
 -- the first line of a message
 pub line_written : {E : Type 0} (r : Result (Unit {0}) E) (a b : Option (List ℕ)) (size : ℕ) (id to : ℤ) (flags : List ℕ) (n : ℕ) (m : Message)
-    → size ≡ n → n ≡ message_len m.content → id ≡ m.id → to ≡ m.response_to → flags ≡ flags_text m.more m.allows
+    → size ≡ n → n ≡ message_len m.content → id ≡ m.id → to ≡ m.response_to → flags ≡ flags_text m.flags
     → OnOk r (Appends a b (first_line size id to flags)) → OnOk r (Appends a b (message_line m))
 line_written r a b size id to flags n m e len f g h p =
-    subst (λ (x : List ℕ). OnOk r (Appends a b x)) (line_is size (message_len m.content) id m.id to m.response_to flags (flags_text m.more m.allows) (e ∙ len) f g h) p
+    subst (λ (x : List ℕ). OnOk r (Appends a b x)) (line_is size (message_len m.content) id m.id to m.response_to flags (flags_text m.flags) (e ∙ len) f g h) p
 
 -- the line of a document's size, and those of its elements
 pub member_written : {E : Type 0} (r : Result (Unit {0}) E) (a b c : Option (List ℕ)) (t : Tree) (bytes : List ℕ) → Spells t bytes

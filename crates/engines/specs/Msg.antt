@@ -4,23 +4,28 @@ use Rattle.std.specs.Fmt.{decimal, signed_decimal}
 use Rattle.bson_elem.specs.{Tree}
 use Rattle.bson_text.specs.{document_size, element_lines, quoted}
 use Rattle.wire_msg.specs.declared.fault.MsgFault.{MsgFault}
+use Rattle.wire_msg.specs.declared.flags.MsgFlags.{MsgFlags}
 use Rattle.wire_msg.specs.{IsBad, IsOpen, Message, Sequence, Split, message_len}
 use Rattle.engines.specs.Documents.{or_nothing, is_there}
 use Rattle.engines.specs.InputFault.{msg_line, ended_inside_line}
 
 -- ---- one message
 
--- the flags moreToCome and exhaustAllowed in one word
-abbrev pub flags_text : Bool → Bool → List ℕ
-flags_text false false = codes "-"
-flags_text true false = codes "more"
-flags_text false true = codes "exhaust"
-flags_text true true = codes "more+exhaust"
+-- moreToCome and exhaustAllowed in one word
+abbrev pub flag_names : Bool → Bool → List ℕ
+flag_names false false = codes "-"
+flag_names true false = codes "more"
+flag_names false true = codes "exhaust"
+flag_names true true = codes "more+exhaust"
+
+-- the flags in one word
+abbrev pub flags_text : MsgFlags → List ℕ
+flags_text flags = flag_names flags.more flags.allows
 
 -- the first line of a message
 abbrev pub message_line : Message → List ℕ
 message_line m =
-    codes "message " ++ (decimal (message_len m.content) ++ (codes " id " ++ (signed_decimal m.id ++ (codes " to " ++ (signed_decimal m.response_to ++ (codes " flags " ++ (flags_text m.more m.allows ++ codes "\n")))))))
+    codes "message " ++ (decimal (message_len m.content) ++ (codes " id " ++ (signed_decimal m.id ++ (codes " to " ++ (signed_decimal m.response_to ++ (codes " flags " ++ (flags_text m.flags ++ codes "\n")))))))
 
 -- the body: the line of its size, and those of its elements
 abbrev pub body_text : Tree → List ℕ

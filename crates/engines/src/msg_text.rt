@@ -11,13 +11,13 @@ use bson_raw::RawDocument;
 use bson_text::{dump_elements, quoted_to};
 use std::io;
 use std::io::Write;
-use wire_msg::{Documents, Payload, RawMsg};
+use wire_msg::{Documents, MsgFlags, Payload, RawMsg};
 
-/// Returns the word for the flags moreToCome and exhaustAllowed.
-fn flags_word(more: bool, allows: bool) -> &'static str
-    ensures { result.now ≡ flags_text more allows }
+/// Returns the word for the flags.
+fn flags_word(flags: MsgFlags) -> &'static str
+    ensures { result.now ≡ flags_text flags }
 {
-    match (more, allows) {
+    match (flags.more, flags.allows) {
         (false, false) => "-",
         (true, false) => "more",
         (false, true) => "exhaust",
@@ -34,7 +34,7 @@ fn write_message_line<W: Write>(message: RawMsg<'_>, out: &mut W) -> io::Result<
     let size = message.as_bytes().len();
     let id = message.id();
     let response_to = message.response_to();
-    let flags = flags_word(message.more(), message.allows_more());
+    let flags = flags_word(message.flags());
     writeln!(out, "message {size} id {id} to {response_to} flags {flags}")
 }
 

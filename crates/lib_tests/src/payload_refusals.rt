@@ -115,14 +115,9 @@ fn push_document_leaves_the_payload(rt: HostRuntime) {
     assert!(rt; leaves_at_push(rt.alloc(), document));
 }
 
-const NO_FLAGS: MsgFlags = MsgFlags {
-    more: false,
-    allows: false,
-};
-
 /// Returns true if the message is written behind two bytes, or refused for want of memory, and the bytes then stay.
 fn is_written(out: &mut Vec<u8>, payload: Payload<'_>) -> bool {
-    match write_msg(out, 2, 0, NO_FLAGS, payload, 55) {
+    match write_msg(out, 2, 0, MsgFlags::NONE, payload, 55) {
         Ok(()) => out.len() == 57,
         Err(refusal) => { refusal == MsgRefusal::OutOfMemory && out.as_slice() == b"ab".as_slice() }
     }

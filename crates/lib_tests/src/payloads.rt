@@ -8,11 +8,6 @@ use bson_raw::RawDocument;
 use std::alloc::Global;
 use wire_msg::{MsgFlags, MsgRefusal, Payload, PayloadBuf, RawMsg, write_msg};
 
-const NO_FLAGS: MsgFlags = MsgFlags {
-    more: false,
-    allows: false,
-};
-
 /// The sequence "a" of one document before an empty body, and the empty sequence "b" behind it.
 const TWO_SEQUENCES: &str = "36000000 02000000 00000000 dd070000 00000000 \
     01 14000000 6100 0e000000 105f69640001000000 00 00 0500000000 01 06000000 6200";
@@ -59,7 +54,7 @@ fn what_is_added_to_no_payload(rt: HostRuntime) {
 /// Returns true if the payload's message of request 2 is written as these bytes.
 fn writes(alloc: Global, payload: Payload<'_>, limit: u32, wanted: &[u8]) -> bool {
     let mut out = Vec::new(alloc);
-    write_msg(&mut out, 2, 0, NO_FLAGS, payload, limit).is_ok() && out.as_slice() == wanted
+    write_msg(&mut out, 2, 0, MsgFlags::NONE, payload, limit).is_ok() && out.as_slice() == wanted
 }
 
 /// Like `writes`, for the bytes of these digits.

@@ -14,15 +14,11 @@ pub(crate) const BODY_FIRST: &str = "45000000 02000000 00000000 dd070000 0000000
 
 /// Writes the message again behind the bytes of `out`.
 fn write_again(out: &mut Vec<u8>, msg: RawMsg<'_>, limit: u32) -> Result<(), MsgRefusal> {
-    let flags = MsgFlags {
-        more: msg.more(),
-        allows: msg.allows_more(),
-    };
     write_msg(
         out,
         msg.id(),
         msg.response_to(),
-        flags,
+        msg.flags(),
         msg.payload(),
         limit,
     )
@@ -160,15 +156,10 @@ fn a_refusal_adds_nothing(rt: HostRuntime) {
     assert!(rt; writes_behind(rt.alloc()));
 }
 
-const NO_FLAGS: MsgFlags = MsgFlags {
-    more: false,
-    allows: false,
-};
-
 /// Returns true if the payload's message of request 2 is written as these bytes.
 fn payload_writes(alloc: Global, payload: Payload<'_>, wanted: &[u8]) -> bool {
     let mut out = Vec::new(alloc);
-    write_msg(&mut out, 2, 0, NO_FLAGS, payload, LIMIT).is_ok() && out.as_slice() == wanted
+    write_msg(&mut out, 2, 0, MsgFlags::NONE, payload, LIMIT).is_ok() && out.as_slice() == wanted
 }
 
 /// Like `payload_writes`, for a copy of the payload.

@@ -11,8 +11,7 @@ pub returns : goal.returns
 returns g c = λ m s.
     let id : c.id-id.result ≡ m.id = c.id-id.ensures m s in
     let to : c.response_to-response_to.result ≡ m.response_to = c.response_to-response_to.ensures m s in
-    let flags : c.flags_word-flags.result.now ≡ flags_text m.more m.allows =
-    c.flags_word-flags.ensures ∙ ap (λ x. flags_text x c.allows_more.result) (c.more.ensures m s) ∙ ap (flags_text m.more) (c.allows_more.ensures m s) in
+    let flags : c.flags_word-flags.result.now ≡ flags_text m.flags = c.flags_word-flags.ensures ∙ ap flags_text (c.flags.ensures m s) in
     line_written c.writeln.result _ _ _ _ _ _ (length (msg_bytes c.args.message)) m (ap length c.as_bytes.ensures) (length-spelled m (msg_bytes c.args.message) s)
     (to_z-of_z w32 c.id-id.result (subst (FitsSigned w32) (sym id) s.id) ∙ id)
     (to_z-of_z w32 c.response_to-response_to.result (subst (FitsSigned w32) (sym to) s.response_to) ∙ to)
