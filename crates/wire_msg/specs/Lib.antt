@@ -24,9 +24,10 @@ pub use Rattle.wire_msg.specs.Causes.{msg_fault}
 pub use Rattle.wire_msg.specs.Documents.{DocumentsAre}
 pub use Rattle.wire_msg.specs.FaultText.{fault_text}
 pub use Rattle.wire_msg.specs.Faults.{FaultMsg}
+pub use Rattle.wire_msg.specs.Header.{HeaderFault, IsGoodHeader, header_of, number_at}
 pub use Rattle.wire_msg.specs.Messages.{Content, Message, Sequence}
 pub use Rattle.wire_msg.specs.RawMsg.{msg_bytes}
-pub use Rattle.wire_msg.specs.Spelling.{SpellsMsg, canonical, message_len}
-pub use Rattle.wire_msg.specs.Splits.{Split}
-pub use Rattle.wire_msg.specs.Standing.{IsBad, IsOpen}
+pub use Rattle.wire_msg.specs.Spelling.{IsMessage, IsSpelledMsg, SpellsMsg, canonical, message_len}
+pub use Rattle.wire_msg.specs.Splits.{AreSpelled, Split}
+pub use Rattle.wire_msg.specs.Standing.{IsBad, IsOpen, IsWhole}
 pub use Rattle.wire_msg.specs.Writing.{IsWriteRefusal}

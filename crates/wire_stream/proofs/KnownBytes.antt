@@ -1,7 +1,7 @@
 -- How what calls did to known bytes goes together.
 use Rattle.std.proofs.Common.{◌≡◌, ℕ, ◌+◌, ◌-◌, ◌≤◌, List, [], ◌++◌, length, take, drop, Option, Some, None, refl, sym, ap, ◌∙◌, arith, append_assoc, append-nil, take-add, take-append-drop, length-take}
 use Rattle.std.proofs.lemmas.List.{drop-take, drop-drop}
-use Rattle.std.proofs.Math.Seq.{take-append_seam, take-length}
+use Rattle.std.proofs.Math.Seq.{take-append_seam}
 use Rattle.std.specs.Io.KnownBytes.{Appends, Keeps}
 
 pub Keeps-refl : (a : Option (List ℕ)) → Keeps a a

@@ -1,5 +1,5 @@
 -- What an output holds once a message was written behind its bytes.
-use Rattle.std.proofs.Common.{◌≡◌, ℕ, ℤ, ◌+◌, ◌≤◌, List, ◌++◌, length, drop, Result, Ok, Err, OnOk, OnErr, arith, length-append, ◌∙◌, ap}
+use Rattle.std.proofs.Common.{◌≡◌, ℕ, ℤ, ◌≤◌, List, ◌++◌, length, drop, Result, Ok, Err, OnOk, OnErr, arith, length-append, ◌∙◌, ap}
 use Rattle.std.proofs.lemmas.List.{drop-append-le}
 use Rattle.wire_msg.specs.declared.flags.MsgFlags.{MsgFlags}
 use Rattle.wire_msg.specs.Messages.{Content}

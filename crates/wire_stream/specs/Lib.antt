@@ -1,3 +1,9 @@
 pub mod Links
 pub mod Pulls
 pub mod MemLinks
+pub mod Readers
+pub mod Holding
+-- the words that clauses of other crates cite
+pub use Rattle.wire_stream.specs.Links.{Rose, TellsEnd}
+pub use Rattle.wire_stream.specs.Pulls.{IsPulled}
+pub use Rattle.wire_stream.specs.Readers.{CompletesHeader, Feeds, HoldsNoMore, IsRoom, Reading, StandsAt}

@@ -1,5 +1,5 @@
 -- What the calls of a link tell of it.
-use Rattle.std.specs.Prelude.{◌≡◌, ℕ, zero, suc, ◌-◌, ◌^◌, ◌<◌, Result, Ok, Err}
+use Rattle.std.specs.Prelude.{◌≡◌, ℕ, zero, suc, ◌-◌, ◌^◌, ◌<◌, Result, Ok}
 use Rattle.wire_stream.specs.declared.link.LinkFault.{LinkFault}
 
 -- the count rose, or stood at its greatest value

@@ -1,5 +1,5 @@
 -- A link in memory.
-use Rattle.std.specs.Prelude.{ℕ, zero, suc, List, length, min, Option, Some, None, Bool, true, false}
+use Rattle.std.specs.Prelude.{ℕ, zero, suc, List, min, Option, Some, None, Bool, true, false}
 
 -- What a caller sees of a link in memory: the bytes that were received and those that are left to receive, the bytes that
 -- were sent and how many more there is room for, how many bytes a call moves at most, how many calls come before the one

@@ -1,19 +1,27 @@
 //! Streams of messages: bytes that come and go over a link.
 //!
-//! A `Link` moves bytes both ways and may fail. An `Inlet` holds the piece that a link gave last, and `flush` sends what
-//! an `Outlet`, such as an `OutBuf`, has waiting. Nothing here looks into a message but by the contract of wire_msg.
+//! A `MsgReader` makes messages of bytes that come in pieces. A `Link` moves bytes both ways and may fail. An `Inlet` holds
+//! the piece that a link gave last, and `flush` sends what an `Outlet`, such as an `OutBuf`, has waiting. Nothing here looks
+//! into a message but by the contract of wire_msg.
 #![tactic(auto)]
 
+mod held;
 mod inlet;
 mod link;
 mod mem_link;
+mod msg_buf;
 mod out_buf;
 mod outlet;
+mod reader;
+mod reader_state;
 mod tcp_link;
 
 pub use inlet::{Inlet, Pulled};
 pub use link::{Link, LinkFault};
 pub use mem_link::MemLink;
+pub use msg_buf::MsgBuf;
 pub use out_buf::OutBuf;
 pub use outlet::{Outlet, flush};
+pub use reader::MsgReader;
+pub use reader_state::{Fed, ReadEnd, ReadRefusal, ReaderState};
 pub use tcp_link::TcpLink;

@@ -1,4 +1,4 @@
-use Rattle.std.proofs.Common.{rules, arith, sym}
+use Rattle.std.proofs.Common.{sym}
 use Rattle.wire_stream.proofs.KnownBytes.{window}
 use Rattle.wire_stream.proofs.inlet.Inlet.used.Goals as goal
 

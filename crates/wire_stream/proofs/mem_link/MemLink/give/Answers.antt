@@ -1,4 +1,4 @@
-use Rattle.std.proofs.Common.{◌∙◌, ◌++◌, ap, arith, drop, length, length-drop, length-take, take, sym}
+use Rattle.std.proofs.Common.{◌∙◌, ◌++◌, ap, arith, drop, take}
 use Rattle.std.proofs.lemmas.Grind.{common_steps}
 use Rattle.wire_stream.specs.MemLinks.{Memory}
 use Rattle.wire_stream.proofs.KnownBytes.{copied}

@@ -1,0 +1,221 @@
+//! Messages out of bytes that come in pieces.
+
+ghost use Rattle.std.specs.Prelude.{◌≡◌, ◌≢◌, ◌≤◌, ◌<◌, ◌+◌, ◌++◌, [], IfOk, IfNone, IfSome, IsOkAnd, IsSome, List, OnErr, length, max, take, ℕ};
+ghost use Rattle.wire_msg.specs.{IsBad, IsMessage, IsOpen, msg_bytes};
+ghost use Rattle.wire_msg.specs.declared.fault.MsgFault.{MsgFault};
+ghost use Rattle.wire_stream.specs.Readers.{CompletesHeader, Feeds, IsRoom, Reading, StandsAt};
+
+use crate::held::{begin_message, fill_header, go_on};
+use crate::msg_buf::MsgBuf;
+use crate::reader_state::{Fed, ReadEnd, ReadRefusal, ReaderState};
+use bson_elem::little_u32;
+use std::alloc::Global;
+use std::marker::Model;
+use wire_msg::{HEADER_LEN, MsgHeader, RawMsg};
+
+/// Reads messages of at most `limit` bytes, one at a time, out of bytes that come in pieces.
+///
+/// Fewer bytes than a header has are held without memory. Once a good header is there, memory is taken for as many bytes as
+/// it announces, once a message. A contract sees a reader as its limit and the bytes of the current message so far.
+#[derive(Drop)]
+pub struct MsgReader {
+    alloc: Global,
+    limit: u32,
+    header: [u8; 16],
+    /// How many bytes of the header are there, while there is no message.
+    len: usize,
+    /// The bytes from the header on, once it is known to be good.
+    message: Option<Vec<u8>>,
+    state: ReaderState,
+}
+
+impl Model for MsgReader {
+    ghost use Rattle.std.specs.Prelude.{◌≡◌, ◌≤◌, length};
+    ghost use Rattle.wire_stream.specs.Holding.{IsKept, held_of};
+    ghost use Rattle.wire_stream.specs.Readers.{Reading, StandsAt};
+
+    ghost Value = { Reading };
+
+    ghost view = { λ s. record { limit = s.limit; held = held_of s.header s.len s.message } };
+
+    ghost invariant = { λ s. record {
+      limit : s.limit ≤ 48_000_000;
+      whole : length s.header ≡ 16;
+      state : StandsAt s.limit (held_of s.header s.len s.message) s.state;
+      kept : IsKept s.limit s.header s.len s.message;
+    } };
+}
+
+impl MsgReader {
+    /// Returns a reader of messages of at most `limit` bytes that holds no byte. It takes no memory.
+    pub fn new(alloc: Global, limit: u32) -> MsgReader
+        requires { limit ≤ 48_000_000 }
+        ensures { result ≡ record { limit = limit; held = [] } }
+    {
+        MsgReader {
+            alloc,
+            limit,
+            header: [0; 16],
+            len: 0,
+            message: None,
+            state: ReaderState::Need,
+        }
+    }
+
+    /// Returns where the reader stands.
+    pub fn state(&self) -> ReaderState
+        ensures { StandsAt self.now.limit self.now.held result }
+    {
+        self.state
+    }
+
+    /// Takes the first bytes of `piece`, up to the end of the current message or the 16th byte of a bad header, and tells
+    /// where the reader stands then. It takes none where a message is ready or the bytes that are held are bad.
+    ///
+    /// # Errors
+    ///
+    /// `OutOfMemory` where the piece completes a good header and memory for the announced message is wanting. Nothing is
+    /// taken then, and the piece may be fed again.
+    pub fn feed(&mut self, piece: &[u8]) -> Result<Fed, ReadRefusal>
+        ensures limit { self.new.limit ≡ self.old.limit }
+        ensures fed { IsOpen self.old.limit self.old.held
+            → IfOk result (λ fed. Feeds self.old.limit self.old.held piece.now self.new.held fed) }
+        ensures state { IfOk result (λ fed. StandsAt self.new.limit self.new.held fed.state) }
+        ensures none { (IsOpen self.old.limit self.old.held → ⊥)
+            → IsOkAnd result (λ fed. fed.taken ≡ 0) × (self.new ≡ self.old) }
+        ensures refused { OnErr result (CompletesHeader self.old.limit self.old.held piece.now) }
+        ensures unchanged { OnErr result (self.new ≡ self.old) }
+    {
+        let ReaderState::Need = self.state else {
+            return Ok(Fed {
+                taken: 0,
+                state: self.state,
+            });
+        };
+        match &mut self.message {
+            Some(message) => {
+                let fed = go_on(self.alloc, message, self.limit, piece);
+                self.state = fed.state;
+                Ok(fed)
+            }
+            None => self.feed_header(piece),
+        }
+    }
+
+    /// Takes first bytes of `piece` where the header isn't complete.
+    fn feed_header(&mut self, piece: &[u8]) -> Result<Fed, ReadRefusal>
+        requires { length self.old.held < 16 }
+        ensures limit { self.new.limit ≡ self.old.limit }
+        ensures fed { IfOk result (λ fed. Feeds self.old.limit self.old.held piece.now self.new.held fed) }
+        ensures refused { OnErr result (CompletesHeader self.old.limit self.old.held piece.now) }
+        ensures unchanged { OnErr result (self.new ≡ self.old) }
+    {
+        let n = fill_header(&mut self.header, self.len, piece);
+        if self.len + n < HEADER_LEN as usize {
+            self.len += n;
+            return Ok(Fed {
+                taken: n,
+                state: ReaderState::Need,
+            });
+        }
+        if let Err(fault) = MsgHeader::read(self.header).check(self.limit) {
+            self.len += n;
+            self.state = ReaderState::Bad(fault);
+            return Ok(Fed {
+                taken: n,
+                state: self.state,
+            });
+        }
+        let mut message = begin_message(self.alloc, &self.header, self.limit)?;
+        let fed = go_on(self.alloc, &mut message, self.limit, &piece[n..]);
+        self.message = Some(message);
+        self.state = fed.state;
+        Ok(Fed {
+            taken: n + fed.taken,
+            state: fed.state,
+        })
+    }
+
+    /// Lends the message that is ready, and `None` where none is. Nothing is checked again.
+    pub fn message(&self) -> Option<RawMsg<'_>>
+        ensures some { IfSome result (λ m. (msg_bytes m ≡ self.now.held) × IsMessage self.now.limit self.now.held) }
+        ensures ready { IsMessage self.now.limit self.now.held → IsSome result }
+    {
+        let ReaderState::Ready = self.state else {
+            return None;
+        };
+        match &self.message {
+            Some(message) => Some(RawMsg::from_spelled(message)),
+            None => None,
+        }
+    }
+
+    /// Lets go of the message that is ready, and of its memory, so that the next one is read. Where none is ready, nothing
+    /// changes.
+    pub fn release(&mut self)
+        ensures ready { IsMessage self.old.limit self.old.held
+            → self.new ≡ record { limit = self.old.limit; held = [] } }
+        ensures open { IsOpen self.old.limit self.old.held → self.new ≡ self.old }
+        ensures bad { (f : MsgFault) → IsBad self.old.limit self.old.held f → self.new ≡ self.old }
+    {
+        let _ = self.take();
+    }
+
+    /// Moves the message that is ready out, so that the next one is read. Returns `None` where none is ready, and changes
+    /// nothing then. It takes no memory.
+    pub fn take(&mut self) -> Option<MsgBuf>
+        ensures some { IfSome result (λ m. (m ≡ self.old.held) × IsMessage self.old.limit m
+            × (self.new ≡ record { limit = self.old.limit; held = [] })) }
+        ensures ready { IsMessage self.old.limit self.old.held → IsSome result }
+        ensures none { IfNone result (self.new ≡ self.old) }
+    {
+        let ReaderState::Ready = self.state else {
+            return None;
+        };
+        let Some(message) = self.message.take() else {
+            unreachable!()
+        };
+        self.len = 0;
+        self.state = ReaderState::Need;
+        Some(MsgBuf::from_spelled(message))
+    }
+
+    /// Returns how the bytes end, where no more come: inside a message where some are held and more are wanted.
+    pub fn end(&self) -> ReadEnd
+        ensures inside { IsOpen self.now.limit self.now.held → self.now.held ≢ [] → result ≡ ReadEnd.EndedInside }
+        ensures between { self.now.held ≡ [] → result ≡ ReadEnd.Ended }
+        ensures ready { IsMessage self.now.limit self.now.held → result ≡ ReadEnd.Ended }
+        ensures bad { (f : MsgFault) → IsBad self.now.limit self.now.held f → result ≡ ReadEnd.Ended }
+    {
+        let ReaderState::Need = self.state else {
+            return ReadEnd::Ended;
+        };
+        if self.held() == 0 {
+            ReadEnd::Ended
+        } else {
+            ReadEnd::EndedInside
+        }
+    }
+
+    /// Returns how many bytes are held.
+    pub fn held(&self) -> usize
+        ensures { result ≡ length self.now.held }
+    {
+        match &self.message {
+            Some(message) => message.len(),
+            None => self.len,
+        }
+    }
+
+    /// Returns how many bytes of the current message there is room for: as many as a good header announces, and 0 without
+    /// one. No more are held than that, or than a header has.
+    pub fn room(&self) -> usize
+        ensures room { IsRoom self.now.limit self.now.held result }
+        ensures held { length self.now.held ≤ max 16 result }
+    {
+        match &self.message {
+            Some(message) => little_u32(message) as usize,
+            None => 0,
+        }
+    }
+}
