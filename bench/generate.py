@@ -35,7 +35,7 @@ def document(elements):
 
 
 def array(values):
-    return document(element(kind, str(place), value) for place, (kind, value) in enumerate(values))
+    return document(element(kind, str(index), value) for index, (kind, value) in enumerate(values))
 
 
 def int32(n):
@@ -85,8 +85,8 @@ def scalar(rng):
 
 
 def fields(rng, count):
-    return [element(kind, f"{rng.choice(WORDS)}{place}", value)
-            for place, (kind, value) in enumerate(scalar(rng) for _ in range(count))]
+    return [element(kind, f"{rng.choice(WORDS)}{index}", value)
+            for index, (kind, value) in enumerate(scalar(rng) for _ in range(count))]
 
 
 def flat(rng):
@@ -139,7 +139,7 @@ def binary(rng):
 def numbers(rng):
     """An array of 100 numbers."""
     return document([element(0x04, "values", array(
-        [rng.choice((int32(place), int64(place << 33), double(place / 7))) for place in range(100)]))])
+        [rng.choice((int32(index), int64(index << 33), double(index / 7))) for index in range(100)]))])
 
 
 def message_parts(rng):

@@ -19,7 +19,7 @@ use Rattle.bson_raw.specs.Spelled.{IsSpelled}
 use Rattle.bson_doc.specs.declared.refusal.DocRefusal.{DocRefusal}
 use Rattle.bson_doc.specs.declared.refusal.DocRefusal.TheVariants.{RepeatedName, OutOfMemory, TooLarge, ZeroInName, Depth}
 use Rattle.bson_doc.specs.Formed.{IsFormedValue}
-use Rattle.bson_doc.specs.Last.{with_last}
+use Rattle.bson_doc.specs.Appended.{with_pair_appended}
 use Rattle.bson_doc.specs.Refusals.{IsLengthRefusal}
 use Rattle.bson_doc.specs.Unwritable.{has_zero, unwritable_leaf, unwritable, unwritable_value, IsUnwritable}
 use Rattle.bson_doc.specs.Values.{value_bytes, value_kind, element_bytes}
@@ -28,19 +28,19 @@ use Rattle.bson_doc.proofs.Writing.{elements-with_first, formed-with_first, fits
 
 -- ---- trees
 
-elements-with_last : (n : List ℕ) (v : TreeValue) (t : Tree) → elements (with_last n v t) ≡ elements t ++ element_bytes n v
-elements-with_last n v no_pairs = elements-with_first n v no_pairs ∙ append-nil (element_bytes n v)
-elements-with_last n v (leaf_pair m k leaf ps) =
-    ap (λ (x : List ℕ). (byte_of k ∷ (cstring m ++ leaf_bytes (form_of k) leaf)) ++ x) (elements-with_last n v ps)
+elements-with_pair_appended : (n : List ℕ) (v : TreeValue) (t : Tree) → elements (with_pair_appended n v t) ≡ elements t ++ element_bytes n v
+elements-with_pair_appended n v no_pairs = elements-with_first n v no_pairs ∙ append-nil (element_bytes n v)
+elements-with_pair_appended n v (leaf_pair m k leaf ps) =
+    ap (λ (x : List ℕ). (byte_of k ∷ (cstring m ++ leaf_bytes (form_of k) leaf)) ++ x) (elements-with_pair_appended n v ps)
     ∙ sym (append_assoc (byte_of k ∷ (cstring m ++ leaf_bytes (form_of k) leaf)) (elements ps) (element_bytes n v))
-elements-with_last n v (inner_pair m k b inner ps) =
-    ap (λ (x : List ℕ). (byte_of k ∷ (cstring m ++ inner_bytes b (elements inner))) ++ x) (elements-with_last n v ps)
+elements-with_pair_appended n v (inner_pair m k b inner ps) =
+    ap (λ (x : List ℕ). (byte_of k ∷ (cstring m ++ inner_bytes b (elements inner))) ++ x) (elements-with_pair_appended n v ps)
     ∙ sym (append_assoc (byte_of k ∷ (cstring m ++ inner_bytes b (elements inner))) (elements ps) (element_bytes n v))
 
-fits-with_last : (depth : ℕ) (n : List ℕ) (v : TreeValue) (t : Tree) → Fits depth t → Fits depth (with_first n v no_pairs) → Fits depth (with_last n v t)
-fits-with_last depth n v no_pairs f last = last
-fits-with_last depth n v (leaf_pair m k leaf ps) f last = (f.0, f.1, fits-with_last depth n v ps f.2 last)
-fits-with_last depth n v (inner_pair m k b inner ps) f last = (f.0, f.1, f.2, f.3, f.4, fits-with_last depth n v ps f.5 last)
+fits-with_pair_appended : (depth : ℕ) (n : List ℕ) (v : TreeValue) (t : Tree) → Fits depth t → Fits depth (with_first n v no_pairs) → Fits depth (with_pair_appended n v t)
+fits-with_pair_appended depth n v no_pairs f last = last
+fits-with_pair_appended depth n v (leaf_pair m k leaf ps) f last = (f.0, f.1, fits-with_pair_appended depth n v ps f.2 last)
+fits-with_pair_appended depth n v (inner_pair m k b inner ps) f last = (f.0, f.1, f.2, f.3, f.4, fits-with_pair_appended depth n v ps f.5 last)
 
 -- ---- what fits is no reason of a refusal
 
@@ -75,15 +75,15 @@ writable depth (inner_pair n k b inner ps) f =
     rw (named, deep, writable (depth + 1) inner f.4) (writable depth ps f.5)
 
 -- so the reason is the last pair
-unwritable-with_last : (depth : ℕ) (n : List ℕ) (v : TreeValue) (t : Tree) → Fits depth t → unwritable depth (with_last n v t) ≡ unwritable depth (with_first n v no_pairs)
-unwritable-with_last depth n v no_pairs f = refl
-unwritable-with_last depth n v (leaf_pair m k leaf ps) f =
+unwritable-with_pair_appended : (depth : ℕ) (n : List ℕ) (v : TreeValue) (t : Tree) → Fits depth t → unwritable depth (with_pair_appended n v t) ≡ unwritable depth (with_first n v no_pairs)
+unwritable-with_pair_appended depth n v no_pairs f = refl
+unwritable-with_pair_appended depth n v (leaf_pair m k leaf ps) f =
     let named = free m f.0.no_zero in
-    rw (named, leaf_writable (form_of k) leaf f.1) (unwritable-with_last depth n v ps f.2)
-unwritable-with_last depth n v (inner_pair m k b inner ps) f =
+    rw (named, leaf_writable (form_of k) leaf f.1) (unwritable-with_pair_appended depth n v ps f.2)
+unwritable-with_pair_appended depth n v (inner_pair m k b inner ps) f =
     let named = free m f.0.no_zero in
     let deep = lt-ltb depth 200 f.2 in
-    rw (named, deep, writable (depth + 1) inner f.4) (unwritable-with_last depth n v ps f.5)
+    rw (named, deep, writable (depth + 1) inner f.4) (unwritable-with_pair_appended depth n v ps f.5)
 
 -- ---- bytes
 
@@ -120,43 +120,43 @@ restored bytes after cut end byte spelled last at kept =
 
 -- the elements with one more
 pub elements_more : (t : Tree) (bytes : List ℕ) (end byte : ℕ) (n : List ℕ) (v : TreeValue) → bytes ≡ document (elements t) → end + 1 ≡ length bytes → byte ≡ byte_of (value_kind v)
-    → drop 4 (set bytes end byte) ++ (cstring n ++ value_bytes v) ≡ elements (with_last n v t)
+    → drop 4 (set bytes end byte) ++ (cstring n ++ value_bytes v) ≡ elements (with_pair_appended n v t)
 elements_more t bytes end byte n v is last kind =
     ap (λ (x : List ℕ). drop 4 x ++ (cstring n ++ value_bytes v)) (over (elements t) bytes end byte is last ∙ append_assoc (little (length (elements t) + 5)) (elements t) (byte ∷ []))
     ∙ ap (λ (x : List ℕ). x ++ (cstring n ++ value_bytes v)) (drop-append_seam (little (length (elements t) + 5)) (elements t ++ byte ∷ []))
-    ∙ append_assoc (elements t) (byte ∷ []) (cstring n ++ value_bytes v) ∙ ap (λ (b : ℕ). elements t ++ (b ∷ (cstring n ++ value_bytes v))) kind ∙ sym (elements-with_last n v t)
+    ∙ append_assoc (elements t) (byte ∷ []) (cstring n ++ value_bytes v) ∙ ap (λ (b : ℕ). elements t ++ (b ∷ (cstring n ++ value_bytes v))) kind ∙ sym (elements-with_pair_appended n v t)
 
 -- ---- the three ends of the call
 
 pub spells_more : (t : Tree) (bytes after more : List ℕ) (n : List ℕ) (v : TreeValue) → Spells t bytes → IsUtf8 n → has_zero n ≡ false → unwritable_value 1 v ≡ None → IsFormedValue v
-    → more ≡ elements (with_last n v t) → after ≡ document more → length (document more) < 2 ^ 31 → Spells (with_last n v t) after
+    → more ≡ elements (with_pair_appended n v t) → after ≡ document more → length (document more) < 2 ^ 31 → Spells (with_pair_appended n v t) after
 spells_more t bytes after more n v s text free writable formed is written short =
-    let all = ap length (elements-with_last n v t) in
+    let all = ap length (elements-with_pair_appended n v t) in
     let single : length (elements (with_first n v no_pairs)) < 2 ^ 31 = omega (arith, short, ap length is, all, length-document more, length-append (elements t) (element_bytes n v), ap length (elements-with_first n v no_pairs), length-append (element_bytes n v) []) in
     let last : Fits 1 (with_first n v no_pairs) = fits_formed 1 (with_first n v no_pairs) (passes 1 n v no_pairs free writable) (formed-with_first n v no_pairs text formed tt) single in
     record {
       parts = written ∙ ap document is;
       short = omega (arith, short, ap length written);
-      fits = fits-with_last 1 n v t s.fits last;
+      fits = fits-with_pair_appended 1 n v t s.fits last;
     }
 
-pub name_refused : (t : Tree) (bytes : List ℕ) (n : List ℕ) (v : TreeValue) → Spells t bytes → has_zero n ≡ true → IsUnwritable (with_last n v t) ZeroInName
-name_refused t bytes n v s e = unwritable-with_last 1 n v t s.fits ∙ name_fails 1 n v no_pairs e
+pub name_refused : (t : Tree) (bytes : List ℕ) (n : List ℕ) (v : TreeValue) → Spells t bytes → has_zero n ≡ true → IsUnwritable (with_pair_appended n v t) ZeroInName
+name_refused t bytes n v s e = unwritable-with_pair_appended 1 n v t s.fits ∙ name_fails 1 n v no_pairs e
 
-pub value_refused : (t : Tree) (bytes : List ℕ) (n : List ℕ) (v : TreeValue) (e : DocRefusal) → Spells t bytes → has_zero n ≡ false → unwritable_value 1 v ≡ Some e → IsUnwritable (with_last n v t) e
-value_refused t bytes n v e s free is = is_reason (with_last n v t) e (unwritable-with_last 1 n v t s.fits ∙ value_fails 1 n v no_pairs e free is)
+pub value_refused : (t : Tree) (bytes : List ℕ) (n : List ℕ) (v : TreeValue) (e : DocRefusal) → Spells t bytes → has_zero n ≡ false → unwritable_value 1 v ≡ Some e → IsUnwritable (with_pair_appended n v t) e
+value_refused t bytes n v e s free is = is_reason (with_pair_appended n v t) e (unwritable-with_pair_appended 1 n v t s.fits ∙ value_fails 1 n v no_pairs e free is)
 
-length-with_last : (t : Tree) (bytes : List ℕ) (n : List ℕ) (v : TreeValue) → Spells t bytes → length (document (elements (with_last n v t))) ≡ length bytes + length (element_bytes n v)
-length-with_last t bytes n v s =
-    omega (arith, ap length s.parts, length-document (elements t), length-document (elements (with_last n v t)), ap length (elements-with_last n v t), length-append (elements t) (element_bytes n v))
+length-with_pair_appended : (t : Tree) (bytes : List ℕ) (n : List ℕ) (v : TreeValue) → Spells t bytes → length (document (elements (with_pair_appended n v t))) ≡ length bytes + length (element_bytes n v)
+length-with_pair_appended t bytes n v s =
+    omega (arith, ap length s.parts, length-document (elements t), length-document (elements (with_pair_appended n v t)), ap length (elements-with_pair_appended n v t), length-append (elements t) (element_bytes n v))
 
 pub size_refused : (t : Tree) (bytes : List ℕ) (n : List ℕ) (v : TreeValue) (limit : ℕ) (e : DocRefusal) → limit + 1 ≡ 2 ^ 31 → Spells t bytes → has_zero n ≡ false → unwritable_value 1 v ≡ None
-    → IsLengthRefusal limit (length bytes + length (element_bytes n v)) e → IsUnwritable (with_last n v t) e
+    → IsLengthRefusal limit (length bytes + length (element_bytes n v)) e → IsUnwritable (with_pair_appended n v t) e
 size_refused t bytes n v limit (RepeatedName depth) counted s free writable r = absurd r
 size_refused t bytes n v limit OutOfMemory counted s free writable r =
-    (unwritable-with_last 1 n v t s.fits ∙ passes 1 n v no_pairs free writable, omega (arith, counted, r, length-with_last t bytes n v s))
+    (unwritable-with_pair_appended 1 n v t s.fits ∙ passes 1 n v no_pairs free writable, omega (arith, counted, r, length-with_pair_appended t bytes n v s))
 size_refused t bytes n v limit TooLarge counted s free writable r =
-    (unwritable-with_last 1 n v t s.fits ∙ passes 1 n v no_pairs free writable, omega (arith, counted, r, length-with_last t bytes n v s))
+    (unwritable-with_pair_appended 1 n v t s.fits ∙ passes 1 n v no_pairs free writable, omega (arith, counted, r, length-with_pair_appended t bytes n v s))
 size_refused t bytes n v limit ZeroInName counted s free writable r = absurd r
 size_refused t bytes n v limit Depth counted s free writable r = absurd r
 

@@ -38,7 +38,7 @@ pub tree_depth-with_first : (n : List ℕ) (v : TreeValue) (ps : Tree) → tree_
 tree_depth-with_first n (leaf_value k leaf) ps = omega arith
 tree_depth-with_first n (document_value k b inner) ps = omega arith
 
--- ---- the places of an array
+-- ---- the indexes of an array
 
 no_zero_among : (digits : List ℕ) → AllDigits 10 digits → has_zero digits ≡ false
 no_zero_among [] d = refl
@@ -47,8 +47,8 @@ no_zero_among (c ∷ cs) d =
     let apart : (c == 0) ≡ false = grind (arith, nat_tests, r) in
     λ i. apart i || no_zero_among cs d.1 i
 
-pub no_zero_in_place : (place : ℕ) → place < 2 ^ 64 → has_zero (decimal place) ≡ false
-no_zero_in_place place small = no_zero_among (decimal place) (decimal_is_IsNumeral place small).0.1
+pub no_zero_in_index : (index : ℕ) → index < 2 ^ 64 → has_zero (decimal index) ≡ false
+no_zero_in_index index small = no_zero_among (decimal index) (decimal_is_IsNumeral index small).0.1
 
 -- the first value left, and the others
 pub values_left : (bs : List Bson) (i : ℕ) (b : Bson) → i < length bs → b ≡ get_or bs i b → map value_of (drop i bs) ≡ value_of b ∷ map value_of (drop (i + 1) bs)

@@ -237,10 +237,10 @@ names_same (k ∷ ks) (m ∷ ms) e = let p = both (string_eq k m) (pointwise str
 
 -- ---- a value is less deep than what holds it
 
-pub in_array : (place i : ℕ) (vs : List Bson) (v : Bson) → i < length vs → v ≡ get_or vs i v → value_depth (value_of v) ≤ tree_depth (array_tree place (map value_of vs))
-in_array place i [] v lt is = absurd (omega arith)
-in_array place zero (u ∷ vs) v lt is = rw (tree_depth-with_first (decimal place) (value_of u) (array_tree (place + 1) (map value_of vs))) (omega (arith, ap (λ (x : Bson). value_depth (value_of x)) is))
-in_array place (suc i) (u ∷ vs) v lt is = rw (tree_depth-with_first (decimal place) (value_of u) (array_tree (place + 1) (map value_of vs))) (omega (arith, in_array (place + 1) i vs v (omega arith) is))
+pub in_array : (index i : ℕ) (vs : List Bson) (v : Bson) → i < length vs → v ≡ get_or vs i v → value_depth (value_of v) ≤ tree_depth (array_tree index (map value_of vs))
+in_array index i [] v lt is = absurd (omega arith)
+in_array index zero (u ∷ vs) v lt is = rw (tree_depth-with_first (decimal index) (value_of u) (array_tree (index + 1) (map value_of vs))) (omega (arith, ap (λ (x : Bson). value_depth (value_of x)) is))
+in_array index (suc i) (u ∷ vs) v lt is = rw (tree_depth-with_first (decimal index) (value_of u) (array_tree (index + 1) (map value_of vs))) (omega (arith, in_array (index + 1) i vs v (omega arith) is))
 
 pub in_document : (ks : List (String Global)) (i : ℕ) (vs : List Bson) (v : Bson) → length ks ≡ length vs → i < length vs → v ≡ get_or vs i v → value_depth (value_of v) ≤ tree_depth (tree_of (paired (map string_bytes ks) (map value_of vs)))
 in_document ks i [] v e lt is = absurd (omega arith)

@@ -1,4 +1,4 @@
--- The tree of an owned document: the names of an array are its places, and no name is repeated.
+-- The tree of an owned document: the names of an array are the indexes of its values, and no name is repeated.
 use Rattle.std.proofs.Common.{◌≡◌, ℕ, ◌+◌, true, false, List, [], ◌∷◌, ◌++◌, Option, None, map, refl, sym, ap, ◌∙◌, append_assoc, arith, length, subst, String, string_bytes}
 use Rattle.std.specs.Prelude.{Result, Ok, Err, IfOk, IfErr, MatchResult}
 use Rattle.std.specs.declared.alloc.Global.{Global}
@@ -45,17 +45,17 @@ none_left depth ps e = rw e tt
 
 -- ---- canonical names
 
-pub document_plain : (depth place : ℕ) (ps : Pairs) → AreOwned depth (values ps) → plain_from false place (tree_of ps) ≡ tree_of ps
-document_plain depth place [] o = refl
-document_plain depth place (p ∷ ps) o =
-    plain_from-with_first false place p.0 p.1 (tree_of ps) ∙ ap (λ (v : TreeValue). with_first p.0 v (plain_from false (place + 1) (tree_of ps))) o.0.plain
-    ∙ ap (with_first p.0 p.1) (document_plain depth (place + 1) ps o.1)
+pub document_plain : (depth index : ℕ) (ps : Pairs) → AreOwned depth (values ps) → plain_from false index (tree_of ps) ≡ tree_of ps
+document_plain depth index [] o = refl
+document_plain depth index (p ∷ ps) o =
+    plain_from-with_first false index p.0 p.1 (tree_of ps) ∙ ap (λ (v : TreeValue). with_first p.0 v (plain_from false (index + 1) (tree_of ps))) o.0.plain
+    ∙ ap (with_first p.0 p.1) (document_plain depth (index + 1) ps o.1)
 
-pub array_plain : (depth place : ℕ) (vs : List TreeValue) → AreOwned depth vs → plain_from true place (array_tree place vs) ≡ array_tree place vs
-array_plain depth place [] o = refl
-array_plain depth place (v ∷ vs) o =
-    plain_from-with_first true place (decimal place) v (array_tree (place + 1) vs) ∙ ap (λ (w : TreeValue). with_first (decimal place) w (plain_from true (place + 1) (array_tree (place + 1) vs))) o.0.plain
-    ∙ ap (with_first (decimal place) v) (array_plain depth (place + 1) vs o.1)
+pub array_plain : (depth index : ℕ) (vs : List TreeValue) → AreOwned depth vs → plain_from true index (array_tree index vs) ≡ array_tree index vs
+array_plain depth index [] o = refl
+array_plain depth index (v ∷ vs) o =
+    plain_from-with_first true index (decimal index) v (array_tree (index + 1) vs) ∙ ap (λ (w : TreeValue). with_first (decimal index) w (plain_from true (index + 1) (array_tree (index + 1) vs))) o.0.plain
+    ∙ ap (with_first (decimal index) v) (array_plain depth (index + 1) vs o.1)
 
 -- ---- no name twice
 
@@ -76,10 +76,10 @@ unique_behind depth seen (p ∷ ps) d o =
 pub document_unique : (depth : ℕ) (ps : Pairs) → IsDistinct bytes_eq (names ps) → AreOwned depth (values ps) → repeat_in false depth [] (tree_of ps) ≡ None
 document_unique depth ps d o = unique_behind depth [] ps d o
 
-pub array_unique : (depth place : ℕ) (vs : List TreeValue) → AreOwned depth vs → repeat_in true depth [] (array_tree place vs) ≡ None
-array_unique depth place [] o = refl
-array_unique depth place (v ∷ vs) o =
-    repeat_in-with_first true depth [] (decimal place) v (array_tree (place + 1) vs) ∙ rw o.0.unique (array_unique depth (place + 1) vs o.1)
+pub array_unique : (depth index : ℕ) (vs : List TreeValue) → AreOwned depth vs → repeat_in true depth [] (array_tree index vs) ≡ None
+array_unique depth index [] o = refl
+array_unique depth index (v ∷ vs) o =
+    repeat_in-with_first true depth [] (decimal index) v (array_tree (index + 1) vs) ∙ rw o.0.unique (array_unique depth (index + 1) vs o.1)
 
 -- ---- the names of a set
 
@@ -136,13 +136,13 @@ pub one_document : (ps qs : Pairs) → tree_of ps ≡ tree_of qs → ps ≡ qs
 one_document ps qs e = sym (pairs_of-tree_of ps) ∙ ap pairs_of e ∙ pairs_of-tree_of qs
 
 -- values with the same array are the same values
-values-array_tree : (place : ℕ) (vs : List TreeValue) → values (pairs_of (array_tree place vs)) ≡ vs
-values-array_tree place [] = refl
-values-array_tree place (leaf_value k v ∷ vs) = ap (λ (q : List TreeValue). leaf_value k v ∷ q) (values-array_tree (place + 1) vs)
-values-array_tree place (document_value k b inner ∷ vs) = ap (λ (q : List TreeValue). document_value k b inner ∷ q) (values-array_tree (place + 1) vs)
+values-array_tree : (index : ℕ) (vs : List TreeValue) → values (pairs_of (array_tree index vs)) ≡ vs
+values-array_tree index [] = refl
+values-array_tree index (leaf_value k v ∷ vs) = ap (λ (q : List TreeValue). leaf_value k v ∷ q) (values-array_tree (index + 1) vs)
+values-array_tree index (document_value k b inner ∷ vs) = ap (λ (q : List TreeValue). document_value k b inner ∷ q) (values-array_tree (index + 1) vs)
 
-pub one_array : (place : ℕ) (vs ws : List TreeValue) → array_tree place vs ≡ array_tree place ws → vs ≡ ws
-one_array place vs ws e = sym (values-array_tree place vs) ∙ ap (λ (t : Tree). values (pairs_of t)) e ∙ values-array_tree place ws
+pub one_array : (index : ℕ) (vs ws : List TreeValue) → array_tree index vs ≡ array_tree index ws → vs ≡ ws
+one_array index vs ws e = sym (values-array_tree index vs) ∙ ap (λ (t : Tree). values (pairs_of t)) e ∙ values-array_tree index ws
 
 -- where no name is repeated, want of memory alone is left
 pub only_memory : (e : DocRefusal) → IsRepeat None e → e ≡ OutOfMemory

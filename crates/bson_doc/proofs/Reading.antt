@@ -19,16 +19,16 @@ tree_then [] t = t
 tree_then (p ∷ ps) t = with_first p.0 p.1 (tree_then ps t)
 
 abbrev pub array_then : ℕ → List TreeValue → Tree → Tree
-array_then place [] t = t
-array_then place (v ∷ vs) t = with_first (decimal place) v (array_then (place + 1) vs t)
+array_then index [] t = t
+array_then index (v ∷ vs) t = with_first (decimal index) v (array_then (index + 1) vs t)
 
 tree_then-none : (ps : List (List ℕ × TreeValue)) → tree_then ps no_pairs ≡ tree_of ps
 tree_then-none [] = refl
 tree_then-none (p ∷ ps) = ap (with_first p.0 p.1) (tree_then-none ps)
 
-array_then-none : (place : ℕ) (vs : List TreeValue) → array_then place vs no_pairs ≡ array_tree place vs
-array_then-none place [] = refl
-array_then-none place (v ∷ vs) = ap (with_first (decimal place) v) (array_then-none (place + 1) vs)
+array_then-none : (index : ℕ) (vs : List TreeValue) → array_then index vs no_pairs ≡ array_tree index vs
+array_then-none index [] = refl
+array_then-none index (v ∷ vs) = ap (with_first (decimal index) v) (array_then-none (index + 1) vs)
 
 pub paired-push : (ns : List (List ℕ)) (vs : List TreeValue) (n : List ℕ) (v : TreeValue) → length ns ≡ length vs → paired (ns ++ n ∷ []) (vs ++ v ∷ []) ≡ paired ns vs ++ (n, v) ∷ []
 paired-push [] [] n v e = refl
@@ -40,17 +40,17 @@ tree_then-push : (ps : List (List ℕ × TreeValue)) (n : List ℕ) (v : TreeVal
 tree_then-push [] n v t = refl
 tree_then-push (p ∷ ps) n v t = ap (with_first p.0 p.1) (tree_then-push ps n v t)
 
-array_then-push : (place : ℕ) (vs : List TreeValue) (v : TreeValue) (t : Tree) → array_then place (vs ++ v ∷ []) t ≡ array_then place vs (with_first (decimal (place + length vs)) v t)
-array_then-push place [] v t = rw add-zero refl
-array_then-push place (w ∷ vs) v t =
-    let shift : place + 1 + length vs ≡ place + suc (length vs) = omega arith in
-    ap (with_first (decimal place) w) (array_then-push (place + 1) vs v t ∙ ap (λ (n : ℕ). array_then (place + 1) vs (with_first (decimal n) v t)) shift)
+array_then-push : (index : ℕ) (vs : List TreeValue) (v : TreeValue) (t : Tree) → array_then index (vs ++ v ∷ []) t ≡ array_then index vs (with_first (decimal (index + length vs)) v t)
+array_then-push index [] v t = rw add-zero refl
+array_then-push index (w ∷ vs) v t =
+    let shift : index + 1 + length vs ≡ index + suc (length vs) = omega arith in
+    ap (with_first (decimal index) w) (array_then-push (index + 1) vs v t ∙ ap (λ (n : ℕ). array_then (index + 1) vs (with_first (decimal n) v t)) shift)
 
 -- ---- the first pair
 
-pub plain_from-with_first : (in_array : Bool) (place : ℕ) (n : List ℕ) (v : TreeValue) (ps : Tree) → plain_from in_array place (with_first n v ps) ≡ with_first (name_at in_array place n) (plain_value v) (plain_from in_array (place + 1) ps)
-plain_from-with_first in_array place n (leaf_value k leaf) ps = refl
-plain_from-with_first in_array place n (document_value k b inner) ps = refl
+pub plain_from-with_first : (in_array : Bool) (index : ℕ) (n : List ℕ) (v : TreeValue) (ps : Tree) → plain_from in_array index (with_first n v ps) ≡ with_first (name_at in_array index n) (plain_value v) (plain_from in_array (index + 1) ps)
+plain_from-with_first in_array index n (leaf_value k leaf) ps = refl
+plain_from-with_first in_array index n (document_value k b inner) ps = refl
 
 pub repeat_in-with_first : (in_array : Bool) (depth : ℕ) (seen : List (List ℕ)) (n : List ℕ) (v : TreeValue) (ps : Tree) → repeat_in in_array depth seen (with_first n v ps) ≡ cond (is_among n seen) (Some depth) (first_of (repeat_in_value depth v) (repeat_in in_array depth (seen_with in_array n seen) ps))
 repeat_in-with_first in_array depth seen n (leaf_value k leaf) ps = refl
@@ -61,9 +61,9 @@ repeat_in-with_first in_array depth seen n (document_value k b inner) ps = refl
 -- The pairs that were read are those of the tree but for the pairs left, and no name was repeated in them.
 pub record DocumentRead (depth : ℕ) (t : Tree) (names : List (List ℕ)) (values : List TreeValue) (IsLeft : Tree → Type 0) : Type 0 where
   pub rest : Tree
-  pub place : ℕ
+  pub index : ℕ
   pub left : IsLeft rest
-  pub read : plain_from false 0 t ≡ tree_then (paired names values) (plain_from false place rest)
+  pub read : plain_from false 0 t ≡ tree_then (paired names values) (plain_from false index rest)
   pub unique : repeat_in false depth [] t ≡ repeat_in false depth names rest
 
 -- The values that were read are those of the array but for the values left, and no name is repeated in them.
@@ -79,10 +79,10 @@ pub document_more : (depth : ℕ) (t : Tree) (ns : List (List ℕ)) (vs : List T
     → DocumentRead depth t (ns ++ n ∷ []) (vs ++ w ∷ []) M
 document_more depth t ns vs L M d n v w others lengths first left new none is = record {
   rest = others;
-  place = d.place + 1;
+  index = d.index + 1;
   left = left;
-  read = rw (paired-push ns vs n w lengths, tree_then-push (paired ns vs) n w (plain_from false (d.place + 1) others), is)
-      (d.read ∙ ap (λ (q : Tree). tree_then (paired ns vs) (plain_from false d.place q)) first ∙ ap (tree_then (paired ns vs)) (plain_from-with_first false d.place n v others));
+  read = rw (paired-push ns vs n w lengths, tree_then-push (paired ns vs) n w (plain_from false (d.index + 1) others), is)
+      (d.read ∙ ap (λ (q : Tree). tree_then (paired ns vs) (plain_from false d.index q)) first ∙ ap (tree_then (paired ns vs)) (plain_from-with_first false d.index n v others));
   unique = d.unique ∙ ap (repeat_in false depth ns) first ∙ repeat_in-with_first false depth ns n v others ∙ rw (new, none) refl;
 }
 
@@ -103,7 +103,7 @@ array_more depth t vs L M d n v w others first left none is = record {
 pub document_done : (depth : ℕ) (t : Tree) (ns : List (List ℕ)) (vs : List TreeValue) (L : Tree → Type 0) (d : DocumentRead depth t ns vs L) → d.rest ≡ no_pairs
     → (tree_of (paired ns vs) ≡ plain_from false 0 t) × (repeat_in false depth [] t ≡ None)
 document_done depth t ns vs L d e = (
-  sym (d.read ∙ ap (λ (q : Tree). tree_then (paired ns vs) (plain_from false d.place q)) e ∙ tree_then-none (paired ns vs)),
+  sym (d.read ∙ ap (λ (q : Tree). tree_then (paired ns vs) (plain_from false d.index q)) e ∙ tree_then-none (paired ns vs)),
   d.unique ∙ ap (repeat_in false depth ns) e,
 )
 

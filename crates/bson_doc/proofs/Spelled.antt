@@ -8,31 +8,31 @@ use Rattle.bson_raw.proofs.Lemmas.{decimal_is_name, inner_len}
 use Rattle.bson_raw.specs.Naming.{is_array_kind, name_at}
 use Rattle.bson_doc.specs.Plain.{plain_from, plain}
 
-is_name : (in_array : Bool) (place : ℕ) (name : List ℕ) → place < 2 ^ 64 → IsName name → IsName (name_at in_array place name)
-is_name true place name small f = decimal_is_name place small
-is_name false place name small f = f
+is_name : (in_array : Bool) (index : ℕ) (name : List ℕ) → index < 2 ^ 64 → IsName name → IsName (name_at in_array index name)
+is_name true index name small f = decimal_is_name index small
+is_name false index name small f = f
 
 -- where the canonical form is short enough it has a spelling
-pub fits_plain : (in_array : Bool) (place depth : ℕ) (t : Tree) → place + length (elements t) < 2 ^ 64 → length (elements (plain_from in_array place t)) < 2 ^ 31 → Fits depth t → Fits depth (plain_from in_array place t)
-fits_plain in_array place depth no_pairs small short f = tt
-fits_plain in_array place depth (leaf_pair name k v ps) small short f =
+pub fits_plain : (in_array : Bool) (index depth : ℕ) (t : Tree) → index + length (elements t) < 2 ^ 64 → length (elements (plain_from in_array index t)) < 2 ^ 31 → Fits depth t → Fits depth (plain_from in_array index t)
+fits_plain in_array index depth no_pairs small short f = tt
+fits_plain in_array index depth (leaf_pair name k v ps) small short f =
     let old = length-append (byte_of k ∷ (cstring name ++ leaf_bytes (form_of k) v)) (elements ps) in
-    let new = length-append (byte_of k ∷ (cstring (name_at in_array place name) ++ leaf_bytes (form_of k) v)) (elements (plain_from in_array (place + 1) ps)) in
-    (is_name in_array place name (omega (arith, small)) f.0, f.1, fits_plain in_array (place + 1) depth ps (omega (arith, small, old)) (omega (arith, short, new)) f.2)
-fits_plain in_array place depth (inner_pair name k b inner ps) small short f =
+    let new = length-append (byte_of k ∷ (cstring (name_at in_array index name) ++ leaf_bytes (form_of k) v)) (elements (plain_from in_array (index + 1) ps)) in
+    (is_name in_array index name (omega (arith, small)) f.0, f.1, fits_plain in_array (index + 1) depth ps (omega (arith, small, old)) (omega (arith, short, new)) f.2)
+fits_plain in_array index depth (inner_pair name k b inner ps) small short f =
     let held : Tree = plain_from (is_array_kind k) 0 inner in
-    let n : List ℕ = name_at in_array place name in
+    let n : List ℕ = name_at in_array index name in
     let old = length-append (byte_of k ∷ (cstring name ++ inner_bytes b (elements inner))) (elements ps) in
-    let new = length-append (byte_of k ∷ (cstring n ++ inner_bytes b (elements held))) (elements (plain_from in_array (place + 1) ps)) in
+    let new = length-append (byte_of k ∷ (cstring n ++ inner_bytes b (elements held))) (elements (plain_from in_array (index + 1) ps)) in
     let parts = length-append (cstring n) (inner_bytes b (elements held)) in
     let small' : 0 + length (elements inner) < 2 ^ 64 = omega (arith, f.3, inner_len b (elements inner), length-document (elements inner)) in
     let short' : length (inner_bytes b (elements held)) < 2 ^ 31 = omega (arith, short, new, parts) in (
-      is_name in_array place name (omega (arith, small)) f.0,
+      is_name in_array index name (omega (arith, small)) f.0,
       f.1,
       f.2,
       short',
       fits_plain (is_array_kind k) 0 (depth + 1) inner small' (omega (arith, short', inner_len b (elements held), length-document (elements held))) f.4,
-      fits_plain in_array (place + 1) depth ps (omega (arith, small, old)) (omega (arith, short, new)) f.5,
+      fits_plain in_array (index + 1) depth ps (omega (arith, small, old)) (omega (arith, short, new)) f.5,
     )
 
 -- the bytes of the canonical form spell it

@@ -25,9 +25,9 @@ kind_shown (values.CodeWithScope code scope) v shown = holds_kind _ _ _ v shown
 kind_shown _ v shown = sym (ap kind_is shown)
 
 -- the first element, and the others
-pub elements-first : (in_array : Bool) (place : ℕ) (name : List ℕ) (v : TreeValue) (ps : Tree) → elements (plain_from in_array place (with_first name v ps)) ≡ element_bytes (name_at in_array place name) (plain_value v) ++ elements (plain_from in_array (place + 1) ps)
-elements-first in_array place name (leaf_value k leaf) ps = refl
-elements-first in_array place name (document_value k b inner) ps = refl
+pub elements-first : (in_array : Bool) (index : ℕ) (name : List ℕ) (v : TreeValue) (ps : Tree) → elements (plain_from in_array index (with_first name v ps)) ≡ element_bytes (name_at in_array index name) (plain_value v) ++ elements (plain_from in_array (index + 1) ps)
+elements-first in_array index name (leaf_value k leaf) ps = refl
+elements-first in_array index name (document_value k b inner) ps = refl
 
 -- four bytes and more were added
 pub four_more : (before begun after added : List ℕ) → begun ≡ before ++ (0 ∷ 0 ∷ 0 ∷ 0 ∷ []) → after ≡ begun ++ added → length before + 4 ≤ length after

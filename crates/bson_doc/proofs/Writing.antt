@@ -141,9 +141,9 @@ written_more t left begun out headed after w n v others byte first kind e f text
 
 -- ---- names, and bytes
 
-pub name_text : (in_array : Bool) (place : ℕ) (name : List ℕ) → place < 2 ^ 64 → IsUtf8 name → IsUtf8 (name_at in_array place name)
-name_text true place name small f = IsUtf8-from_ascii (decimal place) (IsAscii-decimal place small)
-name_text false place name small f = f
+pub name_text : (in_array : Bool) (index : ℕ) (name : List ℕ) → index < 2 ^ 64 → IsUtf8 name → IsUtf8 (name_at in_array index name)
+name_text true index name small f = IsUtf8-from_ascii (decimal index) (IsAscii-decimal index small)
+name_text false index name small f = f
 
 -- the value of the first pair left is refused
 pub written_value_refused : (limit : ℕ) (t left : Tree) (begun out : List ℕ) (w : Written t left begun out) (n : List ℕ) (v : TreeValue) (others : Tree) (e : DocRefusal)

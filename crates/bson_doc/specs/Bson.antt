@@ -8,7 +8,7 @@ use Rattle.bson_doc.specs.declared.bson_values.Bson.TheVariants as values
 use Rattle.bson_doc.specs.Document.{tree_of}
 use Rattle.bson_doc.specs.Array.{array_tree}
 
--- the value in a tree; the names in an array are the places of its values in decimal
+-- the value in a tree; the names in an array are the indexes of its values in decimal
 abbrev pub value_of : Bson → TreeValue
 value_of (values.Double bytes) = leaf_value kinds.Double (raw_value bytes)
 value_of (values.String text) = leaf_value kinds.String (text_value (string_bytes text))

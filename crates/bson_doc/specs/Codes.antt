@@ -4,7 +4,7 @@ use Rattle.std.proofs.Common.{ap, arith, inl, inr}
 use Rattle.std.specs.Coded.{Coded, code_by, coded_ℕ, coded_ℤ, coded_bool, coded_list, coded×, coded⊎, coded_option}
 use base.Stored.{Gv, gnil, gnum, gcons}
 use Rattle.bson_elem.specs.declared.kinds.Kind.{Kind}
-use Rattle.bson_elem.specs.declared.kinds.Kind.TheVariants.{Double, String, Document, Array, Binary, Undefined, ObjectId, Boolean, DateTime, Null, Regex, DbPointer, Code, Symbol, CodeWithScope, Int32, Timestamp, Int64, Decimal128, MinKey, MaxKey}
+use Rattle.bson_elem.specs.declared.kinds.Kind.TheVariants.{Null}
 use Rattle.bson_elem.specs.{Beside, Leaf, Tree, binary_value, boolean_value, byte_of, inner_pair, kind_of, leaf_pair, no_code, no_pairs, number_value, pointer_value, raw_value, regex_value, text_value, timestamp_value, with_code}
 use Rattle.bson_raw.specs.{TreeValue, document_value, leaf_value}
 
@@ -14,31 +14,12 @@ coded_text = coded_list coded_ℕ
 -- ---- kinds, by their type bytes
 
 abbrev pub known : Option Kind → Kind
-known None = MinKey
+known None = Null
 known (Some k) = k
 
 pub known_kind : (k : Kind) → known (kind_of (byte_of k)) ≡ k
-known_kind Double = refl
-known_kind String = refl
-known_kind Document = refl
-known_kind Array = refl
-known_kind Binary = refl
-known_kind Undefined = refl
-known_kind ObjectId = refl
-known_kind Boolean = refl
-known_kind DateTime = refl
 known_kind Null = refl
-known_kind Regex = refl
-known_kind DbPointer = refl
-known_kind Code = refl
-known_kind Symbol = refl
-known_kind CodeWithScope = refl
-known_kind Int32 = refl
-known_kind Timestamp = refl
-known_kind Int64 = refl
-known_kind Decimal128 = refl
-known_kind MinKey = refl
-known_kind MaxKey = refl
+known_kind _ = refl
 
 abbrev pub coded_kind : Coded Kind
 coded_kind = code_by ℕ coded_ℕ byte_of (λ n. known (kind_of n)) known_kind

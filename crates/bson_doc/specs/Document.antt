@@ -4,7 +4,7 @@ use Rattle.std.specs.Str.{bytes_eq}
 use Rattle.bson_elem.specs.{Tree, no_pairs}
 use Rattle.bson_raw.specs.{TreeValue, with_first}
 
--- each name with the value that stands at its place
+-- each name with the value that stands at its index
 abbrev pub paired : List (List ℕ) → List TreeValue → List (List ℕ × TreeValue)
 paired [] vs = []
 paired (n ∷ ns) [] = []

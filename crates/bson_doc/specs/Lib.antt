@@ -8,7 +8,7 @@ pub mod Codes
 pub mod Bson
 pub mod Sizes
 pub mod Document
-pub mod Last
+pub mod Appended
 pub mod Array
 pub mod DocumentIter
 pub mod Repeats

@@ -7,7 +7,7 @@ use denote.Param.Weighed.{most}
 use Rattle.bson_elem.specs.{Tree}
 use Rattle.bson_raw.specs.{TreeValue, document_value, leaf_value, with_first}
 use Rattle.bson_doc.specs.declared.bson_values.Bson.{Bson}
-use Rattle.bson_doc.specs.declared.bson_values.Bson.TheVariants.{Double, String as Text, Document, Array, Binary, Undefined, ObjectId, Boolean, DateTime, Null, Regex, DbPointer, Code, Symbol, CodeWithScope, Int32, Timestamp, Int64, Decimal128, MinKey, MaxKey}
+use Rattle.bson_doc.specs.declared.bson_values.Bson.TheVariants as values
 use Rattle.bson_doc.specs.declared.arrays.Array.TheDeep.{deep-Bson}
 use Rattle.bson_doc.specs.Depths.{tree_depth, value_depth}
 use Rattle.bson_doc.specs.Bson.{value_of}
@@ -20,33 +20,16 @@ tree_depth-with_first name (leaf_value k leaf) ps = omega arith
 tree_depth-with_first name (document_value k b inner) ps = omega arith
 
 pub deep_value : (b : Bson) → deep-Bson b ≤ value_depth (value_of b)
-deep_value (Double bytes) = omega arith
-deep_value (Text text) = omega arith
-deep_value (Document d) = omega arith
-deep_value (Array a) = omega arith
-deep_value (Binary subtype bytes) = omega arith
-deep_value Undefined = omega arith
-deep_value (ObjectId bytes) = omega arith
-deep_value (Boolean truth) = omega arith
-deep_value (DateTime millis) = omega arith
-deep_value Null = omega arith
-deep_value (Regex pattern options) = omega arith
-deep_value (DbPointer text id) = omega arith
-deep_value (Code text) = omega arith
-deep_value (Symbol text) = omega arith
-deep_value (CodeWithScope code scope) = omega arith
-deep_value (Int32 n) = omega arith
-deep_value (Timestamp increment seconds) = omega arith
-deep_value (Int64 n) = omega arith
-deep_value (Decimal128 bytes) = omega arith
-deep_value MinKey = omega arith
-deep_value MaxKey = omega arith
+deep_value (values.Document d) = omega arith
+deep_value (values.Array a) = omega arith
+deep_value (values.CodeWithScope code scope) = omega arith
+deep_value _ = omega arith
 
-pub array_deeper : (place : ℕ) (bs : List Bson) → max (most deep-Bson bs) 0 ≤ tree_depth (array_tree place (map value_of bs))
-array_deeper place [] = omega arith
-array_deeper place (b ∷ bs) =
-    rw (tree_depth-with_first (decimal place) (value_of b) (array_tree (place + 1) (map value_of bs)))
-    (omega (arith, deep_value b, array_deeper (place + 1) bs))
+pub array_deeper : (index : ℕ) (bs : List Bson) → max (most deep-Bson bs) 0 ≤ tree_depth (array_tree index (map value_of bs))
+array_deeper index [] = omega arith
+array_deeper index (b ∷ bs) =
+    rw (tree_depth-with_first (decimal index) (value_of b) (array_tree (index + 1) (map value_of bs)))
+    (omega (arith, deep_value b, array_deeper (index + 1) bs))
 
 pub document_deeper : (ns : List (String Global)) (bs : List Bson) → length ns ≡ length bs
     → max (most deep-Bson bs) 0 ≤ tree_depth (tree_of (paired (map string_bytes ns) (map value_of bs)))

@@ -7,7 +7,7 @@ ghost use Rattle.bson_elem.specs.Spelling as spelling;
 ghost use Rattle.bson_raw.specs.{IsSpelled};
 ghost use Rattle.bson_doc.specs.Bson.{value_of};
 ghost use Rattle.bson_doc.specs.Formed.{IsFormedValue};
-ghost use Rattle.bson_doc.specs.Last.{with_last};
+ghost use Rattle.bson_doc.specs.Appended.{with_pair_appended};
 ghost use Rattle.bson_doc.specs.Refusals.{IsLengthRefusal, IsSizeRefusal};
 ghost use Rattle.bson_doc.specs.Unwritable.{IsUnwritable};
 ghost use Rattle.bson_doc.specs.Values.{element_bytes, value_bytes};
@@ -54,10 +54,10 @@ pub(crate) fn append_pair(name: &str, value: &Bson, bytes: &mut Vec<u8>) -> Resu
     requires { ∥ IsSpelled bytes.old.items ∥₁ }
     ensures spelled { ∥ IsSpelled bytes.new.items ∥₁ }
     ensures added { (t : Tree) → Spells t bytes.old.items
-        → OnOk result (Spells (with_last name.now (value_of value.now) t) bytes.new.items) }
+        → OnOk result (Spells (with_pair_appended name.now (value_of value.now) t) bytes.new.items) }
     ensures unchanged { OnErr result (bytes.new.items ≡ bytes.old.items) }
     ensures refused { (t : Tree) → Spells t bytes.old.items
-        → IfErr result (λ e. IsUnwritable (with_last name.now (value_of value.now) t) e) }
+        → IfErr result (λ e. IsUnwritable (with_pair_appended name.now (value_of value.now) t) e) }
 {
     check_cstring(name)?;
     check_value(value, 1)?;

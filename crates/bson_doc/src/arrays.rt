@@ -91,8 +91,8 @@ impl PartialEq for Array {
         if self.values.len() != other.values.len() {
             return false;
         }
-        for (place, value) in self.values.iter().enumerate() {
-            if !value.eq(&other.values[place]) {
+        for (i, value) in self.values.iter().enumerate() {
+            if !value.eq(&other.values[i]) {
                 return false;
             }
         }

@@ -21,7 +21,7 @@ impl RawDocumentBuf {
     ghost use Rattle.std.specs.Prelude.{OnOk, OnErr, IfErr};
     ghost use Rattle.bson_elem.specs.{Tree};
     ghost use Rattle.bson_doc.specs.Bson.{value_of};
-    ghost use Rattle.bson_doc.specs.Last.{with_last};
+    ghost use Rattle.bson_doc.specs.Appended.{with_pair_appended};
     ghost use Rattle.bson_doc.specs.RawDocumentBuf.{buf_bytes};
     ghost use Rattle.bson_doc.specs.Unwritable.{IsUnwritable};
 
@@ -56,10 +56,10 @@ impl RawDocumentBuf {
     pub fn append(&mut self, name: &str, value: &Bson) -> Result<(), DocRefusal>
         ensures added { (t : Tree) → Spells t (buf_bytes self.old)
             → OnOk result
-            (Spells (with_last name.now (value_of value.now) t) (buf_bytes self.new)) }
+            (Spells (with_pair_appended name.now (value_of value.now) t) (buf_bytes self.new)) }
         ensures unchanged { OnErr result (buf_bytes self.new ≡ buf_bytes self.old) }
         ensures refused { (t : Tree) → Spells t (buf_bytes self.old)
-            → IfErr result (λ e. IsUnwritable (with_last name.now (value_of value.now) t) e) }
+            → IfErr result (λ e. IsUnwritable (with_pair_appended name.now (value_of value.now) t) e) }
     {
         append_pair(name, value, &mut self.bytes)
     }

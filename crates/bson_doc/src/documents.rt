@@ -209,8 +209,8 @@ impl PartialEq for Document {
         if self.names.as_slice() != other.names.as_slice() {
             return false;
         }
-        for (place, value) in self.values.iter().enumerate() {
-            if !value.eq(&other.values[place]) {
+        for (i, value) in self.values.iter().enumerate() {
+            if !value.eq(&other.values[i]) {
                 return false;
             }
         }

@@ -71,25 +71,25 @@ fn write_scope(
     put_len(start, limit, out)
 }
 
-/// Appends the pair at index `place` of a container, with canonical names. Returns `TooLarge` if a container in it has
+/// Appends the pair at `index` of a container, with canonical names. Returns `TooLarge` if a container in it has
 /// more than `limit` bytes.
 #[cycle(write)]
 fn write_element(
     name: &str,
     value: RawBson<'_>,
     in_array: bool,
-    place: usize,
+    index: usize,
     limit: usize,
     out: &mut Vec<u8>,
 ) -> Result<(), DocRefusal>
     requires { limit ≤ MAX_LEN }
     ensures added { (v : TreeValue) → Shows value.entry v
-        → OnOk result (out.new.items ≡ out.old.items ++ element_bytes (name_at in_array place name.now) (plain_value v)) }
+        → OnOk result (out.new.items ≡ out.old.items ++ element_bytes (name_at in_array index name.now) (plain_value v)) }
     ensures refused { (v : TreeValue) → Shows value.entry v
-        → IfErr result (λ e. IsSizeRefusal limit (length (element_bytes (name_at in_array place name.now) (plain_value v))) e) }
+        → IfErr result (λ e. IsSizeRefusal limit (length (element_bytes (name_at in_array index name.now) (plain_value v))) e) }
 {
     out.push(value.kind().byte())?;
-    write_name(name, in_array, place, out)?;
+    write_name(name, in_array, index, out)?;
     write_value(value, limit, out)
 }
 
@@ -112,10 +112,10 @@ pub(crate) fn write_document(
 {
     let start = out.len();
     begin(out)?;
-    let mut place = 0;
+    let mut index = 0;
     for (name, value) in document.iter() {
-        write_element(name, value, in_array, place, limit, out)?;
-        place += 1;
+        write_element(name, value, in_array, index, limit, out)?;
+        index += 1;
     }
     finish(start, limit, out)
 }

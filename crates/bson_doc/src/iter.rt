@@ -8,7 +8,7 @@ use crate::documents::Document;
 use std::marker::Model;
 
 /// An iterator over the pairs of a document, in order.
-#[derive(Drop)]
+#[derive(Debug, Drop)]
 pub struct DocumentIter<'a> {
     names: &'a [String],
     values: &'a [Bson],

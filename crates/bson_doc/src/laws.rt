@@ -50,13 +50,13 @@ pub fn plain_keeps_names()
     ensures { (t : Tree) → names_of (plain t) ≡ names_of t }
 {}
 
-/// In the canonical form of an array the name of each value is its place in decimal, counted from 0.
-pub fn array_names_are_places()
+/// In the canonical form of an array the name of each value is its index in decimal, counted from 0.
+pub fn array_names_are_indexes()
     ensures { (t : Tree) (k : ℕ) → k < length (names_of t)
         → slice_get (names_of (numbered 0 t)) k ≡ Some (decimal k) }
 {}
 
-/// The values of a document keep their places, their kinds and what they hold, but for the names in arrays inside.
+/// The values of a document keep their indexes, their kinds and what they hold, but for the names in arrays inside.
 pub fn plain_keeps_values()
     ensures { (t : Tree) (k : ℕ) → nth_value k (plain t) ≡ option_map plain_value (nth_value k t) }
 {}

@@ -30,21 +30,21 @@ use crate::room::{refusal_of, room_after_document};
 use crate::unwritable::check_document;
 use bson_elem::{Kind, MAX_LEN};
 
-/// Appends the type byte of the pair at index `place` of a container, and its name, which in an array is that index.
+/// Appends the type byte of the pair at `index` of a container, and its name, which in an array is its index.
 fn write_head(
     kind: Kind,
     name: &str,
     in_array: bool,
-    place: usize,
+    index: usize,
     out: &mut Vec<u8>,
 ) -> Result<(), DocRefusal>
-    ensures added { OnOk result (out.new.items ≡ out.old.items ++ (byte_of kind ∷ cstring (name_at in_array place name.now))) }
-    ensures text { OnOk result (IsUtf8 (name_at in_array place name.now)) }
-    ensures refused { IfErr result (λ e. IsSizeRefusal MAX_LEN (length (byte_of kind ∷ cstring (name_at in_array place name.now))) e) }
+    ensures added { OnOk result (out.new.items ≡ out.old.items ++ (byte_of kind ∷ cstring (name_at in_array index name.now))) }
+    ensures text { OnOk result (IsUtf8 (name_at in_array index name.now)) }
+    ensures refused { IfErr result (λ e. IsSizeRefusal MAX_LEN (length (byte_of kind ∷ cstring (name_at in_array index name.now))) e) }
     ensures kept { OnErr result (StartsWith out.new.items out.old.items) }
 {
     out.push(kind.byte())?;
-    write_name(name, in_array, place, out)
+    write_name(name, in_array, index, out)
 }
 
 /// Appends bytes as they are.
@@ -143,8 +143,8 @@ fn write_array(array: &Array, out: &mut Vec<u8>) -> Result<(), DocRefusal>
 {
     let start = out.len();
     begin(out)?;
-    for (place, value) in array.as_slice().iter().enumerate() {
-        write_head(value.kind(), "", true, place, out)?;
+    for (index, value) in array.as_slice().iter().enumerate() {
+        write_head(value.kind(), "", true, index, out)?;
         write_value(value, out)?;
     }
     finish(start, MAX_LEN, out)

@@ -15,7 +15,7 @@ use Rattle.bson_elem.specs.Kinds.{byte_of, all_kinds, kind_among, kind_of, Form,
 use Rattle.bson_elem.specs.Trees.{Leaf, Beside, no_code, with_code}
 use Rattle.bson_elem.specs.Spelling.{IsBytes, leaf_bytes, little, cstring, string, document, inner_bytes, IsOfForm, StandsIn}
 use Rattle.bson_elem.specs.Checks.{◌>>=◌, length_at, text_at, cstring_at, leaf_at, fault, told_at, document_at, Value, a_leaf, opens, scope_at, value_at, ElementRead, kinded_at, element_at}
-pub use Rattle.bson_elem.specs.Elements.{value_bytes, ValueFits, place_of, IsPlaced, element_bytes, IsElement}
+pub use Rattle.bson_elem.specs.Elements.{value_bytes, ValueFits, offset_beside, TellsOffset, element_bytes, IsElement}
 use Rattle.bson_elem.proofs.FieldLaws.{IsBytes-drop, IsBytes-take, bind_ok, guard_else, guard_then, ok_is, Takes, Takes-then, length_takes, length_again, text_takes, past_one, parts_of, cstring_takes, cstring_again}
 use Rattle.bson_elem.proofs.ElementLaws.{leaf_takes, leaf_again}
 
@@ -96,7 +96,7 @@ length-string words = omega (arith, length-append (little (length words + 1)) (c
 length-scope : (words body : List ℕ) → length (inner_bytes (with_code words) body) ≡ length body + length words + 14
 length-scope words body = omega (arith, length-append (little (length body + length words + 14)) (string words ++ document body), length-append (string words) (document body), length-string words, length-document body)
 
-scope_takes : (depth p q : ℕ) (bytes : List ℕ) (x : Value × List ℕ) → IsBytes bytes → depth < 200 → scope_at p q bytes ≡ Ok x → Takes bytes (value_bytes scope_form x.0) x.1 × ValueFits depth scope_form x.0 × IsPlaced q x.0
+scope_takes : (depth p q : ℕ) (bytes : List ℕ) (x : Value × List ℕ) → IsBytes bytes → depth < 200 → scope_at p q bytes ≡ Ok x → Takes bytes (value_bytes scope_form x.0) x.1 × ValueFits depth scope_form x.0 × TellsOffset q x.0
 unfolding scope_at
 scope_takes depth p q bytes x fits shallow e =
     let a = bind_ok (told_at p (length_at 14 bytes)) (λ total. cond (ltb (length bytes) total.0) (Err (fault p causes.Truncated)) (told_at p (length_at 1 total.1)) >>= λ n. cond (ltb (total.0 - 13) n.0) (Err (fault p causes.Scope)) (told_at p (text_at (n.0 - 1) n.1)) >>= λ words. cond (eqb (from_le_bytes w32 (take 4 words.1)) (total.0 - 8 - n.0)) (document_at p (q + 8 + n.0) words.1) (Err (fault p causes.Scope)) >>= λ d. Ok (opens (q + 8 + n.0) (with_code words.0) d.0, d.1)) x e in
@@ -125,10 +125,10 @@ scope_takes depth p q bytes x fits shallow e =
     let text3 : Takes bytes (little total.0 ++ (string words.0 ++ document d.0.0)) d.0.1 = Takes-then bytes (little total.0) total.1 (string words.0 ++ document d.0.0) d.0.1 t0.0 text2 in
     let whole : Takes bytes (inner_bytes (with_code words.0) d.0.0) d.0.1 = subst (λ (k : ℕ). Takes bytes (little k ++ (string words.0 ++ document d.0.0)) d.0.1) total-is text3 in
     let size : length (inner_bytes (with_code words.0) d.0.0) < 2 ^ 31 = omega (arith, length-scope words.0 d.0.0, total-is, t0.2) in
-    subst (λ (y : Value × List ℕ). Takes bytes (value_bytes scope_form y.0) y.1 × ValueFits depth scope_form y.0 × IsPlaced q y.0) (ok_is {E = BsonFault} (opens (q + 8 + n.0) (with_code words.0) d.0.0, d.0.1) x d.2)
+    subst (λ (y : Value × List ℕ). Takes bytes (value_bytes scope_form y.0) y.1 × ValueFits depth scope_form y.0 × TellsOffset q y.0) (ok_is {E = BsonFault} (opens (q + 8 + n.0) (with_code words.0) d.0.0, d.0.1) x d.2)
     (whole, (t2.1, shallow, size), ap (λ (k : ℕ). q + 8 + k) n-is)
 
-scope_again : (p q : ℕ) (words body rest : List ℕ) → IsUtf8 words → length (inner_bytes (with_code words) body) < 2 ^ 31 → scope_at p q (inner_bytes (with_code words) body ++ rest) ≡ Ok (opens (place_of q (with_code words)) (with_code words) body, rest)
+scope_again : (p q : ℕ) (words body rest : List ℕ) → IsUtf8 words → length (inner_bytes (with_code words) body) < 2 ^ 31 → scope_at p q (inner_bytes (with_code words) body ++ rest) ≡ Ok (opens (offset_beside q (with_code words)) (with_code words) body, rest)
 unfolding scope_at
 scope_again p q words body rest utf short =
     let total : ℕ = length body + length words + 14 in
@@ -151,20 +151,20 @@ scope_again p q words body rest utf short =
 
 -- ---- values
 
-inner_takes : (depth p q : ℕ) (bytes : List ℕ) (x : Value × List ℕ) → IsBytes bytes → depth < 200 → (document_at p q bytes >>= λ d. Ok (opens q no_code d.0, d.1)) ≡ Ok x → Takes bytes (value_bytes document_form x.0) x.1 × ValueFits depth document_form x.0 × IsPlaced q x.0
+inner_takes : (depth p q : ℕ) (bytes : List ℕ) (x : Value × List ℕ) → IsBytes bytes → depth < 200 → (document_at p q bytes >>= λ d. Ok (opens q no_code d.0, d.1)) ≡ Ok x → Takes bytes (value_bytes document_form x.0) x.1 × ValueFits depth document_form x.0 × TellsOffset q x.0
 inner_takes depth p q bytes x fits shallow e =
     let a = bind_ok (document_at p q bytes) (λ d. Ok (opens q no_code d.0, d.1)) x e in
     let t = document_takes p q bytes a.0 fits a.1 in
-    subst (λ (y : Value × List ℕ). Takes bytes (value_bytes document_form y.0) y.1 × ValueFits depth document_form y.0 × IsPlaced q y.0) (ok_is {E = BsonFault} (opens q no_code a.0.0, a.0.1) x a.2)
+    subst (λ (y : Value × List ℕ). Takes bytes (value_bytes document_form y.0) y.1 × ValueFits depth document_form y.0 × TellsOffset q y.0) (ok_is {E = BsonFault} (opens q no_code a.0.0, a.0.1) x a.2)
     (t.0, (tt, shallow, omega (arith, length-document a.0.0, t.1)), refl)
 
-whole_takes : (depth p q : ℕ) (form : Form) (bytes : List ℕ) (x : Value × List ℕ) → IsBytes bytes → (told_at p (leaf_at form bytes) >>= λ v. Ok (a_leaf v.0, v.1)) ≡ Ok x → Takes bytes (value_bytes form x.0) x.1 × ValueFits depth form x.0 × IsPlaced q x.0
+whole_takes : (depth p q : ℕ) (form : Form) (bytes : List ℕ) (x : Value × List ℕ) → IsBytes bytes → (told_at p (leaf_at form bytes) >>= λ v. Ok (a_leaf v.0, v.1)) ≡ Ok x → Takes bytes (value_bytes form x.0) x.1 × ValueFits depth form x.0 × TellsOffset q x.0
 whole_takes depth p q form bytes x fits e =
     let a = bind_ok (told_at p (leaf_at form bytes)) (λ v. Ok (a_leaf v.0, v.1)) x e in
     let t = leaf_takes form bytes a.0 fits (told_at_ok p (leaf_at form bytes) a.0 a.1) in
-    subst (λ (y : Value × List ℕ). Takes bytes (value_bytes form y.0) y.1 × ValueFits depth form y.0 × IsPlaced q y.0) (ok_is {E = BsonFault} (a_leaf a.0.0, a.0.1) x a.2) (t.0, t.1, tt)
+    subst (λ (y : Value × List ℕ). Takes bytes (value_bytes form y.0) y.1 × ValueFits depth form y.0 × TellsOffset q y.0) (ok_is {E = BsonFault} (a_leaf a.0.0, a.0.1) x a.2) (t.0, t.1, tt)
 
-pub part_takes : (depth p q : ℕ) (form : Form) (bytes : List ℕ) (x : Value × List ℕ) → IsBytes bytes → value_at depth p q form bytes ≡ Ok x → Takes bytes (value_bytes form x.0) x.1 × ValueFits depth form x.0 × IsPlaced q x.0
+pub part_takes : (depth p q : ℕ) (form : Form) (bytes : List ℕ) (x : Value × List ℕ) → IsBytes bytes → value_at depth p q form bytes ≡ Ok x → Takes bytes (value_bytes form x.0) x.1 × ValueFits depth form x.0 × TellsOffset q x.0
 unfolding value_at
 part_takes depth p q document_form bytes x fits e =
     let g = guard_then (ltb depth 200) (fault p causes.Depth) (document_at p q bytes >>= λ d. Ok (opens q no_code d.0, d.1)) x e in
@@ -196,15 +196,15 @@ leaf_value_at depth p q pointer_form v rest h = rw (leaf_again pointer_form v re
 leaf_value_at depth p q binary_form v rest h = rw (leaf_again binary_form v rest h) refl
 leaf_value_at depth p q regex_form v rest h = rw (leaf_again regex_form v rest h) refl
 
-held_part : (depth p q : ℕ) (form : Form) (b : Beside) (body rest : List ℕ) → StandsIn form b → depth < 200 → length (inner_bytes b body) < 2 ^ 31 → value_at depth p q form (inner_bytes b body ++ rest) ≡ Ok (opens (place_of q b) b body, rest)
+held_part : (depth p q : ℕ) (form : Form) (b : Beside) (body rest : List ℕ) → StandsIn form b → depth < 200 → length (inner_bytes b body) < 2 ^ 31 → value_at depth p q form (inner_bytes b body ++ rest) ≡ Ok (opens (offset_beside q b) b body, rest)
 unfolding value_at
 held_part depth p q document_form no_code body rest h shallow short = rw (lt-ltb depth 200 shallow, document_again p q body rest (omega (arith, length-document body, short))) refl
 held_part depth p q scope_form (with_code words) body rest h shallow short = rw (lt-ltb depth 200 shallow, scope_again p q words body rest h short) refl
 held_part depth p q _ _ body rest h shallow short = absurd h
 
-pub part_again : (depth p q : ℕ) (form : Form) (part : Value) (rest : List ℕ) → ValueFits depth form part → IsPlaced q part → value_at depth p q form (value_bytes form part ++ rest) ≡ Ok (part, rest)
-part_again depth p q form (a_leaf v) rest h placed = leaf_value_at depth p q form v rest h
-part_again depth p q form (opens place b body) rest h placed = held_part depth p q form b body rest h.0 h.1 h.2 ∙ ap (λ (k : ℕ). Ok (opens k b body, rest)) (sym placed)
+pub part_again : (depth p q : ℕ) (form : Form) (part : Value) (rest : List ℕ) → ValueFits depth form part → TellsOffset q part → value_at depth p q form (value_bytes form part ++ rest) ≡ Ok (part, rest)
+part_again depth p q form (a_leaf v) rest h told = leaf_value_at depth p q form v rest h
+part_again depth p q form (opens offset b body) rest h told = held_part depth p q form b body rest h.0 h.1 h.2 ∙ ap (λ (k : ℕ). Ok (opens k b body, rest)) (sym told)
 
 -- ---- elements
 
@@ -237,7 +237,7 @@ kinded_takes depth p b (Some k) bytes e o fits h =
     let both = Takes-then bytes (cstring a.0.0) a.0.1 (value_bytes (form_of k) v.0.0) v.0.1 t.0 u.0 in
     let byte_is : b ≡ byte_of k = kind_is all_kinds b k o in
     subst (λ (y : ElementRead). Takes (b ∷ bytes) (element_bytes y) y.rest × IsElement depth p y) (ok_is {E = BsonFault} (made a.0.0 k v.0.0 v.0.1) e v.2)
-    (record { parts = ap (λ (t : List ℕ). b ∷ t) both.parts ∙ ap (λ (j : ℕ). j ∷ ((cstring a.0.0 ++ value_bytes (form_of k) v.0.0) ++ v.0.1)) byte_is; rest_fits = both.rest_fits }, record { name = t.1; part = u.1; place = u.2 })
+    (record { parts = ap (λ (t : List ℕ). b ∷ t) both.parts ∙ ap (λ (j : ℕ). j ∷ ((cstring a.0.0 ++ value_bytes (form_of k) v.0.0) ++ v.0.1)) byte_is; rest_fits = both.rest_fits }, record { name = t.1; part = u.1; offset = u.2 })
 
 -- What is read as an element was spelled so.
 pub element_takes : (depth s p : ℕ) (bytes : List ℕ) (e : ElementRead) → IsBytes bytes → element_at depth s p bytes ≡ Ok e → Takes bytes (element_bytes e) e.rest × IsElement depth p e
@@ -253,4 +253,4 @@ unfolding element_at
 element_again depth s p e h =
     let regrouped : element_bytes e ++ e.rest ≡ byte_of e.kind ∷ (cstring e.name ++ (value_bytes (form_of e.kind) e.value ++ e.rest)) = ap (λ (t : List ℕ). byte_of e.kind ∷ t) (append_assoc (cstring e.name) (value_bytes (form_of e.kind) e.value) e.rest) in
     ap (element_at depth s p) regrouped
-    ∙ rw (kind_nonzero e.kind, kind_back e.kind, cstring_again e.name (value_bytes (form_of e.kind) e.value ++ e.rest) h.name, part_again depth p (p + length e.name + 2) (form_of e.kind) e.value e.rest h.part h.place) refl
+    ∙ rw (kind_nonzero e.kind, kind_back e.kind, cstring_again e.name (value_bytes (form_of e.kind) e.value ++ e.rest) h.name, part_again depth p (p + length e.name + 2) (form_of e.kind) e.value e.rest h.part h.offset) refl

@@ -15,7 +15,7 @@ pub use Rattle.bson_elem.proofs.FieldLaws.{ok_is}
 pub use Rattle.bson_elem.proofs.FieldLaws.{cstring_takes, cstring_again}
 pub use Rattle.bson_elem.proofs.ContainerLaws.{length-document, document_takes}
 pub use Rattle.bson_elem.proofs.ContainerLaws.{element_takes, element_again, made}
-pub use Rattle.bson_elem.specs.Elements.{value_bytes, ValueFits, place_of, IsPlaced, element_bytes, IsElement}
+pub use Rattle.bson_elem.specs.Elements.{value_bytes, ValueFits, offset_beside, TellsOffset, element_bytes, IsElement}
 -- the byte of a kind found among some is that kind's
 pub use Rattle.bson_elem.proofs.ContainerLaws.{kind_is}
 -- ---- an element read as `skip_value` reads it: whole, or with the first check that fails

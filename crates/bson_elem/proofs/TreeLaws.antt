@@ -10,7 +10,7 @@ use Rattle.bson_elem.specs.Trees.{Beside, no_code, with_code, Tree, no_pairs, le
 use Rattle.bson_elem.specs.Spelling.{IsBytes, leaf_bytes, little, string, cstring, elements, document, inner_bytes, Fits}
 use Rattle.bson_elem.specs.Checks.{◌>>=◌, Value, a_leaf, opens, ElementRead, element_at}
 use Rattle.bson_elem.specs.Faults.{FaultIn, at_element, in_document}
-use Rattle.bson_elem.proofs.ContainerLaws.{value_bytes, element_bytes, IsElement, made, place_of, element_takes, element_again}
+use Rattle.bson_elem.proofs.ContainerLaws.{value_bytes, element_bytes, IsElement, made, offset_beside, element_takes, element_again}
 
 -- ---- pairs joined
 
@@ -89,14 +89,14 @@ pair_then : (depth s p fuel : ℕ) (e : ElementRead) (within ps : Tree) (rest : 
 pair_then depth s p fuel e within ps rest is i r ih =
     let regrouped : (element_bytes e ++ elements ps) ++ rest ≡ element_bytes e ++ e.rest = append_assoc (element_bytes e) (elements ps) rest ∙ ap (λ (t : List ℕ). element_bytes e ++ t) (sym r) in
     let one = step fuel depth s p (byte_of e.kind) _ e within (element_again depth s p e is) i in
-    let place : p + length (element_bytes e) + length (elements ps) ≡ p + length (element_bytes e ++ elements ps) = omega (arith, length-append (element_bytes e) (elements ps)) in (
+    let offset : p + length (element_bytes e) + length (elements ps) ≡ p + length (element_bytes e ++ elements ps) = omega (arith, length-append (element_bytes e) (elements ps)) in (
       ih.0,
       ih.1,
       ap (walk (suc fuel) depth s p) regrouped ∙ one
           ∙ ap (λ (t : List ℕ). walk fuel depth s (p + length (element_bytes e)) t >>= λ qs. ok_pairs (add e.name e.kind e.value within qs)) r
           ∙ ap (λ (x : Result Tree BsonFault). x >>= λ qs. ok_pairs (add e.name e.kind e.value within qs)) ih.2
           ∙ bind_twice (walk ih.0 depth s (p + length (element_bytes e) + length (elements ps)) rest) (joined ps) (add e.name e.kind e.value within)
-          ∙ ap (λ (k : ℕ). walk ih.0 depth s k rest >>= λ qs. ok_pairs (add e.name e.kind e.value within (joined ps qs))) place,
+          ∙ ap (λ (k : ℕ). walk ih.0 depth s k rest >>= λ qs. ok_pairs (add e.name e.kind e.value within (joined ps qs))) offset,
     )
 
 walk_prefix : (pairs : Tree) (depth s p : ℕ) (rest : List ℕ) (fuel : ℕ) → Fits depth pairs → length (elements pairs ++ rest) ≤ fuel → (less : ℕ) × (length rest ≤ less) × (walk fuel depth s p (elements pairs ++ rest) ≡ (walk less depth s (p + length (elements pairs)) rest >>= λ ps. ok_pairs (joined pairs ps)))
@@ -105,14 +105,14 @@ walk_prefix no_pairs depth s p rest fuel fits long = (fuel, long, ap (λ (k : �
 walk_prefix (leaf_pair name k v ps) depth s p rest zero fits long = absurd (omega (arith, long))
 walk_prefix (leaf_pair name k v ps) depth s p rest (suc fuel) fits long =
     let e : ElementRead = made name k (a_leaf v) (elements ps ++ rest) in
-    let is : IsElement depth p e = record { name = fits.0; part = fits.1; place = tt } in
+    let is : IsElement depth p e = record { name = fits.0; part = fits.1; offset = tt } in
     let shorter : length (elements ps ++ rest) ≤ fuel = omega (arith, long, length-append (element_bytes e ++ elements ps) rest, length-append (element_bytes e) (elements ps), length-append (elements ps) rest) in
     pair_then depth s p fuel e no_pairs ps rest is refl refl (walk_prefix ps depth s (p + length (element_bytes e)) rest fuel fits.2 shorter)
 walk_prefix (inner_pair name k b inner ps) depth s p rest zero fits long = absurd (omega (arith, long))
 walk_prefix (inner_pair name k b inner ps) depth s p rest (suc fuel) fits long =
-    let q : ℕ = place_of (p + length name + 2) b in
+    let q : ℕ = offset_beside (p + length name + 2) b in
     let e : ElementRead = made name k (opens q b (elements inner)) (elements ps ++ rest) in
-    let is : IsElement depth p e = record { name = fits.0; part = (fits.1, fits.2, fits.3); place = refl } in
+    let is : IsElement depth p e = record { name = fits.0; part = (fits.1, fits.2, fits.3); offset = refl } in
     let shorter : length (elements ps ++ rest) ≤ fuel = omega (arith, long, length-append (element_bytes e ++ elements ps) rest, length-append (element_bytes e) (elements ps), length-append (elements ps) rest) in
     let below : length (elements inner ++ []) ≤ fuel = omega (arith, long, length-append (element_bytes e ++ elements ps) rest, length-append (element_bytes e) (elements ps), length-append (cstring name) (inner_bytes b (elements inner)), length-append (elements inner) [], length_inside b (elements inner)) in
     let ih = walk_prefix inner (depth + 1) q (q + 4) [] fuel fits.4 below in

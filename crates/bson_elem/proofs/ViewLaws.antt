@@ -15,7 +15,7 @@ use Rattle.bson_elem.specs.declared.fault.BsonCause.TheVariants.{End}
 use Rattle.bson_elem.specs.declared.fault.BsonCause.TheVariants as causes
 use Rattle.bson_elem.specs.Kinds.{kind_of, form_of}
 use Rattle.bson_elem.specs.Checks.{◌>>=◌, Read, fault, told_at, cstring_at, Value, value_at, ElementRead, kinded_at, element_at, document_at}
-use Rattle.bson_elem.specs.Extents.{document_place, value_extent}
+use Rattle.bson_elem.specs.Extents.{document_offset, value_extent}
 use Rattle.bson_elem.specs.declared.fault.BsonCause.{BsonCause}
 use Rattle.bson_elem.proofs.FieldLaws.{ok_is, IsBytes-take, IsBytes-drop}
 use Rattle.bson_elem.proofs.ContainerLaws.{element_bytes, element_takes, document_takes}
@@ -31,9 +31,9 @@ after_element depth s p room e fits read =
 pub part_after : (bytes : List ℕ) (at next end : ℕ) → at ≤ next → next ≤ end → drop (next - at) (take (end - at) (drop at bytes)) ≡ take (end - next) (drop next bytes)
 part_after bytes at next end low high =
     let split : end - at ≡ (next - at) + (end - next) = omega arith in
-    let place : at + (next - at) ≡ next = omega arith in
+    let offset : at + (next - at) ≡ next = omega arith in
     ap (λ (k : ℕ). drop (next - at) (take k (drop at bytes))) split ∙ drop-take (next - at) (end - next) (drop at bytes)
-    ∙ ap (take (end - next)) (drop-drop (next - at) at bytes ∙ ap (λ (k : ℕ). drop k bytes) place)
+    ∙ ap (take (end - next)) (drop-drop (next - at) at bytes ∙ ap (λ (k : ℕ). drop k bytes) offset)
 
 pub rest_in : (bytes : List ℕ) (depth s at end : ℕ) (e : ElementRead) → IsBytes bytes → at < end → end < length bytes → element_at depth s at (slice_range bytes at end) ≡ Ok e → (length e.rest < end - at) × (e.rest ≡ slice_range bytes (end - length e.rest) end)
 rest_in bytes depth s at end e fits lt whole read =
@@ -42,8 +42,8 @@ rest_in bytes depth s at end e fits lt whole read =
     let a = after_element depth s at room e fits' read in
     let size : length room ≡ end - at = omega (arith, length-take (end - at) (drop at bytes), length-drop at bytes, whole, lt) in
     let shorter : length e.rest < end - at = omega (arith, a.0, size) in
-    let place : length room - length e.rest ≡ (end - length e.rest) - at = omega (arith, size, shorter) in
-    (shorter, a.1 ∙ ap (λ (k : ℕ). drop k room) place ∙ part_after bytes at (end - length e.rest) end (omega (arith, shorter, lt)) (omega arith))
+    let offset : length room - length e.rest ≡ (end - length e.rest) - at = omega (arith, size, shorter) in
+    (shorter, a.1 ∙ ap (λ (k : ℕ). drop k room) offset ∙ part_after bytes at (end - length e.rest) end (omega (arith, shorter, lt)) (omega arith))
 
 -- The element between two offsets of the bytes has this name and this item, and these bytes after it.
 pub record IsSeen (bytes : List ℕ) (depth s at end : ℕ) (name : List ℕ) (item : Item) (rest : List ℕ) : Type 0 where
@@ -102,13 +102,13 @@ pub record IsSkipped (r : Result ElementRead BsonFault) (name : List ℕ) (k : K
   pub is_read : r ≡ Ok element
   pub name_is : element.name ≡ name
   pub kind_is : element.kind ≡ k
-  pub place : document_place element.value ≡ document
+  pub offset : document_offset element.value ≡ document
   pub rest_is : element.rest ≡ rest
 
 skipped_value : (name : List ℕ) (k : Kind) (document : Option ℕ) (rest : List ℕ) (v : Result (Value × List ℕ) BsonFault) → value_extent v ≡ Ok (document, rest) → IsSkipped (v >>= with_value name k) name k document rest
 skipped_value name k document rest (Ok v) is =
-    let same = ok_is {E = BsonFault} (document_place v.0, v.1) (document, rest) is in
-    record { element = record { name = name; kind = k; value = v.0; rest = v.1 }; is_read = refl; name_is = refl; kind_is = refl; place = ap (λ (x : Option ℕ × List ℕ). x.0) same; rest_is = ap (λ (x : Option ℕ × List ℕ). x.1) same }
+    let same = ok_is {E = BsonFault} (document_offset v.0, v.1) (document, rest) is in
+    record { element = record { name = name; kind = k; value = v.0; rest = v.1 }; is_read = refl; name_is = refl; kind_is = refl; offset = ap (λ (x : Option ℕ × List ℕ). x.0) same; rest_is = ap (λ (x : Option ℕ × List ℕ). x.1) same }
 skipped_value name k document rest (Err f) is = absurd cc
 
 kind_read : (s p b : ℕ) (after : List ℕ) (k : Kind) → b ≢ 0 → kind_of b ≡ Some k → kind_at s p (b ∷ after) ≡ Ok (k, after)

@@ -16,14 +16,14 @@ ValueFits depth form (a_leaf v) = IsOfForm form v
 ValueFits depth form (opens q b body) = StandsIn form b × (depth < 200) × (length (inner_bytes b body) < 2 ^ 31)
 
 -- the offset of the document in a value at offset q
-abbrev pub place_of : ℕ → Beside → ℕ
-place_of q no_code = q
-place_of q (with_code words) = q + 8 + (length words + 1)
+abbrev pub offset_beside : ℕ → Beside → ℕ
+offset_beside q no_code = q
+offset_beside q (with_code words) = q + 8 + (length words + 1)
 
 -- the document in a value at offset q, if the value holds one, is told at its own offset
-abbrev pub IsPlaced : ℕ → Value → Type 0
-IsPlaced q (a_leaf v) = Unit {0}
-IsPlaced q (opens place b body) = place ≡ place_of q b
+abbrev pub TellsOffset : ℕ → Value → Type 0
+TellsOffset q (a_leaf v) = Unit {0}
+TellsOffset q (opens offset b body) = offset ≡ offset_beside q b
 
 -- the bytes of an element: the kind's byte, the name, and the value
 abbrev pub element_bytes : ElementRead → List ℕ
@@ -33,4 +33,4 @@ element_bytes e = byte_of e.kind ∷ (cstring e.name ++ value_bytes (form_of e.k
 pub record IsElement (depth p : ℕ) (e : ElementRead) : Type 0 where
   pub name : IsName e.name
   pub part : ValueFits depth (form_of e.kind) e.value
-  pub place : IsPlaced (p + length e.name + 2) e.value
+  pub offset : TellsOffset (p + length e.name + 2) e.value

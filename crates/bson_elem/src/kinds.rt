@@ -1,7 +1,8 @@
 //! The kinds of values, and the type byte of each (bsonspec.org, version 1.1: `element`).
 
 ghost use Rattle.std.specs.Prelude.{◌≡◌};
-ghost use Rattle.bson_elem.specs.Kinds.{byte_of, kind_of};
+ghost use Rattle.bson_elem.specs.Extents.{fixed_size};
+ghost use Rattle.bson_elem.specs.Kinds.{byte_of, form_of, kind_of};
 
 /// The kind of a value.
 #[derive(Clone, Copy, Debug, PartialEq, Eq)]
@@ -93,6 +94,22 @@ impl Kind {
             Kind::Decimal128 => 0x13,
             Kind::MinKey => 0xff,
             Kind::MaxKey => 0x7f,
+        }
+    }
+
+    /// Returns the size in bytes of each value of this kind, if all have the same and any bytes are a value.
+    // Not inlined, so that it stays a table: inlined where its result is tested, it becomes a jump for each kind.
+    #[inline(never)]
+    pub(crate) fn fixed_len(self) -> Option<usize>
+        ensures { result ≡ fixed_size (form_of self) }
+    {
+        match self {
+            Kind::Undefined | Kind::Null | Kind::MinKey | Kind::MaxKey => Some(0),
+            Kind::Int32 => Some(4),
+            Kind::Double | Kind::DateTime | Kind::Timestamp | Kind::Int64 => Some(8),
+            Kind::ObjectId => Some(12),
+            Kind::Decimal128 => Some(16),
+            _ => None,
         }
     }
 }

@@ -7,24 +7,24 @@ use Rattle.bson_elem.specs.Kinds.{kind_of, byte_of, form_of}
 use Rattle.bson_elem.specs.Trees.{Beside, no_code, with_code, Tree, no_pairs, leaf_pair, inner_pair}
 use Rattle.bson_elem.specs.Spelling.{IsBytes, little, string, cstring, inner_bytes, elements}
 use Rattle.bson_elem.specs.Checks.{Read, fault, cstring_at, Value, a_leaf, opens, value_at, ElementRead, element_at}
-use Rattle.bson_elem.specs.Extents.{document_place, value_extent}
+use Rattle.bson_elem.specs.Extents.{document_offset, value_extent}
 use Rattle.bson_elem.specs.declared.kinds.Kind.{Kind}
 use Rattle.bson_elem.specs.declared.fault.BsonCause.{BsonCause}
 use Rattle.bson_elem.specs.declared.fault.BsonCause.TheVariants.{End}
 use Rattle.bson_elem.specs.declared.fault.BsonCause.TheVariants as causes
 use Rattle.bson_elem.specs.Faults.{Before, FaultIn, at_element, in_document}
-use Rattle.bson_elem.proofs.Lemmas.{Fits-joined, IsBytes-drop, IsBytes-take, IsPlaced, ValueFits, cstring_takes, element_bytes, element_takes, elements-joined, end_fault, joined, kind_fault, name_fault, ok_is, part_after, place_of, rest_in, skipped, value_bytes, value_fault}
+use Rattle.bson_elem.proofs.Lemmas.{Fits-joined, IsBytes-drop, IsBytes-take, TellsOffset, ValueFits, cstring_takes, element_bytes, element_takes, elements-joined, end_fault, joined, kind_fault, name_fault, ok_is, part_after, offset_beside, rest_in, skipped, value_bytes, value_fault}
 use Rattle.bson_raw.specs.Naming.{is_array_kind, is_named, is_plain, named_at}
 use Rattle.bson_raw.specs.Checks.{IsLeaf, Opens, IsTree, IsPair}
 use Rattle.bson_raw.proofs.Naming.{is_plain-leaf, is_plain-inner}
 
 -- ---- values
 
-leaf_of : (v : Value) → document_place v ≡ None → IsLeaf v
+leaf_of : (v : Value) → document_offset v ≡ None → IsLeaf v
 leaf_of (a_leaf leaf) is = (leaf, refl)
 leaf_of (opens q b body) is = absurd cc
 
-opens_of : (v : Value) (q : ℕ) → document_place v ≡ Some q → Opens q v
+opens_of : (v : Value) (q : ℕ) → document_offset v ≡ Some q → Opens q v
 opens_of (a_leaf leaf) q is = absurd cc
 opens_of (opens p b body) q is =
     let same : p ≡ q = cc in
@@ -72,20 +72,20 @@ Before-joined depth whole room rest t u p q = record {
   fits = Fits-joined depth t u p.fits q.fits;
 }
 
-pub joined_place : (p : ℕ) (t u : Tree) → p + length (elements t) + length (elements u) ≡ p + length (elements (joined t u))
-joined_place p t u = omega (arith, ap length (elements-joined t u), length-append (elements t) (elements u))
+pub joined_offset : (p : ℕ) (t u : Tree) → p + length (elements t) + length (elements u) ≡ p + length (elements (joined t u))
+joined_offset p t u = omega (arith, ap length (elements-joined t u), length-append (elements t) (elements u))
 
 pub fault_after : {depth s at : ℕ} {room : List ℕ} {f : BsonFault} (p : ℕ) (whole : List ℕ) (t : Tree) → Before depth whole t room → p + length (elements t) ≡ at → FaultIn depth s at room f → FaultIn depth s p whole f
-fault_after {depth} {s} {at} {room} {f} p whole t before place (at_element u b rest q e) =
+fault_after {depth} {s} {at} {room} {f} p whole t before offset (at_element u b rest q e) =
     at_element (joined t u) b rest (Before-joined depth whole room (b ∷ rest) t u before q)
-    (subst (λ (k : ℕ). element_at depth s k (b ∷ rest) ≡ Err f) (ap (λ (k : ℕ). k + length (elements u)) (sym place) ∙ joined_place p t u) e)
-fault_after {depth} {s} {at} {room} {f} p whole t before place (in_document u rest e q b body r read is chain) =
+    (subst (λ (k : ℕ). element_at depth s k (b ∷ rest) ≡ Err f) (ap (λ (k : ℕ). k + length (elements u)) (sym offset) ∙ joined_offset p t u) e)
+fault_after {depth} {s} {at} {room} {f} p whole t before offset (in_document u rest e q b body r read is chain) =
     in_document (joined t u) rest e q b body (Before-joined depth whole room rest t u before r)
-    (subst (λ (k : ℕ). element_at depth s k rest ≡ Ok e) (ap (λ (k : ℕ). k + length (elements u)) (sym place) ∙ joined_place p t u) read) is chain
+    (subst (λ (k : ℕ). element_at depth s k rest ≡ Ok e) (ap (λ (k : ℕ). k + length (elements u)) (sym offset) ∙ joined_offset p t u) read) is chain
 
 -- ---- where a document inside stands
 
-front_of : (name : List ℕ) (k : ℕ) (b : Beside) (body rest : List ℕ) → (front : List ℕ) × ((k ∷ (cstring name ++ inner_bytes b body)) ++ rest ≡ front ++ (body ++ (0 ∷ rest))) × ((at : ℕ) → at + length front ≡ place_of (at + length name + 2) b + 4)
+front_of : (name : List ℕ) (k : ℕ) (b : Beside) (body rest : List ℕ) → (front : List ℕ) × ((k ∷ (cstring name ++ inner_bytes b body)) ++ rest ≡ front ++ (body ++ (0 ∷ rest))) × ((at : ℕ) → at + length front ≡ offset_beside (at + length name + 2) b + 4)
 front_of name k no_code body rest =
     let front : List ℕ = k ∷ (cstring name ++ little (length body + 5)) in (
       front,
@@ -111,12 +111,12 @@ pub record StandsAt (bytes : List ℕ) (at end : ℕ) (e : ElementRead) (q : ℕ
   pub body_is : body ≡ slice_range bytes (q + 4) ((end - length e.rest) - 1)
 
 standing : (bytes : List ℕ) (at end : ℕ) (e : ElementRead) (q : ℕ) (body front : List ℕ) → at < end → at < q → take (end - at) (drop at bytes) ≡ front ++ (body ++ (0 ∷ e.rest)) → at + length front ≡ q + 4 → end - at ≡ length front + (length body + length (0 ∷ e.rest)) → StandsAt bytes at end e q body
-standing bytes at end e q body front lt low parts place size =
+standing bytes at end e q body front lt low parts offset size =
     let room : List ℕ = take (end - at) (drop at bytes) in
-    let n : (q + 4) - at ≡ length front = omega (arith, place) in
-    let len : length body ≡ ((end - length e.rest) - 1) - (q + 4) = omega (arith, place, size, lt) in
-    let high : q + 5 ≤ end - length e.rest = omega (arith, place, size, lt) in
-    let fits : length body ≤ end - (q + 4) = omega (arith, place, size, lt) in
+    let n : (q + 4) - at ≡ length front = omega (arith, offset) in
+    let len : length body ≡ ((end - length e.rest) - 1) - (q + 4) = omega (arith, offset, size, lt) in
+    let high : q + 5 ≤ end - length e.rest = omega (arith, offset, size, lt) in
+    let fits : length body ≤ end - (q + 4) = omega (arith, offset, size, lt) in
     let there : body ++ (0 ∷ e.rest) ≡ take (end - (q + 4)) (drop (q + 4) bytes) =
     sym (ap (drop ((q + 4) - at)) parts ∙ drop_at front (body ++ (0 ∷ e.rest)) ((q + 4) - at) (sym n)) ∙ part_after bytes at (q + 4) end (omega (arith, low)) (omega (arith, high)) in
     record {
@@ -125,9 +125,9 @@ standing bytes at end e q body front lt low parts place size =
       body_is = sym (take_at body (0 ∷ e.rest) (length body) refl) ∙ ap (take (length body)) there ∙ take-take (length body) (end - (q + 4)) (drop (q + 4) bytes) fits ∙ ap (λ (k : ℕ). take k (drop (q + 4) bytes)) len;
     }
 
-place_low : (q : ℕ) (b : Beside) → q ≤ place_of q b
-place_low q no_code = omega arith
-place_low q (with_code words) = omega arith
+offset_low : (q : ℕ) (b : Beside) → q ≤ offset_beside q b
+offset_low q no_code = omega arith
+offset_low q (with_code words) = omega arith
 
 pub stands_at : (bytes : List ℕ) (depth s at end : ℕ) (e : ElementRead) (q : ℕ) (b : Beside) (body : List ℕ) → IsBytes bytes → at < end → end < length bytes → element_at depth s at (slice_range bytes at end) ≡ Ok e → e.value ≡ opens q b body → (depth < 200) × StandsAt bytes at end e q body
 stands_at bytes depth s at end e q b body fits lt whole read is =
@@ -135,12 +135,12 @@ stands_at bytes depth s at end e q b body fits lt whole read is =
     let t = element_takes depth s at room e (IsBytes-take (end - at) (drop at bytes) (IsBytes-drop at bytes fits)) read in
     let f = front_of e.name (byte_of e.kind) b body e.rest in
     let fits' : ValueFits depth (form_of e.kind) (opens q b body) = subst (ValueFits depth (form_of e.kind)) is t.1.part in
-    let placed : q ≡ place_of (at + length e.name + 2) b = subst (IsPlaced (at + length e.name + 2)) is t.1.place in
+    let told : q ≡ offset_beside (at + length e.name + 2) b = subst (TellsOffset (at + length e.name + 2)) is t.1.offset in
     let parts : room ≡ f.0 ++ (body ++ (0 ∷ e.rest)) = t.0.parts ∙ ap (λ (p : Value). (byte_of e.kind ∷ (cstring e.name ++ value_bytes (form_of e.kind) p)) ++ e.rest) is ∙ f.1 in
     let size : length room ≡ end - at = omega (arith, length-take (end - at) (drop at bytes), length-drop at bytes, whole, lt) in
     let sum : length room ≡ length f.0 + (length body + length (0 ∷ e.rest)) = ap length parts ∙ length-append f.0 (body ++ (0 ∷ e.rest)) ∙ ap (λ (k : ℕ). length f.0 + k) (length-append body (0 ∷ e.rest)) in
-    let low : at < q = omega (arith, placed, place_low (at + length e.name + 2) b) in
-    (fits'.1, standing bytes at end e q body f.0 lt low parts (f.2 at ∙ ap (λ (k : ℕ). k + 4) (sym placed)) (sym size ∙ sum))
+    let low : at < q = omega (arith, told, offset_low (at + length e.name + 2) b) in
+    (fits'.1, standing bytes at end e q body f.0 lt low parts (f.2 at ∙ ap (λ (k : ℕ). k + 4) (sym told)) (sym size ∙ sum))
 
 -- ---- an element that the code went over
 
@@ -221,7 +221,7 @@ pub record IsPassed (bytes : List ℕ) (depth s at end : ℕ) (in_array : Bool) 
   pub is_read : element_at depth s at (slice_range bytes at end) ≡ Ok element
   pub name_is : named ≡ is_named in_array index element.name
   pub kind_is : element.kind ≡ k
-  pub place_is : document_place element.value ≡ document
+  pub offset_is : document_offset element.value ≡ document
   pub rest_is : element.rest ≡ slice_range bytes next end
   pub low : at < next
   pub high : next ≤ end
@@ -233,7 +233,7 @@ passed bytes depth s at end in_array index named k from document rest fits lt wh
     let read = at_room bytes depth s at end (Ok x.element) lt whole x.is_read in
     let after = rest_in bytes depth s at end x.element fits lt whole read in
     let size : length x.element.rest ≡ length rest = ap length x.rest_is in
-    record { element = x.element; is_read = read; name_is = h.name_is ∙ ap (is_named in_array index) (sym x.name_is); kind_is = x.kind_is; place_is = x.place; rest_is = after.1 ∙ ap (λ (n : ℕ). slice_range bytes (end - n) end) size; low = omega (arith, after.0, size); high = omega arith }
+    record { element = x.element; is_read = read; name_is = h.name_is ∙ ap (is_named in_array index) (sym x.name_is); kind_is = x.kind_is; offset_is = x.offset; rest_is = after.1 ∙ ap (λ (n : ℕ). slice_range bytes (end - n) end) size; low = omega (arith, after.0, size); high = omega arith }
 
 -- the document that the element holds
 abbrev pub Inside : (bytes : List ℕ) (depth at next q : ℕ) (e : ElementRead) → Type 0
@@ -242,7 +242,7 @@ Inside bytes depth at next q e = (depth < 200) × (at < q) × (q + 5 ≤ next) �
 pub inside_of : (bytes : List ℕ) (depth s at end : ℕ) (in_array : Bool) (index : ℕ) (named : Bool) (k : Kind) (q next : ℕ) (is : IsPassed bytes depth s at end in_array index named k (Some q) next) → IsBytes bytes → at < end → end < length bytes → Inside bytes depth at next q is.element
 inside_of bytes depth s at end in_array index named k q next is fits lt whole =
     let e = is.element in
-    let o = opens_of e.value q is.place_is in
+    let o = opens_of e.value q is.offset_is in
     let st = stands_at bytes depth s at end e q o.0 o.1 fits lt whole is.is_read o.2 in
     let n : end - length e.rest ≡ next = omega (arith, ap length is.rest_is, length-take (end - next) (drop next bytes), length-drop next bytes, is.high, whole) in
     (st.0, st.1.low, omega (arith, st.1.high, n), (o.0, o.2 ∙ ap (opens q o.0) (st.1.body_is ∙ ap (λ (m : ℕ). slice_range bytes (q + 4) (m - 1)) n)))
@@ -265,7 +265,7 @@ pub leaf_passed : (bytes : List ℕ) (depth s at end : ℕ) (in_array : Bool) (i
     → canonical ≡ (before && named) → Passes bytes depth at end in_array index before next canonical
 leaf_passed bytes depth s at end in_array index named k next before canonical is fits lt whole both =
     pair_size bytes depth s at end in_array index named k None next before canonical is lt whole
-    (leaf_is_pair depth s at (slice_range bytes at end) is.element in_array before canonical index (room_bytes bytes at end fits) is.is_read (leaf_of is.element.value is.place_is) (both ∙ ap (λ (b : Bool). before && b) is.name_is))
+    (leaf_is_pair depth s at (slice_range bytes at end) is.element in_array before canonical index (room_bytes bytes at end fits) is.is_read (leaf_of is.element.value is.offset_is) (both ∙ ap (λ (b : Bool). before && b) is.name_is))
 
 -- and so is a document whose elements were checked
 pub inner_passed : (bytes : List ℕ) (depth s at end : ℕ) (in_array : Bool) (index : ℕ) (named : Bool) (k : Kind) (q next : ℕ) (before canonical is_array within : Bool) → IsPassed bytes depth s at end in_array index named k (Some q) next → IsBytes bytes → at < end → end < length bytes

@@ -9,7 +9,7 @@ use Rattle.bson_elem.specs.declared.fault.BsonFault.{BsonFault}
 use Rattle.bson_elem.specs.Trees.{Beside, no_code, with_code, Tree, no_pairs, leaf_pair, inner_pair}
 use Rattle.bson_elem.specs.Spelling.{little, string, document, inner_bytes, elements, Fits, Spells}
 use Rattle.bson_elem.specs.Checks.{Value, a_leaf, opens, ElementRead, element_at}
-use Rattle.bson_elem.proofs.Lemmas.{element_again, length-document, made, ok_is, place_of}
+use Rattle.bson_elem.proofs.Lemmas.{element_again, length-document, made, ok_is, offset_beside}
 use Rattle.bson_raw.specs.Left.{LeftIs, HasLeft}
 use Rattle.bson_raw.specs.Pairs.{TreeValue, leaf_value, document_value, with_first}
 
@@ -34,11 +34,11 @@ next_pair : (t : Tree) (at : ℕ) → Fits 1 t → 0 < length (elements t) → (
 next_pair no_pairs at fits lt = absurd (omega (arith, lt))
 next_pair (leaf_pair name k v ps) at fits lt =
     let e : ElementRead = made name k (a_leaf v) (elements ps) in
-    (e, element_again 1 0 at e (record { name = fits.0; part = fits.1; place = tt }), (leaf_value k v, ps, record { fits = fits.2; rest = refl; is_first = refl; part = (refl, refl) }))
+    (e, element_again 1 0 at e (record { name = fits.0; part = fits.1; offset = tt }), (leaf_value k v, ps, record { fits = fits.2; rest = refl; is_first = refl; part = (refl, refl) }))
 next_pair (inner_pair name k b inner ps) at fits lt =
-    let q : ℕ = place_of (at + length name + 2) b in
+    let q : ℕ = offset_beside (at + length name + 2) b in
     let e : ElementRead = made name k (opens q b (elements inner)) (elements ps) in
-    (e, element_again 1 0 at e (record { name = fits.0; part = (fits.1, fits.2, fits.3); place = refl }), (document_value k b inner, ps, record { fits = fits.5; rest = refl; is_first = refl; part = (refl, (q, refl), fits.4, omega (arith, inner_len b (elements inner), fits.3)) }))
+    (e, element_again 1 0 at e (record { name = fits.0; part = (fits.1, fits.2, fits.3); offset = refl }), (document_value k b inner, ps, record { fits = fits.5; rest = refl; is_first = refl; part = (refl, (q, refl), fits.4, omega (arith, inner_len b (elements inner), fits.3)) }))
 
 -- what was read is the next pair
 pub next_is : (t : Tree) (at : ℕ) (room : List ℕ) (f : ElementRead) → Fits 1 t → room ≡ elements t → 0 < length room → element_at 1 0 at room ≡ Ok f → (v : TreeValue) × (ps : Tree) × IsNext t f v ps

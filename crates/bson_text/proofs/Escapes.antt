@@ -9,10 +9,10 @@ use Rattle.std.proofs.lemmas.Simd.{zip2_of_maps, zip2_splat, map-map, mask_l-mod
 use lib.Bits.{bit_or}
 use lib.Count.{count_trailing_zeros}
 use lib.Lanes.{chunk, mask_l, top, zip2}
-use Rattle.bson_text.specs.Text.{IsPlainTo, needs_escape}
+use Rattle.bson_text.specs.Text.{NeedsNoEscapeBefore, needs_escape}
 
 -- a byte to escape behind plain ones is the first
-pub first_at : (d : List ℕ) (m : ℕ) → m < length d → IsPlainTo d m → needs_escape (get_or d m 0) ≡ true
+pub first_at : (d : List ℕ) (m : ℕ) → m < length d → NeedsNoEscapeBefore d m → needs_escape (get_or d m 0) ≡ true
     → position needs_escape d ≡ Some m
 first_at d m lt plain stop =
     let here : position_or_len needs_escape d ≡ m = position_or_len_is needs_escape d m 0 (omega arith) plain (λ _. stop) in
@@ -20,16 +20,16 @@ first_at d m lt plain stop =
     rw (here, below) refl
 
 -- bytes that are all plain hold none
-pub none_at : (d : List ℕ) → IsPlainTo d (length d) → position needs_escape d ≡ None
+pub none_at : (d : List ℕ) → NeedsNoEscapeBefore d (length d) → position needs_escape d ≡ None
 none_at d plain =
     let past : position_or_len needs_escape d ≡ length d = position_or_len_is needs_escape d (length d) 0 (omega arith) plain (λ lt. absurd (omega (arith, lt))) in
     let over : ltb (length d) (length d) ≡ false = le-ltb _ _ (omega arith) in
     rw (past, over) refl
 
--- a look that reaches the end tells the place
+-- a look that reaches the end tells the offset
 pub last_look : (r : Option ℕ) (d : List ℕ) (n : ℕ) → n ≡ length d
-    → MatchOption r (IsPlainTo d n) (λ m. position needs_escape d ≡ Some m) → r ≡ position needs_escape d
-last_look None d n end h = sym (none_at d (subst (IsPlainTo d) end h))
+    → MatchOption r (NeedsNoEscapeBefore d n) (λ m. position needs_escape d ≡ Some m) → r ≡ position needs_escape d
+last_look None d n end h = sym (none_at d (subst (NeedsNoEscapeBefore d) end h))
 last_look (Some m) d n end h = sym h
 
 abbrev hit : ℕ → ℕ → ℕ
@@ -70,8 +70,8 @@ empty_mask p [] e = refl
 empty_mask p (x ∷ xs) e = unset (p x) _ (length xs) _ (prefix_len-le-length (λ y. not (p y)) xs) (omega arith) (empty_mask p xs)
 
 -- where the mask of n bytes is empty, they are plain
-pub none_in_lanes : (d : List ℕ) (i n : ℕ) → i + n ≤ length d → n ≤ 64 → ((k : ℕ) → Fits w8 (get_or d k 0)) → IsPlainTo d i
-    → mask_l (map (top 7) (lanes_of n (chunk i n d))) % 2 ^ 64 ≡ 0 → IsPlainTo d (i + n)
+pub none_in_lanes : (d : List ℕ) (i n : ℕ) → i + n ≤ length d → n ≤ 64 → ((k : ℕ) → Fits w8 (get_or d k 0)) → NeedsNoEscapeBefore d i
+    → mask_l (map (top 7) (lanes_of n (chunk i n d))) % 2 ^ 64 ≡ 0 → NeedsNoEscapeBefore d (i + n)
 none_in_lanes d i n room few fits plain none k lt =
     let mask = mask_is n (chunk i n d) (length-chunk i n d room) few in
     elim (cases_lt k i) [
@@ -80,7 +80,7 @@ none_in_lanes d i n room few fits plain none k lt =
     ]
 
 -- where it is not, its lowest bit is the first byte to escape
-pub first_in_lanes : (d : List ℕ) (i n : ℕ) → i + n ≤ length d → n ≤ 64 → ((k : ℕ) → Fits w8 (get_or d k 0)) → IsPlainTo d i
+pub first_in_lanes : (d : List ℕ) (i n : ℕ) → i + n ≤ length d → n ≤ 64 → ((k : ℕ) → Fits w8 (get_or d k 0)) → NeedsNoEscapeBefore d i
     → mask_l (map (top 7) (lanes_of n (chunk i n d))) % 2 ^ 64 ≢ 0
     → (count_trailing_zeros 64 (mask_l (map (top 7) (lanes_of n (chunk i n d))) % 2 ^ 64) < n)
     × (position needs_escape d ≡ Some (i + count_trailing_zeros 64 (mask_l (map (top 7) (lanes_of n (chunk i n d))) % 2 ^ 64)))
@@ -93,7 +93,7 @@ first_in_lanes d i n room few fits plain some =
     let counted : r ≡ prefix_len (λ x. not (is_set x)) v = ap (count_trailing_zeros 64) mask ∙ trailing_mask_l is_set 64 v (omega (arith, long)) any in
     let short : r ≢ n = λ e. omega (arith, any, empty_mask is_set v (sym counted ∙ e ∙ sym long)) in
     let within : r < n = omega (arith, short, run_in_chunk_le is_set d i n r 0 room counted) in
-    let before : IsPlainTo d (i + r) = λ k lt.
+    let before : NeedsNoEscapeBefore d (i + r) = λ k lt.
     elim (cases_lt k i) [
       | inl early ↦ plain k early
       | inr late ↦ sym (tells (get_or d k 0) (fits k)) ∙ run_in_chunk_fails is_set d i n r 0 room counted k late lt

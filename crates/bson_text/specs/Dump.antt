@@ -1,19 +1,20 @@
 -- The text of a document.
 use Rattle.std.specs.Prelude.{ℕ, ◌+◌, List, [], ◌++◌, length, codes}
 use Rattle.std.specs.Fmt.{decimal}
+use Rattle.hex.specs.Hex.{encode_lower}
 use Rattle.bson_elem.specs.declared.kinds.Kind.{Kind}
 use Rattle.bson_elem.specs.declared.kinds.Kind.TheVariants.{Double, String, Document, Array, Binary, Undefined, ObjectId, Boolean, DateTime, Null, Regex, DbPointer, Code, Symbol, CodeWithScope, Int32, Timestamp, Int64, Decimal128, MinKey, MaxKey}
 use Rattle.bson_elem.specs.{Beside, Leaf, Tree, binary_value, boolean_value, document, elements, inner_pair, leaf_pair, no_code, no_pairs, number_value, pointer_value, raw_value, regex_value, text_value, timestamp_value, with_code}
 use Rattle.bson_text.specs.Text.{indent, quoted}
-use Rattle.bson_text.specs.ValueText.{double_text, string_text, inner_document_text, array_text, binary_text, objectid_text, boolean_text, datetime_text, regex_text, dbpointer_text, code_text, symbol_text, codescope_text, int32_text, timestamp_text, int64_text, decimal128_text}
+use Rattle.bson_text.specs.ValueText.{string_text, inner_document_text, array_text, binary_text, boolean_text, datetime_text, regex_text, dbpointer_text, code_text, symbol_text, codescope_text, int32_text, timestamp_text, int64_text}
 
--- a leaf of this kind, as its line has it behind the name
+-- a leaf of this kind, as its line has it behind the name; bytes are in file order
 abbrev pub leaf_text : Kind → Leaf → List ℕ
-leaf_text Double (raw_value bytes) = double_text bytes
+leaf_text Double (raw_value bytes) = codes " double " ++ encode_lower bytes
 leaf_text String (text_value words) = string_text words
 leaf_text Binary (binary_value subtype bytes) = binary_text subtype bytes
 leaf_text Undefined (raw_value bytes) = codes " undefined"
-leaf_text ObjectId (raw_value bytes) = objectid_text bytes
+leaf_text ObjectId (raw_value bytes) = codes " objectid " ++ encode_lower bytes
 leaf_text Boolean (boolean_value b) = boolean_text b
 leaf_text DateTime (number_value z) = datetime_text z
 leaf_text Null (raw_value bytes) = codes " null"
@@ -24,7 +25,7 @@ leaf_text Symbol (text_value words) = symbol_text words
 leaf_text Int32 (number_value z) = int32_text z
 leaf_text Timestamp (timestamp_value increment seconds) = timestamp_text seconds increment
 leaf_text Int64 (number_value z) = int64_text z
-leaf_text Decimal128 (raw_value bytes) = decimal128_text bytes
+leaf_text Decimal128 (raw_value bytes) = codes " decimal128 " ++ encode_lower bytes
 leaf_text MinKey (raw_value bytes) = codes " minkey"
 leaf_text MaxKey (raw_value bytes) = codes " maxkey"
 leaf_text _ _ = []

@@ -11,9 +11,9 @@ indent (suc n) = codes "  " ++ indent n
 abbrev pub needs_escape : ℕ → Bool
 needs_escape b = b == 34 || (b == 92 || (nat_lt b 32 || b == 127))
 
--- no byte before place n needs an escape
-abbrev pub IsPlainTo : List ℕ → ℕ → Type 0
-IsPlainTo bytes n = (k : ℕ) → k < n → needs_escape (get_or bytes k 0) ≡ false
+-- no byte before offset n needs an escape
+abbrev pub NeedsNoEscapeBefore : List ℕ → ℕ → Type 0
+NeedsNoEscapeBefore bytes n = (k : ℕ) → k < n → needs_escape (get_or bytes k 0) ≡ false
 
 -- a byte as quoted text has it
 abbrev pub escaped : ℕ → List ℕ

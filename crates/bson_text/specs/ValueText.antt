@@ -4,10 +4,6 @@ use Rattle.std.specs.Fmt.{decimal, signed_decimal}
 use Rattle.hex.specs.Hex.{encode_lower}
 use Rattle.bson_text.specs.Text.{quoted}
 
--- the 8 bytes of a double, in file order
-abbrev pub double_text : List ℕ → List ℕ
-double_text bytes = codes " double " ++ encode_lower bytes
-
 abbrev pub string_text : List ℕ → List ℕ
 string_text text = codes " string " ++ quoted text
 
@@ -28,9 +24,6 @@ data_text (b ∷ rest) = codes " " ++ encode_lower (b ∷ rest)
 abbrev pub binary_text : ℕ → List ℕ → List ℕ
 binary_text subtype bytes =
     codes " binary " ++ (encode_lower (subtype ∷ []) ++ (codes " " ++ (decimal (length bytes) ++ data_text bytes)))
-
-abbrev pub objectid_text : List ℕ → List ℕ
-objectid_text bytes = codes " objectid " ++ encode_lower bytes
 
 abbrev pub boolean_text : Bool → List ℕ
 boolean_text true = codes " boolean true"
@@ -65,7 +58,3 @@ timestamp_text seconds increment = codes " timestamp " ++ (decimal seconds ++ (c
 
 abbrev pub int64_text : ℤ → List ℕ
 int64_text value = codes " int64 " ++ signed_decimal value
-
--- the 16 bytes of a decimal128, in file order
-abbrev pub decimal128_text : List ℕ → List ℕ
-decimal128_text bytes = codes " decimal128 " ++ encode_lower bytes

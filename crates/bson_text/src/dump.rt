@@ -13,8 +13,8 @@ use crate::text::{write_indent, write_number, write_quoted};
 use crate::text_writer::{Failed, TextWriter};
 use crate::value_text::{
     write_array, write_binary, write_boolean, write_code, write_codescope, write_datetime,
-    write_dbpointer, write_decimal128, write_double, write_inner_document, write_int32,
-    write_int64, write_objectid, write_regex, write_string, write_symbol, write_timestamp,
+    write_dbpointer, write_inner_document, write_int32, write_int64, write_raw, write_regex,
+    write_string, write_symbol, write_timestamp,
 };
 use bson_raw::{RawBson, RawDocument, RawIter};
 use core::mem::replace_with;
@@ -27,13 +27,13 @@ fn write_value<W: Write>(value: RawBson<'_>, out: &mut TextWriter<W>) -> Result<
         (Appends (text_contents W.contents out.old) (text_contents W.contents out.new) (value_text v)) }
 {
     match value {
-        RawBson::Double(bytes) => write_double(&bytes, out),
+        RawBson::Double(bytes) => write_raw(b" double ", &bytes, out),
         RawBson::String(text) => write_string(text, out),
         RawBson::Document(document) => write_inner_document(document.as_bytes().len(), out),
         RawBson::Array(array) => write_array(array.as_bytes().len(), out),
         RawBson::Binary { subtype, bytes } => write_binary(subtype, bytes, out),
         RawBson::Undefined => out.write_all(b" undefined"),
-        RawBson::ObjectId(bytes) => write_objectid(&bytes, out),
+        RawBson::ObjectId(bytes) => write_raw(b" objectid ", &bytes, out),
         RawBson::Boolean(value) => write_boolean(value, out),
         RawBson::DateTime(milliseconds) => write_datetime(milliseconds, out),
         RawBson::Null => out.write_all(b" null"),
@@ -47,7 +47,7 @@ fn write_value<W: Write>(value: RawBson<'_>, out: &mut TextWriter<W>) -> Result<
         RawBson::Int32(value) => write_int32(value, out),
         RawBson::Timestamp { increment, seconds } => write_timestamp(seconds, increment, out),
         RawBson::Int64(value) => write_int64(value, out),
-        RawBson::Decimal128(bytes) => write_decimal128(&bytes, out),
+        RawBson::Decimal128(bytes) => write_raw(b" decimal128 ", &bytes, out),
         RawBson::MinKey => out.write_all(b" minkey"),
         RawBson::MaxKey => out.write_all(b" maxkey"),
     }

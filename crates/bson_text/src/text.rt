@@ -4,7 +4,7 @@ ghost use Rattle.std.specs.Prelude.{◌≡◌, ◌+◌, ◌≤◌, MatchOption, 
 ghost use Rattle.std.specs.Io.KnownBytes.{Appends};
 ghost use Rattle.hex.specs.Hex.{encode_lower};
 ghost use Rattle.bson_text.specs.TextWriter.{text_contents};
-ghost use Rattle.bson_text.specs.Text.{IsPlainTo, escaped, indent, needs_escape, quoted};
+ghost use Rattle.bson_text.specs.Text.{NeedsNoEscapeBefore, escaped, indent, needs_escape, quoted};
 
 use crate::text_writer::{Failed, TextWriter};
 use itoa::{Buffer, Integer};
@@ -38,8 +38,8 @@ fn is_escaped(b: u8) -> bool
 /// Returns the offset of the first byte to escape, if it is one of the 16 bytes at offset `at`.
 #[inline(always)]
 fn escaped_in_16(bytes: &[u8], at: usize) -> Option<usize>
-    requires { (at + 16 ≤ length bytes.now) × IsPlainTo bytes.now at }
-    ensures { MatchOption result (IsPlainTo bytes.now (at + 16)) (λ n.
+    requires { (at + 16 ≤ length bytes.now) × NeedsNoEscapeBefore bytes.now at }
+    ensures { MatchOption result (NeedsNoEscapeBefore bytes.now (at + 16)) (λ n.
         position needs_escape bytes.now ≡ Some n) }
 {
     let lanes = u8x16::from_slice(&bytes[at..]);
@@ -56,8 +56,8 @@ fn escaped_in_16(bytes: &[u8], at: usize) -> Option<usize>
 /// Returns the offset of the first byte to escape, if it is one of the 4 bytes at offset `at`.
 #[inline(always)]
 fn escaped_in_4(bytes: &[u8], at: usize) -> Option<usize>
-    requires { (at + 4 ≤ length bytes.now) × IsPlainTo bytes.now at }
-    ensures { MatchOption result (IsPlainTo bytes.now (at + 4)) (λ n.
+    requires { (at + 4 ≤ length bytes.now) × NeedsNoEscapeBefore bytes.now at }
+    ensures { MatchOption result (NeedsNoEscapeBefore bytes.now (at + 4)) (λ n.
         position needs_escape bytes.now ≡ Some n) }
 {
     let lanes = u8x4::from_slice(&bytes[at..]);

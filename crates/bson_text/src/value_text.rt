@@ -1,23 +1,29 @@
 //! The text behind an element's name: a space, the word of the kind and the value, if the kind has one.
 //!
 //! No function here writes the name or the line feed. A kind with no value is its word alone, as
-//! ` null`, and has no function here.
+//! ` null`, and has no function here; those whose values are bytes as they stand share `write_raw`.
 
-ghost use Rattle.std.specs.Prelude.{OnOk};
+ghost use Rattle.std.specs.Prelude.{◌++◌, OnOk};
 ghost use Rattle.std.specs.Io.KnownBytes.{Appends};
+ghost use Rattle.hex.specs.Hex.{encode_lower};
 ghost use Rattle.bson_text.specs.TextWriter.{text_contents};
-ghost use Rattle.bson_text.specs.ValueText.{array_text, binary_text, boolean_text, code_text, codescope_text, datetime_text, dbpointer_text, decimal128_text, inner_document_text, double_text, int32_text, int64_text, objectid_text, regex_text, string_text, symbol_text, timestamp_text};
+ghost use Rattle.bson_text.specs.ValueText.{array_text, binary_text, boolean_text, code_text, codescope_text, datetime_text, dbpointer_text, inner_document_text, int32_text, int64_text, regex_text, string_text, symbol_text, timestamp_text};
 
 use crate::text::{write_hex, write_number, write_quoted};
 use crate::text_writer::{Failed, TextWriter};
 use std::io::Write;
 
-/// Writes ` double ` and 16 digits, the bytes in file order.
-pub(crate) fn write_double<W: Write>(bytes: &[u8; 8], out: &mut TextWriter<W>) -> Result<(), Failed>
+/// Writes `word`, which has a space before and after it, and the digits of the bytes in file order.
+#[inline(always)]
+pub(crate) fn write_raw<W: Write>(
+    word: &[u8],
+    bytes: &[u8],
+    out: &mut TextWriter<W>,
+) -> Result<(), Failed>
     ensures { OnOk result (Appends (text_contents W.contents out.old) (text_contents W.contents out.new)
-        (double_text bytes.now)) }
+        (word.now ++ encode_lower bytes.now)) }
 {
-    out.write_all(b" double ")?;
+    out.write_all(word)?;
     write_hex(bytes, out)
 }
 
@@ -68,18 +74,6 @@ pub(crate) fn write_binary<W: Write>(
         return Ok(());
     }
     out.write_all(b" ")?;
-    write_hex(bytes, out)
-}
-
-/// Writes ` objectid ` and 24 digits.
-pub(crate) fn write_objectid<W: Write>(
-    bytes: &[u8; 12],
-    out: &mut TextWriter<W>,
-) -> Result<(), Failed>
-    ensures { OnOk result (Appends (text_contents W.contents out.old) (text_contents W.contents out.new)
-        (objectid_text bytes.now)) }
-{
-    out.write_all(b" objectid ")?;
     write_hex(bytes, out)
 }
 
@@ -202,16 +196,4 @@ pub(crate) fn write_int64<W: Write>(value: i64, out: &mut TextWriter<W>) -> Resu
 {
     out.write_all(b" int64 ")?;
     write_number(value, out)
-}
-
-/// Writes ` decimal128 ` and 32 digits, the bytes in file order.
-pub(crate) fn write_decimal128<W: Write>(
-    bytes: &[u8; 16],
-    out: &mut TextWriter<W>,
-) -> Result<(), Failed>
-    ensures { OnOk result (Appends (text_contents W.contents out.old) (text_contents W.contents out.new)
-        (decimal128_text bytes.now)) }
-{
-    out.write_all(b" decimal128 ")?;
-    write_hex(bytes, out)
 }

@@ -141,7 +141,7 @@ pub too_large : (text_of : Tree → Option (List ℕ)) (bytes rest texts b after
 too_large text_of bytes rest texts b after any t s is none behind w =
     let all = w.documents ++ t ∷ behind.0 in
     let no_more : texts_of text_of (t ∷ behind.0) ≡ [] = ap (λ (x : Option (List ℕ)). and_then x (texts_of text_of behind.0)) none in
-    let place : first_without text_of 0 all ≡ Some (length (documents_bytes w.documents)) =
+    let offset : first_without text_of 0 all ≡ Some (length (documents_bytes w.documents)) =
     without-joined text_of 0 w.documents (t ∷ behind.0) w.have_texts
     ∙ ap (λ (x : Option (List ℕ)). or_here x (0 + length (documents_bytes w.documents)) (first_without text_of (0 + length (documents_bytes w.documents) + length (document (elements t))) behind.0)) none
     ∙ ap (λ (n : ℕ). Some n) (omega arith) in (
@@ -151,7 +151,7 @@ too_large text_of bytes rest texts b after any t s is none behind w =
       w.any_is ∙ sym (any-without text_of w.documents t behind.0 none),
       w.texts_are ∙ sym (append-nil (texts_of text_of w.documents)) ∙ ap (λ (x : List ℕ). texts_of text_of w.documents ++ x) (sym no_more)
           ∙ sym (texts-joined text_of w.documents (t ∷ behind.0) w.have_texts),
-      subst (λ (x : Option ℕ). IsLast x (length (documents_bytes all)) behind.1 (Some (too_large_line (length bytes - length rest)))) (sym place)
+      subst (λ (x : Option ℕ). IsLast x (length (documents_bytes all)) behind.1 (Some (too_large_line (length bytes - length rest)))) (sym offset)
           (ap (λ (n : ℕ). Some (too_large_line n)) (read_so_far text_of bytes rest texts any w)),
     )
 

@@ -11,7 +11,7 @@ use Rattle.engines.specs.Documents.{TextsAre, IsLast, any_text, texts_of, first_
 
 -- there is one last line at most
 one_last : (without : Option ℕ) (start : ℕ) (rest : List ℕ) (last last' : Option (List ℕ)) → IsBytes rest → IsLast without start rest last → IsLast without start rest last' → last ≡ last'
-one_last (Some place) start rest last last' fits a b = a ∙ sym b
+one_last (Some offset) start rest last last' fits a b = a ∙ sym b
 one_last None start [] last last' fits a b = a ∙ sym b
 one_last None start (x ∷ xs) last last' fits a b =
     a.2 ∙ ap (λ (f : BsonFault). Some (bson_line start f)) (one_front (x ∷ xs) a.0 b.0 fits a.1 b.1) ∙ sym b.2

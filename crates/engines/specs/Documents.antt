@@ -24,19 +24,19 @@ any_text text_of [] = false
 any_text text_of (t ∷ ts) = is_some (text_of t)
 
 abbrev pub or_here : Option (List ℕ) → ℕ → Option ℕ → Option ℕ
-or_here None place others = Some place
-or_here (Some text) place others = others
+or_here None offset others = Some offset
+or_here (Some text) offset others = others
 
--- the place of the first document without a text, if there is one, where the documents begin at this place
+-- the offset of the first document without a text, if there is one, where the documents begin at this offset
 abbrev pub first_without : (Tree → Option (List ℕ)) → ℕ → List Tree → Option ℕ
-first_without text_of place [] = None
-first_without text_of place (t ∷ ts) =
-    or_here (text_of t) place (first_without text_of (place + length (document (elements t))) ts)
+first_without text_of offset [] = None
+first_without text_of offset (t ∷ ts) =
+    or_here (text_of t) offset (first_without text_of (offset + length (document (elements t))) ts)
 
 -- The last line, if there is one: that of the first document without a text; or else that of the rest's fault, which is
--- told at its place in the input, where the rest begins at this place.
+-- told at its offset in the input, where the rest begins at this offset.
 abbrev pub IsLast : Option ℕ → ℕ → List ℕ → Option (List ℕ) → Type 0
-IsLast (Some place) start rest last = last ≡ Some (too_large_line place)
+IsLast (Some offset) start rest last = last ≡ Some (too_large_line offset)
 IsLast None start [] last = last ≡ None
 IsLast None start (b ∷ bs) last = (f : BsonFault) × FrontFault (b ∷ bs) f × (last ≡ Some (bson_line start f))
 

@@ -15,22 +15,22 @@ abbrev pub packed : List ℕ → List ℕ
 packed text = filter (λ b. not (is_space b)) text
 
 -- where packed text is at fault: at its end where its length is odd, else at the first byte that is no digit
-abbrev pub place_of : List ℕ → FromHexError → ℕ
-place_of text OddLength = length text
-place_of text (InvalidHexCharacter c index) = index
-place_of text _ = 0
+abbrev pub offset_of : List ℕ → FromHexError → ℕ
+offset_of text OddLength = length text
+offset_of text (InvalidHexCharacter c index) = index
+offset_of text _ = 0
 
--- the bytes that packed text spells, or the place of its fault
-abbrev pub spelled_or_place : List ℕ → Result (List ℕ) FromHexError → Result (List ℕ) ℕ
-spelled_or_place text (Ok bytes) = Ok bytes
-spelled_or_place text (Err error) = Err (place_of text error)
+-- the bytes that packed text spells, or the offset of its fault
+abbrev pub spelled_or_offset : List ℕ → Result (List ℕ) FromHexError → Result (List ℕ) ℕ
+spelled_or_offset text (Ok bytes) = Ok bytes
+spelled_or_offset text (Err error) = Err (offset_of text error)
 
--- the bytes that an input stands for, or the place of its fault as hexadecimal text
+-- the bytes that an input stands for, or the offset of its fault as hexadecimal text
 abbrev pub bytes_of : Bool → List ℕ → Result (List ℕ) ℕ
 bytes_of false input = Ok input
-bytes_of true input = spelled_or_place (packed input) (decode_of (packed input))
+bytes_of true input = spelled_or_offset (packed input) (decode_of (packed input))
 
 -- the same of an input that was read
 abbrev pub read_bytes : Input → Result (List ℕ) ℕ
 read_bytes (Bytes bytes) = Ok bytes.items
-read_bytes (NotHex place) = Err place
+read_bytes (NotHex offset) = Err offset

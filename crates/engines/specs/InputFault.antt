@@ -10,30 +10,30 @@ use Rattle.engines.specs.declared.input_fault.InputFault.TheVariants.{Hex, Bson,
 
 -- the line of a fault in hexadecimal text
 abbrev pub hex_line : ℕ → List ℕ
-hex_line place = fault_line 0 (codes "Hex") place
+hex_line offset = fault_line 0 (codes "Hex") offset
 
--- the line of a fault in a document, whose own places count from this one
+-- the line of a fault in a document, whose own offsets count from this one
 abbrev pub bson_line : ℕ → BsonFault → List ℕ
 bson_line start f = bson_fault_text (start + f.at) f.cause ++ codes "\n"
 
--- the line of a document at this place whose canonical form is too long
+-- the line of a document at this offset whose canonical form is too long
 abbrev pub too_large_line : ℕ → List ℕ
-too_large_line place = fault_line 16 (codes "TooLarge") place
+too_large_line offset = fault_line 16 (codes "TooLarge") offset
 
--- the line of a message's fault at this place
+-- the line of a message's fault at this offset
 abbrev pub msg_line : ℕ → MsgCause → List ℕ
-msg_line place c = fault_text place c ++ codes "\n"
+msg_line offset c = fault_text offset c ++ codes "\n"
 
--- the line of an input that ends inside the message at this place
+-- the line of an input that ends inside the message at this offset
 abbrev pub ended_inside_line : ℕ → List ℕ
-ended_inside_line place = fault_line 14 (codes "EndedInside") place
+ended_inside_line offset = fault_line 14 (codes "EndedInside") offset
 
 abbrev pub input_fault_line : InputFault → List ℕ
-input_fault_line (Hex place) = hex_line place
+input_fault_line (Hex offset) = hex_line offset
 input_fault_line (Bson f) = bson_fault_text f.at f.cause ++ codes "\n"
-input_fault_line (TooLarge place) = too_large_line place
+input_fault_line (TooLarge offset) = too_large_line offset
 input_fault_line (Msg f) = msg_line f.at f.cause
-input_fault_line (EndedInside place) = ended_inside_line place
+input_fault_line (EndedInside offset) = ended_inside_line offset
 
 -- the line of a fault, if there is one
 abbrev pub line_of : Option InputFault → Option (List ℕ)

@@ -51,8 +51,8 @@ abbrev pub messages_len : List Message → ℕ
 messages_len [] = 0
 messages_len (m ∷ ms) = message_len m.content + messages_len ms
 
--- The last line, if there is one, where the rest begins at this place: that the input ends inside a message, or that of
--- the rest's fault, which is told at its place in the input.
+-- The last line, if there is one, where the rest begins at this offset: that the input ends inside a message, or that of
+-- the rest's fault, which is told at its offset in the input.
 abbrev pub IsLastMsg : ℕ → ℕ → List ℕ → Option (List ℕ) → Type 0
 IsLastMsg limit start [] last = last ≡ None
 IsLastMsg limit start (b ∷ bs) last =

@@ -7,7 +7,7 @@ use Rattle.engines.specs.Input.{bytes_of}
 -- the text of bytes, as Text has it, or the one line of a fault in hexadecimal text
 abbrev pub IsTextOf : (List ℕ → List ℕ → Bool → Type 0) → Result (List ℕ) ℕ → List ℕ → Bool → Type 0
 IsTextOf Text (Ok bytes) text fault = Text bytes text fault
-IsTextOf Text (Err place) text fault = (text ≡ hex_line place) × (fault ≡ true)
+IsTextOf Text (Err offset) text fault = (text ≡ hex_line offset) × (fault ≡ true)
 
 -- what a command writes for an input, where `Text bytes text fault` says what it writes for bytes
 abbrev pub IsOutput : (List ℕ → List ℕ → Bool → Type 0) → Bool → List ℕ → List ℕ → Bool → Type 0

@@ -63,18 +63,18 @@ pub fn write_each<E: EachDocument, W: Write>(
     let mut rest = bytes;
     let mut any = false;
     while !rest.is_empty() {
-        let place = bytes.len() - rest.len();
+        let offset = bytes.len() - rest.len();
         let front = match RawDocument::front_with_form(rest) {
             Ok(front) => front,
             Err(fault) => {
-                let at = place + fault.at;
+                let at = offset + fault.at;
                 let cause = fault.cause;
                 let fault = Some(InputFault::Bson(BsonFault { at, cause }));
                 return Ok(Walk { any, fault });
             }
         };
         if !each.write_document(front.document, front.canonical, out)? {
-            let fault = Some(InputFault::TooLarge { place });
+            let fault = Some(InputFault::TooLarge { offset });
             // The text is a function of all documents in the input, also of those behind this one.
             let _ = documents_split(front.rest);
             return Ok(Walk { any, fault });

@@ -11,12 +11,12 @@ use std::io;
 use std::io::Write;
 use wire_msg::MsgFault;
 
-/// Writes the line of the fault with this number and name, at offset `place` of the input.
-pub fn write_fault<W: Write>(number: u8, name: &str, place: usize, out: &mut W) -> io::Result<()>
+/// Writes the line of the fault with this number and name, at `offset` in the input.
+pub fn write_fault<W: Write>(number: u8, name: &str, offset: usize, out: &mut W) -> io::Result<()>
     ensures { OnOk result (Appends (W.contents out.old) (W.contents out.new)
-        (fault_line number name.now place)) }
+        (fault_line number name.now offset)) }
 {
-    writeln!(out, "fault {number} {name} at {place}")
+    writeln!(out, "fault {number} {name} at {offset}")
 }
 
 /// Writes the line of the fault of a document.

@@ -10,7 +10,7 @@ use std::alloc::{AllocError, Global};
 #[derive(Drop)]
 pub enum Input {
     Bytes(Vec<u8>),
-    NotHex { place: usize },
+    NotHex { offset: usize },
 }
 
 /// Returns true if `b` is a space, a tab, a line feed or a carriage return.
@@ -36,8 +36,8 @@ pub fn decode_hex(alloc: Global, mut text: Vec<u8>) -> Result<Input, AllocError>
     match hex::decode(alloc, text.as_slice()) {
         Ok(bytes) => Ok(Input::Bytes(bytes)),
         Err(FromHexError::OutOfMemory) => Err(AllocError),
-        Err(FromHexError::OddLength) => Ok(Input::NotHex { place: text.len() }),
-        Err(FromHexError::InvalidHexCharacter { index, .. }) => Ok(Input::NotHex { place: index }),
-        Err(FromHexError::InvalidStringLength) => Ok(Input::NotHex { place: 0 }),
+        Err(FromHexError::OddLength) => Ok(Input::NotHex { offset: text.len() }),
+        Err(FromHexError::InvalidHexCharacter { index, .. }) => Ok(Input::NotHex { offset: index }),
+        Err(FromHexError::InvalidStringLength) => Ok(Input::NotHex { offset: 0 }),
     }
 }

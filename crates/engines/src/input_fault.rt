@@ -10,20 +10,20 @@ use std::io;
 use std::io::Write;
 use wire_msg::MsgFault;
 
-/// A fault of an input. A `place` is an offset from the input's first byte.
+/// A fault of an input. An `offset` counts from the input's first byte.
 #[derive(Clone, Copy, Debug, PartialEq, Eq)]
 pub enum InputFault {
-    /// The input isn't hexadecimal text. White space isn't counted in `place`.
-    Hex { place: usize },
+    /// The input isn't hexadecimal text. White space isn't counted in `offset`.
+    Hex { offset: usize },
     /// No document begins where one should.
     Bson(BsonFault),
-    /// The canonical form of the document at `place` has too many bytes for a document.
-    TooLarge { place: usize },
+    /// The canonical form of the document at `offset` has too many bytes for a document.
+    TooLarge { offset: usize },
     /// A message has this fault. If the fault is a document's own, its offset inside the document is
     /// counted from the document's first byte.
     Msg(MsgFault),
-    /// The input ends inside the message at `place`.
-    EndedInside { place: usize },
+    /// The input ends inside the message at `offset`.
+    EndedInside { offset: usize },
 }
 
 impl InputFault {
@@ -33,11 +33,11 @@ impl InputFault {
             (input_fault_line self)) }
     {
         match self {
-            InputFault::Hex { place } => write_fault(0, "Hex", place, out),
+            InputFault::Hex { offset } => write_fault(0, "Hex", offset, out),
             InputFault::Bson(fault) => write_bson_fault(fault, out),
-            InputFault::TooLarge { place } => write_fault(16, "TooLarge", place, out),
+            InputFault::TooLarge { offset } => write_fault(16, "TooLarge", offset, out),
             InputFault::Msg(fault) => write_msg_fault(fault, out),
-            InputFault::EndedInside { place } => write_fault(14, "EndedInside", place, out),
+            InputFault::EndedInside { offset } => write_fault(14, "EndedInside", offset, out),
         }
     }
 }

@@ -50,7 +50,7 @@ fn write_each<W: Write>(
                 Ok(()) => rest = after,
                 Err(_) => return Err(RunEnd::InOut),
             },
-            MsgFront::Open => return Ok(Some(InputFault::EndedInside { place: start })),
+            MsgFront::Open => return Ok(Some(InputFault::EndedInside { offset: start })),
             MsgFront::Bad(fault) => return Ok(Some(fault_in_message(start, fault))),
         }
     }

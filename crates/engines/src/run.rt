@@ -156,7 +156,7 @@ fn write_output<E: Engine, W: Write>(engine: &E, input: &Input, out: &mut W) -> 
 {
     match input {
         Input::Bytes(bytes) => engine.write_text(bytes, out),
-        Input::NotHex { place } => match (InputFault::Hex { place: *place }).write(out) {
+        Input::NotHex { offset } => match (InputFault::Hex { offset: *offset }).write(out) {
             Ok(()) => Ok(true),
             Err(_) => Err(RunEnd::InOut),
         },

@@ -1,5 +1,6 @@
 //! Owned documents by their bytes (bsonspec.org, version 1.1), and that calls succeed where memory is there.
 
+use crate::each_kind::EACH_KIND;
 use crate::hex_bytes::bytes_of;
 use bson_doc::laws::round_trip;
 use bson_doc::{Array, Bson, DocRefusal, Document};
@@ -57,29 +58,20 @@ fn is_written_as(alloc: Global, hex: &str, written: &str) -> bool {
     }
 }
 
-const KEPT: [&str; 21] = [
-    "10000000 01 7600 000000000000f03f 00",
-    "0e000000 02 7600 02000000 6300 00",
+// A document, an array and a scope, and two pairs.
+const KEPT: [&str; 4] = [
     "0d000000 03 7600 05000000 00 00",
     "14000000 04 7600 0c000000 10 3000 01000000 00 00",
-    "0f000000 05 7600 02000000 00 aabb 00",
-    "13000000 05 7600 06000000 02 02000000 aabb 00",
-    "08000000 06 7600 00",
-    "14000000 07 7600 000102030405060708090a0b 00",
-    "09000000 08 7600 01 00",
-    "10000000 09 7600 ffffffffffffffff 00",
-    "08000000 0a 7600 00",
-    "0e000000 0b 7600 612e6200 6900 00",
-    "1a000000 0c 7600 02000000 6300 000102030405060708090a0b 00",
-    "0e000000 0d 7600 02000000 6300 00",
-    "0e000000 0e 7600 02000000 6300 00",
     "17000000 0f 7600 0f000000 02000000 6300 05000000 00 00",
-    "0c000000 10 7600 ffffffff 00",
-    "10000000 11 7600 0100000002000000 00",
-    "10000000 12 7600 ffffffffffffffff 00",
-    "18000000 13 7600 0100000000000000000000000000 4030 00",
     "0b000000 ff 6100 7f 6200 00",
 ];
+
+#[test]
+fn values_are_read_and_written(rt: HostRuntime) {
+    for (hex, _, _) in &EACH_KIND {
+        assert!(rt; is_written_as(rt.alloc(), hex, hex), "{hex}");
+    }
+}
 
 #[test]
 fn documents_are_read_and_written(rt: HostRuntime) {

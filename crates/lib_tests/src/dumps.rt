@@ -3,6 +3,7 @@
 
 ghost use Rattle.std.specs.Prelude.{◌≤◌};
 
+use crate::each_kind::EACH_KIND;
 use crate::hex_bytes::bytes_of;
 use bson_doc::{dump_elements, dump_to};
 use bson_raw::RawDocument;
@@ -32,8 +33,8 @@ fn is_dumped_as(alloc: Global, digits: &str, text: &str) -> bool {
     }
 }
 
-// A document of one element, for each kind; and containers in containers, whose elements follow their line.
-const ROWS: [(&str, &str); 25] = [
+// The empty document, a name of five letters, and containers in containers, whose elements follow their line.
+const ROWS: [(&str, &str); 4] = [
     ("05000000 00", "document 5\n"),
     (
         "16000000 02 68656c6c6f00 06000000 776f726c6400 00",
@@ -47,82 +48,17 @@ const ROWS: [(&str, &str); 25] = [
         "10000000 03 7600 08000000 0a 7700 00 00",
         "document 16\n  \"v\" document 8\n    \"w\" null\n",
     ),
-    (
-        "10000000 01 7600 000000000000f03f 00",
-        "document 16\n  \"v\" double 000000000000f03f\n",
-    ),
-    (
-        "0f000000 05 7600 02000000 00 aabb 00",
-        "document 15\n  \"v\" binary 00 2 aabb\n",
-    ),
-    (
-        "0d000000 05 7600 00000000 00 00",
-        "document 13\n  \"v\" binary 00 0\n",
-    ),
-    (
-        "0e000000 05 7600 01000000 ff 00 00",
-        "document 14\n  \"v\" binary ff 1 00\n",
-    ),
-    (
-        "13000000 05 7600 06000000 02 02000000 aabb 00",
-        "document 19\n  \"v\" binary 02 2 aabb\n",
-    ),
-    ("08000000 06 7600 00", "document 8\n  \"v\" undefined\n"),
-    (
-        "14000000 07 7600 000102030405060708090a0b 00",
-        "document 20\n  \"v\" objectid 000102030405060708090a0b\n",
-    ),
-    (
-        "09000000 08 7600 01 00",
-        "document 9\n  \"v\" boolean true\n",
-    ),
-    (
-        "09000000 08 7600 00 00",
-        "document 9\n  \"v\" boolean false\n",
-    ),
-    (
-        "10000000 09 7600 ffffffffffffffff 00",
-        "document 16\n  \"v\" datetime -1\n",
-    ),
-    ("08000000 0a 7600 00", "document 8\n  \"v\" null\n"),
-    (
-        "0e000000 0b 7600 612e6200 6900 00",
-        "document 14\n  \"v\" regex \"a.b\" \"i\"\n",
-    ),
-    (
-        "1a000000 0c 7600 02000000 6300 000102030405060708090a0b 00",
-        "document 26\n  \"v\" dbpointer \"c\" 000102030405060708090a0b\n",
-    ),
-    (
-        "0e000000 0d 7600 02000000 6300 00",
-        "document 14\n  \"v\" code \"c\"\n",
-    ),
-    (
-        "0e000000 0e 7600 02000000 6300 00",
-        "document 14\n  \"v\" symbol \"c\"\n",
-    ),
-    (
-        "0c000000 10 7600 00000080 00",
-        "document 12\n  \"v\" int32 -2147483648\n",
-    ),
-    (
-        "10000000 11 7600 01000000 02000000 00",
-        "document 16\n  \"v\" timestamp 2 1\n",
-    ),
-    (
-        "10000000 12 7600 0000000000000080 00",
-        "document 16\n  \"v\" int64 -9223372036854775808\n",
-    ),
-    (
-        "18000000 13 7600 01000000000000000000000000004030 00",
-        "document 24\n  \"v\" decimal128 01000000000000000000000000004030\n",
-    ),
-    ("08000000 ff 7600 00", "document 8\n  \"v\" minkey\n"),
-    ("08000000 7f 7600 00", "document 8\n  \"v\" maxkey\n"),
 ];
 
 #[test]
 fn one_element_of_each_kind(rt: HostRuntime) {
+    for (digits, _, text) in &EACH_KIND {
+        assert!(rt; is_dumped_as(rt.alloc(), digits, text), "{digits}");
+    }
+}
+
+#[test]
+fn containers_in_containers(rt: HostRuntime) {
     for (digits, text) in &ROWS {
         assert!(rt; is_dumped_as(rt.alloc(), digits, text), "{digits}");
     }

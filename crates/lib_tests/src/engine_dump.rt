@@ -63,7 +63,7 @@ const DOCUMENTS: [(&str, &str, RunEnd); 13] = [
     ),
 ];
 
-/// The first fault in the order of the checks, and its place.
+/// The first fault in the order of the checks, and its offset.
 const FAULTS: [(&str, &str, RunEnd); 13] = [
     ("050000", "fault 1 Truncated at 0\n", RunEnd::Fault),
     ("04000000", "fault 2 Length at 0\n", RunEnd::Fault),

@@ -4,9 +4,9 @@ use engines::write_fault;
 use std::alloc::Global;
 
 /// Returns true if this line is written for the fault.
-fn has_line(alloc: Global, number: u8, name: &str, place: usize, line: &str) -> bool {
+fn has_line(alloc: Global, number: u8, name: &str, offset: usize, line: &str) -> bool {
     let mut out = Vec::new(alloc);
-    write_fault(number, name, place, &mut out).is_ok() && out.as_slice() == line.as_bytes()
+    write_fault(number, name, offset, &mut out).is_ok() && out.as_slice() == line.as_bytes()
 }
 
 #[test]

@@ -204,7 +204,7 @@ const SECTION_FAULTS: [(&str, &str, RunEnd); 5] = [
     ),
 ];
 
-/// Places are counted from the start of the input, but those in a document from its first byte.
+/// Offsets are counted from the start of the input, but those in a document from its first byte.
 const SECOND_FAULTS: [(&str, &str, RunEnd); 3] = [
     (
         "1a000000 01000000 00000000 dd070000 00000000 00 0500000000 1a000000 02000000 00000000 dd070000 00000000 00 0500000001",

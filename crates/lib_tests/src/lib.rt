@@ -17,6 +17,8 @@ mod documents;
 #[cfg(test)]
 mod dumps;
 #[cfg(test)]
+mod each_kind;
+#[cfg(test)]
 mod elements;
 #[cfg(test)]
 mod engine_canon;

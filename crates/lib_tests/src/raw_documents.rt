@@ -2,16 +2,11 @@
 
 ghost use Rattle.std.specs.Prelude.{◌≤◌};
 
+use crate::each_kind::EACH_KIND;
 use crate::hex_bytes::bytes_of;
 use bson_elem::{BsonCause, Kind};
 use bson_raw::{RawBson, RawDocument};
 use std::alloc::Global;
-
-const ID: [u8; 12] = [0, 1, 2, 3, 4, 5, 6, 7, 8, 9, 10, 11];
-
-const ONE: [u8; 8] = [0, 0, 0, 0, 0, 0, 0xf0, 0x3f];
-
-const DIGITS: [u8; 16] = [1, 0, 0, 0, 0, 0, 0, 0, 0, 0, 0, 0, 0, 0, 0x40, 0x30];
 
 /// Returns true if `from_bytes` takes the bytes as a document whose value named "v" is this one.
 fn is_whole(bytes: &[u8], value: RawBson<'_>) -> bool {
@@ -37,81 +32,9 @@ fn is_seen(alloc: Global, hex: &str, value: RawBson<'_>) -> bool {
     }
 }
 
-const VALUES: [(&str, RawBson<'static>); 21] = [
-    ("10000000 01 7600 000000000000f03f 00", RawBson::Double(ONE)),
-    ("0e000000 02 7600 02000000 6300 00", RawBson::String("c")),
-    (
-        "0f000000 05 7600 02000000 00 aabb 00",
-        RawBson::Binary {
-            subtype: 0,
-            bytes: b"\xaa\xbb",
-        },
-    ),
-    (
-        "0d000000 05 7600 00000000 00 00",
-        RawBson::Binary {
-            subtype: 0,
-            bytes: b"",
-        },
-    ),
-    (
-        "13000000 05 7600 06000000 02 02000000 aabb 00",
-        RawBson::Binary {
-            subtype: 2,
-            bytes: b"\xaa\xbb",
-        },
-    ),
-    ("08000000 06 7600 00", RawBson::Undefined),
-    (
-        "14000000 07 7600 000102030405060708090a0b 00",
-        RawBson::ObjectId(ID),
-    ),
-    ("09000000 08 7600 01 00", RawBson::Boolean(true)),
-    ("09000000 08 7600 00 00", RawBson::Boolean(false)),
-    (
-        "10000000 09 7600 ffffffffffffffff 00",
-        RawBson::DateTime(-1),
-    ),
-    ("08000000 0a 7600 00", RawBson::Null),
-    (
-        "0e000000 0b 7600 612e6200 6900 00",
-        RawBson::Regex {
-            pattern: "a.b",
-            options: "i",
-        },
-    ),
-    (
-        "1a000000 0c 7600 02000000 6300 000102030405060708090a0b 00",
-        RawBson::DbPointer {
-            namespace: "c",
-            id: ID,
-        },
-    ),
-    ("0e000000 0d 7600 02000000 6300 00", RawBson::Code("c")),
-    ("0e000000 0e 7600 02000000 6300 00", RawBson::Symbol("c")),
-    ("0c000000 10 7600 00000080 00", RawBson::Int32(-2147483648)),
-    (
-        "10000000 11 7600 01000000 02000000 00",
-        RawBson::Timestamp {
-            increment: 1,
-            seconds: 2,
-        },
-    ),
-    (
-        "10000000 12 7600 0000000000000080 00",
-        RawBson::Int64(-9223372036854775808),
-    ),
-    (
-        "18000000 13 7600 01000000000000000000000000004030 00",
-        RawBson::Decimal128(DIGITS),
-    ),
-    ("08000000 ff 7600 00", RawBson::MinKey),
-    ("08000000 7f 7600 00", RawBson::MaxKey),
-];
-
 #[test]
 fn values(rt: HostRuntime) {
-    for (hex, value) in &VALUES {
+    for (hex, value, _) in &EACH_KIND {
         assert!(rt; is_seen(rt.alloc(), hex, *value), "{hex}");
     }
 }

@@ -25,7 +25,7 @@ split_of bytes rest ts offset last w (is_nothing none is) = walked_all bytes ts 
 split_of bytes rest ts offset last w (is_bad f some front is) = walked_to_fault bytes ts rest f w front
 
 offset_is : (bytes rest : List ℕ) (ts : List Tree) (offset : ℕ) → Walked bytes ts rest → offset + length rest ≡ length bytes → offset ≡ length (documents_bytes ts)
-offset_is bytes rest ts offset w place = omega (arith, place, ap length w.parts, length-append (documents_bytes ts) rest)
+offset_is bytes rest ts offset w at = omega (arith, at, ap length w.parts, length-append (documents_bytes ts) rest)
 
 abbrev check : ℕ → ℕ → FirstFault → DocumentsCheck
 check d n f = record { documents = d; bytes_read = n; fault = f }
@@ -35,8 +35,8 @@ same_check ts last d n f a b e = rw (a, b, e) refl
 
 pub told : (bytes rest : List ℕ) (ts : List Tree) (d n : ℕ) (last : Option BsonFault) (f : FirstFault) → Walked bytes ts rest → d ≡ length ts → n + length rest ≡ length bytes
     → EndsAs n rest last → f ≡ first_fault last → IsDocumentsCheck bytes (check d n f)
-told bytes rest ts d n last f w counted place ends is =
-    let size = offset_is bytes rest ts n w place in
+told bytes rest ts d n last f w counted at ends is =
+    let size = offset_is bytes rest ts n w at in
     (ts, rest, split_of bytes rest ts n last w ends, last, subst (λ (x : ℕ). EndsAs x rest last) size ends, same_check ts last d n f counted size is)
 
 abbrev walk : ℕ → ℕ → ℕ → ℕ → FirstFault → DocumentsWalk
@@ -48,6 +48,6 @@ same_walk ts last d n e s f a b g h i = rw (a, b, g, h, i) refl
 
 pub told_walk : (bytes rest : List ℕ) (ts : List Tree) (d n e s : ℕ) (last : Option BsonFault) (f : FirstFault) → Walked bytes ts rest → d ≡ length ts → n + length rest ≡ length bytes
     → e ≡ sum_by elements_in ts → s ≡ sum_by sizes_in ts → EndsAs n rest last → f ≡ first_fault last → IsDocumentsWalk bytes (walk d n e s f)
-told_walk bytes rest ts d n e s last f w counted place elements sizes ends is =
-    let size = offset_is bytes rest ts n w place in
+told_walk bytes rest ts d n e s last f w counted at elements sizes ends is =
+    let size = offset_is bytes rest ts n w at in
     (ts, rest, split_of bytes rest ts n last w ends, last, subst (λ (x : ℕ). EndsAs x rest last) size ends, same_walk ts last d n e s f counted size elements sizes is)

@@ -3,11 +3,11 @@ use Rattle.bson_doc.specs.declared.arrays.Array.TheDeep.{size-Array, size-Docume
 use Rattle.bson_doc.specs.Bson.{value_of}
 use Rattle.bson_doc.proofs.+same.Given as goal
 
-abbrev pub invariant-arrays::ArrayPartialEq::eq-loop-place : goal.invariant-arrays::ArrayPartialEq::eq-loop-place
-invariant-arrays::ArrayPartialEq::eq-loop-place l = map value_of (take l.place l.value-items) ≡ map value_of (take l.place l.other-inside.values.items)
+abbrev pub invariant-arrays::ArrayPartialEq::eq-loop-i : goal.invariant-arrays::ArrayPartialEq::eq-loop-i
+invariant-arrays::ArrayPartialEq::eq-loop-i l = map value_of (take l.i l.value-items) ≡ map value_of (take l.i l.other-inside.values.items)
 
-abbrev pub invariant-documents::DocumentPartialEq::eq-loop-place : goal.invariant-documents::DocumentPartialEq::eq-loop-place
-invariant-documents::DocumentPartialEq::eq-loop-place l = map value_of (take l.place l.value-items) ≡ map value_of (take l.place l.other-inside.values.items)
+abbrev pub invariant-documents::DocumentPartialEq::eq-loop-i : goal.invariant-documents::DocumentPartialEq::eq-loop-i
+invariant-documents::DocumentPartialEq::eq-loop-i l = map value_of (take l.i l.value-items) ≡ map value_of (take l.i l.other-inside.values.items)
 
 abbrev pub decreases-arrays::ArrayPartialEq::eq : goal.decreases-arrays::ArrayPartialEq::eq
 decreases-arrays::ArrayPartialEq::eq l = max (size-Array l.self.now) (size-Array l.other.now)

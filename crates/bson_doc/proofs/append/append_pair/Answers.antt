@@ -5,7 +5,7 @@ use Rattle.bson_elem.specs.Kinds.{byte_of}
 use Rattle.bson_raw.specs.Spelled.{IsSpelled}
 use Rattle.bson_elem.specs.declared.number.TheConstants.{MAX_LEN}
 use Rattle.bson_doc.specs.Bson.{value_of}
-use Rattle.bson_doc.specs.Last.{with_last}
+use Rattle.bson_doc.specs.Appended.{with_pair_appended}
 use Rattle.bson_doc.specs.Refusals.{IsLengthRefusal}
 use Rattle.bson_doc.specs.Values.{element_bytes}
 use Rattle.bson_doc.proofs.Appending.{least, cut_is, restored, elements_more, spells_more, name_refused, value_refused, size_refused}
@@ -65,4 +65,4 @@ returns-clause-added c = λ t spelled.
     (elements_more t bytes (c.len-end.result - 1) c.byte.result c.args.name.now v spelled.parts last (c.byte.ensures ∙ ap byte_of c.kind.ensures)) c.in_default.ensures.added (omega (arith, c.in_default.ensures.within))
 
 pub returns-clause-spelled : goal.returns-clause-spelled
-returns-clause-spelled c = ∥∥₁_map c.requires (λ s. (with_last c.args.name.now (value_of c.args.value.now) s.0, returns-clause-added c s.0 s.1))
+returns-clause-spelled c = ∥∥₁_map c.requires (λ s. (with_pair_appended c.args.name.now (value_of c.args.value.now) s.0, returns-clause-added c s.0 s.1))

@@ -11,9 +11,9 @@ use Rattle.bson_doc.specs.Values.{plain_value, value_kind, value_bytes, element_
 use Rattle.bson_doc.proofs.Values.{elements-first, kind_shown, four_more, no_fewer, one_element}
 use Rattle.bson_doc.proofs.element.+write.Goals as goal
 
-pub write_document-overflow_add-place : goal.write_document-overflow_add-place
-write_document-overflow_add-place t c =
-    count_fits (c.loop-name.place + 1) c.args.document.bytes.now c.args.document.spelled (λ whole spelled.
+pub write_document-overflow_add-index : goal.write_document-overflow_add-index
+write_document-overflow_add-index t c =
+    count_fits (c.loop-name.index + 1) c.args.document.bytes.now c.args.document.spelled (λ whole spelled.
     let left = c.loop-name.invariant.3 whole spelled in
     let first = c.in-Some.ensures.steps.1.0 left.0 left.2 in
     let names = ap names_of first.is_first ∙ names_of-with_first c.in-Some.name.now first.tree_value first.others in
@@ -28,13 +28,13 @@ write_document-loop-name-preserved t c = (
       let left = c.loop-name.invariant.3 whole spelled in
       let first = c.in-Some.ensures.steps.1.0 left.0 left.2 in
       let names = ap names_of first.is_first ∙ names_of-with_first c.in-Some.name.now first.tree_value first.others in
-      let this : List ℕ = element_bytes (name_at c.args.in_array c.loop-name.place c.in-Some.name.now) (plain_value first.tree_value) in
-      let others : List ℕ = elements (plain_from c.args.in_array (c.loop-name.place + 1) first.others) in (
+      let this : List ℕ = element_bytes (name_at c.args.in_array c.loop-name.index c.in-Some.name.now) (plain_value first.tree_value) in
+      let others : List ℕ = elements (plain_from c.args.in_array (c.loop-name.index + 1) first.others) in (
         first.others,
         left.1 ++ this,
         first.left,
         c.in_ok-write_element.ensures.added first.tree_value first.shown ∙ ap (λ (x : List ℕ). x ++ this) left.3 ∙ append_assoc c.begin.new.out.items left.1 this,
-        left.4 ∙ ap (λ (x : List ℕ). left.1 ++ x) (ap (λ (x : Tree). elements (plain_from c.args.in_array c.loop-name.place x)) first.is_first ∙ elements-first c.args.in_array c.loop-name.place c.in-Some.name.now first.tree_value first.others) ∙ sym (append_assoc left.1 this others),
+        left.4 ∙ ap (λ (x : List ℕ). left.1 ++ x) (ap (λ (x : Tree). elements (plain_from c.args.in_array c.loop-name.index x)) first.is_first ∙ elements-first c.args.in_array c.loop-name.index c.in-Some.name.now first.tree_value first.others) ∙ sym (append_assoc left.1 this others),
         omega (arith, left.5, ap length names),
       ),
 )
@@ -62,7 +62,7 @@ write_scope-put_len-requires-clause-begun t c =
 pub write_element-returns-clause-added : goal.write_element-returns-clause-added
 write_element-returns-clause-added t c = λ v shown.
     let kind : c.byte.result ≡ byte_of (value_kind (plain_value v)) = c.byte.ensures ∙ ap byte_of (c.kind.ensures ∙ kind_shown c.args.value v shown) in
-    let name : List ℕ = cstring (name_at c.args.in_array c.args.place c.args.name.now) in
+    let name : List ℕ = cstring (name_at c.args.in_array c.args.index c.args.name.now) in
     subst (λ (x : List ℕ). OnOk c.write_value.result (c.write_value.new.out.items ≡ x))
     (one_element c.args.out.now.items c.push.new.self.items c.write_name.new.out.items c.byte.result (byte_of (value_kind (plain_value v))) name (value_bytes (plain_value v)) kind c.in_ok-push.ensures.items c.in_ok-write_name.ensures.added)
     (c.write_value.ensures.added v shown)

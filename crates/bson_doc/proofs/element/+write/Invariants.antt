@@ -28,5 +28,5 @@ invariant-write_document-loop-name l =
     (walked_len l.name-iterator ≡ length (document_bytes l.fn.document)) ×
     ((t : Tree) → Spells t (document_bytes l.fn.document) → (rest : Tree) × (added : List ℕ) × PairsLeft l.name-iterator rest
     × (l.out.items ≡ l.initial.out.items ++ added)
-    × (elements (plain_from l.in_array 0 t) ≡ added ++ elements (plain_from l.in_array l.place rest))
-    × (length (names_of t) ≡ l.place + length (names_of rest)))
+    × (elements (plain_from l.in_array 0 t) ≡ added ++ elements (plain_from l.in_array l.index rest))
+    × (length (names_of t) ≡ l.index + length (names_of rest)))

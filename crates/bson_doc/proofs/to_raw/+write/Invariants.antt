@@ -24,9 +24,9 @@ invariant-write_document-loop-name l = record {
   written : Written (tree_of l.document) (tree_of l.name-iterator) l.initial.out.items l.out.items;
 }
 
-abbrev pub invariant-write_array-loop-place : goal.invariant-write_array-loop-place
-invariant-write_array-loop-place l =
-    let left = array_tree l.place (map value_of (drop l.place l.value-items)) in record {
+abbrev pub invariant-write_array-loop-index : goal.invariant-write_array-loop-index
+invariant-write_array-loop-index l =
+    let left = array_tree l.index (map value_of (drop l.index l.value-items)) in record {
       deep : tree_depth left ≤ tree_depth (array_tree 0 l.array);
       written : Written (array_tree 0 l.array) left l.initial.out.items l.out.items;
     }

@@ -3,4 +3,4 @@ use Rattle.bson_doc.proofs.Writing.{name_text, always}
 use Rattle.bson_doc.proofs.to_raw.write_head.Goals as goal
 
 pub returns-clause-text : goal.returns-clause-text
-returns-clause-text c = always c.write_name.result (name_text c.args.in_array c.args.place c.args.name.now (omega arith) c.utf8.name)
+returns-clause-text c = always c.write_name.result (name_text c.args.in_array c.args.index c.args.name.now (omega arith) c.utf8.name)

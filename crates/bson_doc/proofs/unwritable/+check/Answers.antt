@@ -7,7 +7,7 @@ use Rattle.bson_doc.specs.Bson.{value_of}
 use Rattle.bson_doc.specs.Depths.{tree_depth}
 use Rattle.bson_doc.specs.Document.{tree_of}
 use Rattle.bson_doc.specs.Unwritable.{unwritable}
-use Rattle.bson_doc.proofs.Checking.{passes, value_fails, no_zero_in_place, values_left, array_left, tree_depth-with_first}
+use Rattle.bson_doc.proofs.Checking.{passes, value_fails, no_zero_in_index, values_left, array_left, tree_depth-with_first}
 use Rattle.bson_doc.proofs.Owned.{document_plain, document_unique, array_plain, array_unique, none_left}
 use Rattle.bson_doc.proofs.unwritable.+check.Goals as goal
 
@@ -24,7 +24,7 @@ check_array-loop-value-preserved t c =
     let cut = values_left c.as_slice-value-items.result.now c.loop-value.value-index c.value-item.result c.loop-value-test.true c.value-item.is in
     record {
       deep = omega (arith, c.loop-value.invariant.deep, ap tree_depth next, tree_depth-with_first (decimal c.loop-value.value-index) (value_of c.value-item.result) (array_tree (c.loop-value.value-index + 1) (map value_of (drop (c.loop-value.value-index + 1) c.as_slice-value-items.result.now))));
-      left = c.loop-value.invariant.left ∙ ap (unwritable c.args.depth) next ∙ passes c.args.depth (decimal c.loop-value.value-index) (value_of c.value-item.result) (array_tree (c.loop-value.value-index + 1) (map value_of (drop (c.loop-value.value-index + 1) c.as_slice-value-items.result.now))) (no_zero_in_place c.loop-value.value-index small) c.in_ok-check_value.ensures.reason;
+      left = c.loop-value.invariant.left ∙ ap (unwritable c.args.depth) next ∙ passes c.args.depth (decimal c.loop-value.value-index) (value_of c.value-item.result) (array_tree (c.loop-value.value-index + 1) (map value_of (drop (c.loop-value.value-index + 1) c.as_slice-value-items.result.now))) (no_zero_in_index c.loop-value.value-index small) c.in_ok-check_value.ensures.reason;
       owned = λ rest. c.loop-value.invariant.owned (rw cut (record { plain = c.in_ok-check_value.ensures.canonical; unique = c.in_ok-check_value.ensures.unique }, rest));
     }
 
@@ -34,7 +34,7 @@ check_array-returns-in_err-check_value-clause-reason t c =
     let small : c.loop-value.value-index < 2 ^ 64 = omega arith in
     let told = err_from_is_err_and c.from_residual.result c.from_residual.ensures.1 in
     rw (told.1, told.2)
-    (c.loop-value.invariant.left ∙ ap (unwritable c.args.depth) next ∙ value_fails c.args.depth (decimal c.loop-value.value-index) (value_of c.value-item.result) (array_tree (c.loop-value.value-index + 1) (map value_of (drop (c.loop-value.value-index + 1) c.as_slice-value-items.result.now))) c.in_err-check_value.field-0.0 (no_zero_in_place c.loop-value.value-index small) c.in_err-check_value.ensures.reason)
+    (c.loop-value.invariant.left ∙ ap (unwritable c.args.depth) next ∙ value_fails c.args.depth (decimal c.loop-value.value-index) (value_of c.value-item.result) (array_tree (c.loop-value.value-index + 1) (map value_of (drop (c.loop-value.value-index + 1) c.as_slice-value-items.result.now))) c.in_err-check_value.field-0.0 (no_zero_in_index c.loop-value.value-index small) c.in_err-check_value.ensures.reason)
 
 pub check_document-returns-clause-canonical : goal.check_document-returns-clause-canonical
 check_document-returns-clause-canonical t c =

@@ -12,8 +12,8 @@ returns-clause-read c =
     let n = c.in-Ok-read_length.read.0 in
     let rest = c.in-Ok-read_text.read.1.now in
     let same : from_le_bytes w32 (take 4 rest) ≡ total - 8 - n = search rules in
-    let place : c.args.from + 8 + n ≡ c.args.from + length c.args.bytes.now - length c.in_ok-scope.rest.now - length c.in_ok-scope.scope.now =
+    let offset : c.args.from + 8 + n ≡ c.args.from + length c.args.bytes.now - length c.in_ok-scope.rest.now - length c.in_ok-scope.scope.now =
     omega (arith, c.in-Ok.ensures.parts, c.in-Ok-read_length.ensures.parts, c.in-Ok-read_text.ensures.parts, c.in_ok-scope.ensures.parts) in
     scope_read c.args.at c.args.from c.args.bytes.now total c.in-Ok.read.1.now n c.in-Ok-read_length.read.1.now c.in-Ok-read_text.read.0.now rest (elements_of c.in_ok-scope.scope.now) c.in_ok-scope.rest.now
     c.in-Ok.ensures.read (omega arith) c.in-Ok-read_length.ensures.read (omega arith) c.in-Ok-read_text.ensures.read same c.in_ok-scope.ensures.read
-    ∙ ap (λ (k : ℕ). Ok (opens k (with_code c.in-Ok-read_text.read.0.now) (elements_of c.in_ok-scope.scope.now), c.in_ok-scope.rest.now)) place
+    ∙ ap (λ (k : ℕ). Ok (opens k (with_code c.in-Ok-read_text.read.0.now) (elements_of c.in_ok-scope.scope.now), c.in_ok-scope.rest.now)) offset

@@ -13,7 +13,7 @@ returns-clause-read c =
     let whole = c.unwrap-2.result.0.now in
     let rest = c.unwrap-2.result.1.now in
     let words = c.reread_text.result.0.now in
-    let place : c.args.from + 8 + c.unwrap-n.result.0 ≡ c.args.from + length c.args.bytes.now - length rest - length whole = omega (arith, total.parts, n.parts, d.parts) in
+    let offset : c.args.from + 8 + c.unwrap-n.result.0 ≡ c.args.from + length c.args.bytes.now - length rest - length whole = omega (arith, total.parts, n.parts, d.parts) in
     checked_scope c.args.at c.args.from c.args.bytes.now c.unwrap.result.0 c.unwrap.result.1.now c.unwrap-n.result.0 c.unwrap-n.result.1.now words c.reread_text.result.1.now (elements_of whole) rest
     c.requires.checked total.read n.read c.reread_text.ensures.read d.read
-    ∙ ap (λ (k : ℕ). Ok (opens k (with_code words) (elements_of whole), rest)) place
+    ∙ ap (λ (k : ℕ). Ok (opens k (with_code words) (elements_of whole), rest)) offset

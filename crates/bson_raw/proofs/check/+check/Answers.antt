@@ -8,7 +8,7 @@ use Rattle.bson_elem.specs.Faults.{Before, FaultIn}
 use Rattle.bson_raw.specs.Naming.{is_array_kind}
 use Rattle.bson_raw.specs.Checks.{IsTree}
 use Rattle.bson_raw.proofs.Naming.{array_byte, named_more, counted_more}
-use Rattle.bson_raw.proofs.Steps.{IsHead, is_head, end_failed, kind_failed, name_failed, value_failed, IsPassed, passed, Passes, Inside, inside_of, leaf_passed, inner_passed, fault_here, fault_inside, fault_after, Before-joined, joined_place}
+use Rattle.bson_raw.proofs.Steps.{IsHead, is_head, end_failed, kind_failed, name_failed, value_failed, IsPassed, passed, Passes, Inside, inside_of, leaf_passed, inner_passed, fault_here, fault_inside, fault_after, Before-joined, joined_offset}
 use Rattle.bson_raw.proofs.check.+check.Goals as goal
 use Rattle.bson_raw.proofs.check.+check.Goals.{check_pair-In-Ok, check_pair-In_ok-document, check_pair-then-canonical, check_pair-else-canonical}
 
@@ -29,7 +29,7 @@ check_elements-loop-offset-preserved t c =
       (
         joined i.3.0 n.2.pair,
         Before-joined c.args.depth (slice_range c.args.bytes.now (c.args.start + 4) c.args.end) (slice_range c.args.bytes.now c.loop-offset.offset c.args.end) (slice_range c.args.bytes.now c.in_ok-offset.field-0-0 c.args.end) i.3.0 n.2.pair i.3.1 before,
-        omega (arith, joined_place (c.args.start + 4) i.3.0 n.2.pair, i.3.2, n.2.size, n.0),
+        omega (arith, joined_offset (c.args.start + 4) i.3.0 n.2.pair, i.3.2, n.2.size, n.0),
         counted_more c.loop-offset.index n.2.name i.3.0 n.2.pair i.3.3 n.2.is_one,
         named_more c.args.in_array c.loop-offset.canonical c.in_ok-offset.field-0-1 c.loop-offset.index i.3.0 n.2.pair i.3.4 i.3.3 n.2.named,
       ),

@@ -1,19 +1,19 @@
 use Rattle.std.proofs.Common.{sym, ◌∙◌, ap, Some, get_or, string_bytes, length-append, ◌∷◌, [], ◌+◌}
 use Rattle.bson_doc.specs.Bson.{value_of}
-use Rattle.bson_doc.proofs.Pairs.{value_there, value_nowhere, put_there, put_last, place_found, place_absent}
+use Rattle.bson_doc.proofs.Pairs.{value_there, value_nowhere, put_there, put_last, index_found, index_absent}
 use Rattle.bson_doc.proofs.documents.Document.insert.Goals as goal
 
 pub returns-in-Some-clause-ok : goal.returns-in-Some-clause-ok
 returns-in-Some-clause-ok c =
     let keys = c.self.inside.names.keys in
-    let f = place_found (string_bytes c.args.name) keys c.in-Some.index (rw c.as_str.ensures.value at (sym c.get_index_of.ensures.index ∙ c.in-Some.is)) in
+    let f = index_found (string_bytes c.args.name) keys c.in-Some.index (rw c.as_str.ensures.value at (sym c.get_index_of.ensures.index ∙ c.in-Some.is)) in
     let v = put_there (string_bytes c.args.name) keys c.self.inside.values.items c.args.value c.self.invariant f.1 in
     rw (← c.self.view_is, c.replace-before.ensures.after) (rw f.0 at v)
 
 pub returns-in-Some-clause-before : goal.returns-in-Some-clause-before
 returns-in-Some-clause-before c =
     let keys = c.self.inside.names.keys in
-    let f = place_found (string_bytes c.args.name) keys c.in-Some.index (rw c.as_str.ensures.value at (sym c.get_index_of.ensures.index ∙ c.in-Some.is)) in
+    let f = index_found (string_bytes c.args.name) keys c.in-Some.index (rw c.as_str.ensures.value at (sym c.get_index_of.ensures.index ∙ c.in-Some.is)) in
     let v = value_there (string_bytes c.args.name) keys c.self.inside.values.items c.index_mut.result.now c.self.invariant f.1 in
     let old = c.replace-before.ensures.value ∙ c.index_mut.ensures.value in
     rw (← c.self.view_is) (ap (λ b. Some (value_of b)) (old ∙ ap (λ i. get_or c.self.inside.values.items i c.index_mut.result.now) (sym f.0)) ∙ sym v)
@@ -21,13 +21,13 @@ returns-in-Some-clause-before c =
 pub returns-in-Ok-push-clause-before : goal.returns-in-Ok-push-clause-before
 returns-in-Ok-push-clause-before c =
     let keys = c.self.inside.names.keys in
-    let f = place_absent (string_bytes c.args.name) keys (rw c.as_str.ensures.value at (sym c.get_index_of.ensures.index ∙ c.in-None.is)) in
+    let f = index_absent (string_bytes c.args.name) keys (rw c.as_str.ensures.value at (sym c.get_index_of.ensures.index ∙ c.in-None.is)) in
     rw (← c.self.view_is) (sym (value_nowhere (string_bytes c.args.name) keys c.self.inside.values.items f))
 
 pub returns-in-Ok-push-clause-ok : goal.returns-in-Ok-push-clause-ok
 returns-in-Ok-push-clause-ok c =
     let keys = c.self.inside.names.keys in
-    let f = place_absent (string_bytes c.args.name) keys (rw c.as_str.ensures.value at (sym c.get_index_of.ensures.index ∙ c.in-None.is)) in
+    let f = index_absent (string_bytes c.args.name) keys (rw c.as_str.ensures.value at (sym c.get_index_of.ensures.index ∙ c.in-None.is)) in
     let v = put_last c.args.name keys c.self.inside.values.items c.args.value c.self.invariant f in
     let none = rw (c.in-None.is, c.as_str.ensures.value) at c.get_index_of.ensures.found in
     let ks = rw (sym none) at c.in-Ok-insert.ensures.keys in
@@ -44,11 +44,11 @@ invariant_of-self-in-None c =
 pub returns-in_default-clause-present : goal.returns-in_default-clause-present
 returns-in_default-clause-present c = λ h.
     let keys = c.self.inside.names.keys in
-    let f = place_absent (string_bytes c.args.name) keys (rw c.as_str.ensures.value at (sym c.get_index_of.ensures.index ∙ c.in-None.is)) in
+    let f = index_absent (string_bytes c.args.name) keys (rw c.as_str.ensures.value at (sym c.get_index_of.ensures.index ∙ c.in-None.is)) in
     rw (← c.self.view_is, value_nowhere (string_bytes c.args.name) keys c.self.inside.values.items f) at h
 
 pub returns-in-Err-clause-present : goal.returns-in-Err-clause-present
 returns-in-Err-clause-present c = λ h.
     let keys = c.self.inside.names.keys in
-    let f = place_absent (string_bytes c.args.name) keys (rw c.as_str.ensures.value at (sym c.get_index_of.ensures.index ∙ c.in-None.is)) in
+    let f = index_absent (string_bytes c.args.name) keys (rw c.as_str.ensures.value at (sym c.get_index_of.ensures.index ∙ c.in-None.is)) in
     rw (← c.self.view_is, value_nowhere (string_bytes c.args.name) keys c.self.inside.values.items f) at h

@@ -1,5 +1,5 @@
 use Rattle.bson_text.proofs.Progress.{word_first}
-use Rattle.bson_text.proofs.value_text.write_decimal128.Goals as goal
+use Rattle.bson_text.proofs.value_text.write_raw.Goals as goal
 
 pub returns : goal.returns
 returns g c = word_first _ _ _ _ _ _ c.in_ok-write_all.ensures.bytes c.write_hex.ensures
