@@ -4,8 +4,8 @@
     bench/generate.py KIND BYTES FILE
 
 writes at least BYTES bytes to FILE: a block of about a million bytes, made from a fixed seed, again and
-again. KIND is one of those that `bench/generate.py` alone lists; `nested-N` is N documents deep, and
-`wide-N` has N fields.
+again. KIND is one of those that `bench/generate.py` alone lists; `nested-N` is N documents deep, `wide-N`
+has N fields, and `names-N` is a message whose body has N. `one` is a single message of just BYTES bytes.
 """
 
 import random
@@ -152,18 +152,43 @@ def unwrapped(rng):
     return b"".join(message_parts(rng))
 
 
+def message_of(body, documents=None):
+    """A message with a body, and with a sequence where there are documents."""
+    sections = b"\0" + body
+    if documents is not None:
+        held = cstring("documents") + documents
+        sections += b"\1" + struct.pack("<i", len(held) + 4) + held
+    return struct.pack("<iiiiI", len(sections) + 20, 1, 0, 2013, 0) + sections
+
+
 def message(rng):
     """A message with a body, and a sequence of ten documents."""
+    return message_of(*message_parts(rng))
+
+
+def ping(_):
+    """A message of 51 bytes."""
+    return message_of(document([element(*named) for named in ((0x10, "ping", struct.pack("<i", 1)), (0x02, "$db", string("admin")))]))
+
+
+def names(_, count=1000):
+    """A message whose body has so many fields, of short names."""
+    return message_of(document(element(0x10, str(place), struct.pack("<i", place)) for place in range(count)))
+
+
+def one_message(rng, size):
+    """A message of so many bytes, with a sequence of small documents, and of one that fills it up."""
     body, documents = message_parts(rng)
-    held = cstring("documents") + documents
-    sections = b"\0" + body + b"\1" + struct.pack("<i", len(held) + 4) + held
-    return struct.pack("<iiiiI", len(sections) + 20, 1, 0, 2013, 0) + sections
+    left = size - len(message_of(body, b""))
+    documents *= max(0, left - 16) // len(documents)
+    left -= len(documents)
+    return message_of(body, documents + document([element(0x05, "data", struct.pack("<i", left - 16) + b"\0" + bytes(left - 16))]))
 
 
 KINDS = {
     "small": small, "flat": flat, "wide": wide, "nested": nested, "bushy": bushy, "ascii": ascii_text,
     "utf8": other_text, "binary": binary, "numbers": numbers, "messages": message,
-    "unwrapped": unwrapped,
+    "unwrapped": unwrapped, "pings": ping, "names": names,
 }
 
 
@@ -172,17 +197,17 @@ def maker(kind):
     name, _, size = kind.partition("-")
     if not size:
         return KINDS.get(kind)
-    if name not in ("nested", "wide") or not size.isdigit():
+    if name not in ("nested", "wide", "names") or not size.isdigit():
         return None
     return lambda rng: KINDS[name](rng, int(size))
 
 
 def main():
-    make = maker(sys.argv[1]) if len(sys.argv) == 4 else None
+    kind, size = (sys.argv[1], int(sys.argv[2])) if len(sys.argv) == 4 else (None, 0)
+    make = (lambda rng: one_message(rng, size)) if kind == "one" else maker(kind or "")
     if not make:
-        print(" ".join(KINDS))
+        print(" ".join([*KINDS, "one"]))
         return 2
-    size = int(sys.argv[2])
     rng = random.Random(1)
     parts, held = [], 0
     while held < min(BLOCK, size):

@@ -1,8 +1,14 @@
-//! Tests of links and outputs, by what no contract says: that calls succeed where memory is there, and what a TCP link does
+//! Tests of readers, links and outputs, by what no contract says: that calls succeed where memory is there, and what a TCP link does
 //! over a stream. They stand in a crate of their own, since a crate is proved once more with its tests.
 #![tactic(auto)]
 
 #[cfg(test)]
 mod links;
+#[cfg(test)]
+mod messages_in_pieces;
+#[cfg(test)]
+mod readers;
+#[cfg(test)]
+mod stream_refusals;
 #[cfg(test)]
 mod tcp_links;

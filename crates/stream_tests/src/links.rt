@@ -2,33 +2,40 @@
 
 use bson_raw::RawDocument;
 use std::alloc::Global;
-use wire_msg::{MsgFlags, PayloadBuf};
+use wire_msg::{MsgFlags, MsgRefusal, PayloadBuf};
 use wire_stream::{Inlet, Link, LinkFault, MemLink, OutBuf, Pulled, flush};
 
 /// `{"a": 1}`.
 const BODY: &[u8; 12] = b"\x0c\0\0\0\x10a\0\x01\0\0\0\0";
 
 /// The body above as the answer to request 7, with id 3 and moreToCome.
-const REPLY: &[u8; 33] =
+pub(crate) const REPLY: &[u8; 33] =
     b"\x21\0\0\0\x03\0\0\0\x07\0\0\0\xdd\x07\0\0\x02\0\0\0\0\x0c\0\0\0\x10a\0\x01\0\0\0\0";
 
-/// Appends the reply to the output. Returns true if it was appended.
-fn push_payload(out: &mut OutBuf, payload: &PayloadBuf) -> bool {
+/// Appends the reply to the output. Its payload is the body.
+///
+/// # Errors
+///
+/// As `push_msg`.
+pub(crate) fn push_payload(out: &mut OutBuf, payload: &PayloadBuf) -> Result<(), MsgRefusal> {
     let flags = MsgFlags {
         more: true,
         allows: false,
     };
-    out.push_msg(3, 7, flags, payload.as_payload(), 33).is_ok()
+    out.push_msg(3, 7, flags, payload.as_payload(), 33)
 }
 
-/// Like `push_payload`, with the payload made of the body.
+/// Returns the payload of the body.
+pub(crate) fn body_payload(alloc: Global) -> Option<PayloadBuf> {
+    let body = RawDocument::from_bytes(BODY).ok()?;
+    PayloadBuf::new(alloc, body).ok()
+}
+
+/// Like `push_payload`, with the payload made of the body. Returns true if the reply was appended.
 fn push_reply(alloc: Global, out: &mut OutBuf) -> bool {
-    let Ok(body) = RawDocument::from_bytes(BODY) else {
-        return false;
-    };
-    match PayloadBuf::new(alloc, body) {
-        Ok(payload) => push_payload(out, &payload),
-        Err(_) => false,
+    match body_payload(alloc) {
+        Some(payload) => push_payload(out, &payload).is_ok(),
+        None => false,
     }
 }
 
@@ -45,7 +52,7 @@ fn sends(alloc: Global, link: &mut MemLink, flushed: Result<(), LinkFault>, coun
 }
 
 /// Returns a link that gives these bytes.
-fn link_of(alloc: Global, input: &[u8], room: usize) -> Option<MemLink> {
+pub(crate) fn link_of(alloc: Global, input: &[u8], room: usize) -> Option<MemLink> {
     let bytes = Vec::from_slice(alloc, input).ok()?;
     MemLink::new(alloc, bytes, room).ok()
 }
