@@ -7,6 +7,8 @@ mod links;
 #[cfg(test)]
 mod messages_in_pieces;
 #[cfg(test)]
+mod pieces;
+#[cfg(test)]
 mod readers;
 #[cfg(test)]
 mod stream_refusals;

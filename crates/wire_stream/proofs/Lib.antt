@@ -1,3 +1,4 @@
 pub mod KnownBytes
 pub mod OutBufs
 pub mod Readings
+pub mod Cuttings
