@@ -9,6 +9,8 @@ mod messages_in_pieces;
 #[cfg(test)]
 mod pieces;
 #[cfg(test)]
+mod pieces_refusals;
+#[cfg(test)]
 mod readers;
 #[cfg(test)]
 mod stream_refusals;

@@ -5,7 +5,7 @@ use wire_msg::{MsgCause, MsgFault};
 use wire_stream::{MsgBuf, PiecesRead, ReadEnd, ReaderState, read_pieces};
 
 /// `{"ping": 1, "$db": "admin"}` as request 1.
-const PING: &[u8; 51] =
+pub(crate) const PING: &[u8; 51] =
     b"\x33\0\0\0\x01\0\0\0\0\0\0\0\xdd\x07\0\0\0\0\0\0\0\x1e\0\0\0\x10ping\0\x01\0\0\0\x02$db\0\x06\0\0\0admin\0\0";
 
 /// The first 9 bytes of the header of a message of 51 bytes with opcode 2004.
@@ -32,12 +32,12 @@ fn are_pings(messages: &[MsgBuf]) -> bool {
 }
 
 /// Returns true if these are two pings and nothing behind them.
-fn is_two_pings(read: &PiecesRead) -> bool {
+pub(crate) fn is_two_pings(read: &PiecesRead) -> bool {
     read.messages.len() == 2 && are_pings(&read.messages) && read.reader.end() == ReadEnd::Ended
 }
 
 /// Returns true if the pieces are read as two pings.
-fn reads_two(alloc: Global, pieces: &[&[u8]]) -> bool {
+pub(crate) fn reads_two(alloc: Global, pieces: &[&[u8]]) -> bool {
     match read_pieces(alloc, 48_000_000, pieces) {
         Ok(read) => is_two_pings(&read),
         Err(_) => false,

@@ -15,7 +15,7 @@ use Rattle.wire_stream.specs.declared.reader_state.ReaderState.TheVariants.{Bad,
 use Rattle.wire_stream.specs.Cutting.{AnnouncesMore, Cuts, SpellEach, all, bad, joined}
 use Rattle.wire_stream.specs.Gathering.{Gathered, Gathers}
 use Rattle.wire_stream.specs.Readers.{CompletesHeader, Feeds, HoldsNoMore, StandsAt}
-use Rattle.wire_stream.proofs.Readings.{ready_is}
+use Rattle.wire_stream.proofs.Readings.{ready_is, tail_is}
 
 -- ---- lists of bytes, joined
 
@@ -38,17 +38,9 @@ each_spelled limit (m ∷ ms) (x ∷ found) each = (x, joined found, each.0, eac
 
 -- ---- what is gathered
 
--- nothing of a piece was taken
-pub none_taken : (limit : ℕ) (bytes held piece : List ℕ) (found : List (List ℕ)) → Gathered limit bytes found held → Gathered limit (bytes ++ take 0 piece) found held
-none_taken limit bytes held piece found g = subst (λ (x : List ℕ). Gathered limit x found held) (sym (append-nil bytes)) g
-
 -- nothing at all
 pub nothing_yet : (limit : ℕ) → Gathered limit [] [] []
 nothing_yet limit = record { messages = []; spelled = tt; parts = refl }
-
--- what stands from an offset on
-pub tail_is : (n : ℕ) (xs : List ℕ) → take (length xs - n) (drop n xs) ≡ drop n xs
-tail_is n xs = ap (λ (k : ℕ). take k (drop n xs)) (sym (length-drop n xs)) ∙ take-length (drop n xs)
 
 -- more of a piece was taken
 pub taken_on : (limit : ℕ) (bytes held new piece : List ℕ) (found : List (List ℕ)) (at n : ℕ) → new ≡ held ++ take n (take (length piece - at) (drop at piece)) → Gathered limit (bytes ++ take at piece) found held → Gathered limit (bytes ++ take (at + n) piece) found new

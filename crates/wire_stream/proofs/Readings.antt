@@ -203,7 +203,7 @@ refused_fed limit old new piece len n None kept le before size full count is goo
 refused_fed limit old new piece len n (Some message) kept le before size full count is good = absurd (omega (arith, kept.header, le))
 
 -- what stands from an offset on
-tail_is : (n : ℕ) (xs : List ℕ) → take (length xs - n) (drop n xs) ≡ drop n xs
+pub tail_is : (n : ℕ) (xs : List ℕ) → take (length xs - n) (drop n xs) ≡ drop n xs
 tail_is n xs = ap (λ (k : ℕ). take k (drop n xs)) (sym (length-drop n xs)) ∙ take-length (drop n xs)
 
 pub good_fed : (limit : ℕ) (old new piece items : List ℕ) (len n : ℕ) (message : Option (Vec ℕ Global)) (fed : Fed) → IsKept limit old len message → length (held_of old len message) < 16 → length new ≡ 16 → 16 ≤ len + n → n ≡ min (length piece) (16 - len) → take (len + n) new ≡ take len old ++ take n piece → Feeds limit new (take (length piece - n) (drop n piece)) items fed → Feeds limit (held_of old len message) piece items (record { taken = n + fed.taken; state = fed.state })

@@ -15,7 +15,8 @@ SpellEach limit [] [] = Unit {0}
 SpellEach limit (m ∷ ms) (b ∷ bs) = SpellsMsg m b × (length b ≤ limit) × SpellEach limit ms bs
 SpellEach limit messages found = ⊥
 
--- what is held of a rest: all of it where it is open; of a bad one as many first bytes as show the fault
+-- What is held of a rest: all of it where it is open, and else the first bytes that have the fault, a bad header's or as
+-- many as a good one announces.
 pub data IsHeldOf : ℕ → List ℕ → List ℕ → Type 0 where
   all : {limit : ℕ} {rest held : List ℕ} → IsOpen limit rest → held ≡ rest → IsHeldOf limit rest held
   bad : {limit : ℕ} {rest held : List ℕ} (f : MsgFault) (untaken : List ℕ) → IsBad limit held f → HoldsNoMore limit held → rest ≡ held ++ untaken → IsHeldOf limit rest held

@@ -20,7 +20,8 @@ pub struct PiecesRead {
 }
 
 /// Returns the messages of at most `limit` bytes that stand in the bytes of `pieces`, however these are cut, and a reader
-/// that holds the rest. Of a rest that is bad it holds as many bytes as show the fault; those behind them aren't taken.
+/// that holds the rest. Of a rest that is bad it holds the 16 bytes of a bad header, or as many as a good one announces; those
+/// behind them aren't taken.
 ///
 /// # Errors
 ///
@@ -45,6 +46,10 @@ pub fn read_pieces(alloc: Global, limit: u32, pieces: &[&[u8]]) -> Result<Pieces
 
 /// Feeds the piece to a reader that wants more, and moves each message that becomes whole out of it, to the end of
 /// `messages`. Tells how many bytes of the piece were taken, and where the reader stands then.
+///
+/// # Errors
+///
+/// `OutOfMemory` where memory is wanting.
 fn read_piece(
     reader: &mut MsgReader,
     messages: &mut Vec<MsgBuf>,
