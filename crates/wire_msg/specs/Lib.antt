@@ -19,6 +19,7 @@ pub mod Writing
 pub mod Buf
 pub mod Fields
 -- the words that clauses of other crates cite
+pub use Rattle.wire_msg.specs.Buf.{BufCarries, IsBodyRefusal, body_alone}
 pub use Rattle.wire_msg.specs.Carrying.{Carries}
 pub use Rattle.wire_msg.specs.Causes.{msg_fault}
 pub use Rattle.wire_msg.specs.Documents.{DocumentsAre}

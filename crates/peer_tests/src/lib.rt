@@ -1,0 +1,18 @@
+//! Tests of peers, by what no contract says: that calls succeed where memory is there, what is sent byte for byte, and that
+//! the definitions mean the protocol. They stand in a crate of their own, since a crate is proved once more with its tests.
+#![tactic(auto)]
+
+#[cfg(test)]
+mod handlers;
+#[cfg(test)]
+mod log_refusals;
+#[cfg(test)]
+mod logs;
+#[cfg(test)]
+mod server_refusals;
+#[cfg(test)]
+mod servers;
+#[cfg(test)]
+mod serving;
+#[cfg(test)]
+mod serving_refusals;

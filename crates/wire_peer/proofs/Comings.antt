@@ -1,0 +1,76 @@
+-- What was received so far, and how a reader comes nearer to a message.
+use Rattle.std.proofs.Common.{◌≡◌, ◌≢◌, ℕ, ◌+◌, ◌-◌, ◌<◌, ◌≤◌, inl, inr, List, [], ◌∷◌, ◌++◌, length, take, drop, Option, refl, ap, arith, subst, sym, ◌∙◌, append_assoc, take-append-drop, length-append, length-take}
+use Rattle.std.specs.Io.KnownBytes.{Appends}
+use Rattle.std.proofs.KnownBytes.{Appends-trans}
+use Rattle.bson_elem.specs.{IsBytes}
+use Rattle.bson_elem.proofs.Lemmas.{IsBytes-drop, IsBytes-take}
+use Rattle.wire_msg.proofs.Lemmas.{bytes_append}
+use Rattle.wire_msg.specs.{IsBad, IsOpen}
+use Rattle.wire_msg.specs.Standing.{in_header}
+use Rattle.wire_msg.specs.declared.fault.MsgFault.{MsgFault}
+use Rattle.std.proofs.lemmas.Grind.{common_steps}
+use Rattle.wire_stream.specs.{HoldsNoMore, StandsAt}
+use Rattle.wire_stream.specs.declared.reader_state.ReaderState.{ReaderState}
+use Rattle.wire_stream.specs.declared.reader_state.ReaderState.TheVariants.{Need, Bad}
+use Rattle.wire_stream.specs.declared.reader_state.ReadEnd.{ReadEnd}
+use Rattle.wire_stream.specs.declared.reader_state.ReadEnd.TheVariants.{Ended, EndedInside}
+
+-- a pull and a feed behind what came before, in the clauses of the calls
+pub came_on : (a b c : Option (List ℕ)) (held piece s more got piece' out held2 piece2 : List ℕ) (n : ℕ)
+    → Appends a b more → held ++ piece ≡ s ++ more → Appends b c got
+    → piece' ≡ piece ++ got → out ≡ piece' → held2 ≡ held ++ take n out → piece2 ≡ drop n piece'
+    → (all : List ℕ) × Appends a c all × (held2 ++ piece2 ≡ s ++ all)
+came_on a b c held piece s more got piece' out held2 piece2 n k e l p o f g = (
+  more ++ got,
+  Appends-trans a b c more got k l,
+  rw (f, g, o) (append_assoc held (take n piece') (drop n piece') ∙ ap (λ q. held ++ q) (take-append-drop n piece' ∙ p)
+      ∙ sym (append_assoc held piece got) ∙ ap (λ q. q ++ got) e ∙ append_assoc s more got),
+)
+
+-- a pull alone
+pub pulled_on : (a b c : Option (List ℕ)) (held piece s more got piece2 : List ℕ)
+    → Appends a b more → held ++ piece ≡ s ++ more → Appends b c got → piece2 ≡ piece ++ got
+    → (all : List ℕ) × Appends a c all × (held ++ piece2 ≡ s ++ all)
+pulled_on a b c held piece s more got piece2 k e l f =
+    (more ++ got, Appends-trans a b c more got k l, rw f (sym (append_assoc held piece got) ∙ ap (λ q. q ++ got) e ∙ append_assoc s more got))
+
+-- a reader holds no more than a header has and its limit together
+holds_within : (limit : ℕ) (held : List ℕ) → HoldsNoMore limit held → length held ≤ limit + 16
+holds_within limit held (inl short) = omega arith
+holds_within limit held (inr good) = let most = good.0.most in let within = good.1 in omega arith
+
+-- what a reader may hold, less what it holds, after one more byte at least
+pub nearer : (limit limit2 : ℕ) (held held2 piece : List ℕ) (n : ℕ) → limit2 ≡ limit → held2 ≡ held ++ take n piece → n ≡ length piece → 0 < length piece → HoldsNoMore limit2 held2
+    → (limit2 + 17) - length held2 < (limit + 17) - length held
+nearer limit limit2 held held2 piece n same e f some no_more =
+    let l : length held2 ≡ length held + length (take n piece) = ap length e ∙ length-append held (take n piece) in
+    let m : length (take n piece) ≡ length piece = rw f (simp length-take (omega arith)) in
+    let w = holds_within limit2 held2 no_more in
+    omega arith
+
+-- where a reader ends between messages, and what it holds could be more of one, it holds nothing
+pub ended_empty : (held : List ℕ) (r : ReadEnd) → (held ≢ [] → r ≡ EndedInside) → r ≡ Ended → held ≡ []
+ended_empty [] r inside is = refl
+ended_empty (x ∷ held) r inside is = absurd (let e : EndedInside ≡ Ended = sym (inside (λ n. cc)) ∙ is in cc)
+
+-- what a reader holds, and what is held behind it, are bytes after a piece was fed
+pub held_bytes : (held held2 out : List ℕ) (n : ℕ) → IsBytes held → held2 ≡ held ++ take n out → IsBytes out → IsBytes held2
+held_bytes held held2 out n h e o = subst IsBytes (sym e) (bytes_append held (take n out) h (IsBytes-take n out o))
+
+pub both_bytes : (held held2 piece piece2 out : List ℕ) (n : ℕ) → IsBytes held → held2 ≡ held ++ take n out → out ≡ piece → piece2 ≡ drop n piece → IsBytes out → IsBytes (held2 ++ piece2)
+both_bytes held held2 piece piece2 out n h e same f o =
+    bytes_append held2 piece2 (held_bytes held held2 out n h e o) (subst IsBytes (sym f) (IsBytes-drop n piece (subst IsBytes same o)))
+
+-- nothing is open, and bytes
+pub begun_open : (limit : ℕ) (held : List ℕ) → held ≡ [] → IsOpen limit held
+begun_open limit held e = subst (IsOpen limit) (sym e) (in_header (omega arith))
+
+pub begun_bytes : (held : List ℕ) → held ≡ [] → IsBytes held
+begun_bytes held e = subst IsBytes (sym e) (λ i. grind (arith, common_steps))
+
+-- a reader that stands where it wants more holds open bytes
+pub still_open : (old limit' : ℕ) (held : List ℕ) (s : ReaderState) → StandsAt old held s → s ≡ Need → limit' ≡ old → IsOpen limit' held
+still_open old limit' held s stands need same = subst (λ n. IsOpen n held) (sym same) (subst (StandsAt old held) need stands)
+
+pub still_bad : (old limit' : ℕ) (held : List ℕ) (s : ReaderState) (f : MsgFault) → StandsAt old held s → s ≡ Bad f → limit' ≡ old → IsBad limit' held f
+still_bad old limit' held s f stands bad same = subst (λ n. IsBad n held f) (sym same) (subst (StandsAt old held) bad stands)

@@ -1,0 +1,10 @@
+pub mod ContentLaws
+pub mod ChainLaws
+pub mod CountLaws
+pub mod LogLaws
+pub mod Lemmas
+pub mod SplitFronts
+pub mod Comings
+pub mod Serves
+pub mod OneAnswer
+pub mod ServerLaws

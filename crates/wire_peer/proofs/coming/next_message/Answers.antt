@@ -1,0 +1,81 @@
+use Rattle.std.proofs.Common.{◌∙◌, ◌++◌, [], append-nil, ap, refl, sym}
+use Rattle.std.proofs.KnownBytes.{Appends-nil, Keeps-refl, Keeps-trans}
+use Rattle.wire_peer.proofs.Comings.{begun_bytes, begun_open, both_bytes, came_on, ended_empty, held_bytes, pulled_on, still_bad, still_open}
+use Rattle.wire_peer.proofs.coming.next_message.Goals as goal
+
+pub returns-in-Err-clause-received : goal.returns-in-Err-clause-received
+returns-in-Err-clause-received g c =
+    let i = c.loop-reader.invariant.received in
+    let p = c.pull.ensures.received in
+    pulled_on _ _ _ c.loop-reader.reader.held c.loop-reader.inlet _ i.0 p.0 _ i.1 i.2 p.1 p.2
+
+pub returns-in-Ended-clause-received : goal.returns-in-Ended-clause-received
+returns-in-Ended-clause-received g c =
+    let i = c.loop-reader.invariant.received in
+    let p = c.pull.ensures.received in
+    pulled_on _ _ _ c.loop-reader.reader.held c.loop-reader.inlet _ i.0 p.0 _ i.1 i.2 p.1 p.2
+
+pub returns-in-EndedInside-clause-received : goal.returns-in-EndedInside-clause-received
+returns-in-EndedInside-clause-received g c =
+    let i = c.loop-reader.invariant.received in
+    let p = c.pull.ensures.received in
+    pulled_on _ _ _ c.loop-reader.reader.held c.loop-reader.inlet _ i.0 p.0 _ i.1 i.2 p.1 p.2
+
+pub returns-in-Ready-clause-received : goal.returns-in-Ready-clause-received
+returns-in-Ready-clause-received g c =
+    let i = c.loop-reader.invariant.received in
+    let p = c.pull.ensures.received in
+    came_on _ _ _ c.loop-reader.reader.held c.loop-reader.inlet _ i.0 p.0 _ c.bytes.result.now _ _ c.in_ok-fed.fed.taken i.1 i.2 p.1 p.2 c.bytes.ensures c.in_ok-fed.ensures.fed.held c.used.ensures
+
+pub returns-in-Bad-clause-received : goal.returns-in-Bad-clause-received
+returns-in-Bad-clause-received g c =
+    let i = c.loop-reader.invariant.received in
+    let p = c.pull.ensures.received in
+    came_on _ _ _ c.loop-reader.reader.held c.loop-reader.inlet _ i.0 p.0 _ c.bytes.result.now _ _ c.in_ok-fed.fed.taken i.1 i.2 p.1 p.2 c.bytes.ensures c.in_ok-fed.ensures.fed.held c.used.ensures
+
+pub loop-reader-init : goal.loop-reader-init
+loop-reader-init g c = record {
+  limit = refl;
+  begun = begun_open _ _ c.requires;
+  bytes = begun_bytes _ c.requires;
+  received = ([], Appends-nil _, ap (λ q. q ++ c.args.inlet.now) c.requires ∙ sym (append-nil c.args.inlet.now));
+  sent = Keeps-refl _;
+  works = refl;
+  ends = refl;
+}
+
+pub returns-in-Ended-clause-came : goal.returns-in-Ended-clause-came
+returns-in-Ended-clause-came g c =
+    let found = rw c.in-Ok-End.field-0-is at c.in-Ok-End.ensures.found in
+    (ended_empty _ _ (c.end.ensures.inside c.loop-reader.invariant.begun) c.in-Ended.is, found.0, rw (sym c.loop-reader.invariant.ends) found.1)
+
+pub returns-in_err-fed-clause-received : goal.returns-in_err-fed-clause-received
+returns-in_err-fed-clause-received g c =
+    let i = c.loop-reader.invariant.received in
+    let p = c.pull.ensures.received in
+    rw c.in_err-fed.ensures.unchanged (pulled_on _ _ _ c.loop-reader.reader.held c.loop-reader.inlet _ i.0 p.0 _ i.1 i.2 p.1 p.2)
+
+pub loop-reader-preserved : goal.loop-reader-preserved
+loop-reader-preserved g c =
+    let i = c.loop-reader.invariant.received in
+    let p = c.pull.ensures.received in
+    let fed = c.in_ok-fed.ensures.fed in
+    let found = rw c.in-Ok-Bytes.field-0-is at c.in-Ok-Bytes.ensures.found in
+    record {
+      limit = c.feed_piece.ensures.limit ∙ c.loop-reader.invariant.limit;
+      begun = still_open _ _ _ _ fed.state c.in-Need.is c.feed_piece.ensures.limit;
+      bytes = held_bytes _ _ c.bytes.result.now _ c.loop-reader.invariant.bytes fed.held c.feed_piece.ensures.bytes;
+      received = came_on _ _ _ c.loop-reader.reader.held c.loop-reader.inlet _ i.0 p.0 _ c.bytes.result.now _ _ c.in_ok-fed.fed.taken i.1 i.2 p.1 p.2 c.bytes.ensures fed.held c.used.ensures;
+      sent = Keeps-trans _ _ _ c.loop-reader.invariant.sent c.pull.ensures.sent;
+      works = c.in-Ok-Bytes.ensures.works ∙ c.loop-reader.invariant.works;
+      ends = found.1 ∙ c.loop-reader.invariant.ends;
+    }
+
+pub returns-in-Bad-clause-came : goal.returns-in-Bad-clause-came
+returns-in-Bad-clause-came g c =
+    let fed = c.in_ok-fed.ensures.fed in
+    let found = rw c.in-Ok-Bytes.field-0-is at c.in-Ok-Bytes.ensures.found in (
+      still_bad _ _ _ _ _ fed.state c.in-Bad.is c.feed_piece.ensures.limit,
+      both_bytes _ _ c.pull.new.self _ c.bytes.result.now _ c.loop-reader.invariant.bytes fed.held c.bytes.ensures c.used.ensures c.feed_piece.ensures.bytes,
+      found.1 ∙ c.loop-reader.invariant.ends,
+    )

@@ -1,0 +1,21 @@
+use Rattle.std.proofs.Common.{◌≡◌, []}
+use Rattle.wire_peer.specs.Logs.{log_of}
+use Rattle.wire_peer.proofs.Serves.{Progress}
+use Rattle.wire_peer.proofs.serving.serve.Given as goal
+
+abbrev pub invariant-loop-i : goal.invariant-loop-i
+invariant-loop-i g l =
+    let L = g.L.Link in
+    let H = g.H.Handler in
+    record {
+      limit : l.reader.limit ≡ l.limit;
+      none : l.reader.held ≡ [];
+      reply_limit : l.replies.limit ≡ l.limit;
+      sent : l.replies.output ≡ [];
+      works : L.failures l.link ≡ L.failures l.fn.link;
+      ends : L.ends l.link ≡ L.ends l.fn.link;
+      progress : Progress H.does H.stops l.connection l.limit
+          (record { handler = l.fn.logged.handler; log = log_of l.fn.logged.entries.items; received = L.received l.fn.link; sent = L.sent l.fn.link; failures = L.failures l.fn.link; ends = L.ends l.fn.link })
+          (record { handler = l.logged.handler; log = log_of l.logged.entries.items; received = L.received l.link; sent = L.sent l.link; failures = L.failures l.link; ends = L.ends l.link })
+          l.i l.replies.next l.inlet;
+    }

@@ -1,0 +1,100 @@
+//! Whether a server is open, why it closed, and why a call of it is refused.
+
+ghost use Rattle.std.specs.Prelude.{◌≡◌};
+ghost use Rattle.wire_peer.specs.ServerNumbers.{answer_refusal_number, server_cause_number, server_refusal_number};
+
+use wire_msg::MsgFault;
+
+/// Why a server closed. The first cause stays.
+#[derive(Clone, Copy, Debug, PartialEq, Eq)]
+pub enum ServerCause {
+    /// The bytes that came begin no message. The fault's place is counted from the first byte behind the last request.
+    Message(MsgFault),
+    /// The bytes ended between messages.
+    Ended,
+    /// The bytes ended inside a message.
+    EndedInside,
+    /// A reply would have more bytes than the limit.
+    ReplyTooLarge,
+    /// The handler stopped for want of memory, or memory for the replies was wanting.
+    NoMemory,
+    /// The handler failed.
+    HandlerFailed,
+}
+
+impl ServerCause {
+    /// Returns the number of the cause, from 1 to 6.
+    pub fn number(self) -> u8
+        ensures { result ≡ server_cause_number self }
+    {
+        match self {
+            ServerCause::Message(_) => 1,
+            ServerCause::Ended => 2,
+            ServerCause::EndedInside => 3,
+            ServerCause::ReplyTooLarge => 4,
+            ServerCause::NoMemory => 5,
+            ServerCause::HandlerFailed => 6,
+        }
+    }
+}
+
+/// Whether a server is open.
+#[derive(Clone, Copy, Debug, PartialEq, Eq)]
+pub enum ServerState {
+    /// It takes bytes and answers requests.
+    Open,
+    /// It does neither, for this cause.
+    Closed(ServerCause),
+}
+
+/// Why no server is made.
+#[derive(Clone, Copy, Debug, PartialEq, Eq)]
+pub enum ServerRefusal {
+    /// The window isn't 1 to 1,024.
+    BadWindow,
+    /// The limit isn't 26 to 48,000,000.
+    BadLimit,
+    /// Memory for the waiting list was wanting.
+    OutOfMemory,
+}
+
+impl ServerRefusal {
+    /// Returns the number of the refusal, 2 or 3, or `None` for want of memory.
+    pub fn number(self) -> Option<u8>
+        ensures { result ≡ server_refusal_number self }
+    {
+        match self {
+            ServerRefusal::BadWindow => Some(2),
+            ServerRefusal::BadLimit => Some(3),
+            ServerRefusal::OutOfMemory => None,
+        }
+    }
+}
+
+/// Why a request isn't answered.
+#[derive(Clone, Copy, Debug, PartialEq, Eq)]
+pub enum AnswerRefusal {
+    /// So many requests don't wait. Nothing changed.
+    NoSuchRequest,
+    /// The server is closed. Nothing changed.
+    Closed,
+    /// Memory for the entry was wanting. The handler wasn't asked, and nothing changed.
+    OutOfMemory,
+    /// The server closed in this call, for this cause. The request has its entry and waits no longer, and none of its replies
+    /// is put out.
+    NowClosed(ServerCause),
+}
+
+impl AnswerRefusal {
+    /// Returns the number of the refusal, from 1 to 3, or `None` for want of memory.
+    pub fn number(self) -> Option<u8>
+        ensures { result ≡ answer_refusal_number self }
+    {
+        match self {
+            AnswerRefusal::NoSuchRequest => Some(1),
+            AnswerRefusal::Closed => Some(2),
+            AnswerRefusal::NowClosed(_) => Some(3),
+            AnswerRefusal::OutOfMemory => None,
+        }
+    }
+}
