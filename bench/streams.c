@@ -1,4 +1,4 @@
-/* Measures a reader of messages, an output and the search for repeated names, by bench/stream_bench.rt and the C library.
+/* Measures a reader of messages, an output and the search for repeated names, by bench/stream_bench.rt.in and the C library.
  *
  *     streams read FILE PIECE ROUNDS    of a stream of messages: its check in memory, a reader that is fed pieces of
  *                                       PIECE bytes, and two copies of the bytes

@@ -36,7 +36,8 @@ def add_crate(room, kind, stands_on, source, with_proofs):
         shutil.copytree(source_folder, target, ignore=shutil.ignore_patterns("out"))
         if with_proofs and os.path.isdir(os.path.join(source_folder, "out")):
             shutil.copytree(os.path.join(source_folder, "out"), os.path.join(target, "out"), copy_function=link)
-    own = os.path.splitext(os.path.basename(source))[0]
+    # The gate refuses a .rt file that is in no crate, so the source's name ends in .rt.in.
+    own = os.path.basename(source).split(".")[0]
     with open(os.path.join(room, "crates.txt"), "w", encoding="utf-8") as file:
         file.write("\n".join([*crates.values(), f"{' '.join([own, *kind])}: {' '.join(stands_on)}", ""]))
     folder = os.path.join(room, "crates", own)

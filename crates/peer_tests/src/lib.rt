@@ -3,6 +3,12 @@
 #![tactic(auto)]
 
 #[cfg(test)]
+mod client_refusals;
+#[cfg(test)]
+mod client_streams;
+#[cfg(test)]
+mod clients;
+#[cfg(test)]
 mod handlers;
 #[cfg(test)]
 mod log_refusals;

@@ -1,5 +1,6 @@
-//! Tests of what stays of a server after a refused allocation. `./try-refusals` runs them with each of their allocations
-//! refused in turn. Where what a test makes for itself is refused, the test passes, since there is nothing to see.
+//! Tests of what stays of a server after a refused allocation. `./try-refusals` runs them with each of their
+//! allocations refused in turn. Where what a test makes for itself is refused, the test passes, since there is nothing
+//! to see.
 
 use std::alloc::Global;
 use wire_peer::{AnswerRefusal, Echo, Logged, Server, ServerCause, ServerRefusal, ServerState};
@@ -55,8 +56,8 @@ fn fed(alloc: Global) -> Option<Server> {
     }
 }
 
-/// Returns true if the request is answered; or refused before the handler is asked, and answered then; or refused after it,
-/// and the server closed without a byte put out.
+/// Returns true if the request is answered; or refused before the handler is asked, and answered then; or refused after
+/// it, and the server closed without a byte put out.
 fn answers(server: &mut Server, logged: &mut Logged<Echo>) -> bool {
     match server.answer(0, logged) {
         Ok(number) => number == 0 && server.output().len() == 33,

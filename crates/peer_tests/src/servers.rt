@@ -31,8 +31,8 @@ const SILENT: &[u8; 33] =
 const COUNTED: &[u8; 33] =
     b"\x21\0\0\0\xff\xff\xff\x7f\0\0\0\0\xdd\x07\0\0\0\0\x01\0\0\x0c\0\0\0\x10s\0\x03\0\0\0\0";
 
-/// `{"n": 1}` to `{"n": 3}` as the answers to request 2,147,483,647, with ids 1 to 3; each but the first answers the one
-/// before it, and each but the last has moreToCome.
+/// `{"n": 1}` to `{"n": 3}` as the answers to request 2,147,483,647, with ids 1 to 3; each but the first answers the
+/// one before it, and each but the last has moreToCome.
 const COUNTS: &[u8; 99] =
     b"\x21\0\0\0\x01\0\0\0\xff\xff\xff\x7f\xdd\x07\0\0\x02\0\0\0\0\x0c\0\0\0\x10n\0\x01\0\0\0\0\x21\0\0\0\x02\0\0\0\x01\0\0\0\xdd\x07\0\0\x02\0\0\0\0\x0c\0\0\0\x10n\0\x02\0\0\0\0\x21\0\0\0\x03\0\0\0\x02\0\0\0\xdd\x07\0\0\0\0\0\0\0\x0c\0\0\0\x10n\0\x03\0\0\0\0";
 
@@ -202,8 +202,8 @@ fn is_closed(alloc: Global, server: &mut Server, cause: ServerCause) -> bool {
         && server.answer(0, &mut logged) == Err(AnswerRefusal::Closed)
 }
 
-/// Returns true if a request that came before a bad header still waits behind the close, and the end of the bytes changes
-/// nothing.
+/// Returns true if a request that came before a bad header still waits behind the close, and the end of the bytes
+/// changes nothing.
 fn closes_at_a_fault(alloc: Global) -> bool {
     let fault = ServerCause::Message(MsgFault {
         at: 12,
@@ -270,8 +270,8 @@ fn closes_at_a_long_reply(alloc: Global) -> bool {
     }
 }
 
-/// Returns true if a handler's stop at the second of two requests closes the server for this cause, and the first reply is
-/// still given.
+/// Returns true if a handler's stop at the second of two requests closes the server for this cause, and the first reply
+/// is still given.
 fn closes_at_a_stop(alloc: Global, stop: HandlerStop, cause: ServerCause) -> bool {
     const REPLY: &[u8; 33] =
         b"\x21\0\0\0\x01\0\0\0\x01\0\0\0\xdd\x07\0\0\0\0\0\0\0\x0c\0\0\0\x10a\0\x01\0\0\0\0";

@@ -1,5 +1,5 @@
--- What was received so far, and how a reader comes nearer to a message.
-use Rattle.std.proofs.Common.{◌≡◌, ◌≢◌, ℕ, ◌+◌, ◌-◌, ◌<◌, ◌≤◌, inl, inr, List, [], ◌∷◌, ◌++◌, length, take, drop, Option, refl, ap, arith, subst, sym, ◌∙◌, append_assoc, take-append-drop, length-append, length-take}
+-- What was received so far, and what a reader holds of it.
+use Rattle.std.proofs.Common.{◌≡◌, ◌≢◌, ℕ, List, [], ◌∷◌, ◌++◌, take, drop, Option, refl, ap, arith, subst, sym, ◌∙◌, append_assoc, take-append-drop}
 use Rattle.std.specs.Io.KnownBytes.{Appends}
 use Rattle.std.proofs.KnownBytes.{Appends-trans}
 use Rattle.bson_elem.specs.{IsBytes}
@@ -9,7 +9,7 @@ use Rattle.wire_msg.specs.{IsBad, IsOpen}
 use Rattle.wire_msg.specs.Standing.{in_header}
 use Rattle.wire_msg.specs.declared.fault.MsgFault.{MsgFault}
 use Rattle.std.proofs.lemmas.Grind.{common_steps}
-use Rattle.wire_stream.specs.{HoldsNoMore, StandsAt}
+use Rattle.wire_stream.specs.{StandsAt}
 use Rattle.wire_stream.specs.declared.reader_state.ReaderState.{ReaderState}
 use Rattle.wire_stream.specs.declared.reader_state.ReaderState.TheVariants.{Need, Bad}
 use Rattle.wire_stream.specs.declared.reader_state.ReadEnd.{ReadEnd}
@@ -33,20 +33,6 @@ pub pulled_on : (a b c : Option (List ℕ)) (held piece s more got piece2 : List
     → (all : List ℕ) × Appends a c all × (held ++ piece2 ≡ s ++ all)
 pulled_on a b c held piece s more got piece2 k e l f =
     (more ++ got, Appends-trans a b c more got k l, rw f (sym (append_assoc held piece got) ∙ ap (λ q. q ++ got) e ∙ append_assoc s more got))
-
--- a reader holds no more than a header has and its limit together
-holds_within : (limit : ℕ) (held : List ℕ) → HoldsNoMore limit held → length held ≤ limit + 16
-holds_within limit held (inl short) = omega arith
-holds_within limit held (inr good) = let most = good.0.most in let within = good.1 in omega arith
-
--- what a reader may hold, less what it holds, after one more byte at least
-pub nearer : (limit limit2 : ℕ) (held held2 piece : List ℕ) (n : ℕ) → limit2 ≡ limit → held2 ≡ held ++ take n piece → n ≡ length piece → 0 < length piece → HoldsNoMore limit2 held2
-    → (limit2 + 17) - length held2 < (limit + 17) - length held
-nearer limit limit2 held held2 piece n same e f some no_more =
-    let l : length held2 ≡ length held + length (take n piece) = ap length e ∙ length-append held (take n piece) in
-    let m : length (take n piece) ≡ length piece = rw f (simp length-take (omega arith)) in
-    let w = holds_within limit2 held2 no_more in
-    omega arith
 
 -- where a reader ends between messages, and what it holds could be more of one, it holds nothing
 pub ended_empty : (held : List ℕ) (r : ReadEnd) → (held ≢ [] → r ≡ EndedInside) → r ≡ Ended → held ≡ []

@@ -8,3 +8,8 @@ pub mod Comings
 pub mod Serves
 pub mod OneAnswer
 pub mod ServerLaws
+pub mod IdLaws
+pub mod MarkLaws
+pub mod TableLaws
+pub mod RequestLaws
+pub mod ClientLaws

@@ -11,7 +11,8 @@ use Rattle.wire_peer.specs.declared.server_state.ServerCause.TheVariants.{Messag
 use Rattle.wire_peer.specs.declared.server_state.ServerState.{ServerState}
 use Rattle.wire_peer.specs.declared.server_state.ServerState.TheVariants.{Open, Closed}
 use Rattle.wire_peer.specs.Chains.{ReplyState}
-use Rattle.wire_peer.specs.Servers.{IsLimit, IsWindow, ServerView}
+use Rattle.wire_peer.specs.Limits.{IsLimit, IsWindow}
+use Rattle.wire_peer.specs.Servers.{ServerView}
 
 -- what a caller sees of these parts
 abbrev pub view_of : (connection window limit : ℕ) → Reading → VecDeque (List ℕ) Global → ReplyState → ServerState → ServerView

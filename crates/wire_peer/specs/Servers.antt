@@ -3,6 +3,7 @@ use Rattle.std.specs.Prelude.{◌≡◌, ℕ, ◌<◌, ◌≤◌, ◌⊎◌, Lis
 use Rattle.wire_stream.specs.{Feeds}
 use Rattle.wire_stream.specs.declared.reader_state.ReaderState.{ReaderState}
 use Rattle.wire_stream.specs.declared.reader_state.ReaderState.TheVariants.{Need, Ready, Bad}
+use Rattle.wire_peer.specs.Limits.{IsLimit, IsWindow}
 use Rattle.wire_peer.specs.declared.server_state.ServerCause.{ServerCause}
 use Rattle.wire_peer.specs.declared.server_state.ServerCause.TheVariants.{Message, Ended, EndedInside}
 use Rattle.wire_peer.specs.declared.server_state.ServerState.{ServerState}
@@ -24,12 +25,6 @@ pub record ServerView : Type 0 where
   pub state : ServerState
 
 -- ---- a new server
-
-abbrev pub IsWindow : ℕ → Type 0
-IsWindow window = (1 ≤ window) × (window ≤ 1024)
-
-abbrev pub IsLimit : ℕ → Type 0
-IsLimit limit = (26 ≤ limit) × (limit ≤ 48000000)
 
 -- a server before its first byte
 abbrev pub new_server : (connection window limit : ℕ) → ServerView

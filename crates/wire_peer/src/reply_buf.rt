@@ -11,13 +11,11 @@ ghost use Rattle.wire_peer.specs.Contents.{buf_content};
 ghost use Rattle.wire_peer.specs.Replying.{PushStep};
 
 use crate::answer_list::Answers;
+use crate::limits::MAX_ID;
 use std::alloc::Global;
 use std::marker::Model;
 use wire_msg::{MsgFlags, PayloadBuf};
 use wire_stream::{Link, LinkFault, OutBuf, Outlet, flush};
-
-/// The greatest id of a reply; after it the ids begin anew with 1.
-const MAX_ID: u32 = 2_147_483_647;
 
 /// Why replies aren't appended.
 #[derive(Clone, Copy, Debug, PartialEq, Eq)]

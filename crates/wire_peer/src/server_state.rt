@@ -80,8 +80,8 @@ pub enum AnswerRefusal {
     Closed,
     /// Memory for the entry was wanting. The handler wasn't asked, and nothing changed.
     OutOfMemory,
-    /// The server closed in this call, for this cause. The request has its entry and waits no longer, and none of its replies
-    /// is put out.
+    /// The server closed in this call, for this cause. The request has its entry and waits no longer, and none of its
+    /// replies is put out.
     NowClosed(ServerCause),
 }
 

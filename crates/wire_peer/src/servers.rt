@@ -12,6 +12,7 @@ ghost use Rattle.wire_peer.specs.Servers.{IsNewServer, TakesBytes, closed_for, e
 ghost use Rattle.wire_peer.specs.ServerParts.{IsAccepted, IsSettled, IsTakenOut};
 
 use crate::handlers::{Handler, HandlerStop};
+use crate::limits::{MAX_WINDOW, MIN_LIMIT};
 use crate::log::{Logged, NoReplies};
 use crate::reply_buf::ReplyBuf;
 use crate::requests::{Request, request_of};
@@ -21,12 +22,6 @@ use std::collections::VecDeque;
 use std::marker::Model;
 use wire_msg::{MAX_MESSAGE_LEN, RawMsg};
 use wire_stream::{MsgBuf, MsgReader, Outlet, ReadEnd, ReadRefusal, ReaderState};
-
-/// The most requests that may wait.
-const MAX_WINDOW: usize = 1024;
-
-/// The least limit: the length of the shortest message, in bytes.
-const LEAST_LIMIT: u32 = 26;
 
 /// Serves one connection. It takes bytes, out of which requests come that wait in order; it answers one that waits, by a
 /// handler, and holds the bytes of the replies until they are sent. It reads and writes nothing itself.
@@ -116,8 +111,8 @@ fn reply_to<H: Handler>(
     logged.reply(connection, message.id(), &request_of(message), replies)
 }
 
-/// Returns the cause for which a server closes that has no replies for this reason. It has none where the handler wasn't
-/// asked.
+/// Returns the cause for which a server closes that has no replies for this reason. It has none where the handler
+/// wasn't asked.
 fn cause_of(reason: NoReplies) -> Option<ServerCause>
     ensures { result ≡ cause_of reason }
 {
@@ -131,8 +126,8 @@ fn cause_of(reason: NoReplies) -> Option<ServerCause>
 }
 
 impl Server {
-    /// Returns a server of the connection of this number, in which at most `window` requests wait, 1 to 1,024, of messages of
-    /// at most `limit` bytes, 26 to 48,000,000. It takes the memory of its waiting list.
+    /// Returns a server of the connection of this number, in which at most `window` requests wait, 1 to 1,024, of
+    /// messages of at most `limit` bytes, 26 to 48,000,000. It takes the memory of its waiting list.
     ///
     /// # Errors
     ///
@@ -148,7 +143,7 @@ impl Server {
         if window < 1 || window > MAX_WINDOW {
             return Err(ServerRefusal::BadWindow);
         }
-        if limit < LEAST_LIMIT || limit > MAX_MESSAGE_LEN {
+        if limit < MIN_LIMIT || limit > MAX_MESSAGE_LEN {
             return Err(ServerRefusal::BadLimit);
         }
         match VecDeque::with_capacity(alloc, window) {
@@ -166,13 +161,13 @@ impl Server {
     }
 
     /// Takes the first bytes of `piece`, up to the end of one message or the 16th byte of a bad header, and returns how
-    /// many. It takes none where the server is closed or its waiting list is full. A message that is whole then waits behind
-    /// the others; bytes with a fault close the server.
+    /// many. It takes none where the server is closed or its waiting list is full. A message that is whole then waits
+    /// behind the others; bytes with a fault close the server.
     ///
     /// # Errors
     ///
-    /// `OutOfMemory` where the piece completes a good header and memory for the announced message is wanting. Nothing is
-    /// taken then.
+    /// `OutOfMemory` where the piece completes a good header and memory for the announced message is wanting. Nothing
+    /// is taken then.
     pub fn feed(&mut self, piece: &[u8]) -> Result<usize, ReadRefusal>
         ensures closed { self.old.state ≢ ServerState.Open → (result ≡ Ok 0) × (self.new ≡ self.old) }
         ensures full { self.old.window ≤ length self.old.waiting → (result ≡ Ok 0) × (self.new ≡ self.old) }
@@ -210,15 +205,16 @@ impl Server {
         Some(request_of(message))
     }
 
-    /// Answers the `k`-th request that waits, counted from 0: asks the handler, which adds an entry, takes the request out of
-    /// the list, which closes up, and puts out its replies. A request that wants none gets none. Returns the entry's number.
+    /// Answers the `k`-th request that waits, counted from 0. The handler is asked, its log gets an entry, the request
+    /// leaves the list, which closes up, and its replies are put out; a request that wants none gets none. Returns the
+    /// entry's number.
     ///
     /// # Errors
     ///
-    /// `Closed` where the server is closed; else `NoSuchRequest` where no more than `k` wait; else `OutOfMemory` where memory
-    /// for the entry is wanting. Nothing changes then, and the handler isn't asked. `NowClosed` where the handler stops, one of
-    /// the replies has more bytes than the limit, or memory for the replies is wanting: the entry stands, the request has left
-    /// the list, no byte of its replies is put out, and the server is closed.
+    /// `Closed` where the server is closed; else `NoSuchRequest` where no more than `k` wait; else `OutOfMemory` where
+    /// memory for the entry is wanting. Nothing changes then, and the handler isn't asked. `NowClosed` where the
+    /// handler stops, one of the replies has more bytes than the limit, or memory for the replies is wanting: the entry
+    /// stands, the request has left the list, no byte of its replies is put out, and the server is closed.
     pub fn answer<H: Handler>(
         &mut self,
         k: usize,
@@ -266,8 +262,8 @@ impl Server {
         self.replies.sent(n);
     }
 
-    /// Tells the server that no more bytes come. It closes, with `EndedInside` where it holds bytes of a message and else with
-    /// `Ended`; a closed one stays as it is. What waits still waits.
+    /// Tells the server that no more bytes come. It closes, with `EndedInside` where it holds bytes of a message and
+    /// else with `Ended`; a closed one stays as it is. What waits still waits.
     pub fn end(&mut self)
         ensures { self.new ≡ record self.old { state = closed_for (end_cause self.old.held) self.old.state } }
     {
@@ -279,8 +275,8 @@ impl Server {
         }
     }
 
-    /// Returns whether the server is open, and if not, the first cause for which it closed. An open one is between messages or
-    /// inside one.
+    /// Returns whether the server is open, and if not, the first cause for which it closed. An open one is between
+    /// messages or inside one.
     pub fn state(&self) -> ServerState
         ensures state { result ≡ self.now.state }
         ensures between { result ≡ ServerState.Open → IsOpen self.now.limit self.now.held }

@@ -1,0 +1,7 @@
+-- A reply, as a client lends it.
+use Rattle.wire_peer.specs.declared.call_table.ReadyReply.{ReadyReply}
+use Rattle.wire_peer.specs.declared.reply.Reply.{Reply}
+
+-- the call that it belongs to, and whether another one follows
+abbrev pub ready_of : Reply → ReadyReply
+ready_of r = record { call = r.call; last = r.last }

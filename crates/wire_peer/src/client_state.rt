@@ -1,0 +1,59 @@
+//! Whether a client is open, and why it was closed or isn't made.
+
+ghost use Rattle.std.specs.Prelude.{◌≡◌};
+ghost use Rattle.wire_peer.specs.ClientCauses.{cause_number};
+
+use wire_msg::MsgFault;
+
+/// Why a client was closed. The first cause stays.
+#[derive(Clone, Copy, Debug, PartialEq, Eq)]
+pub enum ClientCause {
+    /// The bytes begin no message.
+    Message(MsgFault),
+    /// No outstanding call bears this responseTo.
+    UnknownReply(i32),
+    /// A reply says that more will come, and its call doesn't allow it.
+    MoreNotAllowed,
+    /// A call has had a part, and a message answers neither its request nor that part.
+    StreamBroken,
+    /// No more bytes come, and the last ones ended a message.
+    Ended,
+    /// No more bytes come, and the last ones ended inside a message.
+    EndedInside,
+}
+
+impl ClientCause {
+    /// Returns the number of the cause, from 1 to 6.
+    pub fn number(self) -> u8
+        ensures { result ≡ cause_number self }
+    {
+        match self {
+            ClientCause::Message(_) => 1,
+            ClientCause::UnknownReply(_) => 2,
+            ClientCause::MoreNotAllowed => 3,
+            ClientCause::StreamBroken => 4,
+            ClientCause::Ended => 5,
+            ClientCause::EndedInside => 6,
+        }
+    }
+}
+
+/// Whether a client is open.
+#[derive(Clone, Copy, Debug, PartialEq, Eq)]
+pub enum ClientState {
+    /// It makes calls and takes bytes.
+    Open,
+    /// It was closed, and stays so.
+    Closed(ClientCause),
+}
+
+/// Why a client isn't made.
+#[derive(Clone, Copy, Debug, PartialEq, Eq)]
+pub enum ClientRefusal {
+    /// The first id isn't from 1 to 2,147,483,647.
+    BadFirstId,
+    /// The window isn't from 1 to 1,024.
+    BadWindow,
+    /// The limit isn't from 26 to 48,000,000.
+    BadLimit,
+}
