@@ -6,23 +6,11 @@
  */
 #define _POSIX_C_SOURCE 199309L
 #include "files.h"
+#include "measure.h"
 #include "walk.h"
 #include "lughemra.h"
 
 #include <inttypes.h>
-#include <time.h>
-
-static uint64_t processor_time(void)
-{
-    struct timespec now;
-    clock_gettime(CLOCK_PROCESS_CPUTIME_ID, &now);
-    return (uint64_t)now.tv_sec * 1000000000u + (uint64_t)now.tv_nsec;
-}
-
-static uint64_t least(uint64_t a, uint64_t b)
-{
-    return a < b ? a : b;
-}
 
 int main(int count, char **words)
 {

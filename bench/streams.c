@@ -10,38 +10,17 @@
  */
 #define _POSIX_C_SOURCE 199309L
 #include "files.h"
+#include "measure.h"
 #include "lughemra.h"
 
 #include <inttypes.h>
-#include <stdbool.h>
 #include <string.h>
-#include <time.h>
 
 #define LIMIT 48000000
 
 size_t stream_bench_read(const uint8_t *bytes, size_t length, size_t piece);
 size_t stream_bench_send(const uint8_t *bytes, size_t length);
 bool stream_bench_compare_pairs(const uint8_t *bytes, size_t length);
-
-static uint64_t processor_time(void)
-{
-    struct timespec now;
-    clock_gettime(CLOCK_PROCESS_CPUTIME_ID, &now);
-    return (uint64_t)now.tv_sec * 1000000000u + (uint64_t)now.tv_nsec;
-}
-
-static uint64_t least(uint64_t a, uint64_t b)
-{
-    return a < b ? a : b;
-}
-
-static void require(bool good)
-{
-    if (!good) {
-        fprintf(stderr, "streams: a result is another one\n");
-        exit(1);
-    }
-}
 
 /* Copies the bytes into memory of their own. Returns their sum's lowest bits, so that no compiler leaves the copy out. */
 static unsigned copy(const uint8_t *bytes, size_t size)
