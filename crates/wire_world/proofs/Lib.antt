@@ -1,0 +1,3 @@
+pub mod PoolLaws
+pub mod RunLaws
+pub mod OnceLaws
