@@ -169,13 +169,18 @@ fn requests_have_the_flags_of_their_kind(rt: HostRuntime) {
     assert!(rt; puts_out(rt.alloc(), 1, CallKind::Unacknowledged, ONE, SILENT));
 }
 
+/// Returns true if the window has no room for a call of this kind.
+fn is_full(alloc: Global, client: &mut Client, kind: CallKind) -> bool {
+    call_as(alloc, client, kind, ONE) == Err(CallRefusal::WindowFull)
+}
+
 /// Returns true if a window of one call has room for one, and for any number of those without a reply.
 fn window_fills(alloc: Global) -> bool {
     match Client::new(alloc, 1, 1, 33) {
         Ok(mut client) => {
             calls(alloc, &mut client, CallKind::Plain, 0, 1)
-                && call_as(alloc, &mut client, CallKind::Exhaust, ONE)
-                    == Err(CallRefusal::WindowFull)
+                && is_full(alloc, &mut client, CallKind::Plain)
+                && is_full(alloc, &mut client, CallKind::Exhaust)
                 && calls(alloc, &mut client, CallKind::Unacknowledged, 1, 2)
                 && client.outstanding() == 1
         }

@@ -9,6 +9,8 @@ mod client_streams;
 #[cfg(test)]
 mod clients;
 #[cfg(test)]
+mod flushes;
+#[cfg(test)]
 mod handlers;
 #[cfg(test)]
 mod log_refusals;

@@ -3,8 +3,8 @@
 use std::alloc::Global;
 use wire_msg::{MsgCause, MsgFault};
 use wire_peer::{
-    AnswerRefusal, Count, Echo, Handler, HandlerStop, Logged, Server, ServerCause, ServerRefusal,
-    ServerState, StopAt,
+    AnswerRefusal, Count, Echo, Entry, Handler, HandlerStop, Logged, Outcome, Server, ServerCause,
+    ServerRefusal, ServerState, StopAt,
 };
 
 /// `{"ping": 1, "$db": "admin"}` as request 1.
@@ -270,8 +270,16 @@ fn closes_at_a_long_reply(alloc: Global) -> bool {
     }
 }
 
+/// Returns true if there are two entries, and the second has failed.
+fn has_failed(entries: &[Entry]) -> bool {
+    match entries {
+        [_, last] => matches!(last.outcome, Outcome::Failed),
+        _ => false,
+    }
+}
+
 /// Returns true if a handler's stop at the second of two requests closes the server for this cause, and the first reply
-/// is still given.
+/// is still given. The request's entry has failed, and nothing more is answered.
 fn closes_at_a_stop(alloc: Global, stop: HandlerStop, cause: ServerCause) -> bool {
     const REPLY: &[u8; 33] =
         b"\x21\0\0\0\x01\0\0\0\x01\0\0\0\xdd\x07\0\0\0\0\0\0\0\x0c\0\0\0\x10a\0\x01\0\0\0\0";
@@ -280,7 +288,8 @@ fn closes_at_a_stop(alloc: Global, stop: HandlerStop, cause: ServerCause) -> boo
         Some(mut server) => {
             puts_out(&mut server, &mut logged, 0, REPLY)
                 && closes_now(&mut server, &mut logged, cause, REPLY)
-                && logged.entries().len() == 2
+                && server.answer(0, &mut logged) == Err(AnswerRefusal::Closed)
+                && has_failed(logged.entries())
         }
         None => false,
     }

@@ -15,9 +15,9 @@ const PINGS: &[u8; 102] =
 const REPLY: &[u8; 51] =
     b"\x33\0\0\0\x01\0\0\0\x01\0\0\0\xdd\x07\0\0\0\0\0\0\0\x1e\0\0\0\x10ping\0\x01\0\0\0\x02$db\0\x06\0\0\0admin\0\0";
 
-/// The ping, and then a header with opcode 2004.
-const OTHER_OPCODE: &[u8; 67] =
-    b"\x33\0\0\0\x01\0\0\0\0\0\0\0\xdd\x07\0\0\0\0\0\0\0\x1e\0\0\0\x10ping\0\x01\0\0\0\x02$db\0\x06\0\0\0admin\0\0\x33\0\0\0\x02\0\0\0\0\0\0\0\xd4\x07\0\0";
+/// The ping, and then the same with opcode 2004.
+const OTHER_OPCODE: &[u8; 102] =
+    b"\x33\0\0\0\x01\0\0\0\0\0\0\0\xdd\x07\0\0\0\0\0\0\0\x1e\0\0\0\x10ping\0\x01\0\0\0\x02$db\0\x06\0\0\0admin\0\0\x33\0\0\0\x01\0\0\0\0\0\0\0\xd4\x07\0\0\0\0\0\0\0\x1e\0\0\0\x10ping\0\x01\0\0\0\x02$db\0\x06\0\0\0admin\0\0";
 
 /// Request 7 with exhaustAllowed and the body `{"s": 3}`.
 const COUNT_TO_3: &[u8; 33] =
@@ -137,7 +137,7 @@ fn a_fault_ends_serving(rt: HostRuntime) {
         at: 12,
         cause: MsgCause::Opcode(2004),
     };
-    for most in &[67, 1] {
+    for most in &[102, 1] {
         let most = *most;
         assert!(rt;
             echoes(
@@ -152,9 +152,9 @@ fn a_fault_ends_serving(rt: HostRuntime) {
     }
 }
 
-/// Returns true if serving the pings, in pieces of at most `most` bytes, ends so where the call after `calls` others fails,
-/// and these many first bytes of the reply were sent.
-fn fails(alloc: Global, most: usize, calls: u64, end: ServeEnd, count: usize) -> bool
+/// Returns true if serving at most `budget` pings, in pieces of at most `most` bytes, ends so where the call after `calls`
+/// others fails, and these many first bytes of the reply were sent.
+fn fails(alloc: Global, most: usize, budget: u64, calls: u64, end: ServeEnd, count: usize) -> bool
     requires { 0 < most }
 {
     let Some(link) = link_of(alloc, PINGS) else {
@@ -162,7 +162,7 @@ fn fails(alloc: Global, most: usize, calls: u64, end: ServeEnd, count: usize) ->
     };
     let mut logged = Logged::new(alloc, Echo);
     let mut link = link.moving_at_most(most).failing_after(calls);
-    let ended = serve(alloc, &mut link, &mut logged, 1, 48_000_000, 10);
+    let ended = serve(alloc, &mut link, &mut logged, 1, 48_000_000, budget);
     match REPLY.split_at_checked(count) {
         Some((sent, _)) => ended == end && link.sent_bytes() == sent,
         None => false,
@@ -171,18 +171,19 @@ fn fails(alloc: Global, most: usize, calls: u64, end: ServeEnd, count: usize) ->
 
 #[test]
 fn a_failed_call_ends_serving(rt: HostRuntime) {
-    assert!(rt; fails(rt.alloc(), 102, 0, ServeEnd::Link, 0));
-    assert!(rt; fails(rt.alloc(), 102, 1, ServeEnd::Link, 0));
-    assert!(rt; fails(rt.alloc(), 102, 2, ServeEnd::Link, 51));
-    assert!(rt; fails(rt.alloc(), 102, 3, ServeEnd::Ended, 51));
+    assert!(rt; fails(rt.alloc(), 102, 10, 0, ServeEnd::Link, 0));
+    assert!(rt; fails(rt.alloc(), 102, 10, 1, ServeEnd::Link, 0));
+    assert!(rt; fails(rt.alloc(), 102, 10, 2, ServeEnd::Link, 51));
+    assert!(rt; fails(rt.alloc(), 102, 10, 3, ServeEnd::Ended, 51));
 }
 
 #[test]
 fn replies_are_sent_before_the_next_message_is_taken(rt: HostRuntime) {
-    assert!(rt; fails(rt.alloc(), 51, 2, ServeEnd::Link, 51));
-    assert!(rt; fails(rt.alloc(), 20, 4, ServeEnd::Link, 20));
-    assert!(rt; fails(rt.alloc(), 20, 5, ServeEnd::Link, 40));
-    assert!(rt; fails(rt.alloc(), 20, 6, ServeEnd::Link, 51));
+    assert!(rt; fails(rt.alloc(), 51, 10, 2, ServeEnd::Link, 51));
+    assert!(rt; fails(rt.alloc(), 51, 1, 2, ServeEnd::Budget, 51));
+    assert!(rt; fails(rt.alloc(), 20, 10, 4, ServeEnd::Link, 20));
+    assert!(rt; fails(rt.alloc(), 20, 10, 5, ServeEnd::Link, 40));
+    assert!(rt; fails(rt.alloc(), 20, 10, 6, ServeEnd::Link, 51));
 }
 
 /// Returns true if serving these bytes with this handler, under a limit, comes to `outcome`.

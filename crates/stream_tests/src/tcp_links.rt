@@ -2,6 +2,7 @@
 
 use std::io;
 use std::io::{ErrorKind, Read, Write};
+use std::net::TcpStream;
 use wire_stream::{Link, LinkFault, TcpLink};
 
 /// A stream whose reads and writes move so many bytes, or fail.
@@ -30,6 +31,11 @@ impl Write for Stream {
     fn flush(&mut self) -> io::Result<()> {
         Ok(())
     }
+}
+
+/// Returns the link over a TCP connection. No test makes one; this shows that there is such a link.
+fn over_tcp(stream: TcpStream) -> TcpLink<TcpStream> {
+    TcpLink::new(stream)
 }
 
 /// Returns true if a link over a stream that moves so many bytes receives and sends so.

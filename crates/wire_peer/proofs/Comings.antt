@@ -1,15 +1,16 @@
 -- What was received so far, and what a reader holds of it.
-use Rattle.std.proofs.Common.{◌≡◌, ◌≢◌, ℕ, List, [], ◌∷◌, ◌++◌, take, drop, Option, refl, ap, arith, subst, sym, ◌∙◌, append_assoc, take-append-drop}
+use Rattle.std.proofs.Common.{◌≡◌, ◌≢◌, ℕ, ◌≤◌, List, [], ◌∷◌, ◌++◌, length, length-append, take, drop, Option, refl, ap, arith, subst, sym, ◌∙◌, append_assoc, take-append-drop}
 use Rattle.std.specs.Io.KnownBytes.{Appends}
 use Rattle.std.proofs.KnownBytes.{Appends-trans}
 use Rattle.bson_elem.specs.{IsBytes}
 use Rattle.bson_elem.proofs.Lemmas.{IsBytes-drop, IsBytes-take}
-use Rattle.wire_msg.proofs.Lemmas.{bytes_append}
-use Rattle.wire_msg.specs.{IsBad, IsOpen}
+use Rattle.wire_msg.proofs.Lemmas.{bytes_append, least_length, whole_read}
+use Rattle.wire_msg.specs.{IsBad, IsOpen, IsWhole, Message, SpellsMsg}
 use Rattle.wire_msg.specs.Standing.{in_header}
 use Rattle.wire_msg.specs.declared.fault.MsgFault.{MsgFault}
 use Rattle.std.proofs.lemmas.Grind.{common_steps}
-use Rattle.wire_stream.specs.{StandsAt}
+use Rattle.wire_stream.specs.{CompletesHeader, StandsAt}
+use Rattle.wire_peer.specs.Coming.{HasGoodHeader}
 use Rattle.wire_stream.specs.declared.reader_state.ReaderState.{ReaderState}
 use Rattle.wire_stream.specs.declared.reader_state.ReaderState.TheVariants.{Need, Bad}
 use Rattle.wire_stream.specs.declared.reader_state.ReadEnd.{ReadEnd}
@@ -57,6 +58,19 @@ begun_bytes held e = subst IsBytes (sym e) (λ i. grind (arith, common_steps))
 -- a reader that stands where it wants more holds open bytes
 pub still_open : (old limit' : ℕ) (held : List ℕ) (s : ReaderState) → StandsAt old held s → s ≡ Need → limit' ≡ old → IsOpen limit' held
 still_open old limit' held s stands need same = subst (λ n. IsOpen n held) (sym same) (subst (StandsAt old held) need stands)
+
+-- where a piece completes a good header, what is held begins with one
+pub completed : (limit limit' : ℕ) (held held' out piece : List ℕ) → CompletesHeader limit held out → limit' ≡ limit → held' ≡ held → out ≡ piece → HasGoodHeader limit' (held' ++ piece)
+completed limit limit' held held' out piece x same kept is =
+    subst (λ n. HasGoodHeader n (held' ++ piece)) (sym same) (subst (λ h. HasGoodHeader limit (h ++ piece)) (sym kept) (subst (λ q. HasGoodHeader limit (held ++ q)) is (x.after, x.good)))
+
+-- a message and what stands behind it begin with a good header
+pub whole_header : (limit : ℕ) (m : Message) (front piece : List ℕ) → SpellsMsg m front → length front ≤ limit → HasGoodHeader limit (front ++ piece)
+whole_header limit m front piece spells within =
+    let whole : IsWhole limit (front ++ piece) m piece = record { front = front; parts = refl; spelled = spells; within = within } in
+    let read = whole_read limit (front ++ piece) piece m whole in
+    let least = least_length m front spells in
+    (omega (arith, least, length-append front piece), read.good)
 
 pub still_bad : (old limit' : ℕ) (held : List ℕ) (s : ReaderState) (f : MsgFault) → StandsAt old held s → s ≡ Bad f → limit' ≡ old → IsBad limit' held f
 still_bad old limit' held s f stands bad same = subst (λ n. IsBad n held f) (sym same) (subst (StandsAt old held) bad stands)

@@ -9,11 +9,11 @@ use Rattle.wire_peer.specs.Chains.{written}
 use Rattle.wire_peer.specs.Logs.{Does, LogEntry, LogStep, RunOf, Stops}
 use Rattle.wire_peer.specs.declared.serving.ServeEnd.{ServeEnd}
 use Rattle.wire_peer.specs.declared.serving.ServeEnd.TheVariants as end
-use Rattle.wire_peer.specs.Coming.{Came, Worked}
+use Rattle.wire_peer.specs.Coming.{Came, HasGoodHeader, Worked}
 use Rattle.wire_peer.specs.Requests.{asked_by}
 use Rattle.wire_peer.specs.Serving.{AllSent, AreAnswered, AreOf, EndsAs, LastSent, Seen, Served, WantedMemory, id_behind, last_id, replies_to, requests_of, serve_out}
 use Rattle.wire_peer.specs.Answering.{AnswersAs, GotEntry}
-use Rattle.wire_peer.proofs.Comings.{begun_open}
+use Rattle.wire_peer.proofs.Comings.{begun_open, whole_header}
 use Rattle.wire_peer.proofs.SplitFronts.{first_of_split}
 
 rose_from : (o a f : ℕ) → a ≡ o → Rose a f → Rose o f
@@ -158,14 +158,23 @@ module _ {H : Type 0} (does : Does H) (stops : Stops H) where
   }
 
   pub ends_budget : (c limit budget : ℕ) (old new : Seen H) (k id : ℕ) (rest : List ℕ) → Progress c limit old new k id rest
-      → k ≡ budget → new.failures ≡ old.failures → Served does stops c limit budget end.Budget old new
-  ends_budget c limit budget old new k id rest p e works =
-      served_by c limit budget end.Budget old new k id rest p (omega arith) (works, p.counted ∙ e, all_sent c limit old new k id rest p)
+      → k ≡ budget → new.failures ≡ old.failures → new.ends ≡ old.ends → Served does stops c limit budget end.Budget old new
+  ends_budget c limit budget old new k id rest p e works told =
+      served_by c limit budget end.Budget old new k id rest p (omega arith) (works, told, p.counted ∙ e, all_sent c limit old new k id rest p)
 
-  pub ends_memory : (c limit budget : ℕ) (old new : Seen H) (k id : ℕ) (rest : List ℕ) → Progress c limit old new k id rest
-      → k ≤ budget → new.failures ≡ old.failures → Served does stops c limit budget end.OutOfMemory old new
-  ends_memory c limit budget old new k id rest p le works =
-      served_by c limit budget end.OutOfMemory old new k id rest p le (works, inl (all_sent c limit old new k id rest p))
+  -- memory was wanting before anything was received
+  pub ends_unbegun : (c limit budget : ℕ) (old : Seen H) → Served does stops c limit budget end.OutOfMemory old old
+  unfolding progress_start
+  ends_unbegun c limit budget old =
+      let p = progress_start c limit old in
+      served_by c limit budget end.OutOfMemory old old 0 1 [] p (omega arith) (refl, refl, inl (all_sent c limit old old 0 1 [] p, inl refl))
+
+  -- memory was wanting for the next message, of which a good header came
+  ends_memory : (c limit budget : ℕ) (old new : Seen H) (k id : ℕ) (rest : List ℕ) → Progress c limit old new k id rest
+      → k < budget → new.failures ≡ old.failures → new.ends ≡ old.ends → HasGoodHeader limit rest → Served does stops c limit budget end.OutOfMemory old new
+  ends_memory c limit budget old new k id rest p lt works told header =
+      let count : length p.made < budget = (let n = p.counted in omega arith) in
+      served_by c limit budget end.OutOfMemory old new k id rest p (omega arith) (works, told, inl (all_sent c limit old new k id rest p, inr (count, header)))
 
   -- no next message came
   pub ends_coming : (c limit budget : ℕ) (e : ServeEnd) (old new : Seen H) (k id : ℕ) (held piece : List ℕ) (failures ends : ℕ) → Progress c limit old new k id (held ++ piece)
@@ -189,10 +198,11 @@ module _ {H : Type 0} (does : Does H) (stops : Stops H) where
       served_by c limit budget (end.Fault f) old new k id (held ++ piece) p (omega arith)
       (w ∙ works, count, all_sent c limit old new k id (held ++ piece) p, bad_ends limit p.ms p.joined (held ++ piece) f came.1 p.spelled bad, bad)
   ends_coming c limit budget end.Link old new k id held piece failures ends p lt works told came w =
+      let count : length p.made < budget = (let n = p.counted in omega arith) in
       served_by c limit budget end.Link old new k id (held ++ piece) p (omega arith)
-      (rose_from old.failures failures new.failures works w, p.answered, inl (all_sent c limit old new k id (held ++ piece) p))
+      (rose_from old.failures failures new.failures works w, p.answered, inl (count, all_sent c limit old new k id (held ++ piece) p))
   ends_coming c limit budget end.OutOfMemory old new k id held piece failures ends p lt works told came w =
-      ends_memory c limit budget old new k id (held ++ piece) p (omega arith) (w ∙ works)
+      ends_memory c limit budget old new k id (held ++ piece) p lt (w ∙ works) (came.1 ∙ told) came.0
   ends_coming c limit budget end.Budget old new k id held piece failures ends p lt works told came w = absurd came
   ends_coming c limit budget end.ReplyTooLarge old new k id held piece failures ends p lt works told came w = absurd came
   ends_coming c limit budget end.HandlerFailed old new k id held piece failures ends p lt works told came w = absurd came
@@ -240,28 +250,28 @@ module _ {H : Type 0} (does : Does H) (stops : Stops H) where
       }
 
   ends_by_answer : (c limit budget : ℕ) (e : ServeEnd) (old a b : Seen H) (k id id' : ℕ) (m : Message) (front piece : List ℕ) → Progress c limit old a k id (front ++ piece)
-      → SpellsMsg m front → length front ≤ limit → Keeps a.received b.received → k < budget → a.failures ≡ old.failures
+      → SpellsMsg m front → length front ≤ limit → Keeps a.received b.received → k < budget → a.failures ≡ old.failures → b.ends ≡ old.ends
       → AnswersAs does stops c limit m (Err e) id id' a b → Served does stops c limit budget e old b
-  ends_by_answer c limit budget end.Link old a b k id id' m front piece p spells within keeps lt works x =
+  ends_by_answer c limit budget end.Link old a b k id id' m front piece p spells within keeps lt works told x =
       served_with c limit budget end.Link old a b k id m front piece x.3 p spells within keeps lt x.1 x.5 (
         rose_from old.failures a.failures b.failures works x.0,
         answered_push p.made x.1.entry p.answered x.2,
         inr (x.3, x.4, last_of c limit old a b k id m (front ++ piece) x.3 p x.1, rw (sym p.next) x.6),
       )
-  ends_by_answer c limit budget end.ReplyTooLarge old a b k id id' m front piece p spells within keeps lt works x =
+  ends_by_answer c limit budget end.ReplyTooLarge old a b k id id' m front piece p spells within keeps lt works told x =
       served_with c limit budget end.ReplyTooLarge old a b k id m front piece [] p spells within keeps lt x.2 x.1
       (x.0 ∙ works, last_of c limit old a b k id m (front ++ piece) [] p x.2, rw (sym p.next) x.3)
-  ends_by_answer c limit budget end.HandlerFailed old a b k id id' m front piece p spells within keeps lt works x =
+  ends_by_answer c limit budget end.HandlerFailed old a b k id id' m front piece p spells within keeps lt works told x =
       served_with c limit budget end.HandlerFailed old a b k id m front piece [] p spells within keeps lt x.2 x.1
       (x.0 ∙ works, last_of c limit old a b k id m (front ++ piece) [] p x.2, x.3, x.4)
-  ends_by_answer c limit budget end.OutOfMemory old a b k id id' m front piece p spells within keeps lt works x =
-      memory c limit budget old a b k id m front piece p spells within keeps lt (x.0 ∙ works) x.1 x.2
+  ends_by_answer c limit budget end.OutOfMemory old a b k id id' m front piece p spells within keeps lt works told x =
+      memory c limit budget old a b k id m front piece p spells within keeps lt (x.0 ∙ works) told x.1 x.2
     where
       memory : (c limit budget : ℕ) (old a b : Seen H) (k id : ℕ) (m : Message) (front piece : List ℕ) → Progress c limit old a k id (front ++ piece)
-          → SpellsMsg m front → length front ≤ limit → Keeps a.received b.received → k < budget → b.failures ≡ old.failures → Appends a.sent b.sent []
+          → SpellsMsg m front → length front ≤ limit → Keeps a.received b.received → k < budget → b.failures ≡ old.failures → b.ends ≡ old.ends → Appends a.sent b.sent []
           → ((b.handler ≡ a.handler) × (b.log ≡ a.log)) ⊎ ((g : GotEntry does stops c m a b) × WantedMemory stops limit a.handler m (replies_to id m g.entry.answers) g.entry.answers b.handler)
           → Served does stops c limit budget end.OutOfMemory old b
-      memory c limit budget old a b k id m front piece p spells within keeps lt works sent (inl x) =
+      memory c limit budget old a b k id m front piece p spells within keeps lt works told sent (inl x) =
           let q : Progress c limit old b k id (front ++ piece) = record {
             ms = p.ms;
             made = p.made;
@@ -278,18 +288,18 @@ module _ {H : Type 0} (does : Does H) (stops : Stops H) where
             sent = p.sent;
             answered = p.answered;
           } in
-          ends_memory c limit budget old b k id (front ++ piece) q (omega arith) works
-      memory c limit budget old a b k id m front piece p spells within keeps lt works sent (inr x) =
+          ends_memory c limit budget old b k id (front ++ piece) q lt works told (whole_header limit m front piece spells within)
+      memory c limit budget old a b k id m front piece p spells within keeps lt works told sent (inr x) =
           served_with c limit budget end.OutOfMemory old a b k id m front piece [] p spells within keeps lt x.0 sent
-          (works, inr (last_of c limit old a b k id m (front ++ piece) [] p x.0, rw (sym p.next) x.1))
-  ends_by_answer c limit budget end.Ended old a b k id id' m front piece p spells within keeps lt works x = absurd x
-  ends_by_answer c limit budget end.EndedInside old a b k id id' m front piece p spells within keeps lt works x = absurd x
-  ends_by_answer c limit budget (end.Fault f) old a b k id id' m front piece p spells within keeps lt works x = absurd x
-  ends_by_answer c limit budget end.Budget old a b k id id' m front piece p spells within keeps lt works x = absurd x
+          (works, told, inr (last_of c limit old a b k id m (front ++ piece) [] p x.0, rw (sym p.next) x.1))
+  ends_by_answer c limit budget end.Ended old a b k id id' m front piece p spells within keeps lt works told x = absurd x
+  ends_by_answer c limit budget end.EndedInside old a b k id id' m front piece p spells within keeps lt works told x = absurd x
+  ends_by_answer c limit budget (end.Fault f) old a b k id id' m front piece p spells within keeps lt works told x = absurd x
+  ends_by_answer c limit budget end.Budget old a b k id id' m front piece p spells within keeps lt works told x = absurd x
 
   -- a message was not answered, or not all its replies were sent
   pub ends_answer : (c limit budget n : ℕ) (e : ServeEnd) (old a b : Seen H) (k id id' : ℕ) (m : Message) (front piece : List ℕ) → Progress c limit old a k id (front ++ piece)
-      → SpellsMsg m front → length front ≤ limit → Keeps a.received b.received → k < budget → a.failures ≡ old.failures
+      → SpellsMsg m front → length front ≤ limit → Keeps a.received b.received → k < budget → a.failures ≡ old.failures → b.ends ≡ old.ends
       → n ≡ limit → AnswersAs does stops c n m (Err e) id id' a b → Served does stops c limit budget e old b
-  ends_answer c limit budget n e old a b k id id' m front piece p spells within keeps lt works same x =
-      ends_by_answer c limit budget e old a b k id id' m front piece p spells within keeps lt works (subst (λ l. AnswersAs does stops c l m (Err e) id id' a b) same x)
+  ends_answer c limit budget n e old a b k id id' m front piece p spells within keeps lt works told same x =
+      ends_by_answer c limit budget e old a b k id id' m front piece p spells within keeps lt works told (subst (λ l. AnswersAs does stops c l m (Err e) id id' a b) same x)

@@ -1,21 +1,25 @@
 -- How the next message comes over a link.
-use Rattle.std.specs.Prelude.{◌≡◌, ◌≢◌, ℕ, List, [], ◌++◌, Result, Ok, Err}
+use Rattle.std.specs.Prelude.{◌≡◌, ◌≢◌, ℕ, ◌≤◌, List, [], ◌++◌, length, Result, Ok, Err}
 use Rattle.bson_elem.specs.{IsBytes}
-use Rattle.wire_msg.specs.{IsBad, IsMessage, IsOpen}
+use Rattle.wire_msg.specs.{IsBad, IsGoodHeader, IsMessage, IsOpen, header_of}
 use Rattle.wire_stream.specs.{Rose}
 use Rattle.wire_peer.specs.declared.serving.ServeEnd.{ServeEnd}
 use Rattle.wire_peer.specs.declared.serving.ServeEnd.TheVariants.{Ended, EndedInside, Fault, Link, OutOfMemory}
 
+-- the bytes begin with a good header
+abbrev pub HasGoodHeader : ℕ → List ℕ → Type 0
+HasGoodHeader limit bytes = (16 ≤ length bytes) × IsGoodHeader limit (header_of bytes)
+
 -- What a reader holds under its limit, what an inlet holds behind that, and how often the link told its end before and
 -- now: a message is held; or no message comes, since the end was told, between messages or inside one, or since what came
--- is at fault, the link failed, or memory was wanting.
+-- is at fault, the link failed, or memory was wanting for a message of which a good header came.
 abbrev pub Came : Result (Unit {0}) ServeEnd → ℕ → List ℕ → List ℕ → ℕ → ℕ → Type 0
 Came (Ok _) limit held piece old new = IsMessage limit held × (new ≡ old)
 Came (Err Ended) limit held piece old new = (held ≡ []) × (piece ≡ []) × Rose old new
 Came (Err EndedInside) limit held piece old new = (held ≢ []) × IsOpen limit held × (piece ≡ []) × Rose old new
 Came (Err (Fault f)) limit held piece old new = IsBad limit held f × IsBytes (held ++ piece) × (new ≡ old)
 Came (Err Link) limit held piece old new = new ≡ old
-Came (Err OutOfMemory) limit held piece old new = new ≡ old
+Came (Err OutOfMemory) limit held piece old new = HasGoodHeader limit (held ++ piece) × (new ≡ old)
 Came (Err _) limit held piece old new = ⊥
 
 -- the count of failures is as before, but where the link failed

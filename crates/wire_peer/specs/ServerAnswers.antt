@@ -15,7 +15,7 @@ use Rattle.wire_peer.specs.Replying.{ReplyStep}
 use Rattle.wire_peer.specs.Requests.{asked_by}
 use Rattle.wire_peer.specs.Servers.{ServerView}
 
--- Of the requests that wait, the one that so many stand before is this message.
+-- The k-th request that waits, counted from 0, is this message.
 pub record WaitsAt (s : ServerView) (k : ℕ) (m : Message) : Type 0 where
   pub bytes : List ℕ
   pub at : slice_get s.waiting k ≡ Some bytes

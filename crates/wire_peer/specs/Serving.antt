@@ -4,6 +4,7 @@ use Rattle.std.specs.Io.KnownBytes.{Appends}
 use Rattle.wire_msg.specs.{AreSpelled, Content, IsBad, IsOpen, Message, Split}
 use Rattle.wire_stream.specs.{Rose}
 use Rattle.wire_peer.specs.Chains.{is_longer, next_id, replies, written}
+use Rattle.wire_peer.specs.Coming.{HasGoodHeader}
 use Rattle.wire_peer.specs.Logs.{Does, LogEntry, LogStep, RunOf, Stops}
 use Rattle.wire_peer.specs.Requests.{Asked, asked_by}
 use Rattle.wire_peer.specs.declared.handlers.HandlerStop.TheVariants as stop
@@ -99,10 +100,10 @@ EndsAs does stops limit budget EndedInside old new ms made got gave rest =
 EndsAs does stops limit budget (Fault f) old new ms made got gave rest =
     (new.failures ≡ old.failures) × (length made < budget) × AllSent ms made gave × Split limit got ms rest × IsBad limit rest f
 EndsAs does stops limit budget Budget old new ms made got gave rest =
-    (new.failures ≡ old.failures) × (length made ≡ budget) × AllSent ms made gave
+    (new.failures ≡ old.failures) × (new.ends ≡ old.ends) × (length made ≡ budget) × AllSent ms made gave
 EndsAs does stops limit budget Link old new ms made got gave rest =
     Rose old.failures new.failures × AreAnswered made
-    × (AllSent ms made gave ⊎ ((part : List ℕ) × (lost : List ℕ) × (l : LastSent does stops old.handler new.handler ms made gave part) × (written (last_replies l) ≡ part ++ lost)))
+    × (((length made < budget) × AllSent ms made gave) ⊎ ((part : List ℕ) × (lost : List ℕ) × (l : LastSent does stops old.handler new.handler ms made gave part) × (written (last_replies l) ≡ part ++ lost)))
 EndsAs does stops limit budget ReplyTooLarge old new ms made got gave rest =
     (new.failures ≡ old.failures)
     × (l : LastSent does stops old.handler new.handler ms made gave []) × (is_longer limit (last_replies l) ≡ true)
@@ -110,8 +111,8 @@ EndsAs does stops limit budget HandlerFailed old new ms made got gave rest =
     (new.failures ≡ old.failures)
     × (l : LastSent does stops old.handler new.handler ms made gave []) × (l.entry.answers ≡ None) × stops l.mid (asked_by l.message) stop.Failed new.handler
 EndsAs does stops limit budget OutOfMemory old new ms made got gave rest =
-    (new.failures ≡ old.failures)
-    × (AllSent ms made gave ⊎ ((l : LastSent does stops old.handler new.handler ms made gave []) × WantedMemory stops limit l.mid l.message (last_replies l) l.entry.answers new.handler))
+    (new.failures ≡ old.failures) × (new.ends ≡ old.ends)
+    × ((AllSent ms made gave × ((got ≡ []) ⊎ ((length made < budget) × HasGoodHeader limit rest))) ⊎ ((l : LastSent does stops old.handler new.handler ms made gave []) × WantedMemory stops limit l.mid l.message (last_replies l) l.entry.answers new.handler))
 
 -- Serving a connection ended so. It received the bytes of these messages and a rest. These are the first messages of each
 -- split of what was received, and each of them has an entry, in order.

@@ -1,7 +1,7 @@
 -- What a handler does that stops at one request.
 use Rattle.std.specs.Prelude.{ℕ, zero, suc, Option, Some, None}
 
--- how many requests come before the one that it stops at, where this one isn't it
+-- how many requests come before the one to stop at, once one more came
 abbrev pub one_fewer : Option ℕ → Option ℕ
 one_fewer None = None
 one_fewer (Some zero) = None

@@ -55,6 +55,13 @@ impl Model for CallTable {
     ghost invariant = { λ s. IsBegun s.calls.entries s.begun };
 }
 
+/// Takes the call out that bears this id. Those behind it close up.
+fn take_out(calls: &mut IndexMap<i32, Outstanding>, id: i32)
+    ensures { calls.new.entries ≡ without id calls.old.entries }
+{
+    calls.shift_remove(&id);
+}
+
 impl CallTable {
     /// Returns a table without calls. It takes no memory.
     pub(crate) fn new(alloc: Global) -> CallTable
@@ -207,7 +214,7 @@ impl CallTable {
         requires { IsAlone self.old id call }
         ensures { self.new ≡ without id self.old }
     {
-        self.calls.shift_remove(&id);
+        take_out(&mut self.calls, id);
         self.begun = None;
     }
 }

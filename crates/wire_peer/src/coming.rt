@@ -4,7 +4,7 @@ ghost use Rattle.std.specs.Prelude.{◌≡◌, ◌++◌, [], IfErr, IfOk, List, 
 ghost use Rattle.std.specs.Io.KnownBytes.{Appends, Keeps};
 ghost use Rattle.bson_elem.specs.{IsBytes};
 ghost use Rattle.wire_msg.specs.{IsOpen};
-ghost use Rattle.wire_stream.specs.{Feeds};
+ghost use Rattle.wire_stream.specs.{CompletesHeader, Feeds};
 ghost use Rattle.wire_peer.specs.Coming.{Came, Worked};
 
 use crate::serving::ServeEnd;
@@ -14,14 +14,15 @@ use wire_stream::{Fed, Inlet, Link, MsgReader, Pulled, ReadEnd, ReaderState};
 ///
 /// # Errors
 ///
-/// `OutOfMemory` where memory for a message is wanting. Nothing is taken then.
+/// `OutOfMemory` where the piece completes a good header and memory for its message is wanting. Nothing is taken then.
 fn feed_piece(reader: &mut MsgReader, piece: &[u8]) -> Result<Fed, ServeEnd>
     requires { IsOpen reader.old.limit reader.old.held }
     ensures bytes { IsBytes piece.now }
     ensures limit { reader.new.limit ≡ reader.old.limit }
     ensures fed { IfOk result (λ fed.
         Feeds reader.old.limit reader.old.held piece.now reader.new.held fed) }
-    ensures refused { IfErr result (λ end. end ≡ ServeEnd.OutOfMemory) }
+    ensures refused { IfErr result (λ end. (end ≡ ServeEnd.OutOfMemory)
+        × CompletesHeader reader.old.limit reader.old.held piece.now) }
     ensures unchanged { OnErr result (reader.new ≡ reader.old) }
 {
     match reader.feed(piece) {

@@ -32,7 +32,7 @@ fn place_of(next: u32, id: u32) -> u32
     }
 }
 
-/// Returns the id that stands so many places after `next`.
+/// Returns the id that stands `place` places after `next`.
 fn id_at(next: u32, place: u32) -> u32
     requires next { (1 ≤ next) × (next < 2 ^ 31) }
     requires place { place < 1025 }

@@ -32,6 +32,7 @@ pub struct Entry {
     pub connection: u64,
     /// The payload of the request.
     pub payload: PayloadBuf,
+    /// The answers, or that the handler stopped.
     pub outcome: Outcome,
 }
 

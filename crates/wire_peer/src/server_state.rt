@@ -74,7 +74,7 @@ impl ServerRefusal {
 /// Why a request isn't answered.
 #[derive(Clone, Copy, Debug, PartialEq, Eq)]
 pub enum AnswerRefusal {
-    /// So many requests don't wait. Nothing changed.
+    /// No more than `k` requests wait. Nothing changed.
     NoSuchRequest,
     /// The server is closed. Nothing changed.
     Closed,

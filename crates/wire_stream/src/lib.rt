@@ -2,7 +2,7 @@
 //!
 //! A `MsgReader` makes messages of bytes that come in pieces. A `Link` moves bytes both ways and may fail. An `Inlet` holds
 //! the piece that a link gave last, and `flush` sends what an `Outlet`, such as an `OutBuf`, has waiting. Nothing here looks
-//! into a message but by the contract of wire_msg.
+//! into a message, but at its length, except by the contract of wire_msg.
 #![tactic(auto)]
 
 mod held;

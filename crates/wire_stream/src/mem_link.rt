@@ -189,6 +189,7 @@ impl Link for MemLink {
         ensures fails { OnErr result (Rose self.old.failures self.new.failures) }
         ensures fault { is_due self.old.fails_after ≡ true → IsErr result }
         ensures full { self.old.room ≡ 0 → bytes.now ≢ [] → IsErr result }
+        ensures empty { is_due self.old.fails_after ≡ false → bytes.now ≡ [] → result ≡ Ok 0 }
         ensures moved { is_due self.old.fails_after ≡ false → 0 < moved self.old.most (length bytes.now) self.old.room
             → result ≡ Ok (moved self.old.most (length bytes.now) self.old.room) }
         ensures counted { self.new.fails_after ≡ one_less self.old.fails_after }

@@ -208,7 +208,7 @@ impl MsgReader {
     }
 
     /// Returns how many bytes of the current message there is room for: as many as a good header announces, and 0 without
-    /// one. No more are held than that, or than a header has.
+    /// one. At most that many bytes are held, or 16 where that is more.
     pub fn room(&self) -> usize
         ensures room { IsRoom self.now.limit self.now.held result }
         ensures held { length self.now.held ≤ max 16 result }

@@ -1,6 +1,7 @@
 use Rattle.std.proofs.Common.{◌∙◌, ◌++◌, [], append-nil, ap, refl, sym}
 use Rattle.std.proofs.KnownBytes.{Appends-nil, Keeps-refl, Keeps-trans}
-use Rattle.wire_peer.proofs.Comings.{begun_bytes, begun_open, both_bytes, came_on, ended_empty, held_bytes, pulled_on, still_bad, still_open}
+use Rattle.std.proofs.lemmas.Result.{err_from_is_err_and}
+use Rattle.wire_peer.proofs.Comings.{begun_bytes, begun_open, both_bytes, came_on, completed, ended_empty, held_bytes, pulled_on, still_bad, still_open}
 use Rattle.wire_peer.proofs.coming.next_message.Goals as goal
 
 pub returns-in-Err-clause-received : goal.returns-in-Err-clause-received
@@ -77,5 +78,14 @@ returns-in-Bad-clause-came g c =
     let found = rw c.in-Ok-Bytes.field-0-is at c.in-Ok-Bytes.ensures.found in (
       still_bad _ _ _ _ _ fed.state c.in-Bad.is c.feed_piece.ensures.limit,
       both_bytes _ _ c.pull.new.self _ c.bytes.result.now _ c.loop-reader.invariant.bytes fed.held c.bytes.ensures c.used.ensures c.feed_piece.ensures.bytes,
+      found.1 ∙ c.loop-reader.invariant.ends,
+    )
+
+pub returns-in_err-fed-clause-came : goal.returns-in_err-fed-clause-came
+returns-in_err-fed-clause-came g c =
+    let found = rw c.in-Ok-Bytes.field-0-is at c.in-Ok-Bytes.ensures.found in
+    let told = err_from_is_err_and c.from_residual.result c.from_residual.ensures.1 in
+    rw (told.1, told.2, c.in_err-fed.ensures.refused.0) (
+      completed _ _ _ _ c.bytes.result.now _ c.in_err-fed.ensures.refused.1 c.feed_piece.ensures.limit (ap (λ r. r.held) c.in_err-fed.ensures.unchanged) c.bytes.ensures,
       found.1 ∙ c.loop-reader.invariant.ends,
     )

@@ -2,12 +2,12 @@ use Rattle.std.proofs.Common.{◌≡◌, ◌<◌, ◌≤◌, ◌∙◌, [], ap, 
 use Rattle.wire_msg.specs.{Message, SpellsMsg, msg_bytes}
 use Rattle.wire_peer.specs.Logs.{log_of}
 use Rattle.wire_peer.specs.Serving.{Seen}
-use Rattle.wire_peer.proofs.Serves.{ends_answer, ends_budget, ends_coming, ends_memory, progress_came, progress_sent, progress_start}
+use Rattle.wire_peer.proofs.Serves.{ends_answer, ends_budget, ends_coming, ends_unbegun, progress_came, progress_sent, progress_start}
 use Rattle.wire_peer.proofs.serving.serve.Goals as goal
 
 pub returns-in_default : goal.returns-in_default
 returns-in_default g c =
-    ends_memory g.H.Handler.does g.H.Handler.stops _ _ _ _ _ 0 1 [] (progress_start g.H.Handler.does g.H.Handler.stops _ _ _) (omega arith) refl
+    ends_unbegun g.H.Handler.does g.H.Handler.stops _ _ _ _
 
 pub loop-i-init : goal.loop-i-init
 loop-i-init g c = record {
@@ -23,7 +23,7 @@ loop-i-init g c = record {
 pub returns : goal.returns
 returns g c =
     let all : c.loop-i.i ≡ c.args.budget = omega arith in
-    ends_budget g.H.Handler.does g.H.Handler.stops _ _ _ _ _ _ _ _ c.loop-i.invariant.progress all c.loop-i.invariant.works
+    ends_budget g.H.Handler.does g.H.Handler.stops _ _ _ _ _ _ _ _ c.loop-i.invariant.progress all c.loop-i.invariant.works c.loop-i.invariant.ends
 
 pub returns-in-Err : goal.returns-in-Err
 returns-in-Err g c =
@@ -47,8 +47,9 @@ returns-in-Err-answer_one g c =
     let works = c.in_default-next_message.ensures.works ∙ c.loop-i.invariant.works in
     let a : Seen _ = record { handler = c.loop-i.logged.handler; log = log_of c.loop-i.logged.entries.items; received = g.L.Link.received c.next_message.new.link; sent = g.L.Link.sent c.next_message.new.link; failures = g.L.Link.failures c.next_message.new.link; ends = g.L.Link.ends c.next_message.new.link } in
     let came = progress_came g.H.Handler.does g.H.Handler.stops _ _ _ _ a _ _ _ _ b.0 c.loop-i.invariant.progress b.1 b.2 c.next_message.ensures.sent refl refl in
+    let told = c.answer_one.ensures.end ∙ c.in_default-next_message.ensures.came.1 ∙ c.loop-i.invariant.ends in
     ends_answer g.H.Handler.does g.H.Handler.stops _ _ _ c.loop-i.replies.limit c.in-Err-answer_one.end _ a _ _ _ c.answer_one.new.replies.next m c.next_message.new.reader.held c.next_message.new.inlet
-    came some.1.1.1 within c.answer_one.ensures.received lt works c.loop-i.invariant.reply_limit (c.in-Err-answer_one.ensures.answered m spells)
+    came some.1.1.1 within c.answer_one.ensures.received lt works told c.loop-i.invariant.reply_limit (c.in-Err-answer_one.ensures.answered m spells)
 
 pub loop-i-preserved : goal.loop-i-preserved
 loop-i-preserved g c =
