@@ -27,7 +27,7 @@ use Rattle.wire_msg.proofs.SectionLaws.{length-body}
 use Rattle.wire_msg.proofs.ReadLaws.{length-sequence}
 use Rattle.wire_msg.proofs.RunLaws.{no_bytes}
 use Rattle.wire_msg.proofs.NameLaws.{field_found, found_shown, AreApart-append}
-use Rattle.wire_msg.proofs.LastLaws.{last_of_some, place_behind, only_place}
+use Rattle.wire_msg.proofs.LastLaws.{last_of_some, offset_behind, only_offset}
 
 -- ---- four bytes that are patched
 
@@ -70,11 +70,11 @@ parts_long b s c p = omega (arith, length-message c, ap length (only_behind b s 
 parts_are : (b s : List ℕ) (c : Content) → Spells c.body b → s ≡ sequences_bytes c.sequences → IsContent c → message_len c < 2 ^ 31 → AreParts [] b s c
 parts_are b s c body is content short = record { first = []; last = c.sequences; first_are = refl; body_is = body; last_are = is; in_order = refl; content = content; short = short }
 
-last_known_at : (b s : List ℕ) (c : Content) (place : ℕ) → AreParts [] b s c → place ≡ last_offset c.sequences → IsLastOffset s place
-last_known_at b s c place p at = only_place s c.sequences place p.content.sequences (only_behind b s c p) at
+last_known_at : (b s : List ℕ) (c : Content) (offset : ℕ) → AreParts [] b s c → offset ≡ last_offset c.sequences → IsLastOffset s offset
+last_known_at b s c offset p at = only_offset s c.sequences offset p.content.sequences (only_behind b s c p) at
 
-last_is_at : (b s : List ℕ) (c : Content) (place : ℕ) → AreParts [] b s c → IsLastOffset s place → place ≡ last_offset c.sequences
-last_is_at b s c place p at = at c.sequences p.content.sequences (only_behind b s c p)
+last_is_at : (b s : List ℕ) (c : Content) (offset : ℕ) → AreParts [] b s c → IsLastOffset s offset → offset ≡ last_offset c.sequences
+last_is_at b s c offset p at = at c.sequences p.content.sequences (only_behind b s c p)
 
 length-last : (qs : List Sequence) (q : Sequence) → length (sequences_bytes (qs ++ q ∷ [])) ≡ length (sequences_bytes qs) + (1 + sequence_size q)
 length-last qs q = omega (arith, ap length (sequences-append qs (q ∷ [])), length-append (sequences_bytes qs) (sequences_bytes (q ∷ [])), ap length (one_section q), length-sequence q)
@@ -124,8 +124,8 @@ with_sequence_are b s new c name p text free is short =
     } in
     parts_are b new (with_sequence c name) p.body_is bytes content short
 
-with_sequence_place : (b s : List ℕ) (c : Content) (name : List ℕ) → AreParts [] b s c → length s ≡ last_offset (c.sequences ++ empty_sequence name ∷ [])
-with_sequence_place b s c name p = ap length (only_behind b s c p) ∙ sym (place_behind c.sequences (empty_sequence name))
+with_sequence_offset : (b s : List ℕ) (c : Content) (name : List ℕ) → AreParts [] b s c → length s ≡ last_offset (c.sequences ++ empty_sequence name ∷ [])
+with_sequence_offset b s c name p = ap length (only_behind b s c p) ∙ sym (offset_behind c.sequences (empty_sequence name))
 
 -- ---- a document more
 
@@ -141,11 +141,11 @@ with_last_is (p ∷ []) q t = refl
 with_last_is (p ∷ r ∷ qs) q t = ap (λ (x : List Sequence). p ∷ x) (with_last_is (r ∷ qs) q t)
 
 -- the last sequence begins where it did
-same_place : (qs : List Sequence) (t : Tree) → last_offset (with_last_document qs t) ≡ last_offset qs
-same_place [] t = refl
-same_place (q ∷ []) t = refl
-same_place (q ∷ r ∷ []) t = refl
-same_place (q ∷ r ∷ u ∷ qs) t = ap (λ (n : ℕ). length (sequence_section q) + n) (same_place (r ∷ u ∷ qs) t)
+same_offset : (qs : List Sequence) (t : Tree) → last_offset (with_last_document qs t) ≡ last_offset qs
+same_offset [] t = refl
+same_offset (q ∷ []) t = refl
+same_offset (q ∷ r ∷ []) t = refl
+same_offset (q ∷ r ∷ u ∷ qs) t = ap (λ (n : ℕ). length (sequence_section q) + n) (same_offset (r ∷ u ∷ qs) t)
 
 apart_more : (body : Tree) (qs : List Sequence) (t : Tree) → AreApart body qs → AreApart body (with_last_document qs t)
 apart_more body [] t a = tt
@@ -172,38 +172,38 @@ pub has_none : (b s : List ℕ) (c : Content) → length s ≡ 0 → AreParts []
 has_none b s c none p = no_bytes s c.sequences (only_behind b s c p) none
 
 -- the last section, and what stands before it
-pub record LastSection (s : List ℕ) (c : Content) (place : ℕ) : Type 0 where
+pub record LastSection (s : List ℕ) (c : Content) (offset : ℕ) : Type 0 where
   pub before : List Sequence
   pub last : Sequence
   pub parts : c.sequences ≡ before ++ last ∷ []
-  pub place_is : length (sequences_bytes before) ≡ place
+  pub offset_is : length (sequences_bytes before) ≡ offset
   pub bytes : s ≡ sequences_bytes before ++ 1 ∷ (little (sequence_size last) ++ (cstring last.identifier ++ documents_bytes last.documents))
-  pub room : place + (1 + sequence_size last) ≡ length s
+  pub room : offset + (1 + sequence_size last) ≡ length s
   pub least : 5 ≤ sequence_size last
 
-last_section : (b s : List ℕ) (c : Content) (place : ℕ) → AreParts [] b s c → c.sequences ≢ [] → IsLastOffset s place → LastSection s c place
-last_section b s c place p some at =
+last_section : (b s : List ℕ) (c : Content) (offset : ℕ) → AreParts [] b s c → c.sequences ≢ [] → IsLastOffset s offset → LastSection s c offset
+last_section b s c offset p some at =
     let l = last_of_some c.sequences some in
     let is : s ≡ sequences_bytes l.before ++ sequence_section l.last = only_behind b s c p ∙ ap sequences_bytes l.parts ∙ sequences-append l.before (l.last ∷ []) ∙ ap (λ (x : List ℕ). sequences_bytes l.before ++ x) (one_section l.last) in
-    let place_is : length (sequences_bytes l.before) ≡ place = sym (last_is_at b s c place p at ∙ l.place) in
+    let offset_is : length (sequences_bytes l.before) ≡ offset = sym (last_is_at b s c offset p at ∙ l.offset) in
     record {
       before = l.before;
       last = l.last;
       parts = l.parts;
-      place_is = place_is;
+      offset_is = offset_is;
       bytes = is ∙ ap (λ (x : List ℕ). sequences_bytes l.before ++ x) (section_is l.last);
-      room = omega (arith, ap length is, length-append (sequences_bytes l.before) (sequence_section l.last), length-sequence l.last, place_is);
+      room = omega (arith, ap length is, length-append (sequences_bytes l.before) (sequence_section l.last), length-sequence l.last, offset_is);
       least = omega (arith, length-append l.last.identifier (0 ∷ []));
     }
 
 -- the longer payload, by the bytes of the document behind the others, and the size in its place
-pub with_document_are : (b s new d : List ℕ) (c : Content) (t : Tree) (place size : ℕ) → AreParts [] b s c → c.sequences ≢ [] → IsLastOffset s place → Spells t d → size ≡ length s + length d - (place + 1) → new ≡ take (place + 1) s ++ (little size ++ (drop (place + 5) s ++ d)) → message_len (with_document c t) < 2 ^ 31 → AreParts [] b new (with_document c t)
-with_document_are b s new d c t place size p some at spelled size-is put short =
-    let l = last_section b s c place p some at in
+pub with_document_are : (b s new d : List ℕ) (c : Content) (t : Tree) (offset size : ℕ) → AreParts [] b s c → c.sequences ≢ [] → IsLastOffset s offset → Spells t d → size ≡ length s + length d - (offset + 1) → new ≡ take (offset + 1) s ++ (little size ++ (drop (offset + 5) s ++ d)) → message_len (with_document c t) < 2 ^ 31 → AreParts [] b new (with_document c t)
+with_document_are b s new d c t offset size p some at spelled size-is put short =
+    let l = last_section b s c offset p some at in
     let q : Sequence = l.last in
     let n : size ≡ sequence_size (longer q t) = omega (arith, size-is, l.room, size_more q t d spelled) in
     let inner : (cstring q.identifier ++ documents_bytes q.documents) ++ d ≡ cstring q.identifier ++ documents_bytes (longer q t).documents = append_assoc (cstring q.identifier) (documents_bytes q.documents) d ∙ ap (λ (x : List ℕ). cstring q.identifier ++ x) (sym (documents_more q t d spelled)) in
-    let section : new ≡ sequences_bytes l.before ++ sequence_section (longer q t) = patched (sequences_bytes l.before) (little (sequence_size q)) (cstring q.identifier ++ documents_bytes q.documents) d s new place size (longer q t) l.place_is refl l.bytes n inner put in
+    let section : new ≡ sequences_bytes l.before ++ sequence_section (longer q t) = patched (sequences_bytes l.before) (little (sequence_size q)) (cstring q.identifier ++ documents_bytes q.documents) d s new offset size (longer q t) l.offset_is refl l.bytes n inner put in
     let all : with_last_document c.sequences t ≡ l.before ++ longer q t ∷ [] = ap (λ (x : List Sequence). with_last_document x t) l.parts ∙ with_last_is l.before q t in
     let bytes : new ≡ sequences_bytes (with_last_document c.sequences t) = section ∙ ap (λ (x : List ℕ). sequences_bytes l.before ++ x) (sym (one_section (longer q t))) ∙ sym (sequences-append l.before (longer q t ∷ [])) ∙ sym (ap sequences_bytes all) in
     let content : IsContent (with_document c t) = record {
@@ -214,8 +214,8 @@ with_document_are b s new d c t place size p some at spelled size-is put short =
     } in
     parts_are b new (with_document c t) p.body_is bytes content short
 
-with_document_place : (b s : List ℕ) (c : Content) (t : Tree) (place : ℕ) → AreParts [] b s c → IsLastOffset s place → place ≡ last_offset (with_last_document c.sequences t)
-with_document_place b s c t place p at = last_is_at b s c place p at ∙ sym (same_place c.sequences t)
+with_document_offset : (b s : List ℕ) (c : Content) (t : Tree) (offset : ℕ) → AreParts [] b s c → IsLastOffset s offset → offset ≡ last_offset (with_last_document c.sequences t)
+with_document_offset b s c t offset p at = last_is_at b s c offset p at ∙ sym (same_offset c.sequences t)
 
 -- ---- where the last sequence of the longer payload begins, whatever it carries
 
@@ -223,22 +223,22 @@ pub sequence_begun : (b s new name : List ℕ) → IsUtf8 name → ((c : Content
 sequence_begun b s new name text free is known =
     let are : (c : Content) → AreParts [] b s c → AreParts [] b new (with_sequence c name) = λ c p. with_sequence_are b s new c name p text (free c p).0 is (free c p).1 in (
       ∥∥₁_map known (λ k. (with_sequence k.0 name, are k.0 k.1)),
-      λ qs fits same. ∥∥₁_elim known (ℕ_set _ _) (λ k. last_known_at b new (with_sequence k.0 name) (length s) (are k.0 k.1) (with_sequence_place b s k.0 name k.1) qs fits same),
+      λ qs fits same. ∥∥₁_elim known (ℕ_set _ _) (λ k. last_known_at b new (with_sequence k.0 name) (length s) (are k.0 k.1) (with_sequence_offset b s k.0 name k.1) qs fits same),
     )
 
-pub document_added : (b s new d : List ℕ) (place size : ℕ) → IsLastOffset s place → ((c : Content) (t : Tree) → AreParts [] b s c → Spells t d → (c.sequences ≢ []) × (message_len (with_document c t) < 2 ^ 31)) → size ≡ length s + length d - (place + 1) → new ≡ take (place + 1) s ++ (little size ++ (drop (place + 5) s ++ d)) → ∥ IsPayload [] b s ∥₁ → ∥ IsSpelled d ∥₁ → ∥ IsPayload [] b new ∥₁ × IsLastOffset new place
-document_added b s new d place size at fits size-is put known spelled =
-    let are : (c : Content) (t : Tree) → AreParts [] b s c → Spells t d → AreParts [] b new (with_document c t) = λ c t p is. with_document_are b s new d c t place size p (fits c t p is).0 at is size-is put (fits c t p is).1 in (
+pub document_added : (b s new d : List ℕ) (offset size : ℕ) → IsLastOffset s offset → ((c : Content) (t : Tree) → AreParts [] b s c → Spells t d → (c.sequences ≢ []) × (message_len (with_document c t) < 2 ^ 31)) → size ≡ length s + length d - (offset + 1) → new ≡ take (offset + 1) s ++ (little size ++ (drop (offset + 5) s ++ d)) → ∥ IsPayload [] b s ∥₁ → ∥ IsSpelled d ∥₁ → ∥ IsPayload [] b new ∥₁ × IsLastOffset new offset
+document_added b s new d offset size at fits size-is put known spelled =
+    let are : (c : Content) (t : Tree) → AreParts [] b s c → Spells t d → AreParts [] b new (with_document c t) = λ c t p is. with_document_are b s new d c t offset size p (fits c t p is).0 at is size-is put (fits c t p is).1 in (
       ∥∥₁_elim spelled ∥∥₁_prop (λ u. ∥∥₁_map known (λ k. (with_document k.0 u.0, are k.0 u.0 k.1 u.1))),
-      λ qs fits' same. ∥∥₁_elim spelled (ℕ_set _ _) (λ u. ∥∥₁_elim known (ℕ_set _ _) (λ k. last_known_at b new (with_document k.0 u.0) place (are k.0 u.0 k.1 u.1) (with_document_place b s k.0 u.0 place k.1 at) qs fits' same)),
+      λ qs fits' same. ∥∥₁_elim spelled (ℕ_set _ _) (λ u. ∥∥₁_elim known (ℕ_set _ _) (λ k. last_known_at b new (with_document k.0 u.0) offset (are k.0 u.0 k.1 u.1) (with_document_offset b s k.0 u.0 offset k.1 at) qs fits' same)),
     )
 
 -- the same bytes
-pub same_payload : (b s new : List ℕ) (place : ℕ) → new ≡ s → IsLastOffset s place → ∥ IsPayload [] b s ∥₁ → ∥ IsPayload [] b new ∥₁ × IsLastOffset new place
-same_payload b s new place is at known = (subst (λ (x : List ℕ). ∥ IsPayload [] b x ∥₁) (sym is) known, subst (λ (x : List ℕ). IsLastOffset x place) (sym is) at)
+pub same_payload : (b s new : List ℕ) (offset : ℕ) → new ≡ s → IsLastOffset s offset → ∥ IsPayload [] b s ∥₁ → ∥ IsPayload [] b new ∥₁ × IsLastOffset new offset
+same_payload b s new offset is at known = (subst (λ (x : List ℕ). ∥ IsPayload [] b x ∥₁) (sym is) known, subst (λ (x : List ℕ). IsLastOffset x offset) (sym is) at)
 
--- the place lies within the bytes, and a size behind it
-pub last_inside : (b s : List ℕ) (place : ℕ) → length s ≢ 0 → IsLastOffset s place → ∥ IsPayload [] b s ∥₁ → place + 6 ≤ length s
-last_inside b s place some at known =
-    let no : length s < place + 6 → ⊥ = λ lt. not_there known (λ k. let l = last_section b s k.0 place k.1 (has_sequences b s k.0 some k.1) at in omega (arith, lt, l.room, l.least)) in
+-- the offset lies within the bytes, and a size behind it
+pub last_inside : (b s : List ℕ) (offset : ℕ) → length s ≢ 0 → IsLastOffset s offset → ∥ IsPayload [] b s ∥₁ → offset + 6 ≤ length s
+last_inside b s offset some at known =
+    let no : length s < offset + 6 → ⊥ = λ lt. not_there known (λ k. let l = last_section b s k.0 offset k.1 (has_sequences b s k.0 some k.1) at in omega (arith, lt, l.room, l.least)) in
     omega (arith, no)

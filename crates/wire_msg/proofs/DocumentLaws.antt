@@ -45,7 +45,7 @@ one_more bytes rest d after b s is =
 pub fault_after : (start : ℕ) (bytes rest : List ℕ) (inner : BsonFault) → DocumentsBefore bytes rest → (length rest ≡ 0 → ⊥) → FrontFault rest inner → DocumentsFault start bytes (msg_fault (start + (length bytes - length rest)) (Document inner))
 fault_after start bytes [] inner b some front = absurd (some refl)
 fault_after start bytes (x ∷ rest) inner b some front =
-    let place : length bytes - length (x ∷ rest) ≡ length (documents_bytes b.documents) = omega (arith, ap length b.parts, length-append (documents_bytes b.documents) (x ∷ rest)) in
+    let offset : length bytes - length (x ∷ rest) ≡ length (documents_bytes b.documents) = omega (arith, ap length b.parts, length-append (documents_bytes b.documents) (x ∷ rest)) in
     record {
       documents = b.documents;
       first = x;
@@ -54,7 +54,7 @@ fault_after start bytes (x ∷ rest) inner b some front =
       parts = b.parts;
       fits = b.fits;
       front = front;
-      is = ap (λ (n : ℕ). msg_fault (start + n) (Document inner)) place;
+      is = ap (λ (n : ℕ). msg_fault (start + n) (Document inner)) offset;
     }
 
 -- ---- documents that are left

@@ -16,7 +16,7 @@ use Rattle.wire_msg.specs.Spelling.{IsMessage}
 use Rattle.wire_msg.specs.Faults.{IsFramedMsg, PartsFault, FaultMsg, of_parts}
 use Rattle.wire_msg.specs.Standing.{IsOpen, IsWhole, IsBad, bad_header, bad_message, Stands, is_open, is_whole, is_bad}
 use Rattle.wire_msg.specs.Front.{IsFront, HasWhole}
-use Rattle.wire_msg.proofs.FaultPlaces.{header_place, fault_place}
+use Rattle.wire_msg.proofs.FaultOffsets.{header_offset, fault_offset}
 use Rattle.wire_msg.proofs.StandingLaws.{header_front, one_front, open_not_whole, open_not_bad, bad_not_whole, bad_once}
 
 pub IsBytes-front : (bytes front rest : List ℕ) → IsBytes bytes → bytes ≡ front ++ rest → IsBytes front
@@ -43,11 +43,11 @@ framed_bad limit bytes message rest f fits parts framed fault =
     let cut : take (number_at bytes 0) bytes ≡ message = ap (λ (n : ℕ). take n bytes) size ∙ ap (take (length message)) parts ∙ take_at message rest (length message) refl in
     let wrong : FaultMsg message limit f = of_parts framed fault in (
       bad_message (omega (arith, framed.header, sum)) (subst (IsGoodHeader limit) (sym same) framed.good) (omega (arith, size, sum)) (subst (λ (x : List ℕ). FaultMsg x limit f) (sym cut) wrong),
-      omega (arith, fault_place message limit f (IsBytes-front bytes message rest fits parts) wrong, sum),
+      omega (arith, fault_offset message limit f (IsBytes-front bytes message rest fits parts) wrong, sum),
     )
 
 pub header_bad : (limit : ℕ) (bytes : List ℕ) (f : MsgFault) → 16 ≤ length bytes → HeaderFault limit (header_of bytes) f → IsBad limit bytes f × (f.at ≤ length bytes)
-header_bad limit bytes f room fault = (bad_header room fault, omega (arith, room, header_place limit (header_of bytes) f fault))
+header_bad limit bytes f room fault = (bad_header room fault, omega (arith, room, header_offset limit (header_of bytes) f fault))
 
 -- ---- one way
 

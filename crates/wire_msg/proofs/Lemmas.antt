@@ -4,7 +4,7 @@
 pub use Rattle.wire_msg.proofs.MsgAnswers.{MsgRead, msg_read}
 -- the header
 pub use Rattle.wire_msg.proofs.FrameLaws.{header_of-take}
-pub use Rattle.wire_msg.proofs.FaultPlaces.{header_place, fault_place}
+pub use Rattle.wire_msg.proofs.FaultOffsets.{header_offset, fault_offset}
 -- open, whole and bad bytes
 pub use Rattle.wire_msg.proofs.StandingLaws.{header_front, one_message, one_front, no_other, open_not_whole, open_not_bad, bad_not_whole, bad_once, bad_early, no_message, least_length, WholeRead, whole_read, bad_longer, open_shorter, open_inside}
 pub use Rattle.wire_msg.proofs.FrontLaws.{IsBytes-front, open_or_bad, stands}

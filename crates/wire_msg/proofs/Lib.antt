@@ -13,13 +13,13 @@ pub mod Verdicts
 pub mod SectionVerdicts
 pub mod SectionAnswers
 pub mod MsgAnswers
-pub mod PlaceLaws
+pub mod OffsetLaws
 pub mod StandingLaws
 pub mod WriteLaws
 pub mod LastLaws
 pub mod AppendLaws
 pub mod BufLaws
-pub mod FaultPlaces
+pub mod FaultOffsets
 pub mod FrontLaws
 pub mod SplitLaws
 pub mod ContentLaws

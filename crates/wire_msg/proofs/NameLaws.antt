@@ -75,9 +75,9 @@ later_in_body t start sequences qs rest name next f le is are absent =
     let q : Sequence = f.sequence in
     let field : is_field q.identifier t ≡ false = ap (λ (n : List ℕ). is_field n t) (sym is) ∙ absent in
     let size : length rest ≡ length (sequence_section q) + length next = ap length f.are ∙ length-append (sequence_section q) (sequences_bytes f.others) ∙ ap (λ (x : List ℕ). length (sequence_section q) + length x) (sym are) in
-    let place : start + (length sequences - length rest) + length (sequence_section q) ≡ start + (length sequences - length next) = omega (arith, size, le) in
+    let offset : start + (length sequences - length rest) + length (sequence_section q) ≡ start + (length sequences - length next) = omega (arith, size, le) in
     let passed : first_in_body t (start + (length sequences - length rest)) (q ∷ f.others) ≡ first_in_body t (start + (length sequences - length rest) + length (sequence_section q)) f.others = rw field refl in
-    record { left = f.others; fits = f.fits.1; are = are; same = f.same ∙ passed ∙ ap (λ (p : ℕ). first_in_body t p f.others) place }
+    record { left = f.others; fits = f.fits.1; are = are; same = f.same ∙ passed ∙ ap (λ (p : ℕ). first_in_body t p f.others) offset }
 
 none_cases : (t : Tree) (p : ℕ) (rest : List ℕ) (left : List Sequence) → length rest ≡ 0 → rest ≡ sequences_bytes left → first_in_body t p left ≡ None
 none_cases t p rest [] none are = refl
@@ -96,13 +96,13 @@ names_before first t last p e f = rw (e, ← f) refl
 
 pub names_after : (first : List Sequence) (t : Tree) (last : List Sequence) (next p : ℕ) → first_repeated [] t ≡ None → None ≡ first_in_body t 20 first → next ≡ 20 + length (sequences_bytes first) + length (body_section t) → Some p ≡ first_in_body t next last → names_fault first t last ≡ Some (msg_fault p SequenceInBody)
 names_after first t last next p e f n g =
-    let place : first_in_body t (20 + length (sequences_bytes first) + length (body_section t)) last ≡ Some p = ap (λ (k : ℕ). first_in_body t k last) (sym n) ∙ sym g in
-    rw (e, ← f, place) refl
+    let offset : first_in_body t (20 + length (sequences_bytes first) + length (body_section t)) last ≡ Some p = ap (λ (k : ℕ). first_in_body t k last) (sym n) ∙ sym g in
+    rw (e, ← f, offset) refl
 
 pub names_none : (first : List Sequence) (t : Tree) (last : List Sequence) (next : ℕ) → first_repeated [] t ≡ None → None ≡ first_in_body t 20 first → next ≡ 20 + length (sequences_bytes first) + length (body_section t) → None ≡ first_in_body t next last → names_fault first t last ≡ None
 names_none first t last next e f n g =
-    let place : first_in_body t (20 + length (sequences_bytes first) + length (body_section t)) last ≡ None = ap (λ (k : ℕ). first_in_body t k last) (sym n) ∙ sym g in
-    rw (e, ← f, place) refl
+    let offset : first_in_body t (20 + length (sequences_bytes first) + length (body_section t)) last ≡ None = ap (λ (k : ℕ). first_in_body t k last) (sym n) ∙ sym g in
+    rw (e, ← f, offset) refl
 
 pub is_repeated : (r : Option (Bor (List ℕ))) (found : Option (List ℕ)) → MatchOption r (found ≡ None) (λ name. found ≡ Some name.now) → is_some r ≡ true → (name : List ℕ) × (found ≡ Some name)
 is_repeated None found m some = absurd cc
@@ -129,16 +129,16 @@ fields_cases : (p : ℕ) (found : Option (List ℕ)) (other : Option MsgFault) �
 fields_cases p None other e = (refl, e)
 fields_cases p (Some name) other e = absurd cc
 
-places_cases : (a b : Option ℕ) → identifier_fault (option_or a b) ≡ None → (a ≡ None) × (b ≡ None)
-places_cases None None e = (refl, refl)
-places_cases None (Some p) e = absurd cc
-places_cases (Some p) b e = absurd cc
+offsets_cases : (a b : Option ℕ) → identifier_fault (option_or a b) ≡ None → (a ≡ None) × (b ≡ None)
+offsets_cases None None e = (refl, refl)
+offsets_cases None (Some p) e = absurd cc
+offsets_cases (Some p) b e = absurd cc
 
 pub no_names_fault : (first : List Sequence) (t : Tree) (last : List Sequence) → names_fault first t last ≡ None → (first_repeated [] t ≡ None) × AreApart t (first ++ last)
 no_names_fault first t last e =
     let p : ℕ = 20 + length (sequences_bytes first) in
     let f = fields_cases p (first_repeated [] t) (identifier_fault (option_or (first_in_body t 20 first) (first_in_body t (p + length (body_section t)) last))) e in
-    let g = places_cases (first_in_body t 20 first) (first_in_body t (p + length (body_section t)) last) f.1 in
+    let g = offsets_cases (first_in_body t 20 first) (first_in_body t (p + length (body_section t)) last) f.1 in
     (f.0, AreApart-append t first last (apart t 20 first g.0) (apart t (p + length (body_section t)) last g.1))
 
 -- ---- where each name stands once, there is no fault

@@ -34,8 +34,8 @@ pub verdict_spelled : (bytes : List ℕ) (before : List Sequence) (body : Tree) 
 verdict_spelled bytes before body after is f doc g = with_body bytes before body (sequences_bytes after) after (Ok []) is f doc (all_run (20 + length (sequences_bytes before) + length (body_section body)) after g)
 
 -- where the section behind these stands
-behind_place : (before : List Sequence) (body : Tree) (after : List Sequence) → 20 + length (sections_bytes before body after) ≡ 20 + length (sequences_bytes before) + length (body_section body) + length (sequences_bytes after)
-behind_place before body after = omega (arith, length-append (sequences_bytes before) (body_section body ++ sequences_bytes after), length-append (body_section body) (sequences_bytes after))
+behind_offset : (before : List Sequence) (body : Tree) (after : List Sequence) → 20 + length (sections_bytes before body after) ≡ 20 + length (sequences_bytes before) + length (body_section body) + length (sequences_bytes after)
+behind_offset before body after = omega (arith, length-append (sequences_bytes before) (body_section body ++ sequences_bytes after), length-append (body_section body) (sequences_bytes after))
 
 regroup : (before : List Sequence) (body : Tree) (after : List Sequence) (x : List ℕ) → sections_bytes before body after ++ x ≡ sequences_bytes before ++ (body_section body ++ (sequences_bytes after ++ x))
 regroup before body after x = append_assoc (sequences_bytes before) (body_section body ++ sequences_bytes after) x ∙ ap (λ (y : List ℕ). sequences_bytes before ++ y) (append_assoc (body_section body) (sequences_bytes after) x)
@@ -78,16 +78,16 @@ behind_fault : (bytes : List ℕ) (before : List Sequence) (body : Tree) (after 
 behind_fault bytes before body after kind rest f is fit doc fits (two_bodies second e) =
     let p : ℕ = 20 + length (sequences_bytes before) + length (body_section body) in
     let run : Run p (sequences_bytes after ++ kind ∷ rest) after (Ok (kind ∷ rest)) = record { rest = kind ∷ rest; fits = fits; parts = refl; stops = ends_here (λ one. omega (arith, one, second)) refl } in
-    verdict_is bytes _ (Err f) (second_told kind (20 + length (sections_bytes before body after)) (p + length (sequences_bytes after)) (before, body, after) rest f second (behind_place before body after) e) (with_body bytes before body (sequences_bytes after ++ kind ∷ rest) after (Ok (kind ∷ rest)) (is ∙ regroup before body after (kind ∷ rest)) fit doc run)
+    verdict_is bytes _ (Err f) (second_told kind (20 + length (sections_bytes before body after)) (p + length (sequences_bytes after)) (before, body, after) rest f second (behind_offset before body after) e) (with_body bytes before body (sequences_bytes after ++ kind ∷ rest) after (Ok (kind ∷ rest)) (is ∙ regroup before body after (kind ∷ rest)) fit doc run)
 behind_fault bytes before body after kind rest f is fit doc fits (of_body g first front e) = absurd first
 behind_fault bytes before body after kind rest f is fit doc fits (of_sequence one fault) =
     let p : ℕ = 20 + length (sequences_bytes before) + length (body_section body) in
-    let run : Run p (sequences_bytes after ++ kind ∷ rest) after (Err f) = record { rest = kind ∷ rest; fits = fits; parts = refl; stops = fails_here rest f (ap (λ (k : ℕ). k ∷ rest) one) (subst (λ (n : ℕ). SequenceFault n rest f) (behind_place before body after) fault) refl } in
+    let run : Run p (sequences_bytes after ++ kind ∷ rest) after (Err f) = record { rest = kind ∷ rest; fits = fits; parts = refl; stops = fails_here rest f (ap (λ (k : ℕ). k ∷ rest) one) (subst (λ (n : ℕ). SequenceFault n rest f) (behind_offset before body after) fault) refl } in
     with_body bytes before body (sequences_bytes after ++ kind ∷ rest) after (Err f) (is ∙ regroup before body after (kind ∷ rest)) fit doc run
 behind_fault bytes before body after kind rest f is fit doc fits (of_kind ne ne' e) =
     let p : ℕ = 20 + length (sequences_bytes before) + length (body_section body) in
     let run : Run p (sequences_bytes after ++ kind ∷ rest) after (Ok (kind ∷ rest)) = record { rest = kind ∷ rest; fits = fits; parts = refl; stops = ends_here ne' refl } in
-    verdict_is bytes _ (Err f) (kind_told kind (20 + length (sections_bytes before body after)) (p + length (sequences_bytes after)) (before, body, after) rest f ne (behind_place before body after) e) (with_body bytes before body (sequences_bytes after ++ kind ∷ rest) after (Ok (kind ∷ rest)) (is ∙ regroup before body after (kind ∷ rest)) fit doc run)
+    verdict_is bytes _ (Err f) (kind_told kind (20 + length (sections_bytes before body after)) (p + length (sequences_bytes after)) (before, body, after) rest f ne (behind_offset before body after) e) (with_body bytes before body (sequences_bytes after ++ kind ∷ rest) after (Ok (kind ∷ rest)) (is ∙ regroup before body after (kind ∷ rest)) fit doc run)
 
 no_body_verdict : (bytes : List ℕ) (qs : List Sequence) (f : MsgFault) → bytes ≡ sequences_bytes qs → AreSequences qs → f ≡ msg_fault (20 + length bytes) causes.NoBody → Verdict bytes (Err f)
 no_body_verdict bytes qs f is fits e = record {

@@ -21,8 +21,8 @@ length-body t = omega arith
 
 -- ---- before the body
 
-place : (bytes : List ℕ) (start at : ℕ) → (r : IsRun bytes start at) → start + length (sequences_bytes r.sequences) ≡ at
-place bytes start at r = omega (arith, r.within, r.forwards, ap length r.parts, length-append (sequences_bytes r.sequences) (drop at bytes), length-drop start bytes, length-drop at bytes)
+offset : (bytes : List ℕ) (start at : ℕ) → (r : IsRun bytes start at) → start + length (sequences_bytes r.sequences) ≡ at
+offset bytes start at r = omega (arith, r.within, r.forwards, ap length r.parts, length-append (sequences_bytes r.sequences) (drop at bytes), length-drop start bytes, length-drop at bytes)
 
 here : (bytes : List ℕ) (at : ℕ) → at < length bytes → drop at bytes ≡ get_or bytes at 0 ∷ drop (at + 1) bytes
 here bytes at lt = drop_more bytes at 0 lt
@@ -43,7 +43,7 @@ no_body_at bytes at r is =
 fault_before : (bytes : List ℕ) (at : ℕ) (f : MsgFault) → (r : IsRun bytes 20 at) → at < length bytes → SectionFault (no_body_yet r.sequences) at (get_or bytes at 0) (drop (at + 1) bytes) f → SectionsFault (drop 20 bytes) f
 fault_before bytes at f r lt fault =
     at_section (no_body_yet r.sequences) (get_or bytes at 0) (drop (at + 1) bytes) (r.parts ∙ ap (λ (x : List ℕ). sequences_bytes r.sequences ++ x) (here bytes at lt)) r.fits
-    (subst (λ (p : ℕ). SectionFault (no_body_yet r.sequences) p (get_or bytes at 0) (drop (at + 1) bytes) f) (sym (place bytes 20 at r)) fault)
+    (subst (λ (p : ℕ). SectionFault (no_body_yet r.sequences) p (get_or bytes at 0) (drop (at + 1) bytes) f) (sym (offset bytes 20 at r)) fault)
 
 pub kind_before : (bytes : List ℕ) (at : ℕ) → IsRun bytes 20 at → at < length bytes → get_or bytes at 0 ≢ 0 → SectionsFault (drop 20 bytes) (msg_fault at causes.SectionKind)
 kind_before bytes at r lt ne = fault_before bytes at (msg_fault at causes.SectionKind) r lt (of_kind ne (kind_here bytes at lt r.stops) refl)
@@ -53,7 +53,7 @@ body_fails bytes at inner r lt zero_is front = fault_before bytes at (msg_fault 
 
 -- ---- behind the body
 
--- Sequences stand from place 20 on, a body behind them, and what is left begins at the next place.
+-- Sequences stand from offset 20 on, a body behind them, and what is left begins at the next offset.
 pub record BodyAt (bytes : List ℕ) (at : ℕ) (d : List ℕ) (next : ℕ) : Type 0 where
   pub before : List Sequence
   pub before_fit : AreSequences before
@@ -79,7 +79,7 @@ body_at bytes at d rest r lt zero_is is s =
       body = s.0;
       spelled = s.1;
       parts = r.parts ∙ ap (λ (x : List ℕ). sequences_bytes r.sequences ++ x) section;
-      at_is = sym (place bytes 20 at r);
+      at_is = sym (offset bytes 20 at r);
       next_is = next-is;
       within = omega arith;
     }
@@ -91,8 +91,8 @@ seen_parts bytes at next d b qs x is =
     ∙ ap (λ (y : List ℕ). sequences_bytes b.before ++ y) (sym (append_assoc (body_section b.body) (sequences_bytes qs) x))
     ∙ sym (append_assoc (sequences_bytes b.before) (body_section b.body ++ sequences_bytes qs) x)
 
-seen_place : (bytes : List ℕ) (at next : ℕ) (d : List ℕ) (b : BodyAt bytes at d next) (qs : List Sequence) → 20 + length (sections_bytes b.before b.body qs) ≡ next + length (sequences_bytes qs)
-seen_place bytes at next d b qs =
+seen_offset : (bytes : List ℕ) (at next : ℕ) (d : List ℕ) (b : BodyAt bytes at d next) (qs : List Sequence) → 20 + length (sections_bytes b.before b.body qs) ≡ next + length (sequences_bytes qs)
+seen_offset bytes at next d b qs =
     omega (arith, b.at_is, b.next_is, ap length b.spelled.parts, length-body b.body, length-append (sequences_bytes b.before) (body_section b.body ++ sequences_bytes qs), length-append (body_section b.body) (sequences_bytes qs))
 
 seen_fit : (bytes : List ℕ) (at next : ℕ) (d : List ℕ) (b : BodyAt bytes at d next) (qs : List Sequence) → AreSequences qs → AreSeen (body_seen b.before b.body qs)
@@ -102,7 +102,7 @@ pub bad_run_after : (bytes : List ℕ) (at next : ℕ) (d : List ℕ) (f : MsgFa
 bad_run_after bytes at next d f b r =
     let seen : Seen = body_seen b.before b.body r.sequences in
     at_section seen 1 r.rest (seen_parts bytes at next d b r.sequences (1 ∷ r.rest) r.parts) (seen_fit bytes at next d b r.sequences r.fits)
-    (subst (λ (p : ℕ). SectionFault seen p 1 r.rest f) (sym (seen_place bytes at next d b r.sequences)) (of_sequence refl r.fault))
+    (subst (λ (p : ℕ). SectionFault seen p 1 r.rest f) (sym (seen_offset bytes at next d b r.sequences)) (of_sequence refl r.fault))
 
 pub split : (bytes : List ℕ) (at next end : ℕ) (d : List ℕ) → BodyAt bytes at d next → IsRun bytes next end → end ≡ length bytes → HasSections bytes at d next
 split bytes at next end d b r is =
@@ -117,14 +117,14 @@ split bytes at next end d b r is =
       parts = seen_parts bytes at next d b r.sequences [] (r.parts ∙ ap (λ (x : List ℕ). sequences_bytes r.sequences ++ x) none) ∙ append-nil (sections_bytes b.before b.body r.sequences);
       at_is = b.at_is;
       next_is = b.next_is;
-      within = place bytes next end r ∙ is;
+      within = offset bytes next end r ∙ is;
     }
 
 fault_behind : (bytes : List ℕ) (at next end : ℕ) (d : List ℕ) (f : MsgFault) → (b : BodyAt bytes at d next) → (r : IsRun bytes next end) → end < length bytes → SectionFault (body_seen b.before b.body r.sequences) end (get_or bytes end 0) (drop (end + 1) bytes) f → SectionsFault (drop 20 bytes) f
 fault_behind bytes at next end d f b r lt fault =
     let seen : Seen = body_seen b.before b.body r.sequences in
     at_section seen (get_or bytes end 0) (drop (end + 1) bytes) (seen_parts bytes at next d b r.sequences (get_or bytes end 0 ∷ drop (end + 1) bytes) (r.parts ∙ ap (λ (x : List ℕ). sequences_bytes r.sequences ++ x) (here bytes end lt))) (seen_fit bytes at next d b r.sequences r.fits)
-    (subst (λ (p : ℕ). SectionFault seen p (get_or bytes end 0) (drop (end + 1) bytes) f) (sym (seen_place bytes at next d b r.sequences ∙ place bytes next end r)) fault)
+    (subst (λ (p : ℕ). SectionFault seen p (get_or bytes end 0) (drop (end + 1) bytes) f) (sym (seen_offset bytes at next d b r.sequences ∙ offset bytes next end r)) fault)
 
 pub second_body : (bytes : List ℕ) (at next end : ℕ) (d : List ℕ) → BodyAt bytes at d next → IsRun bytes next end → end < length bytes → get_or bytes end 0 ≡ 0 → SectionsFault (drop 20 bytes) (msg_fault end causes.TwoBodies)
 second_body bytes at next end d b r lt zero_is = fault_behind bytes at next end d (msg_fault end causes.TwoBodies) b r lt (two_bodies zero_is refl)

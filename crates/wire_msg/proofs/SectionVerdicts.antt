@@ -60,8 +60,8 @@ one_run_from p bytes (q ∷ qs) (r ∷ rs) x y o o' fits f g is is' e e' =
     let a' = is' ∙ append_assoc (sequence_section r) (sequences_bytes rs) y in
     let s = same_sequence bytes q r (sequences_bytes qs ++ x) (sequences_bytes rs ++ y) f.0 g.0 a a' in
     let after : IsBytes (sequences_bytes qs ++ x) = IsBytes-after (sequence_section q) (sequences_bytes qs ++ x) (subst IsBytes a fits) in
-    let place : p + length (sequences_bytes (r ∷ rs)) ≡ (p + length (sequence_section q)) + length (sequences_bytes rs) = further p r rs ∙ ap (λ (z : Sequence). (p + length (sequence_section z)) + length (sequences_bytes rs)) (sym s.0) in
-    let t = one_run_from (p + length (sequence_section q)) (sequences_bytes qs ++ x) qs rs x y o o' after f.1 g.1 refl s.1 (subst (λ (n : ℕ). RunEnd n x o) (further p q qs) e) (subst (λ (n : ℕ). RunEnd n y o') place e') in
+    let offset : p + length (sequences_bytes (r ∷ rs)) ≡ (p + length (sequence_section q)) + length (sequences_bytes rs) = further p r rs ∙ ap (λ (z : Sequence). (p + length (sequence_section z)) + length (sequences_bytes rs)) (sym s.0) in
+    let t = one_run_from (p + length (sequence_section q)) (sequences_bytes qs ++ x) qs rs x y o o' after f.1 g.1 refl s.1 (subst (λ (n : ℕ). RunEnd n x o) (further p q qs) e) (subst (λ (n : ℕ). RunEnd n y o') offset e') in
     (ap (λ (z : Sequence). z ∷ qs) s.0 ∙ ap (λ (z : List Sequence). r ∷ z) t.0, t.1)
 
 pub one_run : (p : ℕ) (bytes : List ℕ) (qs rs : List Sequence) (o o' : Result (List ℕ) MsgFault) → IsBytes bytes → Run p bytes qs o → Run p bytes rs o' → (qs ≡ rs) × (o ≡ o')

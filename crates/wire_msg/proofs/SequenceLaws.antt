@@ -48,7 +48,7 @@ pub AreSequences-append : (qs rs : List Sequence) → AreSequences qs → AreSeq
 AreSequences-append [] rs f g = g
 AreSequences-append (q ∷ qs) rs f g = (f.0, AreSequences-append qs rs f.1 g)
 
--- sequences stand from a place up to another
+-- sequences stand from an offset up to another
 pub record RunSoFar (bytes : List ℕ) (start at : ℕ) : Type 0 where
   pub sequences : List Sequence
   pub fits : AreSequences sequences
@@ -56,8 +56,8 @@ pub record RunSoFar (bytes : List ℕ) (start at : ℕ) : Type 0 where
   pub within : at ≤ length bytes
   pub parts : drop start bytes ≡ sequences_bytes sequences ++ drop at bytes
 
-run_place : (bytes : List ℕ) (start at : ℕ) → (r : RunSoFar bytes start at) → start + length (sequences_bytes r.sequences) ≡ at
-run_place bytes start at r = omega (arith, r.within, r.forwards, ap length r.parts, length-append (sequences_bytes r.sequences) (drop at bytes), length-drop start bytes, length-drop at bytes)
+run_offset : (bytes : List ℕ) (start at : ℕ) → (r : RunSoFar bytes start at) → start + length (sequences_bytes r.sequences) ≡ at
+run_offset bytes start at r = omega (arith, r.within, r.forwards, ap length r.parts, length-append (sequences_bytes r.sequences) (drop at bytes), length-drop start bytes, length-drop at bytes)
 
 cell : (bytes : List ℕ) (at : ℕ) → at < length bytes → get_or bytes at 0 ≡ 1 → drop at bytes ≡ 1 ∷ drop (at + 1) bytes
 cell bytes at lt is = drop_more bytes at 0 lt ∙ ap (λ (b : ℕ). b ∷ drop (at + 1) bytes) is
@@ -84,5 +84,5 @@ run_fails bytes start at f r lt is fault = record {
   fits = r.fits;
   rest = drop (at + 1) bytes;
   parts = r.parts ∙ ap (λ (x : List ℕ). sequences_bytes r.sequences ++ x) (cell bytes at lt is);
-  fault = subst (λ (p : ℕ). SequenceFault p (drop (at + 1) bytes) f) (sym (run_place bytes start at r)) fault;
+  fault = subst (λ (p : ℕ). SequenceFault p (drop (at + 1) bytes) f) (sym (run_offset bytes start at r)) fault;
 }

@@ -105,13 +105,13 @@ sequence_is_sound p bytes f q rest fits is whole (of_documents name after sized 
     let same = ok_is {E = BsonCause} (name, after) (q.identifier, documents_bytes q.documents) (sym read ∙ rest_front bytes q rest (sequence_read (1 ∷ bytes) q rest is whole)) in
     documents_do_not_fail after q.documents d.documents d.first d.rest d.inner (rest_bytes bytes name after fits read) (ap (λ (x : List ℕ × List ℕ). x.1) same) is.documents d.parts (d.fits, d.front)
 
-same_place : (p p' : ℕ) (ts us : List Tree) (g g' : BsonFault) → p ≡ p' → ts ≡ us → g ≡ g' → msg_fault (p + length (documents_bytes ts)) (causes.Document g) ≡ msg_fault (p' + length (documents_bytes us)) (causes.Document g')
-same_place p p' ts us g g' a b c = rw (a, b, c) refl
+same_offset : (p p' : ℕ) (ts us : List Tree) (g g' : BsonFault) → p ≡ p' → ts ≡ us → g ≡ g' → msg_fault (p + length (documents_bytes ts)) (causes.Document g) ≡ msg_fault (p' + length (documents_bytes us)) (causes.Document g')
+same_offset p p' ts us g g' a b c = rw (a, b, c) refl
 
 documents_fault_once : (p p' : ℕ) (bytes : List ℕ) (f g : MsgFault) → IsBytes bytes → p ≡ p' → DocumentsFault p bytes f → DocumentsFault p' bytes g → f ≡ g
 documents_fault_once p p' bytes f g fits same d e =
     let r = documents_fail_once bytes d.documents e.documents d.first d.rest e.first e.rest d.inner e.inner fits d.parts e.parts (d.fits, d.front) (e.fits, e.front) in
-    d.is ∙ same_place p p' d.documents e.documents d.inner e.inner same r.0 r.1 ∙ sym e.is
+    d.is ∙ same_offset p p' d.documents e.documents d.inner e.inner same r.0 r.1 ∙ sym e.is
 
 -- and one fault at most
 pub sequence_fails_once : (p : ℕ) (bytes : List ℕ) (f g : MsgFault) → IsBytes bytes → SequenceFault p bytes f → SequenceFault p bytes g → f ≡ g
@@ -125,5 +125,5 @@ sequence_fails_once p bytes f g fits (of_documents name rest sized read d) (of_s
 sequence_fails_once p bytes f g fits (of_documents name rest sized read d) (of_identifier c sized' read' e') = let same : read_err c ≡ read_ok name rest = sym read' ∙ read in absurd cc
 sequence_fails_once p bytes f g fits (of_documents name rest sized read d) (of_documents name' rest' sized' read' d') =
     let same = ok_is {E = BsonCause} (name, rest) (name', rest') (sym read ∙ read') in
-    let place : p + 6 + length name ≡ p + 6 + length name' = ap (λ (x : List ℕ × List ℕ). p + 6 + length x.0) same in
-    documents_fault_once (p + 6 + length name) (p + 6 + length name') rest f g (rest_bytes bytes name rest fits read) place d (subst (λ (x : List ℕ). DocumentsFault (p + 6 + length name') x g) (sym (ap (λ (x : List ℕ × List ℕ). x.1) same)) d')
+    let offset : p + 6 + length name ≡ p + 6 + length name' = ap (λ (x : List ℕ × List ℕ). p + 6 + length x.0) same in
+    documents_fault_once (p + 6 + length name) (p + 6 + length name') rest f g (rest_bytes bytes name rest fits read) offset d (subst (λ (x : List ℕ). DocumentsFault (p + 6 + length name') x g) (sym (ap (λ (x : List ℕ × List ℕ). x.1) same)) d')

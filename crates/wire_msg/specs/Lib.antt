@@ -26,7 +26,7 @@ pub use Rattle.wire_msg.specs.Documents.{DocumentsAre}
 pub use Rattle.wire_msg.specs.FaultText.{fault_text}
 pub use Rattle.wire_msg.specs.Faults.{FaultMsg}
 pub use Rattle.wire_msg.specs.Header.{HeaderFault, IsGoodHeader, header_of, number_at}
-pub use Rattle.wire_msg.specs.Messages.{Content, Message, Sequence}
+pub use Rattle.wire_msg.specs.Messages.{Content, IsContent, Message, Sequence}
 pub use Rattle.wire_msg.specs.RawMsg.{msg_bytes}
 pub use Rattle.wire_msg.specs.Spelling.{IsMessage, IsSpelledMsg, SpellsMsg, canonical, message_len}
 pub use Rattle.wire_msg.specs.Splits.{AreSpelled, Split}

@@ -23,7 +23,7 @@ pub enum MsgFront<'a> {
     },
     /// Fewer bytes than a header has, or than a good header announces.
     Open,
-    /// Bytes that begin no message. The fault's place is counted from the first of them.
+    /// Bytes that begin no message. The fault's offset is counted from the first of them.
     Bad(MsgFault),
 }
 
@@ -59,7 +59,7 @@ fn read_frame(bytes: &[u8], limit: u32) -> Frame<'_>
 
 impl<'a> RawMsg<'a> {
     /// Returns the message of at most `limit` bytes that begins `bytes`, with the bytes behind it;
-    /// `Open` where `bytes` end before that message does; or else the first fault and its place.
+    /// `Open` where `bytes` end before that message does; or else the first fault and its offset.
     ///
     /// The header is enough to tell its own faults. All other faults are told once as many bytes
     /// are there as the header announces. The faults are those that `RawMsg::parse` tells of the

@@ -106,7 +106,7 @@ fn check_message_with(alloc: Global, bytes: &[u8], limit: u32) -> Result<(), Msg
 fn body_offset(bytes: &[u8]) -> usize
     requires { ∥ IsSpelledMsg bytes.now ∥₁ }
     ensures inside { (20 ≤ result) × (result + 6 ≤ length bytes.now) }
-    ensures place { (m : Message) (s : SpellsMsg m bytes.now)
+    ensures offset { (m : Message) (s : SpellsMsg m bytes.now)
         → result ≡ 20 + length (sequences_bytes s.before) }
 {
     let mut at = SECTIONS;
@@ -120,7 +120,7 @@ fn body_offset(bytes: &[u8]) -> usize
 fn body_end(bytes: &[u8], at: usize) -> usize
     requires known { ∥ IsSpelledMsg bytes.now ∥₁ }
     requires inside { at + 6 ≤ length bytes.now }
-    requires place { (m : Message) (s : SpellsMsg m bytes.now)
+    requires offset { (m : Message) (s : SpellsMsg m bytes.now)
         → at ≡ 20 + length (sequences_bytes s.before) }
     ensures inside { (at + 1 ≤ result) × (result ≤ length bytes.now) }
     ensures end { (m : Message) (s : SpellsMsg m bytes.now)
@@ -163,7 +163,7 @@ impl<'a> RawMsg<'a> {
         ensures only { IsMessage limit bytes.now → IsOk result }
         ensures fault { IfErr result (λ f. FaultMsg bytes.now limit f) }
         ensures exact { (f : MsgFault) → FaultMsg bytes.now limit f → IsErrOf result f }
-        ensures place { IfErr result (λ f. f.at ≤ length bytes.now) }
+        ensures inside { IfErr result (λ f. f.at ≤ length bytes.now) }
     {
         match check_message(bytes, limit) {
             Ok(()) => Ok(RawMsg { bytes }),
@@ -185,7 +185,7 @@ impl<'a> RawMsg<'a> {
         ensures only { IsMessage limit bytes.now → IsOk result }
         ensures fault { IfErr result (λ f. FaultMsg bytes.now limit f) }
         ensures exact { (f : MsgFault) → FaultMsg bytes.now limit f → IsErrOf result f }
-        ensures place { IfErr result (λ f. f.at ≤ length bytes.now) }
+        ensures inside { IfErr result (λ f. f.at ≤ length bytes.now) }
     {
         match check_message_with(alloc, bytes, limit) {
             Ok(()) => Ok(RawMsg { bytes }),

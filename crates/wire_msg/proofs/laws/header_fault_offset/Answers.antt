@@ -1,5 +1,5 @@
-use Rattle.wire_msg.proofs.FaultPlaces.{header_place}
+use Rattle.wire_msg.proofs.FaultOffsets.{header_offset}
 use Rattle.wire_msg.proofs.laws.header_fault_offset.Goals as goal
 
 pub returns : goal.returns
-returns c = header_place
+returns c = header_offset

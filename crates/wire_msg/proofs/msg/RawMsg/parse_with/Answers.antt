@@ -1,5 +1,5 @@
 use Rattle.std.proofs.Common.{ap, Err}
-use Rattle.wire_msg.proofs.FaultPlaces.{fault_place}
+use Rattle.wire_msg.proofs.FaultOffsets.{fault_offset}
 use Rattle.wire_msg.proofs.MsgAnswers.{no_msg_fault, one_msg_fault}
 use Rattle.wire_msg.proofs.msg.RawMsg.parse_with.Goals as goal
 
@@ -15,5 +15,5 @@ returns-in-Err-clause-only c = λ is. absurd (no_msg_fault c.args.limit is.1.0 c
 pub returns-in-Err-clause-exact : goal.returns-in-Err-clause-exact
 returns-in-Err-clause-exact c = λ f fault. ap Err (one_msg_fault c.args.limit c.args.bytes.now c.in-Err.fault f (λ i. (c.type_inv.bytes i).fits) c.in-Err.ensures fault)
 
-pub returns-in-Err-clause-place : goal.returns-in-Err-clause-place
-returns-in-Err-clause-place c = fault_place c.args.bytes.now c.args.limit c.in-Err.fault (λ i. (c.type_inv.bytes i).fits) c.in-Err.ensures
+pub returns-in-Err-clause-inside : goal.returns-in-Err-clause-inside
+returns-in-Err-clause-inside c = fault_offset c.args.bytes.now c.args.limit c.in-Err.fault (λ i. (c.type_inv.bytes i).fits) c.in-Err.ensures

@@ -1,6 +1,6 @@
 use mathlib.Core.Logic.{∥∥₁_map}
 use Rattle.std.proofs.Common.{[]}
-use Rattle.wire_msg.proofs.PlaceLaws.{last_known}
+use Rattle.wire_msg.proofs.OffsetLaws.{last_known}
 use Rattle.wire_msg.proofs.payload_buf.PayloadBuf.of_parts.Goals as goal
 
 pub last_offset-last-requires : goal.last_offset-last-requires

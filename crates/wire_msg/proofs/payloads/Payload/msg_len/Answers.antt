@@ -1,6 +1,6 @@
 use Rattle.std.proofs.Common.{◌+◌, List, ℕ, length, ap, arith, ◌∙◌}
 use Rattle.bson_raw.specs.RawDocument.{document_bytes}
-use Rattle.wire_msg.proofs.PlaceLaws.{payload_len, payload_short}
+use Rattle.wire_msg.proofs.OffsetLaws.{payload_len, payload_short}
 use Rattle.wire_msg.proofs.payloads.Payload.msg_len.Goals as goal
 
 pub overflow_add-sections-3 : goal.overflow_add-sections-3

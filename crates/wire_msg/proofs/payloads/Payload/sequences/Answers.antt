@@ -3,7 +3,7 @@ use mathlib.Core.Logic.{∥∥₁_map}
 use Rattle.bson_raw.specs.RawDocument.{document_bytes}
 use Rattle.wire_msg.specs.Messages.{AreSequences}
 use Rattle.wire_msg.proofs.MsgAnswers.{AreSequences-split}
-use Rattle.wire_msg.proofs.PlaceLaws.{first_known, last_known}
+use Rattle.wire_msg.proofs.OffsetLaws.{first_known, last_known}
 use Rattle.wire_msg.proofs.payloads.Payload.sequences.Goals as goal
 
 pub of_known-requires-clause-first : goal.of_known-requires-clause-first

@@ -17,24 +17,24 @@ use Rattle.wire_msg.proofs.SectionLaws.{length-body}
 use Rattle.wire_msg.proofs.ReadLaws.{DocumentRead, document_read, length-sequence}
 use Rattle.wire_msg.proofs.MsgAnswers.{msg_read, AreSequences-split}
 
--- ---- the place of the body
+-- ---- the offset of the body
 
 -- sequences are left before the body
-pub record PlaceSoFar (m : Message) (bytes : List ℕ) (s : SpellsMsg m bytes) (at : ℕ) : Type 0 where
+pub record OffsetSoFar (m : Message) (bytes : List ℕ) (s : SpellsMsg m bytes) (at : ℕ) : Type 0 where
   pub left : List Sequence
   pub fits : AreSequences left
   pub parts : drop at bytes ≡ sequences_bytes left ++ (body_section m.content.body ++ sequences_bytes s.after)
-  pub place : at + length (sequences_bytes left) ≡ 20 + length (sequences_bytes s.before)
+  pub offset : at + length (sequences_bytes left) ≡ 20 + length (sequences_bytes s.before)
 
-pub place_begins : (m : Message) (bytes : List ℕ) (s : SpellsMsg m bytes) → PlaceSoFar m bytes s 20
-place_begins m bytes s = record { left = s.before; fits = (AreSequences-split s.before s.after (subst AreSequences s.in_order s.content.sequences)).0; parts = (msg_read m bytes s).sections; place = refl }
+pub offset_begins : (m : Message) (bytes : List ℕ) (s : SpellsMsg m bytes) → OffsetSoFar m bytes s 20
+offset_begins m bytes s = record { left = s.before; fits = (AreSequences-split s.before s.after (subst AreSequences s.in_order s.content.sequences)).0; parts = (msg_read m bytes s).sections; offset = refl }
 
-place_inside : (m : Message) (bytes : List ℕ) (s : SpellsMsg m bytes) (at : ℕ) → PlaceSoFar m bytes s at → at < length bytes
-place_inside m bytes s at p = omega (arith, ap length p.parts, length-drop at bytes, length-append (sequences_bytes p.left) (body_section m.content.body ++ sequences_bytes s.after), length-append (body_section m.content.body) (sequences_bytes s.after), length-body m.content.body)
+offset_inside : (m : Message) (bytes : List ℕ) (s : SpellsMsg m bytes) (at : ℕ) → OffsetSoFar m bytes s at → at < length bytes
+offset_inside m bytes s at p = omega (arith, ap length p.parts, length-drop at bytes, length-append (sequences_bytes p.left) (body_section m.content.body ++ sequences_bytes s.after), length-append (body_section m.content.body) (sequences_bytes s.after), length-body m.content.body)
 
-pub place_known : (bytes : List ℕ) (at : ℕ) → ∥ IsSpelledMsg bytes ∥₁ → ((m : Message) (s : SpellsMsg m bytes) → PlaceSoFar m bytes s at) → at < length bytes
-place_known bytes at known p =
-    let no : length bytes ≤ at → ⊥ = λ le. not_there known (λ k. let lt = place_inside k.0 bytes k.1 at (p k.0 k.1) in omega (arith, lt, le)) in
+pub offset_known : (bytes : List ℕ) (at : ℕ) → ∥ IsSpelledMsg bytes ∥₁ → ((m : Message) (s : SpellsMsg m bytes) → OffsetSoFar m bytes s at) → at < length bytes
+offset_known bytes at known p =
+    let no : length bytes ≤ at → ⊥ = λ le. not_there known (λ k. let lt = offset_inside k.0 bytes k.1 at (p k.0 k.1) in omega (arith, lt, le)) in
     omega (arith, no)
 
 first_cell : (bytes : List ℕ) (at b : ℕ) (rest : List ℕ) → drop at bytes ≡ b ∷ rest → get_or bytes at 0 ≡ b
@@ -54,44 +54,44 @@ pub record FirstBefore (m : Message) (bytes : List ℕ) (s : SpellsMsg m bytes) 
   pub others : List Sequence
   pub fits : AreSequences (sequence ∷ others)
   pub parts : drop at bytes ≡ sequence_section sequence ++ (sequences_bytes others ++ (body_section m.content.body ++ sequences_bytes s.after))
-  pub place : at + length (sequence_section sequence) + length (sequences_bytes others) ≡ 20 + length (sequences_bytes s.before)
+  pub offset : at + length (sequence_section sequence) + length (sequences_bytes others) ≡ 20 + length (sequences_bytes s.before)
 
 first_cases : (m : Message) (bytes : List ℕ) (s : SpellsMsg m bytes) (at : ℕ) (left : List Sequence) → get_or bytes at 0 ≡ 1 → AreSequences left → drop at bytes ≡ sequences_bytes left ++ (body_section m.content.body ++ sequences_bytes s.after) → at + length (sequences_bytes left) ≡ 20 + length (sequences_bytes s.before) → FirstBefore m bytes s at
-first_cases m bytes s at [] one fits is place = absurd (let zero_is = first_cell bytes at 0 (document (elements m.content.body) ++ sequences_bytes s.after) (is ∙ body_cell m.content.body (sequences_bytes s.after)) in omega (arith, one, zero_is))
-first_cases m bytes s at (q ∷ others) one fits is place = record {
+first_cases m bytes s at [] one fits is offset = absurd (let zero_is = first_cell bytes at 0 (document (elements m.content.body) ++ sequences_bytes s.after) (is ∙ body_cell m.content.body (sequences_bytes s.after)) in omega (arith, one, zero_is))
+first_cases m bytes s at (q ∷ others) one fits is offset = record {
   sequence = q;
   others = others;
   fits = fits;
   parts = is ∙ append_assoc (sequence_section q) (sequences_bytes others) (body_section m.content.body ++ sequences_bytes s.after);
-  place = omega (arith, place, length-append (sequence_section q) (sequences_bytes others));
+  offset = omega (arith, offset, length-append (sequence_section q) (sequences_bytes others));
 }
 
-pub first_before : (m : Message) (bytes : List ℕ) (s : SpellsMsg m bytes) (at : ℕ) → get_or bytes at 0 ≡ 1 → PlaceSoFar m bytes s at → FirstBefore m bytes s at
-first_before m bytes s at one p = first_cases m bytes s at p.left one p.fits p.parts p.place
+pub first_before : (m : Message) (bytes : List ℕ) (s : SpellsMsg m bytes) (at : ℕ) → get_or bytes at 0 ≡ 1 → OffsetSoFar m bytes s at → FirstBefore m bytes s at
+first_before m bytes s at one p = first_cases m bytes s at p.left one p.fits p.parts p.offset
 
-pub place_more : (m : Message) (bytes : List ℕ) (s : SpellsMsg m bytes) (at size : ℕ) → (f : FirstBefore m bytes s at) → size ≡ sequence_size f.sequence → PlaceSoFar m bytes s (at + (1 + size))
-place_more m bytes s at size f is =
+pub offset_more : (m : Message) (bytes : List ℕ) (s : SpellsMsg m bytes) (at size : ℕ) → (f : FirstBefore m bytes s at) → size ≡ sequence_size f.sequence → OffsetSoFar m bytes s (at + (1 + size))
+offset_more m bytes s at size f is =
     let n : at + (1 + size) ≡ at + length (sequence_section f.sequence) = omega (arith, is, length-sequence f.sequence) in
     record {
       left = f.others;
       fits = f.fits.1;
       parts = ap (λ (k : ℕ). drop k bytes) n ∙ sym (drop-drop (length (sequence_section f.sequence)) at bytes) ∙ ap (drop (length (sequence_section f.sequence))) f.parts ∙ drop_at (sequence_section f.sequence) (sequences_bytes f.others ++ (body_section m.content.body ++ sequences_bytes s.after)) (length (sequence_section f.sequence)) refl;
-      place = omega (arith, f.place, n);
+      offset = omega (arith, f.offset, n);
     }
 
 pub begins_before : (m : Message) (bytes : List ℕ) (s : SpellsMsg m bytes) (at : ℕ) → FirstBefore m bytes s at → BeginsSequence (drop at bytes)
 begins_before m bytes s at f = (f.sequence, sequences_bytes f.others ++ (body_section m.content.body ++ sequences_bytes s.after), f.fits.0, f.parts)
 
 done_cases : (m : Message) (bytes : List ℕ) (s : SpellsMsg m bytes) (at : ℕ) (left : List Sequence) → get_or bytes at 0 ≢ 1 → drop at bytes ≡ sequences_bytes left ++ (body_section m.content.body ++ sequences_bytes s.after) → at + length (sequences_bytes left) ≡ 20 + length (sequences_bytes s.before) → at ≡ 20 + length (sequences_bytes s.before)
-done_cases m bytes s at [] ne is place = sym (add-zero at) ∙ place
-done_cases m bytes s at (q ∷ others) ne is place =
+done_cases m bytes s at [] ne is offset = sym (add-zero at) ∙ offset
+done_cases m bytes s at (q ∷ others) ne is offset =
     let front = sequence_cell q (sequences_bytes others ++ (body_section m.content.body ++ sequences_bytes s.after)) in
     absurd (ne (first_cell bytes at 1 front.0 (is ∙ append_assoc (sequence_section q) (sequences_bytes others) (body_section m.content.body ++ sequences_bytes s.after) ∙ front.1)))
 
-pub place_done : (m : Message) (bytes : List ℕ) (s : SpellsMsg m bytes) (at : ℕ) → get_or bytes at 0 ≢ 1 → PlaceSoFar m bytes s at → at ≡ 20 + length (sequences_bytes s.before)
-place_done m bytes s at ne p = done_cases m bytes s at p.left ne p.parts p.place
+pub offset_done : (m : Message) (bytes : List ℕ) (s : SpellsMsg m bytes) (at : ℕ) → get_or bytes at 0 ≢ 1 → OffsetSoFar m bytes s at → at ≡ 20 + length (sequences_bytes s.before)
+offset_done m bytes s at ne p = done_cases m bytes s at p.left ne p.parts p.offset
 
--- ---- the parts, by the place of the body
+-- ---- the parts, by the offset of the body
 
 pub record PartsRead (m : Message) (bytes : List ℕ) (s : SpellsMsg m bytes) (at : ℕ) : Type 0 where
   pub document_is : DocumentRead (drop (at + 1) bytes) m.content.body (sequences_bytes s.after)
@@ -158,12 +158,12 @@ msg_parts m bytes before d after s a b e =
       short = omega (arith, s.short, r.long, ap length r.sections, length-drop 20 bytes, ap length all, length-append (sequences_bytes s.before) (body_section m.content.body ++ sequences_bytes s.after), length-append (body_section m.content.body) (sequences_bytes s.after), length-append (sequences_bytes s.before) (sequences_bytes s.after), length-append (body_section m.content.body) (sequences_bytes m.content.sequences));
     }
 
--- the parts of a message, by the places of its body and of what follows it
+-- the parts of a message, by the offsets of its body and of what follows it
 pub parts_at : (m : Message) (bytes : List ℕ) (s : SpellsMsg m bytes) (at next : ℕ) → at ≡ 20 + length (sequences_bytes s.before) → next ≡ at + 1 + length (document (elements m.content.body)) → (slice_range bytes 20 at ≡ sequences_bytes s.before) × (slice_range bytes (at + 1) next ≡ document (elements m.content.body)) × (drop next bytes ≡ sequences_bytes s.after)
 parts_at m bytes s at next is end =
     let r = parts_read m bytes s at is in
     let n : next - (at + 1) ≡ length (document (elements m.content.body)) = omega (arith, end) in
     (r.before, ap (λ (k : ℕ). take k (drop (at + 1) bytes)) n ∙ r.document_is.front, ap (λ (k : ℕ). drop k bytes) end ∙ sym (drop-drop (length (document (elements m.content.body))) (at + 1) bytes) ∙ r.document_is.after)
 
-pub document_at_place : (bytes : List ℕ) (at next : ℕ) → ((m : Message) (s : SpellsMsg m bytes) → at ≡ 20 + length (sequences_bytes s.before)) → ((m : Message) (s : SpellsMsg m bytes) → next ≡ at + 1 + length (document (elements m.content.body))) → IsSpelledMsg bytes → IsSpelled (slice_range bytes (at + 1) next)
-document_at_place bytes at next is end (m, s) = let p = parts_at m bytes s at next (is m s) (end m s) in (m.content.body, subst (Spells m.content.body) (sym p.1) s.content.body)
+pub document_at_offset : (bytes : List ℕ) (at next : ℕ) → ((m : Message) (s : SpellsMsg m bytes) → at ≡ 20 + length (sequences_bytes s.before)) → ((m : Message) (s : SpellsMsg m bytes) → next ≡ at + 1 + length (document (elements m.content.body))) → IsSpelledMsg bytes → IsSpelled (slice_range bytes (at + 1) next)
+document_at_offset bytes at next is end (m, s) = let p = parts_at m bytes s at next (is m s) (end m s) in (m.content.body, subst (Spells m.content.body) (sym p.1) s.content.body)
