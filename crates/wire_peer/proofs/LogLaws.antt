@@ -1,12 +1,12 @@
 -- What asking a handler adds to its log.
-use Rattle.std.proofs.Common.{◌≡◌, ℕ, List, [], ◌∷◌, ◌++◌, refl, ap, Option, Some, None}
+use Rattle.std.proofs.Common.{◌≡◌, ◌≢◌, ℕ, List, [], ◌∷◌, ◌++◌, refl, ap, Option, Some, None}
 use Rattle.std.specs.Prelude.{ℤ, Result, Ok, Err}
 use Rattle.std.specs.Result.{IsErrAnd}
 use Rattle.wire_msg.specs.{Content}
 use Rattle.wire_peer.specs.declared.log.AskRefusal.{AskRefusal}
 use Rattle.wire_peer.specs.declared.log.AskRefusal.TheVariants.{NotAsked, Stopped}
 use Rattle.wire_peer.specs.declared.log.Entry.{Entry}
-use Rattle.wire_peer.specs.Logs.{AskStep, Does, LogEntry, OutcomeStep, Stops, entered, entry_of, log_of}
+use Rattle.wire_peer.specs.Logs.{AskStep, Does, LogEntry, LogStep, OutcomeStep, RunOf, Stops, entered, entry_of, log_of}
 use Rattle.wire_peer.specs.declared.log.NoReplies.{NoReplies}
 use Rattle.wire_peer.specs.declared.reply_buf.ReplyRefusal.{ReplyRefusal}
 use Rattle.wire_peer.specs.declared.reply_buf.ReplyRefusal.TheVariants as pushes
@@ -25,6 +25,23 @@ pub same_entry : (connection : ℕ) (a : Asked) (o : Option (List Content)) (p :
 same_entry connection a o p e = ap (λ c. record { connection = connection; payload = c; answers = o }) e
 
 module _ {H : Type 0} (does : Does H) (stops : Stops H) where
+  -- a run goes on with one more request and its entry
+  pub run_push : (from mid to : H) (requests : List Asked) (log : List LogEntry) (a : Asked) (e : LogEntry) → RunOf does stops from requests log mid
+      → e.payload ≡ a.payload → LogStep does stops mid a e.answers to → RunOf does stops from (requests ++ a ∷ []) (log ++ e ∷ []) to
+  run_push from mid to [] [] a e run payload step = (to, payload, rw run step, refl)
+  run_push from mid to [] (x ∷ log) a e run payload step = absurd run
+  run_push from mid to (n ∷ requests) [] a e run payload step = absurd run
+  run_push from mid to (n ∷ requests) (x ∷ log) a e run payload step = (run.0, run.1, run.2, run_push run.0 mid to requests log a e run.3 payload step)
+
+  -- and so with what asking a request adds to the log
+  pub run_goes_on : (from mid to : H) (requests : List Asked) (log next : List LogEntry) (connection : ℕ) (a : Asked) (r : Result (Unit {0}) AskRefusal) → RunOf does stops from requests log mid
+      → AskStep does stops connection a r mid log to next → r ≢ Err NotAsked → RunOf does stops from (requests ++ a ∷ []) next to
+  run_goes_on from mid to requests log next connection a (Ok x) run step asked =
+      rw step.3 (run_push from mid to requests log a (entered connection a (Some step.0)) run refl (step.1, step.2))
+  run_goes_on from mid to requests log next connection a (Err (Stopped stop)) run step asked =
+      rw step.1 (run_push from mid to requests log a (entered connection a None) run refl (stop, step.0))
+  run_goes_on from mid to requests log next connection a (Err NotAsked) run step asked = absurd (asked refl)
+
   -- what became of a request stands in the log
   pub asked_step : (connection : ℕ) (a : Asked) (o : Option (List Content)) (r : Result (Unit {0}) AskRefusal) (h h' : H) (log log' : List LogEntry)
       → OutcomeStep does stops a o r h h' → log' ≡ log ++ entered connection a o ∷ [] → AskStep does stops connection a r h log h' log'

@@ -13,6 +13,7 @@ use Rattle.wire_peer.specs.Coming.{Came, HasGoodHeader, Worked}
 use Rattle.wire_peer.specs.Requests.{asked_by}
 use Rattle.wire_peer.specs.Serving.{AllSent, AreAnswered, AreOf, EndsAs, LastSent, Seen, Served, WantedMemory, id_behind, last_id, replies_to, requests_of, serve_out}
 use Rattle.wire_peer.specs.Answering.{AnswersAs, GotEntry}
+use Rattle.wire_peer.proofs.LogLaws.{run_push}
 use Rattle.wire_peer.proofs.Comings.{begun_open, whole_header}
 use Rattle.wire_peer.proofs.SplitFronts.{first_of_split}
 
@@ -27,13 +28,15 @@ answered_push : (es : List LogEntry) (e : LogEntry) → AreAnswered es → e.ans
 answered_push [] e a some = (some, tt)
 answered_push (x ∷ es) e a some = (a.0, answered_push es e a.1 some)
 
+requests_push : (ms : List Message) (m : Message) → requests_of (ms ++ m ∷ []) ≡ requests_of ms ++ asked_by m ∷ []
+requests_push [] m = refl
+requests_push (n ∷ ms) m = ap (λ q. asked_by n ∷ q) (requests_push ms m)
+
 module _ {H : Type 0} (does : Does H) (stops : Stops H) where
-  run_push : (from h to : H) (ms : List Message) (es : List LogEntry) (m : Message) (e : LogEntry) → RunOf does stops from (requests_of ms) es h
+  requests_run : (from h to : H) (ms : List Message) (es : List LogEntry) (m : Message) (e : LogEntry) → RunOf does stops from (requests_of ms) es h
       → e.payload ≡ m.content → LogStep does stops h (asked_by m) e.answers to → RunOf does stops from (requests_of (ms ++ m ∷ [])) (es ++ e ∷ []) to
-  run_push from h to [] [] m e run payload step = (to, payload, rw run step, refl)
-  run_push from h to [] (x ∷ es) m e run payload step = absurd run
-  run_push from h to (n ∷ ms) [] m e run payload step = absurd run
-  run_push from h to (n ∷ ms) (x ∷ es) m e run payload step = (run.0, run.1, run.2, run_push run.0 h to ms es m e run.3 payload step)
+  requests_run from h to ms es m e run payload step =
+      subst (λ q. RunOf does stops from q (es ++ e ∷ []) to) (sym (requests_push ms m)) (run_push does stops from h to (requests_of ms) es (asked_by m) e run payload step)
 
   out_push : (from h : H) (id : ℕ) (ms : List Message) (es : List LogEntry) (m : Message) (e : LogEntry) → RunOf does stops from (requests_of ms) es h
       → serve_out id (ms ++ m ∷ []) (es ++ e ∷ []) ≡ serve_out id ms es ++ written (replies_to (last_id id ms es) m e.answers)
@@ -123,7 +126,7 @@ module _ {H : Type 0} (does : Does H) (stops : Stops H) where
         put_out = Appends-trans old.sent a.sent b.sent p.gave _ p.put_out x.3;
         logged = g.logged ∙ ap (λ q. q ++ g.entry ∷ []) p.logged ∙ append_assoc old.log p.made (g.entry ∷ []);
         spelled = spelled-append limit p.ms (m ∷ []) p.joined front p.spelled (spelled_alone limit m front spells within);
-        run = run_push old.handler a.handler b.handler p.ms p.made m g.entry p.run g.payload g.step;
+        run = requests_run old.handler a.handler b.handler p.ms p.made m g.entry p.run g.payload g.step;
         connected = of_push c p.made g.entry p.connected g.connected;
         counted = length-append p.made (g.entry ∷ []) ∙ ap (λ q. q + 1) p.counted;
         next = x.4 ∙ ap (λ q. id_behind q m g.entry.answers) p.next ∙ sym (id_push old.handler a.handler 1 p.ms p.made m g.entry p.run);
@@ -243,7 +246,7 @@ module _ {H : Type 0} (does : Does H) (stops : Stops H) where
         logged = g.logged ∙ ap (λ q. q ++ g.entry ∷ []) p.logged ∙ append_assoc old.log p.made (g.entry ∷ []);
         spelled = spelled;
         first = λ all left s. first_of_split limit (p.ms ++ m ∷ []) all (p.joined ++ front) piece left spelled s;
-        run = run_push old.handler a.handler b.handler p.ms p.made m g.entry p.run g.payload g.step;
+        run = requests_run old.handler a.handler b.handler p.ms p.made m g.entry p.run g.payload g.step;
         connected = of_push c p.made g.entry p.connected g.connected;
         within = (let q = p.counted in let l = length-append p.made (g.entry ∷ []) in omega arith);
         ends = ends;

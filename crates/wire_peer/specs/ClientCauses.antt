@@ -1,5 +1,5 @@
 -- Why a client is closed, and why it isn't made.
-use Rattle.std.specs.Prelude.{ℕ, ◌≤◌, ℤ, pos, ◌<ℤ◌, ◌≤ℤ◌}
+use Rattle.std.specs.Prelude.{ℕ, ℤ, pos, ◌<ℤ◌, ◌≤ℤ◌}
 use Rattle.wire_peer.specs.Limits.{IsLimit, IsWindow}
 use Rattle.wire_peer.specs.declared.client_state.ClientCause.{ClientCause}
 use Rattle.wire_peer.specs.declared.client_state.ClientCause.TheVariants.{Message, UnknownReply, MoreNotAllowed, StreamBroken, Ended, EndedInside}

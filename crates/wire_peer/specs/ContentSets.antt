@@ -7,7 +7,7 @@ use Rattle.bson_elem.specs.declared.kinds.Kind.{Kind}
 use Rattle.bson_elem.specs.{Beside, Leaf, Tree, inner_pair, leaf_pair, no_pairs}
 use Rattle.wire_msg.specs.{Content, Sequence}
 
-abbrev coded_text : Coded (List ℕ)
+abbrev pub coded_text : Coded (List ℕ)
 coded_text = coded_list coded_ℕ
 
 coded_kind : Coded Kind

@@ -30,7 +30,7 @@ pub mod ClientSteps
 pub use Rattle.wire_peer.specs.AnswerLists.{answers_of}
 pub use Rattle.wire_peer.specs.CallTables.{HasOneStream, Table, after_part, after_reply, allowed, bearer, ids, owner, reply_to, stream, without}
 pub use Rattle.wire_peer.specs.Calls.{allows_more, awaits_reply, request, request_flags}
-pub use Rattle.wire_peer.specs.Chains.{ReplyState, chain, id_after, id_after_one, is_longer, next_id, replies, written}
+pub use Rattle.wire_peer.specs.Chains.{ReplyState, are_left, chain, id_after, id_after_one, is_longer, next_id, replies, written}
 pub use Rattle.wire_peer.specs.ClientCauses.{IsSetupRefusal}
 pub use Rattle.wire_peer.specs.ClientSteps.{ClientSeen, IsCallRefusal, IsCalled, MayTake, Settles, Takes, after_message, called, closed, ended, holding, new_client, released}
 pub use Rattle.wire_peer.specs.Contents.{buf_content, content_of}

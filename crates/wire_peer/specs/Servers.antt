@@ -1,5 +1,5 @@
 -- What a server of one connection holds, and what its calls do to that.
-use Rattle.std.specs.Prelude.{◌≡◌, ℕ, ◌<◌, ◌≤◌, ◌⊎◌, List, [], ◌∷◌, ◌++◌, Result, Ok, Err}
+use Rattle.std.specs.Prelude.{◌≡◌, ℕ, ◌<◌, ◌⊎◌, List, [], ◌∷◌, ◌++◌, Result, Ok, Err}
 use Rattle.wire_stream.specs.{Feeds}
 use Rattle.wire_stream.specs.declared.reader_state.ReaderState.{ReaderState}
 use Rattle.wire_stream.specs.declared.reader_state.ReaderState.TheVariants.{Need, Ready, Bad}

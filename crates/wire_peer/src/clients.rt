@@ -3,13 +3,14 @@
 ghost use Rattle.std.specs.Prelude.{◌≡◌, ◌≢◌, ◌≤◌, None, IfOk, IfSome, IsNone, IsOkAnd, MatchResult, OnErr, drop, length, option_map};
 ghost use Rattle.std.specs.List.{IsDistinct};
 ghost use Rattle.std.specs.Ordering.{int_eq};
-ghost use Rattle.wire_msg.specs.{Carries, Content, IsMessage, Message, SpellsMsg};
+ghost use Rattle.wire_msg.specs.{Carries, IsMessage, IsOpen, Message, SpellsMsg};
 ghost use Rattle.wire_stream.specs.{CompletesHeader};
 ghost use Rattle.wire_peer.specs.declared.calls.CallKind.TheVariants.{Exhaust, Plain, Unacknowledged};
 ghost use Rattle.wire_peer.specs.declared.client_state.ClientState.TheVariants.{Open};
 ghost use Rattle.wire_peer.specs.ClientCauses.{IsSetupRefusal};
 ghost use Rattle.wire_peer.specs.ClientSteps.{called, end_cause, ended, IsCalled, IsCallRefusal, new_client, released, Takes, MayTake};
 ghost use Rattle.wire_peer.specs.CallTables.{allowed, HasOneStream, ids, IsReceived, owner};
+ghost use Rattle.wire_peer.specs.Contents.{content_of};
 ghost use Rattle.wire_peer.specs.LentReplies.{ready_of};
 
 use crate::call_table::ReadyReply;
@@ -116,9 +117,10 @@ impl Client {
     ///
     /// The first that applies of `Closed`, `WindowFull`, `TooLarge`, `NumbersSpent` and `OutOfMemory`. Nothing changes then.
     pub fn call(&mut self, payload: Payload<'_>) -> Result<CallNo, CallRefusal>
-        ensures called { (c : Content) → Carries payload.entry c → MatchResult result
-            (λ no. IsCalled self.old Plain c no × (self.new ≡ called self.old Plain c no))
-            (λ e. IsCallRefusal self.old Plain c e) }
+        ensures called { MatchResult result
+            (λ no. IsCalled self.old Plain (content_of payload.entry) no
+            × (self.new ≡ called self.old Plain (content_of payload.entry) no))
+            (λ e. IsCallRefusal self.old Plain (content_of payload.entry) e) }
         ensures unchanged { OnErr result (self.new ≡ self.old) }
     {
         self.call_as(CallKind::Plain, payload)
@@ -130,9 +132,10 @@ impl Client {
     ///
     /// As for `call`. Nothing changes then.
     pub fn call_exhaust(&mut self, payload: Payload<'_>) -> Result<CallNo, CallRefusal>
-        ensures called { (c : Content) → Carries payload.entry c → MatchResult result
-            (λ no. IsCalled self.old Exhaust c no × (self.new ≡ called self.old Exhaust c no))
-            (λ e. IsCallRefusal self.old Exhaust c e) }
+        ensures called { MatchResult result
+            (λ no. IsCalled self.old Exhaust (content_of payload.entry) no
+            × (self.new ≡ called self.old Exhaust (content_of payload.entry) no))
+            (λ e. IsCallRefusal self.old Exhaust (content_of payload.entry) e) }
         ensures unchanged { OnErr result (self.new ≡ self.old) }
     {
         self.call_as(CallKind::Exhaust, payload)
@@ -144,9 +147,10 @@ impl Client {
     ///
     /// As for `call`, but never `WindowFull`. Nothing changes then.
     pub fn send_unacknowledged(&mut self, payload: Payload<'_>) -> Result<CallNo, CallRefusal>
-        ensures called { (c : Content) → Carries payload.entry c → MatchResult result
-            (λ no. IsCalled self.old Unacknowledged c no × (self.new ≡ called self.old Unacknowledged c no))
-            (λ e. IsCallRefusal self.old Unacknowledged c e) }
+        ensures called { MatchResult result
+            (λ no. IsCalled self.old Unacknowledged (content_of payload.entry) no
+            × (self.new ≡ called self.old Unacknowledged (content_of payload.entry) no))
+            (λ e. IsCallRefusal self.old Unacknowledged (content_of payload.entry) e) }
         ensures unchanged { OnErr result (self.new ≡ self.old) }
     {
         self.call_as(CallKind::Unacknowledged, payload)
@@ -154,9 +158,10 @@ impl Client {
 
     /// Makes a call of this kind.
     fn call_as(&mut self, kind: CallKind, payload: Payload<'_>) -> Result<CallNo, CallRefusal>
-        ensures called { (c : Content) → Carries payload.entry c → MatchResult result
-            (λ no. IsCalled self.old kind c no × (self.new ≡ called self.old kind c no))
-            (λ e. IsCallRefusal self.old kind c e) }
+        ensures called { MatchResult result
+            (λ no. IsCalled self.old kind (content_of payload.entry) no
+            × (self.new ≡ called self.old kind (content_of payload.entry) no))
+            (λ e. IsCallRefusal self.old kind (content_of payload.entry) e) }
         ensures unchanged { OnErr result (self.new ≡ self.old) }
     {
         if self.state != ClientState::Open {
@@ -267,9 +272,11 @@ impl Client {
         }
     }
 
-    /// Returns whether the client is open, or why it was closed.
+    /// Returns whether the client is open, or why it was closed. An open one that has no reply ready is between messages or
+    /// inside one.
     pub fn state(&self) -> ClientState
-        ensures { result ≡ self.now.state }
+        ensures state { result ≡ self.now.state }
+        ensures between { result ≡ Open → self.now.reply ≡ None → IsOpen self.now.requests.limit self.now.held }
     {
         self.state
     }

@@ -3,9 +3,10 @@
 ghost use Rattle.std.specs.Prelude.{◌≡◌, ◌≤◌, ◌≤ℤ◌, ◌↔◌, ◌++◌, ◌∷◌, [], None, Some, IfErr, IfOk, IsTrue, MatchResult, OnErr, OnOk, drop, length, pos};
 ghost use Rattle.std.specs.List.{IsDistinct};
 ghost use Rattle.std.specs.Ordering.{int_eq};
-ghost use Rattle.wire_msg.specs.{Carries, Content, canonical, message_len};
+ghost use Rattle.wire_msg.specs.{canonical, message_len};
 ghost use Rattle.wire_peer.specs.declared.calls.CallRefusal.TheVariants.{OutOfMemory};
 ghost use Rattle.wire_peer.specs.Calls.{request};
+ghost use Rattle.wire_peer.specs.Contents.{content_of};
 ghost use Rattle.wire_peer.specs.CallTables.{allowed, bearer, HasOneStream, ids, IsReceived, owner};
 ghost use Rattle.wire_peer.specs.Requesting.{after_call, awaiting, IsAccepted, IsFull, IsRefused};
 
@@ -53,6 +54,13 @@ impl Model for RequestBuf {
     } };
 }
 
+/// Returns the length of a message with this payload, in bytes.
+fn length_of(payload: Payload<'_>) -> u64
+    ensures { result ≡ message_len (content_of payload.entry) }
+{
+    payload.msg_len()
+}
+
 /// Puts a request out.
 fn push_request(
     output: &mut OutBuf,
@@ -61,9 +69,8 @@ fn push_request(
     payload: Payload<'_>,
     limit: u32,
 ) -> Result<(), CallRefusal>
-    requires { (c : Content) → Carries payload c → message_len c ≤ limit }
-    ensures put { (c : Content) → Carries payload.entry c
-        → OnOk result (output.new ≡ output.old ++ canonical (request no.id kind c)) }
+    requires { message_len (content_of payload) ≤ limit }
+    ensures put { OnOk result (output.new ≡ output.old ++ canonical (request no.id kind (content_of payload.entry))) }
     ensures refused { IfErr result (λ e. e ≡ OutOfMemory) }
     ensures unchanged { OnErr result (output.new ≡ output.old) }
 {
@@ -83,10 +90,9 @@ fn put_out(
     payload: Payload<'_>,
     limit: u32,
 ) -> Result<(), CallRefusal>
-    requires fits { (c : Content) → Carries payload c → message_len c ≤ limit }
+    requires fits { message_len (content_of payload) ≤ limit }
     requires free { bearer no.id table.old ≡ None }
-    ensures put { (c : Content) → Carries payload.entry c
-        → OnOk result (output.new ≡ output.old ++ canonical (request no.id kind c)) }
+    ensures put { OnOk result (output.new ≡ output.old ++ canonical (request no.id kind (content_of payload.entry))) }
     ensures awaiting { OnOk result (table.new ≡ awaiting table.old kind no) }
     ensures refused { IfErr result (λ e. e ≡ OutOfMemory) }
     ensures unchanged { OnErr result (output.new ≡ output.old) }
@@ -174,16 +180,17 @@ impl RequestBuf {
         kind: CallKind,
         payload: Payload<'_>,
     ) -> Result<CallNo, CallRefusal>
-        ensures called { (c : Content) → Carries payload.entry c → MatchResult result
-            (λ no. IsAccepted self.old kind c no × (self.new ≡ after_call self.old kind c no))
-            (λ e. IsRefused self.old kind c e) }
+        ensures called { MatchResult result
+            (λ no. IsAccepted self.old kind (content_of payload.entry) no
+            × (self.new ≡ after_call self.old kind (content_of payload.entry) no))
+            (λ e. IsRefused self.old kind (content_of payload.entry) e) }
         ensures limit { self.new.limit ≡ self.old.limit }
         ensures unchanged { OnErr result (self.new ≡ self.old) }
     {
         if self.is_full(kind) {
             return Err(CallRefusal::WindowFull);
         }
-        if payload.msg_len() > self.limit as u64 {
+        if length_of(payload) > self.limit as u64 {
             return Err(CallRefusal::TooLarge);
         }
         let Some(number) = self.next_number else {

@@ -24,18 +24,6 @@ Appends-trans (Some x) None c xs ys k l = absurd k
 Appends-trans (Some x) (Some y) None xs ys k l = absurd l
 Appends-trans (Some x) (Some y) (Some z) xs ys k l = l ∙ ap (λ q. q ++ ys) k ∙ append_assoc x xs ys
 
-pub Keeps-Appends : (a b c : Option (List ℕ)) (ys : List ℕ) → Keeps a b → Appends b c ys → Appends a c ys
-Keeps-Appends None b c ys k l = tt
-Keeps-Appends (Some x) None c ys k l = absurd k
-Keeps-Appends (Some x) (Some y) None ys k l = absurd l
-Keeps-Appends (Some x) (Some y) (Some z) ys k l = l ∙ ap (λ q. q ++ ys) k
-
-pub Appends-Keeps : (a b c : Option (List ℕ)) (xs : List ℕ) → Appends a b xs → Keeps b c → Appends a c xs
-Appends-Keeps None b c xs k l = tt
-Appends-Keeps (Some x) None c xs k l = absurd k
-Appends-Keeps (Some x) (Some y) None xs k l = absurd l
-Appends-Keeps (Some x) (Some y) (Some z) xs k l = l ∙ k
-
 -- what a copy put in front
 pub copied : (input buf new : List ℕ) (at n : ℕ) → new ≡ take n (drop at input) → length new ≡ n → take (at + n) input ≡ take at input ++ take n (new ++ drop n buf)
 copied input buf new at n e l =

@@ -46,9 +46,6 @@ need_not_bad limit b Need f at is d = open_not_bad limit b f at d
 need_not_bad limit b Ready f at is d = message_not_bad limit b f at d
 need_not_bad limit b (Bad g) f at is d = open_not_bad limit b f (subst (StandsAt limit b) is at) d
 
-pub ready_not_bad : (limit : ℕ) (b : List ℕ) (s : ReaderState) (f : MsgFault) → StandsAt limit b s → s ≡ Ready → IsBad limit b f → ⊥
-ready_not_bad limit b s f at is d = message_not_bad limit b f (subst (StandsAt limit b) is at) d
-
 pub need_no_message : (limit : ℕ) (b : List ℕ) (s : ReaderState) → StandsAt limit b s → s ≡ Need → IsMessage limit b → ⊥
 need_no_message limit b s at is i = message_not_open limit b i (subst (StandsAt limit b) is at)
 
@@ -252,19 +249,10 @@ message_room limit header len None v n kept is e = absurd (some_not_none v (sym 
 message_room limit header len (Some message) v n kept is e =
     announced kept.header kept.good (e ∙ ap (λ (x : Option (Vec ℕ Global)). number_at (held_of header len x) 0) (sym is))
 
-pub message_within : (limit : ℕ) (header : List ℕ) (len : ℕ) (message : Option (Vec ℕ Global)) (v : Vec ℕ Global) (n : ℕ) → IsKept limit header len message → message ≡ Some v → n ≡ number_at v.items 0 → length (held_of header len message) ≤ n
-message_within limit header len None v n kept is e = absurd (some_not_none v (sym is))
-message_within limit header len (Some message) v n kept is e =
-    let same : n ≡ number_at message.items 0 = e ∙ ap (λ (x : Option (Vec ℕ Global)). number_at (held_of header len x) 0) (sym is) in
-    omega (arith, kept.within, same)
-
 -- no message is ready where there is no more than a header
 pub header_no_message : (limit : ℕ) (header : List ℕ) (len : ℕ) (message : Option (Vec ℕ Global)) → IsKept limit header len message → length header ≡ 16 → message ≡ None → IsMessage limit (held_of header len message) → ⊥
 header_no_message limit header len message kept size is i =
     absurd (omega (arith, long_message limit (held_of header len message) i, header_len limit header len message kept size is, held_in_header limit header len message kept is))
-
-pub held_is : (header : List ℕ) (len : ℕ) (message : Option (Vec ℕ Global)) (v : Vec ℕ Global) → message ≡ Some v → held_of header len message ≡ v.items
-held_is header len message v is = ap (held_of header len) is
 
 -- the header isn't complete where more bytes are wanted and there is no message
 pub header_open : (limit : ℕ) (header : List ℕ) (len : ℕ) (message : Option (Vec ℕ Global)) (s : ReaderState) → IsKept limit header len message → length header ≡ 16 → StandsAt limit (held_of header len message) s → s ≡ Need → message ≡ None → length (held_of header len message) < 16

@@ -1,4 +1,4 @@
-use Rattle.std.proofs.Common.{◌≡◌, ◌<◌, ◌≤◌, ◌∙◌, [], ap, arith, length, refl, subst, sym}
+use Rattle.std.proofs.Common.{◌≡◌, ◌<◌, ◌≤◌, ◌∙◌, ap, arith, length, refl, subst, sym}
 use Rattle.wire_msg.specs.{Message, SpellsMsg, msg_bytes}
 use Rattle.wire_peer.specs.Logs.{log_of}
 use Rattle.wire_peer.specs.Serving.{Seen}

@@ -1,4 +1,4 @@
-use Rattle.std.proofs.Common.{◌≡◌, ℤ, sym, subst, FitsSigned, w32, to_z-of_z}
+use Rattle.std.proofs.Common.{sym, subst, FitsSigned, w32, to_z-of_z}
 use Rattle.wire_peer.specs.Begun.{IsAlone}
 use Rattle.wire_peer.specs.CallTables.{Table}
 use Rattle.wire_peer.proofs.TableLaws.{without_begun}
