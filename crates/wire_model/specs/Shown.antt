@@ -1,0 +1,80 @@
+-- What a world shows of the machine, and what holds of every run.
+use Rattle.std.specs.Prelude.{◌≡◌, ℕ, ◌⊎◌, Bool, false, if◌then◌else◌, Option, None, Some, List, [], ◌∷◌, slice_get}
+use Rattle.std.specs.List.{IsDistinct}
+use Rattle.std.specs.Ordering.{int_eq}
+use Rattle.wire_peer.specs.{Does, Stops, ids}
+use Rattle.wire_peer.specs.declared.client_state.ClientState.TheVariants as clients
+use Rattle.wire_peer.specs.declared.server_state.ServerCause.TheVariants.{ReplyTooLarge, NoMemory, HandlerFailed}
+use Rattle.wire_peer.specs.declared.server_state.ServerState.{ServerState}
+use Rattle.wire_peer.specs.declared.server_state.ServerState.TheVariants.{Open, Closed}
+use Rattle.wire_model.specs.Conns.{Conn, Record, World, conn_at}
+use Rattle.wire_model.specs.Facts.{DoneIsWhole, EntryHasOneCall, LogIsRun, MuteIsNeverDone, PendingHoldsBeginning, SilentHoldsNone}
+use Rattle.wire_model.specs.Machines.{Call, Done, Machine, Steps, empty, is_ours}
+
+-- what the world shows of the calls; of strangers nothing
+abbrev pub shown : Call → Record
+shown x = record { connection = x.connection; asked = x.asked; parts = x.parts; state = x.state }
+
+abbrev pub shown_calls : List Call → List Record
+shown_calls [] = []
+shown_calls (x ∷ xs) = if is_ours x.state then shown x ∷ shown_calls xs else shown_calls xs
+
+-- the world's calls and its log are those of the machine
+pub record Shows {H : Type 0} (w : World H) (m : Machine H) : Type 0 where
+  pub calls : w.calls ≡ shown_calls m.calls
+  pub log : w.log ≡ m.log
+
+-- the raw connections of a world
+abbrev pub is_raw : Option Conn → Bool
+is_raw None = false
+is_raw (Some k) = k.raw
+
+abbrev pub raws : {H : Type 0} → World H → ℕ → Bool
+raws w c = is_raw (conn_at w.conns c)
+
+-- closed by an answer: it is too large, memory is wanting, or the handler failed
+abbrev pub IsStopped : ServerState → Type 0
+IsStopped s = (s ≡ Closed ReplyTooLarge) ⊎ ((s ≡ Closed NoMemory) ⊎ (s ≡ Closed HandlerFailed))
+
+abbrev pub IsOpenOrStopped : ServerState → Type 0
+IsOpenOrStopped s = (s ≡ Open) ⊎ IsStopped s
+
+-- on a connection that isn't cut the client is open, and so is the server, but where an answer closed it
+abbrev pub UncutIsOpen : {H : Type 0} → World H → Type 0
+UncutIsOpen w = (c : ℕ) (k : Conn) → conn_at w.conns c ≡ Some k → k.raw ≡ false → k.up_cut ≡ false → k.down_cut ≡ false
+    → (k.client.state ≡ clients.Open) × IsOpenOrStopped k.server.state
+
+-- Neither way of the connection was cut, no answer closed its server, nothing is on the ways, and nothing waits.
+pub record IsQuiet {H : Type 0} (w : World H) (c : ℕ) : Type 0 where
+  pub k : Conn
+  pub at : conn_at w.conns c ≡ Some k
+  pub up_uncut : k.up_cut ≡ false
+  pub down_uncut : k.down_cut ≡ false
+  pub not_stopped : IsStopped k.server.state → ⊥
+  pub up_empty : k.client.requests.output ≡ []
+  pub down_empty : k.server.output ≡ []
+  pub none_waits : k.server.waiting ≡ []
+
+-- on a quiet connection every acknowledged call is done
+abbrev pub QuietIsDone : {H : Type 0} → World H → Type 0
+QuietIsDone w = (c : ℕ) → IsQuiet w c → (i : ℕ) (x : Record) → slice_get w.calls i ≡ Some x → x.connection ≡ c → x.asked.silent ≡ false → x.state ≡ Done
+
+-- no two outstanding calls of one client bear one id
+abbrev pub IdsApart : {H : Type 0} → World H → Type 0
+IdsApart w = (c : ℕ) (k : Conn) → conn_at w.conns c ≡ Some k → IsDistinct int_eq (ids k.client.requests.outstanding)
+
+-- The world shows a state of the machine that its steps reach from the empty one. In it each call that is done holds
+-- exactly the answers of its own entry, no two calls share one, and an unacknowledged call holds none; and on a quiet
+-- connection every acknowledged call is done.
+pub record Headline {H : Type 0} (does : Does H) (stops : Stops H) (first : H) (w : World H) : Type 0 where
+  pub m : Machine H
+  pub reached : Steps H does stops (empty first (raws w)) m
+  pub shows : Shows w m
+  pub run : LogIsRun does stops first m
+  pub whole : DoneIsWhole m
+  pub one_call : EntryHasOneCall m
+  pub silent : SilentHoldsNone m
+  pub beginning : PendingHoldsBeginning m
+  pub mute : MuteIsNeverDone m
+  pub quiet : QuietIsDone w
+  pub uncut : UncutIsOpen w

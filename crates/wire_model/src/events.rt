@@ -1,0 +1,36 @@
+//! What may happen in a world.
+
+use wire_msg::Payload;
+use wire_peer::CallKind;
+
+/// One thing that happens in a world. Connections are numbered from 1, in the order in which they are made, and what waits
+/// at a server from 0.
+#[derive(Clone, Copy)]
+pub enum Event<'a> {
+    /// A connection is checked out of the pool.
+    Open,
+    /// The connection is checked in.
+    Return(u64),
+    /// A call of this kind with this payload is made over the connection.
+    Call(u64, CallKind, Payload<'a>),
+    /// So many bytes of the client's output go into the server.
+    Up(u64, usize),
+    /// So many bytes of the server's output go into the client.
+    Down(u64, usize),
+    /// The server answers the request of this index among those that wait.
+    Answer(u64, usize),
+    /// Nothing more moves up, and the server is told the end.
+    CutUp(u64),
+    /// Nothing more moves down, and the client is told the end.
+    CutDown(u64),
+    /// The pool is cleared.
+    Clear,
+    /// All clients end, and the pool is reset.
+    Restart,
+    /// A raw connection is made, which has a server but no client of ours.
+    RawOpen,
+    /// These bytes are fed to the server of a raw connection.
+    Raw(u64, &'a [u8]),
+    /// So many bytes of the output of a raw connection's server are taken away.
+    RawTake(u64, usize),
+}

@@ -1,0 +1,17 @@
+//! The model of a world of connections: what may happen in it, what each event does, and what holds after any of them.
+//!
+//! A world has a pool, connections, the calls that were made over them, and one handler with its log. `specs` says how each
+//! event changes it, and has the machine of calls and entries that a world shows. The laws say that every run shows a run of
+//! the machine, and what holds in each state of that.
+#![tactic(auto)]
+
+mod events;
+pub mod laws;
+mod limits;
+mod refusals;
+mod reports;
+
+pub use events::Event;
+pub use limits::WorldLimits;
+pub use refusals::{SetupRefusal, WorldRefusal};
+pub use reports::Report;
