@@ -43,3 +43,4 @@ pub mod Ids
 pub mod Wanting
 pub mod Runs
 pub mod Main
+pub mod Lemmas

@@ -14,6 +14,7 @@ pub use Rattle.wire_model.specs.Conns.{AreGood, Conn, Record, World, conn_at, co
 pub use Rattle.wire_model.specs.Cuts.{all_cut, change, cleared_world, cut_at, cut_both, cut_down, cut_up, dropped, ended_server, is_empty, is_healthy, restarted, restarted_world}
 pub use Rattle.wire_model.specs.Hostile.{RawAnswerOwn, RawGiveOwn}
 pub use Rattle.wire_model.specs.Machines.{Done, Foreign, Lost, Pending, Sent, State, Machine, asked_as, lost_state}
-pub use Rattle.wire_model.specs.Refusing.{answer_reason, connection_of, core_reason, first_reason, is_cut_for, is_full, is_full_for, is_lent, reason_at, reason_of, wants_client, wants_loan, wants_raw}
-pub use Rattle.wire_model.specs.Shown.{Headline, IdsApart, UncutIsOpen}
-pub use Rattle.wire_model.specs.Happening.{CutsDown, CutsUp, Happens, IsDone, Opens, Returns, Run, opened, with_pool}
+pub use Rattle.wire_model.specs.Moves.{Calls}
+pub use Rattle.wire_model.specs.Refusing.{RefusesCall, answer_reason, connection_of, core_reason, first_reason, is_cut_for, is_full, is_full_for, is_lent, reason_at, reason_of, wants_client, wants_loan, wants_raw}
+pub use Rattle.wire_model.specs.Shown.{Headline, IdsApart, QuietIsDone, UncutIsOpen}
+pub use Rattle.wire_model.specs.Happening.{Answers, AreContents, CutsDown, CutsUp, Happens, IsDone, Opens, Returns, Run, opened, with_pool}

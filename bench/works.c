@@ -1,12 +1,12 @@
-/* Measures what bench/peer_bench.rt.in does with a message.
+/* Measures what a library of bench/ does with a message.
  *
- *     peers FILE ROUNDS (WHAT NUMBER TIMES)..
+ *     works FILE ROUNDS (WHAT NUMBER TIMES)..
  *
  * does each so many times in each round, in turn, with the first message of the file, and prints the least processor time of
- * each, in nanoseconds.
+ * each, in nanoseconds. TABLE is the header that names the works, "peers.h" or "worlds.h".
  */
 #define _POSIX_C_SOURCE 199309L
-#include "peers.h"
+#include TABLE
 
 #include <inttypes.h>
 

@@ -1,0 +1,35 @@
+-- The connection of an event that passes the checks.
+use Rattle.std.specs.Prelude.{◌≡◌, ℕ, zero, suc, ◌-◌, ◌<◌, List, length, Option, None, Some}
+use Rattle.std.proofs.Common.{◌∙◌, arith, get_or, refl, subst, sym}
+use Rattle.std.proofs.lemmas.Option.{none-some, slice_get_read, slice_get_within}
+use Rattle.wire_model.specs.{Conn, World, conn_at, connection_of, first_reason, reason_at, reason_of}
+use Rattle.wire_model.specs.declared.events.Event.{Event}
+use Rattle.wire_model.specs.declared.refusals.WorldRefusal.TheVariants.{NoConnection}
+use Rattle.wire_world.specs.Worlds.{WorldSeen}
+use Rattle.wire_world.proofs.Numbered.{conn_at_place}
+
+-- its connection is there
+pub is_there : {H : Type 0} (w : World H) (e : Event) (c : ℕ) → connection_of e ≡ Some c → first_reason w e ≡ None → (k : Conn) × (conn_at w.conns c ≡ Some k)
+is_there w e c is passes = by (conn_at w.conns c) refl (subst (λ (o : Option ℕ). reason_of w e o ≡ None) is passes)
+  where
+    by : (o : Option Conn) → conn_at w.conns c ≡ o → reason_at w e c (conn_at w.conns c) ≡ None → (k : Conn) × (conn_at w.conns c ≡ Some k)
+    by None at p = absurd (none-some NoConnection (sym (subst (λ (o : Option Conn). reason_at w e c o ≡ None) at p)))
+    by (Some k) at p = (k, at)
+
+-- a connection's number is from 1 to their count
+pub numbered : (ks : List Conn) (c : ℕ) (k : Conn) → conn_at ks c ≡ Some k → (0 < c) × (c - 1 < length ks)
+numbered ks zero k at = absurd (none-some k at)
+numbered ks (suc i) k at = let within = slice_get_within ks i k at in (omega arith, omega (arith, within))
+
+pub is_from_1 : {H : Type 0} (w : World H) (e : Event) (c : ℕ) → connection_of e ≡ Some c → first_reason w e ≡ None → 0 < c
+is_from_1 w e c is passes = (numbered w.conns c (is_there w e c is passes).0 (is_there w e c is passes).1).0
+
+-- what is read at its place is it
+pub is_read : {H : Type 0} (w : World H) (e : Event) (c : ℕ) (k : Conn) → connection_of e ≡ Some c → first_reason w e ≡ None → k ≡ get_or w.conns (c - 1) k → conn_at w.conns c ≡ Some k
+is_read w e c k is passes read =
+    let place = numbered w.conns c (is_there w e c is passes).0 (is_there w e c is passes).1 in
+    conn_at_place w.conns c place.0 ∙ slice_get_read w.conns (length w.conns) (c - 1) k refl place.1 read
+
+-- the same, of the world that the parts of one are seen as
+pub read_by : {H : Type 0} {v now : WorldSeen H} (e : Event) (c : ℕ) (k : Conn) → v ≡ now → connection_of e ≡ Some c → first_reason now.state e ≡ None → k ≡ get_or v.state.conns (c - 1) k → conn_at v.state.conns c ≡ Some k
+read_by {v = v} e c k seen is passes read = is_read v.state e c k is (subst (λ (u : WorldSeen _). first_reason u.state e ≡ None) (sym seen) passes) read

@@ -1,0 +1,17 @@
+pub mod Answered
+pub mod Arms
+pub mod CallMade
+pub mod Found
+pub mod LogContents
+mod Copying
+mod Movings
+pub mod Moved
+pub mod Numbered
+pub mod Parts
+pub mod Pooled
+pub mod RecordLaws
+pub mod Running
+pub mod StayParts
+pub mod CopiedParts
+pub mod MovedDown
+pub mod Claims

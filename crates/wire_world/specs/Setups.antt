@@ -1,0 +1,26 @@
+-- Why no world is made.
+use Rattle.std.specs.Prelude.{◌≡◌, pos, ◌<ℤ◌, ◌≤ℤ◌, Result, Ok, Err}
+use Rattle.wire_pool.specs.{IsPoolMax}
+use Rattle.wire_peer.specs.{IsLimit, IsWindow}
+use Rattle.wire_model.specs.{AreGood, opening}
+use Rattle.wire_model.specs.declared.limits.WorldLimits.{WorldLimits}
+use Rattle.wire_model.specs.declared.refusals.SetupRefusal.{SetupRefusal}
+use Rattle.wire_model.specs.declared.refusals.SetupRefusal.TheVariants.{BadFirstId, BadWindow, BadLimit, BadMax, OutOfMemory}
+use Rattle.wire_world.specs.Worlds.{WorldSeen}
+
+-- the numbers for the ends of a connection are within their ranges
+abbrev pub AreGoodForEnds : WorldLimits → Type 0
+AreGoodForEnds l = (pos 1 ≤ℤ l.first_id) × IsWindow l.window × IsLimit l.limit
+
+-- the first number that is outside its range; none is, where memory is wanting
+abbrev pub IsSetupRefusal : WorldLimits → SetupRefusal → Type 0
+IsSetupRefusal l BadFirstId = l.first_id <ℤ pos 1
+IsSetupRefusal l BadWindow = (pos 1 ≤ℤ l.first_id) × (IsWindow l.window → ⊥)
+IsSetupRefusal l BadLimit = (pos 1 ≤ℤ l.first_id) × IsWindow l.window × (IsLimit l.limit → ⊥)
+IsSetupRefusal l BadMax = AreGoodForEnds l × (IsPoolMax l.connections → ⊥)
+IsSetupRefusal l OutOfMemory = AreGood l
+
+-- what became of making a world
+abbrev pub IsNewWorld : {H : Type 0} → WorldLimits → H → Result (WorldSeen H) SetupRefusal → Type 0
+IsNewWorld l h (Ok w) = AreGood l × (w ≡ record { limits = l; state = opening l h })
+IsNewWorld l h (Err refusal) = IsSetupRefusal l refusal

@@ -1,0 +1,225 @@
+//! A connection of a world: its two ends, and which ways are cut.
+
+ghost use Rattle.std.specs.Prelude.{◌≡◌, ◌≢◌, ◌++◌, ◌∷◌, [], IfErr, IfOk, MatchResult, OnErr, length, option_map};
+ghost use Rattle.wire_peer.specs.{AnswerStep, IsCallRefusal, IsCalled, called, content_of, log_of};
+ghost use Rattle.wire_model.specs.{AreGood, answer_reason, cut_both, cut_down, cut_up, is_closed, is_healthy, new_conn, new_raw_conn, restarted};
+
+use std::alloc::{AllocError, Global};
+use std::marker::Model;
+use wire_model::{WorldLimits, WorldRefusal};
+use wire_msg::Payload;
+use wire_peer::{
+    AnswerRefusal, CallKind, CallNo, CallRefusal, Client, ClientState, Handler, Logged, Server,
+    ServerState,
+};
+
+/// A connection. A raw one has no client of ours.
+///
+/// A contract sees it as the record `Conn`.
+#[derive(Drop)]
+pub(crate) struct Connection {
+    pub(crate) client: Option<Client>,
+    pub(crate) server: Server,
+    /// The index among the world's calls of each call of the client.
+    pub(crate) calls: Vec<usize>,
+    pub(crate) up_cut: bool,
+    pub(crate) down_cut: bool,
+}
+
+impl Model for Connection {
+    ghost use Rattle.wire_model.specs.{Conn};
+    ghost use Rattle.wire_world.specs.Connections.{IsReleased, conn_of};
+
+    ghost Value = { Conn };
+
+    ghost view = { λ s. conn_of s.client s.server s.calls.items s.up_cut s.down_cut };
+
+    ghost invariant = { λ s. record { released : IsReleased s.client } };
+}
+
+impl Connection {
+    /// Returns a connection of this number that has carried nothing.
+    pub(crate) fn new(
+        alloc: Global,
+        limits: WorldLimits,
+        number: u64,
+    ) -> Result<Connection, AllocError>
+        requires { AreGood limits }
+        ensures { IfOk result (λ k. k ≡ new_conn limits number) }
+    {
+        let Ok(client) = Client::new(alloc, limits.first_id, limits.window, limits.limit) else {
+            unreachable!()
+        };
+        match Server::new(alloc, number, limits.window, limits.limit) {
+            Ok(server) => Ok(Connection {
+                client: Some(client),
+                server,
+                calls: Vec::new(alloc),
+                up_cut: false,
+                down_cut: false,
+            }),
+            Err(_) => Err(AllocError),
+        }
+    }
+
+    /// Returns a raw connection of this number that has carried nothing.
+    pub(crate) fn new_raw(
+        alloc: Global,
+        limits: WorldLimits,
+        number: u64,
+    ) -> Result<Connection, AllocError>
+        requires { AreGood limits }
+        ensures { IfOk result (λ k. k ≡ new_raw_conn limits number) }
+    {
+        match Server::new(alloc, number, limits.window, limits.limit) {
+            Ok(server) => Ok(Connection {
+                client: None,
+                server,
+                calls: Vec::new(alloc),
+                up_cut: false,
+                down_cut: false,
+            }),
+            Err(_) => Err(AllocError),
+        }
+    }
+
+    /// Returns true if the connection is raw.
+    pub(crate) fn is_raw(&self) -> bool
+        ensures { result ≡ self.now.raw }
+    {
+        self.client.is_none()
+    }
+
+    /// Returns true if the client is closed, or was never there.
+    pub(crate) fn is_closed(&self) -> bool
+        ensures { result ≡ is_closed self.now.client.state }
+    {
+        match &self.client {
+            Some(client) => client.state() != ClientState::Open,
+            None => true,
+        }
+    }
+
+    /// Returns true if the connection may be used again: no way is cut, the client is open, and no call is outstanding.
+    pub(crate) fn is_healthy(&self) -> bool
+        ensures { result ≡ is_healthy self.now }
+    {
+        match &self.client {
+            Some(client) => {
+                !self.up_cut
+                    && !self.down_cut
+                    && client.state() == ClientState::Open
+                    && client.outstanding() == 0
+            }
+            None => false,
+        }
+    }
+
+    /// Cuts the way up: nothing more moves, and the server is told the end.
+    pub(crate) fn cut_up(&mut self)
+        ensures { self.new ≡ cut_up self.old }
+    {
+        self.server.end();
+        self.up_cut = true;
+    }
+
+    /// Cuts the way down: nothing more moves, and the client is told the end.
+    pub(crate) fn cut_down(&mut self)
+        ensures { self.new ≡ cut_down self.old }
+    {
+        if let Some(client) = &mut self.client {
+            client.end();
+        }
+        self.down_cut = true;
+    }
+
+    /// Cuts both ways.
+    pub(crate) fn cut_both(&mut self)
+        ensures { self.new ≡ cut_both self.old }
+    {
+        self.cut_up();
+        self.cut_down();
+    }
+
+    /// Cuts the way down, unless it is cut or the connection is raw.
+    pub(crate) fn restart(&mut self)
+        ensures { self.new ≡ restarted self.old }
+    {
+        if !self.is_raw() && !self.down_cut {
+            self.cut_down();
+        }
+    }
+
+    /// Makes a call of this kind, which has this index among the world's calls.
+    ///
+    /// # Errors
+    ///
+    /// The client's refusal, or that memory is wanting. Nothing changes then.
+    pub(crate) fn call(
+        &mut self,
+        kind: CallKind,
+        payload: Payload<'_>,
+        index: usize,
+    ) -> Result<CallNo, CallRefusal>
+        ensures called { IfOk result (λ no. IsCalled self.old.client kind (content_of payload.entry) no
+            × (self.new ≡ record self.old {
+              client = called self.old.client kind (content_of payload.entry) no;
+              calls = self.old.calls ++ index ∷ [];
+            })) }
+        ensures refused { IfErr result (λ e. e ≢ CallRefusal.OutOfMemory
+            → IsCallRefusal self.old.client kind (content_of payload.entry) e) }
+        ensures unchanged { OnErr result (self.new ≡ self.old) }
+    {
+        if self.calls.try_reserve(1).is_err() {
+            return Err(CallRefusal::OutOfMemory);
+        }
+        let Some(client) = &mut self.client else {
+            return Err(CallRefusal::Closed);
+        };
+        let call = call_as(client, kind, payload)?;
+        self.calls.push_reserved(index);
+        Ok(call)
+    }
+
+    /// Returns why the server wouldn't answer the `k`-th request that waits, if it wouldn't.
+    pub(crate) fn answer_refusal(&self, k: usize) -> Option<AnswerRefusal>
+        ensures { option_map WorldRefusal.Answer result ≡ answer_reason self.now.server.state (length self.now.server.waiting) k }
+    {
+        if self.server.state() != ServerState::Open {
+            return Some(AnswerRefusal::Closed);
+        }
+        if self.server.waiting() <= k {
+            return Some(AnswerRefusal::NoSuchRequest);
+        }
+        None
+    }
+
+    /// Has the server answer the `k`-th request that waits.
+    pub(crate) fn answer<H: Handler>(
+        &mut self,
+        k: usize,
+        logged: &mut Logged<H>,
+    ) -> Result<usize, AnswerRefusal>
+        ensures answered { AnswerStep H.does H.stops k result
+            self.old.server logged.old.handler (log_of logged.old.entries.items)
+            self.new.server logged.new.handler (log_of logged.new.entries.items) }
+        ensures others { self.new ≡ record self.old { server = self.new.server } }
+    {
+        self.server.answer(k, logged)
+    }
+}
+
+/// Makes a call of this kind.
+fn call_as(client: &mut Client, kind: CallKind, payload: Payload<'_>) -> Result<CallNo, CallRefusal>
+    ensures called { MatchResult result
+        (λ no. IsCalled client.old kind (content_of payload.entry) no
+        × (client.new ≡ called client.old kind (content_of payload.entry) no))
+        (λ e. IsCallRefusal client.old kind (content_of payload.entry) e) }
+    ensures unchanged { OnErr result (client.new ≡ client.old) }
+{
+    match kind {
+        CallKind::Plain => client.call(payload),
+        CallKind::Exhaust => client.call_exhaust(payload),
+        CallKind::Unacknowledged => client.send_unacknowledged(payload),
+    }
+}

@@ -1,0 +1,17 @@
+//! The world of connections: a pool, clients and servers, and bytes that move between them.
+//!
+//! A `World` has connections, each with a client and a server of its own, one handler with its log, and a record of each call.
+//! An `Event` moves bytes over a connection, makes a call, has a request answered, cuts a way, or lends and takes back a
+//! connection. `step` makes one event happen, and `run` many.
+#![tactic(auto)]
+
+mod connections;
+mod event_parts;
+mod lists;
+mod moving;
+mod records;
+mod worlds;
+
+pub use records::{CallRecord, CallState};
+pub use wire_model::{Event, Report, SetupRefusal, WorldLimits, WorldRefusal};
+pub use worlds::World;

@@ -1,0 +1,564 @@
+//! Worlds of connections, and the events that happen in them.
+
+ghost use Rattle.std.specs.Prelude.{◌≡◌, ◌≢◌, IfErr, IfNone, IfOk, IfSome, MatchResult, None, OnErr, Some, map};
+ghost use Rattle.wire_model.specs.{AreGood, Calls, CutsDown, CutsUp, Happens, Headline, IdsApart, QuietIsDone, RawAnswerOwn, RawGiveOwn, RefusesCall, Returns, Run, UncutIsOpen, cleared_world, dropped, first_reason, is_full_for, opening, restarted_world};
+ghost use Rattle.wire_model.specs.declared.events.Event.TheVariants as events;
+ghost use Rattle.wire_peer.specs.{content_of, log_of};
+ghost use Rattle.wire_world.specs.Records.{record_of};
+ghost use Rattle.wire_world.specs.Setups.{AreGoodForEnds, IsNewWorld, IsSetupRefusal};
+
+use crate::connections::Connection;
+use crate::event_parts::{connection_of, is_cut_for, wants_client, wants_loan, wants_raw};
+use crate::lists::{connection_at, cut_all, cut_at, restart_all, settle};
+use crate::moving::closed_now;
+use crate::records::CallRecord;
+use std::alloc::Global;
+use std::marker::Model;
+use wire_model::{Event, Report, SetupRefusal, WorldLimits, WorldRefusal};
+use wire_msg::{MAX_MESSAGE_LEN, Payload};
+use wire_peer::{AnswerRefusal, CallKind, CallNo, CallRefusal, Entry, Handler, Logged};
+use wire_pool::{CheckIn, CheckOut, Pool, PoolRefusal};
+
+/// The most calls that may be outstanding, and requests that may wait.
+const MAX_WINDOW: usize = 1024;
+
+/// The least limit on the length of a message.
+const MIN_LIMIT: u32 = 26;
+
+/// A world: a pool, its connections, the records of the calls, and a handler with its log.
+///
+/// A contract sees it as the record `WorldSeen`.
+#[derive(Drop)]
+pub struct World<H> {
+    limits: WorldLimits,
+    pool: Pool,
+    connections: Vec<Connection>,
+    calls: Vec<CallRecord>,
+    logged: Logged<H>,
+}
+
+impl<H> Model for World<H> {
+    ghost use Rattle.std.specs.Prelude.{map};
+    ghost use Rattle.wire_peer.specs.{log_of};
+    ghost use Rattle.wire_world.specs.Records.{record_of};
+    ghost use Rattle.wire_world.specs.Worlds.{AreParts, WorldSeen};
+
+    ghost Value = { WorldSeen H };
+
+    ghost use Rattle.std.specs.Coded.{codes};
+    ghost use Rattle.wire_peer.specs.ContentSets.{coded_content};
+
+    ghost coded = { Prim.hlevel (codes, coded_content) };
+
+    ghost view = { λ w. record {
+      limits = w.limits;
+      state = record {
+        pool = w.pool;
+        conns = w.connections.items;
+        calls = map record_of w.calls.items;
+        log = log_of w.logged.entries.items;
+        handler = w.logged.handler;
+      };
+    } };
+
+    ghost invariant = { λ w. AreParts w.limits w.pool w.connections.items (map record_of w.calls.items) };
+}
+
+/// Returns why no world is made with these limits, if none is. The number of connections is the pool's to check.
+fn limits_refusal(limits: WorldLimits) -> Option<SetupRefusal>
+    ensures refused { IfSome result (λ refusal. IsSetupRefusal limits refusal) }
+    ensures none { IfNone result (AreGoodForEnds limits) }
+{
+    if limits.first_id < 1 {
+        return Some(SetupRefusal::BadFirstId);
+    }
+    if limits.window < 1 || limits.window > MAX_WINDOW {
+        return Some(SetupRefusal::BadWindow);
+    }
+    if limits.limit < MIN_LIMIT || limits.limit > MAX_MESSAGE_LEN {
+        return Some(SetupRefusal::BadLimit);
+    }
+    None
+}
+
+impl<H: Handler + Drop> World<H> {
+    /// Returns a world in which nothing has happened.
+    ///
+    /// # Errors
+    ///
+    /// The first of the limits that is outside its range, or `OutOfMemory`. The handler is dropped then.
+    pub fn new(alloc: Global, handler: H, limits: WorldLimits) -> Result<World<H>, SetupRefusal>
+        ensures { IsNewWorld limits handler result }
+    {
+        if let Some(refusal) = limits_refusal(limits) {
+            return Err(refusal);
+        }
+        match Pool::new(alloc, limits.connections) {
+            Ok(pool) => Ok(World {
+                limits,
+                pool,
+                connections: Vec::new(alloc),
+                calls: Vec::new(alloc),
+                logged: Logged::new(alloc, handler),
+            }),
+            Err(PoolRefusal::BadMax) => Err(SetupRefusal::BadMax),
+            Err(PoolRefusal::OutOfMemory) => Err(SetupRefusal::OutOfMemory),
+        }
+    }
+}
+
+impl<H> World<H> {
+    /// Returns the records of the calls, in the order in which they were made.
+    pub fn calls(&self) -> &[CallRecord]
+        ensures { map record_of result.now ≡ self.now.state.calls }
+    {
+        &self.calls
+    }
+
+    /// Returns the entries of the log, in order.
+    pub fn log(&self) -> &[Entry]
+        ensures { log_of result.now ≡ self.now.state.log }
+    {
+        self.logged.entries()
+    }
+
+    /// Returns the first reason that stands against the event, if one does; but for a call, the client may refuse it too.
+    fn check(&self, event: &Event<'_>) -> Result<(), WorldRefusal>
+        ensures { MatchResult result
+            (λ _. first_reason self.now.state event.now ≡ None)
+            (λ refusal. first_reason self.now.state event.now ≡ Some refusal) }
+    {
+        if self.is_full_for(event) {
+            return Err(WorldRefusal::Full);
+        }
+        let Some(number) = connection_of(event) else {
+            return Ok(());
+        };
+        let Some(connection) = connection_at(&self.connections, number) else {
+            return Err(WorldRefusal::NoConnection);
+        };
+        if wants_client(event) && connection.is_raw() {
+            return Err(WorldRefusal::Raw);
+        }
+        if wants_raw(event) && !connection.is_raw() {
+            return Err(WorldRefusal::NotRaw);
+        }
+        if wants_loan(event) && !self.pool.is_lent(number) {
+            return Err(WorldRefusal::NotLent);
+        }
+        if is_cut_for(event, connection) {
+            return Err(WorldRefusal::Cut);
+        }
+        if let Event::Answer(_, k) = *event
+            && let Some(refusal) = connection.answer_refusal(k)
+        {
+            return Err(WorldRefusal::Answer(refusal));
+        }
+        Ok(())
+    }
+
+    /// Returns true if the event makes a connection, and the pool has nothing to lend, or no number is left.
+    fn is_full_for(&self, event: &Event<'_>) -> bool
+        ensures { result ≡ is_full_for self.now.state event.now }
+    {
+        match *event {
+            Event::Open => self.pool.peek() == CheckOut::Full,
+            Event::RawOpen => self.pool.next_id().is_none(),
+            _ => false,
+        }
+    }
+
+    /// Cuts both ways of a connection, and notes that its pending calls are lost.
+    fn drop_connection(&mut self, number: u64)
+        ensures { self.new ≡ record self.old { state = dropped self.old.state number } }
+    {
+        cut_at(&mut self.connections, number);
+        settle(&mut self.calls, &self.connections);
+    }
+
+    /// Checks a connection in that was lent. Returns true if it is kept, and false if it is dropped.
+    fn give_back(&mut self, number: u64) -> bool
+        requires { first_reason self.old.state (events.Return number) ≡ None }
+        ensures limits { self.new.limits ≡ self.old.limits }
+        ensures state { Returns self.old.state number result self.new.state }
+    {
+        let connection = &self.connections[(number - 1) as usize];
+        let healthy = connection.is_healthy();
+        match self.pool.check_in(number, healthy) {
+            CheckIn::Kept => true,
+            CheckIn::Dropped => {
+                self.drop_connection(number);
+                false
+            }
+            CheckIn::NotLent => unreachable!(),
+        }
+    }
+
+    /// Cuts the way up.
+    fn cut_up(&mut self, number: u64)
+        requires { first_reason self.old.state (events.CutUp number) ≡ None }
+        ensures limits { self.new.limits ≡ self.old.limits }
+        ensures state { CutsUp self.old.state number self.new.state }
+    {
+        let connection = &mut self.connections[(number - 1) as usize];
+        connection.cut_up();
+    }
+
+    /// Cuts the way down.
+    fn cut_down(&mut self, number: u64)
+        requires { first_reason self.old.state (events.CutDown number) ≡ None }
+        ensures limits { self.new.limits ≡ self.old.limits }
+        ensures state { CutsDown self.old.state number self.new.state }
+    {
+        let connection = &mut self.connections[(number - 1) as usize];
+        connection.cut_down();
+        settle(&mut self.calls, &self.connections);
+    }
+
+    /// Clears the pool, and cuts both ways of the connections that were idle.
+    fn clear(&mut self)
+        ensures { self.new ≡ record self.old { state = cleared_world self.old.state } }
+    {
+        cut_all(&mut self.connections, self.pool.idle());
+        self.pool.clear();
+        settle(&mut self.calls, &self.connections);
+    }
+
+    /// Ends all clients, and resets the pool.
+    fn restart(&mut self)
+        ensures { self.new ≡ record self.old { state = restarted_world self.old.state } }
+    {
+        restart_all(&mut self.connections);
+        self.pool.reset();
+        settle(&mut self.calls, &self.connections);
+    }
+}
+
+impl<H: Handler> World<H> {
+    /// Checks a connection out.
+    ///
+    /// # Errors
+    ///
+    /// Memory is wanting. Nothing changes then.
+    fn open(&mut self) -> Result<Report, WorldRefusal>
+        requires { first_reason self.old.state events.Open ≡ None }
+        ensures limits { self.new.limits ≡ self.old.limits }
+        ensures state { Happens H.does H.stops self.old.limits self.old.state events.Open result self.new.state }
+    {
+        match self.pool.peek() {
+            CheckOut::Use(connection) => {
+                let _ = self.pool.check_out();
+                Ok(Report::Opened {
+                    connection,
+                    new: false,
+                })
+            }
+            CheckOut::Open(connection) => {
+                let alloc = *self.connections.allocator();
+                let Ok(opened) = Connection::new(alloc, self.limits, connection) else {
+                    return Err(WorldRefusal::OutOfMemory);
+                };
+                if self.connections.push(opened).is_err() {
+                    return Err(WorldRefusal::OutOfMemory);
+                }
+                let _ = self.pool.check_out();
+                Ok(Report::Opened {
+                    connection,
+                    new: true,
+                })
+            }
+            CheckOut::Full | CheckOut::PoolClosed => unreachable!(),
+        }
+    }
+
+    /// Makes a raw connection.
+    ///
+    /// # Errors
+    ///
+    /// Memory is wanting. Nothing changes then.
+    fn open_raw(&mut self) -> Result<Report, WorldRefusal>
+        requires { first_reason self.old.state events.RawOpen ≡ None }
+        ensures limits { self.new.limits ≡ self.old.limits }
+        ensures state { Happens H.does H.stops self.old.limits self.old.state events.RawOpen result self.new.state }
+    {
+        let Some(number) = self.pool.next_id() else {
+            unreachable!()
+        };
+        let alloc = *self.connections.allocator();
+        let Ok(connection) = Connection::new_raw(alloc, self.limits, number) else {
+            return Err(WorldRefusal::OutOfMemory);
+        };
+        if self.connections.push(connection).is_err() {
+            return Err(WorldRefusal::OutOfMemory);
+        }
+        let _ = self.pool.draw();
+        Ok(Report::RawOpened(number))
+    }
+
+    /// Makes a call, and its record.
+    ///
+    /// # Errors
+    ///
+    /// Why the client refuses, or that memory is wanting. Nothing changes then.
+    fn make_call(
+        &mut self,
+        number: u64,
+        kind: CallKind,
+        payload: Payload<'_>,
+    ) -> Result<CallNo, CallRefusal>
+        requires { first_reason self.old.state (events.Call number kind payload) ≡ None }
+        ensures limits { self.new.limits ≡ self.old.limits }
+        ensures called { IfOk result
+            (λ no. Calls self.old.state number kind (content_of payload.entry) no self.new.state) }
+        ensures refused { IfErr result (λ e. e ≢ CallRefusal.OutOfMemory
+            → RefusesCall self.old.state (events.Call number kind payload.entry) e) }
+        ensures unchanged { OnErr result (self.new ≡ self.old) }
+    {
+        let alloc = *self.calls.allocator();
+        let Ok(record) = CallRecord::new(alloc, number, kind, payload) else {
+            return Err(CallRefusal::OutOfMemory);
+        };
+        if self.calls.try_reserve(1).is_err() {
+            return Err(CallRefusal::OutOfMemory);
+        }
+        let connection = &mut self.connections[(number - 1) as usize];
+        let call = connection.call(kind, payload, self.calls.len())?;
+        self.calls.push_reserved(record);
+        Ok(call)
+    }
+
+    /// Makes a call.
+    ///
+    /// # Errors
+    ///
+    /// Why the client refuses, and nothing changes then; or that memory is wanting.
+    fn call(
+        &mut self,
+        number: u64,
+        kind: CallKind,
+        payload: Payload<'_>,
+    ) -> Result<Report, WorldRefusal>
+        requires { first_reason self.old.state (events.Call number kind payload) ≡ None }
+        ensures limits { self.new.limits ≡ self.old.limits }
+        ensures state { Happens H.does H.stops self.old.limits self.old.state
+            (events.Call number kind payload.entry) result self.new.state }
+    {
+        let index = self.calls.len();
+        match self.make_call(number, kind, payload) {
+            Ok(call) => Ok(Report::Called {
+                call: index,
+                id: call.id,
+            }),
+            Err(CallRefusal::OutOfMemory) => {
+                self.drop_connection(number);
+                Err(WorldRefusal::OutOfMemory)
+            }
+            Err(refusal) => Err(WorldRefusal::Call(refusal)),
+        }
+    }
+
+    /// Has a request answered.
+    ///
+    /// # Errors
+    ///
+    /// Memory is wanting, and the handler wasn't asked.
+    fn answer(&mut self, number: u64, k: usize) -> Result<Report, WorldRefusal>
+        requires { first_reason self.old.state (events.Answer number k) ≡ None }
+        ensures limits { self.new.limits ≡ self.old.limits }
+        ensures state { Happens H.does H.stops self.old.limits self.old.state (events.Answer number k) result self.new.state }
+    {
+        let connection = &mut self.connections[(number - 1) as usize];
+        match connection.answer(k, &mut self.logged) {
+            Ok(entry) => Ok(Report::Entry(entry)),
+            Err(AnswerRefusal::NowClosed(cause)) => Ok(Report::ClosedBy(cause)),
+            Err(AnswerRefusal::OutOfMemory) => {
+                self.drop_connection(number);
+                Err(WorldRefusal::OutOfMemory)
+            }
+            Err(AnswerRefusal::Closed) => unreachable!(),
+            Err(AnswerRefusal::NoSuchRequest) => unreachable!(),
+        }
+    }
+
+    /// Moves bytes up.
+    ///
+    /// # Errors
+    ///
+    /// Memory is wanting. The connection is cut both ways then.
+    fn up(&mut self, number: u64, n: usize) -> Result<Report, WorldRefusal>
+        requires { first_reason self.old.state (events.Up number n) ≡ None }
+        ensures limits { self.new.limits ≡ self.old.limits }
+        ensures state { Happens H.does H.stops self.old.limits self.old.state (events.Up number n) result self.new.state }
+    {
+        let connection = &mut self.connections[(number - 1) as usize];
+        match connection.move_up(n) {
+            Ok(moved) => Ok(Report::Moved(moved)),
+            Err(_) => {
+                self.drop_connection(number);
+                Err(WorldRefusal::OutOfMemory)
+            }
+        }
+    }
+
+    /// Moves bytes down.
+    ///
+    /// # Errors
+    ///
+    /// Memory is wanting. The connection is cut both ways then.
+    fn down(&mut self, number: u64, n: usize) -> Result<Report, WorldRefusal>
+        requires { first_reason self.old.state (events.Down number n) ≡ None }
+        ensures limits { self.new.limits ≡ self.old.limits }
+        ensures state { Happens H.does H.stops self.old.limits self.old.state (events.Down number n) result self.new.state }
+    {
+        let connection = &mut self.connections[(number - 1) as usize];
+        let moved = connection.move_down(n, &mut self.calls);
+        if connection.is_closed() {
+            settle(&mut self.calls, &self.connections);
+        }
+        match moved {
+            Ok(moved) => Ok(Report::Moved(moved)),
+            Err(_) => Err(WorldRefusal::OutOfMemory),
+        }
+    }
+
+    /// Feeds the server of a raw connection.
+    ///
+    /// # Errors
+    ///
+    /// Memory is wanting. The connection is cut both ways then.
+    fn feed_raw(&mut self, number: u64, bytes: &[u8]) -> Result<Report, WorldRefusal>
+        requires { first_reason self.old.state (events.Raw number bytes) ≡ None }
+        ensures limits { self.new.limits ≡ self.old.limits }
+        ensures state { Happens H.does H.stops self.old.limits self.old.state (events.Raw number bytes.entry) result self.new.state }
+    {
+        let connection = &mut self.connections[(number - 1) as usize];
+        let before = connection.server.state();
+        match connection.take_raw(bytes) {
+            Ok(moved) => Ok(Report::RawMoved {
+                moved,
+                closed: closed_now(before, connection.server.state()),
+            }),
+            Err(_) => {
+                self.drop_connection(number);
+                Err(WorldRefusal::OutOfMemory)
+            }
+        }
+    }
+
+    /// Takes bytes of the output of a raw connection's server away.
+    ///
+    /// # Errors
+    ///
+    /// Memory is wanting. The connection is cut both ways then.
+    fn take_raw(&mut self, number: u64, n: usize) -> Result<Report, WorldRefusal>
+        requires { first_reason self.old.state (events.RawTake number n) ≡ None }
+        ensures limits { self.new.limits ≡ self.old.limits }
+        ensures state { Happens H.does H.stops self.old.limits self.old.state (events.RawTake number n) result self.new.state }
+    {
+        let alloc = *self.calls.allocator();
+        let connection = &mut self.connections[(number - 1) as usize];
+        match connection.give_raw(alloc, n) {
+            Ok(bytes) => Ok(Report::Bytes(bytes)),
+            Err(_) => {
+                self.drop_connection(number);
+                Err(WorldRefusal::OutOfMemory)
+            }
+        }
+    }
+
+    /// Makes an event happen, and returns what it has done.
+    ///
+    /// # Errors
+    ///
+    /// The first reason that stands against the event. Nothing changes then, but after `OutOfMemory` the event's connection
+    /// is cut both ways, and part of what was to be moved may have been.
+    pub fn step(&mut self, event: &Event<'_>) -> Result<Report, WorldRefusal>
+        ensures limits { self.new.limits ≡ self.old.limits }
+        ensures state { Happens H.does H.stops self.old.limits self.old.state event.now result self.new.state }
+    {
+        self.check(event)?;
+        match *event {
+            Event::Open => self.open(),
+            Event::Return(c) => Ok(if self.give_back(c) {
+                Report::Kept
+            } else {
+                Report::Dropped
+            }),
+            Event::Call(c, kind, payload) => self.call(c, kind, payload),
+            Event::Up(c, n) => self.up(c, n),
+            Event::Down(c, n) => self.down(c, n),
+            Event::Answer(c, k) => self.answer(c, k),
+            Event::CutUp(c) => {
+                self.cut_up(c);
+                Ok(Report::Done)
+            }
+            Event::CutDown(c) => {
+                self.cut_down(c);
+                Ok(Report::Done)
+            }
+            Event::Clear => {
+                self.clear();
+                Ok(Report::Done)
+            }
+            Event::Restart => {
+                self.restart();
+                Ok(Report::Done)
+            }
+            Event::RawOpen => self.open_raw(),
+            Event::Raw(c, bytes) => self.feed_raw(c, bytes),
+            Event::RawTake(c, n) => self.take_raw(c, n),
+        }
+    }
+}
+
+impl<H: Handler + Drop> World<H> {
+    /// Makes a world, and has the events happen in it, one after the other.
+    fn run_events(
+        alloc: Global,
+        handler: H,
+        limits: WorldLimits,
+        events: &[Event<'_>],
+    ) -> Result<World<H>, SetupRefusal>
+        ensures { MatchResult result
+            (λ w. AreGood limits × (w.limits ≡ limits)
+            × Run H.does H.stops limits (opening limits handler) events.now w.state)
+            (λ refusal. IsSetupRefusal limits refusal) }
+    {
+        let mut world = World::new(alloc, handler, limits)?;
+        for event in events {
+            let _ = world.step(event);
+        }
+        Ok(world)
+    }
+
+    /// Makes a world, and has the events happen in it, one after the other. An event that is refused doesn't stop the run.
+    ///
+    /// # Errors
+    ///
+    /// As for `World::new`.
+    pub fn run(
+        alloc: Global,
+        handler: H,
+        limits: WorldLimits,
+        events: &[Event<'_>],
+    ) -> Result<World<H>, SetupRefusal>
+        ensures run { MatchResult result
+            (λ w. AreGood limits × (w.limits ≡ limits)
+            × Run H.does H.stops limits (opening limits handler) events.now w.state)
+            (λ refusal. IsSetupRefusal limits refusal) }
+        ensures headline { IfOk result (λ w. Headline H.does H.stops handler w.state) }
+        ensures quiet { IfOk result (λ w. QuietIsDone w.state) }
+        ensures uncut { IfOk result (λ w. UncutIsOpen w.state) }
+        ensures ids { IfOk result (λ w. IdsApart w.state) }
+        ensures entries { IfOk result (λ w.
+            (ran : Run H.does H.stops limits (opening limits handler) events.now w.state)
+            × (shown : Headline H.does H.stops handler w.state)
+            × RawAnswerOwn H.does H.stops limits handler events.now w.state ran shown.m) }
+        ensures replies { IfOk result (λ w.
+            (ran : Run H.does H.stops limits (opening limits handler) events.now w.state)
+            × (shown : Headline H.does H.stops handler w.state)
+            × RawGiveOwn H.does H.stops limits handler events.now w.state ran shown.m) }
+    {
+        World::run_events(alloc, handler, limits, events)
+    }
+}

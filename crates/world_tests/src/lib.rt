@@ -1,0 +1,18 @@
+//! Tests of worlds, by what no contract says: that events succeed where memory is there, and that the definitions mean the
+//! protocol. They stand in a crate of their own, since a crate is proved once more with its tests.
+#![tactic(auto)]
+
+#[cfg(test)]
+mod deliveries;
+#[cfg(test)]
+mod limits;
+#[cfg(test)]
+mod neighbours;
+#[cfg(test)]
+mod rows;
+#[cfg(test)]
+mod runs;
+#[cfg(test)]
+mod streams;
+#[cfg(test)]
+mod world_refusals;
