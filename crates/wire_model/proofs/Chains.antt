@@ -1,5 +1,5 @@
 -- The ids of requests and replies, and the chain of replies.
-use Rattle.std.proofs.Common.{◌≡◌, inl, inr, ℕ, zero, suc, ℤ, pos, ◌+◌, ◌≤◌, FitsSigned, Bool, true, false, true≢false, List, [], ◌∷◌, ◌++◌, refl, sym, ap, subst, ◌∙◌, append_assoc, arith, Contains}
+use Rattle.std.proofs.Common.{◌≡◌, inl, inr, ℕ, zero, suc, ℤ, pos, ◌+◌, ◌≤◌, FitsSigned, Bool, true, false, true≢false, List, [], ◌∷◌, ◌++◌, refl, sym, ap, subst, ◌∙◌, append_assoc, arith}
 use Rattle.std.specs.Prelude.{◌≤ℤ◌, negsuc, All, if◌then◌else◌, nat_lt}
 use Rattle.std.specs.Int.{w32}
 use Rattle.std.proofs.lemmas.Bool.{cases_lt}
@@ -100,10 +100,6 @@ request_id_free next used id f r = subst IsRequestId (sym f.is) (request_id_past
 
 pub request_id_behind : (next : ℤ) (used : List ℤ) (id : ℤ) → IsFirstFree next used id → IsRequestId next → IsRequestId (id_following id)
 request_id_behind next used id f r = request_id_next id (request_id_free next used id f r)
-
--- it isn't used
-pub free_id : (next : ℤ) (used : List ℤ) (id : ℤ) → IsFirstFree next used id → Contains used id → ⊥
-free_id next used id f = f.free
 
 -- a request under it has a spelling, if its content has one within the limit
 pub request_fits : (limit : ℕ) (id : ℤ) (kind : CallKind) (c : Content) → IsRequestId id → message_len c ≤ limit → ∥ IsContent c ∥₁ → Fit limit (request id kind c)

@@ -1,7 +1,7 @@
 -- A list of numbers that are exactly the calls of a kind, each once.
 use Rattle.std.proofs.Common.{◌≡◌, ℕ, List, [], ◌∷◌, ◌++◌, length, map, sym, ◌∙◌, ap, arith, Some, inl, inr}
 use Rattle.std.specs.Prelude.{remove, slice_get, slice_set}
-use Rattle.std.proofs.lemmas.Option.{none-some, same_Some, slice_get_within}
+use Rattle.std.proofs.lemmas.Option.{same_Some, slice_get_within}
 use Rattle.wire_model.specs.Machines.{Call, CallIs}
 use Rattle.wire_model.proofs.Lists.{Has, Distinct, Has-push, Has-last, Has-push_cases, Distinct-push, Has-remove, Has-other, Has-removed, Distinct-remove, get-push_old, get-push_new, get-push_cases, get-set_same, get-set_other, same_or_not, get-map, get-map_back}
 
@@ -9,9 +9,6 @@ pub record Exact (Q : Call → Type 0) (calls : List Call) (is : List ℕ) : Typ
   pub each : (i : ℕ) → Has i is → (x : Call) × CallIs calls i x × Q x
   pub all : (i : ℕ) (x : Call) → CallIs calls i x → Q x → Has i is
   pub apart : Distinct is
-
-pub exact_nil : (Q : Call → Type 0) → Exact Q [] []
-exact_nil Q = record { each = λ i h. absurd h; all = λ i x g q. absurd (none-some x g); apart = tt }
 
 pub exact_none : (Q : Call → Type 0) (calls : List Call) → ((i : ℕ) (x : Call) → CallIs calls i x → Q x → ⊥) → Exact Q calls []
 exact_none Q calls n = record { each = λ i h. absurd h; all = λ i x g q. absurd (n i x g q); apart = tt }

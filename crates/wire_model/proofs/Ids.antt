@@ -21,7 +21,7 @@ use Rattle.wire_model.specs.declared.refusals.WorldRefusal.{WorldRefusal}
 use Rattle.wire_model.specs.declared.refusals.WorldRefusal.TheVariants as refusals
 use Rattle.wire_model.specs.declared.reports.Report.{Report}
 use Rattle.wire_model.specs.Conns.{Conn, Record, World, conn_at, conn_set, new_conn, new_raw_conn, opening}
-use Rattle.wire_model.specs.Cuts.{all_cut, change, cut_at, cut_both, cut_down, dropped, restarted}
+use Rattle.wire_model.specs.Cuts.{all_cut, change, cut_at, cut_both, cut_down, restarted}
 use Rattle.wire_model.specs.Moves.{ClientTakes, ClientTakesAll, MovesDown, MovesUp, TakesRaw, TakesUncopied}
 use Rattle.wire_model.specs.Shown.{IdsApart}
 use Rattle.wire_model.specs.Happening.{Answers, Happens, IsDone, IsRefused, Opens, Part, Returns, Run}
@@ -130,9 +130,6 @@ module _ {H : Type 0} (does : Does H) (stops : Stops H) (l : WorldLimits) where
 
   answered_one : (old new : World H) (c i : ℕ) (r : Result ℕ AnswerRefusal) → Answers does stops old c i r new → In old → In new
   answered_one old new c i r s all = changed old new c s.k _ all s.at (all c s.k s.at) (ap (λ w. w.conns) s.after)
-
-  dropped_one : (w : World H) (c : ℕ) → In w → In (dropped w c)
-  dropped_one w c all = apart_cut_at c w.conns all
 
   opened_one : (old new : World H) (c : ℕ) (made : Bool) → Opens l old c made new → In old → In new
   opened_one old new c false s all = subst AllApart (sym (ap (λ w. w.conns) s.2)) all

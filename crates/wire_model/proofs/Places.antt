@@ -1,5 +1,5 @@
 -- Connections by number: what is where after a connection is made, changed or mapped.
-use Rattle.std.proofs.Common.{◌≡◌, ℕ, zero, suc, ◌<◌, ◌≤◌, false, List, [], ◌∷◌, ◌++◌, length, map, refl, ap, arith, Some, None, ◌⊎◌, inl, inr}
+use Rattle.std.proofs.Common.{◌≡◌, ℕ, zero, suc, ◌<◌, ◌≤◌, List, [], ◌∷◌, ◌++◌, length, map, refl, ap, arith, Some, None, ◌⊎◌, inl, inr}
 use Rattle.std.specs.Prelude.{slice_set}
 use Rattle.std.proofs.lemmas.Option.{none-some, slice_get_past, slice_get_within}
 use Rattle.wire_model.specs.Conns.{Conn, World, conn_at, conn_set}
@@ -88,6 +88,3 @@ conn_set-here (a ∷ ks) k k' js = ap (λ zs. a ∷ zs) (conn_set-here ks k k' j
 -- a connection that is there is raw where the world says so
 pub raws_at : {H : Type 0} (w : World H) (c : ℕ) (k : Conn) → conn_at w.conns c ≡ Some k → raws w c ≡ k.raw
 raws_at w c k g = ap is_raw g
-
-pub raws_past : {H : Type 0} (w : World H) (c : ℕ) → length w.conns < c → raws w c ≡ false
-raws_past w c lt = ap is_raw (conn_past w.conns c lt)

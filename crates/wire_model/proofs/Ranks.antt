@@ -144,6 +144,3 @@ shows_never c calls = shows-map (never c) (λ r. r) (λ x. refl) (λ x. refl) ca
 -- the record of a call whose client is lost
 abbrev pub lost_at : ℕ → Record → Record
 lost_at c r = record { connection = r.connection; asked = r.asked; parts = r.parts; state = if r.connection == c then lost_state r.state else r.state }
-
-pub shows_lost : (c : ℕ) (calls : List Call) → shown_calls (map (lost c) calls) ≡ map (lost_at c) (shown_calls calls)
-shows_lost c calls = shows-map (lost c) (lost_at c) (λ x. refl) (ours-lost c) calls

@@ -99,9 +99,6 @@ pub bad_begins : (limit : ℕ) (n : Message) (b c d : List ℕ) (fault : MsgFaul
 bad_begins limit n b c d fault lt f bad e = ∥∥₁_elim (fit_spells limit n lt f) absurd_prop (λ s.
     bad_not_whole limit (canonical n) [] n fault (fit_bytes limit n lt f) (bad_spelling limit n b c d fault s bad e) (whole_first limit n (canonical n) [] f (sym (append-nil (canonical n))) s))
 
-pub bad_first : (limit : ℕ) (n : Message) (b c d : List ℕ) (fault : MsgFault) → limit < 2 ^ 31 → Fit limit n → IsBytes d → IsBad limit b fault → b ++ c ≡ canonical n ++ d → ⊥
-bad_first limit n b c d fault lt f fits bad e = bad_begins limit n b c d fault lt f bad e
-
 -- ---- nothing
 
 pub open_nil : (limit : ℕ) → IsOpen limit []
@@ -118,17 +115,6 @@ bad_some limit [] c f bad e = open_not_bad limit [] f (open_nil limit) bad
 bad_some limit (x ∷ b) c f bad e = cc
 
 -- ---- any spelling
-
--- no message begins what is open, or what is bad
-pub open_none : (limit : ℕ) (m : Message) (b p q : List ℕ) → IsOpen limit b → b ≡ p ++ q → SpellsMsg m p → length p ≤ limit → ⊥
-open_none limit m b p q o e s le = open_not_whole limit b q m o (record { front = p; parts = e; spelled = s; within = le })
-
-pub bad_none : (limit : ℕ) (m : Message) (b p q : List ℕ) (f : MsgFault) → IsBytes b → IsBad limit b f → b ≡ p ++ q → SpellsMsg m p → length p ≤ limit → ⊥
-bad_none limit m b p q f fits bad e s le = bad_not_whole limit b q m f fits bad (record { front = p; parts = e; spelled = s; within = le })
-
--- two messages that begin the same bytes are one
-pub spells_both : (m n : Message) (p q x y : List ℕ) → SpellsMsg m p → SpellsMsg n q → p ++ x ≡ q ++ y → (m ≡ n) × (p ≡ q)
-spells_both m n p q x y s t e = let all = one_front m n p q x y (msg_are_bytes m p s) s t e in (all.0, all.1)
 
 -- the message that bytes spell is one
 pub same_request : (m n : Message) (b : List ℕ) → SpellsMsg m b → SpellsMsg n b → m ≡ n
