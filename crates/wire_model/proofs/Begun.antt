@@ -119,10 +119,6 @@ agrees_with : {H : Type 0} (limit : ℕ) (t g : ℕ → List ℕ) (w : World H) 
 agrees_with limit t g w m p ks a ways = record { ways = ways; calls = a.calls; log = a.log; handler = a.handler }
 
 module _ (H : Type 0) (does : Does H) (stops : Stops H) (l : WorldLimits) (good : AreGood l) (t g : ℕ → List ℕ) where
-  -- the machine stays where it is
-  pub stays_with : (w n : World H) (m : Machine H) → Agrees l.limit t g n m → Follows H does stops l.limit t g m n
-  stays_with w n m a = record { next = m; steps = stay; agrees = a }
-
   -- the pool alone changes
   pub followed_pool : (w n : World H) (m : Machine H) (p : PoolSeen) → Agrees l.limit t g w m → n ≡ with_pool w p → Follows H does stops l.limit t g m n
   followed_pool w n m p a e = rw e (record { next = m; steps = stay; agrees = agrees_with l.limit t g w m p w.conns a a.ways })

@@ -13,9 +13,9 @@ use Rattle.wire_model.specs.{Answers, Conn, World, answer_reason, conn_at, conn_
 use Rattle.wire_model.specs.declared.events.Event.TheVariants.{Answer}
 use Rattle.wire_model.specs.declared.refusals.WorldRefusal.{WorldRefusal}
 use Rattle.wire_model.specs.declared.refusals.WorldRefusal.TheVariants as refusals
+use Rattle.wire_model.proofs.Lemmas.{log_contents}
 use Rattle.wire_world.specs.Worlds.{WorldSeen}
 use Rattle.wire_world.proofs.Found.{numbered}
-use Rattle.wire_world.proofs.LogContents.{log_contents}
 use Rattle.wire_world.proofs.Numbered.{conn_set_place}
 
 waits : (r : WorldRefusal) (w i : ℕ) → (if nat_le w i then Some r else None) ≡ None → i < w

@@ -2,7 +2,6 @@ pub mod Answered
 pub mod Arms
 pub mod CallMade
 pub mod Found
-pub mod LogContents
 mod Copying
 mod Movings
 pub mod Moved
