@@ -124,13 +124,13 @@ has_with id how s values (r ∷ rs) same = go (bytes_eq r.id id) refl (has_with 
 abbrev with_hex : Bool → List Row → List Row
 with_hex b rows = if b then rows else with_values (codes "hex") AsWritten DefaultValue (codes "false" ∷ []) rows
 
-abbrev IsWhole : List Row → Type 0
-IsWhole rows = AreGood rows × (has_row (codes "hex") rows ≡ true)
+abbrev AreGoodWithHex : List Row → Type 0
+AreGoodWithHex rows = AreGood rows × (has_row (codes "hex") rows ≡ true)
 
-hex_is_whole : (rows : List Row) → AreGood rows → IsWhole (with_hex (has_row (codes "hex") rows) rows)
-hex_is_whole rows good = go (has_row (codes "hex") rows) refl
+hex_is_there : (rows : List Row) → AreGood rows → AreGoodWithHex (with_hex (has_row (codes "hex") rows) rows)
+hex_is_there rows good = go (has_row (codes "hex") rows) refl
   where
-    go : (b : Bool) → has_row (codes "hex") rows ≡ b → IsWhole (with_hex b rows)
+    go : (b : Bool) → has_row (codes "hex") rows ≡ b → AreGoodWithHex (with_hex b rows)
     go true is = (good, is)
     go false is = (
       good_with (codes "hex") AsWritten DefaultValue (codes "false" ∷ []) rows
@@ -142,12 +142,12 @@ same : (b : Bool) (P : List Row → Type 0) (rows : List Row) → P rows → P (
 same true P rows p = p
 same false P rows p = p
 
-finished_is_whole : (rows : List Row) → AreGood rows → IsWhole (fold with_default rows leaf_rules)
-finished_is_whole rows good =
+finished_has_hex : (rows : List Row) → AreGood rows → AreGoodWithHex (fold with_default rows leaf_rules)
+finished_has_hex rows good =
     let first = same (has_row (codes "file") rows) AreGood rows good in
     let one = if has_row (codes "file") rows then rows else rows in
     let two = with_hex (has_row (codes "hex") one) one in
-    same (has_row (codes "help") two) IsWhole two (hex_is_whole one first)
+    same (has_row (codes "help") two) AreGoodWithHex two (hex_is_there one first)
 
 abbrev IsFound : Text → Row → Type 0
 IsFound id r = (r.id ≡ id) × IsGoodRow r
@@ -177,7 +177,7 @@ has_found id (r ∷ rs) has = go (bytes_eq r.id id) has (has_found id rs)
     go true e rest = refl
     go false e rest = rest e
 
-whole_names_source : (rows : List Row) → IsWhole rows → is_given (codes "file") rows ≡ true → NamesSource rows
+whole_names_source : (rows : List Row) → AreGoodWithHex rows → is_given (codes "file") rows ≡ true → NamesSource rows
 whole_names_source rows whole given = (
   file_found (find (λ r. bytes_eq r.id (codes "file")) rows) (found (codes "file") rows whole.0) given,
   hex_found (find (λ r. bytes_eq r.id (codes "hex")) rows) (found (codes "hex") rows whole.0) (has_found (codes "hex") rows whole.1),
@@ -200,7 +200,7 @@ leaf_names_source name words none =
     let defaulting = or_nil (defaults_fault (settled s.rules end).rows s.rules) _ settling.1 in
     let good : AreGood end.rows = walk_good s [] leaf_keeps (walk_from nothing_held) words walking.0 tt in
     let rows = finished s.rules end in
-    whole_names_source rows (finished_is_whole (settled s.rules end).rows (settle_good s.rules s.args_override_self leaf_keeps end settling.0 good))
+    whole_names_source rows (finished_has_hex (settled s.rules end).rows (settle_good s.rules s.args_override_self leaf_keeps end settling.0 good))
     (given_where_unfaulted (is_given (codes "file") rows) defaulting.1)
 
 -- ---- the whole command line

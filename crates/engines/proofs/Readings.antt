@@ -9,7 +9,7 @@ use Rattle.bson_elem.specs.Faults.{FrontFault}
 use Rattle.bson_raw.specs.Split.{DocumentSplit, documents_bytes}
 use Rattle.bson_raw.proofs.Lemmas.{AreDocuments-append, Walked, documents_bytes-append, one_more, walked_all, walked_to_fault}
 use Rattle.engines.specs.InputFault.{bson_line, too_large_line}
-use Rattle.engines.specs.Documents.{TextsAre, IsLast, texts_of, any_text, first_without, and_then, or_here, IsWritten, IsWhole, is_there, or_nothing}
+use Rattle.engines.specs.Documents.{TextsAre, IsLast, texts_of, any_text, first_without, and_then, or_here, IsWritten, IsWholeText, is_there, or_nothing}
 use Rattle.engines.specs.Output.{AppendsText}
 
 -- each of the documents has a text
@@ -170,7 +170,7 @@ no_text (Some text) there old new is w = absurd (cc)
 -- the texts were written, and then the last line, if there is one
 pub whole_written : {E : Type 0} (r : Result Bool E) (text_of : Tree → Option (List ℕ)) (joined : Bool → List ℕ → List ℕ) (bytes texts : List ℕ) (any : Bool)
     (last a b c : Option (List ℕ)) → TextsAre text_of bytes any texts last → Appends a b (joined any texts)
-    → IfOk r (λ there. (there ≡ is_there last) × Appends b c (or_nothing last)) → IfOk r (λ fault. AppendsText (IsWhole text_of joined bytes) fault a c)
+    → IfOk r (λ there. (there ≡ is_there last) × Appends b c (or_nothing last)) → IfOk r (λ fault. AppendsText (IsWholeText text_of joined bytes) fault a c)
 whole_written (Err e) text_of joined bytes texts any last a b c reads first second = tt
 whole_written (Ok there) text_of joined bytes texts any last a b c reads first second = (
   joined any texts ++ or_nothing last,

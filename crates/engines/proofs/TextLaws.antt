@@ -7,7 +7,7 @@ use Rattle.bson_elem.proofs.Lemmas.{IsBytes-after, one_front}
 use Rattle.bson_raw.specs.Split.{documents_bytes}
 use Rattle.bson_raw.proofs.Lemmas.{same_split}
 use Rattle.engines.specs.InputFault.{bson_line}
-use Rattle.engines.specs.Documents.{TextsAre, IsLast, any_text, texts_of, first_without, IsWhole, or_nothing, is_there}
+use Rattle.engines.specs.Documents.{TextsAre, IsLast, any_text, texts_of, first_without, IsWholeText, or_nothing, is_there}
 
 -- there is one last line at most
 one_last : (without : Option ℕ) (start : ℕ) (rest : List ℕ) (last last' : Option (List ℕ)) → IsBytes rest → IsLast without start rest last → IsLast without start rest last' → last ≡ last'
@@ -31,7 +31,7 @@ one_texts text_of bytes any any' texts texts' last last' fits a b =
     )
 
 pub one_whole : (text_of : Tree → Option (List ℕ)) (joined : Bool → List ℕ → List ℕ) (bytes text text' : List ℕ) (fault fault' : Bool) → IsBytes bytes
-    → IsWhole text_of joined bytes text fault → IsWhole text_of joined bytes text' fault' → (text ≡ text') × (fault ≡ fault')
+    → IsWholeText text_of joined bytes text fault → IsWholeText text_of joined bytes text' fault' → (text ≡ text') × (fault ≡ fault')
 one_whole text_of joined bytes text text' fault fault' fits w w' =
     let same = one_texts text_of bytes w.0 w'.0 w.1 w'.1 w.2 w'.2 fits w.3 w'.3 in (
       w.4

@@ -3,7 +3,7 @@ use Rattle.std.specs.Prelude.{ℕ, nat_lt, List, [], ◌++◌, codes, Bool, true
 use Rattle.hex.specs.Hex.{encode_lower}
 use Rattle.bson_elem.specs.{Tree, document, elements}
 use Rattle.bson_doc.specs.{canonical_len, plain}
-use Rattle.engines.specs.Documents.{IsWhole, plainly}
+use Rattle.engines.specs.Documents.{IsWholeText, plainly}
 
 -- bytes as they are, or as hexadecimal text
 abbrev pub in_form : Bool → List ℕ → List ℕ
@@ -31,4 +31,4 @@ joined_by true = hex_line
 
 -- what `canon` writes for bytes, as bytes or as hexadecimal text, and whether it ends with a fault line
 abbrev pub CanonText : ℕ → Bool → List ℕ → List ℕ → Bool → Type 0
-CanonText limit hex = IsWhole (canon_of limit hex) (joined_by hex)
+CanonText limit hex = IsWholeText (canon_of limit hex) (joined_by hex)

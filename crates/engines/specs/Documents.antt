@@ -61,8 +61,8 @@ is_there (Some line) = true
 
 -- The whole text of bytes, and whether it ends with a fault line: what is made of the texts of the documents, and of
 -- whether there are any, and then the last line.
-abbrev pub IsWhole : (Tree → Option (List ℕ)) → (Bool → List ℕ → List ℕ) → List ℕ → List ℕ → Bool → Type 0
-IsWhole text_of joined bytes text fault =
+abbrev pub IsWholeText : (Tree → Option (List ℕ)) → (Bool → List ℕ → List ℕ) → List ℕ → List ℕ → Bool → Type 0
+IsWholeText text_of joined bytes text fault =
     (any : Bool) × (texts : List ℕ) × (last : Option (List ℕ)) × TextsAre text_of bytes any texts last
     × (text ≡ joined any texts ++ or_nothing last) × (fault ≡ is_there last)
 

@@ -3,7 +3,7 @@
 ghost use Rattle.std.specs.Prelude.{◌≡◌, ◌⊎◌, ◌≤◌, ◌<◌, ◌^◌, IfErr, IfOk, IfSome, None, OnOk, Some, false, if◌then◌else◌, length, nat_lt, true};
 ghost use Rattle.std.specs.Io.KnownBytes.{Appends, IsAtEnd, Keeps};
 ghost use Rattle.engines.specs.Canon.{CanonText, canon_of, hex_line, in_form, line_end};
-ghost use Rattle.engines.specs.Documents.{IsWhole, IsWritten};
+ghost use Rattle.engines.specs.Documents.{IsWholeText, IsWritten};
 ghost use Rattle.engines.specs.Output.{AppendsText, IsOutput};
 ghost use Rattle.engines.specs.Run.{is_done, is_fault};
 
@@ -70,7 +70,7 @@ impl Canon {
     /// is one.
     fn write_hex_line<W: Write>(&self, bytes: &[u8], out: &mut W) -> Result<bool, RunEnd>
         ensures written { IfOk result (λ fault.
-            AppendsText (IsWhole (canon_of self.now.limit self.now.hex) hex_line bytes.now) fault
+            AppendsText (IsWholeText (canon_of self.now.limit self.now.hex) hex_line bytes.now) fault
             (W.contents out.old) (W.contents out.new)) }
         ensures stopped { IfErr result (λ end. is_done end ≡ false) }
     {

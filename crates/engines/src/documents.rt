@@ -4,7 +4,7 @@ ghost use Rattle.std.specs.Prelude.{◌≡◌, ℕ, Bool, List, Option, IfErr, I
 ghost use Rattle.std.specs.Io.KnownBytes.{Appends};
 ghost use Rattle.bson_elem.specs.{Spells, Tree};
 ghost use Rattle.bson_raw.specs.{document_bytes, is_plain};
-ghost use Rattle.engines.specs.Documents.{IsWhole, IsWritten, TextsAre, is_there, or_nothing, plainly};
+ghost use Rattle.engines.specs.Documents.{IsWholeText, IsWritten, TextsAre, is_there, or_nothing, plainly};
 ghost use Rattle.engines.specs.InputFault.{line_of};
 ghost use Rattle.engines.specs.Output.{AppendsText};
 ghost use Rattle.engines.specs.Run.{is_done};
@@ -108,7 +108,7 @@ pub fn write_documents<E: EachDocument, W: Write>(
     out: &mut W,
 ) -> Result<bool, RunEnd>
     ensures written { IfOk result (λ fault.
-        AppendsText (IsWhole (E.text_of each.now) plainly bytes.now) fault
+        AppendsText (IsWholeText (E.text_of each.now) plainly bytes.now) fault
         (W.contents out.old) (W.contents out.new)) }
     ensures stopped { IfErr result (λ end. (is_done end ≡ false)
         × (end ≡ RunEnd.Memory → E.wants_memory each.now ≡ true)) }

@@ -2,7 +2,7 @@
 
 ghost use Rattle.std.specs.Prelude.{◌≡◌, Bool, List, Option, ℕ};
 ghost use Rattle.bson_elem.specs.{IsBytes, Tree};
-ghost use Rattle.engines.specs.Documents.{IsWhole};
+ghost use Rattle.engines.specs.Documents.{IsWholeText};
 ghost use Rattle.engines.specs.Msg.{MsgText};
 
 /// Proves that bytes have at most one text as documents, which ends with a fault line or doesn't, whatever a command writes
@@ -10,7 +10,7 @@ ghost use Rattle.engines.specs.Msg.{MsgText};
 pub fn one_text()
     ensures { (text_of : Tree → Option (List ℕ)) (joined : Bool → List ℕ → List ℕ)
         (bytes text other : List ℕ) (fault other_fault : Bool) → IsBytes bytes
-        → IsWhole text_of joined bytes text fault → IsWhole text_of joined bytes other other_fault
+        → IsWholeText text_of joined bytes text fault → IsWholeText text_of joined bytes other other_fault
         → (text ≡ other) × (fault ≡ other_fault) }
 {}
 
