@@ -12,12 +12,12 @@ use Rattle.wire_model.specs.Machines.{Call, CallIs, Machine, Steps, stay, go, cl
 use Rattle.wire_model.specs.Shown.{shown_calls}
 use Rattle.wire_model.proofs.Lists.{same_or_not}
 use Rattle.wire_model.proofs.Ranks.{shows_never}
-use Rattle.wire_model.proofs.Routes.{Route, Fits, lives}
+use Rattle.wire_model.proofs.Routes.{Route, Fits, lives, made_alike}
 use Rattle.wire_model.proofs.Promises.{Ok, ok_steps}
 use Rattle.wire_model.proofs.Kept.{SameAt, fits_same}
 use Rattle.wire_model.proofs.Frames.{same_client_gone, same_server_gone}
 use Rattle.wire_model.proofs.Gone.{client_gone_fits, server_gone_fits, server_shut}
-use Rattle.wire_model.proofs.Turns.{end_not_stopped}
+use Rattle.wire_model.proofs.RawEntries.{end_not_stopped}
 use Rattle.wire_model.proofs.Raws.{RawFits, raw_ended, raw_kept, raw_lost, raw_same}
 use Rattle.wire_model.proofs.Places.{conn_set-other, conn_set-same, conn_within, length-conn_set}
 use Rattle.wire_model.proofs.Settling.{IsShut, settled_are, settled_shut}
@@ -126,14 +126,7 @@ module _ (H : Type 0) (does : Does H) (stops : Stops H) where
   pub up_here : (limit c : ℕ) (k : Conn) (m : Machine H) (t g : List ℕ) → Here limit c k m t g → Here limit c (cut_up k) (server_gone m c) t g
   up_here limit c k m t g h = record {
     route = h.route;
-    fits = server_gone_fits limit c k m h.route (ended_server k.server) true refl (server_shut k.server.state _) (record {
-      limit_up = h.fits.made.limit_up;
-      limit_down = h.fits.made.limit_down;
-      connection = h.fits.made.connection;
-      reply_id = h.fits.made.reply_id;
-      request_id = h.fits.made.request_id;
-      numbered = h.fits.made.numbered;
-    }) (λ b e. absurd (let no : true ≡ false = e in cc)) h.fits;
+    fits = server_gone_fits limit c k m h.route (ended_server k.server) true refl (server_shut k.server.state _) (made_alike limit c k _ refl refl refl refl refl refl refl h.fits.made) (λ b e. absurd (let no : true ≡ false = e in cc)) h.fits;
     raw = λ is. raw_ended limit c k (cut_up k) m h.route.waiting h.route.waiting t g (end_cause k.server.held) refl refl refl refl (end_not_stopped k.server.held) (h.raw is);
   }
 

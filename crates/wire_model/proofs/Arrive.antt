@@ -17,7 +17,7 @@ use Rattle.wire_model.proofs.Lists.{Each-push, map-push, get-set_other, get-push
 use Rattle.wire_model.proofs.Wires.{spells_first, bad_begins, spells_some, bad_some, open_nil}
 use Rattle.wire_model.proofs.Exacts.{exact_set, exact_out, exact_in, exact_push}
 use Rattle.wire_model.proofs.Ranks.{rank, rank-set}
-use Rattle.wire_model.proofs.Routes.{Tag, Due, Route, TagIs, DueIs, UpFits, Fits, Bears, IsRequest, AreRequests, OnWayAt, WaitingAt, DueAt, tag_calls, tag_message, due_calls, sent}
+use Rattle.wire_model.proofs.Routes.{Tag, Due, Route, TagIs, DueIs, UpFits, Fits, Bears, IsRequest, AreRequests, OnWayAt, WaitingAt, DueAt, tag_calls, tag_message, due_calls, sent, made_alike}
 use Rattle.wire_model.proofs.Kept.{tags_kept, kept_set, kept_push, down_kept, due_there}
 
 -- the connection with this server and this output of its client
@@ -41,14 +41,7 @@ module _ {H : Type 0} (limit : ℕ) (short : limit < 2 ^ 31) (c : ℕ) (k : Conn
   -- inside a message
   pub need_fits : IsOpen limit (k.server.held ++ p) → Fits limit c (conn_up k (holding k.server (k.server.held ++ p) Need) rest) m r
   need_fits o = record {
-    made = record {
-      limit_up = f.made.limit_up;
-      limit_down = f.made.limit_down;
-      connection = f.made.connection;
-      reply_id = f.made.reply_id;
-      request_id = f.made.request_id;
-      numbered = f.made.numbered;
-    };
+    made = made_alike limit c k _ refl refl refl refl refl refl refl f.made;
     raw_is = f.raw_is;
     client_is = f.client_is;
     server_is = f.server_is;
@@ -87,14 +80,7 @@ module _ {H : Type 0} (limit : ℕ) (short : limit < 2 ^ 31) (c : ℕ) (k : Conn
   pub arrive_fits : (msg : Message) (t : Tag) (ts : List Tag) → SpellsMsg msg (k.server.held ++ p) → r.onway ≡ t ∷ ts → UpFits limit c k.server.held k.client.requests.output m (t ∷ ts) → (x : Call) → CallIs m.calls t.call x → OnWayAt c x → msg ≡ tag_message t → rest ≡ flat_map sent ts
       → Fits limit c (conn_up k (holding k.server (k.server.held ++ p) Ready) rest) (with_call m t.call (placed x Waiting)) (record { onway = ts; waiting = r.waiting ++ t ∷ []; due = r.due })
   arrive_fits msg t ts spells way u x at on same is_rest = record {
-    made = record {
-      limit_up = f.made.limit_up;
-      limit_down = f.made.limit_down;
-      connection = f.made.connection;
-      reply_id = f.made.reply_id;
-      request_id = f.made.request_id;
-      numbered = f.made.numbered;
-    };
+    made = made_alike limit c k _ refl refl refl refl refl refl refl f.made;
     raw_is = f.raw_is;
     client_is = f.client_is;
     server_is = f.server_is;
@@ -128,14 +114,7 @@ module _ {H : Type 0} (limit : ℕ) (short : limit < 2 ^ 31) (c : ℕ) (k : Conn
 module _ {H : Type 0} (limit c : ℕ) (k : Conn) (m : Machine H) (r : Route) (f : Fits limit c k m r) (raw : k.raw ≡ true) (held : List ℕ) where
   pub raw_need_fits : Fits limit c (record k { server = holding k.server held Need }) m r
   raw_need_fits = record {
-    made = record {
-      limit_up = f.made.limit_up;
-      limit_down = f.made.limit_down;
-      connection = f.made.connection;
-      reply_id = f.made.reply_id;
-      request_id = f.made.request_id;
-      numbered = f.made.numbered;
-    };
+    made = made_alike limit c k _ refl refl refl refl refl refl refl f.made;
     raw_is = f.raw_is;
     client_is = f.client_is;
     server_is = f.server_is;
@@ -162,14 +141,7 @@ module _ {H : Type 0} (limit c : ℕ) (k : Conn) (m : Machine H) (r : Route) (f 
   pub appear_fits : (msg : Message) → SpellsMsg msg held → (dead : m.client_lives c ≡ false)
       → Fits limit c (record k { server = holding k.server held Ready }) (with_new m (stranger c (asked_by msg))) (record { onway = r.onway; waiting = r.waiting ++ stranger_tag msg ∷ []; due = r.due })
   appear_fits msg spells dead = record {
-    made = record {
-      limit_up = f.made.limit_up;
-      limit_down = f.made.limit_down;
-      connection = f.made.connection;
-      reply_id = f.made.reply_id;
-      request_id = f.made.request_id;
-      numbered = f.made.numbered;
-    };
+    made = made_alike limit c k _ refl refl refl refl refl refl refl f.made;
     raw_is = f.raw_is;
     client_is = f.client_is;
     server_is = f.server_is;

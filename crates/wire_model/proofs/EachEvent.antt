@@ -26,7 +26,7 @@ use Rattle.wire_model.proofs.MovesUp.{take_all_up}
 use Rattle.wire_model.proofs.Ranks.{shows-push_ours, shows_never}
 use Rattle.wire_model.proofs.Raws.{raw_taken}
 use Rattle.wire_model.proofs.Reaches.{Reaches}
-use Rattle.wire_model.proofs.Routes.{Fits, lives}
+use Rattle.wire_model.proofs.Routes.{Fits, lives, made_alike}
 use Rattle.wire_model.proofs.Shuts.{down, shuts_all_cut, shuts_cut_at, shuts_restarted, stays}
 
 is_ours_new : (b : Bool) → is_ours (if b then Sent else Pending) ≡ true
@@ -129,14 +129,7 @@ module _ (H : Type 0) (does : Does H) (stops : Stops H) (limit : ℕ) (short : l
           here = subst (λ b. Here limit c k' m (t c) (g c ++ b)) (sym (only_here c s.bytes)) (record {
             route = h.route;
             fits = record {
-              made = record {
-                limit_up = f.made.limit_up;
-                limit_down = f.made.limit_down;
-                connection = f.made.connection;
-                reply_id = f.made.reply_id;
-                request_id = f.made.request_id;
-                numbered = f.made.numbered;
-              };
+              made = made_alike limit c s.k _ refl refl refl refl refl refl refl f.made;
               raw_is = f.raw_is;
               client_is = f.client_is;
               server_is = f.server_is;

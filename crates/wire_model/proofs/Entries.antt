@@ -4,7 +4,7 @@ use Rattle.std.specs.Prelude.{slice_get, slice_set, if◌then◌else◌}
 use Rattle.std.proofs.lemmas.Option.{same_Some, slice_get_within}
 use Rattle.wire_msg.specs.{Content}
 use Rattle.wire_peer.specs.{Asked, IsCount, LogEntry, are_left}
-use Rattle.wire_model.specs.Machines.{Call, CallIs, Place, OnWay, Waiting, Answered, Mute, Never, Pending, Done, Sent, Lost, Foreign, EntryOf, Machine, new_call, stranger, placed, given, with_call, logged, logged_place, entry_for, Owes, IsDue}
+use Rattle.wire_model.specs.Machines.{Call, CallIs, Place, OnWay, Waiting, Answered, Mute, Never, Pending, Done, Sent, Lost, Foreign, EntryOf, Machine, new_call, stranger, placed, with_part, with_call, logged, logged_place, entry_for, Owes, IsDue}
 use Rattle.wire_model.proofs.Lists.{get-push_old, get-push_new, get-push_cases, get-set_same, get-set_other, same_or_not}
 use Rattle.wire_model.proofs.Ranks.{ours}
 use Rattle.wire_model.proofs.Machines.{Early, CallOk, Ok, Later, ok_later, ok_written, not_waiting, not_onway, holds_as}
@@ -88,7 +88,7 @@ module _ {H : Type 0} (m : Machine H) (x : Call) (e : ℕ) (due : IsDue m.log x 
   not_raw false e = e
   not_raw true e = absurd (let no : true ≡ false = sym lives ∙ raws x.connection e in cc)
 
-  pub given_ok : (part : Content) (rest : List Content) → due.entry.answers ≡ Some (x.parts ++ part ∷ rest) → CallOk m (given x part (are_left rest))
+  pub given_ok : (part : Content) (rest : List Content) → due.entry.answers ≡ Some (x.parts ++ part ∷ rest) → CallOk m (with_part x part (are_left rest))
   given_ok part [] owes = record {
     entry = ok.entry;
     holds = rw due.place (due.entry, due.in_log, inl (refl, owes));

@@ -26,7 +26,7 @@ use Rattle.wire_model.specs.Cuts.{cleared_world, cut_down, cut_up, dropped, is_h
 use Rattle.wire_model.specs.Machines.{Machine}
 use Rattle.wire_model.specs.Machines as machine
 use Rattle.wire_model.specs.Moves.{Calls, GivesRaw, MovesDown, MovesUp, TakesRaw, TakesUncopied}
-use Rattle.wire_model.specs.Happening.{Answers, CutsDown, CutsUp, Happens, IsDone, IsRefused, Opens, Part, Returns, Run, RunsOut, opened, with_pool}
+use Rattle.wire_model.specs.Happening.{Answers, CutsDown, CutsUp, Happens, Succeeds, IsRefused, Opens, PartDone, Returns, Run, RunsOut, opened, with_pool}
 use Rattle.wire_model.proofs.Lists.{same_or_not}
 use Rattle.wire_model.proofs.Places.{conn_push-old, conn_set-other, conn_set-same, length-conn_set, length-push}
 use Rattle.wire_model.proofs.Shuts.{Shuts, stays, up, down, shuts_all_cut, shuts_cut_at, shuts_length, shuts_restarted}
@@ -214,7 +214,7 @@ keeps_cut_up w n c s = rw s.after (keeps_set w _ c s.k (cut_up s.k) s.at refl re
 keeps_cut_down : {H : Type 0} (w n : World H) (c : ℕ) → CutsDown w c n → Keeps w n
 keeps_cut_down w n c s = rw s.after (keeps_set w _ c s.k (cut_down s.k) s.at refl refl refl)
 
-keeps_part : {H : Type 0} (l : WorldLimits) (w n : World H) (e : Event) → Part l w e n → Keeps w n
+keeps_part : {H : Type 0} (l : WorldLimits) (w n : World H) (e : Event) → PartDone l w e n → Keeps w n
 keeps_part l w n (events.Call c kind payload) s = keeps_same w n s
 keeps_part l w n (events.Up c many) s = keeps_up w n c many s.0
 keeps_part l w n (events.Down c many) (inl s) = keeps_down w n c many s.0
@@ -234,7 +234,7 @@ keeps_out : {H : Type 0} (l : WorldLimits) (w n : World H) (e : Event) → RunsO
 keeps_out l w n e s = keeps_then w s.done n (keeps_part l w s.done e s.part) (keeps_dropped s.done n s.c s.after)
 
 module _ {H : Type 0} (does : Does H) (stops : Stops H) (l : WorldLimits) where
-  grew_done : (w n : World H) (e : Event) (r : Report) → IsDone does stops l w e r n → Grew w n
+  grew_done : (w n : World H) (e : Event) (r : Report) → Succeeds does stops l w e r n → Grew w n
   grew_done w n events.Open r s = grew_opens l w n s.0 s.1 s.3
   grew_done w n (events.Return c) r s = keeps_grew w n (keeps_returns w n c s.0 s.2)
   grew_done w n (events.Call c kind payload) r s = keeps_grew w n (keeps_calls w n c kind (content_of payload) s.0 s.2)

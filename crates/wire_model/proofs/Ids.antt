@@ -24,7 +24,7 @@ use Rattle.wire_model.specs.Conns.{Conn, Record, World, conn_at, conn_set, new_c
 use Rattle.wire_model.specs.Cuts.{all_cut, change, cut_at, cut_both, cut_down, restarted}
 use Rattle.wire_model.specs.Moves.{ClientTakes, ClientTakesAll, MovesDown, MovesUp, TakesRaw, TakesUncopied}
 use Rattle.wire_model.specs.Shown.{IdsApart}
-use Rattle.wire_model.specs.Happening.{Answers, Happens, IsDone, IsRefused, Opens, Part, Returns, Run}
+use Rattle.wire_model.specs.Happening.{Answers, Happens, Succeeds, IsRefused, Opens, PartDone, Returns, Run}
 use Rattle.wire_model.proofs.Bearers.{distinct-push, distinct-reply}
 use Rattle.wire_model.proofs.Lists.{same_or_not}
 use Rattle.wire_model.proofs.Places.{conn_map-back, conn_push-cases, conn_set-other, conn_set-same}
@@ -139,7 +139,7 @@ module _ {H : Type 0} (does : Does H) (stops : Stops H) (l : WorldLimits) where
   returned_one old new c true s all = subst AllApart (sym (ap (λ w. w.conns) s.after)) all
   returned_one old new c false s all = subst AllApart (sym (ap (λ w. w.conns) s.after)) (apart_cut_at c old.conns all)
 
-  done : (old new : World H) (e : Event) (report : Report) → IsDone does stops l old e report new → In old → In new
+  done : (old new : World H) (e : Event) (report : Report) → Succeeds does stops l old e report new → In old → In new
   done old new events.Open report s all = opened_one old new s.0 s.1 s.3 all
   done old new (events.Return c) report s all = returned_one old new c s.0 s.2 all
   done old new (events.Call c kind payload) report s all = changed old new c s.2.k _ all s.2.at (distinct_called s.2.k.client kind (content_of payload) s.0 s.2.accepted (all c s.2.k s.2.at)) (ap (λ w. w.conns) s.2.after)
@@ -155,7 +155,7 @@ module _ {H : Type 0} (does : Does H) (stops : Stops H) (l : WorldLimits) where
   done old new (events.Raw c bytes) report s all = took_raw old new c bytes.now s.0 all
   done old new (events.RawTake c n) report s all = changed old new c s.0.k _ all s.0.at (all c s.0.k s.0.at) (ap (λ w. w.conns) s.0.after)
 
-  part : (old new : World H) (e : Event) → Part l old e new → In old → In new
+  part : (old new : World H) (e : Event) → PartDone l old e new → In old → In new
   part old new (events.Call c kind payload) s all = rw s all
   part old new (events.Up c n) s all = moved_up old new c n s.0 all
   part old new (events.Down c n) (inl s) all = moved_down old new c n s.0 all

@@ -19,7 +19,7 @@ pub mod Issue
 pub mod Arrive
 pub mod Answering
 pub mod Return
-pub mod Turns
+pub mod RawEntries
 pub mod RawFits
 pub mod RawChanges
 pub mod RawAnswers

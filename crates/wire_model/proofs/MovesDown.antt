@@ -9,7 +9,7 @@ use Rattle.wire_peer.specs.{ClientSeen, Does, Settles, Stops, after_message, are
 use Rattle.wire_peer.specs.ClientSteps.{is_bad, is_message, is_open}
 use Rattle.wire_peer.specs.declared.call_table.ReadyReply.{ReadyReply}
 use Rattle.wire_model.specs.Conns.{Conn, Record, given_record}
-use Rattle.wire_model.specs.Machines.{Call, CallIs, Answered, IsDue, Machine, stay, go, give_back, given, with_call}
+use Rattle.wire_model.specs.Machines.{Call, CallIs, Answered, IsDue, Machine, stay, go, give_back, with_part, with_call}
 use Rattle.wire_model.specs.Moves.{ClientTakes, ClientTakesAll, CopiesReply, joined, put_at, put_part}
 use Rattle.wire_model.specs.Shown.{shown, shown_calls}
 use Rattle.wire_model.proofs.Agreeing.{Here}
@@ -84,15 +84,15 @@ module _ (H : Type 0) (does : Does H) (stops : Stops H) where
     part_back : (b : Content) (bs : List Content) → Down (due_of tag last next a (b ∷ bs) entry ∷ ds) → rest ≡ written (chain (id_after_one next) (pos next) (b ∷ bs)) ++ flat_map spelled ds
         → msg.content ≡ a → mid ≡ ready k.client (k.client.held ++ p) tag last next true → Reaches H does stops limit c (conn_down k (released mid) rest) m copied m.log m.handler t g
     part_back b bs old is_rest content e = record {
-      next = with_call m tag.call (given x a true);
-      steps = go {o = with_call m tag.call (given x a true)} stay (give_back tag.call entry x (is_due (b ∷ bs) old.tags.0) (ap m.client_lives is.0 ∙ alive) at (least (b ∷ bs) old) refl);
+      next = with_call m tag.call (with_part x a true);
+      steps = go {o = with_call m tag.call (with_part x a true)} stay (give_back tag.call entry x (is_due (b ∷ bs) old.tags.0) (ap m.client_lives is.0 ∙ alive) at (least (b ∷ bs) old) refl);
       here = rw e (record {
         route = record { onway = r.onway; waiting = r.waiting; due = due_of tag (Some (pos next)) (id_after_one next) b bs entry ∷ ds };
         fits = Return.part_fits limit short c k m r f alive raw p rest output all_ours tag last next a entry ds x at is b bs old is_rest;
         raw = λ q. absurd (let no : true ≡ false = sym q ∙ raw in cc);
       });
-      others = λ d n. same_with_call d m tag.call x (given x a true) at (λ z. n (sym z ∙ is.0)) refl refl refl;
-      calls_are = copied_to (given x a true) (b ∷ bs) true old refl content e (all_ours tag.call x at is.0) refl;
+      others = λ d n. same_with_call d m tag.call x (with_part x a true) at (λ z. n (sym z ∙ is.0)) refl refl refl;
+      calls_are = copied_to (with_part x a true) (b ∷ bs) true old refl content e (all_ours tag.call x at is.0) refl;
       log_is = refl;
       handler_is = refl;
     }
@@ -100,15 +100,15 @@ module _ (H : Type 0) (does : Does H) (stops : Stops H) where
     whole_back : Down (due_of tag last next a [] entry ∷ ds) → rest ≡ flat_map spelled ds
         → msg.content ≡ a → mid ≡ ready k.client (k.client.held ++ p) tag last next false → Reaches H does stops limit c (conn_down k (released mid) rest) m copied m.log m.handler t g
     whole_back old is_rest content e = record {
-      next = with_call m tag.call (given x a false);
-      steps = go {o = with_call m tag.call (given x a false)} stay (give_back tag.call entry x (is_due [] old.tags.0) (ap m.client_lives is.0 ∙ alive) at (least [] old) refl);
+      next = with_call m tag.call (with_part x a false);
+      steps = go {o = with_call m tag.call (with_part x a false)} stay (give_back tag.call entry x (is_due [] old.tags.0) (ap m.client_lives is.0 ∙ alive) at (least [] old) refl);
       here = rw e (record {
         route = record { onway = r.onway; waiting = r.waiting; due = ds };
         fits = Return.whole_fits limit short c k m r f alive raw p rest output all_ours tag last next a entry ds x at is old is_rest;
         raw = λ q. absurd (let no : true ≡ false = sym q ∙ raw in cc);
       });
-      others = λ d n. same_with_call d m tag.call x (given x a false) at (λ z. n (sym z ∙ is.0)) refl refl (sym (all_ours tag.call x at is.0));
-      calls_are = copied_to (given x a false) [] false old refl content e refl refl;
+      others = λ d n. same_with_call d m tag.call x (with_part x a false) at (λ z. n (sym z ∙ is.0)) refl refl (sym (all_ours tag.call x at is.0));
+      calls_are = copied_to (with_part x a false) [] false old refl content e refl refl;
       log_is = refl;
       handler_is = refl;
     }

@@ -20,7 +20,7 @@ use Rattle.wire_model.proofs.Promises.{Ok, ok_steps}
 use Rattle.wire_model.proofs.Ranks.{shows-push_other, shows_never}
 use Rattle.wire_model.proofs.Raws.{raw_bad, raw_need, raw_whole}
 use Rattle.wire_model.proofs.Reaches.{Reaches, reaches_then, still}
-use Rattle.wire_model.proofs.Routes.{Fits, server_lives}
+use Rattle.wire_model.proofs.Routes.{Fits, server_lives, made_alike}
 
 -- the connection with this server
 abbrev pub with_server : Conn → ServerView → Conn
@@ -73,14 +73,7 @@ module _ (H : Type 0) (does : Does H) (stops : Stops H) where
             steps = go {o = server_gone m c} stay (server_lost c refl);
             here = record {
               route = h.route;
-              fits = server_gone_fits limit c k m h.route closed k.up_cut refl refl (record {
-                limit_up = f.made.limit_up;
-                limit_down = f.made.limit_down;
-                connection = f.made.connection;
-                reply_id = f.made.reply_id;
-                request_id = f.made.request_id;
-                numbered = f.made.numbered;
-              }) (λ a b. absurd (let no : true ≡ false = sym raw ∙ a in cc)) f;
+              fits = server_gone_fits limit c k m h.route closed k.up_cut refl refl (made_alike limit c k _ refl refl refl refl refl refl refl f.made) (λ a b. absurd (let no : true ≡ false = sym raw ∙ a in cc)) f;
               raw = λ q. raw_bad limit c k (with_server k closed) m h.route.waiting h.route.waiting t g p fault takes.is_open refl is_bad refl refl refl (h.raw raw);
             };
             others = λ d n. same_server_gone d c m n;

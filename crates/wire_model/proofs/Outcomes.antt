@@ -32,7 +32,7 @@ use Rattle.wire_model.proofs.Lists.{Each-at, Has-at, get-map}
 use Rattle.wire_model.proofs.Machines.{Ok as IsOk, still_pending, waiting_early}
 use Rattle.wire_model.proofs.Ranks.{shows-set_same, shows_never}
 use Rattle.wire_model.proofs.Raws.{RawFits, raw_gives, raw_silent, raw_stops}
-use Rattle.wire_model.proofs.Routes.{Bears, Fair, Fits, IsRequest, Route, Tag, TagIs, WaitingAt, server_lives, tag_calls}
+use Rattle.wire_model.proofs.Routes.{Bears, Fair, Fits, IsRequest, Route, Tag, TagIs, WaitingAt, server_lives, tag_calls, made_alike}
 
 -- ---- the request
 
@@ -194,7 +194,7 @@ module _ {H : Type 0} (does : Does H) (stops : Stops H) (limit c i : ℕ) (k : C
     waits = refl;
     steps = go {o = server_gone mid c} stay (step (server_gone mid c) (ap (server_gone mid) (sym a.is.0)));
     fits = server_gone_fits limit c (record k { server = still }) mid route (closed_at k.server i cause) k.up_cut refl refl
-        (record { limit_up = f.made.limit_up; limit_down = f.made.limit_down; connection = f.made.connection; reply_id = f.made.reply_id; request_id = f.made.request_id; numbered = f.made.numbered })
+        (made_alike limit c k _ refl refl refl refl refl refl refl f.made)
         (λ raw uncut. inr good)
         (Answering.mute_fits limit c k m r f i a.t a.there a.x a.at a.is a.no_parts still (record { held = refl; waiting = refl; still = refl; limit = refl; connection = refl }) f.made.reply_id (entry_for a.x answers) h refl);
     others = λ e o. same_then e m mid (server_gone mid c) (others_same e (Mute (length m.log)) answers h o) (same_server_gone e c mid o);

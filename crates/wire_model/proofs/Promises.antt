@@ -4,7 +4,7 @@ use Rattle.std.specs.Prelude.{slice_get, if◌then◌else◌}
 use Rattle.std.proofs.lemmas.Option.{none-some, same_Some}
 use Rattle.wire_peer.specs.{Does, LogEntry, Stops, are_left}
 use Rattle.wire_model.specs.Facts.{DoneIsWhole, EntryHasOneCall, HoldsBeginning, MuteIsNeverDone, PendingHoldsBeginning, SilentHoldsNone}
-use Rattle.wire_model.specs.Machines.{Call, CallIs, Place, OnWay, Waiting, Answered, Mute, Never, State, Pending, Done, Sent, Lost, Foreign, EntryOf, Machine, asked_as, new_call, stranger, placed, given, with_call, with_new, logged, logged_place, entry_for, Owes, IsDue, empty}
+use Rattle.wire_model.specs.Machines.{Call, CallIs, Place, OnWay, Waiting, Answered, Mute, Never, State, Pending, Done, Sent, Lost, Foreign, EntryOf, Machine, asked_as, new_call, stranger, placed, with_part, with_call, with_new, logged, logged_place, entry_for, Owes, IsDue, empty}
 use Rattle.wire_model.specs.Machines as machine
 use Rattle.wire_model.proofs.Machines.{ok_new, ok_written}
 use Rattle.wire_model.proofs.Entries.{new_ok, stranger_ok, ok_arrived, given_ok, ok_answered}
@@ -28,7 +28,7 @@ module _ (H : Type 0) (does : Does H) (stops : Stops H) where
   ok_step m n ok (machine.answer i x answers h at waits d e) = rw e (ok_answered m i x answers h at waits d.1 ok)
   ok_step m n ok (machine.log_lost i x answers h at waits loud d e) = rw e (ok_mute_gone m i x (Some answers) h at waits (inr (owes_all x.asked answers d.1)) ok)
   ok_step m n ok (machine.stop i x why h at waits s e) = rw e (ok_mute_gone m i x None h at waits (inl refl) ok)
-  ok_step m n ok (machine.give_back i e' x due l at first e) = rw e (ok_written m i x (given x due.owes.0 (are_left due.owes.1)) at (λ e is. is) (λ e is. is) (given_ok m x e' due l ok.raws (ok.each i x at) due.owes.0 due.owes.1 due.owes.2) ok)
+  ok_step m n ok (machine.give_back i e' x due l at first e) = rw e (ok_written m i x (with_part x due.owes.0 (are_left due.owes.1)) at (λ e is. is) (λ e is. is) (given_ok m x e' due l ok.raws (ok.each i x at) due.owes.0 due.owes.1 due.owes.2) ok)
   ok_step m n ok (machine.client_lost c e) = rw e (ok_client_gone m c ok)
   ok_step m n ok (machine.server_lost c e) = rw e (ok_server_gone m c ok)
   ok_step m n ok (machine.appear c a raw l e) = rw e (ok_new m (stranger c a) (stranger_ok (with_new m (stranger c a)) c a raw) (λ e is. not_waiting (stranger c a) e refl is) ok)

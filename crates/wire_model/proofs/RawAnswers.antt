@@ -1,4 +1,4 @@
--- The server of a raw connection answers: there is one more turn.
+-- The server of a raw connection answers: there is one more entry.
 use Rattle.std.proofs.Common.{◌≡◌, ℕ, zero, suc, Bool, true, false, List, [], ◌∷◌, ◌++◌, length, map, refl, sym, ◌∙◌, ap, subst, append_assoc, arith, Option, Some, None, ◌⊎◌, inl, inr}
 use Rattle.std.specs.Prelude.{if◌then◌else◌, remove, slice_get, slice_set}
 use Rattle.std.proofs.lemmas.List.{append-nil}
@@ -9,12 +9,12 @@ use Rattle.wire_peer.specs.declared.server_state.ServerCause.{ServerCause}
 use Rattle.wire_peer.specs.declared.server_state.ServerState.TheVariants.{Open, Closed}
 use Rattle.wire_model.specs.Conns.{Conn}
 use Rattle.wire_model.specs.Machines.{Answered, Call, CallIs, EntryOf, Machine, Mute, Place, Waiting, entry_for, logged, logged_place, placed, server_gone}
-use Rattle.wire_model.specs.Hostile.{AreMessages, IsNamed, IsRight, Turn, all_of, calls_of, entries_of, entry_by, given_by}
+use Rattle.wire_model.specs.Hostile.{AreMessages, IsNamed, GivesReplies, RawEntry, all_of, calls_of, entries_of, entry_by, raw_replies}
 use Rattle.wire_model.specs.Shown.{IsStopped}
 use Rattle.wire_model.proofs.Lists.{Each-at, Each-remove, Each-weaker, get-map, get-push_cases, get-push_new, get-set_other, get-set_same, map-push, same_or_not}
 use Rattle.wire_model.proofs.Routes.{Tag}
 use Rattle.wire_model.proofs.ConnCalls.{before-set, call_by_before, calls-set_here, calls_before, entries-push_here, entries_before-last}
-use Rattle.wire_model.proofs.Turns.{entries-length, given-push, gives_from, named_set, next-push, next_by, not_waiting, open_not_stopped, turns-longer, was_right, written-append}
+use Rattle.wire_model.proofs.RawEntries.{entries-length, given-push, gives_from, named_set, next-push, next_by, not_waiting, open_not_stopped, raw_entries-longer, was_right, written-append}
 use Rattle.wire_model.proofs.RawFits.{IsLeft, RawFits, StandsFor}
 use Rattle.wire_model.proofs.RawChanges.{raw_gone}
 
@@ -26,7 +26,7 @@ asked_set (a ∷ xs) (suc i) x y g e = ap (λ ws. a.asked ∷ ws) (asked_set xs 
 place_names : (x : Call) (e : ℕ) → EntryOf (placed x (logged_place x e)) e
 place_names x e = elim x.asked.silent as (λ b. ((if b then Mute e else Answered e) ≡ Answered e) ⊎ ((if b then Mute e else Answered e) ≡ Mute e)) [ true ↦ inr refl | false ↦ inl refl ]
 
--- one more turn
+-- one more entry
 module _ {H : Type 0} (limit c : ℕ) (k k' : Conn) (m : Machine H) (waiting : List Tag) (taken given : List ℕ) (r : RawFits limit c k m waiting taken given)
     (place : ℕ) (t : Tag) (x : Call) (p : Place) (answers : Option (List Content)) (h : H) (gives : Bool)
     (lives : m.server_lives c ≡ true) (was : k.server.state ≡ Open) (waits : slice_get waiting place ≡ Some t)
@@ -40,8 +40,8 @@ module _ {H : Type 0} (limit c : ℕ) (k k' : Conn) (m : Machine H) (waiting : L
   stands : StandsFor c m.calls r.messages t
   stands = Each-at (StandsFor c m.calls r.messages) waiting place t (r.waits lives) waits
 
-  abbrev new_turn : Turn
-  new_turn = record { index = calls_before c m.calls t.call; message = stands.message; answers = answers; gives = gives }
+  abbrev new_raw_entry : RawEntry
+  new_raw_entry = record { index = calls_before c m.calls t.call; message = stands.message; answers = answers; gives = gives }
 
   asks : x.asked ≡ asked_by stands.message
   asks = same_Some x.asked (asked_by stands.message)
@@ -49,14 +49,14 @@ module _ {H : Type 0} (limit c : ℕ) (k k' : Conn) (m : Machine H) (waiting : L
       ∙ ap (λ xs. slice_get xs (calls_before c m.calls t.call)) r.strangers
       ∙ get-map asked_by r.messages (calls_before c m.calls t.call) stands.message stands.at)
 
-  entry_is : new_entry ≡ entry_by c new_turn
+  entry_is : new_entry ≡ entry_by c new_raw_entry
   entry_is = λ i. record { connection = here i; payload = (asks i).payload; answers = answers }
 
-  entries : entries_of c (m.log ++ new_entry ∷ []) ≡ map (entry_by c) (r.turns ++ new_turn ∷ [])
+  entries : entries_of c (m.log ++ new_entry ∷ []) ≡ map (entry_by c) (r.raw_entries ++ new_raw_entry ∷ [])
   entries = entries-push_here c m.log new_entry here ∙ ap (λ es. es ++ new_entry ∷ []) r.entries
-      ∙ ap (λ en. map (entry_by c) r.turns ++ en ∷ []) entry_is ∙ sym (map-push (entry_by c) r.turns new_turn)
+      ∙ ap (λ en. map (entry_by c) r.raw_entries ++ en ∷ []) entry_is ∙ sym (map-push (entry_by c) r.raw_entries new_raw_entry)
 
-  newest_named : IsNamed c calls' (m.log ++ new_entry ∷ []) (length r.turns) new_turn
+  newest_named : IsNamed c calls' (m.log ++ new_entry ∷ []) (length r.raw_entries) new_raw_entry
   newest_named = record {
     stranger = placed x p;
     at = ap (λ xs. slice_get xs (calls_before c m.calls t.call)) (calls-set_here c m.calls t.call x (placed x p) there here here)
@@ -64,35 +64,35 @@ module _ {H : Type 0} (limit c : ℕ) (k k' : Conn) (m : Machine H) (waiting : L
     e = length m.log;
     names = names;
     entry = get-push_new m.log new_entry ∙ ap (λ en. Some en) entry_is;
-    before = entries_before-last c m.log new_entry ∙ ap length r.entries ∙ entries-length c r.turns;
+    before = entries_before-last c m.log new_entry ∙ ap length r.entries ∙ entries-length c r.raw_entries;
   }
 
-  named : (i : ℕ) (u : Turn) → slice_get (r.turns ++ new_turn ∷ []) i ≡ Some u → IsNamed c calls' (m.log ++ new_entry ∷ []) i u
-  named i u g = elim (get-push_cases r.turns i u new_turn g) [
+  named : (i : ℕ) (u : RawEntry) → slice_get (r.raw_entries ++ new_raw_entry ∷ []) i ≡ Some u → IsNamed c calls' (m.log ++ new_entry ∷ []) i u
+  named i u g = elim (get-push_cases r.raw_entries i u new_raw_entry g) [
     | inl old ↦ named_set c m.calls m.log (new_entry ∷ []) i t.call u x (placed x p) there here here waiting_is (r.named i u old)
-    | inr new ↦ subst (λ v. IsNamed c calls' (m.log ++ new_entry ∷ []) i v) new.1 (subst (λ j. IsNamed c calls' (m.log ++ new_entry ∷ []) j new_turn) (sym new.0) newest_named)
+    | inr new ↦ subst (λ v. IsNamed c calls' (m.log ++ new_entry ∷ []) i v) new.1 (subst (λ j. IsNamed c calls' (m.log ++ new_entry ∷ []) j new_raw_entry) (sym new.0) newest_named)
   ]
 
-  -- the new turn answers another message than the old ones
-  apart : (i : ℕ) (u v : Turn) → slice_get r.turns i ≡ Some u → new_turn ≡ v → u.index ≡ v.index → ⊥
-  apart i u v g new same = not_waiting c m.calls m.log i t.call u x there here waiting_is (r.named i u g) (same ∙ ap (λ (w : Turn). w.index) (sym new))
+  -- the new entry answers another message than the old ones
+  apart : (i : ℕ) (u v : RawEntry) → slice_get r.raw_entries i ≡ Some u → new_raw_entry ≡ v → u.index ≡ v.index → ⊥
+  apart i u v g new same = not_waiting c m.calls m.log i t.call u x there here waiting_is (r.named i u g) (same ∙ ap (λ (w : RawEntry). w.index) (sym new))
 
-  once : (i j : ℕ) (u v : Turn) → slice_get (r.turns ++ new_turn ∷ []) i ≡ Some u → slice_get (r.turns ++ new_turn ∷ []) j ≡ Some v → u.index ≡ v.index → i ≡ j
-  once i j u v g h' same = elim (get-push_cases r.turns i u new_turn g) [
-    | inl old ↦ elim (get-push_cases r.turns j v new_turn h') [
+  once : (i j : ℕ) (u v : RawEntry) → slice_get (r.raw_entries ++ new_raw_entry ∷ []) i ≡ Some u → slice_get (r.raw_entries ++ new_raw_entry ∷ []) j ≡ Some v → u.index ≡ v.index → i ≡ j
+  once i j u v g h' same = elim (get-push_cases r.raw_entries i u new_raw_entry g) [
+    | inl old ↦ elim (get-push_cases r.raw_entries j v new_raw_entry h') [
       | inl old' ↦ r.once i j u v old old' same
       | inr new' ↦ absurd (apart i u v old new'.1 same)
     ]
-    | inr new ↦ elim (get-push_cases r.turns j v new_turn h') [
+    | inr new ↦ elim (get-push_cases r.raw_entries j v new_raw_entry h') [
       | inl old' ↦ absurd (apart j v u old' new.1 (sym same))
       | inr new' ↦ new.0 ∙ sym new'.0
     ]
   ]
 
-  are : (i : ℕ) (u : Turn) → slice_get (r.turns ++ new_turn ∷ []) i ≡ Some u → slice_get r.messages u.index ≡ Some u.message
-  are i u g = elim (get-push_cases r.turns i u new_turn g) [
+  are : (i : ℕ) (u : RawEntry) → slice_get (r.raw_entries ++ new_raw_entry ∷ []) i ≡ Some u → slice_get r.messages u.index ≡ Some u.message
+  are i u g = elim (get-push_cases r.raw_entries i u new_raw_entry g) [
     | inl old ↦ r.are i u old
-    | inr new ↦ subst (λ (v : Turn). slice_get r.messages v.index ≡ Some v.message) new.1 stands.at
+    | inr new ↦ subst (λ (v : RawEntry). slice_get r.messages v.index ≡ Some v.message) new.1 stands.at
   ]
 
   -- the others that wait do so still
@@ -112,12 +112,12 @@ module _ {H : Type 0} (limit c : ℕ) (k k' : Conn) (m : Machine H) (waiting : L
         id = a.id;
       }
 
-  pub raw_turn : k'.server.held ≡ k.server.held
+  pub raw_entry_fits : k'.server.held ≡ k.server.held
       → k'.server.output ≡ k.server.output ++ written (if gives then chain k.server.next_id t.id (all_of answers) else [])
       → k'.server.next_id ≡ (if gives then id_after k.server.next_id (all_of answers) else k.server.next_id)
-      → ((many i : ℕ) (u : Turn) → u.gives ≡ gives → u.answers ≡ answers → u.message.flags.more ≡ x.asked.silent → suc i ≡ many → IsRight k'.server.state many i u)
+      → ((many i : ℕ) (u : RawEntry) → u.gives ≡ gives → u.answers ≡ answers → u.message.flags.more ≡ x.asked.silent → suc i ≡ many → GivesReplies k'.server.state many i u)
       → RawFits limit c k' (logged m t.call (placed x p) (entry_for x answers) h) (remove waiting place) taken given
-  raw_turn held output next last = record {
+  raw_entry_fits held output next last = record {
     messages = r.messages;
     bytes = r.bytes;
     spelled = r.spelled;
@@ -125,25 +125,25 @@ module _ {H : Type 0} (limit c : ℕ) (k k' : Conn) (m : Machine H) (waiting : L
     left = subst (IsLeft limit) (sym held) r.left;
     strangers = strangers;
     waits = λ lives'. Each-weaker (StandsFor c m.calls r.messages) (StandsFor c calls' r.messages) (remove waiting place) others (Each-remove (StandsFor c m.calls r.messages) waiting place (r.waits lives));
-    turns = r.turns ++ new_turn ∷ [];
+    raw_entries = r.raw_entries ++ new_raw_entry ∷ [];
     entries = entries;
     are = are;
     named = named;
     once = once;
-    right = λ i u g. subst (λ n. IsRight k'.server.state n i u) (sym (turns-longer r.turns new_turn)) (elim (get-push_cases r.turns i u new_turn g) [
-      | inl old ↦ was_right k.server.state k'.server.state (length r.turns) (suc (length r.turns)) i u was (let inside = slice_get_within r.turns i u old in λ last. omega (arith, inside, last)) (r.right i u old)
-      | inr new ↦ last (suc (length r.turns)) i u (ap (λ (v : Turn). v.gives) (sym new.1)) (ap (λ (v : Turn). v.answers) (sym new.1)) (ap (λ (v : Turn). v.message.flags.more) (sym new.1) ∙ ap (λ (a : Asked). a.silent) (sym asks)) (ap suc new.0)
+    right = λ i u g. subst (λ n. GivesReplies k'.server.state n i u) (sym (raw_entries-longer r.raw_entries new_raw_entry)) (elim (get-push_cases r.raw_entries i u new_raw_entry g) [
+      | inl old ↦ was_right k.server.state k'.server.state (length r.raw_entries) (suc (length r.raw_entries)) i u was (let inside = slice_get_within r.raw_entries i u old in λ last. omega (arith, inside, last)) (r.right i u old)
+      | inr new ↦ last (suc (length r.raw_entries)) i u (ap (λ (v : RawEntry). v.gives) (sym new.1)) (ap (λ (v : RawEntry). v.answers) (sym new.1)) (ap (λ (v : RawEntry). v.message.flags.more) (sym new.1) ∙ ap (λ (a : Asked). a.silent) (sym asks)) (ap suc new.0)
     ]);
     given_is = ap (λ b. given ++ b) output ∙ sym (append_assoc given k.server.output put) ∙ ap (λ b. b ++ put) r.given_is
-        ∙ ap (λ ms. written (given_by 1 r.turns) ++ written ms) put_is
-        ∙ sym (written-append (given_by 1 r.turns) (gives_from (next_by 1 r.turns) new_turn)) ∙ ap written (sym (given-push 1 r.turns new_turn));
-    next = next ∙ ap (λ n. if gives then id_after n (all_of answers) else n) r.next ∙ sym (next-push 1 r.turns new_turn);
+        ∙ ap (λ ms. written (raw_replies 1 r.raw_entries) ++ written ms) put_is
+        ∙ sym (written-append (raw_replies 1 r.raw_entries) (gives_from (next_by 1 r.raw_entries) new_raw_entry)) ∙ ap written (sym (given-push 1 r.raw_entries new_raw_entry));
+    next = next ∙ ap (λ n. if gives then id_after n (all_of answers) else n) r.next ∙ sym (next-push 1 r.raw_entries new_raw_entry);
   }
     where
       put : List ℕ
       put = written (if gives then chain k.server.next_id t.id (all_of answers) else [])
 
-      put_is : (if gives then chain k.server.next_id t.id (all_of answers) else []) ≡ gives_from (next_by 1 r.turns) new_turn
+      put_is : (if gives then chain k.server.next_id t.id (all_of answers) else []) ≡ gives_from (next_by 1 r.raw_entries) new_raw_entry
       put_is = λ j. if gives then chain (r.next j) (sym stands.id j) (all_of answers) else []
 
       strangers : AreMessages c r.messages calls'
@@ -157,7 +157,7 @@ pub raw_gives : {H : Type 0} (limit c : ℕ) (k k' : Conn) (m : Machine H) (wait
     → RawFits limit c k m waiting taken given
     → RawFits limit c k' (logged m t.call (placed x (logged_place x (length m.log))) (entry_for x (Some answers)) h) (remove waiting place) taken given
 raw_gives limit c k k' m waiting taken given place t x answers h lives was waits there here waiting_is loud held output next state r =
-    raw_turn limit c k k' m waiting taken given r place t x (logged_place x (length m.log)) (Some answers) h true lives was waits there here waiting_is (place_names x (length m.log)) held output next
+    raw_entry_fits limit c k k' m waiting taken given r place t x (logged_place x (length m.log)) (Some answers) h true lives was waits there here waiting_is (place_names x (length m.log)) held output next
     (λ many i u gives has more last. inl (gives, more ∙ loud, (λ none. let no_answers : Some answers ≡ None = sym has ∙ none in cc), λ end stopped. open_not_stopped k'.server.state (state ∙ was) stopped))
 
 -- a silent request gets none
@@ -167,7 +167,7 @@ pub raw_silent : {H : Type 0} (limit c : ℕ) (k k' : Conn) (m : Machine H) (wai
     → RawFits limit c k m waiting taken given
     → RawFits limit c k' (logged m t.call (placed x (logged_place x (length m.log))) (entry_for x (Some answers)) h) (remove waiting place) taken given
 raw_silent limit c k k' m waiting taken given place t x answers h lives was waits there here waiting_is silent held output next r =
-    raw_turn limit c k k' m waiting taken given r place t x (logged_place x (length m.log)) (Some answers) h false lives was waits there here waiting_is (place_names x (length m.log)) held (output ∙ sym (append-nil k.server.output)) next
+    raw_entry_fits limit c k k' m waiting taken given r place t x (logged_place x (length m.log)) (Some answers) h false lives was waits there here waiting_is (place_names x (length m.log)) held (output ∙ sym (append-nil k.server.output)) next
     (λ many i u gives has more last. inr (inl (gives, more ∙ silent)))
 
 -- it closes over its answers, or the handler stopped: the entry stands, and nothing is put out
@@ -179,5 +179,5 @@ pub raw_stops : {H : Type 0} (limit c : ℕ) (k k' : Conn) (m : Machine H) (wait
 raw_stops limit c k k' m waiting waiting' taken given place t x answers h cause good lives was waits there here waiting_is held output next state r =
     subst (λ d. RawFits limit c k' (server_gone (logged m t.call (placed x (Mute (length m.log))) (entry_for x answers) h) d) waiting' taken given) (sym here)
     (raw_gone limit c k' (logged m t.call (placed x (Mute (length m.log))) (entry_for x answers) h) (remove waiting place) waiting' taken given
-    (raw_turn limit c k k' m waiting taken given r place t x (Mute (length m.log)) answers h false lives was waits there here waiting_is (inr refl) held (output ∙ sym (append-nil k.server.output)) next
+    (raw_entry_fits limit c k k' m waiting taken given r place t x (Mute (length m.log)) answers h false lives was waits there here waiting_is (inr refl) held (output ∙ sym (append-nil k.server.output)) next
     (λ many i u gives has more last. inr (inr (gives, last, subst IsStopped (sym state) good)))))

@@ -12,13 +12,13 @@ use Rattle.wire_peer.specs.declared.server_state.ServerCause.TheVariants.{Messag
 use Rattle.wire_peer.specs.declared.server_state.ServerState.TheVariants.{Open, Closed}
 use Rattle.wire_model.specs.Conns.{Conn}
 use Rattle.wire_model.specs.Machines.{Call, Machine, client_gone, lost, never, server_gone, stranger, with_new}
-use Rattle.wire_model.specs.Hostile.{IsNamed, Turn, calls_of}
+use Rattle.wire_model.specs.Hostile.{IsNamed, RawEntry, calls_of}
 use Rattle.wire_model.specs.Shown.{IsStopped}
 use Rattle.wire_model.proofs.Lists.{Each-push, Each-weaker, get-map, get-push_new, get-push_old, map-push}
 use Rattle.wire_model.proofs.Routes.{Tag}
 use Rattle.wire_model.proofs.Kept.{SameAt}
 use Rattle.wire_model.proofs.ConnCalls.{before-last, before-map, before-push, calls-map, calls-push_here, calls_before, is_here}
-use Rattle.wire_model.proofs.Turns.{entry_never, named_by, named_map, named_push, closed_by_none, open_not_stopped, right_stays, stopped_before, stopped_stays}
+use Rattle.wire_model.proofs.RawEntries.{entry_never, named_by, named_map, named_push, closed_by_none, open_not_stopped, right_stays, stopped_before, stopped_stays}
 use Rattle.wire_model.proofs.RawFits.{IsLeft, RawFits, StandsFor}
 
 -- ---- the server alone changes
@@ -35,12 +35,12 @@ raw_server limit c k k' m waiting taken given given' piece held left output next
   left = left;
   strangers = r.strangers;
   waits = r.waits;
-  turns = r.turns;
+  raw_entries = r.raw_entries;
   entries = r.entries;
   are = r.are;
   named = r.named;
   once = r.once;
-  right = λ i t g. right_stays k.server.state k'.server.state (length r.turns) i t stays back (r.right i t g);
+  right = λ i t g. right_stays k.server.state k'.server.state (length r.raw_entries) i t stays back (r.right i t g);
   given_is = output ∙ r.given_is;
   next = next ∙ r.next;
 }
@@ -97,7 +97,7 @@ raw_same limit c k m n waiting taken given s r = record {
         at = ap (slice_get r.messages) (s.before t.call a.x a.there) ∙ a.at;
         id = a.id;
       }) (r.waits (sym s.server ∙ lives));
-  turns = r.turns;
+  raw_entries = r.raw_entries;
   entries = s.entries ∙ r.entries;
   are = r.are;
   named = λ i t g. named i t (r.named i t g);
@@ -107,7 +107,7 @@ raw_same limit c k m n waiting taken given s r = record {
   next = r.next;
 }
   where
-    named : (i : ℕ) (t : Turn) → IsNamed c m.calls m.log i t → IsNamed c n.calls n.log i t
+    named : (i : ℕ) (t : RawEntry) → IsNamed c m.calls m.log i t → IsNamed c n.calls n.log i t
     named i t a = subst (λ log. IsNamed c n.calls log i t) (sym s.more.1)
         (named_by c m.calls n.calls m.log s.more.0 i t a a.stranger (ap (λ xs. slice_get xs t.index) s.calls ∙ a.at) a.names)
 
@@ -121,7 +121,7 @@ raw_gone limit c k m waiting waiting' taken given r = record {
   left = r.left;
   strangers = ap (map (λ (x : Call). x.asked)) (calls-map c (never c) m.calls (λ x. refl)) ∙ asked_map (never c) (calls_of c m.calls) (λ x. refl) ∙ r.strangers;
   waits = λ lives. absurd (let gone : false ≡ true = sym (ap (λ b. if b then false else m.server_lives c) (is_here c c refl)) ∙ lives in cc);
-  turns = r.turns;
+  raw_entries = r.raw_entries;
   entries = r.entries;
   are = r.are;
   named = λ i t g. named_map c (never c) m.calls m.log i t (λ x. refl) (entry_never c) (r.named i t g);
@@ -149,7 +149,7 @@ raw_lost limit c d k m waiting taken given r = record {
         at = ap (slice_get r.messages) (before-map c (lost d) m.calls t.call (λ x. refl)) ∙ a.at;
         id = a.id;
       }) (r.waits lives);
-  turns = r.turns;
+  raw_entries = r.raw_entries;
   entries = r.entries;
   are = r.are;
   named = λ i t g. named_map c (lost d) m.calls m.log i t (λ x. refl) (λ x e names. names) (r.named i t g);
@@ -194,12 +194,12 @@ raw_whole limit c k k' m waiting taken given piece msg t spells within call id h
       ∙ ap (λ xs. xs ++ asked_by msg ∷ []) r.strangers ∙ sym (map-push asked_by r.messages msg);
   waits = λ lives. Each-push (StandsFor c (m.calls ++ new ∷ []) (r.messages ++ msg ∷ [])) waiting t
       (Each-weaker (StandsFor c m.calls r.messages) (StandsFor c (m.calls ++ new ∷ []) (r.messages ++ msg ∷ [])) waiting older (r.waits lives)) newest;
-  turns = r.turns;
+  raw_entries = r.raw_entries;
   entries = r.entries;
   are = λ i u g. get-push_old r.messages u.index u.message msg (r.are i u g);
   named = λ i u g. named_push c m.calls m.log i u new refl (r.named i u g);
   once = r.once;
-  right = λ i u g. right_stays k.server.state k'.server.state (length r.turns) i u (subst IsStopped (sym state)) (subst IsStopped state) (r.right i u g);
+  right = λ i u g. right_stays k.server.state k'.server.state (length r.raw_entries) i u (subst IsStopped (sym state)) (subst IsStopped state) (r.right i u g);
   given_is = ap (λ b. given ++ b) output ∙ r.given_is;
   next = next ∙ r.next;
 }

@@ -11,11 +11,11 @@ use Rattle.wire_msg.proofs.Lemmas.{bad_not_whole, header_front, least_length, ms
 use Rattle.wire_peer.specs.{written}
 use Rattle.wire_model.specs.Conns.{Conn}
 use Rattle.wire_model.specs.Machines.{Call, CallIs, Machine, Foreign}
-use Rattle.wire_model.specs.Hostile.{AreMessages, GivesOwn, IsNamed, IsRight, Turn, calls_of, entries_of, entry_by, given_by}
+use Rattle.wire_model.specs.Hostile.{AreMessages, GivesOwn, IsNamed, GivesReplies, RawEntry, calls_of, entries_of, entry_by, raw_replies}
 use Rattle.wire_model.proofs.Lists.{Each}
 use Rattle.wire_model.proofs.Routes.{Tag}
 use Rattle.wire_model.proofs.ConnCalls.{calls_before}
-use Rattle.wire_model.proofs.Turns.{next_by}
+use Rattle.wire_model.proofs.RawEntries.{next_by}
 
 -- nothing whole is held
 abbrev pub IsLeft : ℕ → List ℕ → Type 0
@@ -31,7 +31,7 @@ pub record StandsFor (c : ℕ) (calls : List Call) (messages : List Message) (t 
   pub id : message.id ≡ t.id
 
 -- What its server took are messages and what it holds, and the calls of the connection are the messages. Those that wait are
--- among them while the server lives. Its turns are right, and what it gave and is to send are their replies.
+-- among them while the server lives. What it gave and is to send are the replies of its entries.
 pub record RawFits {H : Type 0} (limit c : ℕ) (k : Conn) (m : Machine H) (waiting : List Tag) (taken given : List ℕ) : Type 0 where
   pub messages : List Message
   pub bytes : List ℕ
@@ -40,14 +40,14 @@ pub record RawFits {H : Type 0} (limit c : ℕ) (k : Conn) (m : Machine H) (wait
   pub left : IsLeft limit k.server.held
   pub strangers : AreMessages c messages m.calls
   pub waits : m.server_lives c ≡ true → Each (StandsFor c m.calls messages) waiting
-  pub turns : List Turn
-  pub entries : entries_of c m.log ≡ map (entry_by c) turns
-  pub are : (i : ℕ) (t : Turn) → slice_get turns i ≡ Some t → slice_get messages t.index ≡ Some t.message
-  pub named : (i : ℕ) (t : Turn) → slice_get turns i ≡ Some t → IsNamed c m.calls m.log i t
-  pub once : (i j : ℕ) (t u : Turn) → slice_get turns i ≡ Some t → slice_get turns j ≡ Some u → t.index ≡ u.index → i ≡ j
-  pub right : (i : ℕ) (t : Turn) → slice_get turns i ≡ Some t → IsRight k.server.state (length turns) i t
-  pub given_is : given ++ k.server.output ≡ written (given_by 1 turns)
-  pub next : k.server.next_id ≡ next_by 1 turns
+  pub raw_entries : List RawEntry
+  pub entries : entries_of c m.log ≡ map (entry_by c) raw_entries
+  pub are : (i : ℕ) (t : RawEntry) → slice_get raw_entries i ≡ Some t → slice_get messages t.index ≡ Some t.message
+  pub named : (i : ℕ) (t : RawEntry) → slice_get raw_entries i ≡ Some t → IsNamed c m.calls m.log i t
+  pub once : (i j : ℕ) (t u : RawEntry) → slice_get raw_entries i ≡ Some t → slice_get raw_entries j ≡ Some u → t.index ≡ u.index → i ≡ j
+  pub right : (i : ℕ) (t : RawEntry) → slice_get raw_entries i ≡ Some t → GivesReplies k.server.state (length raw_entries) i t
+  pub given_is : given ++ k.server.output ≡ written (raw_replies 1 raw_entries)
+  pub next : k.server.next_id ≡ next_by 1 raw_entries
 
 -- ---- what it gives
 
@@ -79,7 +79,7 @@ module _ {H : Type 0} (limit c : ℕ) (k : Conn) (m : Machine H) (waiting : List
       split = raw_split;
       strangers = r.strangers;
       foreign = foreign;
-      turns = r.turns;
+      raw_entries = r.raw_entries;
       entries = r.entries;
       are = r.are;
       named = r.named;
@@ -100,7 +100,7 @@ raw_opened limit c k m calls entries held output next = record {
   left = inl (subst (IsOpen limit) (sym held) (in_header (omega arith)));
   strangers = ap (map (λ (x : Call). x.asked)) calls;
   waits = λ lives. tt;
-  turns = [];
+  raw_entries = [];
   entries = entries;
   are = λ i t g. absurd (none-some t g);
   named = λ i t g. absurd (none-some t g);

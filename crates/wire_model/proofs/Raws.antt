@@ -11,7 +11,7 @@ use Rattle.wire_model.proofs.RawFits.{RawFits, raw_opened}
 use Rattle.wire_model.proofs.RawChanges.{raw_ended, raw_kept, raw_lost}
 pub use Rattle.wire_model.proofs.RawFits.{IsLeft, RawFits, StandsFor, raw_apart, raw_opened, raw_split}
 pub use Rattle.wire_model.proofs.RawChanges.{raw_bad, raw_ended, raw_gone, raw_kept, raw_lost, raw_need, raw_same, raw_server, raw_still, raw_taken, raw_whole}
-pub use Rattle.wire_model.proofs.RawAnswers.{raw_gives, raw_silent, raw_stops, raw_turn}
+pub use Rattle.wire_model.proofs.RawAnswers.{raw_gives, raw_silent, raw_stops, raw_entry_fits}
 
 -- it is new
 pub raw_new : {H : Type 0} (l : WorldLimits) (c : ℕ) (m : Machine H) → Ok m → ((i : ℕ) (x : Call) → CallIs m.calls i x → x.connection ≡ c → ⊥) → RawFits l.limit c (new_raw_conn l c) m [] [] []

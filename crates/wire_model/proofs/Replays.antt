@@ -6,7 +6,7 @@ use Rattle.wire_msg.specs.{Content}
 use Rattle.wire_peer.specs.{Asked, Does, LogEntry, LogStep, RunOf, Stops, are_left}
 use Rattle.wire_peer.proofs.Lemmas.{run_push}
 use Rattle.wire_model.specs.Facts.{LogIsRun}
-use Rattle.wire_model.specs.Machines.{Call, CallIs, Place, OnWay, Waiting, Answered, Mute, EntryOf, Machine, asked_as, lost, never, new_call, stranger, placed, given, logged, logged_place, entry_for, empty}
+use Rattle.wire_model.specs.Machines.{Call, CallIs, Place, OnWay, Waiting, Answered, Mute, EntryOf, Machine, asked_as, lost, never, new_call, stranger, placed, with_part, logged, logged_place, entry_for, empty}
 use Rattle.wire_model.specs.Machines as machine
 use Rattle.wire_model.proofs.Lists.{get-push_old, get-push_new, get-push_cases, get-set_same, get-set_other, same_or_not, get-map_back}
 use Rattle.wire_model.proofs.Promises.{not_waiting, not_onway, never_entry_from}
@@ -87,7 +87,7 @@ module _ (H : Type 0) (does : Does H) (stops : Stops H) where
   run_step first m n r (machine.log_lost i x answers h at waits loud d e) = rw e (run_mute first m i x (Some answers) h at waits d r)
   run_step first m n r (machine.stop i x why h at waits s e) = rw e (run_mute first m i x None h at waits (why, s) r)
   run_step first m n r (machine.give_back i e' x due l at f e) =
-      rw e (run_kept first m (machine.with_call m i (given x due.owes.0 (are_left due.owes.1))) refl refl (named_set m.calls i x (given x due.owes.0 (are_left due.owes.1)) at (λ d is. is) refl) r)
+      rw e (run_kept first m (machine.with_call m i (with_part x due.owes.0 (are_left due.owes.1))) refl refl (named_set m.calls i x (with_part x due.owes.0 (are_left due.owes.1)) at (λ d is. is) refl) r)
   run_step first m n r (machine.client_lost c e) = rw e (run_kept first m (machine.client_gone m c) refl refl (named_lost m.calls c) r)
   run_step first m n r (machine.server_lost c e) = rw e (run_kept first m (machine.server_gone m c) refl refl (named_never m.calls c) r)
   run_step first m n r (machine.appear c a raw l e) =

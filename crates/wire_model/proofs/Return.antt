@@ -16,7 +16,7 @@ use Rattle.wire_peer.specs.declared.call_table.Outstanding.{Outstanding}
 use Rattle.wire_peer.specs.declared.client_state.ClientCause.{ClientCause}
 use Rattle.wire_peer.specs.declared.client_state.ClientCause.TheVariants.{MoreNotAllowed, StreamBroken}
 use Rattle.wire_model.specs.Conns.{Conn}
-use Rattle.wire_model.specs.Machines.{Call, CallIs, OnWay, Waiting, Answered, Pending, Done, Machine, given, with_call}
+use Rattle.wire_model.specs.Machines.{Call, CallIs, OnWay, Waiting, Answered, Pending, Done, Machine, with_part, with_call}
 use Rattle.wire_model.specs.Moves.{with_server_output}
 use Rattle.wire_model.proofs.Bearers.{Idle, stream-idle, stream-one, idle-without, without-noted, bearer-noted, bearer-noted_other, bearer-without_other, eq_int, ids_apart}
 use Rattle.wire_model.proofs.Chains.{AllFit}
@@ -24,7 +24,7 @@ use Rattle.wire_model.proofs.Exacts.{Exact, exact_set, exact_out}
 use Rattle.wire_model.proofs.Kept.{kept_set, wait_kept, up_kept, each_has, due_there}
 use Rattle.wire_model.proofs.Lists.{Has, Each, get-set_same, get-set_other}
 use Rattle.wire_model.proofs.Ranks.{ours, rank-set, rank_apart}
-use Rattle.wire_model.proofs.Routes.{Bears, Tag, Due, Route, TagIs, DueIs, DownFits, Fits, IsMade, Streams, IdleBut, IdsFit, OnWayAt, WaitingAt, DueAt, tag_calls, to_of, due_calls, spelled, as_outstanding}
+use Rattle.wire_model.proofs.Routes.{Bears, Tag, Due, Route, TagIs, DueIs, DownFits, Fits, IsMade, Streams, IdleBut, IdsFit, OnWayAt, WaitingAt, DueAt, tag_calls, to_of, due_calls, spelled, as_outstanding, made_alike}
 use Rattle.wire_model.proofs.Wires.{bad_begins, bad_some, open_nil, spells_first, spells_some}
 
 -- ---- the client
@@ -79,14 +79,7 @@ module _ {H : Type 0} (limit : ℕ) (short : limit < 2 ^ 31) (c : ℕ) (k : Conn
   Down due = DownFits limit c k.client.held k.server.output k.client.reply k.client.requests.outstanding k.calls m due
 
   made_with : (client : ClientSeen) → client.requests.limit ≡ k.client.requests.limit → client.requests.next_id ≡ k.client.requests.next_id → client.requests.next_number ≡ k.client.requests.next_number → IsMade limit c (conn_down k client rest)
-  made_with client same id number = record {
-    limit_up = f.made.limit_up;
-    limit_down = same ∙ f.made.limit_down;
-    connection = f.made.connection;
-    reply_id = f.made.reply_id;
-    request_id = rw id (f.made.request_id);
-    numbered = λ n e. f.made.numbered n (sym number ∙ e);
-  }
+  made_with client same id number = made_alike limit c k (conn_down k client rest) refl refl refl same id number refl f.made
 
   -- inside a message
   pub need_fits : IsOpen limit (k.client.held ++ p) → Fits limit c (conn_down k (holding k.client (k.client.held ++ p)) rest) m r
@@ -263,14 +256,14 @@ module _ {H : Type 0} (limit : ℕ) (short : limit < 2 ^ 31) (c : ℕ) (k : Conn
 
     -- one more part, and more to come
     pub part_fits : (b : Content) (bs : List Content) → Down (due_of tag last next a (b ∷ bs) entry ∷ ds) → rest ≡ written (chain (id_after_one next) (pos next) (b ∷ bs)) ++ flat_map spelled ds
-        → Fits limit c (conn_down k (client_with k.client [] begun) rest) (with_call m tag.call (given x a true)) (record { onway = r.onway; waiting = r.waiting; due = due_of tag (Some (pos next)) (id_after_one next) b bs entry ∷ ds })
-    part_fits b bs old is_rest = rest_fits begun (due_of tag (Some (pos next)) (id_after_one next) b bs entry ∷ ds) (given x a true) refl refl refl refl (λ i n. bearer-noted_other tag.id i (as_outstanding tag (Some (pos next))) os n) old.tags.0.tag old.ids.0 (record {
+        → Fits limit c (conn_down k (client_with k.client [] begun) rest) (with_call m tag.call (with_part x a true)) (record { onway = r.onway; waiting = r.waiting; due = due_of tag (Some (pos next)) (id_after_one next) b bs entry ∷ ds })
+    part_fits b bs old is_rest = rest_fits begun (due_of tag (Some (pos next)) (id_after_one next) b bs entry ∷ ds) (with_part x a true) refl refl refl refl (λ i n. bearer-noted_other tag.id i (as_outstanding tag (Some (pos next))) os n) old.tags.0.tag old.ids.0 (record {
       bytes = is_rest;
       still_open = open_nil limit;
       no_reply = refl;
       fit = (old.fit.0.1, old.fit.1);
-      are = exact_set (DueAt c) m.calls (due_calls (due_of tag last next a (b ∷ bs) entry ∷ ds)) tag.call x (given x a true) at (λ q. q) (λ q. q) old.are;
-      tags = (head, due_kept (given x a true) refl old.are.apart.0 old.tags.1);
+      are = exact_set (DueAt c) m.calls (due_calls (due_of tag last next a (b ∷ bs) entry ∷ ds)) tag.call x (with_part x a true) at (λ q. q) (λ q. q) old.are;
+      tags = (head, due_kept (with_part x a true) refl old.are.apart.0 old.tags.1);
       rising = old.rising;
       ids = (
         record { bearer_is = bearer-noted tag.id (as_outstanding tag (Some (pos next))) os (as_outstanding tag last) old.ids.0.bearer_is; at = old.ids.0.at; allows = old.ids.0.allows },
@@ -279,12 +272,12 @@ module _ {H : Type 0} (limit : ℕ) (short : limit < 2 ^ 31) (c : ℕ) (k : Conn
       streams = (rw (without-noted tag.id (as_outstanding tag (Some (pos next))) os) (idle_rest last old.streams.0), old.streams.1);
     })
       where
-        head : DueIs (with_call m tag.call (given x a true)) (due_of tag (Some (pos next)) (id_after_one next) b bs entry)
+        head : DueIs (with_call m tag.call (with_part x a true)) (due_of tag (Some (pos next)) (id_after_one next) b bs entry)
         head =
             let t = old.tags.0 in
             let same : t.tag.x ≡ x = same_Some t.tag.x x (sym t.tag.at ∙ at) in
             record {
-              tag = record { x = given x a true; at = get-set_same m.calls tag.call x (given x a true) at; asked = ap (λ (z : Call). z.asked) (sym same) ∙ t.tag.asked; index = rank-set m.calls tag.call x (given x a true) at refl tag.call ∙ t.tag.index };
+              tag = record { x = with_part x a true; at = get-set_same m.calls tag.call x (with_part x a true) at; asked = ap (λ (z : Call). z.asked) (sym same) ∙ t.tag.asked; index = rank-set m.calls tag.call x (with_part x a true) at refl tag.call ∙ t.tag.index };
               place = ap (λ (z : Call). z.place) (sym same) ∙ t.place;
               entry = t.entry;
               in_log = t.in_log;
@@ -298,14 +291,14 @@ module _ {H : Type 0} (limit : ℕ) (short : limit < 2 ^ 31) (c : ℕ) (k : Conn
 
     -- the last part
     pub whole_fits : Down (due_of tag last next a [] entry ∷ ds) → rest ≡ flat_map spelled ds
-        → Fits limit c (conn_down k (client_with k.client [] (without tag.id os)) rest) (with_call m tag.call (given x a false)) (record { onway = r.onway; waiting = r.waiting; due = ds })
-    whole_fits old is_rest = rest_fits (without tag.id os) ds (given x a false) refl refl refl (sym head_ours) (λ i n. bearer-without_other tag.id i os n) old.tags.0.tag old.ids.0 (record {
+        → Fits limit c (conn_down k (client_with k.client [] (without tag.id os)) rest) (with_call m tag.call (with_part x a false)) (record { onway = r.onway; waiting = r.waiting; due = ds })
+    whole_fits old is_rest = rest_fits (without tag.id os) ds (with_part x a false) refl refl refl (sym head_ours) (λ i n. bearer-without_other tag.id i os n) old.tags.0.tag old.ids.0 (record {
       bytes = is_rest;
       still_open = open_nil limit;
       no_reply = refl;
       fit = old.fit.1;
-      are = exact_out (DueAt c) m.calls (due_calls (due_of tag last next a [] entry ∷ ds)) tag.call 0 x (given x a false) at (λ q. let e : Done ≡ Pending = q.1 in cc) refl old.are;
-      tags = due_kept (given x a false) (sym head_ours) old.are.apart.0 old.tags.1;
+      are = exact_out (DueAt c) m.calls (due_calls (due_of tag last next a [] entry ∷ ds)) tag.call 0 x (with_part x a false) at (λ q. let e : Done ≡ Pending = q.1 in cc) refl old.are;
+      tags = due_kept (with_part x a false) (sym head_ours) old.are.apart.0 old.tags.1;
       rising = old.rising.1;
       ids = others_due (without tag.id os) (λ i n. bearer-without_other tag.id i os n) [] old;
       streams = idle_all (without tag.id os) ds (idle_rest last old.streams.0) old.streams.1;

@@ -17,7 +17,7 @@ use Rattle.wire_model.specs.declared.refusals.WorldRefusal.TheVariants.{OutOfMem
 use Rattle.wire_model.specs.Conns.{Conn, World, conn_at}
 use Rattle.wire_model.specs.Moves.{ServerTakesAll, joined}
 use Rattle.wire_model.specs.Rooms.{HasRoomFor}
-use Rattle.wire_model.specs.Happening.{Happens, Part, WantsRoom}
+use Rattle.wire_model.specs.Happening.{Happens, PartDone, WantsRoom}
 
 -- so many more bytes end before a header does, or inside the message that the header announces
 abbrev EndsInside : (limit : ℕ) → List ℕ → ℕ → Type 0
@@ -77,7 +77,7 @@ up_wants_none does stops l old new c n k at room (before, inl (same, making)) = 
 up_wants_none {H} does stops l old new c n k at room (before, inr out) =
     by out.done out.part
   where
-    by : (done : World H) → Part l old (Up c n) done → ⊥
+    by : (done : World H) → PartDone l old (Up c n) done → ⊥
     by done (s, more) =
         let same : k ≡ s.k = same_Some k s.k (sym at ∙ s.at) in
         wants_none s.pieces s.k.server s.server n (take more.0 s.rest) (inside_of s.k.server n (subst (λ (z : Conn). HasRoomFor z.server n) same room)) s.takes (omega (arith, more.1, length-take more.0 s.rest)) more.2

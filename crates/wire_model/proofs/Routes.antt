@@ -1,5 +1,5 @@
 -- What of the machine's calls lies on the ways of one connection.
-use Rattle.std.proofs.Common.{◌≡◌, ℕ, ◌<◌, Bool, true, false, List, [], ◌∷◌, ◌++◌, length, map, Option, Some, None}
+use Rattle.std.proofs.Common.{◌≡◌, ℕ, ◌<◌, Bool, true, false, List, [], ◌∷◌, ◌++◌, length, map, Option, Some, None, ap, subst, sym, ◌∙◌}
 use Rattle.std.specs.Prelude.{ℤ, pos, slice_get}
 use Rattle.std.specs.List.{flat_map}
 use Rattle.wire_msg.specs.{Content, IsOpen, Message, SpellsMsg, canonical}
@@ -179,6 +179,18 @@ pub record IsMade (limit c : ℕ) (k : Conn) : Type 0 where
   pub reply_id : IsReplyId k.server.next_id
   pub request_id : IsRequestId k.client.requests.next_id
   pub numbered : (n : ℕ) → k.client.requests.next_number ≡ Some n → n ≡ length k.calls
+
+-- so is another connection whose ends have the same numbers
+pub made_alike : (limit c : ℕ) (k l : Conn) → l.server.limit ≡ k.server.limit → l.server.connection ≡ k.server.connection → l.server.next_id ≡ k.server.next_id → l.client.requests.limit ≡ k.client.requests.limit
+    → l.client.requests.next_id ≡ k.client.requests.next_id → l.client.requests.next_number ≡ k.client.requests.next_number → l.calls ≡ k.calls → IsMade limit c k → IsMade limit c l
+made_alike limit c k l up conn reply down request number calls made = record {
+  limit_up = up ∙ made.limit_up;
+  limit_down = down ∙ made.limit_down;
+  connection = conn ∙ made.connection;
+  reply_id = subst IsReplyId (sym reply) made.reply_id;
+  request_id = subst IsRequestId (sym request) made.request_id;
+  numbered = λ n at. made.numbered n (sym number ∙ at) ∙ sym (ap length calls);
+}
 
 pub record Fits {H : Type 0} (limit c : ℕ) (k : Conn) (m : Machine H) (r : Route) : Type 0 where
   pub made : IsMade limit c k

@@ -14,7 +14,7 @@ use Rattle.wire_model.specs.Cuts.{dropped}
 use Rattle.wire_model.specs.Hostile.{given, given_in, taken, taken_in}
 use Rattle.wire_model.specs.Machines.{Machine, stay}
 use Rattle.wire_model.specs.Moves.{MovesDown, TakesUncopied, joined}
-use Rattle.wire_model.specs.Happening.{Happens, IsMaking, Part, Run, RunsOut}
+use Rattle.wire_model.specs.Happening.{Happens, IsMaking, PartDone, Run, RunsOut}
 use Rattle.wire_model.proofs.Agreeing.{Agrees, Follows, agrees_at}
 use Rattle.wire_model.proofs.Begun.{RawsAre, followed_opens, followed_raw_open}
 use Rattle.wire_model.proofs.EachEvent.{followed_answers, followed_calls, followed_clear, followed_closes, followed_cut_down, followed_cut_up, followed_down, followed_dropped, followed_gives, followed_restart, followed_returns, followed_settled, followed_takes_raw, followed_up, joint, only}
@@ -145,7 +145,7 @@ module _ (H : Type 0) (does : Does H) (stops : Stops H) (l : WorldLimits) (good 
     ran_out w n m (events.Up c many) before s a = no_more m n (drops t s.done n m s.c (followed_up H does stops l.limit short t g w s.done m c many a s.part.0) s.after)
     ran_out w n m (events.Down c many) before s a = no_more m n (by s.part)
       where
-        by : Part l w (events.Down c many) s.done → Follows H does stops l.limit t g m n
+        by : PartDone l w (events.Down c many) s.done → Follows H does stops l.limit t g m n
         by (inl p) = drops t s.done n m s.c (followed_down H does stops l.limit short t g w s.done m c many a p.0) s.after
         by (inr p) = drops_uncopied w p.0 s.done n m c s.c many _ a p.1 p.2 s.is s.after
     ran_out w n m (events.Answer c i) before s a = no_more m n (drops t s.done n m s.c (nothing_done w s.done m a s.part) s.after)

@@ -16,7 +16,7 @@ use Rattle.wire_model.proofs.Frames.{same_client_gone, same_server_gone, same_th
 use Rattle.wire_model.proofs.Gone.{client_shut, gone_here, server_shut}
 use Rattle.wire_model.proofs.Places.{conn_set-same, conn_set-twice}
 use Rattle.wire_model.proofs.Ranks.{shows_never}
-use Rattle.wire_model.proofs.Routes.{Fits}
+use Rattle.wire_model.proofs.Routes.{Fits, made_alike}
 use Rattle.wire_model.proofs.Settling.{IsShut, settled_shut}
 use Rattle.wire_model.proofs.Shuts.{shut_after}
 
@@ -56,14 +56,7 @@ both_here : {H : Type 0} (limit c : ℕ) (k : Conn) (m : Machine H) (t g : List 
 both_here limit c k m t g client rest h raw kept = record {
   route = h.route;
   fits = record {
-    made = record {
-      limit_up = f.made.limit_up;
-      limit_down = kept.limit ∙ f.made.limit_down;
-      connection = f.made.connection;
-      reply_id = f.made.reply_id;
-      request_id = rw kept.next_id f.made.request_id;
-      numbered = λ n e. f.made.numbered n (sym kept.next_number ∙ e);
-    };
+    made = made_alike limit c k _ refl refl refl kept.limit kept.next_id kept.next_number refl f.made;
     raw_is = f.raw_is;
     client_is = client_shut client.state _ ∙ sym (gone_here m.client_lives c);
     server_is = server_shut k.server.state _ ∙ sym (gone_here m.server_lives c);

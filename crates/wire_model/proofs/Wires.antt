@@ -14,7 +14,7 @@ use Rattle.wire_msg.specs.declared.fault.MsgFault.{MsgFault}
 use Rattle.wire_msg.specs.declared.flags.MsgFlags.{MsgFlags}
 use Rattle.wire_msg.specs.declared.header.MsgHeader.{MsgHeader}
 use Rattle.wire_msg.proofs.Lemmas.{bad_not_whole, canonical_spelled, header_front, least_length, length-canonical, msg_are_bytes, msg_read, no_message, one_front, one_message, open_not_bad, open_not_whole}
-use Rattle.wire_peer.specs.ContentSets.{coded_content}
+use Rattle.wire_peer.specs.{coded_content}
 
 -- the message has a spelling within the limit
 pub record Fit (limit : ℕ) (m : Message) : Type 0 where

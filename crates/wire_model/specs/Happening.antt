@@ -108,23 +108,23 @@ pub record AllTaken {H : Type 0} {old new : World H} {c : ℕ} {bytes : List ℕ
 -- ---- events
 
 -- the event does what it is for, and this is its report
-abbrev pub IsDone : {H : Type 0} → Does H → Stops H → WorldLimits → World H → Event → Report → World H → Type 0
-IsDone does stops l old Open report new = (c : ℕ) × (made : Bool) × (report ≡ reports.Opened c made) × Opens l old c made new
-IsDone does stops l old (Return c) report new = (kept : Bool) × (report ≡ (if kept then reports.Kept else reports.Dropped)) × Returns old c kept new
-IsDone does stops l old (Call c kind payload) report new = (no : CallNo) × (report ≡ reports.Called (length old.calls) no.id) × Calls old c kind (content_of payload) no new
-IsDone does stops l old (Up c n) report new = (s : MovesUp old c n new) × (moved : ℕ) × (report ≡ reports.Moved moved) × AllUp s moved
-IsDone {H} does stops l old (Down c n) report new = (mid : World H) × (s : MovesDown old c n mid) × (moved : ℕ) × (report ≡ reports.Moved moved) × AllDown s moved × (new ≡ settled mid)
-IsDone does stops l old (Answer c i) report new =
+abbrev pub Succeeds : {H : Type 0} → Does H → Stops H → WorldLimits → World H → Event → Report → World H → Type 0
+Succeeds does stops l old Open report new = (c : ℕ) × (made : Bool) × (report ≡ reports.Opened c made) × Opens l old c made new
+Succeeds does stops l old (Return c) report new = (kept : Bool) × (report ≡ (if kept then reports.Kept else reports.Dropped)) × Returns old c kept new
+Succeeds does stops l old (Call c kind payload) report new = (no : CallNo) × (report ≡ reports.Called (length old.calls) no.id) × Calls old c kind (content_of payload) no new
+Succeeds does stops l old (Up c n) report new = (s : MovesUp old c n new) × (moved : ℕ) × (report ≡ reports.Moved moved) × AllUp s moved
+Succeeds {H} does stops l old (Down c n) report new = (mid : World H) × (s : MovesDown old c n mid) × (moved : ℕ) × (report ≡ reports.Moved moved) × AllDown s moved × (new ≡ settled mid)
+Succeeds does stops l old (Answer c i) report new =
     ((e : ℕ) × (report ≡ reports.Entry e) × Answers does stops old c i (Ok e) new)
     ⊎ ((cause : ServerCause) × (report ≡ reports.ClosedBy cause) × Answers does stops old c i (Err (answers.NowClosed cause)) new)
-IsDone does stops l old (CutUp c) report new = (report ≡ reports.Done) × CutsUp old c new
-IsDone does stops l old (CutDown c) report new = (report ≡ reports.Done) × CutsDown old c new
-IsDone does stops l old Clear report new = (report ≡ reports.Done) × (new ≡ cleared_world old)
-IsDone does stops l old Restart report new = (report ≡ reports.Done) × (new ≡ restarted_world old)
-IsDone does stops l old RawOpen report new = (c : ℕ) × (report ≡ reports.RawOpened c) × (old.pool.next ≡ Some c) × (new ≡ opened old (drawn old.pool) (new_raw_conn l c))
-IsDone does stops l old (Raw c bytes) report new =
+Succeeds does stops l old (CutUp c) report new = (report ≡ reports.Done) × CutsUp old c new
+Succeeds does stops l old (CutDown c) report new = (report ≡ reports.Done) × CutsDown old c new
+Succeeds does stops l old Clear report new = (report ≡ reports.Done) × (new ≡ cleared_world old)
+Succeeds does stops l old Restart report new = (report ≡ reports.Done) × (new ≡ restarted_world old)
+Succeeds does stops l old RawOpen report new = (c : ℕ) × (report ≡ reports.RawOpened c) × (old.pool.next ≡ Some c) × (new ≡ opened old (drawn old.pool) (new_raw_conn l c))
+Succeeds does stops l old (Raw c bytes) report new =
     (s : TakesRaw old c bytes.now new) × (moved : ℕ) × (closed : Option ServerCause) × (report ≡ reports.RawMoved moved closed) × AllTaken s moved closed
-IsDone does stops l old (RawTake c n) report new = (s : GivesRaw old c n new) × (v : Vec ℕ Global) × (report ≡ reports.Bytes v) × (v.items ≡ s.bytes)
+Succeeds does stops l old (RawTake c n) report new = (s : GivesRaw old c n new) × (v : Vec ℕ Global) × (report ≡ reports.Bytes v) × (v.items ≡ s.bytes)
 
 -- ---- want of memory
 
@@ -147,16 +147,16 @@ pub record HasOutput {H : Type 0} (w : World H) (c n : ℕ) : Type 0 where
 
 -- The part of an event that is done where memory is wanting. Of what is to be moved a part may have been; a reply that isn't
 -- copied is none.
-abbrev pub Part : {H : Type 0} → WorldLimits → World H → Event → World H → Type 0
-Part {H} l old (Call c kind payload) new = new ≡ old
-Part {H} l old (Up c n) new = (s : MovesUp old c n new) × ((m : ℕ) × (m + length (joined s.pieces) ≤ n) × WantsRoom s.server (take m s.rest))
-Part {H} l old (Down c n) new =
+abbrev pub PartDone : {H : Type 0} → WorldLimits → World H → Event → World H → Type 0
+PartDone {H} l old (Call c kind payload) new = new ≡ old
+PartDone {H} l old (Up c n) new = (s : MovesUp old c n new) × ((m : ℕ) × (m + length (joined s.pieces) ≤ n) × WantsRoom s.server (take m s.rest))
+PartDone {H} l old (Down c n) new =
     ((s : MovesDown old c n new) × ((m : ℕ) × (m + length (joined s.pieces) ≤ n) × ClientWantsRoom s.client (take m s.rest)))
     ⊎ ((mid : World H) × (s : MovesDown old c n mid) × TakesUncopied mid c (n - length (joined s.pieces)) new)
-Part {H} l old (Answer c i) new = new ≡ old
-Part {H} l old (Raw c bytes) new = (s : TakesRaw old c bytes.now new) × WantsRoom s.server s.rest
-Part {H} l old (RawTake c n) new = (new ≡ old) × HasOutput old c n
-Part {H} l old e new = ⊥
+PartDone {H} l old (Answer c i) new = new ≡ old
+PartDone {H} l old (Raw c bytes) new = (s : TakesRaw old c bytes.now new) × WantsRoom s.server s.rest
+PartDone {H} l old (RawTake c n) new = (new ≡ old) × HasOutput old c n
+PartDone {H} l old e new = ⊥
 
 -- the events that make a connection, which change nothing where memory is wanting
 abbrev pub IsMaking : {H : Type 0} → World H → Event → Type 0
@@ -169,7 +169,7 @@ pub record RunsOut {H : Type 0} (l : WorldLimits) (old : World H) (e : Event) (n
   pub c : ℕ
   pub is : connection_of e ≡ Some c
   pub done : World H
-  pub part : Part l old e done
+  pub part : PartDone l old e done
   pub after : new ≡ dropped done c
 
 -- The event is refused for the first check that it fails; where it fails none, by the client that is to call, or for want of
@@ -181,7 +181,7 @@ IsRefused l old e refusal new = (new ≡ old) × (first_reason old e ≡ Some re
 
 -- an event happens, with its result
 abbrev pub Happens : {H : Type 0} → Does H → Stops H → WorldLimits → World H → Event → Result Report WorldRefusal → World H → Type 0
-Happens does stops l old e (Ok report) new = (first_reason old e ≡ None) × IsDone does stops l old e report new
+Happens does stops l old e (Ok report) new = (first_reason old e ≡ None) × Succeeds does stops l old e report new
 Happens does stops l old e (Err refusal) new = IsRefused l old e refusal new
 
 -- event after event

@@ -52,13 +52,13 @@ AreMessages c ms calls = map (λ (x : Call). x.asked) (calls_of c calls) ≡ map
 
 -- An entry of a raw connection: the index of the message that it answers, the message, the answers, and whether their
 -- replies were put out.
-pub record Turn : Type 0 where
+pub record RawEntry : Type 0 where
   pub index : ℕ
   pub message : Message
   pub answers : Option (List Content)
   pub gives : Bool
 
-abbrev pub entry_by : ℕ → Turn → LogEntry
+abbrev pub entry_by : ℕ → RawEntry → LogEntry
 entry_by c t = record { connection = c; payload = t.message.content; answers = t.answers }
 
 -- the entries of one connection
@@ -70,21 +70,21 @@ abbrev pub all_of : Option (List Content) → List Content
 all_of None = []
 all_of (Some answers) = answers
 
--- the replies of turn after turn, with their ids in turn
-abbrev pub given_by : ℕ → List Turn → List Message
-given_by id [] = []
-given_by id (t ∷ ts) = if t.gives then chain id t.message.id (all_of t.answers) ++ given_by (id_after id (all_of t.answers)) ts else given_by id ts
+-- the replies of entry after entry, their ids one after the other
+abbrev pub raw_replies : ℕ → List RawEntry → List Message
+raw_replies id [] = []
+raw_replies id (t ∷ ts) = if t.gives then chain id t.message.id (all_of t.answers) ++ raw_replies (id_after id (all_of t.answers)) ts else raw_replies id ts
 
--- A turn gives its replies where it has answers and its message isn't silent; but the last one gives none where the server closed in
--- it.
-abbrev pub IsRight : ServerState → ℕ → ℕ → Turn → Type 0
-IsRight s many i t =
+-- An entry gives its replies where it has answers and its message isn't silent; but the last one gives none where the server
+-- closed in it.
+abbrev pub GivesReplies : ServerState → ℕ → ℕ → RawEntry → Type 0
+GivesReplies s many i t =
     ((t.gives ≡ true) × (t.message.flags.more ≡ false) × (t.answers ≢ None) × (suc i ≡ many → IsStopped s → ⊥))
     ⊎ (((t.gives ≡ false) × (t.message.flags.more ≡ true)) ⊎ ((t.gives ≡ false) × (suc i ≡ many) × IsStopped s))
 
--- The stranger that the turn's message is, the one with as many of the connection before it, names the entry of the turn: the
--- one with as many entries of the connection before it as turns.
-pub record IsNamed (c : ℕ) (calls : List Call) (log : List LogEntry) (i : ℕ) (t : Turn) : Type 0 where
+-- The stranger that the entry's message is, the one with as many of the connection before it, names the log's entry: the one
+-- with as many of the connection before it.
+pub record IsNamed (c : ℕ) (calls : List Call) (log : List LogEntry) (i : ℕ) (t : RawEntry) : Type 0 where
   pub stranger : Call
   pub at : slice_get (calls_of c calls) t.index ≡ Some stranger
   pub e : ℕ
@@ -100,17 +100,17 @@ pub record AnswersOwn (limit c : ℕ) (taken : List ℕ) (calls : List Call) (lo
   pub split : Split limit taken messages rest
   pub strangers : AreMessages c messages calls
   pub foreign : (i : ℕ) (x : Call) → slice_get (calls_of c calls) i ≡ Some x → x.state ≡ Foreign
-  pub turns : List Turn
-  pub entries : entries_of c log ≡ map (entry_by c) turns
-  pub are : (i : ℕ) (t : Turn) → slice_get turns i ≡ Some t → slice_get messages t.index ≡ Some t.message
-  pub named : (i : ℕ) (t : Turn) → slice_get turns i ≡ Some t → IsNamed c calls log i t
-  pub once : (i j : ℕ) (t u : Turn) → slice_get turns i ≡ Some t → slice_get turns j ≡ Some u → t.index ≡ u.index → i ≡ j
+  pub raw_entries : List RawEntry
+  pub entries : entries_of c log ≡ map (entry_by c) raw_entries
+  pub are : (i : ℕ) (t : RawEntry) → slice_get raw_entries i ≡ Some t → slice_get messages t.index ≡ Some t.message
+  pub named : (i : ℕ) (t : RawEntry) → slice_get raw_entries i ≡ Some t → IsNamed c calls log i t
+  pub once : (i j : ℕ) (t u : RawEntry) → slice_get raw_entries i ≡ Some t → slice_get raw_entries j ≡ Some u → t.index ≡ u.index → i ≡ j
 
 -- What the server gave is the replies to its own entries, each by the message that it answers, in log order, ids from 1.
 pub record GivesOwn (limit c : ℕ) (taken given : List ℕ) (state : ServerState) (calls : List Call) (log : List LogEntry) : Type 0 where
   pub own : AnswersOwn limit c taken calls log
-  pub right : (i : ℕ) (t : Turn) → slice_get own.turns i ≡ Some t → IsRight state (length own.turns) i t
-  pub given_is : given ≡ written (given_by 1 own.turns)
+  pub right : (i : ℕ) (t : RawEntry) → slice_get own.raw_entries i ≡ Some t → GivesReplies state (length own.raw_entries) i t
+  pub given_is : given ≡ written (raw_replies 1 own.raw_entries)
 
 -- ---- of all raw connections
 

@@ -17,4 +17,4 @@ pub use Rattle.wire_model.specs.Machines.{Done, Foreign, Lost, Pending, Sent, St
 pub use Rattle.wire_model.specs.Moves.{Calls}
 pub use Rattle.wire_model.specs.Refusing.{RefusesCall, answer_reason, connection_of, core_reason, first_reason, is_cut_for, is_full, is_full_for, is_lent, reason_at, reason_of, wants_client, wants_loan, wants_raw}
 pub use Rattle.wire_model.specs.Shown.{Headline, IdsApart, QuietIsDone, UncutIsOpen}
-pub use Rattle.wire_model.specs.Happening.{Answers, AreContents, CutsDown, CutsUp, Happens, IsDone, Opens, Returns, Run, opened, with_pool}
+pub use Rattle.wire_model.specs.Happening.{Answers, AreContents, CutsDown, CutsUp, Happens, Succeeds, Opens, Returns, Run, opened, with_pool}

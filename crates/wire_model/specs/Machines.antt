@@ -60,8 +60,8 @@ abbrev pub placed : Call → Place → Call
 placed x p = record { connection = x.connection; asked = x.asked; place = p; parts = x.parts; state = x.state }
 
 -- one more part; with the last one the call is done
-abbrev pub given : Call → Content → Bool → Call
-given x part more = record { connection = x.connection; asked = x.asked; place = x.place; parts = x.parts ++ part ∷ []; state = if more then x.state else Done }
+abbrev pub with_part : Call → Content → Bool → Call
+with_part x part more = record { connection = x.connection; asked = x.asked; place = x.place; parts = x.parts ++ part ∷ []; state = if more then x.state else Done }
 
 -- a pending call whose client is lost
 abbrev pub lost_state : State → State
@@ -149,7 +149,7 @@ module _ (H : Type 0) (does : Does H) (stops : Stops H) where
         → n ≡ server_gone (logged m i (placed x (Mute (length m.log))) (entry_for x None) h) x.connection → Step m n
     give_back : (i e : ℕ) (x : Call) (due : IsDue m.log x e) → m.client_lives x.connection ≡ true → CallIs m.calls i x
         → ((j e' : ℕ) (y : Call) → CallIs m.calls j y → y.connection ≡ x.connection → IsDue m.log y e' → e ≤ e')
-        → n ≡ with_call m i (given x due.owes.0 (are_left due.owes.1)) → Step m n
+        → n ≡ with_call m i (with_part x due.owes.0 (are_left due.owes.1)) → Step m n
     client_lost : (c : ℕ) → n ≡ client_gone m c → Step m n
     server_lost : (c : ℕ) → n ≡ server_gone m c → Step m n
     appear : (c : ℕ) (a : Asked) → m.raw c ≡ true → m.server_lives c ≡ true → n ≡ with_new m (stranger c a) → Step m n

@@ -33,6 +33,7 @@ pub use Rattle.wire_peer.specs.Calls.{allows_more, awaits_reply, request, reques
 pub use Rattle.wire_peer.specs.Chains.{ReplyState, are_left, chain, id_after, id_after_one, is_longer, next_id, replies, written}
 pub use Rattle.wire_peer.specs.ClientCauses.{IsSetupRefusal}
 pub use Rattle.wire_peer.specs.ClientSteps.{ClientSeen, IsCallRefusal, IsCalled, MayTake, Settles, Takes, after_message, called, closed, ended, holding, new_client, released}
+pub use Rattle.wire_peer.specs.ContentSets.{coded_content}
 pub use Rattle.wire_peer.specs.Contents.{buf_content, content_of}
 pub use Rattle.wire_peer.specs.FreeIds.{IsFirstFree, id_following, id_past, max_id}
 pub use Rattle.wire_peer.specs.LentReplies.{ready_of}

@@ -3,7 +3,10 @@ pub mod Arms
 pub mod CallMade
 pub mod Found
 mod Copying
-mod Movings
+mod Pieces
+mod UpLoops
+mod DownLoops
+mod RawLoops
 pub mod Moved
 pub mod Numbered
 pub mod Parts

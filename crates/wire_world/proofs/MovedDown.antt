@@ -4,7 +4,7 @@ use Rattle.std.proofs.Common.{◌∙◌, ap, get_or, inl, inr, refl, subst, sym}
 use Rattle.wire_peer.specs.{Does, Stops}
 use Rattle.wire_peer.specs.declared.client_state.ClientState.TheVariants as clients
 use Rattle.wire_model.specs.{Conn, Happens, Record, World, change, conn_at, conn_set, cut_at, cut_both, first_reason, settled}
-use Rattle.wire_model.specs.Happening.{IsRefused, Part, RunsOut}
+use Rattle.wire_model.specs.Happening.{IsRefused, PartDone, RunsOut}
 use Rattle.wire_model.specs.Moves.{ClientTakesAll, MovesDown, joined}
 use Rattle.wire_model.specs.declared.limits.WorldLimits.{WorldLimits}
 use Rattle.wire_model.specs.declared.events.Event.TheVariants as events
@@ -56,7 +56,7 @@ cut_set : (ks : List Conn) (c : ℕ) (k done : Conn) → conn_at ks c ≡ Some k
 cut_set ks c k done at = ap (λ (o : Option Conn). change cut_both o c (conn_set ks c done)) (conn_at_set ks c k done at) ∙ conn_set_twice ks c done (cut_both done)
 
 stopped : {H : Type 0} (w : World H) (c n : ℕ) (k done : Conn) (xs ys : List Record) → xs ≡ w.calls → conn_at w.conns c ≡ Some k → Passes w (events.Down c n) c k → Stopped k n xs done ys
-    → (l : WorldLimits) → Part l w (events.Down c n) (changed w (conn_set w.conns c done) ys)
+    → (l : WorldLimits) → PartDone l w (events.Down c n) (changed w (conn_set w.conns c done) ys)
 stopped w c n k done xs ys seen at p (inl (m, wants)) l = inl (moves_down w c n k done xs ys seen at p m, wants)
 stopped w c n k done xs ys seen at p (inr (mid, m, u)) l = inr (
   changed w (conn_set w.conns c mid) ys,

@@ -46,7 +46,7 @@ impl<H> Model for World<H> {
     ghost Value = { WorldSeen H };
 
     ghost use Rattle.std.specs.Coded.{codes};
-    ghost use Rattle.wire_peer.specs.ContentSets.{coded_content};
+    ghost use Rattle.wire_peer.specs.{coded_content};
 
     ghost coded = { Prim.hlevel (codes, coded_content) };
 

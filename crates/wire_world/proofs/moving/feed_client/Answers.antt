@@ -1,5 +1,5 @@
 use Rattle.std.proofs.Common.{inl, inr, refl}
-use Rattle.wire_world.proofs.Movings.{client_takes, fed_client}
+use Rattle.wire_world.proofs.Pieces.{client_takes, fed_client}
 use Rattle.wire_world.proofs.moving.feed_client.Goals as goal
 
 pub returns-in_default-clause-fed : goal.returns-in_default-clause-fed

@@ -1,5 +1,5 @@
 use Rattle.std.proofs.Common.{refl, sym}
-use Rattle.wire_world.proofs.Movings.{fed_server}
+use Rattle.wire_world.proofs.Pieces.{fed_server}
 use Rattle.wire_world.proofs.moving.feed_server.Goals as goal
 
 pub returns-clause-fed : goal.returns-clause-fed

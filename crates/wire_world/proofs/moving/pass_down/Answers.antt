@@ -1,6 +1,7 @@
 use Rattle.std.proofs.Common.{◌∙◌, ap, arith, inr, refl, sym, take}
 use Rattle.wire_peer.specs.{ClientSeen}
-use Rattle.wire_world.proofs.Movings.{down_more, down_none, length_take_within, output_within, pass_down_none, released_none, unfed_within}
+use Rattle.wire_world.proofs.DownLoops.{down_more, down_none, output_within, pass_down_none, released_none, unfed_within}
+use Rattle.wire_world.proofs.Pieces.{length_take_within}
 use Rattle.wire_world.proofs.moving.pass_down.Goals as goal
 
 pub loop-moved-init : goal.loop-moved-init

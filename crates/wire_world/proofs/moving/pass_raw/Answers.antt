@@ -1,5 +1,5 @@
 use Rattle.std.proofs.Common.{arith, inl, refl}
-use Rattle.wire_world.proofs.Movings.{all_gone, pass_raw_err, pass_raw_none, raw_more, raw_none, raw_within, rest_piece}
+use Rattle.wire_world.proofs.RawLoops.{all_gone, pass_raw_err, pass_raw_none, raw_more, raw_none, raw_within, rest_piece}
 use Rattle.wire_world.proofs.moving.pass_raw.Goals as goal
 
 pub loop-moved-init : goal.loop-moved-init

@@ -1,5 +1,6 @@
 use Rattle.std.proofs.Common.{ap, arith, refl, take}
-use Rattle.wire_world.proofs.Movings.{gone_more, gone_none, length_take_within, pass_up_err, pass_up_none}
+use Rattle.wire_world.proofs.Pieces.{length_take_within}
+use Rattle.wire_world.proofs.UpLoops.{gone_more, gone_none, pass_up_err, pass_up_none}
 use Rattle.wire_world.proofs.moving.pass_up.Goals as goal
 
 pub loop-moved-init : goal.loop-moved-init

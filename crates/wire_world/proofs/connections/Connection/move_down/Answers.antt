@@ -1,5 +1,5 @@
 use Rattle.wire_world.specs.Records.{records_of}
-use Rattle.wire_world.proofs.Movings.{down_err, down_ok}
+use Rattle.wire_world.proofs.DownLoops.{down_err, down_ok}
 use Rattle.wire_world.proofs.connections.Connection.move_down.Goals as goal
 
 pub returns-in-Ok : goal.returns-in-Ok

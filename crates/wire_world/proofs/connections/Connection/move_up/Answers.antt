@@ -1,4 +1,4 @@
-use Rattle.wire_world.proofs.Movings.{up_whole}
+use Rattle.wire_world.proofs.UpLoops.{up_whole}
 use Rattle.wire_world.proofs.connections.Connection.move_up.Goals as goal
 
 pub returns : goal.returns

@@ -1,4 +1,4 @@
-use Rattle.wire_world.proofs.Movings.{raw_whole}
+use Rattle.wire_world.proofs.RawLoops.{raw_whole}
 use Rattle.wire_world.proofs.connections.Connection.take_raw.Goals as goal
 
 pub returns : goal.returns
