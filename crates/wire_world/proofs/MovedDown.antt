@@ -1,5 +1,5 @@
 -- What an event that moves bytes down does, from what was moved over its connection.
-use Rattle.std.specs.Prelude.{◌≡◌, ◌≢◌, ℕ, zero, suc, ◌-◌, ◌<◌, ◌⊎◌, ◌&&◌, Bool, true, false, List, [], ◌∷◌, length, Option, None, Some, Ok, slice_set}
+use Rattle.std.specs.Prelude.{◌≡◌, ◌≢◌, ℕ, zero, suc, ◌-◌, ◌<◌, ◌⊎◌, ◌&&◌, Bool, true, false, List, [], ◌∷◌, length, Option, None, Some, Result, Ok, Err, MatchResult, slice_set}
 use Rattle.std.proofs.Common.{◌∙◌, ap, get_or, inl, inr, refl, subst, sym}
 use Rattle.wire_peer.specs.{Does, Stops}
 use Rattle.wire_peer.specs.declared.client_state.ClientState.TheVariants as clients
@@ -10,7 +10,7 @@ use Rattle.wire_model.specs.declared.limits.WorldLimits.{WorldLimits}
 use Rattle.wire_model.specs.declared.events.Event.TheVariants as events
 use Rattle.wire_model.specs.declared.refusals.WorldRefusal.TheVariants as refusals
 use Rattle.wire_model.specs.declared.reports.Report.TheVariants as reports
-use Rattle.wire_world.specs.Moving.{MovedDown, Stopped}
+use Rattle.wire_world.specs.Moving.{DownResult, MovedDown, Stopped}
 use Rattle.wire_world.specs.Worlds.{WorldSeen}
 use Rattle.wire_world.proofs.Arms.{Passes, passed}
 use Rattle.wire_world.proofs.Found.{is_read, numbered}
@@ -80,7 +80,7 @@ module _ {H : Type 0} {v now : WorldSeen H} (seen : v ≡ now) (c n : ℕ) (k k'
   at_its_place : conn_at v.state.conns c ≡ Some k → slice_set v.state.conns (c - 1) k' ≡ conn_set v.state.conns c k'
   at_its_place at = sym (conn_set_place v.state.conns c k' (numbered v.state.conns c k at).0)
 
-  pub goes_down : (does : Does H) (stops : Stops H) (moved : ℕ) → first_reason now.state (events.Down c n) ≡ None
+  goes_down : (does : Does H) (stops : Stops H) (moved : ℕ) → first_reason now.state (events.Down c n) ≡ None
       → (m : MovedDown k n xs k' ys) → (moved ≡ length (joined m.pieces)) → (moved < n → (m.rest ≡ []) ⊎ (m.client.state ≢ clients.Open))
       → Happens does stops now.limits now.state (events.Down c n) (Ok (reports.Moved moved)) new
   goes_down does stops moved passes m are fewer = in_seen seen does stops (events.Down c n) (Ok (reports.Moved moved)) new here passes
@@ -99,7 +99,7 @@ module _ {H : Type 0} {v now : WorldSeen H} (seen : v ≡ now) (c n : ℕ) (k k'
             ),
           )
 
-  pub down_runs_out : (done : Conn) → first_reason now.state (events.Down c n) ≡ None → Stopped k n xs done ys → k' ≡ cut_both done
+  down_runs_out : (done : Conn) → first_reason now.state (events.Down c n) ≡ None → Stopped k n xs done ys → k' ≡ cut_both done
       → IsRefused now.limits now.state (events.Down c n) refusals.OutOfMemory new
   down_runs_out done passes part cut = runs_out seen (events.Down c n) new here passes
     where
@@ -113,3 +113,11 @@ module _ {H : Type 0} {v now : WorldSeen H} (seen : v ≡ now) (c n : ℕ) (k k'
             part = stopped v.state c n k done xs ys calls at (passed v.state (events.Down c n) c k at none) part v.limits;
             after = settles ∙ ap (λ (ks : List Conn). settled (changed v.state ks ys)) (at_its_place at ∙ ap (conn_set v.state.conns c) cut ∙ sym (cut_set v.state.conns c k done at));
           }
+
+  -- either way: so many bytes were moved, or memory was wanting
+  pub down_ends : {E : Type 0} (does : Does H) (stops : Stops H) → first_reason now.state (events.Down c n) ≡ None → (r : Result ℕ E) → DownResult k n xs k' ys r
+      → MatchResult r
+          (λ moved. Happens does stops now.limits now.state (events.Down c n) (Ok (reports.Moved moved)) new)
+          (λ _. Happens does stops now.limits now.state (events.Down c n) (Err refusals.OutOfMemory) new)
+  down_ends does stops passes (Ok moved) end = goes_down does stops moved passes end.0 end.1 end.2
+  down_ends does stops passes (Err e) end = down_runs_out end.0 passes end.1 end.2

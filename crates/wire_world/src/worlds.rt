@@ -1,8 +1,9 @@
 //! Worlds of connections, and the events that happen in them.
 
-ghost use Rattle.std.specs.Prelude.{◌≡◌, ◌≢◌, IfErr, IfNone, IfOk, IfSome, MatchResult, None, OnErr, Some, map};
+ghost use Rattle.std.specs.Prelude.{◌≡◌, ◌≢◌, IfErr, IfNone, IfOk, IfSome, Err, MatchResult, None, Ok, OnErr, Some, map};
 ghost use Rattle.wire_model.specs.{AreGood, Calls, CutsDown, CutsUp, Happens, Headline, IdsApart, QuietIsDone, RawAnswerOwn, RawGiveOwn, RefusesCall, Returns, Run, UncutIsOpen, cleared_world, dropped, first_reason, is_full_for, opening, restarted_world};
 ghost use Rattle.wire_model.specs.declared.events.Event.TheVariants as events;
+ghost use Rattle.wire_model.specs.declared.reports.Report.TheVariants as reports;
 ghost use Rattle.wire_peer.specs.{content_of, log_of};
 ghost use Rattle.wire_world.specs.Records.{record_of};
 ghost use Rattle.wire_world.specs.Setups.{AreGoodForEnds, IsNewWorld, IsSetupRefusal};
@@ -12,7 +13,7 @@ use crate::event_parts::{connection_of, is_cut_for, wants_client, wants_loan, wa
 use crate::lists::{connection_at, cut_all, cut_at, restart_all, settle};
 use crate::moving::closed_now;
 use crate::records::CallRecord;
-use std::alloc::Global;
+use std::alloc::{AllocError, Global};
 use std::marker::Model;
 use wire_model::{Event, Report, SetupRefusal, WorldLimits, WorldRefusal};
 use wire_msg::{MAX_MESSAGE_LEN, Payload};
@@ -400,6 +401,26 @@ impl<H: Handler> World<H> {
         }
     }
 
+    /// Moves bytes down, and notes which calls are lost if the client is closed then. Returns how many bytes were moved.
+    ///
+    /// # Errors
+    ///
+    /// Memory is wanting. The connection is cut both ways then.
+    fn move_down(&mut self, number: u64, n: usize) -> Result<usize, AllocError>
+        requires { first_reason self.old.state (events.Down number n) ≡ None }
+        ensures limits { self.new.limits ≡ self.old.limits }
+        ensures state { MatchResult result
+            (λ moved. Happens H.does H.stops self.old.limits self.old.state (events.Down number n) (Ok (reports.Moved moved)) self.new.state)
+            (λ _. Happens H.does H.stops self.old.limits self.old.state (events.Down number n) (Err WorldRefusal.OutOfMemory) self.new.state) }
+    {
+        let connection = &mut self.connections[(number - 1) as usize];
+        let moved = connection.move_down(n, &mut self.calls);
+        if connection.is_closed() {
+            settle(&mut self.calls, &self.connections);
+        }
+        moved
+    }
+
     /// Moves bytes down.
     ///
     /// # Errors
@@ -410,12 +431,7 @@ impl<H: Handler> World<H> {
         ensures limits { self.new.limits ≡ self.old.limits }
         ensures state { Happens H.does H.stops self.old.limits self.old.state (events.Down number n) result self.new.state }
     {
-        let connection = &mut self.connections[(number - 1) as usize];
-        let moved = connection.move_down(n, &mut self.calls);
-        if connection.is_closed() {
-            settle(&mut self.calls, &self.connections);
-        }
-        match moved {
+        match self.move_down(number, n) {
             Ok(moved) => Ok(Report::Moved(moved)),
             Err(_) => Err(WorldRefusal::OutOfMemory),
         }

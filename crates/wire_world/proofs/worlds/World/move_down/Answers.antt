@@ -9,12 +9,11 @@ use Rattle.wire_world.specs.declared.records.CallRecord.{CallRecord}
 use Rattle.wire_world.specs.Worlds.{AreParts, WorldSeen}
 use Rattle.wire_world.proofs.CopiedParts.{moved_parts, open_before}
 use Rattle.wire_world.proofs.Found.{numbered, read_by}
-use Rattle.wire_world.proofs.MovedDown.{changed, down_runs_out, goes_down}
+use Rattle.wire_world.proofs.MovedDown.{changed, down_ends}
 use Rattle.wire_world.proofs.Numbered.{conn_set_place}
 use Rattle.wire_world.proofs.Parts.{settled_calls, settling_parts, written}
 use Rattle.wire_world.proofs.StayParts.{parts_changed}
-use Rattle.wire_world.proofs.worlds.World.down.Goals.{else-is_closed, then-is_closed}
-use Rattle.wire_world.proofs.worlds.World.down.Goals as goal
+use Rattle.wire_world.proofs.worlds.World.move_down.Goals as goal
 
 pub invariant_of-self : goal.invariant_of-self
 invariant_of-self g c =
@@ -40,58 +39,36 @@ invariant_of-self-else-is_closed g c =
     rw (← conn_set_place c.self.inside.connections.items c.args.number c.move_down-moved.new.self (numbered _ c.args.number k at).0, kept)
     (parts_changed _ _ _ _ c.args.number k c.move_down-moved.new.self at (live ∙ sym (open_before k c.move_down-moved.new.self c.args.n _ _ c.move_down-moved.result c.move_down-moved.ensures live)) moved)
 
-pub returns-in-Ok-clause-state : goal.returns-in-Ok-clause-state
-returns-in-Ok-clause-state g c =
+pub returns-then-is_closed-clause-state : goal.returns-then-is_closed-clause-state
+returns-then-is_closed-clause-state g c =
     let ks = c.self.inside.connections.items in
     let ys = map record_of c.move_down-moved.new.calls in
     let k = c.index_mut-connection.result.now in
     let k' = c.move_down-moved.new.self in
     let before : World _ = record { pool = c.self.inside.pool; conns = ks; calls = map record_of c.self.inside.calls.items; log = log_of c.self.inside.logged.entries.items; handler = c.self.inside.logged.handler } in
-    let at : conn_at ks c.args.number ≡ Some k = read_by (events.Down c.args.number c.args.n) c.args.number k c.self.view_is refl c.requires c.index_mut-connection.ensures.value in
     let calls : map record_of c.deref_mut.result.now ≡ map record_of c.self.inside.calls.items = ap (map record_of) c.deref_mut.ensures.value in
-    let was : AreParts c.self.inside.limits c.self.inside.pool ks (map record_of c.deref_mut.result.now) = subst (λ (zs : List Record). AreParts c.self.inside.limits c.self.inside.pool ks zs) (sym calls) c.self.invariant in
-    let moved = moved_parts c.self.inside.limits c.self.inside.pool ks k k' c.args.n _ ys c.move_down-moved.result c.move_down-moved.ensures was in
     let kept = written c.self.inside.calls.len c.move_down-moved.new.calls c.self.inside.calls.items (c.move_down-moved.auto.calls ∙ c.deref_mut.ensures.len) in
-    let place = conn_set_place ks c.args.number k' (numbered ks c.args.number k at).0 in
-    let settles : c.if-is_closed.self.state ≡ settled (changed before (slice_set ks (c.args.number - 1) k') ys) =
-    elim c.if-is_closed.branch [
-      | then-is_closed w ↦ ap (λ (u : WorldSeen _). u.state) w.self-is
-          ∙ ap (λ (zs : List Record). changed before (slice_set ks (c.args.number - 1) k') zs)
-          (settled_calls _ w.deref.result.now _ _ w.deref_mut-then-is_closed.result.now w.settle.new.calls _ w.deref.ensures.value w.deref_mut-then-is_closed.ensures.value w.deref_mut-then-is_closed.ensures.len w.settle.auto.calls w.settle.ensures
-          ∙ ap (λ (zs : List CallRecord). map (settled_record (slice_set ks (c.args.number - 1) k')) (map record_of zs)) kept)
-      | else-is_closed w ↦
-          let live = sym c.is_closed.ensures ∙ w.if-is_closed.false in
-          let parts = parts_changed _ _ ks ys c.args.number k k' at (live ∙ sym (open_before k k' c.args.n _ ys c.move_down-moved.result c.move_down-moved.ensures live)) moved in
-          ap (λ (u : WorldSeen _). u.state) w.self-is
-          ∙ ap (λ (zs : List Record). changed before (slice_set ks (c.args.number - 1) k') zs)
-          (ap (map record_of) kept ∙ sym (subst (λ (js : List Conn). map (settled_record js) ys ≡ ys) place parts.settled_are))
-    ] in
-    goes_down c.self.view_is c.args.number c.args.n k k' c.index_mut-connection.ensures.value _ ys calls _ settles g.H.Handler.does g.H.Handler.stops c.in-Ok.moved c.requires c.in-Ok.ensures.0 c.in-Ok.ensures.1 c.in-Ok.ensures.2
+    down_ends c.self.view_is c.args.number c.args.n k k' c.index_mut-connection.ensures.value _ ys calls _
+    (ap (λ (zs : List Record). changed before (slice_set ks (c.args.number - 1) k') zs)
+    (settled_calls _ c.deref.result.now _ _ c.deref_mut-then-is_closed.result.now c.settle.new.calls _ c.deref.ensures.value c.deref_mut-then-is_closed.ensures.value c.deref_mut-then-is_closed.ensures.len c.settle.auto.calls c.settle.ensures
+    ∙ ap (λ (zs : List CallRecord). map (settled_record (slice_set ks (c.args.number - 1) k')) (map record_of zs)) kept))
+    g.H.Handler.does g.H.Handler.stops c.requires c.move_down-moved.result c.move_down-moved.ensures
 
-pub returns-in-Err-clause-state : goal.returns-in-Err-clause-state
-returns-in-Err-clause-state g c =
+pub returns-else-is_closed-clause-state : goal.returns-else-is_closed-clause-state
+returns-else-is_closed-clause-state g c =
     let ks = c.self.inside.connections.items in
     let ys = map record_of c.move_down-moved.new.calls in
     let k = c.index_mut-connection.result.now in
     let k' = c.move_down-moved.new.self in
     let before : World _ = record { pool = c.self.inside.pool; conns = ks; calls = map record_of c.self.inside.calls.items; log = log_of c.self.inside.logged.entries.items; handler = c.self.inside.logged.handler } in
-    let at : conn_at ks c.args.number ≡ Some k = read_by (events.Down c.args.number c.args.n) c.args.number k c.self.view_is refl c.requires c.index_mut-connection.ensures.value in
     let calls : map record_of c.deref_mut.result.now ≡ map record_of c.self.inside.calls.items = ap (map record_of) c.deref_mut.ensures.value in
+    let kept = written c.self.inside.calls.len c.move_down-moved.new.calls c.self.inside.calls.items (c.move_down-moved.auto.calls ∙ c.deref_mut.ensures.len) in
+    let at : conn_at ks c.args.number ≡ Some k = read_by (events.Down c.args.number c.args.n) c.args.number k c.self.view_is refl c.requires c.index_mut-connection.ensures.value in
     let was : AreParts c.self.inside.limits c.self.inside.pool ks (map record_of c.deref_mut.result.now) = subst (λ (zs : List Record). AreParts c.self.inside.limits c.self.inside.pool ks zs) (sym calls) c.self.invariant in
     let moved = moved_parts c.self.inside.limits c.self.inside.pool ks k k' c.args.n _ ys c.move_down-moved.result c.move_down-moved.ensures was in
-    let kept = written c.self.inside.calls.len c.move_down-moved.new.calls c.self.inside.calls.items (c.move_down-moved.auto.calls ∙ c.deref_mut.ensures.len) in
-    let place = conn_set_place ks c.args.number k' (numbered ks c.args.number k at).0 in
-    let settles : c.if-is_closed.self.state ≡ settled (changed before (slice_set ks (c.args.number - 1) k') ys) =
-    elim c.if-is_closed.branch [
-      | then-is_closed w ↦ ap (λ (u : WorldSeen _). u.state) w.self-is
-          ∙ ap (λ (zs : List Record). changed before (slice_set ks (c.args.number - 1) k') zs)
-          (settled_calls _ w.deref.result.now _ _ w.deref_mut-then-is_closed.result.now w.settle.new.calls _ w.deref.ensures.value w.deref_mut-then-is_closed.ensures.value w.deref_mut-then-is_closed.ensures.len w.settle.auto.calls w.settle.ensures
-          ∙ ap (λ (zs : List CallRecord). map (settled_record (slice_set ks (c.args.number - 1) k')) (map record_of zs)) kept)
-      | else-is_closed w ↦
-          let live = sym c.is_closed.ensures ∙ w.if-is_closed.false in
-          let parts = parts_changed _ _ ks ys c.args.number k k' at (live ∙ sym (open_before k k' c.args.n _ ys c.move_down-moved.result c.move_down-moved.ensures live)) moved in
-          ap (λ (u : WorldSeen _). u.state) w.self-is
-          ∙ ap (λ (zs : List Record). changed before (slice_set ks (c.args.number - 1) k') zs)
-          (ap (map record_of) kept ∙ sym (subst (λ (js : List Conn). map (settled_record js) ys ≡ ys) place parts.settled_are))
-    ] in
-    down_runs_out c.self.view_is c.args.number c.args.n k k' c.index_mut-connection.ensures.value _ ys calls _ settles c.in-Err.ensures.0 c.requires c.in-Err.ensures.1 c.in-Err.ensures.2
+    let live = sym c.is_closed.ensures ∙ c.if-is_closed.false in
+    let parts = parts_changed _ _ ks ys c.args.number k k' at (live ∙ sym (open_before k k' c.args.n _ ys c.move_down-moved.result c.move_down-moved.ensures live)) moved in
+    down_ends c.self.view_is c.args.number c.args.n k k' c.index_mut-connection.ensures.value _ ys calls _
+    (ap (λ (zs : List Record). changed before (slice_set ks (c.args.number - 1) k') zs)
+    (ap (map record_of) kept ∙ sym (subst (λ (js : List Conn). map (settled_record js) ys ≡ ys) (conn_set_place ks c.args.number k' (numbered ks c.args.number k at).0) parts.settled_are)))
+    g.H.Handler.does g.H.Handler.stops c.requires c.move_down-moved.result c.move_down-moved.ensures
