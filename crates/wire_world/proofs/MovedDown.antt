@@ -117,7 +117,7 @@ module _ {H : Type 0} {v now : WorldSeen H} (seen : v ≡ now) (c n : ℕ) (k k'
   -- either way: so many bytes were moved, or memory was wanting
   pub down_ends : {E : Type 0} (does : Does H) (stops : Stops H) → first_reason now.state (events.Down c n) ≡ None → (r : Result ℕ E) → DownResult k n xs k' ys r
       → MatchResult r
-          (λ moved. Happens does stops now.limits now.state (events.Down c n) (Ok (reports.Moved moved)) new)
-          (λ _. Happens does stops now.limits now.state (events.Down c n) (Err refusals.OutOfMemory) new)
+      (λ moved. Happens does stops now.limits now.state (events.Down c n) (Ok (reports.Moved moved)) new)
+      (λ _. Happens does stops now.limits now.state (events.Down c n) (Err refusals.OutOfMemory) new)
   down_ends does stops passes (Ok moved) end = goes_down does stops moved passes end.0 end.1 end.2
   down_ends does stops passes (Err e) end = down_runs_out end.0 passes end.1 end.2
