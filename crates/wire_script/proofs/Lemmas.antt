@@ -1,0 +1,25 @@
+-- The lemmas that proofs of other crates stand on: a line names one thing at most.
+use Rattle.std.proofs.Common.{◌≡◌, ℕ, List}
+use Rattle.wire_model.specs.declared.events.Event.{Event}
+use Rattle.wire_script.specs.declared.named.Setup.{Setup}
+use Rattle.wire_script.specs.Naming.{Names, event, setup}
+use Rattle.wire_script.specs.Same.{IsSame}
+use Rattle.wire_script.proofs.Readings.{one_named}
+-- whichever event a line is read as, the same happens in a world
+pub use Rattle.wire_script.proofs.Steps.{same_step}
+
+-- no line names both a setup and an event
+pub setup_or_event : (line : List ℕ) (s : Setup) (e : Event) → Names line (setup s) → Names line (event e) → ⊥
+setup_or_event line s e names names' =
+    let same : event e ≡ setup s = one_named line (setup s) (event e) names names' in cc
+
+one_inside : (s t : Setup) → setup s ≡ setup t → s ≡ t
+one_inside s t same = cc
+
+-- a line names one setup at most
+pub one_setup : (line : List ℕ) (s t : Setup) → Names line (setup s) → Names line (setup t) → t ≡ s
+one_setup line s t names names' = one_inside t s (one_named line (setup s) (setup t) names names')
+
+-- and one event, but for where its bytes are borrowed from
+pub one_event : (line : List ℕ) (e f : Event) → Names line (event e) → Names line (event f) → IsSame (event e) (event f)
+one_event line e f = one_named line (event e) (event f)

@@ -1,0 +1,11 @@
+pub mod BareEvents
+pub mod Behind
+pub mod BytesEvents
+pub mod Cuts
+pub mod Keywords
+pub mod Lemmas
+pub mod Numerals
+pub mod Parts
+pub mod Readings
+pub mod Setups
+pub mod Steps

@@ -1,0 +1,138 @@
+-- What a line names: its keyword and its operands.
+use Rattle.std.specs.Prelude.{◌≡◌, ◌≢◌, ◌⊎◌, ℕ, ◌^◌, pos, List, [], ◌∷◌, codes}
+use Rattle.bson_elem.specs.{Tree}
+use Rattle.wire_model.specs.declared.events.Event.{Event}
+use Rattle.wire_model.specs.declared.events.Event.TheVariants.{Open, Return, Call, Up, Down, Answer, CutUp, CutDown, Clear, Restart, RawOpen, Raw, RawTake}
+use Rattle.wire_msg.specs.{Carries, body_alone}
+use Rattle.wire_msg.specs.declared.payloads.Payload.{Payload}
+use Rattle.wire_peer.specs.declared.calls.CallKind.{CallKind}
+use Rattle.wire_peer.specs.declared.calls.CallKind.TheVariants.{Plain, Exhaust, Unacknowledged}
+use Rattle.wire_script.specs.declared.named.HandlerName.{HandlerName}
+use Rattle.wire_script.specs.declared.named.HandlerName.TheVariants.{Echo, Count}
+use Rattle.wire_script.specs.declared.named.Setup.{Setup}
+use Rattle.wire_script.specs.Words.{IsDocumentHex, IsHex, IsNumber, words_of}
+
+-- with what a world is made, or what happens in it
+pub data Named : Type 0 where
+  setup : Setup → Named
+  event : Event → Named
+
+-- ---- keywords
+
+abbrev pub call_keyword : CallKind → List ℕ
+call_keyword Plain = codes "call"
+call_keyword Exhaust = codes "exhaust"
+call_keyword Unacknowledged = codes "send"
+
+abbrev pub event_keyword : Event → List ℕ
+event_keyword Open = codes "open"
+event_keyword (Return c) = codes "return"
+event_keyword (Call c kind payload) = call_keyword kind
+event_keyword (Up c n) = codes "up"
+event_keyword (Down c n) = codes "down"
+event_keyword (Answer c i) = codes "answer"
+event_keyword (CutUp c) = codes "cutup"
+event_keyword (CutDown c) = codes "cutdown"
+event_keyword Clear = codes "clear"
+event_keyword Restart = codes "restart"
+event_keyword RawOpen = codes "rawopen"
+event_keyword (Raw c bytes) = codes "raw"
+event_keyword (RawTake c n) = codes "rawtake"
+
+abbrev pub keyword_of : Named → List ℕ
+keyword_of (setup s) = codes "world"
+keyword_of (event e) = event_keyword e
+
+-- ---- operands
+
+abbrev pub handler_word : HandlerName → List ℕ
+handler_word Echo = codes "echo"
+handler_word Count = codes "count"
+
+-- HANDLER FIRST WINDOW MAX LIMIT: the name of the handler, and four numbers that fit the limits' types
+pub record IsSetup (operands : List (List ℕ)) (s : Setup) : Type 0 where
+  pub first : List ℕ
+  pub window : List ℕ
+  pub max : List ℕ
+  pub limit : List ℕ
+  pub words : operands ≡ handler_word s.handler ∷ first ∷ window ∷ max ∷ limit ∷ []
+  pub id : ℕ
+  pub id_is : s.limits.first_id ≡ pos id
+  pub first_is : IsNumber (2 ^ 31) first id
+  pub window_is : IsNumber (2 ^ 64) window s.limits.window
+  pub max_is : IsNumber (2 ^ 64) max s.limits.connections
+  pub limit_is : IsNumber (2 ^ 32) limit s.limits.limit
+
+-- C: a number
+pub record IsOne (operands : List (List ℕ)) (c : ℕ) : Type 0 where
+  pub connection : List ℕ
+  pub words : operands ≡ connection ∷ []
+  pub connection_is : IsNumber (2 ^ 64) connection c
+
+-- C N: two numbers
+pub record AreTwo (operands : List (List ℕ)) (c n : ℕ) : Type 0 where
+  pub connection : List ℕ
+  pub count : List ℕ
+  pub words : operands ≡ connection ∷ count ∷ []
+  pub connection_is : IsNumber (2 ^ 64) connection c
+  pub count_is : IsNumber (2 ^ 64) count n
+
+-- C HEX: a number, and this word
+pub record HasHex (operands : List (List ℕ)) (c : ℕ) (hex : List ℕ) : Type 0 where
+  pub connection : List ℕ
+  pub words : operands ≡ connection ∷ hex ∷ []
+  pub connection_is : IsNumber (2 ^ 64) connection c
+
+-- the word spells a document, which is the body of the payload
+pub record IsCall (operands : List (List ℕ)) (c : ℕ) (payload : Payload) : Type 0 where
+  pub hex : List ℕ
+  pub words : HasHex operands c hex
+  pub body : Tree
+  pub hex_is : IsDocumentHex hex body
+  pub carried : Carries payload (body_alone body)
+
+-- the word spells at least one byte
+pub record IsRaw (operands : List (List ℕ)) (c : ℕ) (bytes : List ℕ) : Type 0 where
+  pub hex : List ℕ
+  pub words : HasHex operands c hex
+  pub hex_is : IsHex hex bytes
+  pub some : bytes ≢ []
+
+abbrev pub AreEventOperands : List (List ℕ) → Event → Type 0
+AreEventOperands operands Open = operands ≡ []
+AreEventOperands operands (Return c) = IsOne operands c
+AreEventOperands operands (Call c kind payload) = IsCall operands c payload
+AreEventOperands operands (Up c n) = AreTwo operands c n
+AreEventOperands operands (Down c n) = AreTwo operands c n
+AreEventOperands operands (Answer c i) = AreTwo operands c i
+AreEventOperands operands (CutUp c) = IsOne operands c
+AreEventOperands operands (CutDown c) = IsOne operands c
+AreEventOperands operands Clear = operands ≡ []
+AreEventOperands operands Restart = operands ≡ []
+AreEventOperands operands RawOpen = operands ≡ []
+AreEventOperands operands (Raw c bytes) = IsRaw operands c bytes.now
+AreEventOperands operands (RawTake c n) = AreTwo operands c n
+
+abbrev pub AreOperands : List (List ℕ) → Named → Type 0
+AreOperands operands (setup s) = IsSetup operands s
+AreOperands operands (event e) = AreEventOperands operands e
+
+-- ---- lines
+
+-- the line names this: its first word is the keyword, and the others are the operands
+abbrev pub Names : List ℕ → Named → Type 0
+Names line named = (operands : List (List ℕ)) × (words_of line ≡ keyword_of named ∷ operands) × AreOperands operands named
+
+-- the keyword of a call or of raw bytes
+abbrev pub IsBytesKeyword : List ℕ → Type 0
+IsBytesKeyword word = (word ≡ codes "raw") ⊎ ((kind : CallKind) × (word ≡ call_keyword kind))
+
+-- such a keyword stands first, and behind it a number and one word more
+pub record NamesBytes (line : List ℕ) : Type 0 where
+  pub keyword : List ℕ
+  pub operands : List (List ℕ)
+  pub words : words_of line ≡ keyword ∷ operands
+  pub keyword_is : IsBytesKeyword keyword
+  pub c : ℕ
+  pub hex : List ℕ
+  pub operands_are : HasHex operands c hex

@@ -1,0 +1,103 @@
+//! A line of a script, read.
+
+ghost use Rattle.std.specs.Prelude.{◌≡◌, Err, IfOk, IfSome, List, ℕ};
+ghost use Rattle.wire_model.specs.declared.events.Event.{Event as Happening};
+ghost use Rattle.wire_script.specs.Lent.{IsLine, Lends};
+ghost use Rattle.wire_script.specs.Naming.{AreEventOperands, HasHex, IsBytesKeyword, Named, Names, NamesBytes};
+ghost use Rattle.wire_script.specs.Reading.{IsBare, event_kind, keyword_text, words_behind};
+
+use crate::cut::cut_word;
+use crate::keyword::{Keyword, read_keyword};
+use crate::named::{Line, LineError, ScriptEvent};
+use crate::operands::{call, has_no_words, one, raw, setup, two};
+use std::alloc::Global;
+use wire_model::Event;
+
+/// Returns the event that the keyword and its operands name, if it is one that names no bytes.
+fn bare_event(keyword: Keyword, rest: Option<&[u8]>) -> Option<Event<'static>>
+    ensures found { IfSome result (λ e. (event_kind e ≡ keyword)
+        × AreEventOperands (words_behind rest.entry) e) }
+    ensures nothing { result ≡ None → (e : Happening) → event_kind e ≡ keyword → IsBare e
+        → AreEventOperands (words_behind rest.entry) e → ⊥ }
+{
+    match keyword {
+        Keyword::Open if has_no_words(rest) => Some(Event::Open),
+        Keyword::Clear if has_no_words(rest) => Some(Event::Clear),
+        Keyword::Restart if has_no_words(rest) => Some(Event::Restart),
+        Keyword::RawOpen if has_no_words(rest) => Some(Event::RawOpen),
+        Keyword::Return => Some(Event::Return(one(rest)?)),
+        Keyword::CutUp => Some(Event::CutUp(one(rest)?)),
+        Keyword::CutDown => Some(Event::CutDown(one(rest)?)),
+        Keyword::Up => {
+            let (connection, count) = two(rest)?;
+            Some(Event::Up(connection, count))
+        }
+        Keyword::Down => {
+            let (connection, count) = two(rest)?;
+            Some(Event::Down(connection, count))
+        }
+        Keyword::Answer => {
+            let (connection, index) = two(rest)?;
+            Some(Event::Answer(connection, index))
+        }
+        Keyword::RawTake => {
+            let (connection, count) = two(rest)?;
+            Some(Event::RawTake(connection, count))
+        }
+        _ => None,
+    }
+}
+
+/// Returns the event that the keyword and its operands name.
+fn script_event(
+    alloc: Global,
+    keyword: Keyword,
+    rest: Option<&[u8]>,
+) -> Result<ScriptEvent, LineError>
+    ensures found { IfOk result (λ owned. (e : Happening) → Lends owned e → (event_kind e ≡ keyword)
+        × AreEventOperands (words_behind rest.entry) e) }
+    ensures nothing { result ≡ Err LineError.Malformed → (e : Happening) → event_kind e ≡ keyword
+        → AreEventOperands (words_behind rest.entry) e → ⊥ }
+    ensures memory { result ≡ Err LineError.OutOfMemory → IsBytesKeyword (keyword_text keyword)
+        × ((c : ℕ) × (hex : List ℕ) × HasHex (words_behind rest.entry) c hex) }
+{
+    match keyword {
+        Keyword::Call(kind) => {
+            let (connection, payload) = call(alloc, rest)?;
+            Ok(ScriptEvent::Call(connection, kind, payload))
+        }
+        Keyword::Raw => {
+            let (connection, bytes) = raw(alloc, rest)?;
+            Ok(ScriptEvent::Raw(connection, bytes))
+        }
+        _ => match bare_event(keyword, rest) {
+            Some(event) => Ok(ScriptEvent::Bare(event)),
+            None => Err(LineError::Malformed),
+        },
+    }
+}
+
+/// Reads a line of a script, without its end.
+///
+/// # Errors
+///
+/// `Malformed` if the line names nothing. `OutOfMemory` for want of memory, which only a line with a document or bytes takes;
+/// whether it names anything isn't told then.
+pub fn parse_line(alloc: Global, line: &[u8]) -> Result<Line, LineError>
+    ensures named { IfOk result (λ read. IsLine line.now read) }
+    ensures nothing { result ≡ Err LineError.Malformed → (named : Named) → Names line.now named → ⊥ }
+    ensures memory { result ≡ Err LineError.OutOfMemory → NamesBytes line.now }
+{
+    let (word, rest) = cut_word(line);
+    let Some(keyword) = read_keyword(word) else {
+        return Err(LineError::Malformed);
+    };
+    if keyword == Keyword::World {
+        return match setup(rest) {
+            Some(setup) => Ok(Line::World(setup)),
+            None => Err(LineError::Malformed),
+        };
+    }
+    let event = script_event(alloc, keyword, rest)?;
+    Ok(Line::Event(event))
+}
