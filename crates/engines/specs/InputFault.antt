@@ -6,7 +6,7 @@ use Rattle.wire_msg.specs.declared.fault.MsgCause.{MsgCause}
 use Rattle.wire_msg.specs.{fault_text}
 use Rattle.engines.specs.FaultLine.{fault_line}
 use Rattle.engines.specs.declared.input_fault.InputFault.{InputFault}
-use Rattle.engines.specs.declared.input_fault.InputFault.TheVariants.{Hex, Bson, TooLarge, Msg, EndedInside}
+use Rattle.engines.specs.declared.input_fault.InputFault.TheVariants.{Hex, Bson, TooLarge, Msg, EndedInside, Script}
 
 -- the line of a fault in hexadecimal text
 abbrev pub hex_line : ℕ → List ℕ
@@ -28,12 +28,17 @@ msg_line offset c = fault_text offset c ++ codes "\n"
 abbrev pub ended_inside_line : ℕ → List ℕ
 ended_inside_line offset = fault_line 14 (codes "EndedInside") offset
 
+-- the line of a script at fault in the line of this number
+abbrev pub script_line : ℕ → List ℕ
+script_line line = fault_line 15 (codes "Script") line
+
 abbrev pub input_fault_line : InputFault → List ℕ
 input_fault_line (Hex offset) = hex_line offset
 input_fault_line (Bson f) = bson_fault_text f.at f.cause ++ codes "\n"
 input_fault_line (TooLarge offset) = too_large_line offset
 input_fault_line (Msg f) = msg_line f.at f.cause
 input_fault_line (EndedInside offset) = ended_inside_line offset
+input_fault_line (Script line) = script_line line
 
 -- the line of a fault, if there is one
 abbrev pub line_of : Option InputFault → Option (List ℕ)

@@ -24,6 +24,8 @@ pub enum InputFault {
     Msg(MsgFault),
     /// The input ends inside the message at `offset`.
     EndedInside { offset: usize },
+    /// The line of this number, counted from 1, is at fault in a script.
+    Script { line: usize },
 }
 
 impl InputFault {
@@ -38,6 +40,7 @@ impl InputFault {
             InputFault::TooLarge { offset } => write_fault(16, "TooLarge", offset, out),
             InputFault::Msg(fault) => write_msg_fault(fault, out),
             InputFault::EndedInside { offset } => write_fault(14, "EndedInside", offset, out),
+            InputFault::Script { line } => write_fault(15, "Script", line, out),
         }
     }
 }

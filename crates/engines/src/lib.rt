@@ -1,8 +1,9 @@
 //! The commands of the program `bsonwire`, each a function over a reader and a writer.
 //!
-//! `run_dump`, `run_check`, `run_canon` and `run_msg` read all that the reader has, write one text for it, and tell how
-//! that ended. Documents or messages stand back to back in the input, as bytes or as hexadecimal text. A fault in the input
-//! is told by the last line of the text. Nothing is written before the input was read to its end.
+//! `run_dump`, `run_check`, `run_canon`, `run_msg` and `run_play` read all that the reader has, write one text for it, and tell how
+//! that ended. Documents or messages stand back to back in the input, as bytes or as hexadecimal text; the input of `run_play`
+//! is a script of events. A fault in the input is told by the last line of the text. Nothing is written before the input was
+//! read to its end.
 #![tactic(auto)]
 
 mod buffered;
@@ -17,6 +18,7 @@ pub mod laws;
 mod messages;
 mod msg;
 mod msg_text;
+mod play;
 mod run;
 
 pub use canon::{run_canon, run_canon_within};
@@ -24,4 +26,5 @@ pub use check::run_check;
 pub use dump::run_dump;
 pub use fault_line::write_fault;
 pub use msg::run_msg;
+pub use play::run_play;
 pub use run::{Engine, RunEnd, end_of};

@@ -1,0 +1,20 @@
+use Rattle.std.proofs.Common.{◌≡◌, ◌++◌, ℕ, List, Bool, Option, Result, Ok, Err, IfOk, refl, subst}
+use Rattle.std.specs.Io.KnownBytes.{Appends}
+use Rattle.std.proofs.KnownBytes.{Appends-trans}
+use Rattle.wire_play.specs.{TextUpTo, Writes}
+use Rattle.engines.specs.Documents.{or_nothing, is_there}
+use Rattle.engines.specs.Output.{AppendsText}
+use Rattle.engines.specs.Play.{ScriptText, last_of}
+use Rattle.engines.proofs.play.PlayEngine.write_text.Goals as goal
+
+-- the text up to a line at fault was written, and then the last line, if there is one
+script_written : {E : Type 0} (r : Result Bool E) (script : List ℕ) (line : Option ℕ) (last a b c : Option (List ℕ)) → last ≡ last_of line
+    → Writes (λ (text : List ℕ). TextUpTo script text line) a b → IfOk r (λ there. (there ≡ is_there last) × Appends b c (or_nothing last))
+    → IfOk r (λ fault. AppendsText (ScriptText script) fault a c)
+script_written (Err e) script line last a b c same text end = tt
+script_written (Ok there) script line last a b c same text end =
+    let told = subst (λ (x : Option (List ℕ)). (there ≡ is_there x) × Appends b c (or_nothing x)) same end in
+    (text.0 ++ or_nothing (last_of line), (text.0, line, text.1, refl, told.0), Appends-trans a b c text.0 (or_nothing (last_of line)) text.2 told.1)
+
+pub returns-in-Ok-clause-written : goal.returns-in-Ok-clause-written
+returns-in-Ok-clause-written g c = script_written _ c.args.bytes.now _ _ _ _ _ c.script_fault.ensures c.in-Ok.ensures c.write_last.ensures.written

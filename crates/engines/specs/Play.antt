@@ -1,0 +1,17 @@
+-- What `play` writes.
+use Rattle.std.specs.Prelude.{◌≡◌, ℕ, List, ◌++◌, Bool, Option, None, Some}
+use Rattle.wire_play.specs.{TextUpTo}
+use Rattle.engines.specs.Documents.{or_nothing, is_there}
+use Rattle.engines.specs.InputFault.{script_line}
+
+-- the last line, if a line of the script is at fault
+abbrev pub last_of : Option ℕ → Option (List ℕ)
+last_of None = None
+last_of (Some line) = Some (script_line line)
+
+-- What `play` writes for a script, and whether it ends with a fault line: the text of the lines up to one at fault, and then the
+-- line of that.
+abbrev pub ScriptText : List ℕ → List ℕ → Bool → Type 0
+ScriptText script text fault =
+    (texts : List ℕ) × (line : Option ℕ) × TextUpTo script texts line
+    × (text ≡ texts ++ or_nothing (last_of line)) × (fault ≡ is_there (last_of line))

@@ -1,0 +1,60 @@
+//! The command `play`: what happens in a world by a script of events.
+
+ghost use Rattle.std.specs.Prelude.{◌≡◌, ◌⊎◌, IfSome, true};
+ghost use Rattle.std.specs.Io.KnownBytes.{IsAtEnd, Keeps};
+ghost use Rattle.engines.specs.InputFault.{line_of};
+ghost use Rattle.engines.specs.Output.{AppendsText};
+ghost use Rattle.engines.specs.Play.{ScriptText, last_of};
+ghost use Rattle.engines.specs.Run.{is_done, is_fault};
+
+use crate::documents::write_last;
+use crate::input_fault::InputFault;
+use crate::run::{Engine, RunEnd, run};
+use std::alloc::Global;
+use std::io::{Read, Write};
+use wire_play::PlayStop;
+
+/// The command `play`.
+#[derive(Drop)]
+struct Play {
+    alloc: Global,
+}
+
+/// Returns the fault of a script whose line of this number is at fault, if one is.
+fn script_fault(line: Option<usize>) -> Option<InputFault>
+    ensures { line_of result ≡ last_of line }
+{
+    match line {
+        Some(line) => Some(InputFault::Script { line }),
+        None => None,
+    }
+}
+
+impl Engine for Play {
+    ghost is_text = { λ _. ScriptText };
+
+    ghost wants_memory = { λ _. true };
+
+    fn write_text<W: Write>(&self, bytes: &[u8], out: &mut W) -> Result<bool, RunEnd> {
+        match wire_play::play(self.alloc, bytes, out) {
+            Ok(line) => write_last(script_fault(line), out),
+            Err(PlayStop::Failed) => Err(RunEnd::InOut),
+            Err(PlayStop::OutOfMemory) => Err(RunEnd::Memory),
+        }
+    }
+}
+
+/// Plays the script in the input: writes what each of its events comes to, and then the calls and the log, or up to a line at
+/// fault, which is told by the last line.
+///
+/// Where memory runs out in an event, the line of that refusal is the last one written.
+pub fn run_play<R: Read, W: Write>(alloc: Global, reader: &mut R, writer: &mut W) -> RunEnd
+    ensures read { is_done result ≡ true → IsAtEnd (R.remaining reader.new) }
+    ensures written { IfSome (R.remaining reader.old) (λ script. is_done result ≡ true →
+        AppendsText (ScriptText script) (is_fault result) (W.contents writer.old) (W.contents writer.new)) }
+    ensures late { (IsAtEnd (R.remaining reader.new)) ⊎
+        Keeps (W.contents writer.old) (W.contents writer.new) }
+{
+    let play = Play { alloc };
+    run(alloc, &play, false, reader, writer)
+}

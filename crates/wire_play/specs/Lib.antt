@@ -1,0 +1,8 @@
+pub mod Reports
+pub mod Closing
+pub mod Scripts
+pub mod Played
+-- the words that clauses of other crates cite
+pub use Rattle.wire_play.specs.Closing.{closing_text}
+pub use Rattle.wire_play.specs.Reports.{result_line}
+pub use Rattle.wire_play.specs.Scripts.{TextUpTo, Writes}
