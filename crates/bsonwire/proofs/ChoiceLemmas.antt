@@ -1,7 +1,9 @@
 -- What a choice reads of the matches.
-use Rattle.std.proofs.Common.{◌≡◌, ap, refl, Bool, true, false, Option, Some, None, codes}
+use Rattle.std.proofs.Common.{◌≡◌, ◌∙◌, ◌<◌, ◌^◌, ℕ, ap, refl, subst, sym, Bool, true, false, Option, Some, None, Result, Ok, Err, codes, arith}
 use Rattle.std.specs.Prelude.{◌≢◌, MatchBool, if◌then◌else◌}
-use Rattle.clap.specs.Words.{Text}
+use Rattle.std.specs.Str.Parse.{ParsesUnsigned, digits_value, without_leading_plus}
+use Rattle.clap.specs.Words.{ReadsOne, Text}
+use Rattle.bsonwire.specs.Choices.{IsCount}
 
 -- the text of a flag that read as b
 pub flag_text : (o : Option Text) (b : Bool) → (o ≡ None → Some b ≡ None) → ((t : Text) → o ≡ Some t → MatchBool b (t ≡ codes "true") (t ≡ codes "false"))
@@ -17,3 +19,20 @@ pub flag_reads : {E : Type 0} (o : Option Text) (b : Bool) → o ≡ Some (if b 
     → ((t : Text) → o ≡ Some t → (e : E) × ((t ≢ codes "true") × (t ≢ codes "false"))) → ⊥
 flag_reads o true is value = (value (codes "true") is).1.0 refl
 flag_reads o false is value = (value (codes "false") is).1.1 refl
+
+-- ---- a number from 1 to 100
+
+module _ {E : Type 0} (G : Text → Result ℕ E → Type 0) (parses : (t : Text) (r : Result ℕ E) → G t r → ParsesUnsigned 8 10 t r) where
+  -- a count that was read is the one that stands there
+  pub read_count : (o : Option Text) (n k : ℕ) → IsCount n o → ((t : Text) → o ≡ Some t → ReadsOne G t (Some k)) → IsCount k o
+  read_count o n k count value =
+      let read = parses count.0 (Ok k) (value count.0 count.1) in
+      let same : n ≡ k = sym count.2.1 ∙ sym read.1 in
+      subst (λ (m : ℕ). IsCount m o) same count
+
+  -- a count can be read
+  pub count_reads : (o : Option Text) (n : ℕ) → IsCount n o → ((t : Text) → o ≡ Some t → ReadsOne G t None) → ⊥
+  count_reads o n count value =
+      let read = value count.0 count.1 in
+      let small : digits_value 10 (without_leading_plus count.0) < 2 ^ 8 = omega (arith, count.2.1, count.4) in
+      parses count.0 (Err read.0) read.1 (count.2.0, small)

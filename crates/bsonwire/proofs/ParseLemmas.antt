@@ -1,6 +1,6 @@
 -- What `clap` finds no fault in names a choice.
-use Rattle.std.proofs.Common.{◌≡◌, ◌∙◌, ℕ, refl, ap, sym, Bool, true, false, cond, not, ◌&&◌, ◌||◌, List, [], ◌∷◌, ◌++◌, Option, Some, None, is_some, option_map, codes, true≢false}
-use Rattle.std.specs.Prelude.{⊤, IfSome, if◌then◌else◌, find, fold, slice_get, option_and_then}
+use Rattle.std.proofs.Common.{◌≡◌, ◌∙◌, ℕ, refl, ap, sym, Bool, true, false, not, ◌&&◌, ◌||◌, List, [], ◌∷◌, Option, Some, None, is_some, option_map, codes, true≢false, inl, inr}
+use Rattle.std.specs.Prelude.{⊤, IfSome, if◌then◌else◌, find, fold}
 use Rattle.std.specs.Option.{option_map_or}
 use Rattle.std.specs.List.{list_any}
 use Rattle.std.specs.Str.{bytes_eq}
@@ -9,19 +9,16 @@ use Rattle.clap.specs.Facts.{explicit_source}
 use Rattle.clap.specs.Lexer.{long_of, short_of}
 use Rattle.clap.specs.Kinds.{check_kinds, or_else}
 use Rattle.clap.specs.Faults.{check_fault, defaults_fault, entered_fault, fault_of, level_fault, other_fault, settle_fault, step_fault, turn_fault, walk_fault, word_fault}
-use Rattle.clap.specs.Simple.{Shape, argument_words, built, built_leaf, entered, inherited, label_of, marked_built, names_of, rows_at, subcommand_of, with_leaf_noted}
+use Rattle.clap.specs.Simple.{Shape, argument_words, built, entered, label_of, names_of, rows_at, subcommand_of}
 use Rattle.clap.specs.Takes.{is_given}
-use Rattle.clap.specs.Walk.{Held, Names, Outcome, Row, Rule, Step, Text, Waiting, Walk, done, waits, plain, refused, idle, option, positional, next, trailing, subcommand, value, after_flag, after_step, answers_to, arg_by_index, finished, has_row, long_or_other, nothing_held, plain_word, row_text, settled, short_or_plain, subcommand_met, subcommand_or_other, to_positional, walk, walk_from, walked, walked_from, with_default, with_values, word_met, bundle, long_met, arg_by_long, more_values}
-use Rattle.clap.specs.declared.builder.value_parser.Reading.{Reading}
+use Rattle.clap.specs.Walk.{Held, Names, Outcome, Row, Rule, Step, Text, Waiting, Walk, done, waits, plain, refused, idle, option, positional, next, trailing, subcommand, value, after_flag, after_step, answers_to, arg_by_index, finished, long_or_other, nothing_held, plain_word, settled, short_or_plain, subcommand_met, subcommand_or_other, to_positional, walk, walk_from, walked, walked_from, word_met, bundle, long_met, arg_by_long}
 use Rattle.clap.specs.declared.error.kind.ErrorKind.TheVariants as kind
-use Rattle.clap.specs.declared.parser.matches.ValueSource.{ValueSource}
-use Rattle.clap.specs.declared.parser.matches.ValueSource.TheVariants.{DefaultValue}
-use Rattle.bsonwire.specs.CommandLine.{command_line, file_app}
+use Rattle.bsonwire.specs.CommandLine.{command_line, file_app, loop_app, play_app}
 use Rattle.bsonwire.specs.declared.choice.Command.{Command}
-use Rattle.bsonwire.specs.declared.choice.Command.TheVariants.{Dump, Check, Canon, Msg}
-use Rattle.bsonwire.specs.Choices.{NamesChoice, NamesSource, command_name}
-use Rattle.clap.specs.declared.builder.value_parser.Reading.TheVariants.{AsWritten}
-use Rattle.bsonwire.proofs.RowLemmas.{AreGood, Each, IsBoolText, IsGoodRow, find_holds, good_with, leaf_keeps, leaf_rules, no_kind, or_nil, settle_good, walk_good}
+use Rattle.bsonwire.specs.declared.choice.Command.TheVariants.{Dump, Check, Canon, Msg, Play}
+use Rattle.bsonwire.specs.Choices.{HoldsHex, IsCommand, NamesChoice}
+use Rattle.bsonwire.proofs.LeafLemmas.{IsUnfaulted, file_leaf_names, leaf, loop_leaf_names, play_leaf_names}
+use Rattle.bsonwire.proofs.RowLemmas.{Each, find_holds, no_kind, or_nil}
 
 -- ---- a walk stops at no word `help`
 
@@ -109,108 +106,23 @@ module _ (s : Shape) (names : Names) (helps : s.disable_help_subcommand ≡ fals
       let parts = or_nil (turn_fault s names w word) _ none in
       walk_stop (walked s.rules names w word) rest parts.1 (turn_stop w word parts.0 before)
 
--- ---- the rows of a subcommand that reads a file
-
-has_with : (id : Text) (how : Reading) (s : ValueSource) (values : List Text) (rows : List Row) → bytes_eq id id ≡ true → has_row id (with_values id how s values rows) ≡ true
-has_with id how s values [] same = ap (λ b. b || false) same
-has_with id how s values (r ∷ rs) same = go (bytes_eq r.id id) refl (has_with id how s values rs same)
-  where
-    go : (b : Bool) → bytes_eq r.id id ≡ b → has_row id (with_values id how s values rs) ≡ true
-        → has_row id (cond b (more_values s values r ++ rs) (r ∷ with_values id how s values rs)) ≡ true
-    go true is rest = ap (λ b. b || has_row id rs) is
-    go false is rest = ap (λ b. b || has_row id (with_values id how s values rs)) is ∙ rest
-
--- `--hex` gets its default where it was not given
-abbrev with_hex : Bool → List Row → List Row
-with_hex b rows = if b then rows else with_values (codes "hex") AsWritten DefaultValue (codes "false" ∷ []) rows
-
-abbrev AreGoodWithHex : List Row → Type 0
-AreGoodWithHex rows = AreGood rows × (has_row (codes "hex") rows ≡ true)
-
-hex_is_there : (rows : List Row) → AreGood rows → AreGoodWithHex (with_hex (has_row (codes "hex") rows) rows)
-hex_is_there rows good = go (has_row (codes "hex") rows) refl
-  where
-    go : (b : Bool) → has_row (codes "hex") rows ≡ b → AreGoodWithHex (with_hex b rows)
-    go true is = (good, is)
-    go false is = (
-      good_with (codes "hex") AsWritten DefaultValue (codes "false" ∷ []) rows
-          ((λ e. absurd (true≢false (ap (bytes_eq (codes "hex")) e))), (λ e. (false, refl))) good,
-      has_with (codes "hex") AsWritten DefaultValue (codes "false" ∷ []) rows refl,
-    )
-
-same : (b : Bool) (P : List Row → Type 0) (rows : List Row) → P rows → P (if b then rows else rows)
-same true P rows p = p
-same false P rows p = p
-
-finished_has_hex : (rows : List Row) → AreGood rows → AreGoodWithHex (fold with_default rows leaf_rules)
-finished_has_hex rows good =
-    let first = same (has_row (codes "file") rows) AreGood rows good in
-    let one = if has_row (codes "file") rows then rows else rows in
-    let two = with_hex (has_row (codes "hex") one) one in
-    same (has_row (codes "help") two) AreGoodWithHex two (hex_is_there one first)
-
-abbrev IsFound : Text → Row → Type 0
-IsFound id r = (r.id ≡ id) × IsGoodRow r
-
-found : (id : Text) (rows : List Row) → AreGood rows → IfSome (find (λ r. bytes_eq r.id id) rows) (IsFound id)
-found id rows good = find_holds (λ r. bytes_eq r.id id) (IsFound id) rows (any rows good)
-  where
-    any : (rs : List Row) → AreGood rs → Each (λ r. bytes_eq r.id id ≡ true → IsFound id r) rs
-    any [] each = tt
-    any (r ∷ rs) each = ((λ e. ((bytes_eq-Decides r.id id).0 e, each.0)), any rs each.1)
-
-file_found : (o : Option Row) → IfSome o (IsFound (codes "file")) → option_map_or (λ r. explicit_source r.source) o false ≡ true
-    → is_some (option_and_then (λ r. slice_get r.values 0) o) ≡ true
-file_found None is given = absurd (true≢false (sym given))
-file_found (Some r) is given = is.1.0 is.0
-
-hex_found : (o : Option Row) → IfSome o (IsFound (codes "hex")) → is_some o ≡ true → IsBoolText (option_and_then row_text o)
-hex_found None is has = absurd (true≢false (sym has))
-hex_found (Some r) is has = is.1.1 is.0
-
-has_found : (id : Text) (rows : List Row) → has_row id rows ≡ true → is_some (find (λ r. bytes_eq r.id id) rows) ≡ true
-has_found id [] has = has
-has_found id (r ∷ rs) has = go (bytes_eq r.id id) has (has_found id rs)
-  where
-    go : (b : Bool) → (b || has_row id rs) ≡ true → (has_row id rs ≡ true → is_some (find (λ r. bytes_eq r.id id) rs) ≡ true)
-        → is_some (cond b (Some r) (find (λ r. bytes_eq r.id id) rs)) ≡ true
-    go true e rest = refl
-    go false e rest = rest e
-
-whole_names_source : (rows : List Row) → AreGoodWithHex rows → is_given (codes "file") rows ≡ true → NamesSource rows
-whole_names_source rows whole given = (
-  file_found (find (λ r. bytes_eq r.id (codes "file")) rows) (found (codes "file") rows whole.0) given,
-  hex_found (find (λ r. bytes_eq r.id (codes "hex")) rows) (found (codes "hex") rows whole.0) (has_found (codes "hex") rows whole.1),
-)
-
--- a subcommand of this name, as building leaves it
-abbrev leaf : Text → Shape
-leaf name = built_leaf (inherited (with_leaf_noted (marked_built command_line.top)) (file_app name).top)
-
-given_where_unfaulted : (b : Bool) → check_kinds false false (not b || false) ≡ [] → b ≡ true
-given_where_unfaulted true none = refl
-given_where_unfaulted false none = absurd (no_kind _ refl none)
-
-leaf_names_source : (name : Text) (words : List Text) → level_fault (leaf name) [] nothing_held words false [] ≡ [] → NamesSource (rows_at (leaf name) words).1
-leaf_names_source name words none =
-    let s = leaf name in
-    let end = (walk s.rules [] nothing_held words).held in
-    let walking = or_nil (walk_fault s [] (walk_from nothing_held) words) _ none in
-    let settling = or_nil (settle_fault s.rules s.args_override_self end) _ walking.1 in
-    let defaulting = or_nil (defaults_fault (settled s.rules end).rows s.rules) _ settling.1 in
-    let good : AreGood end.rows = walk_good s [] leaf_keeps (walk_from nothing_held) words walking.0 tt in
-    let rows = finished s.rules end in
-    whole_names_source rows (finished_has_hex (settled s.rules end).rows (settle_good s.rules s.args_override_self leaf_keeps end settling.0 good))
-    (given_where_unfaulted (is_given (codes "file") rows) defaulting.1)
-
 -- ---- the whole command line
 
 -- where the subcommand answers to the word and has no fault, it names a choice
 abbrev Chooses : Text → List Text → Shape → Type 0
-Chooses word words s = level_fault s [] nothing_held words false [] ≡ [] → NamesChoice (Some (rows_at s words))
+Chooses word words s = IsUnfaulted s words → NamesChoice (Some (rows_at s words))
 
-leaf_chooses : (c : Command) (word : Text) (words : List Text) → Chooses word words (leaf (command_name c))
-leaf_chooses c word words none = ((c, refl), leaf_names_source (command_name c) words none)
+file_leaf_chooses : (command : Bool → Command) (name word : Text) (words : List Text)
+    → ((hex : Bool) (rows : List Row) → HoldsHex hex rows → IsCommand (command hex) name rows) → Chooses word words (leaf (file_app name))
+file_leaf_chooses command name word words is none =
+    let held = file_leaf_names name words none in
+    inl ((command held.0.0, is held.0.0 (rows_at (leaf (file_app name)) words).1 held.0.1), held.1)
+
+play_leaf_chooses : (word : Text) (words : List Text) → Chooses word words (leaf play_app)
+play_leaf_chooses word words none = inl ((Play, refl), play_leaf_names words none)
+
+loop_leaf_chooses : (word : Text) (words : List Text) → Chooses word words (leaf loop_app)
+loop_leaf_chooses word words none = inr (refl, loop_leaf_names words none)
 
 entered_chooses : (o : Option Shape) (word : Text) (words : List Text) → IfSome o (Chooses word words)
     → option_map_or (λ s. level_fault s [] nothing_held words false []) o [] ≡ [] → is_some (option_map (λ s. rows_at s words) o) ≡ true
@@ -230,12 +142,18 @@ is_help word differs is_one = go (bytes_eq (codes "help") word) refl is_one
 subs_choose : (word : Text) (words : List Text) → bytes_eq word (codes "help") ≡ false
     → Each (λ s. answers_to word (label_of s) ≡ true → Chooses word words s) (built command_line).subs
 subs_choose word words differs = (
-  (λ _. leaf_chooses Dump word words),
+  (λ _. file_leaf_chooses Dump (codes "dump") word words (λ hex rows holds. (refl, holds))),
   (
-    (λ _. leaf_chooses Check word words),
+    (λ _. file_leaf_chooses Check (codes "check") word words (λ hex rows holds. (refl, holds))),
     (
-      (λ _. leaf_chooses Canon word words),
-      ((λ _. leaf_chooses Msg word words), ((λ is_one. absurd (is_help word differs is_one)), tt)),
+      (λ _. file_leaf_chooses Canon (codes "canon") word words (λ hex rows holds. (refl, holds))),
+      (
+        (λ _. file_leaf_chooses Msg (codes "msg") word words (λ hex rows holds. (refl, holds))),
+        (
+          (λ _. play_leaf_chooses word words),
+          ((λ _. loop_leaf_chooses word words), ((λ is_one. absurd (is_help word differs is_one)), tt)),
+        ),
+      ),
     ),
   ),
 )

@@ -1,20 +1,25 @@
--- What the words of a subcommand that reads a file leave in its rows: FILE has a value, and `--hex` reads true or false.
+-- What the words of a subcommand leave in its rows: FILE and SCRIPT have a value, `--hex` reads true or false, and N reads as a
+-- number in its range.
 use Rattle.std.proofs.Common.{◌≡◌, ◌∙◌, ℕ, zero, suc, refl, ap, sym, Bool, true, false, cond, ◌&&◌, List, [], ◌∷◌, ◌++◌, length, drop, Option, Some, None, is_some, option_map, codes, true≢false}
-use Rattle.std.specs.Prelude.{⊤, IfSome, if◌then◌else◌, find, fold, slice_get, encode_utf8}
+use Rattle.std.specs.Prelude.{⊤, IfSome, if◌then◌else◌, find, fold, pos, slice_get, encode_utf8}
 use Rattle.std.specs.Option.{option_map_or}
 use Rattle.std.specs.Str.{bytes_eq, chars}
 use Rattle.clap.specs.Lexer.{long_of, short_of}
 use Rattle.clap.specs.Values.{read_as}
 use Rattle.std.proofs.Math.Dec.{eqb-zero-suc}
-use Rattle.clap.specs.Kinds.{Kinds, or_else, range_kinds}
-use Rattle.clap.specs.Faults.{bundle_step_fault, flag_word_fault, flags_fault, long_fault, option_fault, other_fault, positional_fault, react_fault, settle_fault, short_fault, step_fault, stray_fault, turn_fault, use_fault, walk_fault, word_fault, bundle_fault}
+use Rattle.clap.specs.Kinds.{Kinds, or_else, range_kinds, value_kinds}
+use Rattle.clap.specs.Faults.{bundle_step_fault, flag_word_fault, flags_fault, long_fault, option_fault, other_fault, positional_fault, react_fault, repeat_fault, settle_fault, short_fault, step_fault, stray_fault, turn_fault, use_fault, walk_fault, word_fault, bundle_fault}
 use Rattle.clap.specs.Simple.{Shape, filled_from, help_rule, filled, with_index}
 use Rattle.clap.specs.Walk.{Held, Names, Outcome, Row, Rule, Step, Text, Waiting, Walk, done, waits, plain, refused, idle, option, positional, next, trailing, subcommand, value, after_flag, after_step, arg_by_id, arg_by_index, arg_by_long, arg_by_short, at_row, bundle_met, bundle_step, flag_met, is_pending, long_met, long_or_other, more_values, option_met, option_word, plain_word, reacted, reading_by, row_text, settled, settled_rows, short_met, short_or_plain, subcommand_met, subcommand_or_other, takes_several, takes_values, to_positional, used, used_by_id, walked, walked_from, with_values, without, word_met, attached_value, bundle}
 use Rattle.clap.specs.declared.builder.value_parser.Reading.{Reading}
+use Rattle.clap.specs.declared.error.kind.ErrorKind.{ErrorKind}
 use Rattle.clap.specs.declared.error.kind.ErrorKind.TheVariants as kind
+use Rattle.clap.specs.declared.builder.value_parser.ValueParser.TheVariants.{Signed}
 use Rattle.clap.specs.declared.parser.matches.ValueSource.{ValueSource}
 use Rattle.clap.specs.declared.parser.matches.ValueSource.TheVariants.{CommandLine}
-use Rattle.bsonwire.specs.CommandLine.{hex_rule, operand_rule}
+use Rattle.bsonwire.specs.CommandLine.{calls_rule, hex_rule, operand_rule}
+use Rattle.bsonwire.specs.Choices.{IsCount}
+use Rattle.bsonwire.proofs.NumberLemmas.{count_text}
 
 -- ---- lists of kinds
 
@@ -53,9 +58,13 @@ find_holds {X} p P (x ∷ xs) all = go (p x) all.0 (find_holds p P xs all.1)
 abbrev pub IsBoolText : Option Text → Type 0
 IsBoolText o = (hex : Bool) × (o ≡ Some (if hex then codes "true" else codes "false"))
 
+-- a number from 1 to 100
+abbrev pub IsCountText : Option Text → Type 0
+IsCountText o = (n : ℕ) × IsCount n o
+
 abbrev pub IsGoodRow : Row → Type 0
 IsGoodRow r = (r.id ≡ codes "file" → is_some (slice_get r.values 0) ≡ true)
-    × (r.id ≡ codes "hex" → IsBoolText (row_text r))
+    × (r.id ≡ codes "hex" → IsBoolText (row_text r)) × (r.id ≡ codes "calls" → IsCountText (row_text r))
 
 abbrev pub AreGood : List Row → Type 0
 AreGood = Each IsGoodRow
@@ -77,8 +86,19 @@ more_hex : (how : Reading) (vs values : List Text) → IsBoolText (option_map (r
 more_hex how [] values h = absurd (true≢false (sym (ap (λ o. is_some o) h.1)))
 more_hex how (v ∷ vs) values h = h
 
+more_calls : (how : Reading) (vs values : List Text) → IsCountText (option_map (read_as how) (slice_get vs 0)) → IsCountText (option_map (read_as how) (slice_get (vs ++ values) 0))
+more_calls how [] values h = absurd (true≢false (sym (ap (λ o. is_some o) h.1.1)))
+more_calls how (v ∷ vs) values h = h
+
 good_more : (s : ValueSource) (values : List Text) (r : Row) → IsGoodRow r → AreGood (more_values s values r)
-good_more s values r h = (((λ e. more_file r.values values (h.0 e)), (λ e. more_hex r.reading r.values values (h.1 e))), tt)
+good_more s values r h = (
+  (
+    (λ e. more_file r.values values (h.0 e)),
+    (λ e. more_hex r.reading r.values values (h.1 e)),
+    (λ e. more_calls r.reading r.values values (h.2 e)),
+  ),
+  tt,
+)
 
 abbrev new_row : Text → Reading → ValueSource → List Text → Row
 new_row id how s values = record { id = id; values = values; count = None; source = Some s; reading = how }
@@ -90,21 +110,18 @@ good_with id how s values rows new all = good_at id (more_values s values) (new_
 good_without : (id : Text) (rows : List Row) → AreGood rows → AreGood (without id rows)
 good_without id rows all = good_at id (λ _. []) [] rows (λ r h. tt) tt all
 
--- ---- the arguments of a subcommand that reads a file
+-- ---- the arguments of a subcommand, as building leaves them
 
--- as building leaves them
-abbrev pub leaf_rules : List Rule
-leaf_rules = filled_from 1 (operand_rule (codes "file") ∷ hex_rule ∷ help_rule ∷ [])
+abbrev pub leaf_rules : List Rule → List Rule
+leaf_rules rules = filled_from 1 (rules ++ help_rule ∷ [])
 
 -- a use of the argument that has no fault keeps the rows good
 abbrev pub KeepsUse : Rule → Type 0
 KeepsUse a = (again : Bool) (values : List Text) (rows : List Row) → use_fault again a values rows ≡ [] → AreGood rows → AreGood (used a values rows)
 
-file_is_not_hex : codes "file" ≡ codes "hex" → ⊥
-file_is_not_hex e = true≢false (ap (bytes_eq (codes "file")) e)
-
-hex_is_not_file : codes "hex" ≡ codes "file" → ⊥
-hex_is_not_file e = true≢false (ap (bytes_eq (codes "hex")) e)
+-- an id is another one
+pub is_other : (id other : Text) → bytes_eq id id ≡ true → bytes_eq id other ≡ false → id ≡ other → ⊥
+is_other id other same differs e = true≢false (sym same ∙ (ap (bytes_eq id) e ∙ differs))
 
 abbrev file_rule : Rule
 file_rule = with_index 1 (filled (operand_rule (codes "file")))
@@ -115,23 +132,58 @@ built_hex_rule = filled hex_rule
 file_keeps : KeepsUse file_rule
 file_keeps again [] rows none all = absurd (no_kind _ refl none)
 file_keeps again (v ∷ vs) rows none all =
-    good_with (codes "file") (reading_by file_rule) CommandLine (v ∷ vs) (without (codes "file") rows)
-    ((λ e. refl), (λ e. absurd (file_is_not_hex e))) (good_without (codes "file") rows all)
+    good_with (codes "file") (reading_by file_rule) CommandLine (v ∷ vs) (without (codes "file") rows) (
+      (λ e. refl),
+      (λ e. absurd (is_other (codes "file") (codes "hex") refl refl e)),
+      (λ e. absurd (is_other (codes "file") (codes "calls") refl refl e)),
+    )
+    (good_without (codes "file") rows all)
 
 no_values : (n : ℕ) → range_kinds 0 0 (suc n) ≡ [] → ⊥
 no_values n e = no_kind (range_kinds 0 0 (suc n)) (ap (λ b. is_some_kind (if b then [] else kind.WrongNumberOfValues ∷ [])) (eqb-zero-suc n)) e
 
 hex_keeps : KeepsUse built_hex_rule
 hex_keeps again [] rows none all =
-    good_with (codes "hex") (reading_by built_hex_rule) CommandLine (codes "true" ∷ []) (without (codes "hex") rows)
-    ((λ e. absurd (hex_is_not_file e)), (λ e. (true, refl))) (good_without (codes "hex") rows all)
+    good_with (codes "hex") (reading_by built_hex_rule) CommandLine (codes "true" ∷ []) (without (codes "hex") rows) (
+      (λ e. absurd (is_other (codes "hex") (codes "file") refl refl e)),
+      (λ e. (true, refl)),
+      (λ e. absurd (is_other (codes "hex") (codes "calls") refl refl e)),
+    )
+    (good_without (codes "hex") rows all)
 hex_keeps again (v ∷ vs) rows none all = absurd (no_values (length vs) (or_nil (range_kinds 0 0 (length (v ∷ vs))) _ none).0)
+
+abbrev built_calls_rule : Rule
+built_calls_rule = with_index 1 (filled calls_rule)
+
+calls_keeps : KeepsUse built_calls_rule
+calls_keeps again [] rows none all = absurd (no_kind _ refl none)
+calls_keeps again (v ∷ vs) rows none all =
+    let used = or_nil (range_kinds 1 1 (length (v ∷ vs))) _ none in
+    let set = or_nil (repeat_fault again (codes "calls") rows) _ used.1 in
+    let first = or_nil (value_kinds false (Signed (pos 1) (pos 100)) v) _ set.1 in
+    good_with (codes "calls") (reading_by built_calls_rule) CommandLine (v ∷ vs) (without (codes "calls") rows) (
+      (λ e. absurd (is_other (codes "calls") (codes "file") refl refl e)),
+      (λ e. absurd (is_other (codes "calls") (codes "hex") refl refl e)),
+      (λ e. count_text v (accepted _ _ first.0)),
+    )
+    (good_without (codes "calls") rows all)
+  where
+    accepted : (b : Bool) (k : ErrorKind) → (if b then [] else k ∷ []) ≡ [] → b ≡ true
+    accepted true k none = refl
+    accepted false k none = absurd (no_kind _ refl none)
 
 help_keeps : KeepsUse (filled help_rule)
 help_keeps again values rows none all = all
 
-pub leaf_keeps : Each KeepsUse leaf_rules
-leaf_keeps = (file_keeps, (hex_keeps, (help_keeps, tt)))
+-- those of a subcommand that reads a file, of `play`, and of `loop`
+pub file_leaf_keeps : Each KeepsUse (leaf_rules (operand_rule (codes "file") ∷ hex_rule ∷ []))
+file_leaf_keeps = (file_keeps, (hex_keeps, (help_keeps, tt)))
+
+pub play_leaf_keeps : Each KeepsUse (leaf_rules (operand_rule (codes "file") ∷ []))
+play_leaf_keeps = (file_keeps, (help_keeps, tt))
+
+pub loop_leaf_keeps : Each KeepsUse (leaf_rules (calls_rule ∷ []))
+loop_leaf_keeps = (calls_keeps, (help_keeps, tt))
 
 -- ---- a walk keeps the rows good
 

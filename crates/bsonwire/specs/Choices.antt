@@ -1,45 +1,52 @@
 -- What a choice says of the matches that `clap` has of the words, and what it asks for.
-use Rattle.std.specs.Prelude.{◌≡◌, ℕ, List, Bool, true, false, Option, Some, None, is_some, codes, if◌then◌else◌}
+use Rattle.std.specs.Prelude.{◌≡◌, ◌⊎◌, ◌≤◌, ℕ, List, Bool, true, false, Option, Some, None, is_some, codes, if◌then◌else◌}
+use Rattle.std.specs.Str.Parse.{IsNumeral, digits_value, without_leading_plus}
 use Rattle.clap.specs.Words.{Row, Text, first_of, one_of, subcommand_of}
-use Rattle.bsonwire.specs.declared.choice.Source.{Source}
 use Rattle.bsonwire.specs.declared.choice.Choice.{Choice}
+use Rattle.bsonwire.specs.declared.choice.Choice.TheVariants.{Loop, Over}
 use Rattle.bsonwire.specs.declared.choice.Command.{Command}
-use Rattle.bsonwire.specs.declared.choice.Command.TheVariants.{Dump, Check, Canon, Msg}
+use Rattle.bsonwire.specs.declared.choice.Command.TheVariants.{Dump, Check, Canon, Msg, Play}
 use Rattle.bsonwire.specs.CommandLine.{command_line}
-use Rattle.engines.specs.{CanonText, CheckText, DumpText, IsOutput, MsgText}
+use Rattle.engines.specs.{CanonText, CheckText, DumpText, IsOutput, MsgText, ScriptText}
 
--- the subcommand that stands for a command
-abbrev pub command_name : Command → Text
-command_name Dump = codes "dump"
-command_name Check = codes "check"
-command_name Canon = codes "canon"
-command_name Msg = codes "msg"
+-- ---- what the matches of a subcommand hold
 
--- a command has this name
-abbrev pub NamesCommand : Text → Type 0
-NamesCommand name = (c : Command) × (name ≡ command_name c)
+-- they hold this operand FILE or SCRIPT
+abbrev pub HoldsFile : Text → List Row → Type 0
+HoldsFile file rows = first_of (codes "file") rows ≡ Some file
 
--- the matches of a subcommand hold this `--hex`
+-- they hold this `--hex`
 abbrev pub HoldsHex : Bool → List Row → Type 0
 HoldsHex hex rows =
     one_of (codes "hex") rows ≡ Some (if hex then codes "true" else codes "false")
 
--- the matches of a subcommand hold this operand FILE and this `--hex`
-abbrev pub HoldsSource : Source → List Row → Type 0
-HoldsSource s rows = (first_of (codes "file") rows ≡ Some s.file.now) × HoldsHex s.hex rows
+-- the text is this number in decimal digits, which a plus may stand before
+abbrev pub IsNumber : ℕ → Text → Type 0
+IsNumber n text =
+    IsNumeral 10 (without_leading_plus text) × (digits_value 10 (without_leading_plus text) ≡ n)
 
--- the matches of a subcommand hold an operand FILE, and tell whether `--hex` was given
-abbrev pub NamesSource : List Row → Type 0
-NamesSource rows = (is_some (first_of (codes "file") rows) ≡ true) × ((hex : Bool) × HoldsHex hex rows)
+-- there is a text, and it is this number from 1 to 100
+abbrev pub IsCount : ℕ → Option Text → Type 0
+IsCount n found = (text : Text) × (found ≡ Some text) × IsNumber n text × (1 ≤ n) × (n ≤ 100)
 
--- a subcommand was met that stands for a command, and its matches name a source
-abbrev pub NamesChoice : Option (Text × List Row) → Type 0
-NamesChoice None = ⊥
-NamesChoice (Some met) = NamesCommand met.0 × NamesSource met.1
+-- they hold this operand N
+abbrev pub HoldsCalls : ℕ → List Row → Type 0
+HoldsCalls n rows = IsCount n (one_of (codes "calls") rows)
+
+-- ---- the choice
+
+-- the command over an input is the subcommand of this name, and its `--hex` is the one that the matches hold
+abbrev pub IsCommand : Command → Text → List Row → Type 0
+IsCommand (Dump hex) name rows = (name ≡ codes "dump") × HoldsHex hex rows
+IsCommand (Check hex) name rows = (name ≡ codes "check") × HoldsHex hex rows
+IsCommand (Canon hex) name rows = (name ≡ codes "canon") × HoldsHex hex rows
+IsCommand (Msg hex) name rows = (name ≡ codes "msg") × HoldsHex hex rows
+IsCommand Play name rows = name ≡ codes "play"
 
 -- the choice is the subcommand of this name, with what its matches hold
 abbrev pub IsSubcommand : Choice → Text → List Row → Type 0
-IsSubcommand c name rows = (name ≡ command_name c.command) × HoldsSource c.source rows
+IsSubcommand (Over command file) name rows = IsCommand command name rows × HoldsFile file.now rows
+IsSubcommand (Loop calls) name rows = (name ≡ codes "loop") × HoldsCalls calls rows
 
 -- a subcommand was met, and the choice is that one
 abbrev pub IsMetSubcommand : Choice → Option (Text × List Row) → Type 0
@@ -50,19 +57,42 @@ IsMetSubcommand c (Some met) = IsSubcommand c met.0 met.1
 abbrev pub IsChosen : Choice → List Text → Type 0
 IsChosen c words = IsMetSubcommand c (subcommand_of command_line words)
 
+-- ---- that there is a choice
+
+-- the matches hold an operand FILE or SCRIPT
+abbrev pub HasFile : List Row → Type 0
+HasFile rows = is_some (first_of (codes "file") rows) ≡ true
+
+-- the subcommand of this name is a command over an input
+abbrev pub NamesCommand : Text → List Row → Type 0
+NamesCommand name rows = (c : Command) × IsCommand c name rows
+
+-- the matches hold an operand N
+abbrev pub HasCalls : List Row → Type 0
+HasCalls rows = (n : ℕ) × HoldsCalls n rows
+
+-- the subcommand of this name is one over an input, whose matches name that, or it is `loop`, and they tell how many calls
+abbrev pub NamesSubcommand : Text → List Row → Type 0
+NamesSubcommand name rows =
+    (NamesCommand name rows × HasFile rows) ⊎ ((name ≡ codes "loop") × HasCalls rows)
+
+-- a subcommand was met, and its matches make a choice
+abbrev pub NamesChoice : Option (Text × List Row) → Type 0
+NamesChoice None = ⊥
+NamesChoice (Some met) = NamesSubcommand met.0 met.1
+
 -- ---- what a choice asks for
 
--- what a command writes for an input, with `--hex` or without, and whether it ends with a fault line
-abbrev pub CommandText : Command → Bool → List ℕ → List ℕ → Bool → Type 0
-CommandText Dump hex = IsOutput DumpText hex
-CommandText Check hex = IsOutput CheckText hex
-CommandText Canon hex = IsOutput (CanonText 2147483647 hex) hex
-CommandText Msg hex = IsOutput MsgText hex
-
-abbrev pub ChosenText : Choice → List ℕ → List ℕ → Bool → Type 0
-ChosenText c = CommandText c.command c.source.hex
+-- what a command writes for an input, and whether it ends with a fault line
+abbrev pub CommandText : Command → List ℕ → List ℕ → Bool → Type 0
+CommandText (Dump hex) = IsOutput DumpText hex
+CommandText (Check hex) = IsOutput CheckText hex
+CommandText (Canon hex) = IsOutput (CanonText 2147483647 hex) hex
+CommandText (Msg hex) = IsOutput MsgText hex
+CommandText Play = ScriptText
 
 -- whether a command may want memory after its first byte was written
 abbrev pub wants_memory : Command → Bool
-wants_memory Canon = true
+wants_memory (Canon hex) = true
+wants_memory Play = true
 wants_memory _ = false

@@ -1,41 +1,36 @@
 //! What the words of the command line ask for.
 
-ghost use Rattle.std.specs.Prelude.{◌≡◌, Bool, IfOk, IsErrAnd, IsOkAnd, MatchResult, Some, is_some, map, true};
+ghost use Rattle.std.specs.Prelude.{◌≡◌, IfOk, IsErrAnd, IsOkAnd, MatchResult, Some, is_some, map, true, Bool};
 ghost use Rattle.clap.specs.Words.{FailsBy, fault_of, first_of, found_of, rows_of, subcommand_rows_of};
 ghost use Rattle.bsonwire.specs.CommandLine.{command_line};
-ghost use Rattle.bsonwire.specs.Choices.{HoldsHex, HoldsSource, IsChosen, IsMetSubcommand, NamesChoice, NamesCommand, NamesSource, command_name};
+ghost use Rattle.bsonwire.specs.Choices.{HoldsCalls, HoldsHex, IsChosen, IsCommand, IsMetSubcommand, HasCalls, NamesChoice, NamesCommand};
 
 use crate::command_line::program;
 use clap::{ArgMatches, Error};
 use std::alloc::Global;
 
-/// The input of a command.
-#[derive(Clone, Copy, Debug, PartialEq, Eq)]
-pub struct Source<'a> {
-    /// The path of a file, or `-` for standard input.
-    pub file: &'a str,
-    /// True if the input is hexadecimal text.
-    pub hex: bool,
-}
-
-/// A command over the documents or the messages of an input.
+/// A command over an input.
 #[derive(Clone, Copy, Debug, PartialEq, Eq)]
 pub enum Command {
-    /// Writes the text of each document.
-    Dump,
+    /// Writes the text of each document. Where `hex` is true, the input is hexadecimal text.
+    Dump { hex: bool },
     /// Tells of each document whether it is in canonical form.
-    Check,
+    Check { hex: bool },
     /// Writes the canonical form of each document.
-    Canon,
+    Canon { hex: bool },
     /// Writes the text of each message.
-    Msg,
+    Msg { hex: bool },
+    /// Runs a script, and writes what happened.
+    Play,
 }
 
 /// What the command line asks for.
 #[derive(Clone, Copy, Debug, PartialEq, Eq)]
-pub struct Choice<'a> {
-    pub command: Command,
-    pub source: Source<'a>,
+pub enum Choice<'a> {
+    /// Runs a command over the file of this path, or over standard input where it is `-`.
+    Over { command: Command, file: &'a str },
+    /// Makes so many calls over a connection of the program with itself.
+    Loop { calls: u8 },
 }
 
 /// Returns the operand of this id.
@@ -60,26 +55,31 @@ fn hex_of(matches: &ArgMatches<'_>) -> bool
     }
 }
 
-/// Returns the input that the matches of a subcommand name.
-fn source_of<'a>(matches: &ArgMatches<'a>) -> Source<'a>
-    requires { NamesSource (rows_of (found_of matches.now)) }
-    ensures { HoldsSource result (rows_of (found_of matches.now)) }
+/// Returns the operand N.
+fn calls_of(matches: &ArgMatches<'_>) -> u8
+    requires { HasCalls (rows_of (found_of matches.now)) }
+    ensures { HoldsCalls result (rows_of (found_of matches.now)) }
 {
-    let file = operand_of(matches, "file");
-    let hex = hex_of(matches);
-    Source { file, hex }
+    match matches.get_one::<u8>("calls") {
+        Some(calls) => calls,
+        None => unreachable!(),
+    }
 }
 
-/// Returns the command of this name.
-fn command_of(name: &str) -> Command
-    requires { NamesCommand name.now }
-    ensures { name.now ≡ command_name result }
+/// Returns the command over an input that a subcommand of this name is.
+fn command_of(name: &str, matches: &ArgMatches<'_>) -> Command
+    requires { NamesCommand name.now (rows_of (found_of matches.now)) }
+    ensures { IsCommand result name.now (rows_of (found_of matches.now)) }
 {
+    if name == "play" {
+        return Command::Play;
+    }
+    let hex = hex_of(matches);
     match name {
-        "dump" => Command::Dump,
-        "check" => Command::Check,
-        "canon" => Command::Canon,
-        "msg" => Command::Msg,
+        "dump" => Command::Dump { hex },
+        "check" => Command::Check { hex },
+        "canon" => Command::Canon { hex },
+        "msg" => Command::Msg { hex },
         _ => unreachable!(),
     }
 }
@@ -90,9 +90,12 @@ fn choice_of<'a>(matches: &ArgMatches<'a>) -> Choice<'a>
     ensures { IsMetSubcommand result (subcommand_rows_of matches.now) }
 {
     match matches.subcommand() {
-        Some((name, inner)) => Choice {
-            command: command_of(name),
-            source: source_of(inner),
+        Some((name, inner)) if name == "loop" => Choice::Loop {
+            calls: calls_of(inner),
+        },
+        Some((name, inner)) => Choice::Over {
+            command: command_of(name, inner),
+            file: operand_of(inner, "file"),
         },
         None => unreachable!(),
     }

@@ -2,20 +2,29 @@
 ghost use Rattle.std.specs.Prelude.{◌≡◌, IfOk, codes, false};
 ghost use Rattle.clap.specs.Words.{app_of, rule_of, with_subcommand};
 ghost use Rattle.clap.specs.declared.builder.command.Command.TheViews.{out-Command};
-ghost use Rattle.bsonwire.specs.CommandLine.{command_line, file_app, hex_rule, operand_rule, top_app};
+ghost use Rattle.bsonwire.specs.CommandLine.{calls_rule, command_line, file_app, file_line, hex_rule, loop_app, operand_rule, play_app, top_app};
 
-use clap::{Arg, ArgAction, Command};
+use clap::{Arg, ArgAction, Command, value_parser};
 use std::alloc::{AllocError, Global};
 
-/// Makes the operand FILE.
-fn file_operand<'a>(alloc: Global) -> Arg<'a>
-    ensures rule { rule_of result ≡ operand_rule (codes "file") }
+/// Makes an operand that has to be there, which help shows as `shown`.
+fn operand<'a>(alloc: Global, id: &'a str, shown: &'a str, help: &'a str) -> Arg<'a>
+    ensures rule { rule_of result ≡ operand_rule id.entry.now }
     ensures local { result.global ≡ false }
 {
-    Arg::new(alloc, "file")
-        .value_name("FILE")
-        .help("The file to read, or - for standard input")
+    Arg::new(alloc, id)
+        .value_name(shown)
+        .help(help)
         .required(true)
+}
+
+/// Makes the operand N, a number from 1 to 100.
+fn calls_operand<'a>(alloc: Global) -> Arg<'a>
+    ensures rule { rule_of result ≡ calls_rule }
+    ensures local { result.global ≡ false }
+{
+    let number = value_parser!(u8).range(1..=100);
+    operand(alloc, "calls", "N", "How many calls to make, 1 to 100").value_parser(number)
 }
 
 /// Makes the flag `--hex`.
@@ -36,8 +45,38 @@ fn file_command<'a>(alloc: Global, name: &'a str, about: &'a str) -> Result<Comm
 {
     Command::new(alloc, name)
         .about(about)
-        .arg(file_operand(alloc))?
+        .arg(operand(
+            alloc,
+            "file",
+            "FILE",
+            "The file to read, or - for standard input",
+        ))?
         .arg(hex_flag(alloc))
+}
+
+/// Makes the subcommand that runs a script. Errs if memory runs out.
+fn play_command<'a>(alloc: Global) -> Result<Command<'a>, AllocError>
+    ensures app { IfOk result (λ c. app_of c ≡ play_app) }
+    ensures local { IfOk result (λ c. (out-Command c).has_globals ≡ false) }
+{
+    Command::new(alloc, "play")
+        .about("Runs a script of calls, cuts and restarts, and writes what happened")
+        .arg(operand(
+            alloc,
+            "file",
+            "SCRIPT",
+            "The script to run, or - for standard input",
+        ))
+}
+
+/// Makes the subcommand that makes calls over a connection of its own. Errs if memory runs out.
+fn loop_command<'a>(alloc: Global) -> Result<Command<'a>, AllocError>
+    ensures app { IfOk result (λ c. app_of c ≡ loop_app) }
+    ensures local { IfOk result (λ c. (out-Command c).has_globals ≡ false) }
+{
+    Command::new(alloc, "loop")
+        .about("Makes calls to itself over TCP, at 127.0.0.1")
+        .arg(calls_operand(alloc))
 }
 
 /// Makes the command line with no subcommand yet.
@@ -67,9 +106,9 @@ fn with_file_command<'a>(
     line.subcommand(sub)
 }
 
-/// Makes the whole command line. Errs if memory runs out.
-pub fn program<'a>(alloc: Global) -> Result<Command<'a>, AllocError>
-    ensures app { IfOk result (λ c. app_of c ≡ command_line) }
+/// Makes the command line with the subcommands that read FILE. Errs if memory runs out.
+fn file_commands<'a>(alloc: Global) -> Result<Command<'a>, AllocError>
+    ensures app { IfOk result (λ c. app_of c ≡ file_line) }
     ensures local { IfOk result (λ c. (out-Command c).has_globals ≡ false) }
 {
     let line = with_file_command(
@@ -91,4 +130,16 @@ pub fn program<'a>(alloc: Global) -> Result<Command<'a>, AllocError>
         "Writes the canonical form of each document",
     )?;
     with_file_command(line, alloc, "msg", "Writes the text of each message")
+}
+
+/// Makes the whole command line. Errs if memory runs out.
+pub fn program<'a>(alloc: Global) -> Result<Command<'a>, AllocError>
+    ensures app { IfOk result (λ c. app_of c ≡ command_line) }
+    ensures local { IfOk result (λ c. (out-Command c).has_globals ≡ false) }
+{
+    let line = file_commands(alloc)?;
+    let play = play_command(alloc)?;
+    let line = line.subcommand(play)?;
+    let calls = loop_command(alloc)?;
+    line.subcommand(calls)
 }

@@ -1,19 +1,20 @@
 //! Runs what the command line asks for, and returns the exit status.
-ghost use Rattle.std.specs.Prelude.{◌≡◌, ◌⊎◌, IfSome, false, true};
+ghost use Rattle.std.specs.Prelude.{◌≡◌, ◌≢◌, ◌⊎◌, [], List, ℕ, IfSome, false, true};
 ghost use Rattle.std.specs.Io.KnownBytes.{IsAtEnd, Keeps};
 ghost use Rattle.std.specs.List.{list_any};
 ghost use Rattle.std.specs.Str.{chars};
 ghost use Rattle.core.specs.Char.{is_control};
 ghost use Rattle.std.specs.IoError.{error_kind, raw_os_error};
-ghost use Rattle.bsonwire.specs.Choices.{ChosenText, wants_memory};
+ghost use Rattle.bsonwire.specs.Choices.{CommandText, wants_memory};
 ghost use Rattle.bsonwire.specs.ExitStatus.{exit_status, tells_done, tells_fault};
-ghost use Rattle.engines.specs.{AppendsText, end_of_error, is_done, is_fault};
+ghost use Rattle.engines.specs.{AppendsText, AppendsUpTo, end_of_error, is_done, is_fault, loop_text};
 
 use crate::choice::{Choice, Command};
-use engines::{RunEnd, end_of, run_canon, run_check, run_dump, run_msg};
+use engines::{RunEnd, end_of, run_canon, run_check, run_dump, run_loop, run_msg, run_play};
 use std::alloc::Global;
 use std::fs::OpenFile;
 use std::io::{ErrorKind, Read, Write};
+use std::net::Net;
 use std::rt::Files;
 use std::{fmt, fs, io};
 
@@ -78,17 +79,39 @@ impl fmt::Display for InputName<'_> {
     }
 }
 
-/// Runs the choice over its file or standard input, says on standard error why it could not go on, and
-/// returns the exit status.
-pub fn run<R: Files + Input + Print + Eprint + AllocGlobal>(rt: &R, choice: Choice<'_>) -> u8 {
-    let file = choice.source.file;
+/// Does what the command line asks for, says on standard error why it could not go on, and returns the
+/// exit status.
+pub fn run<R: Files + Input + Print + Eprint + Net + AllocGlobal>(
+    rt: &R,
+    choice: Choice<'_>,
+) -> u8 {
+    match choice {
+        Choice::Over { command, file } => run_file(rt, command, file),
+        Choice::Loop { calls } => loop_status(rt, calls, &mut io::writer(rt)),
+    }
+}
+
+/// Runs a command over a file or standard input, and returns the exit status.
+fn run_file<R: Files + Input + Print + Eprint + AllocGlobal>(
+    rt: &R,
+    command: Command,
+    file: &str,
+) -> u8 {
     let alloc = rt.alloc();
+    let input = InputName::of(file);
     if file == "-" {
-        return status_over(rt, alloc, choice, &mut rt.reader(), &mut io::writer(rt));
+        return status_over(
+            rt,
+            alloc,
+            command,
+            input,
+            &mut rt.reader(),
+            &mut io::writer(rt),
+        );
     }
     match open(rt, file) {
-        Ok(mut opened) => status_over(rt, alloc, choice, &mut opened, &mut io::writer(rt)),
-        Err(error) => tell_unopened(rt, error, InputName::of(file)),
+        Ok(mut opened) => status_over(rt, alloc, command, input, &mut opened, &mut io::writer(rt)),
+        Err(error) => tell_unopened(rt, error, input),
     }
 }
 
@@ -101,52 +124,76 @@ fn open<R: Files>(rt: &R, file: &str) -> io::Result<R::File> {
     Ok(opened)
 }
 
-/// Runs the choice over its input, and returns the exit status. If the run stopped short, standard error
+/// Runs a command over its input, and returns the exit status. If the run stopped short, standard error
 /// says why.
 fn status_over<E: Eprint, R: Read, W: Write>(
     rt: &E,
     alloc: Global,
-    choice: Choice<'_>,
+    command: Command,
+    input: InputName<'_>,
     reader: &mut R,
     writer: &mut W,
 ) -> u8
     ensures ends { (end : RunEnd) × (result ≡ exit_status end) }
     ensures read { tells_done result ≡ true → IsAtEnd (R.remaining reader.new) }
     ensures written { IfSome (R.remaining reader.old) (λ input. tells_done result ≡ true →
-        AppendsText (ChosenText choice.entry input) (tells_fault result)
+        AppendsText (CommandText command input) (tells_fault result)
         (W.contents writer.old) (W.contents writer.new)) }
     ensures late { (IsAtEnd (R.remaining reader.new)) ⊎
         Keeps (W.contents writer.old) (W.contents writer.new) }
-    ensures memory { result ≡ 4 → wants_memory choice.entry.command ≡ false →
+    ensures memory { result ≡ 4 → wants_memory command ≡ false →
         Keeps (W.contents writer.old) (W.contents writer.new) }
 {
-    let end = run_over(alloc, choice, reader, writer);
-    tell(rt, end, InputName::of(choice.source.file))
+    let end = run_over(alloc, command, reader, writer);
+    tell(rt, end, input)
 }
 
-/// Runs the choice over its input. Returns how the run ended.
+/// Runs a command over its input. Returns how the run ended.
 fn run_over<R: Read, W: Write>(
     alloc: Global,
-    choice: Choice<'_>,
+    command: Command,
     reader: &mut R,
     writer: &mut W,
 ) -> RunEnd
     ensures read { is_done result ≡ true → IsAtEnd (R.remaining reader.new) }
     ensures written { IfSome (R.remaining reader.old) (λ input. is_done result ≡ true →
-        AppendsText (ChosenText choice.entry input) (is_fault result)
+        AppendsText (CommandText command input) (is_fault result)
         (W.contents writer.old) (W.contents writer.new)) }
     ensures late { (IsAtEnd (R.remaining reader.new)) ⊎
         Keeps (W.contents writer.old) (W.contents writer.new) }
-    ensures memory { result ≡ RunEnd.Memory → wants_memory choice.entry.command ≡ false →
+    ensures memory { result ≡ RunEnd.Memory → wants_memory command ≡ false →
         Keeps (W.contents writer.old) (W.contents writer.new) }
 {
-    let hex = choice.source.hex;
-    match choice.command {
-        Command::Dump => run_dump(alloc, hex, reader, writer),
-        Command::Check => run_check(alloc, hex, reader, writer),
-        Command::Canon => run_canon(alloc, hex, reader, writer),
-        Command::Msg => run_msg(alloc, hex, reader, writer),
+    match command {
+        Command::Dump { hex } => run_dump(alloc, hex, reader, writer),
+        Command::Check { hex } => run_check(alloc, hex, reader, writer),
+        Command::Canon { hex } => run_canon(alloc, hex, reader, writer),
+        Command::Msg { hex } => run_msg(alloc, hex, reader, writer),
+        Command::Play => run_play(alloc, reader, writer),
     }
+}
+
+/// Makes so many calls over a connection of the program with itself, and returns the exit status. If they
+/// were cut short, standard error says why.
+fn loop_status<R: Net + Eprint + AllocGlobal, W: Write>(rt: &R, calls: u8, writer: &mut W) -> u8
+    ensures ends { (end : RunEnd) × (end ≢ RunEnd.Fault) × (result ≡ exit_status end) }
+    ensures written { (left : List ℕ) × AppendsUpTo left (loop_text calls)
+        (W.contents writer.old) (W.contents writer.new) × (result ≡ 0 → left ≡ []) }
+{
+    let end = run_loop(rt, calls, writer);
+    tell_loop(rt, end)
+}
+
+/// Says on standard error why the calls were cut short, if they were. Returns the exit status.
+fn tell_loop(rt: &impl Eprint, end: RunEnd) -> u8
+    ensures { result ≡ exit_status end }
+{
+    let _ = match end {
+        RunEnd::InOut => { eprintln!(rt; "bsonwire: the connection or standard output failed") }
+        RunEnd::Memory => eprintln!(rt; "bsonwire: out of memory"),
+        RunEnd::Good | RunEnd::Fault => Ok(()),
+    };
+    status_of(end)
 }
 
 /// Says on standard error why a run stopped short, if it did. Returns its exit status.

@@ -1,13 +1,13 @@
 //! What no contract says: which words are read as what, and the kind and status of each fault in them.
 
-use crate::choice::{Choice, Command, Source, choose};
+use crate::choice::{Choice, Command, choose};
 use crate::commands::run;
 use clap::error::ErrorKind;
 use std::test::Fail;
 
-fn choice_of<'a>(command: Command, file: &'a str, hex: bool) -> Choice<'a> {
-    let source = Source { file, hex };
-    Choice { command, source }
+fn dump<'a>(file: &'a str, hex: bool) -> Choice<'a> {
+    let command = Command::Dump { hex };
+    Choice::Over { command, file }
 }
 
 #[test]
@@ -24,19 +24,60 @@ fn chooses(rt: HostRuntime) -> Result<(), Fail> {
     ];
     for (words, file, hex) in rows {
         let choice = choose(rt.alloc(), words)?;
-        let want = choice_of(Command::Dump, file, hex);
-        assert!(rt; choice == want, "at {words:?}");
+        assert!(rt; choice == dump(file, hex), "at {words:?}");
     }
     let rows = [
-        (["bsonwire", "check", "a", "--hex"], Command::Check),
-        (["bsonwire", "canon", "--hex", "a"], Command::Canon),
-        (["bsonwire", "msg", "--hex", "a"], Command::Msg),
+        (
+            ["bsonwire", "check", "a", "--hex"].as_slice(),
+            Command::Check { hex: true },
+        ),
+        (
+            &["bsonwire", "canon", "--hex", "a"],
+            Command::Canon { hex: true },
+        ),
+        (&["bsonwire", "msg", "a"], Command::Msg { hex: false }),
+        (&["bsonwire", "play", "a"], Command::Play),
+        (&["bsonwire", "play", "--", "a"], Command::Play),
     ];
     for (words, command) in rows {
-        let choice = choose(rt.alloc(), &words)?;
-        assert!(rt; choice == choice_of(command, "a", true), "at {words:?}");
+        let choice = choose(rt.alloc(), words)?;
+        let want = Choice::Over { command, file: "a" };
+        assert!(rt; choice == want, "at {words:?}");
     }
     Ok(())
+}
+
+/// Decimal digits, which zeros or a plus may stand before.
+#[test]
+fn reads_the_number_of_calls(rt: HostRuntime) -> Result<(), Fail> {
+    let rows = [("1", 1), ("9", 9), ("100", 100), ("007", 7), ("+5", 5)];
+    for (text, calls) in rows {
+        let words = ["bsonwire", "loop", text];
+        let choice = choose(rt.alloc(), &words)?;
+        assert!(rt; choice == Choice::Loop { calls }, "at {text:?}");
+    }
+    Ok(())
+}
+
+#[test]
+fn refuses_other_numbers_of_calls(rt: HostRuntime) {
+    for text in [
+        "0",
+        "101",
+        "256",
+        "18446744073709551617",
+        "x",
+        "",
+        "1x",
+        "+",
+        "1.0",
+    ] {
+        let words = ["bsonwire", "loop", text];
+        match choose(rt.alloc(), &words) {
+            Ok(choice) => assert!(rt; false, "{choice:?} at {text:?}"),
+            Err(error) => assert_eq!(rt; error.kind(), ErrorKind::ValueValidation, "at {text:?}"),
+        }
+    }
 }
 
 #[test]
@@ -94,6 +135,21 @@ fn refuses(rt: HostRuntime) {
             2,
             ErrorKind::UnknownArgument,
         ),
+        (&["bsonwire", "play"], 2, ErrorKind::MissingRequiredArgument),
+        (
+            &["bsonwire", "play", "--hex", "a"],
+            2,
+            ErrorKind::UnknownArgument,
+        ),
+        (&["bsonwire", "loop"], 2, ErrorKind::MissingRequiredArgument),
+        (&["bsonwire", "loop", "101"], 2, ErrorKind::ValueValidation),
+        (&["bsonwire", "loop", "-1"], 2, ErrorKind::UnknownArgument),
+        (
+            &["bsonwire", "loop", "1", "2"],
+            2,
+            ErrorKind::UnknownArgument,
+        ),
+        (&["bsonwire", "loop", "--help"], 0, ErrorKind::DisplayHelp),
         (&["bsonwire", "--version"], 0, ErrorKind::DisplayVersion),
     ];
     for (words, status, kind) in rows {
@@ -110,8 +166,7 @@ fn refuses(rt: HostRuntime) {
 #[test]
 fn ends_with_3_where_nothing_can_be_read(rt: HostRuntime) {
     for file in ["/nothing/here", "/", ""] {
-        let choice = choice_of(Command::Dump, file, false);
-        assert_eq!(rt; run(&rt, choice), 3, "at {file:?}");
+        assert_eq!(rt; run(&rt, dump(file, false)), 3, "at {file:?}");
     }
 }
 
@@ -121,7 +176,7 @@ fn wants_memory(rt: HostRuntime) {
     let words = ["bsonwire", "dump", "a", "--hex"];
     match choose(rt.alloc(), &words) {
         Ok(choice) => {
-            assert!(rt; choice == choice_of(Command::Dump, "a", true));
+            assert!(rt; choice == dump("a", true));
         }
         Err(error) => assert_eq!(rt; error.kind(), ErrorKind::OutOfMemory),
     }

@@ -3,3 +3,5 @@ pub mod TextLaws
 pub mod MessageReadings
 pub mod MessageTexts
 pub mod MessageLaws
+pub mod EndLemmas
+pub mod LoopLemmas

@@ -1,9 +1,9 @@
-//! The commands of the program `bsonwire`, each a function over a reader and a writer.
+//! The commands of the program `bsonwire`, each a function over a writer, and all but `loop` over a reader.
 //!
 //! `run_dump`, `run_check`, `run_canon`, `run_msg` and `run_play` read all that the reader has, write one text for it, and tell how
 //! that ended. Documents or messages stand back to back in the input, as bytes or as hexadecimal text; the input of `run_play`
 //! is a script of events. A fault in the input is told by the last line of the text. Nothing is written before the input was
-//! read to its end.
+//! read to its end. `run_loop` reads nothing: it makes calls over a connection of the program with itself.
 #![tactic(auto)]
 
 mod buffered;
@@ -11,10 +11,12 @@ mod canon;
 mod check;
 mod documents;
 mod dump;
+mod ends;
 mod fault_line;
 mod hex_input;
 mod input_fault;
 pub mod laws;
+mod loopback;
 mod messages;
 mod msg;
 mod msg_text;
@@ -25,6 +27,7 @@ pub use canon::{run_canon, run_canon_within};
 pub use check::run_check;
 pub use dump::run_dump;
 pub use fault_line::write_fault;
+pub use loopback::run_loop;
 pub use msg::run_msg;
 pub use play::run_play;
 pub use run::{Engine, RunEnd, end_of};

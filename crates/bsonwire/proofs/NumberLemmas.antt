@@ -1,0 +1,45 @@
+-- A text that a range of numbers accepts is a number in that range.
+use Rattle.std.proofs.Common.{◌≡◌, ◌==◌, ℕ, refl, sym, subst, Bool, true, false, cond, [], ◌∷◌, Some, None, true≢false, arith}
+use Rattle.std.specs.Prelude.{pos, unwrap_or}
+use Rattle.std.specs.Str.Parse.{IsNumeral, digits_value, starts_with_minus, without_leading_plus}
+use Rattle.std.proofs.lemmas.Int.{ints}
+use Rattle.clap.specs.Lexer.{without_minus}
+use Rattle.clap.specs.Words.{Text}
+use Rattle.clap.specs.Values.{IsSignedIn}
+use Rattle.clap.specs.ValueTests.{accepts}
+use Rattle.clap.specs.declared.builder.value_parser.ValueParser.TheVariants.{Signed}
+use Rattle.clap.proofs.ValueTestLemmas.{accepts-Accepts}
+use Rattle.bsonwire.specs.Choices.{IsCount}
+
+unsigned_text : (t : Text) → starts_with_minus t ≡ false → without_minus t ≡ t
+unsigned_text [] e = refl
+unsigned_text (x ∷ xs) e = go (x == 45) e
+  where
+    go : (b : Bool) → b ≡ false → unwrap_or (cond b (Some xs) None) (x ∷ xs) ≡ x ∷ xs
+    go true e = absurd (true≢false e)
+    go false e = refl
+
+unsigned_count : (t : Text) → starts_with_minus t ≡ false → IsSignedIn (pos 1) (pos 100) t → IsCount (digits_value 10 (without_leading_plus t)) (Some t)
+unsigned_count t plain is =
+    let numeral : IsNumeral 10 (without_leading_plus t) = rw plain at is.0 in
+    let low = rw plain at is.2 in
+    let high = rw plain at is.3 in
+    (t, refl, (numeral, refl), omega (arith, ints), omega (arith, ints))
+
+no_minus : (t : Text) → starts_with_minus t ≡ true → IsSignedIn (pos 1) (pos 100) t → ⊥
+no_minus t minus is =
+    let low = rw minus at is.2 in
+    omega (arith, ints)
+
+pub count_text : (v : Text) → accepts false (Signed (pos 1) (pos 100)) v ≡ true → (n : ℕ) × IsCount n (Some (without_minus v))
+count_text v accepted = go (starts_with_minus v) refl
+  where
+    is : IsSignedIn (pos 1) (pos 100) v
+    is = accepts-Accepts false (Signed (pos 1) (pos 100)) v accepted
+
+    go : (b : Bool) → starts_with_minus v ≡ b → (n : ℕ) × IsCount n (Some (without_minus v))
+    go true minus = absurd (no_minus v minus is)
+    go false plain = (
+      digits_value 10 (without_leading_plus v),
+      subst (λ (t : Text). IsCount (digits_value 10 (without_leading_plus v)) (Some t)) (sym (unsigned_text v plain)) (unsigned_count v plain is),
+    )

@@ -1,0 +1,35 @@
+use Rattle.std.proofs.Common.{◌++◌, ◌+◌}
+use Rattle.std.proofs.lemmas.Result.{err_from_is_err_and}
+use Rattle.engines.specs.Loopback.{loop_text}
+use Rattle.engines.proofs.LoopLemmas.{call_written, last_written, left_from}
+use Rattle.engines.proofs.loopback.make_calls.Goals as goal
+
+pub returns-in_err-write_call-clause-written : goal.returns-in_err-write_call-clause-written
+returns-in_err-write_call-clause-written g c =
+    let k = c.loop-k.k in
+    let calls = c.args.calls in
+    let number = c.in_ok-call.ensures.number in
+    let line = c.write_call.ensures.written k number.0 number.1 in
+    let told = err_from_is_err_and c.from_residual-in_err-write_call.result c.from_residual-in_err-write_call.ensures.1 in (
+      line.0 ++ left_from (k + 1) calls,
+      call_written k calls line.0 (loop_text calls) _ _ _ c.loop-k-test.true c.loop-k.invariant.written line.1,
+      rw told.1 tt,
+    )
+
+pub loop-k-preserved : goal.loop-k-preserved
+loop-k-preserved g c =
+    let k = c.loop-k.k in
+    let calls = c.args.calls in
+    let number = c.in_ok-call.ensures.number in
+    let line = c.write_call.ensures.written k number.0 number.1 in
+    let whole = rw c.in_ok-write_call.was at line.2 in
+    record {
+      idle = c.in_ok-call.ensures.complete;
+      written = rw whole at (call_written k calls line.0 (loop_text calls) _ _ _ c.loop-k-test.true c.loop-k.invariant.written line.1);
+    }
+
+pub returns-clause-written : goal.returns-clause-written
+returns-clause-written g c =
+    let calls = c.args.calls in
+    let line = c.write_last.ensures.written in
+    (line.0, last_written c.loop-k.k calls line.0 (loop_text calls) _ _ _ c.loop-k-test.false c.loop-k.invariant.written line.1, line.2)

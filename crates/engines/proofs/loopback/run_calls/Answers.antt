@@ -1,0 +1,9 @@
+use Rattle.engines.specs.Loopback.{loop_text}
+use Rattle.engines.proofs.LoopLemmas.{none_yet}
+use Rattle.engines.proofs.loopback.run_calls.Goals as goal
+
+pub returns-in-Err-clause-written : goal.returns-in-Err-clause-written
+returns-in-Err-clause-written g c = (loop_text c.args.calls, none_yet (loop_text c.args.calls) _, tt)
+
+pub returns-in_default-clause-written : goal.returns-in_default-clause-written
+returns-in_default-clause-written g c = (loop_text c.args.calls, none_yet (loop_text c.args.calls) _, tt)

@@ -1,0 +1,169 @@
+//! The two ends of a connection, a client and a server, each with its link.
+
+ghost use Rattle.std.specs.Prelude.{◌≡◌, ◌+◌, ◌<◌, ◌^◌, ℕ, IfErr, IfOk, Ok, OnOk, false, pos};
+ghost use Rattle.engines.specs.Ends.{Awaits, IsFed, IsIdle};
+ghost use Rattle.engines.specs.Run.{is_done};
+ghost use Rattle.wire_peer.specs.{MayTake};
+
+use crate::run::RunEnd;
+use std::alloc::{AllocError, Global};
+use wire_msg::Payload;
+use wire_peer::{
+    AnswerRefusal, CallNo, CallRefusal, Client, ClientState, Echo, Logged, Server, ServerCause,
+    ServerState,
+};
+use wire_stream::{Inlet, Link, Pulled, flush};
+
+/// How often an end receives at most while it waits for a message. It takes one byte at least each time, and no message has
+/// more.
+const RECEIVES: u32 = 48_000_000;
+
+/// A client or a server, the link to the other end, and the piece of bytes that came over it last.
+#[derive(Drop)]
+pub struct End<P, L> {
+    peer: P,
+    link: L,
+    inlet: Inlet,
+}
+
+impl<P: Drop, L: Link + Drop> End<P, L> {
+    /// Returns the end of `peer` at `link`. Errs if memory runs out.
+    pub fn new(alloc: Global, peer: P, link: L) -> Result<End<P, L>, AllocError>
+        ensures { IfOk result (λ end. end.peer ≡ peer) }
+    {
+        let inlet = Inlet::new(alloc)?;
+        Ok(End { peer, link, inlet })
+    }
+
+    /// Receives a piece, where none is held. Errs if the link failed or ended.
+    fn pull(&mut self) -> Result<(), RunEnd>
+        ensures peer { self.new.peer ≡ self.old.peer }
+        ensures stopped { IfErr result (λ end. is_done end ≡ false) }
+    {
+        match self.inlet.pull(&mut self.link) {
+            Ok(Pulled::Bytes) => Ok(()),
+            Ok(Pulled::End) | Err(_) => Err(RunEnd::InOut),
+        }
+    }
+}
+
+impl<L: Link + Drop> End<Client, L> {
+    /// Makes a call and sends its request. Errs if the link failed or memory ran out.
+    pub fn call(&mut self, payload: Payload<'_>) -> Result<CallNo, RunEnd>
+        ensures called { (k : ℕ) → k < 2 ^ 8 → IsIdle k self.old.peer
+            → IfOk result (λ call. (call.number ≡ k) × (call.id ≡ pos (k + 1)) × Awaits k self.new.peer) }
+        ensures stopped { IfErr result (λ end. is_done end ≡ false) }
+    {
+        match self.peer.call(payload) {
+            Ok(call) => {
+                self.send()?;
+                Ok(call)
+            }
+            Err(CallRefusal::OutOfMemory) => Err(RunEnd::Memory),
+            Err(_) => Err(RunEnd::InOut),
+        }
+    }
+
+    /// Sends all requests that wait. Errs if the link failed.
+    ///
+    /// The contract of `wire_stream::flush` doesn't say that the calls stay as they are.
+    fn send(&mut self) -> Result<(), RunEnd>
+        ensures calls { (k : ℕ) → Awaits k self.old.peer → Awaits k self.new.peer }
+        ensures stopped { IfErr result (λ end. is_done end ≡ false) }
+    {
+        while !self.peer.output().is_empty() {
+            match self.link.send(self.peer.output()) {
+                Ok(n) => self.peer.sent(n),
+                Err(_) => return Err(RunEnd::InOut),
+            }
+        }
+        Ok(())
+    }
+
+    /// Receives until the reply is ready, and lets go of it. Errs if the link failed or ended, if what came closed the
+    /// client, or if memory ran out.
+    pub fn receive_reply(&mut self) -> Result<(), RunEnd>
+        requires { MayTake self.old.peer }
+        ensures complete { (k : ℕ) → Awaits k self.old.peer → OnOk result (IsIdle (k + 1) self.new.peer) }
+        ensures stopped { IfErr result (λ end. is_done end ≡ false) }
+    {
+        for _ in 0..RECEIVES {
+            self.pull()?;
+            if self.feed()? {
+                self.peer.release();
+                return Ok(());
+            }
+        }
+        Err(RunEnd::InOut)
+    }
+
+    /// Feeds the client what came. Returns true if a reply is ready. Errs if what came closed the client, or memory ran
+    /// out.
+    fn feed(&mut self) -> Result<bool, RunEnd>
+        requires { MayTake self.old.peer }
+        ensures takes { result ≡ Ok false → MayTake self.new.peer }
+        ensures fed { (k : ℕ) → Awaits k self.old.peer → IfOk result (λ ready. IsFed k ready self.new.peer) }
+        ensures stopped { IfErr result (λ end. is_done end ≡ false) }
+    {
+        match self.peer.feed(self.inlet.bytes()) {
+            Ok(taken) => self.inlet.used(taken),
+            Err(_) => return Err(RunEnd::Memory),
+        }
+        if self.peer.reply().is_some() {
+            return Ok(true);
+        }
+        match self.peer.state() {
+            ClientState::Open => Ok(false),
+            ClientState::Closed(_) => Err(RunEnd::InOut),
+        }
+    }
+}
+
+impl<L: Link + Drop> End<Server, L> {
+    /// Receives until a request waits. Errs if the link failed or ended, if what came closed the server, or if memory ran
+    /// out.
+    pub fn receive_request(&mut self) -> Result<(), RunEnd>
+        ensures { IfErr result (λ end. is_done end ≡ false) }
+    {
+        for _ in 0..RECEIVES {
+            if self.peer.waiting() > 0 {
+                return Ok(());
+            }
+            self.pull()?;
+            self.feed()?;
+        }
+        Err(RunEnd::InOut)
+    }
+
+    /// Feeds the server what came. Errs if it closed the server, or memory ran out.
+    fn feed(&mut self) -> Result<(), RunEnd>
+        ensures { IfErr result (λ end. is_done end ≡ false) }
+    {
+        match self.peer.feed(self.inlet.bytes()) {
+            Ok(taken) => self.inlet.used(taken),
+            Err(_) => return Err(RunEnd::Memory),
+        }
+        match self.peer.state() {
+            ServerState::Open => Ok(()),
+            ServerState::Closed(_) => Err(RunEnd::InOut),
+        }
+    }
+
+    /// Answers the request that waits, and sends the reply. Errs if the link failed, if the server closed, or if memory ran
+    /// out.
+    pub fn answer(&mut self, logged: &mut Logged<Echo>) -> Result<(), RunEnd>
+        ensures { IfErr result (λ end. is_done end ≡ false) }
+    {
+        match self.peer.answer(0, logged) {
+            Ok(_) => {}
+            Err(AnswerRefusal::OutOfMemory | AnswerRefusal::NowClosed(ServerCause::NoMemory)) => {
+                return Err(RunEnd::Memory);
+            }
+            Err(_) => return Err(RunEnd::InOut),
+        }
+        match flush(&mut self.link, &mut self.peer) {
+            Ok(()) => Ok(()),
+            Err(_) => Err(RunEnd::InOut),
+        }
+    }
+}
