@@ -67,6 +67,7 @@ def value_end(b, kind, at, depth):
     else:
         want(kind == 0x0F)
         end = at + number(b, at)
+        want(end > at)
         pairs(b[string_end(b[:end], at + 4):end], depth + 1)
     want(end <= len(b))
     return end
@@ -138,14 +139,15 @@ def sections(b):
         if b[0] == 0:
             bodies.append(b[1:end])
         else:
-            name = cstring_end(b[:end], 5)
-            documents = []
-            while name < end:
-                size = number(b[:end], name)
-                want(5 <= size <= end - name)
-                documents.append(b[name:name + size])
-                name += size
-            sequences.append((b[5:cstring_end(b, 5) - 1], tuple(documents)))
+            stop, documents = b.find(0, 5, end), []
+            want(stop >= 0)
+            at = stop + 1
+            while at < end:
+                size = number(b[:end], at)
+                want(5 <= size <= end - at)
+                documents.append(b[at:at + size])
+                at += size
+            sequences.append((b[5:stop], tuple(documents)))
         b = b[end:]
     want(len(bodies) == 1)
     return Content(bodies[0], tuple(sequences))

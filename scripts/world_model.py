@@ -5,7 +5,7 @@ It is written from crates/wire_model/specs, and not from the code.
 
 from dataclasses import dataclass, field
 
-from world_ends import (KINDS, MAX_U64, OPEN, Asked, Client, Message, Pool, Server, chain, completes_header, message_len, reach,
+from world_ends import (KINDS, MAX_U64, OPEN, Asked, Client, Pool, Server, chain, completes_header, message_len, reach,
                         spelled, split, standing)
 
 WANTS_CLIENT = ("return", "plain", "exhaust", "unacknowledged", "up", "down", "cutdown")
