@@ -48,11 +48,11 @@ class Documents:
             few = self.chance.random() < 0.5
             return bytes(self.chance.choice([0, 1, 3, 255]) if few else self.chance.randrange(256) for _ in range(SIZES[kind]))
         if kind == 0x05:
-            data, subtype = self.chance.randbytes(self.chance.randrange(6)), self.chance.choice([0, 0, 2, 2, 4, 128])
+            data, subtype = self.chance.randbytes(self.chance.randrange(6)), self.chance.choice([0, 2, 2] if self.faulty else [0, 0, 2, 2, 4, 128])
             data = little(len(data) + self.errs()) + data if subtype == 2 else data
             return self.count(len(data)) + bytes([subtype]) + data
         if kind == 0x08:
-            return b"\2" if self.errs() else self.chance.choice([b"\0", b"\1"])
+            return self.chance.choice([b"\2", b""]) if self.errs() else self.chance.choice([b"\0", b"\1"])
         if kind == 0x0B:
             return self.cstring() + self.cstring()
         return self.string() + (self.chance.randbytes(self.chance.choice([0, 11]) if self.errs() else 12) if kind == 0x0C else b"")
@@ -82,6 +82,11 @@ class Documents:
         many = self.chance.choice([0, 1, 1, 1, 2, 3])
         names = self.chance.choices(NAMES, k=many) if self.chance.random() < 0.1 else self.chance.sample(NAMES, many)
         return self.of_elements(names, depth)
+
+    def repeating(self):
+        """Returns a document with two elements of one name."""
+        name = self.chance.choice(NAMES)
+        return self.of_elements([name, *self.chance.sample(NAMES, self.chance.randrange(2)), name], 1)
 
     def deep(self):
         """Returns a document that is nested about as deep as may be."""
@@ -155,32 +160,33 @@ class Messages(Documents):
         """Returns a message, or bytes that are none: of a whole body that is none, damaged anywhere, or with its fields changed."""
         how = self.chance.random()
         if how < 0.35:
-            return self.message(self.any())
+            return self.message(self.any() if how < 0.3 else self.repeating())
         b = self.message(self.document())
         if how < 0.5:
             return self.damaged(b)
         if how < 0.6:
             return self.changed(bytearray(b))
-        return self.of_sections() if how < 0.7 else b
+        return self.of_sections() if how < 0.8 else b
 
     def changed(self, b):
         """Returns a message with its length, its opcode or its flags otherwise."""
         word = self.chance.choice(["length", "opcode", "flags"])
         if word == "length":
-            b[0:4] = little(self.chance.choice([0, 15, 16, 19, 20, len(b) - 1, len(b) + 1, 48_000_000, 48_000_001, -1]))
+            b[0:4] = little(self.chance.choice([0, 15, 15, 16, 19, 20, len(b) - 1, len(b) + 1, 48_000_000, 48_000_001, 48_000_001, -1]))
         elif word == "opcode":
             b[12:16] = little(self.chance.choice([1, 2004, 2012, 2014, -1]))
         else:
-            b[16:20] = little(1 << self.chance.randrange(32))
+            b[16:20] = little(1 << self.chance.choice([2, 15, 16, 17, self.chance.randrange(32)]))
         return bytes(b)
 
     def of_sections(self):
         """Returns a message of sections of any kind and number, some with a size that is near to theirs."""
         sections = []
         for _ in range(self.chance.choice([0, 1, 2, 3])):
-            kind, inner = self.chance.choice([0, 0, 1, 2]), self.chance.choice([b"\0", b"a\0", b"\xff\0", b"a", b"\0" + BODIES[0], b"\0\6\0\0\0\0", b"\0\x09\0\0\0\0"])
+            kind = self.chance.choice([0, 0, 1, 1, 2])
+            inner = self.chance.choice([b"\0", b"a\0", b"\xff\0", b"a", b"\0" + BODIES[0], b"\0\6\0\0\0\0", b"\0\x09\0\0\0\0"])
             size = len(inner) + 4
-            size = self.chance.choice([size - 1, size + 1, 4, -1]) if self.chance.random() < 0.3 else size
+            size = self.chance.choice([size - 1, size + 1, 4, 4, -1]) if self.chance.random() < 0.4 else size
             sections.append(b"\0" + self.document() if kind == 0 else bytes([kind]) + little(size) + inner)
         rest = little(0) + b"".join(sections)
         return b"".join(map(little, (len(rest) + 16, 1, 0, 2013))) + rest
@@ -271,7 +277,8 @@ class Scripts:
 
     def of_one_document(self):
         """Returns a script whose one call has any bytes for a document."""
-        body = self.messages.deep() if self.chance.random() < 0.15 else self.messages.any()
+        how = self.chance.random()
+        body = self.messages.deep() if how < 0.15 else self.messages.with_a_fault() if how < 0.5 else self.messages.any()
         word, digits = self.chance.choice(["call", "exhaust", "send", "raw"]), body.hex()
         return f"world echo 1 8 8 48000000\nopen\n{word} 1 {digits}\nup 1 99\n".encode()
 

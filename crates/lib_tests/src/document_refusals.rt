@@ -1,17 +1,165 @@
-//! Tests of what stays unchanged after a refused allocation. `./try-refusals` runs them with each of their allocations
-//! refused in turn. Where what a test makes for itself is refused, the test passes, since there is nothing to see.
+//! Tests of what stays of documents after a refused allocation. `./try-refusals` runs them with each of their allocations
+//! refused in turn. No other one is refused then, so what is asked for again is granted.
 
-use bson_doc::{Bson, DocRefusal, Document, RawDocumentBuf, to_canonical};
+use bson_doc::laws::round_trip;
+use bson_doc::{
+    Array, Bson, DocRefusal, Document, RawDocumentBuf, canonical_bytes, renumbered, to_canonical,
+};
 use bson_raw::RawDocument;
 use std::alloc::Global;
 
-/// `{"a": [{"": "c"}]}`, whose canonical form has another name in the array.
+/// `{"a": [{"b": "c"}]}`, with an empty name in the array.
 const BYTES: &[u8] = b"\x1d\0\0\0\x04a\0\x15\0\0\0\x03\0\x0e\0\0\0\x02b\0\x02\0\0\0c\0\0\0\0";
 
+/// Its canonical form, in which that name is "0".
+const FORM: &[u8] = b"\x1e\0\0\0\x04a\0\x16\0\0\0\x030\0\x0e\0\0\0\x02b\0\x02\0\0\0c\0\0\0\0";
+
+/// `{"d": [{"b": "c"}]}`.
+const APPENDED: &[u8] = b"\x1e\0\0\0\x04d\0\x16\0\0\0\x030\0\x0e\0\0\0\x02b\0\x02\0\0\0c\0\0\0\0";
+
 /// Returns the document of `BYTES`.
-fn document(alloc: Global) -> Option<Document> {
+fn read(alloc: Global) -> Option<Document> {
     let raw = RawDocument::from_bytes(BYTES).ok()?;
     Document::from_raw(alloc, raw).ok()
+}
+
+/// Returns the document of `BYTES`, which is read again where memory is refused.
+fn document(alloc: Global) -> Option<Document> {
+    match read(alloc) {
+        Some(document) => Some(document),
+        None => read(alloc),
+    }
+}
+
+/// Returns true if what was tried twice came right both times, or once where memory was refused the other time.
+fn comes_right(first: Result<bool, DocRefusal>, second: Result<bool, DocRefusal>) -> bool {
+    match (first, second) {
+        (Ok(right), Ok(again)) => right && again,
+        (Ok(right), Err(refusal)) | (Err(refusal), Ok(right)) => {
+            right && refusal == DocRefusal::OutOfMemory
+        }
+        (Err(_), Err(_)) => false,
+    }
+}
+
+/// Returns whether the document is read with its one pair.
+fn reads(alloc: Global, raw: RawDocument<'_>) -> Result<bool, DocRefusal> {
+    let made = Document::from_raw(alloc, raw)?;
+    Ok(made.len() == 1)
+}
+
+/// Returns whether the canonical form is made.
+fn forms(alloc: Global, raw: RawDocument<'_>) -> Result<bool, DocRefusal> {
+    let made = to_canonical(alloc, raw)?;
+    Ok(made.as_raw().as_bytes() == FORM)
+}
+
+/// Returns whether the canonical form is written anew.
+fn forms_anew(alloc: Global, raw: RawDocument<'_>) -> Result<bool, DocRefusal> {
+    let made = renumbered(alloc, raw)?;
+    Ok(made.as_raw().as_bytes() == FORM)
+}
+
+/// Returns whether the bytes of the canonical form are made.
+fn forms_bytes(alloc: Global, raw: RawDocument<'_>) -> Result<bool, DocRefusal> {
+    let made = canonical_bytes(alloc, raw, 30)?;
+    Ok(made.as_slice() == FORM)
+}
+
+/// Returns whether the empty document is made.
+fn starts(alloc: Global) -> Result<bool, DocRefusal> {
+    let made = RawDocumentBuf::new(alloc)?;
+    Ok(made.as_raw().as_bytes() == b"\x05\0\0\0\0".as_slice())
+}
+
+#[test]
+fn a_refused_document_is_not_made(rt: HostRuntime) {
+    let alloc = rt.alloc();
+    let Ok(raw) = RawDocument::from_bytes(BYTES) else {
+        return;
+    };
+    assert!(rt; comes_right(reads(alloc, raw), reads(alloc, raw)));
+    assert!(rt; comes_right(forms(alloc, raw), forms(alloc, raw)));
+    assert!(rt; comes_right(forms_anew(alloc, raw), forms_anew(alloc, raw)));
+    assert!(rt; comes_right(forms_bytes(alloc, raw), forms_bytes(alloc, raw)));
+    assert!(rt; comes_right(starts(alloc), starts(alloc)));
+}
+
+/// Returns whether a copy of the document is equal to it.
+fn copies(document: &Document) -> Result<bool, DocRefusal> {
+    let copy = document.try_clone()?;
+    Ok(copy == *document)
+}
+
+/// Returns whether the document is written.
+fn writes(document: &Document) -> Result<bool, DocRefusal> {
+    let made = document.to_raw()?;
+    Ok(made.as_raw().as_bytes() == FORM)
+}
+
+/// Returns whether the document is written and read back.
+fn comes_back(alloc: Global, document: &Document) -> Result<bool, DocRefusal> {
+    let made = round_trip(alloc, document)?;
+    Ok(made == *document)
+}
+
+/// Returns true if the document stays as it is when it is copied, written, and read back.
+fn stays(alloc: Global, document: &Document) -> bool {
+    comes_right(copies(document), copies(document))
+        && comes_right(writes(document), writes(document))
+        && comes_right(comes_back(alloc, document), comes_back(alloc, document))
+}
+
+/// Returns true if a document is read, and stays when it is copied and when it is written.
+fn one_stays(alloc: Global) -> bool {
+    match document(alloc) {
+        Some(document) => stays(alloc, &document),
+        None => false,
+    }
+}
+
+#[test]
+fn a_document_that_is_copied_or_written_stays(rt: HostRuntime) {
+    assert!(rt; one_stays(rt.alloc()));
+}
+
+/// Returns whether a copy of the value is equal to it.
+fn value_copies(value: &Bson) -> Result<bool, DocRefusal> {
+    let copy = value.try_clone()?;
+    Ok(copy == *value)
+}
+
+/// Returns whether a copy of the array is equal to it.
+fn array_copies(array: &Array) -> Result<bool, DocRefusal> {
+    let copy = array.try_clone()?;
+    Ok(copy == *array)
+}
+
+/// Returns true if the value is an array, and it and the value stay when they are copied.
+fn value_stays(value: &Bson) -> bool {
+    match value {
+        Bson::Array(array) => {
+            comes_right(array_copies(array), array_copies(array))
+                && comes_right(value_copies(value), value_copies(value))
+        }
+        _ => false,
+    }
+}
+
+/// Returns true if a document is read, and its value stays when it is copied.
+fn a_value_stays(alloc: Global) -> bool {
+    match document(alloc) {
+        Some(document) => match document.get("a") {
+            Some(value) => value_stays(value),
+            None => false,
+        },
+        None => false,
+    }
+}
+
+#[test]
+fn a_value_that_is_copied_stays(rt: HostRuntime) {
+    assert!(rt; a_value_stays(rt.alloc()));
 }
 
 /// Returns true if this is the pair that `inserts` inserts.
@@ -19,45 +167,66 @@ fn is_inserted(name: &str, value: &Bson) -> bool {
     name == "n" && matches!(value, Bson::Int32(2))
 }
 
-/// Inserts a pair. Returns how many pairs the document then has, 0 if the pair is handed back, or none if another one is.
-fn inserts(changed: &mut Document, name: String) -> Option<usize> {
+/// Returns true if the document is that of `BYTES` and, behind its pair, the one that `inserts` inserts.
+fn has_both(changed: &Document) -> bool {
+    match (changed.len(), changed.get("n")) {
+        (2, Some(value)) => changed.contains_key("a") && matches!(value, Bson::Int32(2)),
+        _ => false,
+    }
+}
+
+/// Inserts a new name. Returns true if memory isn't refused.
+fn is_new(changed: &mut Document, name: String, value: Bson) -> bool {
+    match changed.insert(name, value) {
+        Ok(before) => before.is_none(),
+        Err(_) => false,
+    }
+}
+
+/// Returns true if a pair is inserted; or is handed back, the document is `before`, and the pair that came back is inserted
+/// then.
+fn inserts(changed: &mut Document, name: String, before: &Document) -> bool {
     match changed.insert(name, Bson::Int32(2)) {
-        Ok(_) => Some(changed.len()),
+        Ok(_) => has_both(changed),
         Err(refused) => {
-            if is_inserted(refused.value.0.as_str(), &refused.value.1) {
-                Some(0)
-            } else {
-                None
-            }
+            let (name, value) = refused.value;
+            is_inserted(name.as_str(), &value)
+                && *changed == *before
+                && is_new(changed, name, value)
+                && has_both(changed)
         }
     }
 }
 
-/// Returns true if no name is made, or a pair is inserted, or is handed back and the document is equal to `before`.
+/// Returns the name of the pair, which is copied again where memory is refused.
+fn name_again(alloc: Global) -> Option<String> {
+    match String::from_str(alloc, "n") {
+        Ok(name) => Some(name),
+        Err(_) => String::from_str(alloc, "n").ok(),
+    }
+}
+
+/// Returns true if a name is made, and `inserts` holds of it.
 fn inserts_named(alloc: Global, changed: &mut Document, before: &Document) -> bool {
-    let Ok(name) = String::from_str(alloc, "n") else {
-        return true;
-    };
-    match inserts(changed, name) {
-        Some(0) => *changed == *before,
-        Some(len) => len == 2,
+    match name_again(alloc) {
+        Some(name) => inserts(changed, name, before),
         None => false,
     }
 }
 
-/// Returns true if no second document is made, or a pair is inserted into it or handed back.
+/// Returns true if a second document is read, and `inserts` holds of it.
 fn inserts_into_another(alloc: Global, before: &Document) -> bool {
     match document(alloc) {
         Some(mut changed) => inserts_named(alloc, &mut changed, before),
-        None => true,
+        None => false,
     }
 }
 
-/// Returns true if no document is made, or a pair is inserted or handed back.
+/// Returns true if a document is read, and a pair is inserted into one like it.
 fn hands_back(alloc: Global) -> bool {
     match document(alloc) {
         Some(before) => inserts_into_another(alloc, &before),
-        None => true,
+        None => false,
     }
 }
 
@@ -66,100 +235,44 @@ fn insert_hands_the_pair_back(rt: HostRuntime) {
     assert!(rt; hands_back(rt.alloc()));
 }
 
-/// Returns true if the document is read, or refused for want of memory.
-fn is_read(alloc: Global, raw: RawDocument<'_>) -> bool {
-    match Document::from_raw(alloc, raw) {
-        Ok(made) => made.len() == 1,
-        Err(refusal) => refusal == DocRefusal::OutOfMemory,
-    }
-}
-
-/// Returns true if the canonical form is made, or refused for want of memory.
-fn has_form(alloc: Global, raw: RawDocument<'_>) -> bool {
-    match to_canonical(alloc, raw) {
-        Ok(made) => made.as_raw().as_bytes().len() == 30,
-        Err(refusal) => refusal == DocRefusal::OutOfMemory,
-    }
-}
-
-#[test]
-fn a_refused_document_is_not_made(rt: HostRuntime) {
-    let Ok(raw) = RawDocument::from_bytes(BYTES) else {
-        return;
-    };
-    assert!(rt; is_read(rt.alloc(), raw));
-    assert!(rt; has_form(rt.alloc(), raw));
-}
-
-/// Returns true if the document is written, or refused for want of memory.
-fn is_written(document: &Document) -> bool {
-    match document.to_raw() {
-        Ok(made) => made.as_raw().as_bytes().len() == 30,
-        Err(refusal) => refusal == DocRefusal::OutOfMemory,
-    }
-}
-
-/// Returns true if a copy of the document is equal to `before`, or isn't made.
-fn is_copied(alloc: Global, document: &Document, before: &Document) -> bool {
-    match document.try_clone() {
-        Ok(copy) => copy == *before,
-        Err(_) => true,
-    }
-}
-
-/// Returns true if the document is equal to `before` after it is copied and after it is written.
-fn stays_as(alloc: Global, document: &Document, before: &Document) -> bool {
-    is_copied(alloc, document, before)
-        && *document == *before
-        && is_written(document)
-        && *document == *before
-}
-
-/// Returns true if no second document is made, or it stays `before` when it is copied and when it is written.
-fn another_stays(alloc: Global, before: &Document) -> bool {
-    match document(alloc) {
-        Some(document) => stays_as(alloc, &document, before),
-        None => true,
-    }
-}
-
-/// Returns true if no document is made, or it stays when it is copied and when it is written.
-fn stays(alloc: Global) -> bool {
-    match document(alloc) {
-        Some(before) => another_stays(alloc, &before),
-        None => true,
-    }
-}
-
-#[test]
-fn a_document_that_is_copied_or_written_stays(rt: HostRuntime) {
-    assert!(rt; stays(rt.alloc()));
-}
-
-/// Returns true if the pair is appended to the empty document, or is refused and leaves its bytes.
+/// Returns true if the pair is appended to the empty document; or is refused, the bytes are as they were, and it is appended
+/// then.
 fn appends(bytes: &mut RawDocumentBuf, value: &Bson) -> bool {
     match bytes.append("d", value) {
-        Ok(()) => bytes.as_raw().as_bytes().len() == 38,
+        Ok(()) => bytes.as_raw().as_bytes() == APPENDED,
         Err(refusal) => {
             refusal == DocRefusal::OutOfMemory
                 && bytes.as_raw().as_bytes() == b"\x05\0\0\0\0".as_slice()
+                && bytes.append("d", value).is_ok()
+                && bytes.as_raw().as_bytes() == APPENDED
         }
     }
 }
 
-/// Returns true if no empty document is made, or the value is appended to it, or is refused and leaves its bytes.
-fn appends_to_empty(alloc: Global, value: &Bson) -> bool {
+/// Returns an empty document, which is made again where memory is refused.
+fn empty(alloc: Global) -> Option<RawDocumentBuf> {
     match RawDocumentBuf::new(alloc) {
-        Ok(mut bytes) => appends(&mut bytes, value),
-        Err(_) => true,
+        Ok(bytes) => Some(bytes),
+        Err(_) => RawDocumentBuf::new(alloc).ok(),
     }
 }
 
-/// Returns true if no document is made, or it is appended, or is refused and leaves the bytes.
+/// Returns true if an empty document is made, and the value is appended to it.
+fn appends_to_empty(alloc: Global, value: &Bson) -> bool {
+    match empty(alloc) {
+        Some(mut bytes) => appends(&mut bytes, value),
+        None => false,
+    }
+}
+
+/// Returns true if a document is read, and its value is appended to an empty one.
 fn leaves_the_bytes(alloc: Global) -> bool {
     match document(alloc) {
-        Some(document) => appends_to_empty(alloc, &Bson::Document(document)),
-        None => true,
+        Some(document) => match document.get("a") {
+            Some(value) => appends_to_empty(alloc, value),
+            None => false,
+        },
+        None => false,
     }
 }
 

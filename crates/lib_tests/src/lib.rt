@@ -7,6 +7,8 @@
 #![tactic(auto)]
 
 #[cfg(test)]
+mod altered;
+#[cfg(test)]
 mod appends;
 #[cfg(test)]
 mod canonical_forms;
@@ -20,16 +22,6 @@ mod dumps;
 mod each_kind;
 #[cfg(test)]
 mod elements;
-#[cfg(test)]
-mod engine_canon;
-#[cfg(test)]
-mod engine_check;
-#[cfg(test)]
-mod engine_dump;
-#[cfg(test)]
-mod engine_fault_line;
-#[cfg(test)]
-mod engine_msg;
 pub mod hex_bytes;
 #[cfg(test)]
 mod message_refusals;

@@ -1,9 +1,11 @@
 //! That a message is told the same whether memory is refused or not. `./try-refusals` runs this test
-//! with each of its allocations refused in turn.
+//! with each of its allocations refused in turn. No other one is refused then, so bytes are read when
+//! they are read again.
 
-use crate::hex_bytes::read_digits;
-use crate::messages::{INSERT, PING, both_tell};
+use crate::hex_bytes::bytes_of;
+use crate::messages::{INSERT, LIMIT, PING, both_tell};
 use std::alloc::Global;
+use wire_msg::RawMsg;
 
 /// Messages, and bytes whose names are at fault: a name of the body that stands twice, and an
 /// identifier among its names, behind the body and before it.
@@ -18,11 +20,24 @@ const ROWS: [&str; 5] = [
      01 06000000 6100 00 0c000000 10610001000000 00",
 ];
 
-/// Returns true if both calls tell the same, or if memory is refused before them.
+/// Returns true if `front` and `front_with` tell the same of `bytes`.
+fn both_find(alloc: Global, bytes: &[u8]) -> bool {
+    RawMsg::front(bytes, LIMIT) == RawMsg::front_with(alloc, bytes, LIMIT)
+}
+
+/// Returns the bytes of the digits, which are read again where memory is refused.
+fn bytes_again(alloc: Global, hex: &str) -> Option<Vec<u8>> {
+    match bytes_of(alloc, hex) {
+        Some(bytes) => Some(bytes),
+        None => bytes_of(alloc, hex),
+    }
+}
+
+/// Returns true if the calls that take memory tell the same as those that take none.
 fn is_told_alike(alloc: Global, hex: &str) -> bool {
-    match read_digits(alloc, hex) {
-        Ok(bytes) => both_tell(alloc, &bytes),
-        Err(_) => true,
+    match bytes_again(alloc, hex) {
+        Some(bytes) => both_tell(alloc, &bytes) && both_find(alloc, &bytes),
+        None => false,
     }
 }
 

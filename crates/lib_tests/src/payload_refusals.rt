@@ -1,5 +1,5 @@
-//! Tests of what stays unchanged after a refused allocation. `./try-refusals` runs them with each of their allocations
-//! refused in turn. Where what a test makes for itself is refused, the test passes, since there is nothing to see.
+//! Tests of what stays of payloads after a refused allocation. `./try-refusals` runs them with each of their allocations refused
+//! in turn. No other one is refused then, so what is asked for again is granted.
 
 use bson_raw::RawDocument;
 use std::alloc::Global;
@@ -8,40 +8,49 @@ use wire_msg::{MsgFlags, MsgRefusal, Payload, PayloadBuf, write_msg};
 /// `{"insert": "c"}`
 const BODY: &[u8] = b"\x13\0\0\0\x02insert\0\x02\0\0\0c\0\0";
 
+/// `BODY` as request 2, with the empty sequence "documents", behind two bytes.
+const WRITTEN: &[u8] = b"ab\x37\0\0\0\x02\0\0\0\0\0\0\0\xdd\x07\0\0\0\0\0\0\
+    \0\x13\0\0\0\x02insert\0\x02\0\0\0c\0\0\x01\x0e\0\0\0documents\0";
+
 /// Returns a payload of `BODY` alone.
 fn payload(alloc: Global) -> Option<PayloadBuf> {
     let body = RawDocument::from_bytes(BODY).ok()?;
     PayloadBuf::new(alloc, body).ok()
 }
 
+/// Returns a payload of `BODY` alone, which is made again where memory is refused.
+fn payload_again(alloc: Global) -> Option<PayloadBuf> {
+    match payload(alloc) {
+        Some(made) => Some(made),
+        None => payload(alloc),
+    }
+}
+
+/// Begins the sequence "documents", again where memory is refused.
+fn begin(payload: &mut PayloadBuf) -> bool {
+    payload.begin_sequence("documents").is_ok() || payload.begin_sequence("documents").is_ok()
+}
+
 /// Returns a payload of `BODY` and an empty sequence.
 fn begun(alloc: Global) -> Option<PayloadBuf> {
-    let mut payload = payload(alloc)?;
-    payload.begin_sequence("documents").ok()?;
-    Some(payload)
+    let mut payload = payload_again(alloc)?;
+    if begin(&mut payload) {
+        Some(payload)
+    } else {
+        None
+    }
 }
 
-/// Returns true if a payload of this body is made, or refused for want of memory.
+/// Returns true if the payload has a message of so many bytes.
+fn has_len(payload: &PayloadBuf, len: u64) -> bool {
+    payload.as_payload().msg_len() == len
+}
+
+/// Returns true if the payload of `BODY` is made, or refused for want of memory and made then.
 fn is_made(alloc: Global, body: RawDocument<'_>) -> bool {
     match PayloadBuf::new(alloc, body) {
-        Ok(made) => made.as_payload().msg_len() == 40,
-        Err(refusal) => refusal == MsgRefusal::OutOfMemory,
-    }
-}
-
-/// Returns true if a copy of the payload is equal to it, or isn't made.
-fn is_copied(alloc: Global, payload: &PayloadBuf) -> bool {
-    match payload.as_payload().to_buf(alloc) {
-        Ok(copy) => copy == *payload,
-        Err(_) => true,
-    }
-}
-
-/// Returns true if no payload is begun, or it stays when it is copied.
-fn stays(alloc: Global) -> bool {
-    match begun(alloc) {
-        Some(payload) => is_copied(alloc, &payload) && payload.as_payload().msg_len() == 55,
-        None => true,
+        Ok(made) => has_len(&made, 40),
+        Err(refusal) => refusal == MsgRefusal::OutOfMemory && payload(alloc).is_some(),
     }
 }
 
@@ -51,30 +60,73 @@ fn a_refused_payload_is_not_made(rt: HostRuntime) {
         return;
     };
     assert!(rt; is_made(rt.alloc(), body));
+}
+
+/// Returns whether a copy by `to_buf` is equal to the payload, or none where memory is refused.
+fn copies(alloc: Global, payload: &PayloadBuf) -> Option<bool> {
+    let copy = payload.as_payload().to_buf(alloc).ok()?;
+    Some(copy == *payload)
+}
+
+/// Returns whether a copy by `try_clone` is equal to the payload, or none where memory is refused.
+fn clones(payload: &PayloadBuf) -> Option<bool> {
+    let copy = payload.try_clone().ok()?;
+    Some(copy == *payload)
+}
+
+/// Returns true if what was tried twice came right both times, or once where memory was refused the other time.
+fn comes_right(first: Option<bool>, second: Option<bool>) -> bool {
+    match (first, second) {
+        (Some(right), Some(again)) => right && again,
+        (Some(right), None) | (None, Some(right)) => right,
+        (None, None) => false,
+    }
+}
+
+/// Returns true if a payload is copied, and stays as it is.
+fn stays(alloc: Global) -> bool {
+    match begun(alloc) {
+        Some(payload) => {
+            comes_right(copies(alloc, &payload), copies(alloc, &payload))
+                && comes_right(clones(&payload), clones(&payload))
+                && has_len(&payload, 55)
+        }
+        None => false,
+    }
+}
+
+#[test]
+fn a_payload_that_is_copied_stays(rt: HostRuntime) {
     assert!(rt; stays(rt.alloc()));
 }
 
-/// Returns true if a sequence is begun, or refused for want of memory, and the payload is then `before`.
+/// Returns true if a sequence is begun; or is refused for want of memory, the payload is `before`, and the sequence is begun
+/// then.
 fn begins(changed: &mut PayloadBuf, before: &PayloadBuf) -> bool {
     match changed.begin_sequence("documents") {
-        Ok(()) => changed.as_payload().msg_len() == 55,
-        Err(refusal) => { refusal == MsgRefusal::OutOfMemory && &*changed == before }
+        Ok(()) => has_len(changed, 55),
+        Err(refusal) => {
+            refusal == MsgRefusal::OutOfMemory
+                && &*changed == before
+                && changed.begin_sequence("documents").is_ok()
+                && has_len(changed, 55)
+        }
     }
 }
 
-/// Returns true if no second payload is made, or `begins` holds of it.
+/// Returns true if a second payload is made, and `begins` holds of it.
 fn begins_in_another(alloc: Global, before: &PayloadBuf) -> bool {
-    match payload(alloc) {
+    match payload_again(alloc) {
         Some(mut changed) => begins(&mut changed, before),
-        None => true,
+        None => false,
     }
 }
 
-/// Returns true if no payload is made, or a sequence is begun in it or refused.
+/// Returns true if a payload is made, and a sequence is begun in one like it.
 fn leaves_at_begin(alloc: Global) -> bool {
-    match payload(alloc) {
+    match payload_again(alloc) {
         Some(before) => begins_in_another(alloc, &before),
-        None => true,
+        None => false,
     }
 }
 
@@ -83,27 +135,33 @@ fn begin_sequence_leaves_the_payload(rt: HostRuntime) {
     assert!(rt; leaves_at_begin(rt.alloc()));
 }
 
-/// Returns true if the document is added, or refused for want of memory, and the payload is then `before`.
+/// Returns true if the document is added; or is refused for want of memory, the payload is `before`, and the document is added
+/// then.
 fn pushes(changed: &mut PayloadBuf, document: RawDocument<'_>, before: &PayloadBuf) -> bool {
     match changed.push_document(document) {
-        Ok(()) => changed.as_payload().msg_len() == 74,
-        Err(refusal) => { refusal == MsgRefusal::OutOfMemory && &*changed == before }
+        Ok(()) => has_len(changed, 74),
+        Err(refusal) => {
+            refusal == MsgRefusal::OutOfMemory
+                && &*changed == before
+                && changed.push_document(document).is_ok()
+                && has_len(changed, 74)
+        }
     }
 }
 
-/// Returns true if no second payload is made, or `pushes` holds of it.
+/// Returns true if a second payload is made, and `pushes` holds of it.
 fn pushes_in_another(alloc: Global, document: RawDocument<'_>, before: &PayloadBuf) -> bool {
     match begun(alloc) {
         Some(mut changed) => pushes(&mut changed, document, before),
-        None => true,
+        None => false,
     }
 }
 
-/// Returns true if no payload is made, or the document is added to it or refused.
+/// Returns true if a payload is made, and the document is added to one like it.
 fn leaves_at_push(alloc: Global, document: RawDocument<'_>) -> bool {
     match begun(alloc) {
         Some(before) => pushes_in_another(alloc, document, &before),
-        None => true,
+        None => false,
     }
 }
 
@@ -115,27 +173,41 @@ fn push_document_leaves_the_payload(rt: HostRuntime) {
     assert!(rt; leaves_at_push(rt.alloc(), document));
 }
 
-/// Returns true if the message is written behind two bytes, or refused for want of memory, and the bytes then stay.
+/// Returns true if the message is written behind two bytes; or is refused for want of memory, the bytes are still these two,
+/// and it is written then.
 fn is_written(out: &mut Vec<u8>, payload: Payload<'_>) -> bool {
     match write_msg(out, 2, 0, MsgFlags::NONE, payload, 55) {
-        Ok(()) => out.len() == 57,
-        Err(refusal) => { refusal == MsgRefusal::OutOfMemory && out.as_slice() == b"ab".as_slice() }
+        Ok(()) => out.as_slice() == WRITTEN,
+        Err(refusal) => {
+            refusal == MsgRefusal::OutOfMemory
+                && out.as_slice() == b"ab".as_slice()
+                && write_msg(out, 2, 0, MsgFlags::NONE, payload, 55).is_ok()
+                && out.as_slice() == WRITTEN
+        }
     }
 }
 
-/// Returns true if no bytes are made, or `is_written` holds behind them.
-fn is_written_behind(alloc: Global, payload: Payload<'_>) -> bool {
+/// Returns the two bytes, which are copied again where memory is refused.
+fn two_bytes(alloc: Global) -> Option<Vec<u8>> {
     match Vec::from_slice(alloc, b"ab") {
-        Ok(mut out) => is_written(&mut out, payload),
-        Err(_) => true,
+        Ok(bytes) => Some(bytes),
+        Err(_) => Vec::from_slice(alloc, b"ab").ok(),
     }
 }
 
-/// Returns true if no payload is made, or its message is written or refused.
+/// Returns true if `is_written` holds behind two bytes.
+fn is_written_behind(alloc: Global, payload: Payload<'_>) -> bool {
+    match two_bytes(alloc) {
+        Some(mut out) => is_written(&mut out, payload),
+        None => false,
+    }
+}
+
+/// Returns true if a payload is made, and its message is written.
 fn adds_nothing(alloc: Global) -> bool {
     match begun(alloc) {
         Some(payload) => is_written_behind(alloc, payload.as_payload()),
-        None => true,
+        None => false,
     }
 }
 

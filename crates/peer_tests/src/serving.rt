@@ -177,6 +177,37 @@ fn a_failed_call_ends_serving(rt: HostRuntime) {
     assert!(rt; fails(rt.alloc(), 102, 10, 3, ServeEnd::Ended, 51));
 }
 
+/// Returns true if serving the pings, in pieces of at most `most` bytes, ends so where the call after `calls` others fails, and
+/// what was sent is a beginning of the reply.
+fn sends_a_beginning(alloc: Global, most: usize, calls: u64, end: ServeEnd) -> bool {
+    let Some(link) = link_of(alloc, PINGS) else {
+        return false;
+    };
+    let mut logged = Logged::new(alloc, Echo);
+    let mut link = link.moving_at_most(most.max(1)).failing_after(calls);
+    let ended = serve(alloc, &mut link, &mut logged, 1, 48_000_000, 10);
+    ended == end && REPLY.starts_with(link.sent_bytes())
+}
+
+/// How many calls serving the pings makes, where each moves at most so many bytes.
+const CALLS: [(usize, u64); 4] = [(102, 3), (51, 4), (20, 10), (1, 154)];
+
+#[test]
+fn any_call_may_fail(rt: HostRuntime) {
+    for (most, calls) in &CALLS {
+        for before in 0..*calls {
+            assert!(rt;
+                sends_a_beginning(rt.alloc(), *most, before, ServeEnd::Link),
+                "{before} of {calls}"
+            );
+        }
+        assert!(rt;
+            sends_a_beginning(rt.alloc(), *most, *calls, ServeEnd::Ended),
+            "{calls}"
+        );
+    }
+}
+
 #[test]
 fn replies_are_sent_before_the_next_message_is_taken(rt: HostRuntime) {
     assert!(rt; fails(rt.alloc(), 51, 10, 2, ServeEnd::Link, 51));

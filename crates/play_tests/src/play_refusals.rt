@@ -1,9 +1,11 @@
-//! A test of a script where memory is refused. `./try-refusals` runs it with each of its allocations refused in turn.
+//! Tests of a script where memory is refused. `./try-refusals` runs them with each of their allocations refused in turn. No other
+//! one is refused then, so the script is played when it comes again.
 
 use engines::{RunEnd, run_play};
 use std::alloc::Global;
 use std::io;
 use std::io::Write;
+use wire_play::{PlayStop, play};
 
 /// A script.
 const SCRIPT: &[u8] = b"world echo 1 8 8 48000000\n\
@@ -74,26 +76,79 @@ impl Write for Kept {
     }
 }
 
-/// Returns true if the script has one of its texts, or its run ends for want of memory: in an event, whose refusal is the last
-/// line then, or outside one, and nothing was passed on.
-fn is_played_or_refused(alloc: Global) -> bool {
-    let mut writer = Kept {
+/// Returns a writer that has kept nothing.
+fn empty() -> Kept {
+    Kept {
         bytes: [0; 512],
         len: 0,
-    };
+    }
+}
+
+impl Kept {
+    /// Returns what was written.
+    fn text(&self) -> &[u8] {
+        match self.bytes.get(..self.len) {
+            Some(text) => text,
+            None => &[],
+        }
+    }
+}
+
+/// Returns true if the script was played; none if it was up to a server that closed for want of memory.
+fn is_played(text: &[u8]) -> Option<bool> {
+    if text == STOPPED || text == UNSENT {
+        None
+    } else {
+        Some(text == WHOLE)
+    }
+}
+
+/// Returns true if the text ends with the line that memory was refused to an event, behind those of the events before.
+fn ends_refused(text: &[u8]) -> bool {
+    match text.strip_suffix(b"refused 7 OutOfMemory\n".as_slice()) {
+        Some(lines) => WHOLE.starts_with(lines) && lines.ends_with(b"\n"),
+        None => false,
+    }
+}
+
+/// Returns true if `run_play` writes the whole text; or none for want of memory: where that is in an event, the line of its refusal
+/// is the last one then, and else nothing was passed on.
+fn runs(alloc: Global) -> Option<bool> {
+    let mut writer = empty();
     let mut script = SCRIPT;
-    let end = run_play(alloc, &mut script, &mut writer);
-    let Some(text) = writer.bytes.get(..writer.len) else {
-        return false;
-    };
-    match end {
-        RunEnd::Good => text == WHOLE || text == STOPPED || text == UNSENT,
-        RunEnd::Memory => text.is_empty() || text.ends_with(b"\nrefused 7 OutOfMemory\n"),
-        _ => false,
+    match run_play(alloc, &mut script, &mut writer) {
+        RunEnd::Good => is_played(writer.text()),
+        RunEnd::Memory if writer.text().is_empty() || ends_refused(writer.text()) => None,
+        _ => Some(false),
     }
 }
 
 #[test]
 fn a_refused_allocation_is_told(rt: HostRuntime) {
-    assert!(rt; is_played_or_refused(rt.alloc()));
+    let holds = match runs(rt.alloc()) {
+        Some(holds) => holds,
+        None => runs(rt.alloc()) == Some(true),
+    };
+    assert!(rt; holds);
+}
+
+/// Returns true if `play` writes the whole text; or none for want of memory: where that is in an event, the line of its refusal is
+/// the last one then, and else the lines of the events before stand.
+fn plays(alloc: Global) -> Option<bool> {
+    let mut writer = empty();
+    match play(alloc, SCRIPT, &mut writer) {
+        Ok(None) => is_played(writer.text()),
+        Err(PlayStop::OutOfMemory)
+            if WHOLE.starts_with(writer.text()) || ends_refused(writer.text()) => { None }
+        _ => Some(false),
+    }
+}
+
+#[test]
+fn a_refused_event_ends_the_lines(rt: HostRuntime) {
+    let holds = match plays(rt.alloc()) {
+        Some(holds) => holds,
+        None => plays(rt.alloc()) == Some(true),
+    };
+    assert!(rt; holds);
 }

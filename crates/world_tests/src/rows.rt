@@ -87,7 +87,7 @@ fn is_report(report: &Report, end: End<'_>) -> bool {
 }
 
 /// Returns true if this event comes to this end.
-fn ends_so(ended: &Result<Report, WorldRefusal>, end: End<'_>) -> bool {
+pub(crate) fn ends_so(ended: &Result<Report, WorldRefusal>, end: End<'_>) -> bool {
     match ended {
         Ok(report) => is_report(report, end),
         Err(refusal) => match end {

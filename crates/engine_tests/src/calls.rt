@@ -1,8 +1,7 @@
 //! That a run over TCP is good, and how a run ends whose writer fails.
 
+use crate::writers::Counter;
 use engines::{RunEnd, run_loop};
-use std::io;
-use std::io::Write;
 
 /// The text of two calls.
 const TWO_CALLS: &str = "call 0 id 1 done\ncall 1 id 2 done\nloop 2 done\n";
@@ -19,41 +18,9 @@ fn two_calls_are_made(rt: HostRuntime) {
     assert!(rt; are_made(&rt));
 }
 
-/// A writer that counts its calls, and fails at its call number `fails_at`.
-#[derive(Drop)]
-pub(crate) struct Writes {
-    fails_at: u64,
-    pub(crate) calls: u64,
-}
-
-impl Writes {
-    pub(crate) fn failing_at(fails_at: u64) -> Writes {
-        Writes { fails_at, calls: 0 }
-    }
-
-    fn call(&mut self) -> io::Result<()> {
-        self.calls = self.calls.saturating_add(1);
-        if self.calls == self.fails_at {
-            return Err(io::Error::other("full"));
-        }
-        Ok(())
-    }
-}
-
-impl Write for Writes {
-    fn write(&mut self, buf: &[u8]) -> io::Result<usize> {
-        self.call()?;
-        Ok(buf.len())
-    }
-
-    fn flush(&mut self) -> io::Result<()> {
-        self.call()
-    }
-}
-
 /// Returns true if the run ends with its call of the writer number `fails_at`, which fails.
 fn ends_at(rt: &HostRuntime, fails_at: u64) -> bool {
-    let mut writer = Writes::failing_at(fails_at);
+    let mut writer = Counter::failing_at(fails_at);
     run_loop(rt, 2, &mut writer) == RunEnd::InOut && writer.calls == fails_at
 }
 

@@ -1,7 +1,7 @@
 //! What no contract says of `check`: that the text is the one that was worked out by hand, and that a failed write ends the
 //! run.
 
-use crate::engine_dump::Counter;
+use crate::writers::Counter;
 use engines::{RunEnd, run_check};
 use std::alloc::Global;
 

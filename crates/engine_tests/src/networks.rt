@@ -1,6 +1,6 @@
 //! How a run ends whose network is made up, and fails.
 
-use crate::runs::Writes;
+use crate::writers::Counter;
 use engines::{RunEnd, run_loop};
 use std::alloc::Global;
 use std::io;
@@ -112,7 +112,7 @@ impl AsRawFd for Stream {
 
 /// Returns true if a call over such a network ends as it should, with nothing written.
 fn ends_unwritten(alloc: Global, failure: Failure) -> bool {
-    let mut writer = Writes::failing_at(0);
+    let mut writer = Counter::failing_at(0);
     run_loop(&(Network(failure), alloc), 1, &mut writer) == RunEnd::InOut && writer.calls == 0
 }
 

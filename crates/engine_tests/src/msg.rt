@@ -1,7 +1,7 @@
 //! What no contract says of `msg`: that the text is the one that was worked out by hand from the manual and the order of the
 //! checks, and that writes and allocations which fail end the run as they should.
 
-use crate::engine_dump::Counter;
+use crate::writers::Counter;
 use engines::{RunEnd, run_msg};
 use std::alloc::Global;
 use std::process::Abort;

@@ -1,7 +1,7 @@
 //! What no contract says of `canon`: that the text is the one that was worked out by hand, and that writes and allocations
 //! which fail end the run as they should.
 
-use crate::engine_dump::Counter;
+use crate::writers::Counter;
 use bson_elem::MAX_LEN;
 use engines::{RunEnd, run_canon, run_canon_within};
 use std::alloc::Global;
