@@ -1,0 +1,12 @@
+pub mod Places
+pub mod Filtering
+pub mod Inserting
+pub mod Cursors
+pub mod Sizes
+pub mod Replies
+pub mod ReplySets
+pub mod Handled
+pub mod Texts
+pub mod Made
+pub mod NumberLemmas
+pub mod ParseLemmas

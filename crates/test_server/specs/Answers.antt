@@ -1,0 +1,85 @@
+-- Answers, as lists of a name and a value (MongoDB manual, Database Commands: each command's Output).
+use Rattle.std.specs.Prelude.{ℕ, ℤ, pos, List, [], ◌∷◌, Bool, true, false, codes, if◌then◌else◌}
+use Rattle.bson_elem.specs.declared.kinds.Kind.TheVariants as kinds
+use Rattle.bson_elem.specs.{boolean_value, no_code, number_value, raw_value, text_value}
+use Rattle.bson_raw.specs.{TreeValue, document_value, leaf_value}
+use Rattle.bson_doc.specs.Array.{array_tree}
+use Rattle.bson_doc.specs.Document.{tree_of}
+use Rattle.test_server.specs.declared.answer.Batch.{Batch}
+use Rattle.test_server.specs.declared.answer.Batch.TheVariants.{First, Next}
+use Rattle.test_server.specs.declared.failure.CommandError.{CommandError}
+use Rattle.test_server.specs.Errors.{code_name_of, code_of, words_of}
+
+-- ---- values
+
+abbrev pub truth : Bool → TreeValue
+truth b = leaf_value kinds.Boolean (boolean_value b)
+
+abbrev pub int32 : ℤ → TreeValue
+int32 z = leaf_value kinds.Int32 (number_value z)
+
+abbrev pub int64 : ℤ → TreeValue
+int64 z = leaf_value kinds.Int64 (number_value z)
+
+abbrev pub text : List ℕ → TreeValue
+text s = leaf_value kinds.String (text_value s)
+
+abbrev pub inner : List (List ℕ × TreeValue) → TreeValue
+inner pairs = document_value kinds.Document no_code (tree_of pairs)
+
+abbrev pub array : List TreeValue → TreeValue
+array vs = document_value kinds.Array no_code (array_tree 0 vs)
+
+-- the doubles 0 and 1
+abbrev pub double_zero : TreeValue
+double_zero = leaf_value kinds.Double (raw_value (0 ∷ 0 ∷ 0 ∷ 0 ∷ 0 ∷ 0 ∷ 0 ∷ 0 ∷ []))
+
+abbrev pub double_one : TreeValue
+double_one = leaf_value kinds.Double (raw_value (0 ∷ 0 ∷ 0 ∷ 0 ∷ 0 ∷ 0 ∷ 240 ∷ 63 ∷ []))
+
+-- ---- answers
+
+abbrev pub ok_alone : List (List ℕ × TreeValue)
+ok_alone = (codes "ok", double_one) ∷ []
+
+abbrev pub error_pairs : List ℕ → ℤ → List ℕ → List (List ℕ × TreeValue)
+error_pairs words code name =
+    (codes "ok", double_zero) ∷ (codes "errmsg", text words) ∷ (codes "code", int32 code) ∷ (codes "codeName", text name) ∷ []
+
+abbrev pub refusal_pairs : CommandError → List (List ℕ × TreeValue)
+refusal_pairs e = error_pairs (words_of e) (code_of e) (code_name_of e)
+
+-- the field that says that the server takes writes, by whether an older form of hello asks for it
+abbrev pub primary_name : Bool → List ℕ
+primary_name legacy = if legacy then codes "ismaster" else codes "isWritablePrimary"
+
+abbrev pub hello_pairs : Bool → List (List ℕ × TreeValue)
+hello_pairs legacy =
+    (codes "helloOk", truth true) ∷ (primary_name legacy, truth true)
+    ∷ (codes "maxBsonObjectSize", int32 (pos 16777216)) ∷ (codes "maxMessageSizeBytes", int32 (pos 48000000))
+    ∷ (codes "maxWriteBatchSize", int32 (pos 100000)) ∷ (codes "minWireVersion", int32 (pos 0))
+    ∷ (codes "maxWireVersion", int32 (pos 13)) ∷ (codes "readOnly", truth false) ∷ ok_alone
+
+abbrev pub inserted_pairs : ℤ → List (List ℕ × TreeValue)
+inserted_pairs n = (codes "n", int32 n) ∷ ok_alone
+
+abbrev pub dropped_pairs : List ℕ → List (List ℕ × TreeValue)
+dropped_pairs ns = (codes "nIndexesWas", int32 (pos 1)) ∷ (codes "ns", text ns) ∷ ok_alone
+
+-- the field of a batch of documents
+abbrev pub batch_name : Batch → List ℕ
+batch_name First = codes "firstBatch"
+batch_name Next = codes "nextBatch"
+
+-- a batch of documents, the id of the cursor that has more of them, or 0, and the namespace
+abbrev pub cursor_pairs : Batch → List TreeValue → ℤ → List ℕ → List (List ℕ × TreeValue)
+cursor_pairs b vs id ns = (batch_name b, array vs) ∷ (codes "id", int64 id) ∷ (codes "ns", text ns) ∷ []
+
+abbrev pub cursor_answer : Batch → List TreeValue → ℤ → List ℕ → List (List ℕ × TreeValue)
+cursor_answer b vs id ns = (codes "cursor", inner (cursor_pairs b vs id ns)) ∷ ok_alone
+
+-- what is told of a collection of this name
+abbrev pub listing : List ℕ → TreeValue
+listing name =
+    inner ((codes "name", text name) ∷ (codes "type", text (codes "collection")) ∷ (codes "options", inner [])
+    ∷ (codes "info", inner ((codes "readOnly", truth false) ∷ [])) ∷ [])

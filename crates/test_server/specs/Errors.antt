@@ -1,0 +1,48 @@
+-- The errors that commands are answered by.
+use Rattle.std.specs.Prelude.{◌≡◌, ℕ, ℤ, pos, List, Option, Some, None, Result, Ok, Err, codes}
+use Rattle.test_server.specs.declared.failure.CommandError.{CommandError}
+use Rattle.test_server.specs.declared.failure.CommandError.TheVariants as errors
+use Rattle.test_server.specs.declared.failure.Failure.{Failure}
+use Rattle.test_server.specs.declared.failure.Failure.TheVariants.{OutOfMemory, Refused}
+
+abbrev pub code_of : CommandError → ℤ
+code_of errors.CursorNotFound = pos 43
+code_of errors.NamespaceNotFound = pos 26
+code_of _ = pos 9
+
+abbrev pub code_name_of : CommandError → List ℕ
+code_name_of errors.CursorNotFound = codes "CursorNotFound"
+code_name_of errors.NamespaceNotFound = codes "NamespaceNotFound"
+code_name_of _ = codes "FailedToParse"
+
+abbrev pub words_of : CommandError → List ℕ
+words_of errors.Database = codes "the field '$db' must be a string"
+words_of errors.Insert = codes "the field 'insert' must be a string"
+words_of errors.Find = codes "the field 'find' must be a string"
+words_of errors.Drop = codes "the field 'drop' must be a string"
+words_of errors.GetMore = codes "the field 'getMore' must be an int64"
+words_of errors.Collection = codes "the field 'collection' must be a string"
+words_of errors.Documents = codes "the field 'documents' must be from 1 to 100000 documents, with no name twice in one"
+words_of errors.Filter = codes "the field 'filter' must be a document with no name twice"
+words_of errors.Operator = codes "the field 'filter' must have no operator"
+words_of errors.FirstBatchSize = codes "the field 'batchSize' must be a whole number"
+words_of errors.NextBatchSize = codes "the field 'batchSize' must be a whole number from 1 on"
+words_of errors.CursorNotFound = codes "no open cursor of this namespace has the id in 'getMore'"
+words_of errors.NamespaceNotFound = codes "ns not found"
+
+-- ---- steps that may err
+
+-- what is there, or else this error
+abbrev pub or_error : {A : Type 0} → CommandError → Option A → Result A CommandError
+or_error e None = Err e
+or_error e (Some a) = Ok a
+
+-- the next step with what the first gave, or the error of the first
+abbrev pub and_then : {A B : Type 0} → Result A CommandError → (A → Result B CommandError) → Result B CommandError
+and_then (Ok a) next = next a
+and_then (Err e) next = Err e
+
+-- a step that errs so failed so, or memory was wanting
+abbrev pub IsFailure : {A : Type 0} → Result A CommandError → Failure → Type 0
+IsFailure step OutOfMemory = Unit {0}
+IsFailure step (Refused e) = step ≡ Err e

@@ -1,0 +1,52 @@
+-- The fields of a command.
+use Rattle.std.specs.Prelude.{ℕ, ℤ, pos, List, Option, Some, None, Result, Ok, Err, codes, nat_le, if◌then◌else◌}
+use Rattle.bson_elem.specs.declared.kinds.Kind.TheVariants as kinds
+use Rattle.bson_elem.specs.{Tree, number_value, text_value}
+use Rattle.bson_raw.specs.{TreeValue, first_named, leaf_value}
+use Rattle.test_server.specs.declared.failure.CommandError.{CommandError}
+use Rattle.test_server.specs.declared.failure.CommandError.TheVariants as errors
+use Rattle.test_server.specs.Errors.{and_then, or_error}
+use Rattle.test_server.specs.Held.{NamespaceView}
+
+-- the text of a string
+abbrev pub text_of : Option TreeValue → Option (List ℕ)
+text_of (Some (leaf_value kinds.String (text_value s))) = Some s
+text_of _ = None
+
+-- the number of an int64
+abbrev pub id_of : Option TreeValue → Option ℤ
+id_of (Some (leaf_value kinds.Int64 (number_value z))) = Some z
+id_of _ = None
+
+-- the number of an int32 or an int64, from 0 on
+abbrev pub count_of : TreeValue → Option ℕ
+count_of (leaf_value kinds.Int32 (number_value (pos k))) = Some k
+count_of (leaf_value kinds.Int64 (number_value (pos k))) = Some k
+count_of _ = None
+
+-- the text of the field of this name
+abbrev pub text_field : List ℕ → CommandError → Tree → Result (List ℕ) CommandError
+text_field name error t = or_error error (text_of (first_named name t))
+
+-- the namespace that a command names, whose collection is in the field of this name
+abbrev pub namespace_at : List ℕ → CommandError → Tree → Result NamespaceView CommandError
+namespace_at name error t =
+    and_then (text_field (codes "$db") errors.Database t) (λ d.
+    and_then (text_field name error t) (λ n. Ok (record { database = d; collection = n })))
+
+-- the id of the cursor
+abbrev pub id_field : Tree → Result ℤ CommandError
+id_field t = or_error errors.GetMore (id_of (first_named (codes "getMore") t))
+
+-- the number, if it isn't less than that
+abbrev pub at_least : ℕ → CommandError → Option ℕ → Result ℕ CommandError
+at_least least error None = Err error
+at_least least error (Some k) = if nat_le least k then Ok k else Err error
+
+-- the batch size that a field asks for, and 101 where there is no such field
+abbrev pub asked_size : ℕ → CommandError → Option TreeValue → Result ℕ CommandError
+asked_size least error None = Ok 101
+asked_size least error (Some v) = at_least least error (count_of v)
+
+abbrev pub batch_size : ℕ → CommandError → Tree → Result ℕ CommandError
+batch_size least error t = asked_size least error (first_named (codes "batchSize") t)

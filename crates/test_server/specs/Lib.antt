@@ -1,0 +1,15 @@
+pub mod Held
+pub mod Taking
+pub mod Errors
+pub mod Fields
+pub mod Filters
+pub mod Inserted
+pub mod Answers
+pub mod Commands
+pub mod Queries
+pub mod Handling
+pub mod Transcript
+pub mod Serving
+pub mod CommandLine
+pub mod Choices
+pub mod ExitStatus

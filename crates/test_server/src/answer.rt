@@ -1,0 +1,136 @@
+//! The parts of answers.
+
+ghost use Rattle.std.specs.Prelude.{◌≡◌, IfOk, OnOk, codes, map, string_bytes};
+ghost use Rattle.bson_doc.specs.Bson.{value_of};
+ghost use Rattle.bson_doc.specs.Document.{put};
+ghost use Rattle.test_server.specs.Answers.{batch_name, cursor_answer, cursor_pairs, double_one, error_pairs, inner, ok_alone, refusal_pairs, text};
+
+use crate::failure::CommandError;
+use bson_doc::{Array, Bson, Document};
+use std::alloc::{AllocError, Global};
+
+/// The number 1 as a double.
+const ONE: [u8; 8] = [0, 0, 0, 0, 0, 0, 0xf0, 0x3f];
+
+/// Which batch of a cursor an answer has.
+#[derive(Clone, Copy, Debug, PartialEq, Eq)]
+pub enum Batch {
+    /// The first one.
+    First,
+    /// One after the first.
+    Next,
+}
+
+impl Batch {
+    /// Returns the name of the field that has the batch.
+    fn name(self) -> &'static str
+        ensures { result.now ≡ batch_name self }
+    {
+        match self {
+            Batch::First => "firstBatch",
+            Batch::Next => "nextBatch",
+        }
+    }
+}
+
+/// Sets a field of an answer.
+pub fn set(alloc: Global, answer: &mut Document, name: &str, value: Bson) -> Result<(), AllocError>
+    ensures { OnOk result (answer.new ≡ put name.now (value_of value) answer.old) }
+{
+    let name = String::from_str(alloc, name)?;
+    match answer.insert(name, value) {
+        Ok(_) => Ok(()),
+        Err(_) => Err(AllocError),
+    }
+}
+
+/// Sets a field of an answer to a text.
+pub fn set_text(
+    alloc: Global,
+    answer: &mut Document,
+    name: &str,
+    words: &str,
+) -> Result<(), AllocError>
+    ensures { OnOk result (answer.new ≡ put name.now (text words.now) answer.old) }
+{
+    let words = String::from_str(alloc, words)?;
+    set(alloc, answer, name, Bson::String(words))
+}
+
+/// Sets the field `ok` of an answer to 1.
+pub fn set_ok(alloc: Global, answer: &mut Document) -> Result<(), AllocError>
+    ensures { OnOk result (answer.new ≡ put (codes "ok") double_one answer.old) }
+{
+    set(alloc, answer, "ok", Bson::Double(ONE))
+}
+
+/// Returns the answer that a command was carried out, and no more.
+pub fn ok_alone(alloc: Global) -> Result<Document, AllocError>
+    ensures { IfOk result (λ d. d ≡ ok_alone) }
+{
+    let mut answer = Document::new(alloc);
+    set_ok(alloc, &mut answer)?;
+    Ok(answer)
+}
+
+/// Returns the answer of an error.
+pub fn error_answer(
+    alloc: Global,
+    words: &str,
+    code: i32,
+    code_name: &str,
+) -> Result<Document, AllocError>
+    ensures { IfOk result (λ d. d ≡ error_pairs words.now code code_name.now) }
+{
+    let mut answer = Document::new(alloc);
+    set(alloc, &mut answer, "ok", Bson::Double([0; 8]))?;
+    set_text(alloc, &mut answer, "errmsg", words)?;
+    set(alloc, &mut answer, "code", Bson::Int32(code))?;
+    set_text(alloc, &mut answer, "codeName", code_name)?;
+    Ok(answer)
+}
+
+/// Returns the answer of a command that is refused.
+pub fn refusal_answer(alloc: Global, error: CommandError) -> Result<Document, AllocError>
+    ensures { IfOk result (λ d. d ≡ refusal_pairs error) }
+{
+    error_answer(alloc, error.words(), error.code(), error.code_name())
+}
+
+/// Returns the field `cursor` of an answer: a batch of documents, the id of the cursor that has more of them, or 0, and the
+/// namespace.
+fn cursor_document(
+    alloc: Global,
+    which: Batch,
+    batch: Vec<Bson>,
+    id: i64,
+    namespace: String,
+) -> Result<Document, AllocError>
+    ensures { IfOk result (λ d. d
+        ≡ cursor_pairs which (map value_of batch.items) id (string_bytes namespace)) }
+{
+    let mut cursor = Document::new(alloc);
+    let batch = Array::from_vec(batch);
+    set(alloc, &mut cursor, which.name(), Bson::Array(batch))?;
+    set(alloc, &mut cursor, "id", Bson::Int64(id))?;
+    set(alloc, &mut cursor, "ns", Bson::String(namespace))?;
+    Ok(cursor)
+}
+
+/// Returns the answer with a batch of documents, the id of the cursor that has more of them, or 0, and the namespace.
+pub fn cursor_answer(
+    alloc: Global,
+    which: Batch,
+    batch: Vec<Bson>,
+    id: i64,
+    namespace: String,
+) -> Result<Document, AllocError>
+    ensures { IfOk result (λ d. d
+        ≡ cursor_answer which (map value_of batch.items) id (string_bytes namespace)) }
+{
+    let cursor = cursor_document(alloc, which, batch, id, namespace)?;
+    let mut answer = Document::new(alloc);
+    set(alloc, &mut answer, "cursor", Bson::Document(cursor))?;
+    set_ok(alloc, &mut answer)?;
+    Ok(answer)
+}

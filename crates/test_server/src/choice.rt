@@ -1,0 +1,68 @@
+//! What the words of the command line ask for.
+
+ghost use Rattle.std.specs.Prelude.{◌≡◌, IfOk, IsErrAnd, IsOkAnd, MatchResult, Some, codes, map};
+ghost use Rattle.clap.specs.Words.{FailsBy, fault_of, first_of, found_of, one_of, rows_of};
+ghost use Rattle.test_server.specs.Choices.{AsksFor, HasAddress, HasChoice, HasNumber, IsChosen, IsHeld};
+ghost use Rattle.test_server.specs.CommandLine.{command_line};
+
+use crate::command_line::program;
+use clap::{ArgMatches, Error};
+use std::alloc::Global;
+
+/// What the command line asks for.
+#[derive(Clone, Copy, Debug, PartialEq, Eq)]
+pub struct Choice<'a> {
+    /// The address to listen at.
+    pub address: &'a str,
+    /// How many connections are served.
+    pub connections: u64,
+}
+
+/// Returns the operand ADDRESS.
+fn address_of<'a>(matches: &ArgMatches<'a>) -> &'a str
+    requires { HasAddress (rows_of (found_of matches.now)) }
+    ensures { first_of (codes "address") (rows_of (found_of matches.now)) ≡ Some result.now }
+{
+    match matches.get_str("address") {
+        Some(address) => address,
+        None => unreachable!(),
+    }
+}
+
+/// Returns how many connections `--connections` asks for. Where it wasn't given they are as many as can be counted.
+fn connections_of(matches: &ArgMatches<'_>) -> u64
+    requires { HasNumber (rows_of (found_of matches.now)) }
+    ensures { AsksFor result (one_of (codes "connections") (rows_of (found_of matches.now))) }
+{
+    match matches.get_one::<u64>("connections") {
+        Some(connections) => connections,
+        None => u64::MAX,
+    }
+}
+
+/// Returns the choice that the matches of a parse hold, or the error of the parse as it is.
+fn chosen(parse: Result<ArgMatches<'_>, Error>) -> Result<Choice<'_>, Error>
+    requires { IfOk parse (λ m. HasChoice (rows_of (found_of m))) }
+    ensures { MatchResult parse.entry
+        (λ m. IsOkAnd result (λ c. IsHeld c (rows_of (found_of m))))
+        (λ e. IsErrAnd result (λ r. r ≡ e)) }
+{
+    let matches = parse?;
+    Ok(Choice {
+        address: address_of(&matches),
+        connections: connections_of(&matches),
+    })
+}
+
+/// Returns what the words ask for, of which the first is the program's own name.
+///
+/// # Errors
+///
+/// `clap`'s own error: a fault in the words, a request for help or the version, or want of memory.
+pub fn choose<'a>(alloc: Global, words: &'a [&'a str]) -> Result<Choice<'a>, Error>
+    ensures chosen { IfOk result (λ c. IsChosen c (map (λ w. w.now) words.now)) }
+    ensures kinds { FailsBy (fault_of command_line (map (λ w. w.now) words.now)) result }
+{
+    let command = program(alloc)?;
+    chosen(command.try_get_matches_from(words))
+}

@@ -1,0 +1,127 @@
+//! The commands that the server knows, one in each module, and which of them a request asks for.
+
+mod drop_collection;
+mod find;
+mod get_more;
+mod hello;
+mod insert;
+mod list_collections;
+
+ghost use Rattle.std.specs.Prelude.{◌≡◌, ◌≢◌, IfOk, OnErr};
+ghost use Rattle.bson_elem.specs.{Spells, Tree};
+ghost use Rattle.bson_raw.specs.{document_bytes};
+ghost use Rattle.wire_msg.specs.{Carries, Content};
+ghost use Rattle.test_server.specs.Commands.{IsCarriedOut, command_of, first_name, reply_to, run, unknown_pairs};
+ghost use Rattle.test_server.specs.Held.{store_of};
+
+use crate::answer::{error_answer, ok_alone, refusal_answer};
+use crate::failure::Failure;
+use crate::store::Store;
+use bson_doc::Document;
+use bson_raw::RawDocument;
+use drop_collection::drop_collection;
+use find::find;
+use get_more::get_more;
+use hello::hello;
+use insert::insert;
+use list_collections::list_collections;
+use std::alloc::{AllocError, Global};
+use wire_msg::Payload;
+
+/// What a request asks for.
+#[derive(Clone, Copy, Debug, PartialEq, Eq)]
+pub enum Command {
+    Hello,
+    LegacyHello,
+    Ping,
+    EndSessions,
+    Insert,
+    Find,
+    GetMore,
+    Drop,
+    ListCollections,
+    Unknown,
+}
+
+/// Returns the command of this name.
+fn command_of(name: &str) -> Command
+    ensures { result ≡ command_of name.now }
+{
+    match name {
+        "hello" => Command::Hello,
+        "isMaster" | "ismaster" => Command::LegacyHello,
+        "ping" => Command::Ping,
+        "endSessions" => Command::EndSessions,
+        "insert" => Command::Insert,
+        "find" => Command::Find,
+        "getMore" => Command::GetMore,
+        "drop" => Command::Drop,
+        "listCollections" => Command::ListCollections,
+        _ => Command::Unknown,
+    }
+}
+
+/// Returns the name of the command that a body asks for: that of its first field.
+pub fn name_of(body: RawDocument<'_>) -> &str
+    ensures { (t : Tree) → Spells t (document_bytes body.entry) → result.now ≡ first_name t }
+{
+    match body.iter().next() {
+        Some((name, _)) => name,
+        None => "",
+    }
+}
+
+/// Returns the answer that no command has this name.
+fn unknown_command(alloc: Global, name: &str) -> Result<Document, AllocError>
+    ensures { IfOk result (λ d. d ≡ unknown_pairs name.now) }
+{
+    let mut words = String::from_str(alloc, "no such command: '")?;
+    words.push_str(name)?;
+    words.push_str("'")?;
+    error_answer(alloc, words.as_str(), 59, "CommandNotFound")
+}
+
+/// Carries out a command, and returns its answer.
+fn run(command: Command, store: &mut Store, payload: Payload<'_>) -> Result<Document, Failure>
+    ensures carried { (c : Content) → Carries payload.entry c
+        → IsCarriedOut (run command (store_of store.old) c) (store_of store.old) result (store_of store.new) }
+    ensures kept { OnErr result ((store_of store.new).collections ≡ (store_of store.old).collections) }
+    ensures steady { command ≢ Command.Insert → command ≢ Command.Drop
+        → (store_of store.new).collections ≡ (store_of store.old).collections }
+{
+    let alloc = store.allocator();
+    let body = payload.body();
+    match command {
+        Command::Hello => Ok(hello(alloc, false)?),
+        Command::LegacyHello => Ok(hello(alloc, true)?),
+        Command::Ping | Command::EndSessions => Ok(ok_alone(alloc)?),
+        Command::Insert => insert(alloc, store, payload),
+        Command::Find => find(alloc, store, body),
+        Command::GetMore => get_more(alloc, store, body),
+        Command::Drop => drop_collection(alloc, store, body),
+        Command::ListCollections => list_collections(alloc, store, body),
+        Command::Unknown => Ok(unknown_command(alloc, name_of(body))?),
+    }
+}
+
+/// Carries out what a request asks for, and returns its answer.
+///
+/// # Errors
+///
+/// Want of memory. The documents held are as they were then.
+pub fn answer_to(store: &mut Store, payload: Payload<'_>) -> Result<Document, AllocError>
+    ensures answered { (c : Content) → Carries payload.entry c
+        → IfOk result (λ d. reply_to (store_of store.old) c
+        ≡ record { answer = d; held = store_of store.new }) }
+    ensures kept { OnErr result ((store_of store.new).collections ≡ (store_of store.old).collections) }
+    ensures steady { (c : Content) → Carries payload.entry c
+        → command_of (first_name c.body) ≢ Command.Insert → command_of (first_name c.body) ≢ Command.Drop
+        → (store_of store.new).collections ≡ (store_of store.old).collections }
+{
+    let command = command_of(name_of(payload.body()));
+    match run(command, store, payload) {
+        Ok(answer) => Ok(answer),
+        Err(Failure::Refused(error)) => refusal_answer(store.allocator(), error),
+        Err(Failure::OutOfMemory) => Err(AllocError),
+    }
+}

@@ -1,0 +1,50 @@
+//! The command getMore.
+
+ghost use Rattle.std.specs.Prelude.{◌≡◌};
+ghost use Rattle.bson_elem.specs.{Spells, Tree};
+ghost use Rattle.bson_raw.specs.{document_bytes};
+ghost use Rattle.test_server.specs.Commands.{IsCarriedOut, get_more, more};
+ghost use Rattle.test_server.specs.Held.{namespace_of, store_of};
+
+use crate::answer::{Batch, cursor_answer};
+use crate::failure::{CommandError, Failure};
+use crate::fields::{batch_size, id_field, namespace_field};
+use crate::namespace::Namespace;
+use crate::store::Store;
+use bson_doc::Document;
+use bson_raw::RawDocument;
+use std::alloc::Global;
+
+/// Answers the next documents of the cursor of this id and this namespace, at most `count`.
+fn more(
+    alloc: Global,
+    store: &mut Store,
+    id: i64,
+    namespace: Namespace<'_>,
+    count: usize,
+) -> Result<Document, Failure>
+    ensures carried { IsCarriedOut (more (store_of store.old) id (namespace_of namespace.entry) count)
+        (store_of store.old) result (store_of store.new) }
+    ensures steady { (store_of store.new).collections ≡ (store_of store.old).collections }
+{
+    let (batch, id) = store.next_batch(id, namespace, count)?;
+    let text = namespace.to_text(alloc)?;
+    let answer = cursor_answer(alloc, Batch::Next, batch, id, text)?;
+    Ok(answer)
+}
+
+/// Answers the next documents of a cursor.
+pub fn get_more(
+    alloc: Global,
+    store: &mut Store,
+    body: RawDocument<'_>,
+) -> Result<Document, Failure>
+    ensures carried { (t : Tree) → Spells t (document_bytes body.entry)
+        → IsCarriedOut (get_more (store_of store.old) t) (store_of store.old) result (store_of store.new) }
+    ensures steady { (store_of store.new).collections ≡ (store_of store.old).collections }
+{
+    let id = id_field(body)?;
+    let namespace = namespace_field(body, "collection", CommandError::Collection)?;
+    let count = batch_size(body, 1, CommandError::NextBatchSize)?;
+    more(alloc, store, id, namespace, count)
+}

@@ -1,0 +1,101 @@
+//! The command listCollections.
+
+ghost use Rattle.std.specs.Prelude.{◌≡◌, IfOk, map, codes, false, ◌∷◌, []};
+ghost use Rattle.bson_elem.specs.{Spells, Tree};
+ghost use Rattle.bson_raw.specs.{document_bytes};
+ghost use Rattle.bson_doc.specs.Bson.{value_of};
+ghost use Rattle.bson_doc.specs.Document.{tree_of};
+ghost use Rattle.test_server.specs.Answers.{inner, listing, truth};
+ghost use Rattle.test_server.specs.Commands.{IsCarriedOut, list_answer, list_collections, listings};
+ghost use Rattle.test_server.specs.Held.{collection_of, store_of};
+
+use crate::answer::{Batch, cursor_answer, set, set_text};
+use crate::failure::{CommandError, Failure};
+use crate::fields::text_field;
+use crate::filters::{filter_field, matching};
+use crate::namespace::Namespace;
+use crate::store::{Collection, Store};
+use bson_doc::{Bson, Document};
+use bson_raw::RawDocument;
+use std::alloc::{AllocError, Global};
+
+/// Returns what is told of a collection beside its name and its type.
+fn info(alloc: Global) -> Result<Document, AllocError>
+    ensures { IfOk result (λ d. d ≡ (codes "readOnly", truth false) ∷ []) }
+{
+    let mut info = Document::new(alloc);
+    set(alloc, &mut info, "readOnly", Bson::Boolean(false))?;
+    Ok(info)
+}
+
+/// Returns what is told of a collection of this name.
+fn listing(alloc: Global, name: &str) -> Result<Document, AllocError>
+    ensures { IfOk result (λ d. inner d ≡ listing name.now) }
+{
+    let info = info(alloc)?;
+    let mut listing = Document::new(alloc);
+    set_text(alloc, &mut listing, "name", name)?;
+    set_text(alloc, &mut listing, "type", "collection")?;
+    set(
+        alloc,
+        &mut listing,
+        "options",
+        Bson::Document(Document::new(alloc)),
+    )?;
+    set(alloc, &mut listing, "info", Bson::Document(info))?;
+    Ok(listing)
+}
+
+/// Returns what is told of each collection of a database, in order.
+fn listings(
+    alloc: Global,
+    collections: &[Collection],
+    database: &str,
+) -> Result<Vec<Bson>, AllocError>
+    ensures { IfOk result (λ vs. map value_of vs.items
+        ≡ listings database.now (map collection_of collections.now)) }
+{
+    let mut found = Vec::new(alloc);
+    for collection in collections {
+        if collection.namespace.database.as_str() == database {
+            let listing = listing(alloc, collection.namespace.collection.as_str())?;
+            found.push(Bson::Document(listing))?;
+        }
+    }
+    Ok(found)
+}
+
+/// Answers what is told of each collection of a database that matches a filter.
+fn answer_list(
+    alloc: Global,
+    store: &Store,
+    database: &str,
+    filter: &Document,
+) -> Result<Document, AllocError>
+    ensures { IfOk result (λ d. d ≡ list_answer (store_of store.now) database.now (tree_of filter.now)) }
+{
+    let all = listings(alloc, &store.collections, database)?;
+    let found = matching(alloc, filter, &all)?;
+    let namespace = Namespace {
+        database,
+        collection: "$cmd.listCollections",
+    };
+    let text = namespace.to_text(alloc)?;
+    cursor_answer(alloc, Batch::First, found, 0, text)
+}
+
+/// Answers what is told of each collection of a database that matches a filter.
+pub fn list_collections(
+    alloc: Global,
+    store: &mut Store,
+    body: RawDocument<'_>,
+) -> Result<Document, Failure>
+    ensures carried { (t : Tree) → Spells t (document_bytes body.entry)
+        → IsCarriedOut (list_collections (store_of store.old) t) (store_of store.old) result (store_of store.new) }
+    ensures steady { (store_of store.new).collections ≡ (store_of store.old).collections }
+{
+    let database = text_field(body, "$db", CommandError::Database)?;
+    let filter = filter_field(alloc, body)?;
+    let answer = answer_list(alloc, store, database, &filter)?;
+    Ok(answer)
+}

@@ -1,0 +1,115 @@
+//! Why a command isn't carried out.
+
+ghost use Rattle.std.specs.Prelude.{◌≡◌};
+
+use std::alloc::AllocError;
+
+/// What is wrong with a command, or with what it asks for.
+#[derive(Clone, Copy, Debug, PartialEq, Eq)]
+pub enum CommandError {
+    /// `$db` isn't a string.
+    Database,
+    /// The field `insert` isn't a string.
+    Insert,
+    /// The field `find` isn't a string.
+    Find,
+    /// The field `drop` isn't a string.
+    Drop,
+    /// The field `getMore` isn't an int64.
+    GetMore,
+    /// The field `collection` isn't a string.
+    Collection,
+    /// The documents to insert aren't from 1 to 100,000 documents, or a name stands twice in one.
+    Documents,
+    /// The filter isn't a document, or a name stands twice in it.
+    Filter,
+    /// The filter has an operator.
+    Operator,
+    /// The number of documents in the first batch isn't a whole number.
+    FirstBatchSize,
+    /// The number of documents in a later batch isn't a whole number from 1 on.
+    NextBatchSize,
+    /// No open cursor has this id and this namespace.
+    CursorNotFound,
+    /// No collection has this namespace.
+    NamespaceNotFound,
+}
+
+impl CommandError {
+    ghost use Rattle.test_server.specs.Errors.{code_of, code_name_of, words_of};
+
+    /// Returns the number of the error.
+    pub fn code(self) -> i32
+        ensures { result ≡ code_of self }
+    {
+        match self {
+            CommandError::CursorNotFound => 43,
+            CommandError::NamespaceNotFound => 26,
+            _ => 9,
+        }
+    }
+
+    /// Returns the name of that number.
+    pub fn code_name(self) -> &'static str
+        ensures { result.now ≡ code_name_of self }
+    {
+        match self {
+            CommandError::CursorNotFound => "CursorNotFound",
+            CommandError::NamespaceNotFound => "NamespaceNotFound",
+            _ => "FailedToParse",
+        }
+    }
+
+    /// Returns what is wrong, in words that name the field.
+    pub fn words(self) -> &'static str
+        ensures { result.now ≡ words_of self }
+    {
+        match self {
+            CommandError::Database => "the field '$db' must be a string",
+            CommandError::Insert => "the field 'insert' must be a string",
+            CommandError::Find => "the field 'find' must be a string",
+            CommandError::Drop => "the field 'drop' must be a string",
+            CommandError::GetMore => "the field 'getMore' must be an int64",
+            CommandError::Collection => "the field 'collection' must be a string",
+            CommandError::Documents => {
+                "the field 'documents' must be from 1 to 100000 documents, with no name twice in one"
+            }
+            CommandError::Filter => "the field 'filter' must be a document with no name twice",
+            CommandError::Operator => "the field 'filter' must have no operator",
+            CommandError::FirstBatchSize => "the field 'batchSize' must be a whole number",
+            CommandError::NextBatchSize => "the field 'batchSize' must be a whole number from 1 on",
+            CommandError::CursorNotFound =>
+                "no open cursor of this namespace has the id in 'getMore'",
+            CommandError::NamespaceNotFound => "ns not found",
+        }
+    }
+}
+
+/// Why a command has no answer of its own.
+#[derive(Clone, Copy, Debug, PartialEq, Eq)]
+pub enum Failure {
+    /// It is answered by this error.
+    Refused(CommandError),
+    /// The allocator refused memory.
+    OutOfMemory,
+}
+
+impl From<CommandError> for Failure {
+    ghost use Rattle.test_server.specs.declared.failure.Failure.TheVariants.{Refused};
+
+    ghost from_gives = { λ e failure. failure ≡ Refused e };
+
+    fn from(error: CommandError) -> Failure {
+        Failure::Refused(error)
+    }
+}
+
+impl From<AllocError> for Failure {
+    ghost use Rattle.test_server.specs.declared.failure.Failure.TheVariants.{OutOfMemory};
+
+    ghost from_gives = { λ _ failure. failure ≡ OutOfMemory };
+
+    fn from(_error: AllocError) -> Failure {
+        Failure::OutOfMemory
+    }
+}

@@ -1,0 +1,231 @@
+//! What the server holds: documents by namespace, and the cursors over what was found.
+
+ghost use Rattle.std.specs.Prelude.{◌≡◌, ◌≤◌, ◌<◌, IfErr, IfOk, MatchOption, None, OnErr, OnOk, Some, drop, length, map, take};
+ghost use Rattle.bson_doc.specs.Bson.{value_of};
+ghost use Rattle.test_server.specs.Held.{collection_index, collection_of, cursor_index, cursor_of, documents_in, empty_store, id_if_left, namespace_of, open_at, opened, opened_id, store_of, with_documents, with_left, without_collection};
+ghost use Rattle.test_server.specs.Taking.{IsNextBatch, IsOpenAt};
+
+use crate::failure::{CommandError, Failure};
+use crate::namespace::{Namespace, NamespaceBuf};
+use bson_doc::Bson;
+use std::alloc::{AllocError, Global};
+use std::mem;
+
+/// The documents of a namespace, in the order in which they were inserted.
+#[derive(Debug, Drop)]
+pub struct Collection {
+    /// The namespace.
+    pub namespace: NamespaceBuf,
+    /// The documents.
+    pub documents: Vec<Bson>,
+}
+
+/// The documents that were found and not yet given. Where there are none it is closed.
+#[derive(Debug, Drop)]
+pub struct Cursor {
+    /// The namespace that they were found in.
+    pub namespace: NamespaceBuf,
+    /// The documents.
+    pub left: Vec<Bson>,
+}
+
+/// What the server holds.
+#[derive(Debug, Drop)]
+pub struct Store {
+    /// The collections, in the order in which the first document of each was inserted.
+    pub collections: Vec<Collection>,
+    /// The cursors. The id of each is its index, counted from 1.
+    pub cursors: Vec<Cursor>,
+}
+
+/// Returns the index of the first collection of this namespace.
+fn index_of(collections: &[Collection], namespace: Namespace<'_>) -> Option<usize>
+    ensures { result ≡ collection_index (namespace_of namespace.entry) (map collection_of collections.now) }
+{
+    for (i, collection) in collections.iter().enumerate() {
+        if collection.namespace.is(namespace) {
+            return Some(i);
+        }
+    }
+    None
+}
+
+impl Store {
+    /// Returns a store without documents. It takes no memory.
+    pub fn new(alloc: Global) -> Store
+        ensures { store_of result ≡ empty_store }
+    {
+        Store {
+            collections: Vec::new(alloc),
+            cursors: Vec::new(alloc),
+        }
+    }
+
+    /// Returns the allocator that the store takes its memory from.
+    pub fn allocator(&self) -> Global {
+        *self.collections.allocator()
+    }
+
+    /// Returns the documents of a namespace, in the order in which they were inserted.
+    pub fn documents(&self, namespace: Namespace<'_>) -> &[Bson]
+        ensures { map value_of result.now
+            ≡ documents_in (namespace_of namespace.entry) (store_of self.now).collections }
+    {
+        match index_of(&self.collections, namespace) {
+            Some(i) => &self.collections[i].documents,
+            None => &[],
+        }
+    }
+
+    /// Inserts documents into a namespace, behind those that are there.
+    ///
+    /// # Errors
+    ///
+    /// Want of memory. The documents held are as they were then.
+    pub fn insert(
+        &mut self,
+        namespace: Namespace<'_>,
+        mut documents: Vec<Bson>,
+    ) -> Result<(), AllocError>
+        ensures inserted { OnOk result ((store_of self.new).collections
+            ≡ with_documents (namespace_of namespace.entry) (map value_of documents.items) (store_of self.old).collections) }
+        ensures unchanged { OnErr result ((store_of self.new).collections ≡ (store_of self.old).collections) }
+        ensures cursors { (store_of self.new).cursors ≡ (store_of self.old).cursors }
+    {
+        match index_of(&self.collections, namespace) {
+            Some(i) => self.collections[i].documents.append(&mut documents),
+            None => {
+                let alloc = self.allocator();
+                let namespace = namespace.to_buf(alloc)?;
+                self.collections.push(Collection {
+                    namespace,
+                    documents,
+                })?;
+                Ok(())
+            }
+        }
+    }
+
+    /// Drops the documents of a namespace.
+    ///
+    /// # Errors
+    ///
+    /// Returns `NamespaceNotFound` if it has none.
+    pub fn drop_collection(&mut self, namespace: Namespace<'_>) -> Result<(), CommandError>
+        ensures dropped { OnOk result (without_collection (namespace_of namespace.entry) (store_of self.old).collections
+            ≡ Some (store_of self.new).collections) }
+        ensures none { IfErr result (λ e. (e ≡ CommandError.NamespaceNotFound)
+            × (without_collection (namespace_of namespace.entry) (store_of self.old).collections ≡ None)) }
+        ensures unchanged { OnErr result ((store_of self.new).collections ≡ (store_of self.old).collections) }
+        ensures cursors { (store_of self.new).cursors ≡ (store_of self.old).cursors }
+    {
+        match index_of(&self.collections, namespace) {
+            Some(i) => {
+                drop(self.collections.remove(i));
+                Ok(())
+            }
+            None => Err(CommandError::NamespaceNotFound),
+        }
+    }
+
+    /// Opens a cursor over documents that were found, unless there are none. Returns its id, or 0 if none was opened.
+    ///
+    /// # Errors
+    ///
+    /// Want of memory. The cursors are as they were then.
+    pub fn open_cursor(
+        &mut self,
+        namespace: Namespace<'_>,
+        left: Vec<Bson>,
+    ) -> Result<i64, AllocError>
+        ensures id { IfOk result (λ id. id ≡ opened_id (map value_of left.items) (store_of self.old).cursors) }
+        ensures opened { OnOk result ((store_of self.new).cursors
+            ≡ opened (namespace_of namespace.entry) (map value_of left.items) (store_of self.old).cursors) }
+        ensures unchanged { OnErr result ((store_of self.new).cursors ≡ (store_of self.old).cursors) }
+        ensures collections { (store_of self.new).collections ≡ (store_of self.old).collections }
+    {
+        if left.is_empty() {
+            return Ok(0);
+        }
+        let alloc = self.allocator();
+        let namespace = namespace.to_buf(alloc)?;
+        self.cursors.push(Cursor { namespace, left })?;
+        Ok(self.cursors.len() as i64)
+    }
+
+    /// Returns the index of the open cursor of this id and this namespace.
+    fn open_cursor_index(&self, id: i64, namespace: Namespace<'_>) -> Option<usize>
+        ensures { MatchOption result
+            (open_at (namespace_of namespace.entry) (cursor_index id) (store_of self.now).cursors ≡ None)
+            (λ i. IsOpenAt (namespace_of namespace.entry) id self.now.cursors.items i) }
+    {
+        let index = index_of_id(id)?;
+        let cursor = self.cursors.get(index)?;
+        if cursor.namespace.is(namespace) && !cursor.left.is_empty() {
+            Some(index)
+        } else {
+            None
+        }
+    }
+}
+
+/// Returns the index of the cursor of this id.
+fn index_of_id(id: i64) -> Option<usize>
+    ensures { result ≡ cursor_index id }
+{
+    if id < 1 {
+        None
+    } else {
+        Some((id - 1) as usize)
+    }
+}
+
+/// Takes the first documents off, at most `count`.
+///
+/// # Errors
+///
+/// Want of memory. The documents are as they were then.
+pub fn take_batch(documents: &mut Vec<Bson>, count: usize) -> Result<Vec<Bson>, AllocError>
+    ensures taken { IfOk result (λ batch. batch.items ≡ take count documents.old.items) }
+    ensures left { OnOk result (documents.new.items ≡ drop count documents.old.items) }
+    ensures unchanged { OnErr result (documents.new.items ≡ documents.old.items) }
+{
+    let count = count.min(documents.len());
+    let rest = documents.split_off(count)?;
+    Ok(mem::replace(documents, rest))
+}
+
+/// Returns the id of a cursor that has these documents left: 0 if there are none.
+fn id_if_left(id: i64, left: &[Bson]) -> i64
+    ensures { result ≡ id_if_left id (map value_of left.now) }
+{
+    if left.is_empty() { 0 } else { id }
+}
+
+impl Store {
+    /// Takes the next documents off the cursor of this id and this namespace, at most `count`. Returns them, and the id of the
+    /// cursor, or 0 if it has no more.
+    ///
+    /// # Errors
+    ///
+    /// Returns `CursorNotFound` if there is no such open cursor, or want of memory. The cursors are as they were then.
+    pub fn next_batch(
+        &mut self,
+        id: i64,
+        namespace: Namespace<'_>,
+        count: usize,
+    ) -> Result<(Vec<Bson>, i64), Failure>
+        ensures cursors { IsNextBatch (namespace_of namespace.entry) id count (store_of self.old).cursors result
+            (store_of self.new).cursors }
+        ensures collections { (store_of self.new).collections ≡ (store_of self.old).collections }
+    {
+        let Some(index) = self.open_cursor_index(id, namespace) else {
+            return Err(Failure::Refused(CommandError::CursorNotFound));
+        };
+        let Ok(batch) = take_batch(&mut self.cursors[index].left, count) else {
+            return Err(Failure::OutOfMemory);
+        };
+        let id = id_if_left(id, &self.cursors[index].left);
+        Ok((batch, id))
+    }
+}
