@@ -218,6 +218,3 @@ fn tell_unopened(rt: &impl Eprint, error: io::Error, input: InputName<'_>) -> u8
     let _ = eprintln!(rt; "bsonwire: {input}: {error}");
     status_of(end_of(&error))
 }
-
-#[cfg(test)]
-mod tests;

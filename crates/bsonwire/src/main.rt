@@ -11,8 +11,6 @@
 mod choice;
 mod command_line;
 mod commands;
-#[cfg(test)]
-mod tests;
 
 ghost use Rattle.std.specs.Prelude.{◌≡◌, Bool};
 ghost use Rattle.std.specs.IoError.{error_kind, raw_os_error};

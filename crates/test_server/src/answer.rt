@@ -1,6 +1,6 @@
 //! The parts of answers.
 
-ghost use Rattle.std.specs.Prelude.{◌≡◌, IfOk, OnOk, codes, map, string_bytes};
+ghost use Rattle.std.specs.Prelude.{◌≡◌, IfOk, OnOk, OnSome, codes, map, string_bytes};
 ghost use Rattle.bson_doc.specs.Bson.{value_of};
 ghost use Rattle.bson_doc.specs.Document.{put};
 ghost use Rattle.test_server.specs.Answers.{batch_name, cursor_answer, cursor_pairs, double_one, error_pairs, inner, ok_alone, refusal_pairs, text};
@@ -33,15 +33,20 @@ impl Batch {
     }
 }
 
+/// Sets the field of this name of an answer.
+fn put_field(answer: &mut Document, name: String, value: Bson) -> Option<()>
+    ensures { OnSome result (answer.new ≡ put (string_bytes name) (value_of value) answer.old) }
+{
+    answer.insert(name, value).ok()?;
+    Some(())
+}
+
 /// Sets a field of an answer.
 pub fn set(alloc: Global, answer: &mut Document, name: &str, value: Bson) -> Result<(), AllocError>
     ensures { OnOk result (answer.new ≡ put name.now (value_of value) answer.old) }
 {
     let name = String::from_str(alloc, name)?;
-    match answer.insert(name, value) {
-        Ok(_) => Ok(()),
-        Err(_) => Err(AllocError),
-    }
+    put_field(answer, name, value).ok_or(AllocError)
 }
 
 /// Sets a field of an answer to a text.
