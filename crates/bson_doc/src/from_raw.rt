@@ -86,7 +86,8 @@ fn read_array(alloc: Global, array: RawArray<'_>, depth: u32) -> Result<Array, D
     Ok(Array::from_vec(values))
 }
 
-/// Returns the owned document of one of depth `depth`.
+/// Returns the owned document of one of depth `depth`. A name is looked up before it is copied, so that no memory is asked
+/// for one that is there.
 #[cycle(read)]
 fn read_document(
     alloc: Global,
@@ -104,9 +105,10 @@ fn read_document(
     let mut names = IndexSet::new(alloc);
     let mut values = Vec::new(alloc);
     for (name, value) in document.iter() {
-        if !names.insert(String::from_str(alloc, name)?)? {
+        if names.contains(name) {
             return Err(DocRefusal::RepeatedName { depth });
         }
+        names.insert(String::from_str(alloc, name)?)?;
         values.push(read_value(alloc, value, depth)?)?;
     }
     Ok(Document::of_parts(names, values))

@@ -14,6 +14,12 @@ const BYTES: &[u8] = b"\x1d\0\0\0\x04a\0\x15\0\0\0\x03\0\x0e\0\0\0\x02b\0\x02\0\
 /// Its canonical form, in which that name is "0".
 const FORM: &[u8] = b"\x1e\0\0\0\x04a\0\x16\0\0\0\x030\0\x0e\0\0\0\x02b\0\x02\0\0\0c\0\0\0\0";
 
+/// `{"a": 1}`.
+const PAIR: &[u8] = b"\x0c\0\0\0\x10a\0\x01\0\0\0\0";
+
+/// `{"a": 1, "a": 2}`.
+const REPEATED: &[u8] = b"\x13\0\0\0\x10a\0\x01\0\0\0\x10a\0\x02\0\0\0\0";
+
 /// `{"d": [{"b": "c"}]}`.
 const APPENDED: &[u8] = b"\x1e\0\0\0\x04d\0\x16\0\0\0\x030\0\x0e\0\0\0\x02b\0\x02\0\0\0c\0\0\0\0";
 
@@ -83,6 +89,35 @@ fn a_refused_document_is_not_made(rt: HostRuntime) {
     assert!(rt; comes_right(forms_anew(alloc, raw), forms_anew(alloc, raw)));
     assert!(rt; comes_right(forms_bytes(alloc, raw), forms_bytes(alloc, raw)));
     assert!(rt; comes_right(starts(alloc), starts(alloc)));
+}
+
+#[test]
+fn a_pair_is_read(rt: HostRuntime) {
+    let alloc = rt.alloc();
+    let Ok(raw) = RawDocument::from_bytes(PAIR) else {
+        return;
+    };
+    assert!(rt; comes_right(reads(alloc, raw), reads(alloc, raw)));
+}
+
+/// Returns whether the document is refused since its name stands twice.
+fn finds(alloc: Global, raw: RawDocument<'_>) -> Result<bool, DocRefusal> {
+    match Document::from_raw(alloc, raw) {
+        Ok(_) => Ok(false),
+        Err(DocRefusal::RepeatedName { depth }) => Ok(depth == 1),
+        Err(refusal) => Err(refusal),
+    }
+}
+
+/// A name that is there is looked up before it is copied. So this asks for memory as often as `a_pair_is_read`, which
+/// `./try-refusals` compares.
+#[test]
+fn a_repeated_name_is_found(rt: HostRuntime) {
+    let alloc = rt.alloc();
+    let Ok(raw) = RawDocument::from_bytes(REPEATED) else {
+        return;
+    };
+    assert!(rt; comes_right(finds(alloc, raw), finds(alloc, raw)));
 }
 
 /// Returns whether a copy of the document is equal to it.
@@ -167,10 +202,10 @@ fn is_inserted(name: &str, value: &Bson) -> bool {
     name == "n" && matches!(value, Bson::Int32(2))
 }
 
-/// Returns true if the document is that of `BYTES` and, behind its pair, the one that `inserts` inserts.
-fn has_both(changed: &Document) -> bool {
+/// Returns true if the pair that `inserts` inserts is the only one of the document.
+fn has_pair(changed: &Document) -> bool {
     match (changed.len(), changed.get("n")) {
-        (2, Some(value)) => changed.contains_key("a") && matches!(value, Bson::Int32(2)),
+        (1, Some(value)) => matches!(value, Bson::Int32(2)),
         _ => false,
     }
 }
@@ -183,17 +218,17 @@ fn is_new(changed: &mut Document, name: String, value: Bson) -> bool {
     }
 }
 
-/// Returns true if a pair is inserted; or is handed back, the document is `before`, and the pair that came back is inserted
-/// then.
-fn inserts(changed: &mut Document, name: String, before: &Document) -> bool {
+/// Returns true if a pair is inserted into the empty document; or is handed back, the document is still empty, and the pair
+/// that came back is inserted then.
+fn inserts(changed: &mut Document, name: String) -> bool {
     match changed.insert(name, Bson::Int32(2)) {
-        Ok(_) => has_both(changed),
+        Ok(_) => has_pair(changed),
         Err(refused) => {
             let (name, value) = refused.value;
             is_inserted(name.as_str(), &value)
-                && *changed == *before
+                && changed.is_empty()
                 && is_new(changed, name, value)
-                && has_both(changed)
+                && has_pair(changed)
         }
     }
 }
@@ -206,26 +241,11 @@ fn name_again(alloc: Global) -> Option<String> {
     }
 }
 
-/// Returns true if a name is made, and `inserts` holds of it.
-fn inserts_named(alloc: Global, changed: &mut Document, before: &Document) -> bool {
-    match name_again(alloc) {
-        Some(name) => inserts(changed, name, before),
-        None => false,
-    }
-}
-
-/// Returns true if a second document is read, and `inserts` holds of it.
-fn inserts_into_another(alloc: Global, before: &Document) -> bool {
-    match document(alloc) {
-        Some(mut changed) => inserts_named(alloc, &mut changed, before),
-        None => false,
-    }
-}
-
-/// Returns true if a document is read, and a pair is inserted into one like it.
+/// Returns true if a name is made, and `inserts` holds of it. An empty document has no room for a pair, so its first one asks
+/// for memory.
 fn hands_back(alloc: Global) -> bool {
-    match document(alloc) {
-        Some(before) => inserts_into_another(alloc, &before),
+    match name_again(alloc) {
+        Some(name) => inserts(&mut Document::new(alloc), name),
         None => false,
     }
 }

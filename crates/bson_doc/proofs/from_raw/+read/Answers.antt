@@ -4,7 +4,8 @@ use Rattle.std.proofs.lemmas.Result.{err_from_is_err_and}
 use Rattle.bson_doc.specs.Array.{array_tree}
 use Rattle.bson_doc.specs.Bson.{value_of}
 use Rattle.bson_doc.specs.Document.{tree_of}
-use Rattle.bson_doc.proofs.Names.{was_new, was_there}
+use Rattle.bson_raw.specs.Pairs.{is_among}
+use Rattle.bson_doc.proofs.Names.{among_keys, put_last}
 use Rattle.bson_doc.proofs.Reading.{document_more, array_more, document_done, array_done, document_name_refused, document_value_refused}
 use Rattle.bson_doc.proofs.from_raw.+read.Goals as goal
 
@@ -26,40 +27,42 @@ read_array-returns-clause-read t c = λ whole spelled.
     let before = c.loop-value.invariant.so_far whole spelled in
     ap (array_tree 0) c.from_vec.ensures ∙ (array_done c.args.depth whole _ _ before (c.in-None.ensures.steps.1 before.rest before.left)).0
 
-pub read_document-returns-then-not-branch-clause-refused :
-    goal.read_document-returns-then-not-branch-clause-refused
-read_document-returns-then-not-branch-clause-refused t c = λ whole spelled.
+pub read_document-returns-then-contains-clause-refused :
+    goal.read_document-returns-then-contains-clause-refused
+read_document-returns-then-contains-clause-refused t c = λ whole spelled.
     let before = c.loop-name.invariant.so_far whole spelled in
     let first = c.in-Some.ensures.steps.1.0 before.rest before.left in
-    let there = was_there c.in_ok-from_str.field-0 c.loop-name.names.keys c.in_ok-insert.field-0 c.in_ok-insert.ensures.added c.if-not-branch.true in
-    document_name_refused c.args.depth whole _ _ _ before c.in-Some.name.now first.tree_value first.others first.is_first (rw c.in_ok-from_str.ensures.ok at there)
+    let there = sym (among_keys c.in-Some.name.now c.loop-name.names.keys) ∙ sym c.contains.ensures ∙ c.if-contains.true in
+    document_name_refused c.args.depth whole _ _ _ before c.in-Some.name.now first.tree_value first.others first.is_first there
 
 pub read_document-returns-in_err-read_value-clause-refused :
     goal.read_document-returns-in_err-read_value-clause-refused
 read_document-returns-in_err-read_value-clause-refused t c = λ whole spelled.
     let before = c.loop-name.invariant.so_far whole spelled in
     let first = c.in-Some.ensures.steps.1.0 before.rest before.left in
-    let new = (was_new c.in_ok-from_str.field-0 c.loop-name.names.keys c.insert.new.self.keys c.in_ok-insert.field-0 c.in_ok-insert.ensures.added c.in_ok-insert.ensures.keys c.if-not-branch.false).0 in
+    let new = sym (among_keys c.in-Some.name.now c.loop-name.names.keys) ∙ sym c.contains.ensures ∙ c.if-contains.false in
     let told = err_from_is_err_and c.from_residual-in_err-read_value.result c.from_residual-in_err-read_value.ensures.1 in
     rw (told.1, told.2)
-    (document_value_refused c.args.depth whole _ _ _ before c.in-Some.name.now first.tree_value first.others c.in_err-read_value.field-0.0 first.is_first (rw c.in_ok-from_str.ensures.ok at new) (c.in_err-read_value.ensures.refused first.tree_value first.shown))
+    (document_value_refused c.args.depth whole _ _ _ before c.in-Some.name.now first.tree_value first.others c.in_err-read_value.field-0.0 first.is_first new (c.in_err-read_value.ensures.refused first.tree_value first.shown))
 
 pub read_document-loop-name-preserved : goal.read_document-loop-name-preserved
 read_document-loop-name-preserved t c =
-    let new = was_new c.in_ok-from_str.field-0 c.loop-name.names.keys c.insert.new.self.keys c.in_ok-insert.field-0 c.in_ok-insert.ensures.added c.in_ok-insert.ensures.keys c.if-not-branch.false in
+    let names = c.loop-name.names.keys in
+    let new = sym (among_keys c.in-Some.name.now names) ∙ sym c.contains.ensures ∙ c.if-contains.false in
+    let put = put_last c.in_ok-from_str.field-0 names c.insert.new.self.keys (ap (λ n. is_among n (map string_bytes names)) c.in_ok-from_str.ensures.ok ∙ new) c.in_ok-insert.ensures.keys in
     record {
       can_next = tt;
       is_finite = tt;
       walked = c.in-Some.ensures.steps.0 ∙ c.loop-name.invariant.walked;
-      lengths = rw (new.1, c.in_ok-push.ensures.items) (length-append c.loop-name.names.keys (c.in_ok-from_str.field-0 ∷ []) ∙ ap (λ (n : ℕ). n + 1) c.loop-name.invariant.lengths ∙ sym (length-append c.loop-name.values.items (c.in_ok-read_value.field-0 ∷ [])));
+      lengths = rw (put, c.in_ok-push.ensures.items) (length-append names (c.in_ok-from_str.field-0 ∷ []) ∙ ap (λ (n : ℕ). n + 1) c.loop-name.invariant.lengths ∙ sym (length-append c.loop-name.values.items (c.in_ok-read_value.field-0 ∷ [])));
       so_far = λ whole spelled.
           let before = c.loop-name.invariant.so_far whole spelled in
           let first = c.in-Some.ensures.steps.1.0 before.rest before.left in
           let v = first.tree_value in
-          rw (new.1, c.in_ok-push.ensures.items, map-append value_of, map-append string_bytes, c.in_ok-from_str.ensures.ok)
-          (document_more c.args.depth whole (map string_bytes c.loop-name.names.keys) (map value_of c.loop-name.values.items) _ _ before c.in-Some.name.now v (value_of c.in_ok-read_value.field-0) first.others
-          (length-map c.loop-name.names.keys string_bytes ∙ c.loop-name.invariant.lengths ∙ sym (length-map c.loop-name.values.items value_of))
-          first.is_first first.left (rw c.in_ok-from_str.ensures.ok at new.0) (c.in_ok-read_value.ensures.unique v first.shown) (c.in_ok-read_value.ensures.read v first.shown));
+          rw (put, c.in_ok-push.ensures.items, map-append value_of, map-append string_bytes, c.in_ok-from_str.ensures.ok)
+          (document_more c.args.depth whole (map string_bytes names) (map value_of c.loop-name.values.items) _ _ before c.in-Some.name.now v (value_of c.in_ok-read_value.field-0) first.others
+          (length-map names string_bytes ∙ c.loop-name.invariant.lengths ∙ sym (length-map c.loop-name.values.items value_of))
+          first.is_first first.left new (c.in_ok-read_value.ensures.unique v first.shown) (c.in_ok-read_value.ensures.read v first.shown));
     }
 
 pub read_document-returns-clause-read : goal.read_document-returns-clause-read
