@@ -19,4 +19,11 @@ pub use Rattle.bson_text.specs.Text
 pub use Rattle.bson_text.specs.ValueText
 pub use Rattle.bson_text.specs.Dump
 -- the words that clauses of other crates cite
+pub use Rattle.bson_doc.specs.Array.{array_tree}
+pub use Rattle.bson_doc.specs.Bson.{value_of}
+pub use Rattle.bson_doc.specs.Codes.{coded_value}
+pub use Rattle.bson_doc.specs.Document.{put, tree_of}
 pub use Rattle.bson_doc.specs.Plain.{canonical_len, plain}
+pub use Rattle.bson_doc.specs.Repeats.{repeat_depth}
+pub use Rattle.bson_doc.specs.Same.{same}
+pub use Rattle.bson_doc.specs.Unwritable.{IsUnwritable}

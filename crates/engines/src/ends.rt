@@ -7,16 +7,12 @@ ghost use Rattle.wire_peer.specs.{MayTake};
 
 use crate::run::RunEnd;
 use std::alloc::{AllocError, Global};
-use wire_msg::Payload;
+use wire_msg::{MAX_MESSAGE_LEN, Payload};
 use wire_peer::{
     AnswerRefusal, CallNo, CallRefusal, Client, ClientState, Echo, Logged, Server, ServerCause,
     ServerState,
 };
 use wire_stream::{Inlet, Link, Pulled, flush};
-
-/// How often an end receives at most while it waits for a message. It takes one byte at least each time, and no message has
-/// more.
-const RECEIVES: u32 = 48_000_000;
 
 /// A client or a server, the link to the other end, and the piece of bytes that came over it last.
 #[derive(Drop)]
@@ -80,14 +76,15 @@ impl<L: Link + Drop> End<Client, L> {
         Ok(())
     }
 
-    /// Receives until the reply is ready, and lets go of it. Errs if the link failed or ended, if what came closed the
+    /// Receives until the reply is ready, and lets go of it. One byte comes at least each time, so no reply wants more
+    /// turns than a message has bytes at most. Errs if the link failed or ended, if what came closed the
     /// client, or if memory ran out.
     pub fn receive_reply(&mut self) -> Result<(), RunEnd>
         requires { MayTake self.old.peer }
         ensures complete { (k : ℕ) → Awaits k self.old.peer → OnOk result (IsIdle (k + 1) self.new.peer) }
         ensures stopped { IfErr result (λ end. is_done end ≡ false) }
     {
-        for _ in 0..RECEIVES {
+        for _ in 0..MAX_MESSAGE_LEN {
             self.pull()?;
             if self.feed()? {
                 self.peer.release();
@@ -125,7 +122,7 @@ impl<L: Link + Drop> End<Server, L> {
     pub fn receive_request(&mut self) -> Result<(), RunEnd>
         ensures { IfErr result (λ end. is_done end ≡ false) }
     {
-        for _ in 0..RECEIVES {
+        for _ in 0..MAX_MESSAGE_LEN {
             if self.peer.waiting() > 0 {
                 return Ok(());
             }

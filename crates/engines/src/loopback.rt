@@ -13,12 +13,9 @@ use std::alloc::{AllocError, Global};
 use std::io;
 use std::io::{ErrorKind, Write};
 use std::net::{Net, OpenListener, OpenStream, TcpListener, TcpStream};
-use wire_msg::PayloadBuf;
+use wire_msg::{MAX_MESSAGE_LEN, PayloadBuf};
 use wire_peer::{CallNo, Client, Echo, Logged, Server};
 use wire_stream::{Link, TcpLink};
-
-/// The most bytes that a message has.
-const LIMIT: u32 = 48_000_000;
 
 /// The two ends of the connection, and the log of the server's handler.
 #[derive(Drop)]
@@ -33,10 +30,10 @@ impl<L: Link + Drop> Loopback<L> {
     fn new(alloc: Global, near: L, far: L) -> Result<Loopback<L>, AllocError>
         ensures { IfOk result (λ loopback. IsIdle 0 (loopback.client.peer)) }
     {
-        let Ok(client) = Client::new(alloc, 1, 1, LIMIT) else {
+        let Ok(client) = Client::new(alloc, 1, 1, MAX_MESSAGE_LEN) else {
             unreachable!()
         };
-        let Ok(server) = Server::new(alloc, 0, 1, LIMIT) else {
+        let Ok(server) = Server::new(alloc, 0, 1, MAX_MESSAGE_LEN) else {
             return Err(AllocError);
         };
         Ok(Loopback {

@@ -12,10 +12,7 @@ use crate::msg_text::write_message;
 use crate::run::RunEnd;
 use std::alloc::Global;
 use std::io::Write;
-use wire_msg::{MsgFault, MsgFront, RawMsg};
-
-/// The most bytes that a message has.
-const LIMIT: u32 = 48_000_000;
+use wire_msg::{MAX_MESSAGE_LEN, MsgFault, MsgFront, RawMsg};
 
 /// Returns the fault of a message that begins at offset `start` of the input.
 fn fault_in_message(start: usize, fault: MsgFault) -> InputFault
@@ -35,14 +32,14 @@ fn write_each<W: Write>(
     out: &mut W,
 ) -> Result<Option<InputFault>, RunEnd>
     ensures written { IfOk result (λ fault. (texts : List ℕ)
-        × MessagesAre LIMIT bytes.now texts (line_of fault)
+        × MessagesAre MAX_MESSAGE_LEN bytes.now texts (line_of fault)
         × Appends (W.contents out.old) (W.contents out.new) texts) }
     ensures stopped { IfErr result (λ end. end ≡ RunEnd.InOut) }
 {
     let mut rest = bytes;
     while !rest.is_empty() {
         let start = bytes.len() - rest.len();
-        match RawMsg::front_with(alloc, rest, LIMIT) {
+        match RawMsg::front_with(alloc, rest, MAX_MESSAGE_LEN) {
             MsgFront::Whole {
                 message,
                 rest: after,

@@ -3,8 +3,7 @@ use Rattle.std.specs.Prelude.{ℕ, ℤ, pos, List, [], ◌∷◌, Bool, true, fa
 use Rattle.bson_elem.specs.declared.kinds.Kind.TheVariants as kinds
 use Rattle.bson_elem.specs.{boolean_value, no_code, number_value, raw_value, text_value}
 use Rattle.bson_raw.specs.{TreeValue, document_value, leaf_value}
-use Rattle.bson_doc.specs.Array.{array_tree}
-use Rattle.bson_doc.specs.Document.{tree_of}
+use Rattle.bson_doc.specs.{array_tree, tree_of}
 use Rattle.test_server.specs.declared.answer.Batch.{Batch}
 use Rattle.test_server.specs.declared.answer.Batch.TheVariants.{First, Next}
 use Rattle.test_server.specs.declared.failure.CommandError.{CommandError}

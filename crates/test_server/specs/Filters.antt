@@ -3,10 +3,7 @@ use Rattle.std.specs.Prelude.{ℕ, List, [], ◌∷◌, Bool, true, false, ◌&&
 use Rattle.bson_elem.specs.declared.kinds.Kind.TheVariants as kinds
 use Rattle.bson_elem.specs.{Tree, inner_pair, leaf_pair, no_pairs}
 use Rattle.bson_raw.specs.{TreeValue, document_value, first_named, leaf_value}
-use Rattle.bson_doc.specs.Codes.{coded_value}
-use Rattle.bson_doc.specs.Plain.{plain}
-use Rattle.bson_doc.specs.Repeats.{repeat_depth}
-use Rattle.bson_doc.specs.Same.{same}
+use Rattle.bson_doc.specs.{coded_value, plain, repeat_depth, same}
 use Rattle.test_server.specs.declared.failure.CommandError.{CommandError}
 use Rattle.test_server.specs.declared.failure.CommandError.TheVariants as errors
 

@@ -3,8 +3,7 @@ use Rattle.std.specs.Prelude.{◌≡◌, ◌≢◌, ◌⊎◌, List, [], ◌∷�
 use Rattle.bson_elem.specs.{Tree}
 use Rattle.bson_doc.specs.declared.refusal.DocRefusal.{DocRefusal}
 use Rattle.bson_doc.specs.declared.refusal.DocRefusal.TheVariants as written
-use Rattle.bson_doc.specs.Document.{tree_of}
-use Rattle.bson_doc.specs.Unwritable.{IsUnwritable}
+use Rattle.bson_doc.specs.{tree_of, IsUnwritable}
 use Rattle.wire_msg.specs.declared.refusal.MsgRefusal.{MsgRefusal}
 use Rattle.wire_msg.specs.declared.refusal.MsgRefusal.TheVariants as messages
 use Rattle.wire_msg.specs.{Content, IsBodyRefusal, body_alone}

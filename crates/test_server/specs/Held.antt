@@ -2,7 +2,7 @@
 use Rattle.std.specs.Prelude.{ℕ, zero, suc, ℤ, pos, nat_lt, slice_get, ◌+◌, ◌&&◌, List, [], ◌∷◌, ◌++◌, Bool, Option, Some, None, codes, length, map, string_bytes, if◌then◌else◌, option_map}
 use Rattle.std.specs.Str.{bytes_eq}
 use Rattle.bson_raw.specs.{TreeValue}
-use Rattle.bson_doc.specs.Bson.{value_of}
+use Rattle.bson_doc.specs.{value_of}
 use Rattle.test_server.specs.declared.namespace.Namespace.{Namespace}
 use Rattle.test_server.specs.declared.namespace.NamespaceBuf.{NamespaceBuf}
 use Rattle.test_server.specs.declared.store.Collection.{Collection}

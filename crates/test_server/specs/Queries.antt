@@ -1,5 +1,5 @@
 -- What find asks for, as it was read.
-use Rattle.bson_doc.specs.Document.{tree_of}
+use Rattle.bson_doc.specs.{tree_of}
 use Rattle.test_server.specs.declared.commands.find.Query.{Query}
 use Rattle.test_server.specs.Commands.{QueryView}
 use Rattle.test_server.specs.Held.{namespace_of}

@@ -2,7 +2,7 @@
 use Rattle.std.specs.Prelude.{◌≡◌, ℕ, ℤ, ◌<◌, List, Some, None, Result, Ok, Err, drop, length, map, slice_get, take}
 use Rattle.bson_raw.specs.{TreeValue}
 use Rattle.bson_doc.specs.declared.bson_values.Bson.{Bson}
-use Rattle.bson_doc.specs.Bson.{value_of}
+use Rattle.bson_doc.specs.{value_of}
 use Rattle.std.specs.declared.alloc.Global.{Global}
 use Rattle.std.specs.declared.vec.Vec.{Vec}
 use Rattle.test_server.specs.declared.failure.CommandError.TheVariants as errors

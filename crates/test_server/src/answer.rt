@@ -1,8 +1,7 @@
 //! The parts of answers.
 
 ghost use Rattle.std.specs.Prelude.{◌≡◌, IfOk, OnOk, OnSome, codes, map, string_bytes};
-ghost use Rattle.bson_doc.specs.Bson.{value_of};
-ghost use Rattle.bson_doc.specs.Document.{put};
+ghost use Rattle.bson_doc.specs.{value_of, put};
 ghost use Rattle.test_server.specs.Answers.{batch_name, cursor_answer, cursor_pairs, double_one, error_pairs, inner, ok_alone, refusal_pairs, text};
 
 use crate::failure::CommandError;

@@ -9,11 +9,9 @@ use crate::transcript::write_connection;
 use std::alloc::Global;
 use std::io::{BufWriter, Write};
 use std::net::{Net, OpenListener, TcpListener};
+use wire_msg::MAX_MESSAGE_LEN;
 use wire_peer::{Logged, ServeEnd, serve};
 use wire_stream::{Link, TcpLink};
-
-/// The most bytes that a message may have.
-const LIMIT: u32 = 48_000_000;
 
 /// Why the server ends.
 #[derive(Clone, Copy, Debug, PartialEq, Eq)]
@@ -54,7 +52,7 @@ fn serve_one<L: Link, W: Write>(
         (W.contents out.old) (W.contents out.new) }
 {
     let before = logged.entries().len();
-    let end = serve(alloc, link, logged, number, LIMIT, u64::MAX);
+    let end = serve(alloc, link, logged, number, MAX_MESSAGE_LEN, u64::MAX);
     match write_connection(number, &logged.entries()[before..], end, out) {
         Ok(()) => Ok(end),
         Err(_) => Err(RunEnd::InOut),

@@ -3,8 +3,7 @@
 ghost use Rattle.std.specs.Prelude.{◌≡◌, IfErr, IfOk, MatchOption, None, Ok, Option, map};
 ghost use Rattle.bson_elem.specs.{Spells, Tree};
 ghost use Rattle.bson_raw.specs.{ShowsFound, TreeValue, Shows, document_bytes, first_named};
-ghost use Rattle.bson_doc.specs.Bson.{value_of};
-ghost use Rattle.bson_doc.specs.Document.{tree_of};
+ghost use Rattle.bson_doc.specs.{value_of, tree_of};
 ghost use Rattle.test_server.specs.Filters.{filter_field, filter_of, found, has_fields, has_operator, is_operator, is_operators, matches};
 ghost use Rattle.test_server.specs.Errors.{IsFailure};
 

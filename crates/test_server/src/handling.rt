@@ -1,7 +1,7 @@
 //! The server's handler.
 
 ghost use Rattle.std.specs.Prelude.{◌≡◌, ◌++◌, ◌∷◌, [], IfErr, OnErr, OnOk};
-ghost use Rattle.bson_doc.specs.Document.{tree_of};
+ghost use Rattle.bson_doc.specs.{tree_of};
 ghost use Rattle.wire_msg.specs.{body_alone};
 ghost use Rattle.wire_peer.specs.{answers_of};
 ghost use Rattle.test_server.specs.Handling.{IsUnanswerable};

@@ -3,7 +3,7 @@
 ghost use Rattle.std.specs.Prelude.{◌≡◌, ◌∷◌, [], IfErr, IfOk, List, Ok, codes, map, vec_len, ◌≤◌};
 ghost use Rattle.bson_elem.specs.{Spells, Tree};
 ghost use Rattle.bson_raw.specs.{Shows, TreeValue, array_bytes, document_bytes, first_named};
-ghost use Rattle.bson_doc.specs.Bson.{value_of};
+ghost use Rattle.bson_doc.specs.{value_of};
 ghost use Rattle.wire_msg.specs.{Carries, Content, DocumentsAre, Sequence};
 ghost use Rattle.test_server.specs.Errors.{IsFailure};
 ghost use Rattle.test_server.specs.Inserted.{Appended, in_array, in_field, in_sequence, in_sequences, alone, brought, inserted, kept_value};

@@ -1,7 +1,7 @@
 //! What the server holds: documents by namespace, and the cursors over what was found.
 
 ghost use Rattle.std.specs.Prelude.{◌≡◌, ◌≤◌, ◌<◌, IfErr, IfOk, MatchOption, None, OnErr, OnOk, Some, drop, length, map, take};
-ghost use Rattle.bson_doc.specs.Bson.{value_of};
+ghost use Rattle.bson_doc.specs.{value_of};
 ghost use Rattle.test_server.specs.Held.{collection_index, collection_of, cursor_index, cursor_of, documents_in, empty_store, id_if_left, namespace_of, open_at, opened, opened_id, store_of, with_documents, with_left, without_collection};
 ghost use Rattle.test_server.specs.Taking.{IsNextBatch, IsOpenAt};
 

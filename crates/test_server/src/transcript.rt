@@ -3,8 +3,7 @@
 ghost use Rattle.std.specs.Prelude.{◌≡◌, OnOk, codes, flat_map, map};
 ghost use Rattle.std.specs.Io.KnownBytes.{Appends};
 ghost use Rattle.wire_msg.specs.{Carries, Content, DocumentsAre, Sequence};
-ghost use Rattle.wire_peer.specs.{buf_content, entry_of, log_of};
-ghost use Rattle.wire_peer.specs.Logs.{outcome_of};
+ghost use Rattle.wire_peer.specs.{buf_content, entry_of, log_of, outcome_of};
 ghost use Rattle.test_server.specs.Transcript.{answer_text, connection_text, end_text, entry_text, outcome_text, payload_text, request_text, sequence_line};
 
 use crate::commands::name_of;

@@ -35,10 +35,11 @@ pub use Rattle.wire_peer.specs.ClientCauses.{IsSetupRefusal}
 pub use Rattle.wire_peer.specs.ClientSteps.{ClientSeen, IsCallRefusal, IsCalled, MayTake, Settles, Takes, after_message, called, closed, ended, holding, new_client, released}
 pub use Rattle.wire_peer.specs.ContentSets.{coded_content}
 pub use Rattle.wire_peer.specs.Contents.{buf_content, content_of}
+pub use Rattle.wire_peer.specs.Counting.{numbers, wanted}
 pub use Rattle.wire_peer.specs.FreeIds.{IsFirstFree, id_following, id_past, max_id}
 pub use Rattle.wire_peer.specs.LentReplies.{ready_of}
 pub use Rattle.wire_peer.specs.Limits.{IsLimit, IsWindow}
-pub use Rattle.wire_peer.specs.Logs.{AskStep, Does, LogEntry, LogStep, RunOf, Stops, entered, entry_of, log_of}
+pub use Rattle.wire_peer.specs.Logs.{AskStep, Does, LogEntry, LogStep, RunOf, Stops, entered, entry_of, log_of, outcome_of}
 pub use Rattle.wire_peer.specs.Replying.{PushStep, ReplyStep}
 pub use Rattle.wire_peer.specs.Requesting.{IsAccepted, IsFull, IsNextCall, IsRefused, RequestState, after_call, awaiting, number_after}
 pub use Rattle.wire_peer.specs.Requests.{Asked, IsCount, asked, asked_by, takes_more}

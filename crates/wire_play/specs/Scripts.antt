@@ -4,8 +4,7 @@ use Rattle.std.specs.Io.KnownBytes.{Appends}
 use Rattle.wire_peer.specs.declared.counting.Count.{Count as CountHandler}
 use Rattle.wire_peer.specs.declared.echoing.Echo.{Echo as EchoHandler}
 use Rattle.wire_peer.specs.declared.handlers.HandlerStop.TheVariants as stops
-use Rattle.wire_peer.specs.Counting.{numbers, wanted}
-use Rattle.wire_peer.specs.{Does, Stops}
+use Rattle.wire_peer.specs.{Does, Stops, numbers, wanted}
 use Rattle.wire_model.specs.declared.events.Event.{Event}
 use Rattle.wire_model.specs.declared.limits.WorldLimits.{WorldLimits}
 use Rattle.wire_model.specs.declared.refusals.WorldRefusal.{WorldRefusal}

@@ -3,9 +3,8 @@
 ghost use Rattle.std.specs.Prelude.{◌≡◌, OnOk, false, flat_map, if◌then◌else◌, map, true};
 ghost use Rattle.std.specs.Io.KnownBytes.{Appends};
 ghost use Rattle.bson_elem.specs.{document, elements};
-ghost use Rattle.wire_peer.specs.{allows_more, awaits_reply, buf_content, entry_of};
-ghost use Rattle.wire_peer.specs.Logs.{outcome_of};
-ghost use Rattle.wire_world.specs.Records.{contents_of, record_of, state_of};
+ghost use Rattle.wire_peer.specs.{allows_more, awaits_reply, buf_content, entry_of, outcome_of};
+ghost use Rattle.wire_world.specs.{contents_of, record_of, state_of};
 ghost use Rattle.wire_play.specs.Closing.{body_text, call_line, call_text, closing_text, entry_line, kind_word, numbered, outcome_text, part_line, state_word};
 
 use bson_text::hex_to;

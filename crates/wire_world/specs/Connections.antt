@@ -2,8 +2,7 @@
 use Rattle.std.specs.Prelude.{◌≡◌, ℕ, Bool, true, false, List, Option, Some, None}
 use Rattle.wire_peer.specs.{ClientSeen, ServerView}
 use Rattle.wire_peer.specs.declared.client_state.ClientState.TheVariants.{Open}
-use Rattle.wire_model.specs.{Conn}
-use Rattle.wire_model.specs.Conns.{no_client}
+use Rattle.wire_model.specs.{Conn, no_client}
 
 -- a connection without a client is raw
 abbrev pub conn_of : Option ClientSeen → ServerView → List ℕ → (up_cut down_cut : Bool) → Conn

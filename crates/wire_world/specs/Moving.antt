@@ -2,10 +2,7 @@
 use Rattle.std.specs.Prelude.{◌≡◌, ◌≢◌, ℕ, ◌+◌, ◌-◌, ◌<◌, ◌≤◌, ◌⊎◌, List, [], ◌++◌, drop, length, take, None, Result, Ok, Err}
 use Rattle.wire_peer.specs.{ClientSeen, ServerView, released}
 use Rattle.wire_peer.specs.declared.client_state.ClientState.TheVariants as clients
-use Rattle.wire_model.specs.{Conn, Record}
-use Rattle.wire_model.specs.Moves.{ClientTakes, CopiesReply, ClientTakesAll, ServerTakesAll, TakesNone, joined, with_client_output, with_server_output}
-use Rattle.wire_model.specs.Cuts.{cut_both}
-use Rattle.wire_model.specs.Happening.{ClientWantsRoom, WantsRoom}
+use Rattle.wire_model.specs.{Conn, Record, ClientTakes, CopiesReply, ClientTakesAll, ServerTakesAll, TakesNone, joined, with_client_output, with_server_output, cut_both, ClientWantsRoom, WantsRoom}
 
 -- pieces of the client's output, at most n bytes, went into the server
 pub record MovedUp (old : Conn) (n : ℕ) (new : Conn) : Type 0 where

@@ -3,8 +3,7 @@ use Rattle.std.specs.Prelude.{List, map}
 use Rattle.wire_msg.specs.{Content}
 use Rattle.wire_msg.specs.declared.payload_buf.PayloadBuf.{PayloadBuf}
 use Rattle.wire_peer.specs.{buf_content}
-use Rattle.wire_model.specs.{Record, State, asked_as}
-use Rattle.wire_model.specs.Machines.{Pending, Done, Sent, Lost}
+use Rattle.wire_model.specs.{Record, State, asked_as, Pending, Done, Sent, Lost}
 use Rattle.wire_world.specs.declared.records.CallRecord.{CallRecord}
 use Rattle.wire_world.specs.declared.records.CallState.{CallState}
 use Rattle.wire_world.specs.declared.records.CallState.TheVariants as states

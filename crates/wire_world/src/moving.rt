@@ -2,8 +2,7 @@
 
 ghost use Rattle.std.specs.Prelude.{[], ◌≡◌, ◌≢◌, ◌≤◌, ℕ, IfOk, MatchResult, None, OnErr, OnOk, drop, false, take, true};
 ghost use Rattle.wire_msg.specs.{IsOpen};
-ghost use Rattle.wire_model.specs.Moves.{CopiesReply, with_server_output};
-ghost use Rattle.wire_model.specs.Happening.{WantsRoom, closed_now};
+ghost use Rattle.wire_model.specs.{CopiesReply, with_server_output, WantsRoom, closed_now};
 ghost use Rattle.wire_peer.specs.{MayTake};
 ghost use Rattle.wire_world.specs.Moving.{DownEnd, DownResult, FedClient, FedServer, GoneRaw, GoneUp, MovedUp, RawEnd, RawResult, TakenRaw, Unfed, UpEnd, UpResult};
 ghost use Rattle.wire_world.specs.Records.{records_of};

@@ -1,7 +1,7 @@
 //! The command hello, and its older forms isMaster and ismaster.
 
 ghost use Rattle.std.specs.Prelude.{◌≡◌, IfOk, OnOk, codes, pos, true};
-ghost use Rattle.bson_doc.specs.Document.{put};
+ghost use Rattle.bson_doc.specs.{put};
 ghost use Rattle.test_server.specs.Answers.{hello_pairs, int32, primary_name, truth};
 
 use crate::answer::{set, set_ok};

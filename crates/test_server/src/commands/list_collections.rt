@@ -3,8 +3,7 @@
 ghost use Rattle.std.specs.Prelude.{◌≡◌, IfOk, map, codes, false, ◌∷◌, []};
 ghost use Rattle.bson_elem.specs.{Spells, Tree};
 ghost use Rattle.bson_raw.specs.{document_bytes};
-ghost use Rattle.bson_doc.specs.Bson.{value_of};
-ghost use Rattle.bson_doc.specs.Document.{tree_of};
+ghost use Rattle.bson_doc.specs.{value_of, tree_of};
 ghost use Rattle.test_server.specs.Answers.{inner, listing, truth};
 ghost use Rattle.test_server.specs.Commands.{IsCarriedOut, list_answer, list_collections, listings};
 ghost use Rattle.test_server.specs.Held.{collection_of, store_of};
