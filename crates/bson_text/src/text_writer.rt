@@ -38,11 +38,12 @@ impl<W: Write> TextWriter<W> {
         }
     }
 
-    /// Writes all of `bytes`.
+    /// Writes all of `bytes`. If that fails, the writer's error is kept.
     #[inline(always)]
     pub(crate) fn write_all(&mut self, bytes: &[u8]) -> Result<(), Failed>
         ensures bytes { OnOk result (Appends (text_contents W.contents self.old)
             (text_contents W.contents self.new) bytes.now) }
+        ensures kept { OnErr result (IsSome self.new.error) }
     {
         match self.text.try_extend_from_slice(bytes) {
             Ok(()) => Ok(()),
@@ -54,8 +55,9 @@ impl<W: Write> TextWriter<W> {
     #[cold]
     #[inline(never)]
     fn write_all_past(&mut self, bytes: &[u8]) -> Result<(), Failed>
-        ensures { OnOk result (Appends (text_contents W.contents self.old)
+        ensures bytes { OnOk result (Appends (text_contents W.contents self.old)
             (text_contents W.contents self.new) bytes.now) }
+        ensures kept { OnErr result (IsSome self.new.error) }
     {
         self.pass_on()?;
         match self.text.try_extend_from_slice(bytes) {
@@ -86,8 +88,9 @@ impl<W: Write> TextWriter<W> {
     /// Passes `bytes` on to the writer. No bytes may wait.
     fn write_through(&mut self, bytes: &[u8]) -> Result<(), Failed>
         requires { self.old.text.items ≡ [] }
-        ensures { OnOk result (Appends (text_contents W.contents self.old)
+        ensures bytes { OnOk result (Appends (text_contents W.contents self.old)
             (text_contents W.contents self.new) bytes.now) }
+        ensures kept { OnErr result (IsSome self.new.error) }
     {
         match self.out.write_all(bytes) {
             Ok(()) => Ok(()),

@@ -68,7 +68,7 @@ const KEPT: [&str; 4] = [
 
 #[test]
 fn values_are_read_and_written(rt: HostRuntime) {
-    for (hex, _, _) in &EACH_KIND {
+    for (hex, _) in &EACH_KIND {
         assert!(rt; is_written_as(rt.alloc(), hex, hex), "{hex}");
     }
 }

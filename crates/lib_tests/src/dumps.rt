@@ -9,7 +9,7 @@ use bson_doc::{dump_elements, dump_to};
 use bson_raw::RawDocument;
 use std::alloc::Global;
 use std::io;
-use std::io::Write;
+use std::io::{ErrorKind, Write};
 
 /// Returns true if the document's text is this one.
 fn has_text(alloc: Global, document: RawDocument<'_>, text: &str) -> bool {
@@ -52,7 +52,7 @@ const ROWS: [(&str, &str); 4] = [
 
 #[test]
 fn one_element_of_each_kind(rt: HostRuntime) {
-    for (digits, _, text) in &EACH_KIND {
+    for (digits, text) in &EACH_KIND {
         assert!(rt; is_dumped_as(rt.alloc(), digits, text), "{digits}");
     }
 }
@@ -107,7 +107,7 @@ fn lines_of_elements(rt: HostRuntime) {
     assert!(rt; has_lines_at(rt.alloc(), 2, text));
 }
 
-/// A writer that takes `room` bytes and then fails.
+/// A writer that takes `room` bytes and then fails, with an error of a kind that no other part of a dump makes.
 #[derive(Drop)]
 struct Short {
     room: usize,
@@ -117,7 +117,7 @@ impl Write for Short {
     fn write(&mut self, buf: &[u8]) -> io::Result<usize> {
         let taken = buf.len().min(self.room);
         if taken == 0 {
-            return Err(io::Error::other("full"));
+            return Err(io::Error::from(ErrorKind::StorageFull));
         }
         self.room -= taken;
         Ok(taken)
@@ -128,10 +128,13 @@ impl Write for Short {
     }
 }
 
-/// Returns true if the document's text fills this room and fails.
+/// Returns true if the document's text fills this room, and the dump ends with the writer's own error.
 fn fails_in(document: RawDocument<'_>, room: usize) -> bool {
     let mut out = Short { room };
-    dump_to(document, &mut out).is_err() && out.room == 0
+    match dump_to(document, &mut out) {
+        Ok(()) => false,
+        Err(error) => error.kind() == ErrorKind::StorageFull && out.room == 0,
+    }
 }
 
 /// Returns true if the document's text just fills this room.
@@ -152,4 +155,22 @@ fn ends_at_a_failed_write(rt: HostRuntime) {
         assert!(rt; fails_in(document, room), "at {room}");
     }
     assert!(rt; fits_in(document, 42));
+}
+
+// A text that is longer than the buffer before the writer.
+#[test]
+fn ends_at_a_failed_write_of_a_long_text(rt: HostRuntime) {
+    // {"v": a binary of 299 bytes 00}
+    let mut bytes = [0; 312];
+    (bytes[0], bytes[1], bytes[4], bytes[5]) = (0x38, 1, 5, b'v');
+    (bytes[7], bytes[8]) = (0x2b, 1);
+    let Ok(document) = RawDocument::from_bytes(&bytes) else {
+        assert!(rt; false);
+        return;
+    };
+    // The text has 13 + 20 + 598 + 1 bytes.
+    for room in &[0, 1, 511, 512, 513, 631] {
+        assert!(rt; fails_in(document, *room), "at {room}");
+    }
+    assert!(rt; fits_in(document, 632));
 }
