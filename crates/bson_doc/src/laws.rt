@@ -16,65 +16,66 @@ use crate::documents::Document;
 use crate::refusal::DocRefusal;
 use std::alloc::Global;
 
-/// A tree in canonical form is in canonical form.
+/// Proves that a tree in canonical form is in canonical form.
 pub fn plain_is_plain()
     ensures { (t : Tree) → plain (plain t) ≡ plain t }
 {}
 
-/// Trees with the same canonical bytes have the same canonical tree.
+/// Proves that trees with the same canonical bytes have the same canonical tree.
 pub fn same_bytes_same_plain_tree()
     ensures { (t u : Tree) (bytes : List ℕ) → Spells (plain t) bytes → Spells (plain u) bytes
         → plain t ≡ plain u }
 {}
 
-/// Trees with the same canonical tree have the same canonical bytes.
+/// Proves that trees with the same canonical tree have the same canonical bytes.
 pub fn same_plain_tree_same_bytes()
     ensures { (t u : Tree) (a b : List ℕ) → plain t ≡ plain u → Spells (plain t) a
         → Spells (plain u) b → a ≡ b }
 {}
 
-/// The canonical form of a canonical document is that document.
+/// Proves that the canonical form of a canonical document is that document.
 pub fn canonical_of_canonical()
     ensures { (t u : Tree) (a b : List ℕ) → Spells (plain t) a → Spells u a
         → Spells (plain u) b → a ≡ b }
 {}
 
-/// A document is canonical exactly where its tree is in canonical form.
+/// Proves that a document is canonical exactly where its tree is in canonical form.
 pub fn canonical_where_plain()
     ensures { (t : Tree) (bytes : List ℕ) → Spells t bytes
         → (Spells (plain t) bytes ↔ (plain t ≡ t)) }
 {}
 
-/// The outermost document keeps its names.
+/// Proves that the outermost document keeps its names.
 pub fn plain_keeps_names()
     ensures { (t : Tree) → names_of (plain t) ≡ names_of t }
 {}
 
-/// In the canonical form of an array the name of each value is its index in decimal, counted from 0.
+/// Proves that in the canonical form of an array the name of each value is its index in decimal, counted from 0.
 pub fn array_names_are_indexes()
     ensures { (t : Tree) (k : ℕ) → k < length (names_of t)
         → slice_get (names_of (numbered 0 t)) k ≡ Some (decimal k) }
 {}
 
-/// The values of a document keep their indexes, their kinds and what they hold, but for the names in arrays inside.
+/// Proves that the values of a document keep their indexes, their kinds and what they hold, but for the names in arrays
+/// inside.
 pub fn plain_keeps_values()
     ensures { (t : Tree) (k : ℕ) → nth_value k (plain t) ≡ option_map plain_value (nth_value k t) }
 {}
 
-/// The values of an array keep them, too.
+/// Proves that the values of an array keep them, too.
 pub fn numbered_keeps_values()
     ensures { (t : Tree) (k : ℕ)
         → nth_value k (numbered 0 t) ≡ option_map plain_value (nth_value k t) }
 {}
 
-/// A document has a canonical form where that isn't longer than a document may be.
+/// Proves that a document has a canonical form where that isn't longer than a document may be.
 pub fn canonical_form_is_there()
     ensures { (t : Tree) (bytes : List ℕ) → Spells t bytes → canonical_len t < 2 ^ 31
         → Spells (plain t) (document (elements (plain t))) }
 {}
 
-/// Two lists of pairs are equal documents (`==`) exactly where they are the same list, and two lists
-/// of values equal arrays.
+/// Proves that two lists of pairs are equal documents (`==`) exactly where they are the same list, and two lists of
+/// values equal arrays.
 pub fn equal_where_same()
     ensures documents { (a b : List (List ℕ × TreeValue))
         → (IsTrue (same coded_pairs a b) ↔ (a ≡ b)) }

@@ -12,31 +12,31 @@ ghost use Rattle.lughemra.specs.Documents.{IsDocumentCheck, IsDocumentsCheck};
 ghost use Rattle.lughemra.specs.Walk.{IsDocumentsWalk};
 ghost use Rattle.lughemra.specs.Messages.{IsMessageCheck, IsMessagesCheck};
 
-/// Bytes have one check as one document.
+/// Proves that bytes have one check as one document.
 pub fn one_document_check()
     ensures { (bytes : List ℕ) (a b : FirstFault) → IsBytes bytes
         → IsDocumentCheck bytes a → IsDocumentCheck bytes b → a ≡ b }
 {}
 
-/// Bytes have one check as documents.
+/// Proves that bytes have one check as documents.
 pub fn one_documents_check()
     ensures { (bytes : List ℕ) (a b : DocumentsCheck) → IsBytes bytes
         → IsDocumentsCheck bytes a → IsDocumentsCheck bytes b → a ≡ b }
 {}
 
-/// Bytes have one walk.
+/// Proves that bytes have one walk.
 pub fn one_documents_walk()
     ensures { (bytes : List ℕ) (a b : DocumentsWalk) → IsBytes bytes
         → IsDocumentsWalk bytes a → IsDocumentsWalk bytes b → a ≡ b }
 {}
 
-/// Bytes have one check as one message under a limit.
+/// Proves that bytes have one check as one message under a limit.
 pub fn one_message_check()
     ensures { (limit : ℕ) (bytes : List ℕ) (a b : MessageCheck) → IsBytes bytes
         → IsMessageCheck limit bytes a → IsMessageCheck limit bytes b → a ≡ b }
 {}
 
-/// Bytes have one check as messages under a limit.
+/// Proves that bytes have one check as messages under a limit.
 pub fn one_messages_check()
     ensures { (limit : ℕ) (bytes : List ℕ) (a b : MessagesCheck) → IsBytes bytes
         → IsMessagesCheck limit bytes a → IsMessagesCheck limit bytes b → a ≡ b }

@@ -13,22 +13,23 @@ ghost use Rattle.wire_model.specs.Happening.{Happens, Run};
 
 use wire_peer::Handler;
 
-/// Memory is never wanting for what is moved up to a server that has room for it.
+/// Proves that memory is never wanting for what is moved up to a server that has room for it.
 pub fn up_finds_room<H: Handler>()
     ensures { (l : Limits) (old new : World H) (c n : ℕ) (k : Conn)
         → conn_at old.conns c ≡ Some k → HasRoomFor k.server n
         → Happens H.does H.stops l old (Up c n) (Err OutOfMemory) new → ⊥ }
 {}
 
-/// Whatever events come, the world shows a state of the machine that its steps reach, and all that holds there.
+/// Proves that whatever events come, the world shows a state of the machine that its steps reach, and all that holds
+/// there.
 pub fn headline_holds<H: Handler>()
     ensures { (l : Limits) (first : H) (events : List Happening) (w : World H)
         → AreGood l → Run H.does H.stops l (opening l first) events w
         → Headline H.does H.stops first w }
 {}
 
-/// Whatever events come, each raw connection has answered its own messages only, each once at most. The strangers are those of
-/// the state that the world shows.
+/// Proves that whatever events come, each raw connection has answered its own messages only, each once at most. The
+/// strangers are those of the state that the world shows.
 pub fn raw_entries_are_own<H: Handler>()
     ensures { (l : Limits) (first : H) (events : List Happening) (w : World H)
         → AreGood l → (run : Run H.does H.stops l (opening l first) events w)
@@ -36,7 +37,7 @@ pub fn raw_entries_are_own<H: Handler>()
         × RawAnswerOwn H.does H.stops l first events w run shown.m }
 {}
 
-/// Whatever events come, all that the server of a raw connection gave is the replies to its own entries.
+/// Proves that whatever events come, all that the server of a raw connection gave is the replies to its own entries.
 pub fn raw_replies_are_own<H: Handler>()
     ensures { (l : Limits) (first : H) (events : List Happening) (w : World H)
         → AreGood l → (run : Run H.does H.stops l (opening l first) events w)
@@ -44,7 +45,7 @@ pub fn raw_replies_are_own<H: Handler>()
         × RawGiveOwn H.does H.stops l first events w run shown.m }
 {}
 
-/// Whatever events come, no two outstanding calls of one client bear one id.
+/// Proves that whatever events come, no two outstanding calls of one client bear one id.
 pub fn ids_stay_apart<H: Handler>()
     ensures { (l : Limits) (first : H) (events : List Happening) (w : World H)
         → Run H.does H.stops l (opening l first) events w → IdsApart w }

@@ -20,148 +20,148 @@ ghost use Rattle.wire_msg.specs.Splits.{AreSpelled, Split};
 use crate::front::MsgFront;
 use crate::msg::RawMsg;
 
-/// A byte list spells at most one message.
+/// Proves that a byte list spells at most one message.
 pub fn one_message()
     ensures { (m n : Message) (bytes : List ℕ) → IsBytes bytes
         → SpellsMsg m bytes → SpellsMsg n bytes → m ≡ n }
 {}
 
-/// The canonical spelling of a message spells it.
+/// Proves that the canonical spelling of a message spells it.
 pub fn canonical_spells()
     ensures { (m : Message) → FitsSigned w32 m.id → FitsSigned w32 m.response_to
         → IsContent m.content → message_len m.content < 2 ^ 31 → SpellsMsg m (canonical m) }
 {}
 
-/// Where two spellings stand at the front of the same bytes, they are one spelling of one message.
+/// Proves that where two spellings stand at the front of the same bytes, they are one spelling of one message.
 pub fn one_front()
     ensures { (m n : Message) (a b rest after : List ℕ) → IsBytes a
         → SpellsMsg m a → SpellsMsg n b → a ++ rest ≡ b ++ after
         → (m ≡ n) × (a ≡ b) × (rest ≡ after) }
 {}
 
-/// No spelling begins another one.
+/// Proves that no spelling begins another one.
 pub fn no_spelling_begins_another()
     ensures { (m n : Message) (a rest : List ℕ) → SpellsMsg m a → SpellsMsg n (a ++ rest)
         → rest ≡ [] }
 {}
 
-/// At most one fault belongs to a byte list under a limit.
+/// Proves that at most one fault belongs to a byte list under a limit.
 pub fn one_fault()
     ensures { (limit : ℕ) (bytes : List ℕ) (f g : MsgFault) → IsBytes bytes
         → FaultMsg bytes limit f → FaultMsg bytes limit g → f ≡ g }
 {}
 
-/// A message within the limit has no fault.
+/// Proves that a message within the limit has no fault.
 pub fn no_fault_of_a_message()
     ensures { (limit : ℕ) (m : Message) (bytes : List ℕ) (f : MsgFault) → IsBytes bytes
         → SpellsMsg m bytes → length bytes ≤ limit → FaultMsg bytes limit f → ⊥ }
 {}
 
-/// Open bytes have no message in front.
+/// Proves that open bytes have no message in front.
 pub fn open_is_not_whole()
     ensures { (limit : ℕ) (bytes rest : List ℕ) (m : Message)
         → IsOpen limit bytes → IsWhole limit bytes m rest → ⊥ }
 {}
 
-/// Open bytes aren't bad.
+/// Proves that open bytes aren't bad.
 pub fn open_is_not_bad()
     ensures { (limit : ℕ) (bytes : List ℕ) (f : MsgFault)
         → IsOpen limit bytes → IsBad limit bytes f → ⊥ }
 {}
 
-/// Bad bytes have no message in front.
+/// Proves that bad bytes have no message in front.
 pub fn bad_is_not_whole()
     ensures { (limit : ℕ) (bytes rest : List ℕ) (m : Message) (f : MsgFault) → IsBytes bytes
         → IsBad limit bytes f → IsWhole limit bytes m rest → ⊥ }
 {}
 
-/// Bytes are bad with one fault at most.
+/// Proves that bytes are bad with one fault at most.
 pub fn bad_once()
     ensures { (limit : ℕ) (bytes : List ℕ) (f g : MsgFault) → IsBytes bytes
         → IsBad limit bytes f → IsBad limit bytes g → f ≡ g }
 {}
 
-/// The empty list is open.
+/// Proves that the empty list is open.
 pub fn nothing_is_open()
     ensures { (limit : ℕ) → IsOpen limit [] }
 {}
 
-/// The empty list spells no message.
+/// Proves that the empty list spells no message.
 pub fn nothing_is_no_message()
     ensures { (m : Message) → SpellsMsg m [] → ⊥ }
 {}
 
-/// Where a header is bad, its 16 bytes are bad with that fault, whatever follows them.
+/// Proves that where a header is bad, its 16 bytes are bad with that fault, whatever follows them.
 pub fn bad_after_16_bytes()
     ensures { (limit : ℕ) (header more : List ℕ) (f : MsgFault) → length header ≡ 16
         → HeaderFault limit (header_of header) f → IsBad limit (header ++ more) f }
 {}
 
-/// A header is that of the first 16 bytes.
+/// Proves that a header is that of the first 16 bytes.
 pub fn header_of_16_bytes()
     ensures { (bytes : List ℕ) → header_of bytes ≡ header_of (take 16 bytes) }
 {}
 
-/// A header's fault stands at offset 12 at most.
+/// Proves that a header's fault stands at offset 12 at most.
 pub fn header_fault_offset()
     ensures { (limit : ℕ) (header : MsgHeader) (f : MsgFault) → HeaderFault limit header f
         → f.at ≤ 12 }
 {}
 
-/// A message within the limit has a good header in front, which announces the message's length.
+/// Proves that a message within the limit has a good header in front, which announces the message's length.
 pub fn whole_has_good_header()
     ensures { (limit : ℕ) (bytes rest : List ℕ) (m : Message) (w : IsWhole limit bytes m rest)
         → IsGoodHeader limit (header_of bytes) × (number_at bytes 0 ≡ length w.front) }
 {}
 
-/// A message has at least 26 bytes.
+/// Proves that a message has at least 26 bytes.
 pub fn least_length()
     ensures { (m : Message) (bytes : List ℕ) → SpellsMsg m bytes → 26 ≤ length bytes }
 {}
 
-/// The length of the canonical spelling depends on the content alone.
+/// Proves that the length of the canonical spelling depends on the content alone.
 pub fn canonical_length()
     ensures { (m : Message) → length (canonical m) ≡ message_len m.content }
 {}
 
-/// Each spelling of a message is as long as the canonical one.
+/// Proves that each spelling of a message is as long as the canonical one.
 pub fn spelled_length()
     ensures { (m : Message) (bytes : List ℕ) → SpellsMsg m bytes
         → length bytes ≡ message_len m.content }
 {}
 
-/// The bytes of a message, and of messages joined, are numbers below 256.
+/// Proves that the bytes of a message, and of messages joined, are numbers below 256.
 pub fn spelled_bytes_are_bytes()
     ensures one { (m : Message) (bytes : List ℕ) → SpellsMsg m bytes → IsBytes bytes }
     ensures joined { (limit : ℕ) (messages : List Message) (bytes : List ℕ)
         → AreSpelled limit messages bytes → IsBytes bytes }
 {}
 
-/// A payload carries one content, lent or owned.
+/// Proves that a payload carries one content, lent or owned.
 pub fn one_content()
     ensures lent { (p : Payload) (c d : Content) → Carries p c → Carries p d → c ≡ d }
     ensures owned { (p : PayloadBuf) (c d : Content) → BufCarries p c → BufCarries p d → c ≡ d }
 {}
 
-/// More bytes leave bad bytes bad, with the same fault.
+/// Proves that more bytes leave bad bytes bad, with the same fault.
 pub fn bad_stays_bad()
     ensures { (limit : ℕ) (bytes more : List ℕ) (f : MsgFault) → IsBad limit bytes f
         → IsBad limit (bytes ++ more) f }
 {}
 
-/// A beginning of open bytes is open.
+/// Proves that a beginning of open bytes is open.
 pub fn beginning_of_open_is_open()
     ensures { (limit : ℕ) (front rest : List ℕ) → IsOpen limit (front ++ rest)
         → IsOpen limit front }
 {}
 
-/// A proper beginning of a message within the limit is open.
+/// Proves that a proper beginning of a message within the limit is open.
 pub fn beginning_of_a_message_is_open()
     ensures { (limit : ℕ) (m : Message) (front rest : List ℕ) → SpellsMsg m (front ++ rest)
         → length (front ++ rest) ≤ limit → rest ≢ [] → IsOpen limit front }
 {}
 
-/// A message within the limit is spelled alone, and messages joined to others are spelled too.
+/// Proves that a message within the limit is spelled alone, and messages joined to others are spelled too.
 pub fn joined_are_spelled()
     ensures one { (limit : ℕ) (m : Message) (bytes : List ℕ) → SpellsMsg m bytes
         → length bytes ≤ limit → AreSpelled limit (m ∷ []) bytes }
@@ -170,56 +170,56 @@ pub fn joined_are_spelled()
         → AreSpelled limit (messages ++ others) (front ++ after) }
 {}
 
-/// Bytes are split into messages and a rest in one way at most.
+/// Proves that bytes are split into messages and a rest in one way at most.
 pub fn one_split()
     ensures { (limit : ℕ) (bytes : List ℕ) (messages others : List Message) (rest after : List ℕ)
         → IsBytes bytes → Split limit bytes messages rest → Split limit bytes others after
         → (messages ≡ others) × (rest ≡ after) }
 {}
 
-/// Messages with open bytes behind them are split before those.
+/// Proves that messages with open bytes behind them are split before those.
 pub fn split_before_open()
     ensures { (limit : ℕ) (messages : List Message) (joined rest : List ℕ)
         → AreSpelled limit messages joined → IsOpen limit rest
         → Split limit (joined ++ rest) messages rest }
 {}
 
-/// Messages with bad bytes behind them are split before those.
+/// Proves that messages with bad bytes behind them are split before those.
 pub fn split_before_bad()
     ensures { (limit : ℕ) (messages : List Message) (joined rest : List ℕ) (f : MsgFault)
         → IsBytes rest → AreSpelled limit messages joined → IsBad limit rest f
         → Split limit (joined ++ rest) messages rest }
 {}
 
-/// A message in front of split bytes becomes the first of their messages.
+/// Proves that a message in front of split bytes becomes the first of their messages.
 pub fn split_after_a_message()
     ensures { (limit : ℕ) (bytes after rest : List ℕ) (m : Message) (messages : List Message)
         → IsWhole limit bytes m after → Split limit after messages rest
         → Split limit bytes (m ∷ messages) rest }
 {}
 
-/// Messages in front of split bytes become the first of their messages.
+/// Proves that messages in front of split bytes become the first of their messages.
 pub fn split_after_messages()
     ensures { (limit : ℕ) (joined after rest : List ℕ) (messages others : List Message)
         → AreSpelled limit messages joined → Split limit after others rest
         → Split limit (joined ++ after) (messages ++ others) rest }
 {}
 
-/// Bytes that come after split bytes are split with the rest of those.
+/// Proves that bytes that come after split bytes are split with the rest of those.
 pub fn split_goes_on()
     ensures { (limit : ℕ) (bytes more rest after : List ℕ) (messages others : List Message)
         → Split limit bytes messages rest → Split limit (rest ++ more) others after
         → Split limit (bytes ++ more) (messages ++ others) after }
 {}
 
-/// Bytes that come after a bad rest belong to it.
+/// Proves that bytes that come after a bad rest belong to it.
 pub fn split_stays_bad()
     ensures { (limit : ℕ) (bytes more rest : List ℕ) (messages : List Message) (f : MsgFault)
         → IsBytes (rest ++ more) → Split limit bytes messages rest → IsBad limit rest f
         → Split limit (bytes ++ more) messages (rest ++ more) }
 {}
 
-/// Bytes are open, have a message in front, or are bad. Reads `bytes` to find out which.
+/// Proves that bytes are open, have a message in front, or are bad. Reads `bytes` to find out which.
 pub fn open_whole_or_bad(bytes: &[u8], limit: u32)
     requires { limit ≤ 48_000_000 }
     ensures { Stands limit bytes.now }

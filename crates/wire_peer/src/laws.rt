@@ -8,13 +8,13 @@ ghost use Rattle.wire_peer.specs.Requests.{Asked};
 
 use crate::handlers::Handler;
 
-/// There is one first free id.
+/// Proves that there is one first free id.
 pub fn one_first_free_id()
     ensures { (next a b : ℤ) (used : List ℤ)
         → IsFirstFree next used a → IsFirstFree next used b → a ≡ b }
 {}
 
-/// Where the entries of a log are a run of its handler, they are one after it was asked once more, too.
+/// Proves that where the entries of a log are a run of its handler, they are one after it was asked once more, too.
 pub fn a_run_goes_on<H: Handler>()
     ensures { (from mid to : H) (requests : List Asked) (log next : List LogEntry) (connection : ℕ)
         (a : Asked) (result : Result (Unit {0}) AskRefusal)

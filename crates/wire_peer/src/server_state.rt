@@ -8,7 +8,7 @@ use wire_msg::MsgFault;
 /// Why a server closed. The first cause stays.
 #[derive(Clone, Copy, Debug, PartialEq, Eq)]
 pub enum ServerCause {
-    /// The bytes that came begin no message. The fault's place is counted from the first byte behind the last request.
+    /// The bytes that came begin no message. The fault's offset is counted from the first byte behind the last request.
     Message(MsgFault),
     /// The bytes ended between messages.
     Ended,

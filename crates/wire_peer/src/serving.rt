@@ -23,7 +23,7 @@ pub enum ServeEnd {
     Ended,
     /// The link ended inside a message.
     EndedInside,
-    /// What came is no message. The fault's place is counted from its first byte.
+    /// What came is no message. The fault's offset is counted from its first byte.
     Fault(MsgFault),
     /// The link failed.
     Link,

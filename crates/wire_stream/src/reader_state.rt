@@ -9,7 +9,7 @@ pub enum ReaderState {
     Need,
     /// The bytes that are held are a message.
     Ready,
-    /// The bytes that are held begin no message. The fault's place is counted from the first of them.
+    /// The bytes that are held begin no message. The fault's offset is counted from the first of them.
     Bad(MsgFault),
 }
 
