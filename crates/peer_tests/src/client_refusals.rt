@@ -1,6 +1,7 @@
 //! Tests of what a client is after a refused allocation. `./try-refusals` runs them with each of their allocations refused
 //! in turn. No other one is refused then, so what is asked for again is granted.
 
+use crate::refused_calls::{Came, again, at_once, both, goes_on};
 use bson_raw::RawDocument;
 use std::alloc::Global;
 use wire_msg::PayloadBuf;
@@ -13,6 +14,40 @@ const ONE: &[u8] = b"\x0c\0\0\0\x10a\0\x01\0\0\0\0";
 /// `{"a": 1}` as the reply 5 to request 1.
 const REPLY: &[u8; 33] =
     b"\x21\0\0\0\x05\0\0\0\x01\0\0\0\xdd\x07\0\0\0\0\0\0\0\x0c\0\0\0\x10a\0\x01\0\0\0\0";
+
+/// A call: its kind, its number and id, and how many are outstanding and how many bytes wait to be sent before it and after it.
+type Row = (CallKind, CallNo, (usize, usize), (usize, usize));
+
+/// The first call, and the second one.
+const FIRST: CallNo = CallNo { number: 0, id: 1 };
+
+const SECOND: CallNo = CallNo { number: 1, id: 2 };
+
+/// Calls of each kind, each of which comes first once and second once.
+const PLAIN_FIRST: [Row; 2] = [
+    (CallKind::Plain, FIRST, (0, 0), (1, 33)),
+    (CallKind::Exhaust, SECOND, (1, 33), (2, 66)),
+];
+
+const EXHAUST_FIRST: [Row; 2] = [
+    (CallKind::Exhaust, FIRST, (0, 0), (1, 33)),
+    (CallKind::Unacknowledged, SECOND, (1, 33), (1, 66)),
+];
+
+const UNACKNOWLEDGED_FIRST: [Row; 2] = [
+    (CallKind::Unacknowledged, FIRST, (0, 0), (0, 33)),
+    (CallKind::Plain, SECOND, (0, 33), (1, 66)),
+];
+
+/// What they put out.
+const PLAIN_FIRST_BYTES: &[u8] =
+    b"\x21\0\0\0\x01\0\0\0\0\0\0\0\xdd\x07\0\0\0\0\0\0\0\x0c\0\0\0\x10a\0\x01\0\0\0\0\x21\0\0\0\x02\0\0\0\0\0\0\0\xdd\x07\0\0\0\0\x01\0\0\x0c\0\0\0\x10a\0\x01\0\0\0\0";
+
+const EXHAUST_FIRST_BYTES: &[u8] =
+    b"\x21\0\0\0\x01\0\0\0\0\0\0\0\xdd\x07\0\0\0\0\x01\0\0\x0c\0\0\0\x10a\0\x01\0\0\0\0\x21\0\0\0\x02\0\0\0\0\0\0\0\xdd\x07\0\0\x02\0\0\0\0\x0c\0\0\0\x10a\0\x01\0\0\0\0";
+
+const UNACKNOWLEDGED_FIRST_BYTES: &[u8] =
+    b"\x21\0\0\0\x01\0\0\0\0\0\0\0\xdd\x07\0\0\x02\0\0\0\0\x0c\0\0\0\x10a\0\x01\0\0\0\0\x21\0\0\0\x02\0\0\0\0\0\0\0\xdd\x07\0\0\0\0\0\0\0\x0c\0\0\0\x10a\0\x01\0\0\0\0";
 
 /// Makes a call of this kind.
 fn call_as(
@@ -36,84 +71,140 @@ fn one_again(alloc: Global) -> Option<PayloadBuf> {
     }
 }
 
-/// Returns true if no call was made.
-fn is_new(client: &Client) -> bool {
-    client.state() == ClientState::Open && client.outstanding() == 0 && client.output().is_empty()
+/// Returns true if the client is open and without a reply, so many calls are outstanding, and so many first ones of these bytes
+/// wait to be sent.
+fn stands(client: &Client, standing: (usize, usize), bytes: &[u8]) -> bool {
+    client.state() == ClientState::Open
+        && client.outstanding() == standing.0
+        && client.reply().is_none()
+        && client.output().len() == standing.1
+        && bytes.starts_with(client.output())
 }
 
-/// Returns true if a first call is made; or is refused and changes nothing, and is made then with the same number and id.
-fn is_called(client: &mut Client, kind: CallKind, payload: &PayloadBuf) -> bool {
-    let call = CallNo { number: 0, id: 1 };
-    match call_as(client, kind, payload) {
-        Ok(made) => made == call,
-        Err(refusal) => {
+/// Makes a call, and makes it again where it is refused, which has to change nothing.
+fn calls(client: &mut Client, payload: &PayloadBuf, row: &Row, bytes: &[u8]) -> Came {
+    match call_as(client, row.0, payload) {
+        Ok(made) => at_once(made == row.1 && stands(client, row.3, bytes)),
+        Err(refusal) => again(
             refusal == CallRefusal::OutOfMemory
-                && is_new(client)
-                && call_as(client, kind, payload) == Ok(call)
+                && stands(client, row.2, bytes)
+                && call_as(client, row.0, payload) == Ok(row.1)
+                && stands(client, row.3, bytes),
+        ),
+    }
+}
+
+/// Makes the calls one after the other.
+fn calls_all(client: &mut Client, payload: &PayloadBuf, rows: &[Row], bytes: &[u8]) -> Came {
+    let mut all = Came::AtOnce;
+    for row in rows {
+        all = both(all, calls(client, payload, row, bytes));
+        if !goes_on(all) {
+            return all;
         }
     }
+    all
 }
 
-/// Returns true if a client is made, and a first call of this kind is made and put out.
-fn calls_first(alloc: Global, kind: CallKind, payload: &PayloadBuf) -> bool {
+/// Like `calls_all`, of a client that is made for it.
+fn calls_of_one(alloc: Global, payload: &PayloadBuf, rows: &[Row], bytes: &[u8]) -> Came {
     match Client::new(alloc, 1, 8, 48_000_000) {
-        Ok(mut client) => is_called(&mut client, kind, payload) && client.output().len() == 33,
-        Err(_) => false,
+        Ok(mut client) => calls_all(&mut client, payload, rows, bytes),
+        Err(_) => Came::Otherwise,
     }
 }
 
-/// Like `calls_first`, with the payload made of the document above.
-fn calls_at_last(alloc: Global, kind: CallKind) -> bool {
+/// Returns true if the calls are made, each at once; or one of them at its second try, and each at once then by another client.
+fn calls_at_last(alloc: Global, rows: &[Row], bytes: &[u8]) -> bool {
     match one_again(alloc) {
-        Some(payload) => calls_first(alloc, kind, &payload),
+        Some(payload) => match calls_of_one(alloc, &payload, rows, bytes) {
+            Came::AtOnce => true,
+            Came::Again => calls_of_one(alloc, &payload, rows, bytes) == Came::AtOnce,
+            _ => false,
+        },
         None => false,
     }
 }
 
 #[test]
 fn a_refused_call_is_made_again(rt: HostRuntime) {
-    assert!(rt; calls_at_last(rt.alloc(), CallKind::Plain));
-    assert!(rt; calls_at_last(rt.alloc(), CallKind::Exhaust));
-    assert!(rt; calls_at_last(rt.alloc(), CallKind::Unacknowledged));
+    assert!(rt; calls_at_last(rt.alloc(), &PLAIN_FIRST, PLAIN_FIRST_BYTES));
+    assert!(rt; calls_at_last(rt.alloc(), &EXHAUST_FIRST, EXHAUST_FIRST_BYTES));
+    assert!(rt;
+        calls_at_last(
+            rt.alloc(),
+            &UNACKNOWLEDGED_FIRST,
+            UNACKNOWLEDGED_FIRST_BYTES
+        )
+    );
 }
 
-/// Returns true if the reply is taken; or nothing is, and it is taken when it is fed again.
-fn takes_at_last(client: &mut Client) -> bool {
-    match client.feed(REPLY) {
-        Ok(taken) => taken == 33 && client.reply().is_some(),
-        Err(refusal) => {
-            refusal == ReadRefusal::OutOfMemory
-                && client.state() == ClientState::Open
-                && client.outstanding() == 1
-                && client.reply().is_none()
-                && client.feed(REPLY) == Ok(33)
-                && client.reply().is_some()
-        }
+/// Returns true if the first call alone was made, and no reply has come.
+fn awaits(client: &Client) -> bool {
+    stands(client, (1, 33), PLAIN_FIRST_BYTES)
+}
+
+/// Returns true if the reply to the first call has come.
+fn has_reply(client: &Client) -> bool {
+    match client.reply() {
+        Some(reply) => reply.call == 0 && reply.last && reply.payload.body().as_bytes() == ONE,
+        None => false,
     }
 }
 
-/// Returns true if a call is made, and its reply is taken so.
-fn is_fed(client: &mut Client, payload: &PayloadBuf) -> bool {
-    is_called(client, CallKind::Plain, payload) && takes_at_last(client)
+/// Returns true if the reply to the first call has come whole, or none yet if `whole` is false.
+fn has_come(client: &Client, whole: bool) -> bool {
+    if whole {
+        client.state() == ClientState::Open && client.outstanding() == 0 && has_reply(client)
+    } else {
+        awaits(client)
+    }
 }
 
-/// Returns true if a client is made, and `is_fed` holds of it.
-fn one_is_fed(alloc: Global, payload: &PayloadBuf) -> bool {
+/// Feeds a piece, behind which the reply is whole or isn't, and feeds it again where it is refused, which has to change
+/// nothing.
+fn feeds(client: &mut Client, piece: &[u8], whole: bool) -> Came {
+    match client.feed(piece) {
+        Ok(taken) => at_once(taken == piece.len() && has_come(client, whole)),
+        Err(ReadRefusal::OutOfMemory) => again(
+            awaits(client) && client.feed(piece) == Ok(piece.len()) && has_come(client, whole),
+        ),
+    }
+}
+
+/// Makes the first call, and feeds its reply in two pieces, of which the first has this many bytes.
+fn feeds_all(client: &mut Client, payload: &PayloadBuf, cut: usize) -> Came {
+    let Some((first, rest)) = REPLY.split_at_checked(cut) else {
+        return Came::Otherwise;
+    };
+    let called = calls(client, payload, &PLAIN_FIRST[0], PLAIN_FIRST_BYTES);
+    let begun = both(called, feeds(client, first, false));
+    both(begun, feeds(client, rest, true))
+}
+
+/// Like `feeds_all`, of a client that is made for it.
+fn feeds_one(alloc: Global, payload: &PayloadBuf, cut: usize) -> Came {
     match Client::new(alloc, 1, 8, 48_000_000) {
-        Ok(mut client) => is_fed(&mut client, payload),
-        Err(_) => false,
+        Ok(mut client) => feeds_all(&mut client, payload, cut),
+        Err(_) => Came::Otherwise,
     }
 }
 
-/// Like `one_is_fed`, with the payload made of the document above.
-fn feeds_at_last(alloc: Global) -> bool {
+/// Returns true if the reply comes, each piece at once; or one of them at its second try, and each at once then by another client.
+fn feeds_at_last(alloc: Global, cut: usize) -> bool {
     match one_again(alloc) {
-        Some(payload) => one_is_fed(alloc, &payload),
+        Some(payload) => match feeds_one(alloc, &payload, cut) {
+            Came::AtOnce => true,
+            Came::Again => feeds_one(alloc, &payload, cut) == Came::AtOnce,
+            _ => false,
+        },
         None => false,
     }
 }
 
 #[test]
 fn a_refused_piece_is_fed_again(rt: HostRuntime) {
-    assert!(rt; feeds_at_last(rt.alloc()));
+    assert!(rt; feeds_at_last(rt.alloc(), 0));
+    assert!(rt; feeds_at_last(rt.alloc(), 7));
+    assert!(rt; feeds_at_last(rt.alloc(), 20));
 }

@@ -15,7 +15,11 @@ mod handlers;
 #[cfg(test)]
 mod log_refusals;
 #[cfg(test)]
+mod log_rows;
+#[cfg(test)]
 mod logs;
+#[cfg(test)]
+mod refused_calls;
 #[cfg(test)]
 mod server_refusals;
 #[cfg(test)]

@@ -1,6 +1,8 @@
 //! Tests of what stays of answers, replies and logs after a refused allocation. `./try-refusals` runs them with each of their
 //! allocations refused in turn. No other one is refused then, so what is asked for again is granted.
 
+use crate::log_rows::{Noted, are_bodies, is_log};
+use crate::refused_calls::{Came, again, at_once, both, goes_on, to_an_end};
 use bson_raw::RawDocument;
 use std::alloc::Global;
 use wire_msg::PayloadBuf;
@@ -12,7 +14,32 @@ use wire_peer::{
 /// `{"s": 3}`.
 const THREE: &[u8] = b"\x0c\0\0\0\x10s\0\x03\0\0\0\0";
 
-/// Returns a payload of the document above alone, which is made again where memory is refused.
+/// `{"n": 1}` to `{"n": 3}`.
+const COUNTED: &[&[u8]] = &[
+    b"\x0c\0\0\0\x10n\0\x01\0\0\0\0",
+    b"\x0c\0\0\0\x10n\0\x02\0\0\0\0",
+    b"\x0c\0\0\0\x10n\0\x03\0\0\0\0",
+];
+
+/// The replies to request 7 that count to 3, and those to the next one.
+const REPLIES: [&[u8; 33]; 6] = [
+    b"\x21\0\0\0\x01\0\0\0\x07\0\0\0\xdd\x07\0\0\x02\0\0\0\0\x0c\0\0\0\x10n\0\x01\0\0\0\0",
+    b"\x21\0\0\0\x02\0\0\0\x01\0\0\0\xdd\x07\0\0\x02\0\0\0\0\x0c\0\0\0\x10n\0\x02\0\0\0\0",
+    b"\x21\0\0\0\x03\0\0\0\x02\0\0\0\xdd\x07\0\0\0\0\0\0\0\x0c\0\0\0\x10n\0\x03\0\0\0\0",
+    b"\x21\0\0\0\x04\0\0\0\x07\0\0\0\xdd\x07\0\0\x02\0\0\0\0\x0c\0\0\0\x10n\0\x01\0\0\0\0",
+    b"\x21\0\0\0\x05\0\0\0\x04\0\0\0\xdd\x07\0\0\x02\0\0\0\0\x0c\0\0\0\x10n\0\x02\0\0\0\0",
+    b"\x21\0\0\0\x06\0\0\0\x05\0\0\0\xdd\x07\0\0\0\0\0\0\0\x0c\0\0\0\x10n\0\x03\0\0\0\0",
+];
+
+/// `{"s": 3}` twice as the replies to request 7, and twice again.
+const PUSHED: [&[u8; 33]; 4] = [
+    b"\x21\0\0\0\x01\0\0\0\x07\0\0\0\xdd\x07\0\0\x02\0\0\0\0\x0c\0\0\0\x10s\0\x03\0\0\0\0",
+    b"\x21\0\0\0\x02\0\0\0\x01\0\0\0\xdd\x07\0\0\0\0\0\0\0\x0c\0\0\0\x10s\0\x03\0\0\0\0",
+    b"\x21\0\0\0\x03\0\0\0\x07\0\0\0\xdd\x07\0\0\x02\0\0\0\0\x0c\0\0\0\x10s\0\x03\0\0\0\0",
+    b"\x21\0\0\0\x04\0\0\0\x03\0\0\0\xdd\x07\0\0\0\0\0\0\0\x0c\0\0\0\x10s\0\x03\0\0\0\0",
+];
+
+/// Returns a payload of `THREE` alone, which is made again where memory is refused.
 fn three(alloc: Global) -> Option<PayloadBuf> {
     let body = RawDocument::from_bytes(THREE).ok()?;
     match PayloadBuf::new(alloc, body) {
@@ -28,6 +55,21 @@ fn asking(payload: &PayloadBuf) -> Request<'_> {
         allows: true,
         silent: false,
     }
+}
+
+/// Returns true if the bytes are the first of these messages, up to their end.
+fn are_messages(bytes: &[u8], messages: &[&[u8; 33]], count: usize) -> bool {
+    let mut rest = bytes;
+    for message in messages {
+        if rest.is_empty() {
+            return bytes.len() == count;
+        }
+        match rest.strip_prefix(message.as_slice()) {
+            Some(after) => rest = after,
+            None => return false,
+        }
+    }
+    rest.is_empty() && bytes.len() == count
 }
 
 /// A call that appends an answer.
@@ -53,75 +95,97 @@ fn adds(answers: &mut Answers, payload: &PayloadBuf, way: Way) -> bool {
     }
 }
 
-/// Returns true if an answer is appended; or is refused and changes nothing, and is appended then.
-fn pushes(answers: &mut Answers, payload: &PayloadBuf, way: Way, before: usize) -> bool {
+/// Returns true if the answers are these bodies.
+fn hold(answers: &Answers, bodies: &[&[u8]]) -> bool {
+    answers.len() == bodies.len() && are_bodies(answers.as_slice(), bodies)
+}
+
+/// Appends an answer to these, and appends it again where that is refused, which has to change nothing.
+fn pushes(
+    answers: &mut Answers,
+    payload: &PayloadBuf,
+    way: Way,
+    before: &[&[u8]],
+    after: &[&[u8]],
+) -> Came {
     if adds(answers, payload, way) {
-        answers.len() > before
+        at_once(hold(answers, after))
     } else {
-        answers.len() == before && adds(answers, payload, way) && answers.len() > before
+        again(hold(answers, before) && adds(answers, payload, way) && hold(answers, after))
     }
 }
 
-/// Returns true if two answers are appended in this way.
-fn pushes_two(alloc: Global, payload: &PayloadBuf, way: Way) -> bool {
-    let mut answers = Answers::new(alloc);
-    pushes(&mut answers, payload, way, 0) && pushes(&mut answers, payload, way, 1)
+/// Appends two answers in this way.
+fn pushes_both(answers: &mut Answers, payload: &PayloadBuf, way: Way) -> Came {
+    let first = pushes(answers, payload, way, &[], &[THREE]);
+    both(
+        first,
+        pushes(answers, payload, way, &[THREE], &[THREE, THREE]),
+    )
 }
 
-/// Returns true if a payload is made, and appended in each way.
-fn leaves_answers(alloc: Global) -> bool {
+/// Like `pushes_both`, to answers that are made for it.
+fn pushes_two(alloc: Global, payload: &PayloadBuf, way: Way) -> Came {
+    let mut answers = Answers::new(alloc);
+    pushes_both(&mut answers, payload, way)
+}
+
+/// Returns true if two answers are appended in this way, at once or with a second try, and at once then to other answers.
+fn leaves_answers(alloc: Global, way: Way) -> bool {
     match three(alloc) {
-        Some(payload) => {
-            pushes_two(alloc, &payload, Way::Copied)
-                && pushes_two(alloc, &payload, Way::Body)
-                && pushes_two(alloc, &payload, Way::Moved)
-        }
+        Some(payload) => match pushes_two(alloc, &payload, way) {
+            Came::AtOnce => true,
+            Came::Again => pushes_two(alloc, &payload, way) == Came::AtOnce,
+            _ => false,
+        },
         None => false,
     }
 }
 
 #[test]
 fn a_refused_answer_is_not_appended(rt: HostRuntime) {
-    assert!(rt; leaves_answers(rt.alloc()));
+    assert!(rt; leaves_answers(rt.alloc(), Way::Copied));
+    assert!(rt; leaves_answers(rt.alloc(), Way::Body));
+    assert!(rt; leaves_answers(rt.alloc(), Way::Moved));
 }
 
-/// Returns whether the handler gives so many answers, or none where it stops for want of memory.
+/// Returns whether the handler gives these answers, or none where it stops for want of memory.
 fn responds<H: Handler>(
     alloc: Global,
     handler: &mut H,
     request: &Request<'_>,
-    count: usize,
+    bodies: &[&[u8]],
 ) -> Option<bool> {
     let mut answers = Answers::new(alloc);
     match handler.respond(request, &mut answers) {
-        Ok(()) => Some(answers.len() == count),
+        Ok(()) => Some(hold(&answers, bodies)),
         Err(HandlerStop::OutOfMemory) => None,
         Err(HandlerStop::Failed) => Some(false),
     }
 }
 
-/// Returns true if the handler gives so many answers, or stops for want of memory and gives them when it is asked again.
+/// Returns true if the handler gives these answers, or stops for want of memory and gives them when it is asked again.
 fn responds_at_last<H: Handler>(
     alloc: Global,
     handler: &mut H,
     request: &Request<'_>,
-    count: usize,
+    bodies: &[&[u8]],
 ) -> bool {
-    match responds(alloc, handler, request, count) {
+    match responds(alloc, handler, request, bodies) {
         Some(holds) => holds,
-        None => responds(alloc, handler, request, count) == Some(true),
+        None => responds(alloc, handler, request, bodies) == Some(true),
     }
 }
 
 /// Returns true if each handler gives its answers. `StopAt` is asked before its stop.
 fn handlers_respond(alloc: Global, request: &Request<'_>) -> bool {
-    responds_at_last(alloc, &mut Echo, request, 1)
-        && responds_at_last(alloc, &mut Count, request, 3)
+    responds_at_last(alloc, &mut Echo, request, &[THREE])
+        && responds_at_last(alloc, &mut Count, request, COUNTED)
         && responds_at_last(
             alloc,
             &mut StopAt::new(Echo, 2, HandlerStop::Failed),
             request,
-            1,
+            &[THREE],
         )
 }
 
@@ -138,32 +202,105 @@ fn handlers_stop_for_memory_alone(rt: HostRuntime) {
     assert!(rt; handlers_respond_to_three(rt.alloc()));
 }
 
-/// Returns true if so many entries stand where the handler wasn't asked, or stopped for want of memory.
-fn is_noted(refusal: AskRefusal, entries: usize) -> bool {
-    match refusal {
-        AskRefusal::NotAsked => entries == 0,
-        AskRefusal::Stopped(stop) => stop == HandlerStop::OutOfMemory && entries == 1,
+/// A handler that answers two requests and stops at the third, so that it tells whether it was asked for nothing.
+type Twice = StopAt<Count>;
+
+/// Returns it, with an empty log.
+fn twice(alloc: Global) -> Logged<Twice> {
+    Logged::new(alloc, StopAt::new(Count, 2, HandlerStop::Failed))
+}
+
+/// The entry of a request that was answered, and that of one at which the handler stopped.
+const ANSWERED: Noted<'_> = (THREE, Some(COUNTED));
+
+const FAILED: Noted<'_> = (THREE, None);
+
+/// The logs behind one request, two and three, of which the handler stops at the last.
+const ONE_LOG: &[Noted<'_>] = &[ANSWERED];
+
+const TWO_LOG: &[Noted<'_>] = &[ANSWERED, ANSWERED];
+
+const THREE_LOG: &[Noted<'_>] = &[ANSWERED, ANSWERED, FAILED];
+
+/// The log where the handler stopped at the second request.
+const SECOND_FAILED: &[Noted<'_>] = &[ANSWERED, FAILED];
+
+/// A request: the log before it and after it, the log where the handler stops for want of memory, whether it answers else, and how
+/// many bytes of replies are put out before it and after it.
+type Row<'a> = (
+    &'a [Noted<'a>],
+    &'a [Noted<'a>],
+    &'a [Noted<'a>],
+    bool,
+    (usize, usize),
+);
+
+/// Three requests, of which the handler stops at the last.
+const ROWS: [Row<'_>; 3] = [
+    (&[], ONE_LOG, &[FAILED], true, (0, 99)),
+    (ONE_LOG, TWO_LOG, SECOND_FAILED, true, (99, 198)),
+    (TWO_LOG, THREE_LOG, THREE_LOG, false, (198, 198)),
+];
+
+/// Returns true if the log holds these entries.
+fn notes(logged: &Logged<Twice>, rows: &[Noted<'_>]) -> bool {
+    is_log(logged.entries(), 5, rows)
+}
+
+/// Returns what asking comes to where memory is there.
+fn end_of_ask(answers: bool) -> Result<(), AskRefusal> {
+    if answers {
+        Ok(())
+    } else {
+        Err(AskRefusal::Stopped(HandlerStop::Failed))
     }
 }
 
-/// Returns true if the request gets an entry; or the handler isn't asked or stops, which leaves an entry too, and the request gets
-/// one then.
-fn enters<H: Handler>(logged: &mut Logged<H>, request: &Request<'_>) -> bool {
-    match logged.ask(5, request) {
-        Ok(()) => logged.entries().len() == 1,
-        Err(refusal) => {
-            let entries = logged.entries().len();
-            is_noted(refusal, entries)
-                && logged.ask(5, request).is_ok()
-                && logged.entries().len() > entries
+/// Asks a request, and asks it again where the handler wasn't asked, which has to change nothing. Where the handler stops for want of
+/// memory its entry has to stand.
+fn enters(logged: &mut Logged<Twice>, request: &Request<'_>, row: &Row<'_>) -> Came {
+    let came = logged.ask(5, request);
+    if came == end_of_ask(row.3) {
+        return at_once(notes(logged, row.1));
+    }
+    match came {
+        Err(AskRefusal::NotAsked) => again(
+            notes(logged, row.0)
+                && logged.ask(5, request) == end_of_ask(row.3)
+                && notes(logged, row.1),
+        ),
+        Err(AskRefusal::Stopped(HandlerStop::OutOfMemory)) => to_an_end(notes(logged, row.2)),
+        _ => Came::Otherwise,
+    }
+}
+
+/// Asks the three requests.
+fn enters_all(logged: &mut Logged<Twice>, request: &Request<'_>) -> Came {
+    let mut all = Came::AtOnce;
+    for row in &ROWS {
+        all = both(all, enters(logged, request, row));
+        if !goes_on(all) {
+            return all;
         }
     }
+    all
 }
 
-/// Returns true if a payload is made, and `enters` holds of it.
+/// Like `enters_all`, with a log that is made for it.
+fn enters_one(alloc: Global, request: &Request<'_>) -> Came {
+    let mut logged = twice(alloc);
+    enters_all(&mut logged, request)
+}
+
+/// Returns true if the requests get their entries; or memory is wanting for one of them, and they get them at once then in another
+/// log.
 fn leaves_the_log(alloc: Global) -> bool {
     match three(alloc) {
-        Some(payload) => enters(&mut Logged::new(alloc, Echo), &asking(&payload)),
+        Some(payload) => match enters_one(alloc, &asking(&payload)) {
+            Came::AtOnce => true,
+            Came::Otherwise => false,
+            _ => enters_one(alloc, &asking(&payload)) == Came::AtOnce,
+        },
         None => false,
     }
 }
@@ -173,44 +310,74 @@ fn a_refused_entry_is_not_made(rt: HostRuntime) {
     assert!(rt; leaves_the_log(rt.alloc()));
 }
 
-/// Returns true if so many entries stand where there are no replies for want of memory.
-fn is_unanswered(reason: NoReplies, entries: usize) -> bool {
-    match reason {
-        NoReplies::NotAsked => entries == 0,
-        NoReplies::Stopped(stop) => stop == HandlerStop::OutOfMemory && entries == 1,
-        NoReplies::NoMemory => entries == 1,
-        NoReplies::TooLarge => false,
+/// Returns what replying comes to where memory is there.
+fn end_of_reply(answers: bool) -> Result<(), NoReplies> {
+    if answers {
+        Ok(())
+    } else {
+        Err(NoReplies::Stopped(HandlerStop::Failed))
     }
 }
 
-/// Returns true if the request gets its three replies; or none at all where memory is refused, an entry just where the handler was
-/// asked, and its replies then.
-fn replies_whole<H: Handler>(
-    logged: &mut Logged<H>,
+/// Returns true if the log holds these entries, and so many bytes of replies are put out.
+fn stands(logged: &Logged<Twice>, out: &ReplyBuf, rows: &[Noted<'_>], put_out: usize) -> bool {
+    notes(logged, rows) && are_messages(out.output(), &REPLIES, put_out)
+}
+
+/// Asks a request for its replies, and asks it again where the handler wasn't asked, which has to change nothing. Where the handler stops
+/// for want of memory or the replies find none, the entry has to stand, and no byte of them.
+fn replies(
+    logged: &mut Logged<Twice>,
     out: &mut ReplyBuf,
     request: &Request<'_>,
-) -> bool {
-    match logged.reply(5, 7, request, out) {
-        Ok(()) => out.output().len() == 99 && logged.entries().len() == 1,
-        Err(reason) => {
-            let entries = logged.entries().len();
-            is_unanswered(reason, entries)
-                && out.output().is_empty()
-                && logged.reply(5, 7, request, out).is_ok()
-                && out.output().len() == 99
-                && logged.entries().len() > entries
+    row: &Row<'_>,
+) -> Came {
+    let came = logged.reply(5, 7, request, out);
+    if came == end_of_reply(row.3) {
+        return at_once(stands(logged, out, row.1, row.4.1));
+    }
+    match came {
+        Err(NoReplies::NotAsked) => again(
+            stands(logged, out, row.0, row.4.0)
+                && logged.reply(5, 7, request, out) == end_of_reply(row.3)
+                && stands(logged, out, row.1, row.4.1),
+        ),
+        Err(NoReplies::Stopped(HandlerStop::OutOfMemory)) => {
+            to_an_end(stands(logged, out, row.2, row.4.0))
         }
+        Err(NoReplies::NoMemory) => to_an_end(stands(logged, out, row.1, row.4.0)),
+        _ => Came::Otherwise,
     }
 }
 
-/// Returns true if a payload is made, and `replies_whole` holds of it.
+/// Asks the three requests for their replies.
+fn replies_all(logged: &mut Logged<Twice>, out: &mut ReplyBuf, request: &Request<'_>) -> Came {
+    let mut all = Came::AtOnce;
+    for row in &ROWS {
+        all = both(all, replies(logged, out, request, row));
+        if !goes_on(all) {
+            return all;
+        }
+    }
+    all
+}
+
+/// Like `replies_all`, with a log and a buffer that are made for it.
+fn replies_one(alloc: Global, request: &Request<'_>) -> Came {
+    let mut logged = twice(alloc);
+    let mut out = ReplyBuf::new(alloc, 33);
+    replies_all(&mut logged, &mut out, request)
+}
+
+/// Returns true if the requests get their replies; or memory is wanting for one of them, and they get them at once then from another
+/// log.
 fn leaves_the_replies(alloc: Global) -> bool {
     match three(alloc) {
-        Some(payload) => replies_whole(
-            &mut Logged::new(alloc, Count),
-            &mut ReplyBuf::new(alloc, 33),
-            &asking(&payload),
-        ),
+        Some(payload) => match replies_one(alloc, &asking(&payload)) {
+            Came::AtOnce => true,
+            Came::Otherwise => false,
+            _ => replies_one(alloc, &asking(&payload)) == Came::AtOnce,
+        },
         None => false,
     }
 }
@@ -220,25 +387,45 @@ fn refused_replies_leave_no_byte(rt: HostRuntime) {
     assert!(rt; leaves_the_replies(rt.alloc()));
 }
 
-/// Returns true if the answers are appended as two replies; or nothing is for want of memory, and they are then.
-fn puts_two(out: &mut ReplyBuf, answers: &Answers) -> bool {
+/// Appends the answers as two replies behind so many bytes, and appends them again where that is refused, which has to change
+/// nothing.
+fn puts(out: &mut ReplyBuf, answers: &Answers, before: usize, after: usize) -> Came {
     match out.push(7, answers) {
-        Ok(()) => out.output().len() == 66,
-        Err(refusal) => {
+        Ok(()) => at_once(are_messages(out.output(), &PUSHED, after)),
+        Err(refusal) => again(
             refusal == ReplyRefusal::OutOfMemory
-                && out.output().is_empty()
+                && are_messages(out.output(), &PUSHED, before)
                 && out.push(7, answers).is_ok()
-                && out.output().len() == 66
-        }
+                && are_messages(out.output(), &PUSHED, after),
+        ),
     }
 }
 
-/// Returns true if two answers are made, and `puts_two` holds of them.
+/// Appends the answers twice.
+fn puts_both(out: &mut ReplyBuf, answers: &Answers) -> Came {
+    let first = puts(out, answers, 0, 66);
+    both(first, puts(out, answers, 66, 132))
+}
+
+/// Like `puts_both`, in a buffer that is made for it.
+fn puts_one(alloc: Global, answers: &Answers) -> Came {
+    let mut out = ReplyBuf::new(alloc, 33);
+    puts_both(&mut out, answers)
+}
+
+/// Returns true if the answers are appended, at once or with a second try, and at once then in another buffer.
+fn puts_at_last(alloc: Global, answers: &Answers) -> bool {
+    match puts_one(alloc, answers) {
+        Came::AtOnce => true,
+        Came::Again => puts_one(alloc, answers) == Came::AtOnce,
+        _ => false,
+    }
+}
+
+/// Returns true if two answers are made, and `puts_at_last` holds of them.
 fn puts_answers(alloc: Global, payload: &PayloadBuf) -> bool {
     let mut answers = Answers::new(alloc);
-    pushes(&mut answers, payload, Way::Copied, 0)
-        && pushes(&mut answers, payload, Way::Copied, 1)
-        && puts_two(&mut ReplyBuf::new(alloc, 33), &answers)
+    goes_on(pushes_both(&mut answers, payload, Way::Copied)) && puts_at_last(alloc, &answers)
 }
 
 /// Returns true if a payload is made, and `puts_answers` holds of it.

@@ -1,13 +1,33 @@
 //! Tests of what stays of a server after a refused allocation. `./try-refusals` runs them with each of their allocations
 //! refused in turn. No other one is refused then, so what is asked for again is granted.
 
+use crate::log_rows::{Noted, is_log};
+use crate::refused_calls::{Came, again, at_once, both, goes_on, to_an_end};
 use std::alloc::Global;
-use wire_peer::{AnswerRefusal, Echo, Logged, Server, ServerCause, ServerRefusal, ServerState};
+use wire_peer::{
+    AnswerRefusal, Echo, HandlerStop, Logged, Server, ServerCause, ServerRefusal, ServerState,
+    StopAt,
+};
 use wire_stream::ReadRefusal;
 
+/// `{"a": 1}`.
+const ONE: &[u8] = b"\x0c\0\0\0\x10a\0\x01\0\0\0\0";
+
+/// `{"a": 2}`.
+const TWO: &[u8] = b"\x0c\0\0\0\x10a\0\x02\0\0\0\0";
+
 /// `{"a": 1}` as request 1.
-const REQUEST: &[u8; 33] =
+const FIRST: &[u8; 33] =
     b"\x21\0\0\0\x01\0\0\0\0\0\0\0\xdd\x07\0\0\0\0\0\0\0\x0c\0\0\0\x10a\0\x01\0\0\0\0";
+
+/// `{"a": 2}` as request 2, up to the flags and from there.
+const SECOND_HEAD: &[u8; 20] = b"\x21\0\0\0\x02\0\0\0\0\0\0\0\xdd\x07\0\0\0\0\0\0";
+
+const SECOND_REST: &[u8; 13] = b"\0\x0c\0\0\0\x10a\0\x02\0\0\0\0";
+
+/// The replies to them, with ids 1 and 2.
+const REPLIES: &[u8] =
+    b"\x21\0\0\0\x01\0\0\0\x01\0\0\0\xdd\x07\0\0\0\0\0\0\0\x0c\0\0\0\x10a\0\x01\0\0\0\0\x21\0\0\0\x02\0\0\0\x02\0\0\0\xdd\x07\0\0\0\0\0\0\0\x0c\0\0\0\x10a\0\x02\0\0\0\0";
 
 /// Returns a server.
 fn server(alloc: Global) -> Result<Server, ServerRefusal> {
@@ -25,7 +45,7 @@ fn server_again(alloc: Global) -> Option<Server> {
 /// Returns true if a server is made; or refused for want of memory, and made then.
 fn is_made(alloc: Global) -> bool {
     match server(alloc) {
-        Ok(server) => server.waiting() == 0,
+        Ok(server) => stands(&server, &[], 0),
         Err(refusal) => refusal == ServerRefusal::OutOfMemory && server(alloc).is_ok(),
     }
 }
@@ -35,75 +55,182 @@ fn a_refused_server_is_not_made(rt: HostRuntime) {
     assert!(rt; is_made(rt.alloc()));
 }
 
-/// Returns true if the request comes whole; or nothing is taken, and it comes whole then.
-fn takes(server: &mut Server) -> bool {
-    match server.feed(REQUEST) {
-        Ok(taken) => taken == 33 && server.waiting() == 1,
-        Err(ReadRefusal::OutOfMemory) => {
-            server.waiting() == 0
-                && server.state() == ServerState::Open
-                && server.feed(REQUEST) == Ok(33)
-                && server.waiting() == 1
+/// Returns true if the request that waits there is this body, wants a reply, and allows no more.
+fn is_request(server: &Server, k: usize, body: &[u8]) -> bool {
+    match server.request(k) {
+        Some(request) => {
+            !request.allows && !request.silent && request.payload.body().as_bytes() == body
         }
+        None => false,
     }
 }
 
-/// Returns true if a server is made, and `takes` holds of it.
-fn takes_in_one(alloc: Global) -> bool {
+/// Returns true if these requests wait, and no other.
+fn wait(server: &Server, bodies: &[&[u8]]) -> bool {
+    for (k, body) in bodies.iter().enumerate() {
+        if !is_request(server, k, body) {
+            return false;
+        }
+    }
+    server.waiting() == bodies.len()
+}
+
+/// Returns true if these requests wait, and so many first bytes of the replies are put out.
+fn holds(server: &Server, bodies: &[&[u8]], put_out: usize) -> bool {
+    wait(server, bodies) && server.output().len() == put_out && REPLIES.starts_with(server.output())
+}
+
+/// Returns true if the server is open, these requests wait, and so many first bytes of the replies are put out.
+fn stands(server: &Server, bodies: &[&[u8]], put_out: usize) -> bool {
+    server.state() == ServerState::Open && holds(server, bodies, put_out)
+}
+
+/// A piece that is fed, and the bodies of the requests that wait before it and after it.
+type Piece<'a> = (&'a [u8], &'a [&'a [u8]], &'a [&'a [u8]]);
+
+/// The first request whole, and the second one in two pieces.
+const PIECES: [Piece<'_>; 3] = [
+    (FIRST, &[], &[ONE]),
+    (SECOND_HEAD, &[ONE], &[ONE]),
+    (SECOND_REST, &[ONE], &[ONE, TWO]),
+];
+
+/// Feeds a piece, and feeds it again where it is refused, which has to change nothing.
+fn feeds(server: &mut Server, piece: &Piece<'_>) -> Came {
+    match server.feed(piece.0) {
+        Ok(taken) => at_once(taken == piece.0.len() && stands(server, piece.2, 0)),
+        Err(ReadRefusal::OutOfMemory) => again(
+            stands(server, piece.1, 0)
+                && server.feed(piece.0) == Ok(piece.0.len())
+                && stands(server, piece.2, 0),
+        ),
+    }
+}
+
+/// Feeds the first request whole, and the second one in two pieces.
+fn feeds_all(server: &mut Server) -> Came {
+    let mut all = Came::AtOnce;
+    for piece in &PIECES {
+        all = both(all, feeds(server, piece));
+    }
+    all
+}
+
+/// Like `feeds_all`, of a server that is made for it.
+fn feeds_one(alloc: Global) -> Came {
     match server_again(alloc) {
-        Some(mut server) => takes(&mut server),
-        None => false,
+        Some(mut server) => feeds_all(&mut server),
+        None => Came::Otherwise,
+    }
+}
+
+/// Returns true if the requests come, each piece at once; or one of them at its second try, and each at once then to another server.
+fn feeds_at_last(alloc: Global) -> bool {
+    match feeds_one(alloc) {
+        Came::AtOnce => true,
+        Came::Again => feeds_one(alloc) == Came::AtOnce,
+        _ => false,
     }
 }
 
 #[test]
 fn a_refused_feed_takes_nothing(rt: HostRuntime) {
-    assert!(rt; takes_in_one(rt.alloc()));
+    assert!(rt; feeds_at_last(rt.alloc()));
 }
 
-/// Returns true if the request is answered, by the first entry.
-fn is_answered(server: &mut Server, logged: &mut Logged<Echo>) -> bool {
-    server.answer(0, logged) == Ok(0) && server.output().len() == 33
+/// A handler that answers two requests and stops at the third, so that it tells whether it was asked for nothing.
+type Twice = StopAt<Echo>;
+
+/// How a server and its log stand: the bodies of the requests that wait, how many bytes are put out, and the entries.
+type Standing<'a> = (&'a [&'a [u8]], usize, &'a [Noted<'a>]);
+
+/// How they stand before the first answer, behind it, and behind the second one.
+const UNANSWERED: Standing<'_> = (&[ONE, TWO], 0, &[]);
+
+const ONE_ANSWERED: Standing<'_> = (&[TWO], 33, &[(ONE, Some(&[ONE]))]);
+
+const ALL_ANSWERED: Standing<'_> = (&[], 66, &[(ONE, Some(&[ONE])), (TWO, Some(&[TWO]))]);
+
+/// The entries where the handler stopped at the first request, and where it stopped at the second one.
+const FIRST_FAILED: &[Noted<'_>] = &[(ONE, None)];
+
+const SECOND_FAILED: &[Noted<'_>] = &[(ONE, Some(&[ONE])), (TWO, None)];
+
+/// An answer: how all stands before and after it, and the entries where the handler stopped at it.
+type Row<'a> = (Standing<'a>, Standing<'a>, &'a [Noted<'a>]);
+
+/// The answers to the first request and to the second one.
+const ROWS: [Row<'_>; 2] = [
+    (UNANSWERED, ONE_ANSWERED, FIRST_FAILED),
+    (ONE_ANSWERED, ALL_ANSWERED, SECOND_FAILED),
+];
+
+/// Returns true if the server is open, and it and its log stand so.
+fn both_stand(server: &Server, logged: &Logged<Twice>, standing: &Standing<'_>) -> bool {
+    stands(server, standing.0, standing.1) && is_log(logged.entries(), 1, standing.2)
 }
 
-/// Returns true if the server closed after the handler was asked: the entry stands, the request has left, and nothing was put out.
-fn is_closed(server: &Server, logged: &Logged<Echo>) -> bool {
+/// Returns true if the server closed after the handler was asked: the entry stands, answered or failed, the request has left, and
+/// nothing was put out for it.
+fn is_closed(server: &Server, logged: &Logged<Twice>, row: &Row<'_>) -> bool {
     server.state() == ServerState::Closed(ServerCause::NoMemory)
-        && logged.entries().len() == 1
-        && server.waiting() == 0
-        && server.output().is_empty()
+        && holds(server, row.1.0, row.0.1)
+        && (is_log(logged.entries(), 1, row.1.2) || is_log(logged.entries(), 1, row.2))
 }
 
-/// Returns whether the request is answered, at once or after a refusal that changed nothing; or none where the server closed for
-/// want of memory.
-fn answers(server: &mut Server, logged: &mut Logged<Echo>) -> Option<bool> {
+/// Answers the first request that waits, and answers it again where that is refused before the handler is asked, which has to change
+/// nothing.
+fn answers(server: &mut Server, logged: &mut Logged<Twice>, row: &Row<'_>) -> Came {
+    let number = row.0.2.len();
     match server.answer(0, logged) {
-        Ok(number) => Some(number == 0 && server.output().len() == 33),
-        Err(AnswerRefusal::OutOfMemory) => {
-            let unchanged = logged.entries().is_empty() && server.waiting() == 1;
-            Some(unchanged && is_answered(server, logged))
+        Ok(entry) => at_once(entry == number && both_stand(server, logged, &row.1)),
+        Err(AnswerRefusal::OutOfMemory) => again(
+            both_stand(server, logged, &row.0)
+                && server.answer(0, logged) == Ok(number)
+                && both_stand(server, logged, &row.1),
+        ),
+        Err(AnswerRefusal::NowClosed(_)) => to_an_end(is_closed(server, logged, row)),
+        Err(_) => Came::Otherwise,
+    }
+}
+
+/// Answers both requests, the first one first.
+fn answers_both(server: &mut Server, logged: &mut Logged<Twice>) -> Came {
+    let mut all = Came::AtOnce;
+    for row in &ROWS {
+        all = both(all, answers(server, logged, row));
+        if !goes_on(all) {
+            return all;
         }
-        Err(AnswerRefusal::NowClosed(ServerCause::NoMemory)) if is_closed(server, logged) => None,
-        Err(_) => Some(false),
     }
+    all
 }
 
-/// Like `answers`, of a server that is made and fed for it.
-fn answers_in_one(alloc: Global) -> Option<bool> {
-    let mut logged = Logged::new(alloc, Echo);
-    let mut server = server_again(alloc)?;
-    if takes(&mut server) {
-        answers(&mut server, &mut logged)
+/// Feeds both requests to a server, and answers them.
+fn answers_fed(server: &mut Server, logged: &mut Logged<Twice>) -> Came {
+    let fed = feeds_all(server);
+    if goes_on(fed) {
+        both(fed, answers_both(server, logged))
     } else {
-        Some(false)
+        fed
     }
 }
 
-/// Returns true if a request is answered; or its server closes for want of memory, and it is answered by another one.
+/// Like `answers_fed`, of a server that is made for it.
+fn answers_of_one(alloc: Global) -> Came {
+    let mut logged = Logged::new(alloc, StopAt::new(Echo, 2, HandlerStop::Failed));
+    match server_again(alloc) {
+        Some(mut server) => answers_fed(&mut server, &mut logged),
+        None => Came::Otherwise,
+    }
+}
+
+/// Returns true if the requests are answered; or memory is wanting for one of them, and another server answers them at once then.
 fn answers_at_last(alloc: Global) -> bool {
-    match answers_in_one(alloc) {
-        Some(holds) => holds,
-        None => answers_in_one(alloc) == Some(true),
+    match answers_of_one(alloc) {
+        Came::AtOnce => true,
+        Came::Otherwise => false,
+        _ => answers_of_one(alloc) == Came::AtOnce,
     }
 }
 

@@ -1,34 +1,61 @@
 //! A test of what stands after serving that wanted memory. `./try-refusals` runs it with each of its allocations refused in
 //! turn. No other one is refused then, so a connection that is served again is served to its end.
 
+use crate::log_rows::{Noted, is_log};
 use std::alloc::Global;
-use wire_peer::{Echo, Logged, ServeEnd, serve};
+use wire_peer::{Echo, Entry, Logged, ServeEnd, serve};
 use wire_stream::MemLink;
 
-/// A ping as request 1, twice.
-const PINGS: &[u8; 102] =
-    b"\x33\0\0\0\x01\0\0\0\0\0\0\0\xdd\x07\0\0\0\0\0\0\0\x1e\0\0\0\x10ping\0\x01\0\0\0\x02$db\0\x06\0\0\0admin\0\0\x33\0\0\0\x01\0\0\0\0\0\0\0\xdd\x07\0\0\0\0\0\0\0\x1e\0\0\0\x10ping\0\x01\0\0\0\x02$db\0\x06\0\0\0admin\0\0";
+/// `{"a": 1}`.
+const ONE: &[u8] = b"\x0c\0\0\0\x10a\0\x01\0\0\0\0";
 
-/// The answers to them, with ids 1 and 2.
-const REPLIES: &[u8; 102] =
-    b"\x33\0\0\0\x01\0\0\0\x01\0\0\0\xdd\x07\0\0\0\0\0\0\0\x1e\0\0\0\x10ping\0\x01\0\0\0\x02$db\0\x06\0\0\0admin\0\0\x33\0\0\0\x02\0\0\0\x01\0\0\0\xdd\x07\0\0\0\0\0\0\0\x1e\0\0\0\x10ping\0\x01\0\0\0\x02$db\0\x06\0\0\0admin\0\0";
+/// `{"a": 2}`.
+const TWO: &[u8] = b"\x0c\0\0\0\x10a\0\x02\0\0\0\0";
 
-/// Returns true if these bytes are the replies to the requests of so many entries, or to those but for the last one.
-fn is_replied(entries: usize, sent: &[u8]) -> bool {
-    match entries {
-        0 => sent.is_empty(),
-        1 => sent.is_empty() || sent == &REPLIES[..51],
-        2 => sent == &REPLIES[..51] || sent == REPLIES.as_slice(),
-        _ => false,
+/// `{"a": 1}` as request 1, and `{"a": 2}` as request 2.
+const REQUESTS: &[u8] =
+    b"\x21\0\0\0\x01\0\0\0\0\0\0\0\xdd\x07\0\0\0\0\0\0\0\x0c\0\0\0\x10a\0\x01\0\0\0\0\x21\0\0\0\x02\0\0\0\0\0\0\0\xdd\x07\0\0\0\0\0\0\0\x0c\0\0\0\x10a\0\x02\0\0\0\0";
+
+/// The replies to them, with ids 1 and 2.
+const REPLIES: &[u8; 66] =
+    b"\x21\0\0\0\x01\0\0\0\x01\0\0\0\xdd\x07\0\0\0\0\0\0\0\x0c\0\0\0\x10a\0\x01\0\0\0\0\x21\0\0\0\x02\0\0\0\x02\0\0\0\xdd\x07\0\0\0\0\0\0\0\x0c\0\0\0\x10a\0\x02\0\0\0\0";
+
+/// A log as it may stand where memory was wanting, and how many bytes were sent then.
+type Stopped<'a> = (&'a [Noted<'a>], usize);
+
+/// The logs of all requests, of the first one, and of none, whose replies were sent; and those whose last entry met the want, and has
+/// no reply.
+const STOPPED: [Stopped<'_>; 7] = [
+    (&[(ONE, Some(&[ONE])), (TWO, Some(&[TWO]))], 66),
+    (&[(ONE, Some(&[ONE]))], 33),
+    (&[], 0),
+    (&[(ONE, None)], 0),
+    (&[(ONE, Some(&[ONE]))], 0),
+    (&[(ONE, Some(&[ONE])), (TWO, None)], 33),
+    (&[(ONE, Some(&[ONE])), (TWO, Some(&[TWO]))], 33),
+];
+
+/// Returns true if the log is this one, and so many first bytes of the replies were sent.
+fn stands(entries: &[Entry], sent: &[u8], row: &Stopped<'_>) -> bool {
+    is_log(entries, 1, row.0) && sent.len() == row.1 && REPLIES.starts_with(sent)
+}
+
+/// Returns true if serving may have stopped so for want of memory.
+fn may_stop(entries: &[Entry], sent: &[u8]) -> bool {
+    for row in &STOPPED {
+        if stands(entries, sent, row) {
+            return true;
+        }
     }
+    false
 }
 
 /// Returns whether all was answered; or none where memory was wanting, and the entries, or those before the last one, have their
 /// replies.
-fn outcome(end: ServeEnd, entries: usize, sent: &[u8]) -> Option<bool> {
+fn outcome(end: ServeEnd, entries: &[Entry], sent: &[u8]) -> Option<bool> {
     match end {
-        ServeEnd::Ended => Some(entries == 2 && sent == REPLIES.as_slice()),
-        ServeEnd::OutOfMemory if is_replied(entries, sent) => None,
+        ServeEnd::Ended => Some(stands(entries, sent, &STOPPED[0])),
+        ServeEnd::OutOfMemory if may_stop(entries, sent) => None,
         _ => Some(false),
     }
 }
@@ -37,26 +64,26 @@ fn outcome(end: ServeEnd, entries: usize, sent: &[u8]) -> Option<bool> {
 fn serves(alloc: Global, link: &mut MemLink) -> Option<bool> {
     let mut logged = Logged::new(alloc, Echo);
     let end = serve(alloc, link, &mut logged, 1, 48_000_000, 10);
-    outcome(end, logged.entries().len(), link.sent_bytes())
+    outcome(end, logged.entries(), link.sent_bytes())
 }
 
-/// Returns a link that gives the pings, and has room for the replies.
+/// Returns a link that gives the requests, and has room for the replies.
 fn link_of(alloc: Global) -> Option<MemLink> {
-    let bytes = Vec::from_slice(alloc, PINGS).ok()?;
-    MemLink::new(alloc, bytes, 102).ok()
+    let bytes = Vec::from_slice(alloc, REQUESTS).ok()?;
+    MemLink::new(alloc, bytes, 66).ok()
 }
 
-/// Returns the outcome of serving the pings, or none if there was no memory for a link.
-fn serves_pings(alloc: Global) -> Option<bool> {
+/// Returns the outcome of serving the requests, or none if there was no memory for a link.
+fn serves_requests(alloc: Global) -> Option<bool> {
     let mut link = link_of(alloc)?;
     serves(alloc, &mut link)
 }
 
-/// Returns true if the pings are served; or memory is wanting, and they are when they come again.
+/// Returns true if the requests are served; or memory is wanting, and they are when they come again.
 fn serves_at_last(alloc: Global) -> bool {
-    match serves_pings(alloc) {
+    match serves_requests(alloc) {
         Some(holds) => holds,
-        None => serves_pings(alloc) == Some(true),
+        None => serves_requests(alloc) == Some(true),
     }
 }
 

@@ -1,0 +1,50 @@
+//! What a log is to hold.
+
+use wire_msg::PayloadBuf;
+use wire_peer::{Entry, Outcome};
+
+/// An entry as it is to stand: the request's body, and the bodies of its answers, unless it failed.
+pub(crate) type Noted<'a> = (&'a [u8], Option<&'a [&'a [u8]]>);
+
+/// Returns true if the payload is the body alone.
+fn is_body(payload: &PayloadBuf, body: &[u8]) -> bool {
+    payload.as_payload().body().as_bytes() == body
+}
+
+/// Returns true if the payloads are these bodies alone.
+pub(crate) fn are_bodies(payloads: &[PayloadBuf], bodies: &[&[u8]]) -> bool {
+    if payloads.len() != bodies.len() {
+        return false;
+    }
+    for (payload, body) in payloads.iter().zip(bodies) {
+        if !is_body(payload, body) {
+            return false;
+        }
+    }
+    true
+}
+
+/// Returns true if this became of a request.
+fn is_outcome(outcome: &Outcome, answers: Option<&[&[u8]]>) -> bool {
+    match (outcome, answers) {
+        (Outcome::Answered(given), Some(bodies)) => are_bodies(given.as_slice(), bodies),
+        (Outcome::Failed, None) => true,
+        _ => false,
+    }
+}
+
+/// Returns true if the entries are these, all of one connection.
+pub(crate) fn is_log(entries: &[Entry], connection: u64, rows: &[Noted<'_>]) -> bool {
+    if entries.len() != rows.len() {
+        return false;
+    }
+    for (entry, row) in entries.iter().zip(rows) {
+        if entry.connection != connection
+            || !is_body(&entry.payload, row.0)
+            || !is_outcome(&entry.outcome, row.1)
+        {
+            return false;
+        }
+    }
+    true
+}
