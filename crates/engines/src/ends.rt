@@ -76,14 +76,14 @@ impl<L: Link + Drop> End<Client, L> {
         Ok(())
     }
 
-    /// Receives until the reply is ready, and lets go of it. One byte comes at least each time, so no reply wants more
-    /// turns than a message has bytes at most. Errs if the link failed or ended, if what came closed the
+    /// Receives until the reply is ready, and lets go of it. Errs if the link failed or ended, if what came closed the
     /// client, or if memory ran out.
     pub fn receive_reply(&mut self) -> Result<(), RunEnd>
         requires { MayTake self.old.peer }
         ensures complete { (k : ℕ) → Awaits k self.old.peer → OnOk result (IsIdle (k + 1) self.new.peer) }
         ensures stopped { IfErr result (λ end. is_done end ≡ false) }
     {
+        // Each turn takes one byte at least, and no message has more bytes.
         for _ in 0..MAX_MESSAGE_LEN {
             self.pull()?;
             if self.feed()? {
@@ -122,6 +122,7 @@ impl<L: Link + Drop> End<Server, L> {
     pub fn receive_request(&mut self) -> Result<(), RunEnd>
         ensures { IfErr result (λ end. is_done end ≡ false) }
     {
+        // Each turn takes one byte at least, and no message has more bytes.
         for _ in 0..MAX_MESSAGE_LEN {
             if self.peer.waiting() > 0 {
                 return Ok(());
