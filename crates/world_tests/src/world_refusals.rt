@@ -2,12 +2,12 @@
 //! in turn. No other one is refused then, so what comes again, in this world or in another one, comes to its end.
 
 use crate::rows::{
-    End, Logging, ONE, Standing, ample, calls_stand, ends_so, log_stands, payload_of,
+    End, Logging, ONE, Standing, ample, calls_stand, ends_so, good_steps, log_stands, payload_of,
 };
 use std::alloc::Global;
 use wire_msg::{Payload, PayloadBuf};
-use wire_peer::{CallKind, Echo, Entry, ServerCause};
-use wire_world::{CallRecord, CallState, Event, Report, SetupRefusal, World, WorldRefusal};
+use wire_peer::{AnswerRefusal, CallKind, Echo, ServerCause};
+use wire_world::{CallState, Event, Report, SetupRefusal, World, WorldRefusal};
 
 /// `{"a": 1}` as request 1.
 const REQUEST: &[u8] =
@@ -46,21 +46,100 @@ fn all_are_cut(world: &mut World<Echo>, events: &[Event<'_>]) -> bool {
     true
 }
 
-/// Returns true if the first call is complete, and all others stand so.
-fn only_the_first_is_done(calls: &[CallRecord], others: CallState) -> bool {
-    for (index, call) in calls.iter().enumerate() {
-        let state = if index == 0 { CallState::Done } else { others };
-        if call.state != state {
-            return false;
-        }
-    }
-    true
+/// How a world stands: its calls, and the entries of its log.
+type Holding<'a> = (&'a [Standing<'a>], &'a [Logging<'a>]);
+
+/// Returns true if the world stands so.
+fn holds(world: &World<Echo>, holding: Holding<'_>) -> bool {
+    calls_stand(world.calls(), holding.0) && log_stands(world.log(), holding.1)
 }
 
-/// Returns true if the call over connection 2 is completed, as if nothing had been, and all others stand so.
-fn the_first_goes_on(world: &mut World<Echo>, others: CallState) -> bool {
-    all_happen(world, &[Event::Answer(2, 0), Event::Down(2, 33)])
-        && only_the_first_is_done(world.calls(), others)
+/// A call over connection 2 that waits, and the one that is complete.
+const WAITING: Standing<'_> = (2, CallState::Pending, &[]);
+
+const DONE: Standing<'_> = (2, CallState::Done, &[ONE]);
+
+/// The call over connection 1: begun, and lost.
+const BEGUN: Standing<'_> = (1, CallState::Pending, &[]);
+
+const LOST: Standing<'_> = (1, CallState::Lost, &[]);
+
+/// The entries of connection 1, answered and failed, and the answered ones of the others.
+const OF_1: Logging<'_> = (1, Some(1), ONE);
+
+const FAILED_1: Logging<'_> = (1, None, ONE);
+
+const OF_2: Logging<'_> = (2, Some(1), ONE);
+
+const OF_3: Logging<'_> = (3, Some(1), ONE);
+
+/// How a world stands behind an event, and how it stands when connection 2 has gone on from there.
+type Going<'a> = (Holding<'a>, Holding<'a>);
+
+/// Where there is no call over connection 1 and no entry, or one of connection 3.
+const ALONE: Going<'_> = ((&[WAITING], &[]), (&[DONE, WAITING], &[OF_2]));
+
+const ALONE_ASKED: Going<'_> = ((&[WAITING], &[OF_3]), (&[DONE, WAITING], &[OF_3, OF_2]));
+
+/// Where the call over connection 1 is lost, before its request has an entry and behind it.
+const LOST_UNASKED: Going<'_> = ((&[WAITING, LOST], &[]), (&[DONE, LOST, WAITING], &[OF_2]));
+
+const LOST_ASKED: Going<'_> = (
+    (&[WAITING, LOST], &[OF_1]),
+    (&[DONE, LOST, WAITING], &[OF_1, OF_2]),
+);
+
+/// Where the server of connection 1 has closed, since its replies found no memory or its handler stopped.
+const CLOSED: [Going<'_>; 2] = [
+    (
+        (&[WAITING, BEGUN], &[OF_1]),
+        (&[DONE, BEGUN, WAITING], &[OF_1, OF_2]),
+    ),
+    (
+        (&[WAITING, BEGUN], &[FAILED_1]),
+        (&[DONE, BEGUN, WAITING], &[FAILED_1, OF_2]),
+    ),
+];
+
+/// Returns true if the call over connection 2 is completed and another one is made there, and a new connection has this number, all
+/// as if nothing had been.
+fn all_goes_on(world: &mut World<Echo>, one: Payload<'_>, next: u64) -> bool {
+    let steps = [
+        (Event::Answer(2, 0), End::Entry(world.log().len())),
+        (Event::Down(2, 33), End::Moved(33)),
+        (
+            Event::Call(2, CallKind::Plain, one),
+            End::Called(world.calls().len(), 2),
+        ),
+        (Event::Up(2, 33), End::Moved(33)),
+        (Event::Open, End::Opened(next, true)),
+    ];
+    good_steps(world, &steps) == 5
+}
+
+/// Returns true if the world stands as it does before and behind what goes on.
+fn goes_on_so(world: &mut World<Echo>, one: Payload<'_>, next: u64, going: &Going<'_>) -> bool {
+    holds(world, going.0) && all_goes_on(world, one, next) && holds(world, going.1)
+}
+
+/// Returns true if the server of connection 1 is closed and put out nothing.
+fn is_closed(world: &mut World<Echo>) -> bool {
+    let refused = End::Refused(WorldRefusal::Answer(AnswerRefusal::Closed));
+    let steps = [
+        (Event::Answer(1, 0), refused),
+        (Event::Down(1, 33), End::Moved(0)),
+    ];
+    good_steps(world, &steps) == 2
+}
+
+/// Returns true if the server of connection 1 is closed, and all else goes on.
+fn goes_on_closed(world: &mut World<Echo>, one: Payload<'_>) -> bool {
+    for going in &CLOSED {
+        if holds(world, going.0) {
+            return is_closed(world) && goes_on_so(world, one, 3, going);
+        }
+    }
+    false
 }
 
 /// What an event came to.
@@ -107,79 +186,98 @@ fn prepared(alloc: Global, one: Payload<'_>, events: &[Event<'_>]) -> Option<Wor
     }
 }
 
-/// Returns true if the event comes to its end; or none if memory is wanting for it. These other events are refused then, since
-/// its connection is cut, there is no other call or entry, and the call over connection 2 is completed. Where the server closed,
-/// its entry stands.
-fn stands(
-    world: &mut World<Echo>,
-    event: &Event<'_>,
-    end: End<'_>,
-    cut: &[Event<'_>],
-) -> Option<bool> {
-    let calls = world.calls().len();
-    let entries = world.log().len();
-    let came = end_of_step(world, event, end);
-    let holds = match came {
-        Came::ToItsEnd => return Some(true),
-        Came::ToNothing => {
-            world.calls().len() == calls
-                && world.log().len() == entries
-                && all_are_cut(world, cut)
-                && the_first_goes_on(world, CallState::Lost)
-        }
-        Came::ToAClose => {
-            world.log().len() > entries && the_first_goes_on(world, CallState::Pending)
-        }
-        Came::Otherwise => false,
-    };
+/// An event that is tried: those before it, itself and its end, the ones that are refused where its connection is cut, how all
+/// stands then, and the number of the next connection.
+#[derive(Clone, Copy)]
+struct Trial<'a, 'c, 'e> {
+    before: &'a [Event<'a>],
+    event: Event<'a>,
+    end: End<'a>,
+    cut: &'c [Event<'e>],
+    going: Going<'a>,
+    next: u64,
+}
+
+/// Returns none, which tells that memory was wanting, if all stands as it is to then.
+fn wanting(holds: bool) -> Option<bool> {
     if holds { None } else { Some(false) }
 }
 
+/// Returns true if the event comes to its end; or none if memory is wanting for it. Its connection is cut then, there is no other call
+/// or entry, and all else goes on; or its server closed, and its entry stands.
+fn stands(world: &mut World<Echo>, one: Payload<'_>, trial: &Trial<'_, '_, '_>) -> Option<bool> {
+    match end_of_step(world, &trial.event, trial.end) {
+        Came::ToItsEnd => Some(true),
+        Came::ToNothing => wanting(
+            holds(world, trial.going.0)
+                && all_are_cut(world, trial.cut)
+                && goes_on_so(world, one, trial.next, &trial.going),
+        ),
+        Came::ToAClose => wanting(goes_on_closed(world, one)),
+        Came::Otherwise => Some(false),
+    }
+}
+
 /// Like `stands`, in a world that is prepared by the events before.
-fn tries(
-    alloc: Global,
-    one: Payload<'_>,
-    before: &[Event<'_>],
-    event: &Event<'_>,
-    end: End<'_>,
-    cut: &[Event<'_>],
-) -> Option<bool> {
-    let mut world = prepared(alloc, one, before)?;
-    stands(&mut world, event, end, cut)
+fn tries(alloc: Global, one: Payload<'_>, trial: &Trial<'_, '_, '_>) -> Option<bool> {
+    let mut world = prepared(alloc, one, trial.before)?;
+    stands(&mut world, one, trial)
+}
+
+/// Returns true if the event comes to its end; or memory is wanting, and it comes to its end in another world.
+fn tries_at_last(alloc: Global, one: Payload<'_>, trial: &Trial<'_, '_, '_>) -> bool {
+    match tries(alloc, one, trial) {
+        Some(holds) => holds,
+        None => tries(alloc, one, trial) == Some(true),
+    }
 }
 
 /// Returns true if an event of connection 1 comes to its end, or cuts its own connection alone where memory is wanting.
-fn cuts_connection_1(
+fn cuts_connection_1<'a>(
     alloc: Global,
-    one: Payload<'_>,
-    before: &[Event<'_>],
-    event: Event<'_>,
-    end: End<'_>,
+    one: Payload<'a>,
+    before: &'a [Event<'a>],
+    event: Event<'a>,
+    end: End<'a>,
+    going: Going<'a>,
 ) -> bool {
     let cut = [
         Event::Call(1, CallKind::Plain, one),
         Event::Up(1, 1),
         Event::Down(1, 1),
     ];
-    match tries(alloc, one, before, &event, end, &cut) {
-        Some(holds) => holds,
-        None => tries(alloc, one, before, &event, end, &cut) == Some(true),
-    }
+    let trial = Trial {
+        before,
+        event,
+        end,
+        cut: &cut,
+        going,
+        next: 3,
+    };
+    tries_at_last(alloc, one, &trial)
 }
 
+/// What is refused where the raw connection 3 is cut.
+const CUT_RAW: [Event<'_>; 2] = [Event::Raw(3, REQUEST), Event::RawTake(3, 1)];
+
 /// Like `cuts_connection_1`, for an event of the raw connection 3.
-fn cuts_connection_3(
+fn cuts_connection_3<'a>(
     alloc: Global,
-    one: Payload<'_>,
-    before: &[Event<'_>],
-    event: Event<'_>,
-    end: End<'_>,
+    one: Payload<'a>,
+    before: &'a [Event<'a>],
+    event: Event<'a>,
+    end: End<'a>,
+    going: Going<'a>,
 ) -> bool {
-    let cut = [Event::Raw(3, REQUEST), Event::RawTake(3, 1)];
-    match tries(alloc, one, before, &event, end, &cut) {
-        Some(holds) => holds,
-        None => tries(alloc, one, before, &event, end, &cut) == Some(true),
-    }
+    let trial = Trial {
+        before,
+        event,
+        end,
+        cut: &CUT_RAW,
+        going,
+        next: 4,
+    };
+    tries_at_last(alloc, one, &trial)
 }
 
 /// Returns the payload of `ONE`, which is made again where memory is refused.
@@ -190,17 +288,27 @@ fn one_again(alloc: Global) -> Option<PayloadBuf> {
     }
 }
 
-/// Returns whether the event, which makes a connection, comes to its end: at once, or after a refusal that changed nothing. Returns
-/// none where memory is wanting before it.
+/// Returns true if there is no connection 3, the event makes it, and all else goes on.
+fn happens_again(
+    world: &mut World<Echo>,
+    one: Payload<'_>,
+    event: &Event<'_>,
+    end: End<'_>,
+) -> bool {
+    let none = End::Refused(WorldRefusal::NoConnection);
+    holds(world, ALONE.0)
+        && ends_so(&world.step(&Event::CutUp(3)), none)
+        && ends_so(&world.step(event), end)
+        && goes_on_so(world, one, 4, &ALONE)
+}
+
+/// Returns true if the event, which makes a connection, comes to its end; or none where memory is wanting for it, which has to change
+/// nothing, or before it.
 fn happens(alloc: Global, one: Payload<'_>, event: &Event<'_>, end: End<'_>) -> Option<bool> {
     let mut world = prepared(alloc, one, &[])?;
     match end_of_step(&mut world, event, end) {
         Came::ToItsEnd => Some(true),
-        Came::ToNothing => {
-            let none = End::Refused(WorldRefusal::NoConnection);
-            let unchanged = ends_so(&world.step(&Event::CutUp(3)), none);
-            Some(unchanged && end_of_step(&mut world, event, end) == Came::ToItsEnd)
-        }
+        Came::ToNothing => wanting(happens_again(&mut world, one, event, end)),
         _ => Some(false),
     }
 }
@@ -232,7 +340,16 @@ fn a_call_cuts_its_own_connection(rt: HostRuntime) {
     };
     let one = payload.as_payload();
     let call = Event::Call(1, CallKind::Plain, one);
-    assert!(rt; cuts_connection_1(rt.alloc(), one, &[call], call, End::Called(2, 2)));
+    assert!(rt;
+        cuts_connection_1(
+            rt.alloc(),
+            one,
+            &[call],
+            call,
+            End::Called(2, 2),
+            LOST_UNASKED
+        )
+    );
 }
 
 #[test]
@@ -243,7 +360,16 @@ fn bytes_that_move_up_cut_their_own_connection(rt: HostRuntime) {
     };
     let one = payload.as_payload();
     let call = Event::Call(1, CallKind::Plain, one);
-    assert!(rt; cuts_connection_1(rt.alloc(), one, &[call], Event::Up(1, 33), End::Moved(33)));
+    assert!(rt;
+        cuts_connection_1(
+            rt.alloc(),
+            one,
+            &[call],
+            Event::Up(1, 33),
+            End::Moved(33),
+            LOST_UNASKED
+        )
+    );
 }
 
 #[test]
@@ -254,7 +380,16 @@ fn an_answer_cuts_its_own_connection_or_closes(rt: HostRuntime) {
     };
     let one = payload.as_payload();
     let before = [Event::Call(1, CallKind::Plain, one), Event::Up(1, 33)];
-    assert!(rt; cuts_connection_1(rt.alloc(), one, &before, Event::Answer(1, 0), End::Entry(0)));
+    assert!(rt;
+        cuts_connection_1(
+            rt.alloc(),
+            one,
+            &before,
+            Event::Answer(1, 0),
+            End::Entry(0),
+            LOST_UNASKED
+        )
+    );
 }
 
 #[test]
@@ -269,7 +404,16 @@ fn bytes_that_move_down_cut_their_own_connection(rt: HostRuntime) {
         Event::Up(1, 33),
         Event::Answer(1, 0),
     ];
-    assert!(rt; cuts_connection_1(rt.alloc(), one, &before, Event::Down(1, 33), End::Moved(33)));
+    assert!(rt;
+        cuts_connection_1(
+            rt.alloc(),
+            one,
+            &before,
+            Event::Down(1, 33),
+            End::Moved(33),
+            LOST_ASKED
+        )
+    );
 }
 
 #[test]
@@ -286,7 +430,8 @@ fn raw_bytes_cut_their_own_connection(rt: HostRuntime) {
             one,
             &[Event::RawOpen],
             raw,
-            End::RawMoved(33, None)
+            End::RawMoved(33, None),
+            ALONE
         )
     );
 }
@@ -300,7 +445,16 @@ fn bytes_taken_away_cut_their_own_connection(rt: HostRuntime) {
     let one = payload.as_payload();
     let before = [Event::RawOpen, Event::Raw(3, REQUEST), Event::Answer(3, 0)];
     let take = Event::RawTake(3, 33);
-    assert!(rt; cuts_connection_3(rt.alloc(), one, &before, take, End::Bytes(REPLY)));
+    assert!(rt;
+        cuts_connection_3(
+            rt.alloc(),
+            one,
+            &before,
+            take,
+            End::Bytes(REPLY),
+            ALONE_ASKED
+        )
+    );
 }
 
 /// Returns why no world is made, if none is.
@@ -324,50 +478,73 @@ fn a_refused_world_is_not_made(rt: HostRuntime) {
     assert!(rt; is_made(rt.alloc()));
 }
 
-/// Returns true if there is no call, or the one call of a run isn't complete and has no part.
-fn call_is_begun(calls: &[CallRecord]) -> bool {
-    const PENDING: [Standing<'_>; 1] = [(1, CallState::Pending, &[])];
-    const LOST: [Standing<'_>; 1] = [(1, CallState::Lost, &[])];
-    calls.is_empty() || calls_stand(calls, &PENDING) || calls_stand(calls, &LOST)
+/// The complete call over connection 1, and what came of the one over connection 2 else.
+const DONE_1: Standing<'_> = (1, CallState::Done, &[ONE]);
+
+const LOST_2: Standing<'_> = (2, CallState::Lost, &[]);
+
+const FAILED_2: Logging<'_> = (2, None, ONE);
+
+/// How a run stands to which no memory was wanting: a call over each connection is complete.
+const RUN: Holding<'_> = (&[DONE_1, DONE], &[OF_1, OF_2]);
+
+/// How it stands where memory was wanting for one event: one call is complete. The other one wasn't made, was lost before its request had
+/// an entry or behind it, or is pending, since the server closed when its entry stood.
+const BROKEN_RUNS: [Holding<'_>; 10] = [
+    (&[DONE_1], &[OF_1]),
+    (&[DONE_1, LOST_2], &[OF_1]),
+    (&[DONE_1, LOST_2], &[OF_1, OF_2]),
+    (&[DONE_1, WAITING], &[OF_1, OF_2]),
+    (&[DONE_1, WAITING], &[OF_1, FAILED_2]),
+    (&[DONE], &[OF_2]),
+    (&[LOST, DONE], &[OF_2]),
+    (&[LOST, DONE], &[OF_1, OF_2]),
+    (&[BEGUN, DONE], &[OF_1, OF_2]),
+    (&[BEGUN, DONE], &[FAILED_1, OF_2]),
+];
+
+/// Returns true if one event of a run was refused, or its server closed, and all others happened that could.
+fn is_broken(world: &World<Echo>) -> bool {
+    for holding in &BROKEN_RUNS {
+        if holds(world, *holding) {
+            return true;
+        }
+    }
+    false
 }
 
-/// Returns true if there is no entry, or the one entry of a run.
-fn entry_is_begun(log: &[Entry]) -> bool {
-    const ANSWERED: [Logging<'_>; 1] = [(1, Some(1), ONE)];
-    const FAILED: [Logging<'_>; 1] = [(1, None, ONE)];
-    log.is_empty() || log_stands(log, &ANSWERED) || log_stands(log, &FAILED)
-}
-
-/// Returns true if the call of a run is complete; or none if memory was wanting for one of its events, and the others happened or
-/// were refused as they are without it.
-fn is_run(calls: &[CallRecord], log: &[Entry]) -> Option<bool> {
-    const DONE: [Standing<'_>; 1] = [(1, CallState::Done, &[ONE])];
-    if calls_stand(calls, &DONE) {
-        Some(log_stands(log, &[(1, Some(1), ONE)]))
-    } else if call_is_begun(calls) && entry_is_begun(log) {
-        None
+/// Returns true if both calls of a run are complete; or none if memory was wanting for one of its events, and the others came to
+/// what they come to behind it.
+fn is_run(world: &World<Echo>) -> Option<bool> {
+    if holds(world, RUN) {
+        Some(true)
     } else {
-        Some(false)
+        wanting(is_broken(world))
     }
 }
 
-/// Returns how the run of a call and its reply stands, or none where memory was wanting.
+/// Returns how the run of two calls and their replies stands, or none where memory was wanting.
 fn runs(alloc: Global, one: Payload<'_>) -> Option<bool> {
     let events = [
+        Event::Open,
         Event::Open,
         Event::Call(1, CallKind::Plain, one),
         Event::Up(1, 33),
         Event::Answer(1, 0),
         Event::Down(1, 33),
+        Event::Call(2, CallKind::Plain, one),
+        Event::Up(2, 33),
+        Event::Answer(2, 0),
+        Event::Down(2, 33),
     ];
     match World::run(alloc, Echo, ample(1), &events) {
-        Ok(world) => is_run(world.calls(), world.log()),
+        Ok(world) => is_run(&world),
         Err(SetupRefusal::OutOfMemory) => None,
         Err(_) => Some(false),
     }
 }
 
-/// Returns true if the run completes its call, at once or when it is made again.
+/// Returns true if the run completes its calls, at once or when it is made again.
 fn runs_at_last(alloc: Global, one: Payload<'_>) -> bool {
     match runs(alloc, one) {
         Some(holds) => holds,
