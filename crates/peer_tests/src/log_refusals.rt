@@ -256,8 +256,8 @@ fn end_of_ask(answers: bool) -> Result<(), AskRefusal> {
     }
 }
 
-/// Asks a request, and asks it again where the handler wasn't asked, which has to change nothing. Where the handler stops for want of
-/// memory its entry has to stand.
+/// Asks a request, and asks it again where the handler wasn't asked, which has to change nothing. Where the handler stops for
+/// want of memory its entry has to stand.
 fn enters(logged: &mut Logged<Twice>, request: &Request<'_>, row: &Row<'_>) -> Came {
     let came = logged.ask(5, request);
     if came == end_of_ask(row.3) {
@@ -324,8 +324,8 @@ fn stands(logged: &Logged<Twice>, out: &ReplyBuf, rows: &[Noted<'_>], put_out: u
     notes(logged, rows) && are_messages(out.output(), &REPLIES, put_out)
 }
 
-/// Asks a request for its replies, and asks it again where the handler wasn't asked, which has to change nothing. Where the handler stops
-/// for want of memory or the replies find none, the entry has to stand, and no byte of them.
+/// Asks a request for its replies, and asks it again where the handler wasn't asked, which has to change nothing. Where the
+/// handler stops for want of memory or the replies find none, the entry has to stand, and no byte of them.
 fn replies(
     logged: &mut Logged<Twice>,
     out: &mut ReplyBuf,
@@ -369,8 +369,8 @@ fn replies_one(alloc: Global, request: &Request<'_>) -> Came {
     replies_all(&mut logged, &mut out, request)
 }
 
-/// Returns true if the requests get their replies; or memory is wanting for one of them, and they get them at once then from another
-/// log.
+/// Returns true if the requests get their replies; or memory is wanting for one of them, and they get them at once then from
+/// another log.
 fn leaves_the_replies(alloc: Global) -> bool {
     match three(alloc) {
         Some(payload) => match replies_one(alloc, &asking(&payload)) {

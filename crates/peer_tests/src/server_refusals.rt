@@ -124,7 +124,8 @@ fn feeds_one(alloc: Global) -> Came {
     }
 }
 
-/// Returns true if the requests come, each piece at once; or one of them at its second try, and each at once then to another server.
+/// Returns true if the requests come, each piece at once; or one of them at its second try, and each at once then to another
+/// server.
 fn feeds_at_last(alloc: Global) -> bool {
     match feeds_one(alloc) {
         Came::AtOnce => true,
@@ -178,8 +179,8 @@ fn is_closed(server: &Server, logged: &Logged<Twice>, row: &Row<'_>) -> bool {
         && (is_log(logged.entries(), 1, row.1.2) || is_log(logged.entries(), 1, row.2))
 }
 
-/// Answers the first request that waits, and answers it again where that is refused before the handler is asked, which has to change
-/// nothing.
+/// Answers the first request that waits, and answers it again where that is refused before the handler is asked, which has to
+/// change nothing.
 fn answers(server: &mut Server, logged: &mut Logged<Twice>, row: &Row<'_>) -> Came {
     let number = row.0.2.len();
     match server.answer(0, logged) {

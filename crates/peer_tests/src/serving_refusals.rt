@@ -23,8 +23,8 @@ const REPLIES: &[u8; 66] =
 /// A log as it may stand where memory was wanting, and how many bytes were sent then.
 type Stopped<'a> = (&'a [Noted<'a>], usize);
 
-/// The logs of all requests, of the first one, and of none, whose replies were sent; and those whose last entry met the want, and has
-/// no reply.
+/// The logs of all requests, of the first one, and of none, whose replies were sent; and those whose last entry met the want, and
+/// has no reply.
 const STOPPED: [Stopped<'_>; 7] = [
     (&[(ONE, Some(&[ONE])), (TWO, Some(&[TWO]))], 66),
     (&[(ONE, Some(&[ONE]))], 33),

@@ -203,8 +203,8 @@ fn wanting(holds: bool) -> Option<bool> {
     if holds { None } else { Some(false) }
 }
 
-/// Returns true if the event comes to its end; or none if memory is wanting for it. Its connection is cut then, there is no other call
-/// or entry, and all else goes on; or its server closed, and its entry stands.
+/// Returns true if the event comes to its end; or none if memory is wanting for it. Its connection is cut then, there is no other
+/// call or entry, and all else goes on; or its server closed, and its entry stands.
 fn stands(world: &mut World<Echo>, one: Payload<'_>, trial: &Trial<'_, '_, '_>) -> Option<bool> {
     match end_of_step(world, &trial.event, trial.end) {
         Came::ToItsEnd => Some(true),
@@ -302,8 +302,8 @@ fn happens_again(
         && goes_on_so(world, one, 4, &ALONE)
 }
 
-/// Returns true if the event, which makes a connection, comes to its end; or none where memory is wanting for it, which has to change
-/// nothing, or before it.
+/// Returns true if the event, which makes a connection, comes to its end; or none where memory is wanting for it, which has to
+/// change nothing, or before it.
 fn happens(alloc: Global, one: Payload<'_>, event: &Event<'_>, end: End<'_>) -> Option<bool> {
     let mut world = prepared(alloc, one, &[])?;
     match end_of_step(&mut world, event, end) {
@@ -488,8 +488,8 @@ const FAILED_2: Logging<'_> = (2, None, ONE);
 /// How a run stands to which no memory was wanting: a call over each connection is complete.
 const RUN: Holding<'_> = (&[DONE_1, DONE], &[OF_1, OF_2]);
 
-/// How it stands where memory was wanting for one event: one call is complete. The other one wasn't made, was lost before its request had
-/// an entry or behind it, or is pending, since the server closed when its entry stood.
+/// How it stands where memory was wanting for one event: one call is complete. The other one wasn't made, was lost before its
+/// request had an entry or behind it, or is pending, since the server closed when its entry stood.
 const BROKEN_RUNS: [Holding<'_>; 10] = [
     (&[DONE_1], &[OF_1]),
     (&[DONE_1, LOST_2], &[OF_1]),
