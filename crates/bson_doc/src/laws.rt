@@ -16,7 +16,7 @@ use crate::documents::Document;
 use crate::refusal::DocRefusal;
 use std::alloc::Global;
 
-/// Proves that a tree in canonical form is in canonical form.
+/// Proves that the canonical tree of a tree is in canonical form.
 pub fn plain_is_plain()
     ensures { (t : Tree) → plain (plain t) ≡ plain t }
 {}
