@@ -82,6 +82,7 @@ fn starts(alloc: Global) -> Result<bool, DocRefusal> {
 fn a_refused_document_is_not_made(rt: HostRuntime) {
     let alloc = rt.alloc();
     let Ok(raw) = RawDocument::from_bytes(BYTES) else {
+        assert!(rt; false);
         return;
     };
     assert!(rt; comes_right(reads(alloc, raw), reads(alloc, raw)));
@@ -95,6 +96,7 @@ fn a_refused_document_is_not_made(rt: HostRuntime) {
 fn a_pair_is_read(rt: HostRuntime) {
     let alloc = rt.alloc();
     let Ok(raw) = RawDocument::from_bytes(PAIR) else {
+        assert!(rt; false);
         return;
     };
     assert!(rt; comes_right(reads(alloc, raw), reads(alloc, raw)));
@@ -115,6 +117,7 @@ fn finds(alloc: Global, raw: RawDocument<'_>) -> Result<bool, DocRefusal> {
 fn a_repeated_name_is_found(rt: HostRuntime) {
     let alloc = rt.alloc();
     let Ok(raw) = RawDocument::from_bytes(REPEATED) else {
+        assert!(rt; false);
         return;
     };
     assert!(rt; comes_right(finds(alloc, raw), finds(alloc, raw)));

@@ -57,6 +57,7 @@ fn is_made(alloc: Global, body: RawDocument<'_>) -> bool {
 #[test]
 fn a_refused_payload_is_not_made(rt: HostRuntime) {
     let Ok(body) = RawDocument::from_bytes(BODY) else {
+        assert!(rt; false);
         return;
     };
     assert!(rt; is_made(rt.alloc(), body));
@@ -168,6 +169,7 @@ fn leaves_at_push(alloc: Global, document: RawDocument<'_>) -> bool {
 #[test]
 fn push_document_leaves_the_payload(rt: HostRuntime) {
     let Ok(document) = RawDocument::from_bytes(BODY) else {
+        assert!(rt; false);
         return;
     };
     assert!(rt; leaves_at_push(rt.alloc(), document));
