@@ -15,8 +15,11 @@ const ONE: &[u8] = b"\x0c\0\0\0\x10a\0\x01\0\0\0\0";
 const REPLY: &[u8; 33] =
     b"\x21\0\0\0\x05\0\0\0\x01\0\0\0\xdd\x07\0\0\0\0\0\0\0\x0c\0\0\0\x10a\0\x01\0\0\0\0";
 
-/// A call: its kind, its number and id, and how many are outstanding and how many bytes wait to be sent before it and after it.
-type Row = (CallKind, CallNo, (usize, usize), (usize, usize));
+/// How a client stands: how many calls are outstanding, and how many bytes wait to be sent.
+type Standing = (usize, usize);
+
+/// A call: its kind, its number and id, and how the client stands before it and after it.
+type Row = (CallKind, CallNo, Standing, Standing);
 
 /// The first call, and the second one.
 const FIRST: CallNo = CallNo { number: 0, id: 1 };
@@ -73,23 +76,24 @@ fn one_again(alloc: Global) -> Option<PayloadBuf> {
 
 /// Returns true if the client is open and without a reply, so many calls are outstanding, and so many first ones of these bytes
 /// wait to be sent.
-fn stands(client: &Client, standing: (usize, usize), bytes: &[u8]) -> bool {
+fn stands(client: &Client, (outstanding, unsent): Standing, bytes: &[u8]) -> bool {
     client.state() == ClientState::Open
-        && client.outstanding() == standing.0
+        && client.outstanding() == outstanding
         && client.reply().is_none()
-        && client.output().len() == standing.1
+        && client.output().len() == unsent
         && bytes.starts_with(client.output())
 }
 
 /// Makes a call, and makes it again where it is refused, which has to change nothing.
 fn calls(client: &mut Client, payload: &PayloadBuf, row: &Row, bytes: &[u8]) -> Came {
-    match call_as(client, row.0, payload) {
-        Ok(made) => at_once(made == row.1 && stands(client, row.3, bytes)),
+    let (kind, call, before, after) = *row;
+    match call_as(client, kind, payload) {
+        Ok(made) => at_once(made == call && stands(client, after, bytes)),
         Err(refusal) => again(
             refusal == CallRefusal::OutOfMemory
-                && stands(client, row.2, bytes)
-                && call_as(client, row.0, payload) == Ok(row.1)
-                && stands(client, row.3, bytes),
+                && stands(client, before, bytes)
+                && call_as(client, kind, payload) == Ok(call)
+                && stands(client, after, bytes),
         ),
     }
 }

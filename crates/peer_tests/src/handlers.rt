@@ -68,17 +68,20 @@ fn is_counted(alloc: Global, payload: &PayloadBuf, allows: bool, silent: bool, n
 }
 
 /// Like `is_counted`, with the payload made of the body.
-fn counts(alloc: Global, row: &(&[u8], bool, bool, u8)) -> bool {
-    match payload_of(alloc, row.0) {
-        Some(payload) => is_counted(alloc, &payload, row.1, row.2, row.3),
+fn counts(alloc: Global, body: &[u8], allows: bool, silent: bool, number: u8) -> bool {
+    match payload_of(alloc, body) {
+        Some(payload) => is_counted(alloc, &payload, allows, silent, number),
         None => false,
     }
 }
 
 #[test]
 fn the_field_s_is_counted(rt: HostRuntime) {
-    for row in &COUNTED {
-        assert!(rt; counts(rt.alloc(), row), "{:?}", row.0);
+    for (body, allows, silent, number) in &COUNTED {
+        assert!(rt;
+            counts(rt.alloc(), body, *allows, *silent, *number),
+            "{body:?}"
+        );
     }
 }
 

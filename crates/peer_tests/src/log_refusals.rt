@@ -225,21 +225,45 @@ const THREE_LOG: &[Noted<'_>] = &[ANSWERED, ANSWERED, FAILED];
 /// The log where the handler stopped at the second request.
 const SECOND_FAILED: &[Noted<'_>] = &[ANSWERED, FAILED];
 
-/// A request: the log before it and after it, the log where the handler stops for want of memory, whether it answers else, and how
-/// many bytes of replies are put out before it and after it.
-type Row<'a> = (
-    &'a [Noted<'a>],
-    &'a [Noted<'a>],
-    &'a [Noted<'a>],
-    bool,
-    (usize, usize),
-);
+/// A request, and what stands before it and after it.
+struct Row<'a> {
+    log_before: &'a [Noted<'a>],
+    log_after: &'a [Noted<'a>],
+    /// The log after it where the handler stops for want of memory.
+    log_stopped: &'a [Noted<'a>],
+    /// Whether the handler answers it where memory is there.
+    answers: bool,
+    /// How many bytes of replies are put out before it.
+    bytes_before: usize,
+    bytes_after: usize,
+}
 
 /// Three requests, of which the handler stops at the last.
 const ROWS: [Row<'_>; 3] = [
-    (&[], ONE_LOG, &[FAILED], true, (0, 99)),
-    (ONE_LOG, TWO_LOG, SECOND_FAILED, true, (99, 198)),
-    (TWO_LOG, THREE_LOG, THREE_LOG, false, (198, 198)),
+    Row {
+        log_before: &[],
+        log_after: ONE_LOG,
+        log_stopped: &[FAILED],
+        answers: true,
+        bytes_before: 0,
+        bytes_after: 99,
+    },
+    Row {
+        log_before: ONE_LOG,
+        log_after: TWO_LOG,
+        log_stopped: SECOND_FAILED,
+        answers: true,
+        bytes_before: 99,
+        bytes_after: 198,
+    },
+    Row {
+        log_before: TWO_LOG,
+        log_after: THREE_LOG,
+        log_stopped: THREE_LOG,
+        answers: false,
+        bytes_before: 198,
+        bytes_after: 198,
+    },
 ];
 
 /// Returns true if the log holds these entries.
@@ -260,16 +284,18 @@ fn end_of_ask(answers: bool) -> Result<(), AskRefusal> {
 /// want of memory its entry has to stand.
 fn enters(logged: &mut Logged<Twice>, request: &Request<'_>, row: &Row<'_>) -> Came {
     let came = logged.ask(5, request);
-    if came == end_of_ask(row.3) {
-        return at_once(notes(logged, row.1));
+    if came == end_of_ask(row.answers) {
+        return at_once(notes(logged, row.log_after));
     }
     match came {
         Err(AskRefusal::NotAsked) => again(
-            notes(logged, row.0)
-                && logged.ask(5, request) == end_of_ask(row.3)
-                && notes(logged, row.1),
+            notes(logged, row.log_before)
+                && logged.ask(5, request) == end_of_ask(row.answers)
+                && notes(logged, row.log_after),
         ),
-        Err(AskRefusal::Stopped(HandlerStop::OutOfMemory)) => to_an_end(notes(logged, row.2)),
+        Err(AskRefusal::Stopped(HandlerStop::OutOfMemory)) => {
+            to_an_end(notes(logged, row.log_stopped))
+        }
         _ => Came::Otherwise,
     }
 }
@@ -333,19 +359,21 @@ fn replies(
     row: &Row<'_>,
 ) -> Came {
     let came = logged.reply(5, 7, request, out);
-    if came == end_of_reply(row.3) {
-        return at_once(stands(logged, out, row.1, row.4.1));
+    if came == end_of_reply(row.answers) {
+        return at_once(stands(logged, out, row.log_after, row.bytes_after));
     }
     match came {
         Err(NoReplies::NotAsked) => again(
-            stands(logged, out, row.0, row.4.0)
-                && logged.reply(5, 7, request, out) == end_of_reply(row.3)
-                && stands(logged, out, row.1, row.4.1),
+            stands(logged, out, row.log_before, row.bytes_before)
+                && logged.reply(5, 7, request, out) == end_of_reply(row.answers)
+                && stands(logged, out, row.log_after, row.bytes_after),
         ),
         Err(NoReplies::Stopped(HandlerStop::OutOfMemory)) => {
-            to_an_end(stands(logged, out, row.2, row.4.0))
+            to_an_end(stands(logged, out, row.log_stopped, row.bytes_before))
         }
-        Err(NoReplies::NoMemory) => to_an_end(stands(logged, out, row.1, row.4.0)),
+        Err(NoReplies::NoMemory) => {
+            to_an_end(stands(logged, out, row.log_after, row.bytes_before))
+        }
         _ => Came::Otherwise,
     }
 }

@@ -38,10 +38,10 @@ pub(crate) fn is_log(entries: &[Entry], connection: u64, rows: &[Noted<'_>]) -> 
     if entries.len() != rows.len() {
         return false;
     }
-    for (entry, row) in entries.iter().zip(rows) {
+    for (entry, (body, answers)) in entries.iter().zip(rows) {
         if entry.connection != connection
-            || !is_body(&entry.payload, row.0)
-            || !is_outcome(&entry.outcome, row.1)
+            || !is_body(&entry.payload, body)
+            || !is_outcome(&entry.outcome, *answers)
         {
             return false;
         }

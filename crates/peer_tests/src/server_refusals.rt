@@ -97,12 +97,13 @@ const PIECES: [Piece<'_>; 3] = [
 
 /// Feeds a piece, and feeds it again where it is refused, which has to change nothing.
 fn feeds(server: &mut Server, piece: &Piece<'_>) -> Came {
-    match server.feed(piece.0) {
-        Ok(taken) => at_once(taken == piece.0.len() && stands(server, piece.2, 0)),
+    let (bytes, before, after) = *piece;
+    match server.feed(bytes) {
+        Ok(taken) => at_once(taken == bytes.len() && stands(server, after, 0)),
         Err(ReadRefusal::OutOfMemory) => again(
-            stands(server, piece.1, 0)
-                && server.feed(piece.0) == Ok(piece.0.len())
-                && stands(server, piece.2, 0),
+            stands(server, before, 0)
+                && server.feed(bytes) == Ok(bytes.len())
+                && stands(server, after, 0),
         ),
     }
 }
@@ -142,53 +143,79 @@ fn a_refused_feed_takes_nothing(rt: HostRuntime) {
 /// A handler that answers two requests and stops at the third, so that it tells whether it was asked for nothing.
 type Twice = StopAt<Echo>;
 
-/// How a server and its log stand: the bodies of the requests that wait, how many bytes are put out, and the entries.
-type Standing<'a> = (&'a [&'a [u8]], usize, &'a [Noted<'a>]);
+/// How a server and its log stand.
+struct Standing<'a> {
+    /// The bodies of the requests that wait.
+    waiting: &'a [&'a [u8]],
+    /// How many bytes of replies are put out.
+    put_out: usize,
+    log: &'a [Noted<'a>],
+}
 
 /// How they stand before the first answer, behind it, and behind the second one.
-const UNANSWERED: Standing<'_> = (&[ONE, TWO], 0, &[]);
+const UNANSWERED: Standing<'_> = Standing {
+    waiting: &[ONE, TWO],
+    put_out: 0,
+    log: &[],
+};
 
-const ONE_ANSWERED: Standing<'_> = (&[TWO], 33, &[(ONE, Some(&[ONE]))]);
+const ONE_ANSWERED: Standing<'_> = Standing {
+    waiting: &[TWO],
+    put_out: 33,
+    log: &[(ONE, Some(&[ONE]))],
+};
 
-const ALL_ANSWERED: Standing<'_> = (&[], 66, &[(ONE, Some(&[ONE])), (TWO, Some(&[TWO]))]);
+const ALL_ANSWERED: Standing<'_> = Standing {
+    waiting: &[],
+    put_out: 66,
+    log: &[(ONE, Some(&[ONE])), (TWO, Some(&[TWO]))],
+};
 
-/// The entries where the handler stopped at the first request, and where it stopped at the second one.
-const FIRST_FAILED: &[Noted<'_>] = &[(ONE, None)];
-
-const SECOND_FAILED: &[Noted<'_>] = &[(ONE, Some(&[ONE])), (TWO, None)];
-
-/// An answer: how all stands before and after it, and the entries where the handler stopped at it.
-type Row<'a> = (Standing<'a>, Standing<'a>, &'a [Noted<'a>]);
+/// An answer, and how all stands before it and after it.
+struct Row<'a> {
+    before: Standing<'a>,
+    after: Standing<'a>,
+    /// The log where the handler stopped at the request.
+    stopped: &'a [Noted<'a>],
+}
 
 /// The answers to the first request and to the second one.
 const ROWS: [Row<'_>; 2] = [
-    (UNANSWERED, ONE_ANSWERED, FIRST_FAILED),
-    (ONE_ANSWERED, ALL_ANSWERED, SECOND_FAILED),
+    Row {
+        before: UNANSWERED,
+        after: ONE_ANSWERED,
+        stopped: &[(ONE, None)],
+    },
+    Row {
+        before: ONE_ANSWERED,
+        after: ALL_ANSWERED,
+        stopped: &[(ONE, Some(&[ONE])), (TWO, None)],
+    },
 ];
 
 /// Returns true if the server is open, and it and its log stand so.
 fn both_stand(server: &Server, logged: &Logged<Twice>, standing: &Standing<'_>) -> bool {
-    stands(server, standing.0, standing.1) && is_log(logged.entries(), 1, standing.2)
+    stands(server, standing.waiting, standing.put_out) && is_log(logged.entries(), 1, standing.log)
 }
 
 /// Returns true if the server closed after the handler was asked: the entry stands, answered or failed, the request has left, and
 /// nothing was put out for it.
 fn is_closed(server: &Server, logged: &Logged<Twice>, row: &Row<'_>) -> bool {
     server.state() == ServerState::Closed(ServerCause::NoMemory)
-        && holds(server, row.1.0, row.0.1)
-        && (is_log(logged.entries(), 1, row.1.2) || is_log(logged.entries(), 1, row.2))
+        && holds(server, row.after.waiting, row.before.put_out)
+        && (is_log(logged.entries(), 1, row.after.log) || is_log(logged.entries(), 1, row.stopped))
 }
 
 /// Answers the first request that waits, and answers it again where that is refused before the handler is asked, which has to
 /// change nothing.
 fn answers(server: &mut Server, logged: &mut Logged<Twice>, row: &Row<'_>) -> Came {
-    let number = row.0.2.len();
+    let number = row.before.log.len();
     match server.answer(0, logged) {
-        Ok(entry) => at_once(entry == number && both_stand(server, logged, &row.1)),
+        Ok(entry) => at_once(entry == number && both_stand(server, logged, &row.after)),
         Err(AnswerRefusal::OutOfMemory) => again(
-            both_stand(server, logged, &row.0)
+            both_stand(server, logged, &row.before)
                 && server.answer(0, logged) == Ok(number)
-                && both_stand(server, logged, &row.1),
+                && both_stand(server, logged, &row.after),
         ),
         Err(AnswerRefusal::NowClosed(_)) => to_an_end(is_closed(server, logged, row)),
         Err(_) => Came::Otherwise,

@@ -36,8 +36,9 @@ const STOPPED: [Stopped<'_>; 7] = [
 ];
 
 /// Returns true if the log is this one, and so many first bytes of the replies were sent.
-fn stands(entries: &[Entry], sent: &[u8], row: &Stopped<'_>) -> bool {
-    is_log(entries, 1, row.0) && sent.len() == row.1 && REPLIES.starts_with(sent)
+fn stands(entries: &[Entry], sent: &[u8], stopped: &Stopped<'_>) -> bool {
+    let (log, count) = *stopped;
+    is_log(entries, 1, log) && sent.len() == count && REPLIES.starts_with(sent)
 }
 
 /// Returns true if serving may have stopped so for want of memory.

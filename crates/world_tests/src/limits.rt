@@ -4,25 +4,31 @@ use std::alloc::Global;
 use wire_peer::Echo;
 use wire_world::{Event, SetupRefusal, World, WorldLimits};
 
-/// First ids, windows, connections and limits, and why no world has them.
-const REFUSED: [(i32, usize, usize, u32, SetupRefusal); 8] = [
-    (0, 8, 8, 26, SetupRefusal::BadFirstId),
-    (-1, 0, 0, 25, SetupRefusal::BadFirstId),
-    (1, 0, 0, 25, SetupRefusal::BadWindow),
-    (1, 1025, 8, 26, SetupRefusal::BadWindow),
-    (1, 8, 0, 25, SetupRefusal::BadLimit),
-    (1, 8, 8, 48_000_001, SetupRefusal::BadLimit),
-    (1, 8, 0, 26, SetupRefusal::BadMax),
-    (1, 8, 1025, 26, SetupRefusal::BadMax),
+/// Limits as a row tells them: the first id, the window, the connections, and the limit of a message.
+type Numbers = (i32, usize, usize, u32);
+
+/// Limits, and why no world has them.
+const REFUSED: [(Numbers, SetupRefusal); 8] = [
+    ((0, 8, 8, 26), SetupRefusal::BadFirstId),
+    ((-1, 0, 0, 25), SetupRefusal::BadFirstId),
+    ((1, 0, 0, 25), SetupRefusal::BadWindow),
+    ((1, 1025, 8, 26), SetupRefusal::BadWindow),
+    ((1, 8, 0, 25), SetupRefusal::BadLimit),
+    ((1, 8, 8, 48_000_001), SetupRefusal::BadLimit),
+    ((1, 8, 0, 26), SetupRefusal::BadMax),
+    ((1, 8, 1025, 26), SetupRefusal::BadMax),
 ];
 
-/// Returns the limits of a row.
-fn limits_of(row: &(i32, usize, usize, u32, SetupRefusal)) -> WorldLimits {
+/// The least limits, and the greatest ones.
+const TAKEN: [Numbers; 2] = [(1, 1, 1, 26), (2_147_483_647, 1024, 1024, 48_000_000)];
+
+/// Returns the limits of these numbers.
+fn limits_of((first_id, window, connections, limit): Numbers) -> WorldLimits {
     WorldLimits {
-        first_id: row.0,
-        window: row.1,
-        connections: row.2,
-        limit: row.3,
+        first_id,
+        window,
+        connections,
+        limit,
     }
 }
 
@@ -44,15 +50,12 @@ fn run_refusal_of(alloc: Global, limits: WorldLimits) -> Option<SetupRefusal> {
 
 #[test]
 fn limits_have_ranges(rt: HostRuntime) {
-    for row in &REFUSED {
-        assert!(rt; refusal_of(rt.alloc(), limits_of(row)) == Some(row.4));
-        assert!(rt; run_refusal_of(rt.alloc(), limits_of(row)) == Some(row.4));
+    for (numbers, refusal) in &REFUSED {
+        assert!(rt; refusal_of(rt.alloc(), limits_of(*numbers)) == Some(*refusal));
+        assert!(rt; run_refusal_of(rt.alloc(), limits_of(*numbers)) == Some(*refusal));
     }
-    for row in &[
-        (1, 1, 1, 26, SetupRefusal::BadMax),
-        (2_147_483_647, 1024, 1024, 48_000_000, SetupRefusal::BadMax),
-    ] {
-        assert!(rt; refusal_of(rt.alloc(), limits_of(row)) == None);
-        assert!(rt; run_refusal_of(rt.alloc(), limits_of(row)) == None);
+    for numbers in &TAKEN {
+        assert!(rt; refusal_of(rt.alloc(), limits_of(*numbers)) == None);
+        assert!(rt; run_refusal_of(rt.alloc(), limits_of(*numbers)) == None);
     }
 }

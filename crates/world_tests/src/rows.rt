@@ -132,8 +132,11 @@ pub(crate) fn calls_stand(calls: &[CallRecord], rows: &[Standing<'_>]) -> bool {
     if calls.len() != rows.len() {
         return false;
     }
-    for (call, row) in calls.iter().zip(rows.iter()) {
-        if call.connection != row.0 || call.state != row.1 || !are_parts(&call.parts, row.2) {
+    for (call, (connection, state, parts)) in calls.iter().zip(rows.iter()) {
+        if call.connection != *connection
+            || call.state != *state
+            || !are_parts(&call.parts, parts)
+        {
             return false;
         }
     }
@@ -150,12 +153,12 @@ pub(crate) fn log_stands(log: &[Entry], rows: &[Logging<'_>]) -> bool {
     if log.len() != rows.len() {
         return false;
     }
-    for (entry, row) in log.iter().zip(rows.iter()) {
+    for (entry, (connection, count, body)) in log.iter().zip(rows.iter()) {
         let answers = match &entry.outcome {
             Outcome::Answered(answers) => Some(count_of(answers)),
             Outcome::Failed => None,
         };
-        if entry.connection != row.0 || answers != row.1 || !is_body(&entry.payload, row.2) {
+        if entry.connection != *connection || answers != *count || !is_body(&entry.payload, body) {
             return false;
         }
     }

@@ -50,8 +50,8 @@ fn all_are_cut(world: &mut World<Echo>, events: &[Event<'_>]) -> bool {
 type Holding<'a> = (&'a [Standing<'a>], &'a [Logging<'a>]);
 
 /// Returns true if the world stands so.
-fn holds(world: &World<Echo>, holding: Holding<'_>) -> bool {
-    calls_stand(world.calls(), holding.0) && log_stands(world.log(), holding.1)
+fn holds(world: &World<Echo>, (calls, log): Holding<'_>) -> bool {
+    calls_stand(world.calls(), calls) && log_stands(world.log(), log)
 }
 
 /// A call over connection 2 that waits, and the one that is complete.
@@ -74,31 +74,44 @@ const OF_2: Logging<'_> = (2, Some(1), ONE);
 const OF_3: Logging<'_> = (3, Some(1), ONE);
 
 /// How a world stands behind an event, and how it stands when connection 2 has gone on from there.
-type Going<'a> = (Holding<'a>, Holding<'a>);
+#[derive(Clone, Copy)]
+struct Going<'a> {
+    first: Holding<'a>,
+    then: Holding<'a>,
+}
 
 /// Where there is no call over connection 1 and no entry, or one of connection 3.
-const ALONE: Going<'_> = ((&[WAITING], &[]), (&[DONE, WAITING], &[OF_2]));
+const ALONE: Going<'_> = Going {
+    first: (&[WAITING], &[]),
+    then: (&[DONE, WAITING], &[OF_2]),
+};
 
-const ALONE_ASKED: Going<'_> = ((&[WAITING], &[OF_3]), (&[DONE, WAITING], &[OF_3, OF_2]));
+const ALONE_ASKED: Going<'_> = Going {
+    first: (&[WAITING], &[OF_3]),
+    then: (&[DONE, WAITING], &[OF_3, OF_2]),
+};
 
 /// Where the call over connection 1 is lost, before its request has an entry and behind it.
-const LOST_UNASKED: Going<'_> = ((&[WAITING, LOST], &[]), (&[DONE, LOST, WAITING], &[OF_2]));
+const LOST_UNASKED: Going<'_> = Going {
+    first: (&[WAITING, LOST], &[]),
+    then: (&[DONE, LOST, WAITING], &[OF_2]),
+};
 
-const LOST_ASKED: Going<'_> = (
-    (&[WAITING, LOST], &[OF_1]),
-    (&[DONE, LOST, WAITING], &[OF_1, OF_2]),
-);
+const LOST_ASKED: Going<'_> = Going {
+    first: (&[WAITING, LOST], &[OF_1]),
+    then: (&[DONE, LOST, WAITING], &[OF_1, OF_2]),
+};
 
 /// Where the server of connection 1 has closed, since its replies found no memory or its handler stopped.
 const CLOSED: [Going<'_>; 2] = [
-    (
-        (&[WAITING, BEGUN], &[OF_1]),
-        (&[DONE, BEGUN, WAITING], &[OF_1, OF_2]),
-    ),
-    (
-        (&[WAITING, BEGUN], &[FAILED_1]),
-        (&[DONE, BEGUN, WAITING], &[FAILED_1, OF_2]),
-    ),
+    Going {
+        first: (&[WAITING, BEGUN], &[OF_1]),
+        then: (&[DONE, BEGUN, WAITING], &[OF_1, OF_2]),
+    },
+    Going {
+        first: (&[WAITING, BEGUN], &[FAILED_1]),
+        then: (&[DONE, BEGUN, WAITING], &[FAILED_1, OF_2]),
+    },
 ];
 
 /// Returns true if the call over connection 2 is completed and another one is made there, and a new connection has this number, all
@@ -119,7 +132,7 @@ fn all_goes_on(world: &mut World<Echo>, one: Payload<'_>, next: u64) -> bool {
 
 /// Returns true if the world stands as it does before and behind what goes on.
 fn goes_on_so(world: &mut World<Echo>, one: Payload<'_>, next: u64, going: &Going<'_>) -> bool {
-    holds(world, going.0) && all_goes_on(world, one, next) && holds(world, going.1)
+    holds(world, going.first) && all_goes_on(world, one, next) && holds(world, going.then)
 }
 
 /// Returns true if the server of connection 1 is closed and put out nothing.
@@ -135,7 +148,7 @@ fn is_closed(world: &mut World<Echo>) -> bool {
 /// Returns true if the server of connection 1 is closed, and all else goes on.
 fn goes_on_closed(world: &mut World<Echo>, one: Payload<'_>) -> bool {
     for going in &CLOSED {
-        if holds(world, going.0) {
+        if holds(world, going.first) {
             return is_closed(world) && goes_on_so(world, one, 3, going);
         }
     }
@@ -209,7 +222,7 @@ fn stands(world: &mut World<Echo>, one: Payload<'_>, trial: &Trial<'_, '_, '_>) 
     match end_of_step(world, &trial.event, trial.end) {
         Came::ToItsEnd => Some(true),
         Came::ToNothing => wanting(
-            holds(world, trial.going.0)
+            holds(world, trial.going.first)
                 && all_are_cut(world, trial.cut)
                 && goes_on_so(world, one, trial.next, &trial.going),
         ),
@@ -296,7 +309,7 @@ fn happens_again(
     end: End<'_>,
 ) -> bool {
     let none = End::Refused(WorldRefusal::NoConnection);
-    holds(world, ALONE.0)
+    holds(world, ALONE.first)
         && ends_so(&world.step(&Event::CutUp(3)), none)
         && ends_so(&world.step(event), end)
         && goes_on_so(world, one, 4, &ALONE)
