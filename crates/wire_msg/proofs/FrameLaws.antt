@@ -33,19 +33,19 @@ number_fits bytes at fits =
     let f = IsBytes-take ((at + 4) - at) (drop at bytes) (IsBytes-drop at bytes fits) in
     omega (arith, f 0, f 1, f 2, f 3)
 
-four_bytes : (bytes : List ℕ) (at : ℕ) → IsBytes bytes → at + 4 ≤ length bytes → little (number_at bytes at) ≡ take 4 (drop at bytes)
+pub four_bytes : (bytes : List ℕ) (at : ℕ) → IsBytes bytes → at + 4 ≤ length bytes → little (number_at bytes at) ≡ take 4 (drop at bytes)
 four_bytes bytes at fits room =
     let n : (at + 4) - at ≡ 4 = omega arith in
     let is : number_at bytes at ≡ from_le_bytes w32 (take 4 (drop at bytes)) = ap (λ (k : ℕ). from_le_bytes w32 (take k (drop at bytes))) n in
     le_bytes_4 (take 4 (drop at bytes)) (number_at bytes at) (omega (arith, length-take 4 (drop at bytes), length-drop at bytes, room)) (IsBytes-take 4 (drop at bytes) (IsBytes-drop at bytes fits)) is
 
-signed_bytes : (bytes : List ℕ) (at : ℕ) → IsBytes bytes → at + 4 ≤ length bytes → signed (cast_signed w32 (number_at bytes at)) ≡ take 4 (drop at bytes)
+pub signed_bytes : (bytes : List ℕ) (at : ℕ) → IsBytes bytes → at + 4 ≤ length bytes → signed (cast_signed w32 (number_at bytes at)) ≡ take 4 (drop at bytes)
 signed_bytes bytes at fits room = ap little (of_z-to_z w32 (number_at bytes at) (number_fits bytes at fits)) ∙ four_bytes bytes at fits room
 
 opcode_bytes : (bytes : List ℕ) → IsBytes bytes → 16 ≤ length bytes → cast_signed w32 (number_at bytes 12) ≡ pos 2013 → little 2013 ≡ take 4 (drop 12 bytes)
 opcode_bytes bytes fits room is = ap signed (sym is) ∙ signed_bytes bytes 12 fits room
 
-split_at : (bytes : List ℕ) (at : ℕ) → drop at bytes ≡ take 4 (drop at bytes) ++ drop (at + 4) bytes
+pub split_at : (bytes : List ℕ) (at : ℕ) → drop at bytes ≡ take 4 (drop at bytes) ++ drop (at + 4) bytes
 split_at bytes at = sym (take-append-drop 4 (drop at bytes)) ∙ ap (λ (x : List ℕ). take 4 (drop at bytes) ++ x) (drop-drop 4 at bytes)
 
 joined : (a b d e x : List ℕ) → a ++ (b ++ (d ++ (e ++ x))) ≡ (a ++ (b ++ (d ++ e))) ++ x

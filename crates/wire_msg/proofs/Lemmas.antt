@@ -4,6 +4,11 @@
 pub use Rattle.wire_msg.proofs.MsgAnswers.{MsgRead, msg_read}
 -- the header
 pub use Rattle.wire_msg.proofs.FrameLaws.{header_of-take}
+-- numbers of four bytes, as bytes are read and written
+pub use Rattle.wire_msg.proofs.FrameLaws.{number_fits, four_bytes, signed_bytes, split_at}
+pub use Rattle.wire_msg.proofs.MsgAnswers.{FiveParts, five_parts, here, past, number_is, signed_is}
+-- bytes added, one after another
+pub use Rattle.wire_msg.proofs.WriteLaws.{on_ok, on_err, appended, keeps_front, then_more}
 pub use Rattle.wire_msg.proofs.FaultOffsets.{header_offset, fault_offset}
 -- open, whole and bad bytes
 pub use Rattle.wire_msg.proofs.StandingLaws.{header_front, one_message, one_front, no_other, open_not_whole, open_not_bad, bad_not_whole, bad_once, bad_early, no_message, least_length, WholeRead, whole_read, bad_longer, open_shorter, open_inside}

@@ -20,26 +20,26 @@ use Rattle.wire_msg.proofs.SectionAnswers.{verdict_spelled, says, one_says, no_s
 
 -- ---- five numbers of four bytes, and what follows them
 
-record FiveParts (bytes a b d e f x : List ℕ) : Type 0 where
-  size : length bytes ≡ 20 + length x
-  first : take 4 (drop 0 bytes) ≡ a
-  second : take 4 (drop 4 bytes) ≡ b
-  third : take 4 (drop 8 bytes) ≡ d
-  fourth : take 4 (drop 12 bytes) ≡ e
-  fifth : take 4 (drop 16 bytes) ≡ f
-  after : drop 20 bytes ≡ x
+pub record FiveParts (bytes a b d e f x : List ℕ) : Type 0 where
+  pub size : length bytes ≡ 20 + length x
+  pub first : take 4 (drop 0 bytes) ≡ a
+  pub second : take 4 (drop 4 bytes) ≡ b
+  pub third : take 4 (drop 8 bytes) ≡ d
+  pub fourth : take 4 (drop 12 bytes) ≡ e
+  pub fifth : take 4 (drop 16 bytes) ≡ f
+  pub after : drop 20 bytes ≡ x
 
 regroup : (a b d e y : List ℕ) → (a ++ (b ++ (d ++ e))) ++ y ≡ a ++ (b ++ (d ++ (e ++ y)))
 regroup a b d e y = append_assoc a (b ++ (d ++ e)) y ∙ ap (λ (z : List ℕ). a ++ z) (append_assoc b (d ++ e) y ∙ ap (λ (z : List ℕ). b ++ z) (append_assoc d e y))
 
 -- past four bytes more
-past : (bytes front rest : List ℕ) (at : ℕ) → length front ≡ 4 → drop at bytes ≡ front ++ rest → drop (at + 4) bytes ≡ rest
+pub past : (bytes front rest : List ℕ) (at : ℕ) → length front ≡ 4 → drop at bytes ≡ front ++ rest → drop (at + 4) bytes ≡ rest
 past bytes front rest at four is = sym (drop-drop 4 at bytes) ∙ ap (drop 4) is ∙ drop_at front rest 4 four
 
-here : (bytes front rest : List ℕ) (at : ℕ) → length front ≡ 4 → drop at bytes ≡ front ++ rest → take 4 (drop at bytes) ≡ front
+pub here : (bytes front rest : List ℕ) (at : ℕ) → length front ≡ 4 → drop at bytes ≡ front ++ rest → take 4 (drop at bytes) ≡ front
 here bytes front rest at four is = ap (take 4) is ∙ take_at front rest 4 four
 
-five_parts : (bytes a b d e f x : List ℕ) → bytes ≡ (a ++ (b ++ (d ++ e))) ++ (f ++ x) → length a ≡ 4 → length b ≡ 4 → length d ≡ 4 → length e ≡ 4 → length f ≡ 4 → FiveParts bytes a b d e f x
+pub five_parts : (bytes a b d e f x : List ℕ) → bytes ≡ (a ++ (b ++ (d ++ e))) ++ (f ++ x) → length a ≡ 4 → length b ≡ 4 → length d ≡ 4 → length e ≡ 4 → length f ≡ 4 → FiveParts bytes a b d e f x
 five_parts bytes a b d e f x is la lb ld le lf =
     let p0 : drop 0 bytes ≡ a ++ (b ++ (d ++ (e ++ (f ++ x)))) = is ∙ regroup a b d e (f ++ x) in
     let p4 : drop 4 bytes ≡ b ++ (d ++ (e ++ (f ++ x))) = past bytes a (b ++ (d ++ (e ++ (f ++ x)))) 0 la p0 in
@@ -56,13 +56,13 @@ five_parts bytes a b d e f x is la lb ld le lf =
       after = past bytes f x 16 lf p16;
     }
 
-number_is : (bytes : List ℕ) (at n : ℕ) → n < 2 ^ 32 → take 4 (drop at bytes) ≡ little n → from_le_bytes w32 (take 4 (drop at bytes)) ≡ n
+pub number_is : (bytes : List ℕ) (at n : ℕ) → n < 2 ^ 32 → take 4 (drop at bytes) ≡ little n → from_le_bytes w32 (take 4 (drop at bytes)) ≡ n
 number_is bytes at n lt e = ap (from_le_bytes w32) e ∙ from_le_bytes-to_le_bytes_4 n lt
 
 unsigned_fits : (z : ℤ) → FitsSigned w32 z → cast_unsigned w32 z < 2 ^ 32
 unsigned_fits z f = (Fits-of_z {w = w32} {z = z} f).fits
 
-signed_is : (bytes : List ℕ) (at : ℕ) (z : ℤ) → FitsSigned w32 z → take 4 (drop at bytes) ≡ signed z → cast_signed w32 (from_le_bytes w32 (take 4 (drop at bytes))) ≡ z
+pub signed_is : (bytes : List ℕ) (at : ℕ) (z : ℤ) → FitsSigned w32 z → take 4 (drop at bytes) ≡ signed z → cast_signed w32 (from_le_bytes w32 (take 4 (drop at bytes))) ≡ z
 signed_is bytes at z f e = ap (cast_signed w32) (number_is bytes at (cast_unsigned w32 z) (unsigned_fits z f) e) ∙ to_z-of_z w32 z f
 
 -- ---- a message as its bytes are read

@@ -1,0 +1,6 @@
+pub mod FaultTexts
+pub mod ReadLaws
+pub mod FaultLaws
+pub mod PartLaws
+pub mod ReplyLaws
+pub mod MessageLaws

@@ -1,0 +1,11 @@
+use Rattle.std.proofs.Common.{◌≡◌, ◌∙◌, ap, ℤ, to_z, of_z}
+use Rattle.std.specs.Int.{w32}
+use Rattle.std.proofs.lemmas.Int.{to_z-of_z}
+use Rattle.wire_msg.specs.declared.header.MsgHeader.{MsgHeader}
+use Rattle.wire_query.proofs.ReadLaws.{query_read}
+use Rattle.wire_query.proofs.query.RawQuery.id.Goals as goal
+
+pub returns : goal.returns
+returns c = λ q s.
+    let is : c.header.result.id ≡ q.id = ap (λ (h : MsgHeader). h.id) c.header.ensures ∙ (query_read q c.args.self.bytes.now s).id in
+    ap (λ (z : ℤ). to_z w32 (of_z w32 z)) is ∙ to_z-of_z w32 q.id s.id

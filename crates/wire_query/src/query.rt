@@ -1,0 +1,167 @@
+//! The query of a command, borrowed from its bytes (MongoDB Wire Protocol manual: OP_QUERY).
+
+ghost use Rattle.std.specs.Prelude.{◌≡◌, ◌+◌, ◌<◌, ◌≤◌, ◌^◌, ◌++◌, length, IfOk, IfErr, IsOk, IsErrOf, OnOk, OnErr};
+ghost use Rattle.std.specs.Io.{StartsWith};
+ghost use Rattle.bson_elem.specs.{Spells, Tree};
+ghost use Rattle.bson_raw.specs.{document_bytes};
+ghost use Rattle.wire_msg.specs.{canonical, header_of};
+ghost use Rattle.wire_query.specs.declared.fault.QueryFault.{QueryFault};
+ghost use Rattle.wire_query.specs.Queries.{message_of, Query};
+ghost use Rattle.wire_query.specs.Spelling.{IsQuery, IsSpelledQuery, SpellsQuery};
+ghost use Rattle.wire_query.specs.Checks.{ArePartsOf};
+ghost use Rattle.wire_query.specs.Faults.{FaultQuery};
+
+use crate::check::check_query;
+use crate::fault::QueryFault;
+use crate::write::write_header;
+use bson_elem::little_u32;
+use bson_raw::RawDocument;
+use std::alloc::AllocError;
+use std::convert::AsSlice;
+use wire_msg::{MAX_MESSAGE_LEN, MsgHeader, OP_MSG};
+
+/// The opCode of OP_QUERY.
+pub const OP_QUERY: i32 = 2004;
+
+/// How many bytes stand in front of the body in a message of a body alone.
+const BODY: usize = 21;
+
+/// The query of a command, borrowed from its bytes, which were checked when it was made.
+#[derive(Clone, Copy, Debug)]
+pub struct RawQuery<'a> {
+    bytes: &'a [u8],
+    database: &'a str,
+    command: RawDocument<'a>,
+    pub ghost spelled: { ∥ IsSpelledQuery bytes.now ∥₁ },
+    pub ghost parts: { ArePartsOf bytes.now database.now (document_bytes command) },
+}
+
+impl<'a> AsSlice<u8> for RawQuery<'a> {
+    ghost use Rattle.wire_query.specs.RawQuery.{raw_query_bytes};
+
+    ghost items = { raw_query_bytes };
+
+    fn as_slice(&self) -> &[u8] {
+        self.as_bytes()
+    }
+}
+
+impl<'a> RawQuery<'a> {
+    ghost use Rattle.wire_query.specs.RawQuery.{raw_query_bytes};
+
+    /// Reads `bytes` as the query of a command, of at most `limit` bytes. It takes no memory; the
+    /// time to find repeated names grows as the square of their number.
+    ///
+    /// # Errors
+    ///
+    /// The first fault of the bytes and its offset, in the order of the checks.
+    pub fn parse(bytes: &'a [u8], limit: u32) -> Result<RawQuery<'a>, QueryFault>
+        requires { limit ≤ MAX_MESSAGE_LEN }
+        ensures found { IfOk result (λ q.
+            (raw_query_bytes q ≡ bytes.now) × IsQuery limit bytes.now) }
+        ensures only { IsQuery limit bytes.now → IsOk result }
+        ensures fault { IfErr result (λ f. FaultQuery bytes.now limit f) }
+        ensures exact { (f : QueryFault) → FaultQuery bytes.now limit f → IsErrOf result f }
+        ensures inside { IfErr result (λ f. f.at ≤ length bytes.now) }
+    {
+        match check_query(bytes, limit) {
+            Ok((database, command)) => Ok(RawQuery {
+                bytes,
+                database,
+                command,
+            }),
+            Err(fault) => Err(fault),
+        }
+    }
+
+    /// Returns the bytes of the query.
+    pub fn as_bytes(self) -> &'a [u8]
+        ensures { result.now ≡ raw_query_bytes self.entry }
+    {
+        self.bytes
+    }
+
+    /// Reads the header of the query.
+    fn header(self) -> MsgHeader
+        ensures { result ≡ header_of (raw_query_bytes self.entry) }
+    {
+        let Some((header, _)) = self.bytes.split_first_chunk::<16>() else {
+            unreachable!();
+        };
+        MsgHeader::read(*header)
+    }
+
+    /// Returns requestID.
+    pub fn id(self) -> i32
+        ensures { (q : Query) → SpellsQuery q (raw_query_bytes self.entry) → result ≡ q.id }
+    {
+        self.header().id
+    }
+
+    /// Returns responseTo.
+    pub fn response_to(self) -> i32
+        ensures { (q : Query) → SpellsQuery q (raw_query_bytes self.entry)
+            → result ≡ q.response_to }
+    {
+        self.header().response_to
+    }
+
+    /// Returns SlaveOk: a secondary may answer.
+    pub fn secondary_ok(self) -> bool
+        ensures { (q : Query) → SpellsQuery q (raw_query_bytes self.entry)
+            → result ≡ q.secondary_ok }
+    {
+        little_u32(&self.bytes[16..20]) != 0
+    }
+
+    /// Returns the database's name.
+    pub fn database(self) -> &'a str
+        ensures { (q : Query) → SpellsQuery q (raw_query_bytes self.entry)
+            → result.now ≡ q.database }
+    {
+        self.database
+    }
+
+    /// Returns the command.
+    pub fn body(self) -> RawDocument<'a>
+        ensures { (q : Query) → SpellsQuery q (raw_query_bytes self.entry)
+            → Spells q.body (document_bytes result) }
+    {
+        self.command
+    }
+
+    /// Appends the message. Where memory is refused, some of its bytes may stand in `out`.
+    fn write_parts(self, out: &mut Vec<u8>) -> Result<(), AllocError>
+        ensures added { (q : Query) → SpellsQuery q (raw_query_bytes self.entry)
+            → OnOk result (out.new.items ≡ out.old.items ++ canonical (message_of q)) }
+        ensures kept { OnErr result (StartsWith out.new.items out.old.items) }
+    {
+        let body = self.command.as_bytes();
+        let len = (BODY + body.len()) as u32;
+        write_header(len, self.id(), self.response_to(), OP_MSG as u32, out)?;
+        // no flag, and the kind byte of a body
+        out.extend_from_slice(&[0, 0, 0, 0, 0])?;
+        out.extend_from_slice(body)
+    }
+
+    /// Appends the OP_MSG of the same ids and body, which is shorter than the query.
+    ///
+    /// # Errors
+    ///
+    /// Want of memory. Then `out` is as it was.
+    pub fn write_msg(self, out: &mut Vec<u8>) -> Result<(), AllocError>
+        ensures written { (q : Query) → SpellsQuery q (raw_query_bytes self.entry)
+            → OnOk result (out.new.items ≡ out.old.items ++ canonical (message_of q)) }
+        ensures unchanged { OnErr result (out.new.items ≡ out.old.items) }
+    {
+        let start = out.len();
+        out.try_reserve(BODY + self.command.as_bytes().len())?;
+        match self.write_parts(out) {
+            Ok(()) => Ok(()),
+            Err(error) => {
+                out.truncate(start);
+                Err(error)
+            }
+        }
+    }
+}
