@@ -1,5 +1,5 @@
 -- The first fault of some checks: there is one at most, a query has none, and its offset is within the bytes.
-use Rattle.std.proofs.Common.{◌≡◌, ℕ, pos, ◌+◌, ◌≤◌, List, [], ◌∷◌, ◌++◌, length, drop, Result, Ok, Err, None, refl, sym, ap, subst, ◌∙◌, arith, length-append, length-drop}
+use Rattle.std.proofs.Common.{◌≡◌, ℕ, ◌+◌, ◌≤◌, List, [], ◌∷◌, length, drop, Result, Ok, Err, None, sym, ap, subst, ◌∙◌, arith, length-append, length-drop}
 use Rattle.std.proofs.lemmas.List.{append-nil}
 use Rattle.bson_elem.specs.declared.fault.BsonCause.{BsonCause}
 use Rattle.bson_elem.specs.declared.fault.BsonFault.{BsonFault}
@@ -15,7 +15,7 @@ use Rattle.wire_query.specs.declared.fault.QueryCause.TheVariants as causes
 use Rattle.wire_query.specs.Causes.{query_fault}
 use Rattle.wire_query.specs.Queries.{Query, command_name}
 use Rattle.wire_query.specs.Spelling.{IsOneDocument, SpellsQuery}
-use Rattle.wire_query.specs.Faults.{Check, fails, holds, CommandFault, of_document, behind_document, NumbersFault, IsOfCommands, NameFault, of_name, behind_name, IsWholeLength, opcode_of, IsFlagWord, FaultQuery}
+use Rattle.wire_query.specs.Faults.{Check, fails, holds, CommandFault, of_document, behind_document, NumbersFault, IsOfCommands, NameFault, of_name, behind_name, IsWholeLength, opcode_of, FaultQuery}
 use Rattle.wire_query.specs.Checks.{HasCommand}
 use Rattle.wire_query.proofs.ReadLaws.{numbers, query_read, numbers_read}
 

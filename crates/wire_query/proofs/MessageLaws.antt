@@ -1,16 +1,16 @@
 -- The message of a query.
-use Rattle.std.proofs.Common.{◌≡◌, ℕ, ◌+◌, ◌^◌, ◌<◌, List, [], ◌∷◌, ◌++◌, length, refl, sym, ap, ◌∙◌, arith, length-append}
+use Rattle.std.proofs.Common.{◌≡◌, ℕ, ◌+◌, ◌^◌, ◌<◌, List, [], ◌∷◌, ◌++◌, length, sym, ap, ◌∙◌, arith, length-append}
 use Rattle.std.specs.Int.{w32, cast_unsigned}
 use Rattle.std.proofs.lemmas.List.{append-nil}
 use Rattle.bson_elem.specs.Trees.{Tree}
-use Rattle.bson_elem.specs.Spelling.{little, cstring, document, elements}
+use Rattle.bson_elem.specs.Spelling.{document, elements}
 use Rattle.wire_msg.specs.Messages.{Message, IsContent}
 use Rattle.wire_msg.specs.Spelling as messages
 use Rattle.wire_msg.specs.Spelling.{body_section, message_bytes, canonical, message_len, SpellsMsg}
 use Rattle.wire_msg.specs.Buf.{body_alone}
 use Rattle.wire_msg.proofs.Lemmas.{msg_read, length-canonical, canonical_spelled, then_more}
-use Rattle.wire_query.specs.Queries.{Query, command_name, message_of}
-use Rattle.wire_query.specs.Spelling.{signed, header_bytes, framed_bytes, command_bytes, SpellsQuery}
+use Rattle.wire_query.specs.Queries.{Query, message_of}
+use Rattle.wire_query.specs.Spelling.{header_bytes, SpellsQuery}
 use Rattle.wire_query.proofs.ReadLaws.{query_read}
 
 pub no_message : (q : Query) (m : Message) (bytes : List ℕ) → SpellsQuery q bytes → SpellsMsg m bytes → ⊥

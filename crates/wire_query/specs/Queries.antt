@@ -16,7 +16,8 @@ pub record Query : Type 0 where
 abbrev pub command_name : List ℕ → List ℕ
 command_name database = database ++ codes ".$cmd"
 
--- The database's name is what stands before the first dot of the collection's full name. It isn't empty, and the full name is UTF-8 without 00.
+-- The database's name is what stands before the first dot of the collection's full name. It isn't empty, and the full
+-- name is UTF-8 without 00.
 pub record IsDatabase (database : List ℕ) : Type 0 where
   pub some : 0 < length database
   pub no_dot : (i : ℕ) → i < length database → slice_index database i ≢ 46

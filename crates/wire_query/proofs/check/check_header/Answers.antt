@@ -1,4 +1,4 @@
-use Rattle.std.proofs.Common.{◌≡◌, ◌≤◌, ◌<◌, ◌^◌, ℕ, ℤ, List, take, length, sym, ap, ◌∙◌, arith, Fits, w32, to_z, of_z}
+use Rattle.std.proofs.Common.{◌≡◌, ◌≤◌, ℕ, ℤ, List, take, length, sym, ap, ◌∙◌, arith, Fits, w32, to_z, of_z}
 use Rattle.std.proofs.Math.Facts.{sfits_to_z}
 use Rattle.std.proofs.lemmas.Int.{to_z-of_z}
 use Rattle.bson_elem.specs.Spelling.{IsBytes}

@@ -1,11 +1,11 @@
-use Rattle.std.proofs.Common.{◌≡◌, ◌≢◌, ◌<◌, ℕ, List, ◌∷◌, ◌++◌, Option, Some, None, Bool, true, false, not, length, sym, ap, subst, ◌∙◌, arith, rules}
+use Rattle.std.proofs.Common.{◌≡◌, ◌≢◌, ℕ, List, ◌∷◌, ◌++◌, Some, None, Bool, true, false, not, length, sym, ap, subst, ◌∙◌, arith, rules}
 use Rattle.std.specs.Prelude.{codes}
 use Rattle.std.specs.Str.{bytes_eq}
 use Rattle.std.proofs.lemmas.Bool.{eqb-true}
 use Rattle.std.proofs.lemmas.Bool.Decides.{nat_tests}
 use Rattle.std.proofs.lemmas.Str.Pattern.{split_after, split_parts}
 use Rattle.bson_elem.specs.Spelling.{IsName}
-use Rattle.wire_query.specs.Queries.{command_name, IsDatabase}
+use Rattle.wire_query.specs.Queries.{command_name}
 use Rattle.wire_query.proofs.check.database_of.Goals as goal
 use Rattle.wire_query.proofs.check.database_of.Goals.{then-is_empty-via-then-is_empty, then-is_empty-via-else-is_empty+then-ne}
 

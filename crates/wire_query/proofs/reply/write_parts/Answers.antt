@@ -1,4 +1,4 @@
-use Rattle.std.proofs.Common.{◌≡◌, ◌++◌, ℤ, List, ℕ, ap, ◌∙◌, rules, w32, to_z, of_z}
+use Rattle.std.proofs.Common.{◌≡◌, ◌++◌, List, ℕ, ap, ◌∙◌, rules, w32, to_z, of_z}
 use Rattle.wire_msg.proofs.Lemmas.{on_ok, appended}
 use Rattle.wire_query.proofs.ReplyLaws.{same_header, reply_added}
 use Rattle.wire_query.proofs.reply.write_parts.Goals as goal

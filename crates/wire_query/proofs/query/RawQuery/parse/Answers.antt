@@ -1,4 +1,4 @@
-use Rattle.std.proofs.Common.{ap, sym, ◌∙◌, Err}
+use Rattle.std.proofs.Common.{ap, Err}
 use Rattle.bson_raw.specs.RawDocument.{document_bytes}
 use Rattle.wire_query.proofs.FaultLaws.{one_query_fault, no_query_fault, query_offset}
 use Rattle.wire_query.proofs.PartLaws.{parts_of}
