@@ -14,7 +14,7 @@ use crate::reply_buf::ReplyBuf;
 use crate::requests::request_of;
 use std::alloc::Global;
 use wire_msg::{MsgFault, RawMsg};
-use wire_stream::{Inlet, Link, MsgReader};
+use wire_stream::{Inlet, Link, MsgReader, flush};
 
 /// Why serving a connection ended.
 #[derive(Clone, Copy, Debug, PartialEq, Eq)]
@@ -89,7 +89,7 @@ fn answer_one<L: Link, H: Handler>(
     ensures end { L.ends link.new ≡ L.ends link.old }
 {
     logged.reply(connection, message.id(), &request_of(message), replies)?;
-    match replies.flush(link) {
+    match flush(link, replies) {
         Ok(()) => Ok(()),
         Err(_) => Err(ServeEnd::Link),
     }

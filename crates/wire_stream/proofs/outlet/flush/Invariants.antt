@@ -8,6 +8,7 @@ invariant-loop-link g l =
     let waiting = g.O.Outlet.waiting in
     record {
       sent : (gone : List ℕ) × Appends (L.sent l.fn.link) (L.sent l.link) gone × (waiting l.fn.outlet ≡ gone ++ waiting l.outlet);
+      others : l.outlet ≡ g.O.Outlet.with_waiting l.fn.outlet (waiting l.outlet);
       received : Keeps (L.received l.fn.link) (L.received l.link);
       end : L.ends l.link ≡ L.ends l.fn.link;
       works : L.failures l.link ≡ L.failures l.fn.link;
