@@ -18,7 +18,7 @@ use Rattle.wire_peer.proofs.Comings.{begun_open, whole_header}
 use Rattle.wire_peer.proofs.SplitFronts.{first_of_split}
 
 rose_from : (o a f : ℕ) → a ≡ o → Rose a f → Rose o f
-rose_from o a f e r = rw (sym e) r
+rose_from o a f e r = subst (λ n. Rose n f) e r
 
 of_push : (c : ℕ) (es : List LogEntry) (e : LogEntry) → AreOf c es → e.connection ≡ c → AreOf c (es ++ e ∷ [])
 of_push c [] e a is = (is, tt)
@@ -199,11 +199,11 @@ module _ {H : Type 0} (does : Does H) (stops : Stops H) where
       let bad = bad_longer limit held piece f came.0 in
       let count : length p.made < budget = (let n = p.counted in omega arith) in
       served_by c limit budget (end.Fault f) old new k id (held ++ piece) p (omega arith)
-      (w ∙ works, count, all_sent c limit old new k id (held ++ piece) p, bad_ends limit p.ms p.joined (held ++ piece) f came.1 p.spelled bad, bad)
+      (w ∙ works, came.2 ∙ told, count, all_sent c limit old new k id (held ++ piece) p, bad_ends limit p.ms p.joined (held ++ piece) f came.1 p.spelled bad, bad)
   ends_coming c limit budget end.Link old new k id held piece failures ends p lt works told came w =
       let count : length p.made < budget = (let n = p.counted in omega arith) in
       served_by c limit budget end.Link old new k id (held ++ piece) p (omega arith)
-      (rose_from old.failures failures new.failures works w, p.answered, inl (count, all_sent c limit old new k id (held ++ piece) p))
+      (rose_from old.failures failures new.failures works w, came ∙ told, p.answered, inl (count, all_sent c limit old new k id (held ++ piece) p))
   ends_coming c limit budget end.OutOfMemory old new k id held piece failures ends p lt works told came w =
       ends_memory c limit budget old new k id (held ++ piece) p lt (w ∙ works) (came.1 ∙ told) came.0
   ends_coming c limit budget end.Budget old new k id held piece failures ends p lt works told came w = absurd came
@@ -258,15 +258,16 @@ module _ {H : Type 0} (does : Does H) (stops : Stops H) where
   ends_by_answer c limit budget end.Link old a b k id id' m front piece p spells within keeps lt works told x =
       served_with c limit budget end.Link old a b k id m front piece x.3 p spells within keeps lt x.1 x.5 (
         rose_from old.failures a.failures b.failures works x.0,
+        told,
         answered_push p.made x.1.entry p.answered x.2,
         inr (x.3, x.4, last_of c limit old a b k id m (front ++ piece) x.3 p x.1, rw (sym p.next) x.6),
       )
   ends_by_answer c limit budget end.ReplyTooLarge old a b k id id' m front piece p spells within keeps lt works told x =
       served_with c limit budget end.ReplyTooLarge old a b k id m front piece [] p spells within keeps lt x.2 x.1
-      (x.0 ∙ works, last_of c limit old a b k id m (front ++ piece) [] p x.2, rw (sym p.next) x.3)
+      (x.0 ∙ works, told, last_of c limit old a b k id m (front ++ piece) [] p x.2, rw (sym p.next) x.3)
   ends_by_answer c limit budget end.HandlerFailed old a b k id id' m front piece p spells within keeps lt works told x =
       served_with c limit budget end.HandlerFailed old a b k id m front piece [] p spells within keeps lt x.2 x.1
-      (x.0 ∙ works, last_of c limit old a b k id m (front ++ piece) [] p x.2, x.3, x.4)
+      (x.0 ∙ works, told, last_of c limit old a b k id m (front ++ piece) [] p x.2, x.3, x.4)
   ends_by_answer c limit budget end.OutOfMemory old a b k id id' m front piece p spells within keeps lt works told x =
       memory c limit budget old a b k id m front piece p spells within keeps lt (x.0 ∙ works) told x.1 x.2
     where

@@ -5,9 +5,10 @@ use Rattle.wire_msg.specs.{AreSpelled, Content, IsBad, IsOpen, Message, Split}
 use Rattle.wire_stream.specs.{Rose}
 use Rattle.wire_peer.specs.Chains.{is_longer, next_id, replies, written}
 use Rattle.wire_peer.specs.Coming.{HasGoodHeader}
-use Rattle.wire_peer.specs.Logs.{Does, LogEntry, LogStep, RunOf, Stops}
+use Rattle.wire_peer.specs.Logs.{Does, LogEntry, LogStep, RunOf, Stops, log_of}
 use Rattle.wire_peer.specs.Requests.{Asked, asked_by}
 use Rattle.wire_peer.specs.declared.handlers.HandlerStop.TheVariants as stop
+use Rattle.wire_peer.specs.declared.log.Logged.{Logged}
 use Rattle.wire_peer.specs.declared.serving.ServeEnd.{ServeEnd}
 use Rattle.wire_peer.specs.declared.serving.ServeEnd.TheVariants.{Ended, EndedInside, Fault, Link, Budget, ReplyTooLarge, OutOfMemory, HandlerFailed}
 
@@ -60,6 +61,17 @@ pub record Seen (H : Type 0) : Type 0 where
   pub failures : ℕ
   pub ends : ℕ
 
+-- what is seen of these, by what a link's kind tells of its links
+abbrev pub seen : {H L : Type 0} → (received sent : L → Option (List ℕ)) → (failures ends : L → ℕ) → Logged H → L → Seen H
+seen received sent failures ends logged link = record {
+  handler = logged.handler;
+  log = log_of logged.entries.items;
+  received = received link;
+  sent = sent link;
+  failures = failures link;
+  ends = ends link;
+}
+
 -- all these messages were answered, and all their replies were sent
 pub record AllSent (ms : List Message) (made : List LogEntry) (gave : List ℕ) : Type 0 where
   pub sent : gave ≡ serve_out 1 ms made
@@ -98,17 +110,17 @@ EndsAs does stops limit budget Ended old new ms made got gave rest =
 EndsAs does stops limit budget EndedInside old new ms made got gave rest =
     (new.failures ≡ old.failures) × Rose old.ends new.ends × (length made < budget) × AllSent ms made gave × Split limit got ms rest × (rest ≢ []) × IsOpen limit rest
 EndsAs does stops limit budget (Fault f) old new ms made got gave rest =
-    (new.failures ≡ old.failures) × (length made < budget) × AllSent ms made gave × Split limit got ms rest × IsBad limit rest f
+    (new.failures ≡ old.failures) × (new.ends ≡ old.ends) × (length made < budget) × AllSent ms made gave × Split limit got ms rest × IsBad limit rest f
 EndsAs does stops limit budget Budget old new ms made got gave rest =
     (new.failures ≡ old.failures) × (new.ends ≡ old.ends) × (length made ≡ budget) × AllSent ms made gave
 EndsAs does stops limit budget Link old new ms made got gave rest =
-    Rose old.failures new.failures × AreAnswered made
+    Rose old.failures new.failures × (new.ends ≡ old.ends) × AreAnswered made
     × (((length made < budget) × AllSent ms made gave) ⊎ ((part : List ℕ) × (lost : List ℕ) × (l : LastSent does stops old.handler new.handler ms made gave part) × (written (last_replies l) ≡ part ++ lost)))
 EndsAs does stops limit budget ReplyTooLarge old new ms made got gave rest =
-    (new.failures ≡ old.failures)
+    (new.failures ≡ old.failures) × (new.ends ≡ old.ends)
     × (l : LastSent does stops old.handler new.handler ms made gave []) × (is_longer limit (last_replies l) ≡ true)
 EndsAs does stops limit budget HandlerFailed old new ms made got gave rest =
-    (new.failures ≡ old.failures)
+    (new.failures ≡ old.failures) × (new.ends ≡ old.ends)
     × (l : LastSent does stops old.handler new.handler ms made gave []) × (l.entry.answers ≡ None) × stops l.mid (asked_by l.message) stop.Failed new.handler
 EndsAs does stops limit budget OutOfMemory old new ms made got gave rest =
     (new.failures ≡ old.failures) × (new.ends ≡ old.ends)

@@ -4,8 +4,7 @@ ghost use Rattle.std.specs.Prelude.{◌≡◌, ◌≤◌, [], OnOk};
 ghost use Rattle.std.specs.Io.KnownBytes.{Keeps};
 ghost use Rattle.wire_msg.specs.{Message, SpellsMsg, msg_bytes};
 ghost use Rattle.wire_peer.specs.Answering.{AnswersAs, end_of};
-ghost use Rattle.wire_peer.specs.Logs.{log_of};
-ghost use Rattle.wire_peer.specs.Serving.{Served};
+ghost use Rattle.wire_peer.specs.Serving.{Served, seen};
 
 use crate::coming::next_message;
 use crate::handlers::{Handler, HandlerStop};
@@ -67,22 +66,8 @@ fn answer_one<L: Link, H: Handler>(
     ensures answered { (m : Message) → SpellsMsg m (msg_bytes message.entry)
         → AnswersAs H.does H.stops connection replies.old.limit m result
         replies.old.next replies.new.next
-        (record {
-          handler = logged.old.handler;
-          log = log_of logged.old.entries.items;
-          received = L.received link.old;
-          sent = L.sent link.old;
-          failures = L.failures link.old;
-          ends = L.ends link.old;
-        })
-        (record {
-          handler = logged.new.handler;
-          log = log_of logged.new.entries.items;
-          received = L.received link.new;
-          sent = L.sent link.new;
-          failures = L.failures link.new;
-          ends = L.ends link.new;
-        }) }
+        (seen L.received L.sent L.failures L.ends logged.old link.old)
+        (seen L.received L.sent L.failures L.ends logged.new link.new) }
     ensures waiting { OnOk result (replies.new.output ≡ []) }
     ensures limit { OnOk result (replies.new.limit ≡ replies.old.limit) }
     ensures received { Keeps (L.received link.old) (L.received link.new) }
@@ -107,22 +92,8 @@ pub fn serve<L: Link, H: Handler>(
 ) -> ServeEnd
     requires { limit ≤ 48_000_000 }
     ensures { Served H.does H.stops connection limit budget result
-        (record {
-          handler = logged.old.handler;
-          log = log_of logged.old.entries.items;
-          received = L.received link.old;
-          sent = L.sent link.old;
-          failures = L.failures link.old;
-          ends = L.ends link.old;
-        })
-        (record {
-          handler = logged.new.handler;
-          log = log_of logged.new.entries.items;
-          received = L.received link.new;
-          sent = L.sent link.new;
-          failures = L.failures link.new;
-          ends = L.ends link.new;
-        }) }
+        (seen L.received L.sent L.failures L.ends logged.old link.old)
+        (seen L.received L.sent L.failures L.ends logged.new link.new) }
 {
     let Ok(mut inlet) = Inlet::new(alloc) else {
         return ServeEnd::OutOfMemory;

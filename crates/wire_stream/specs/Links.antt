@@ -1,10 +1,10 @@
 -- What the calls of a link tell of it.
-use Rattle.std.specs.Prelude.{◌≡◌, ℕ, zero, suc, ◌-◌, ◌^◌, ◌<◌, Result, Ok}
+use Rattle.std.specs.Prelude.{◌≡◌, ℕ, zero, suc, ◌+◌, ◌-◌, ◌^◌, min, Result, Ok}
 use Rattle.wire_stream.specs.declared.link.LinkFault.{LinkFault}
 
--- the count rose, or stood at its greatest value
+-- the count rose by one, or stood at its greatest value
 abbrev pub Rose : ℕ → ℕ → Type 0
-Rose old new = old < 2 ^ 64 - 1 → old < new
+Rose old new = new ≡ min (old + 1) (2 ^ 64 - 1)
 
 -- A `recv` into room for so many bytes came to this result, and told the link's end where it gave none of the bytes that
 -- it had room for, and at no other time.

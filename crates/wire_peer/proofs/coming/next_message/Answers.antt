@@ -26,13 +26,13 @@ pub returns-in-Ready-clause-received : goal.returns-in-Ready-clause-received
 returns-in-Ready-clause-received g c =
     let i = c.loop-reader.invariant.received in
     let p = c.pull.ensures.received in
-    came_on _ _ _ c.loop-reader.reader.held c.loop-reader.inlet _ i.0 p.0 _ c.bytes.result.now _ _ c.in_ok-fed.fed.taken i.1 i.2 p.1 p.2 c.bytes.ensures c.in_ok-fed.ensures.fed.held c.used.ensures
+    came_on _ _ _ c.loop-reader.reader.held c.loop-reader.inlet _ i.0 p.0 _ c.bytes.result.now _ _ c.in_ok-fed.fed.taken i.1 i.2 p.1 p.2 c.bytes.ensures.bytes c.in_ok-fed.ensures.fed.held c.used.ensures
 
 pub returns-in-Bad-clause-received : goal.returns-in-Bad-clause-received
 returns-in-Bad-clause-received g c =
     let i = c.loop-reader.invariant.received in
     let p = c.pull.ensures.received in
-    came_on _ _ _ c.loop-reader.reader.held c.loop-reader.inlet _ i.0 p.0 _ c.bytes.result.now _ _ c.in_ok-fed.fed.taken i.1 i.2 p.1 p.2 c.bytes.ensures c.in_ok-fed.ensures.fed.held c.used.ensures
+    came_on _ _ _ c.loop-reader.reader.held c.loop-reader.inlet _ i.0 p.0 _ c.bytes.result.now _ _ c.in_ok-fed.fed.taken i.1 i.2 p.1 p.2 c.bytes.ensures.bytes c.in_ok-fed.ensures.fed.held c.used.ensures
 
 pub loop-reader-init : goal.loop-reader-init
 loop-reader-init g c = record {
@@ -66,7 +66,7 @@ loop-reader-preserved g c =
       limit = c.feed_piece.ensures.limit ∙ c.loop-reader.invariant.limit;
       begun = still_open _ _ _ _ fed.state c.in-Need.is c.feed_piece.ensures.limit;
       bytes = held_bytes _ _ c.bytes.result.now _ c.loop-reader.invariant.bytes fed.held c.feed_piece.ensures.bytes;
-      received = came_on _ _ _ c.loop-reader.reader.held c.loop-reader.inlet _ i.0 p.0 _ c.bytes.result.now _ _ c.in_ok-fed.fed.taken i.1 i.2 p.1 p.2 c.bytes.ensures fed.held c.used.ensures;
+      received = came_on _ _ _ c.loop-reader.reader.held c.loop-reader.inlet _ i.0 p.0 _ c.bytes.result.now _ _ c.in_ok-fed.fed.taken i.1 i.2 p.1 p.2 c.bytes.ensures.bytes fed.held c.used.ensures;
       sent = Keeps-trans _ _ _ c.loop-reader.invariant.sent c.pull.ensures.sent;
       works = c.in-Ok-Bytes.ensures.works ∙ c.loop-reader.invariant.works;
       ends = found.1 ∙ c.loop-reader.invariant.ends;
@@ -77,7 +77,7 @@ returns-in-Bad-clause-came g c =
     let fed = c.in_ok-fed.ensures.fed in
     let found = rw c.in-Ok-Bytes.field-0-is at c.in-Ok-Bytes.ensures.found in (
       still_bad _ _ _ _ _ fed.state c.in-Bad.is c.feed_piece.ensures.limit,
-      both_bytes _ _ c.pull.new.self _ c.bytes.result.now _ c.loop-reader.invariant.bytes fed.held c.bytes.ensures c.used.ensures c.feed_piece.ensures.bytes,
+      both_bytes _ _ c.pull.new.self _ c.bytes.result.now _ c.loop-reader.invariant.bytes fed.held c.bytes.ensures.bytes c.used.ensures c.feed_piece.ensures.bytes,
       found.1 ∙ c.loop-reader.invariant.ends,
     )
 
@@ -86,6 +86,6 @@ returns-in_err-fed-clause-came g c =
     let found = rw c.in-Ok-Bytes.field-0-is at c.in-Ok-Bytes.ensures.found in
     let told = err_from_is_err_and c.from_residual.result c.from_residual.ensures.1 in
     rw (told.1, told.2, c.in_err-fed.ensures.refused.0) (
-      completed _ _ _ _ c.bytes.result.now _ c.in_err-fed.ensures.refused.1 c.feed_piece.ensures.limit (ap (λ r. r.held) c.in_err-fed.ensures.unchanged) c.bytes.ensures,
+      completed _ _ _ _ c.bytes.result.now _ c.in_err-fed.ensures.refused.1 c.feed_piece.ensures.limit (ap (λ r. r.held) c.in_err-fed.ensures.unchanged) c.bytes.ensures.bytes,
       found.1 ∙ c.loop-reader.invariant.ends,
     )

@@ -13,7 +13,7 @@ returns-in_err-reply-clause-answered g c = λ m spells.
     let fits : FitsSigned w32 c.id.result = subst (FitsSigned w32) (sym (c.id.ensures m spells)) spells.id in
     let told = err_from_is_err_and c.from_residual.result c.from_residual.ensures.1 in
     rw (told.1, told.2) (no_replies g.H.Handler.does g.H.Handler.stops _ m _ _ c.in_err-reply.field-0.0 c.reply.new.replies.next c.args.replies.now c.reply.new.replies _ _
-    same (to_z-of_z w32 c.id.result fits ∙ c.id.ensures m spells) c.in_err-reply.ensures refl (Appends-nil _))
+    same (to_z-of_z w32 c.id.result fits ∙ c.id.ensures m spells) c.in_err-reply.ensures.step refl (Appends-nil _))
 
 pub returns-in-Ok-clause-answered : goal.returns-in-Ok-clause-answered
 returns-in-Ok-clause-answered g c = λ m spells.
@@ -21,7 +21,7 @@ returns-in-Ok-clause-answered g c = λ m spells.
     let fits : FitsSigned w32 c.id.result = subst (FitsSigned w32) (sym (c.id.ensures m spells)) spells.id in
     let sent = c.flush.ensures.sent in
     replies_sent g.H.Handler.does g.H.Handler.stops _ m _ _ sent.0 c.args.replies.now c.reply.new.replies c.flush.new.outlet _ _
-    same (to_z-of_z w32 c.id.result fits ∙ c.id.ensures m spells) c.in_ok-reply.ensures c.requires sent.1 sent.2 c.in-Ok.ensures.all (ap (λ (r : ReplyState). r.next) c.flush.ensures.others) c.in-Ok.ensures.works
+    same (to_z-of_z w32 c.id.result fits ∙ c.id.ensures m spells) c.in_ok-reply.ensures.step c.requires sent.1 sent.2 c.in-Ok.ensures.all (ap (λ (r : ReplyState). r.next) c.flush.ensures.others) c.in-Ok.ensures.works
 
 pub returns-in-Err-clause-answered : goal.returns-in-Err-clause-answered
 returns-in-Err-clause-answered g c = λ m spells.
@@ -29,4 +29,4 @@ returns-in-Err-clause-answered g c = λ m spells.
     let fits : FitsSigned w32 c.id.result = subst (FitsSigned w32) (sym (c.id.ensures m spells)) spells.id in
     let sent = c.flush.ensures.sent in
     replies_cut g.H.Handler.does g.H.Handler.stops _ m _ _ sent.0 c.flush.new.outlet.next c.args.replies.now c.reply.new.replies c.flush.new.outlet _ _
-    same (to_z-of_z w32 c.id.result fits ∙ c.id.ensures m spells) c.in_ok-reply.ensures c.requires sent.1 sent.2 c.in-Err.ensures.fails
+    same (to_z-of_z w32 c.id.result fits ∙ c.id.ensures m spells) c.in_ok-reply.ensures.step c.requires sent.1 sent.2 c.in-Err.ensures.fails
