@@ -1,5 +1,5 @@
 -- Calls: the request of each kind, and the refusals.
-use Rattle.std.specs.Prelude.{ℕ, ℤ, pos, Bool, true, false, List, codes, Option, Some, None}
+use Rattle.std.specs.Prelude.{ℕ, ℤ, pos, Bool, true, false, List, codes, Option, Some}
 use Rattle.wire_msg.specs.{Content, Message}
 use Rattle.wire_msg.specs.declared.flags.MsgFlags.{MsgFlags}
 use Rattle.wire_peer.specs.declared.calls.CallKind.{CallKind}

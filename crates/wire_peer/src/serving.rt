@@ -3,6 +3,7 @@
 ghost use Rattle.std.specs.Prelude.{◌≡◌, ◌≤◌, [], OnOk};
 ghost use Rattle.std.specs.Io.KnownBytes.{Keeps};
 ghost use Rattle.wire_msg.specs.{Message, SpellsMsg, msg_bytes};
+ghost use Rattle.wire_stream.specs.{AddsTurns};
 ghost use Rattle.wire_peer.specs.Answering.{AnswersAs, end_of};
 ghost use Rattle.wire_peer.specs.Serving.{Served, seen};
 
@@ -66,11 +67,12 @@ fn answer_one<L: Link, H: Handler>(
     ensures answered { (m : Message) → SpellsMsg m (msg_bytes message.entry)
         → AnswersAs H.does H.stops connection replies.old.limit m result
         replies.old.next replies.new.next
-        (seen L.received L.sent L.failures L.ends logged.old link.old)
-        (seen L.received L.sent L.failures L.ends logged.new link.new) }
+        (seen L.received L.sent L.turns L.failures L.ends logged.old link.old)
+        (seen L.received L.sent L.turns L.failures L.ends logged.new link.new) }
     ensures waiting { OnOk result (replies.new.output ≡ []) }
     ensures limit { OnOk result (replies.new.limit ≡ replies.old.limit) }
     ensures received { Keeps (L.received link.old) (L.received link.new) }
+    ensures turns { AddsTurns (L.turns link.old) (L.turns link.new) [] }
     ensures end { L.ends link.new ≡ L.ends link.old }
 {
     logged.reply(connection, message.id(), &request_of(message), replies)?;
@@ -92,8 +94,8 @@ pub fn serve<L: Link, H: Handler>(
 ) -> ServeEnd
     requires { limit ≤ 48_000_000 }
     ensures { Served H.does H.stops connection limit budget result
-        (seen L.received L.sent L.failures L.ends logged.old link.old)
-        (seen L.received L.sent L.failures L.ends logged.new link.new) }
+        (seen L.received L.sent L.turns L.failures L.ends logged.old link.old)
+        (seen L.received L.sent L.turns L.failures L.ends logged.new link.new) }
 {
     let Ok(mut inlet) = Inlet::new(alloc) else {
         return ServeEnd::OutOfMemory;

@@ -2,7 +2,7 @@
 
 ghost use Rattle.std.specs.Prelude.{◌≡◌, ◌≤◌, ◌++◌, [], ℕ, List, OnErr, OnOk, drop, length};
 ghost use Rattle.std.specs.Io.KnownBytes.{Appends, Keeps};
-ghost use Rattle.wire_stream.specs.Links.{Rose};
+ghost use Rattle.wire_stream.specs.Links.{AddsTurns, Rose};
 
 use crate::link::{Link, LinkFault};
 
@@ -43,6 +43,7 @@ pub fn flush<L: Link, O: Outlet>(link: &mut L, outlet: &mut O) -> Result<(), Lin
     ensures others { outlet.new ≡ O.with_waiting outlet.old (O.waiting outlet.new) }
     ensures all { OnOk result (O.waiting outlet.new ≡ []) }
     ensures received { Keeps (L.received link.old) (L.received link.new) }
+    ensures turns { AddsTurns (L.turns link.old) (L.turns link.new) [] }
     ensures end { L.ends link.new ≡ L.ends link.old }
     ensures works { OnOk result (L.failures link.new ≡ L.failures link.old) }
     ensures fails { OnErr result (Rose (L.failures link.old) (L.failures link.new)) }

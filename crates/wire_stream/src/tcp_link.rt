@@ -47,6 +47,8 @@ impl<S: Read + Write + Drop> Link for TcpLink<S> {
 
     ghost sent = { λ _. None };
 
+    ghost turns = { λ _. None };
+
     ghost failures = { λ s. s.failures };
 
     ghost ends = { λ s. s.ends };

@@ -5,6 +5,7 @@ use Rattle.std.proofs.lemmas.Int.{to_z-of_z}
 use Rattle.std.proofs.lemmas.Result.{err_from_is_err_and}
 use Rattle.wire_peer.specs.Chains.{ReplyState}
 use Rattle.wire_peer.proofs.OneAnswer.{no_replies, replies_cut, replies_sent}
+use Rattle.wire_stream.proofs.Lemmas.{AddsTurns-nil}
 use Rattle.wire_peer.proofs.serving.answer_one.Goals as goal
 
 pub returns-in_err-reply-clause-answered : goal.returns-in_err-reply-clause-answered
@@ -30,3 +31,6 @@ returns-in-Err-clause-answered g c = λ m spells.
     let sent = c.flush.ensures.sent in
     replies_cut g.H.Handler.does g.H.Handler.stops _ m _ _ sent.0 c.flush.new.outlet.next c.args.replies.now c.reply.new.replies c.flush.new.outlet _ _
     same (to_z-of_z w32 c.id.result fits ∙ c.id.ensures m spells) c.in_ok-reply.ensures.step c.requires sent.1 sent.2 c.in-Err.ensures.fails
+
+pub returns-in_err-reply-clause-turns : goal.returns-in_err-reply-clause-turns
+returns-in_err-reply-clause-turns g c = AddsTurns-nil _

@@ -15,6 +15,6 @@ invariant-loop-i g l =
       works : L.failures l.link ≡ L.failures l.fn.link;
       ends : L.ends l.link ≡ L.ends l.fn.link;
       progress : Progress H.does H.stops l.connection l.limit
-          (seen L.received L.sent L.failures L.ends l.fn.logged l.fn.link) (seen L.received L.sent L.failures L.ends l.logged l.link)
+          (seen L.received L.sent L.turns L.failures L.ends l.fn.logged l.fn.link) (seen L.received L.sent L.turns L.failures L.ends l.logged l.link)
           l.i l.replies.next l.inlet;
     }

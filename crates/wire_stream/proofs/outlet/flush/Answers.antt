@@ -1,6 +1,7 @@
 use Rattle.std.proofs.Common.{◌≡◌, ◌∙◌, List, ℕ, [], ap, drop, refl, sym}
 use Rattle.std.proofs.KnownBytes.{Appends-nil, Keeps-refl, Keeps-trans}
 use Rattle.wire_stream.proofs.KnownBytes.{sent_on}
+use Rattle.wire_stream.proofs.Turns.{AddsTurns-nil, AddsTurns-trans}
 use Rattle.wire_stream.proofs.outlet.flush.Goals as goal
 
 pub loop-link-init : goal.loop-link-init
@@ -8,6 +9,7 @@ loop-link-init g c = record {
   sent = ([], Appends-nil _, refl);
   others = sym (g.met.O.Outlet.unchanged c.args.outlet.now);
   received = Keeps-refl _;
+  turns = AddsTurns-nil _;
   end = refl;
   works = refl;
 }
@@ -26,6 +28,7 @@ loop-link-preserved g c =
           ∙ laws.last c.args.outlet.now (O.waiting c.loop-link.outlet) left
           ∙ ap (O.with_waiting c.args.outlet.now) (sym waits);
       received = Keeps-trans _ _ _ i.received c.in_ok-n.ensures.received;
+      turns = AddsTurns-trans _ _ _ [] [] i.turns c.in_ok-n.ensures.turns;
       end = c.in_ok-n.ensures.end ∙ i.end;
       works = c.in_ok-n.ensures.works ∙ i.works;
     }
