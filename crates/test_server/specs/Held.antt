@@ -30,6 +30,7 @@ pub record StoreView : Type 0 where
   pub collections : List CollectionView
   pub cursors : List CursorView
 
+-- no collections and no cursors
 abbrev pub empty_store : StoreView
 empty_store = record { collections = []; cursors = [] }
 

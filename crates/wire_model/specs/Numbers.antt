@@ -16,7 +16,7 @@ refusal_number OutOfMemory = 7
 refusal_number Raw = 8
 refusal_number NotRaw = 9
 
--- want of memory has none
+-- the number of a reason why no world is made; want of memory has none
 abbrev pub setup_number : SetupRefusal → Option ℕ
 setup_number setups.BadFirstId = Some 1
 setup_number setups.BadWindow = Some 2

@@ -15,13 +15,13 @@ server_cause_number ReplyTooLarge = 4
 server_cause_number NoMemory = 5
 server_cause_number HandlerFailed = 6
 
--- want of memory has none
+-- the number of a refusal; want of memory has none
 abbrev pub server_refusal_number : ServerRefusal → Option ℕ
 server_refusal_number BadWindow = Some 2
 server_refusal_number BadLimit = Some 3
 server_refusal_number OutOfMemory = None
 
--- want of memory has none
+-- the number of a refusal; want of memory has none
 abbrev pub answer_refusal_number : AnswerRefusal → Option ℕ
 answer_refusal_number answers.NoSuchRequest = Some 1
 answer_refusal_number answers.Closed = Some 2
