@@ -34,6 +34,7 @@ array vs = document_value kinds.Array no_code (array_tree 0 vs)
 abbrev pub double_zero : TreeValue
 double_zero = leaf_value kinds.Double (raw_value (0 ∷ 0 ∷ 0 ∷ 0 ∷ 0 ∷ 0 ∷ 0 ∷ 0 ∷ []))
 
+-- the double 1
 abbrev pub double_one : TreeValue
 double_one = leaf_value kinds.Double (raw_value (0 ∷ 0 ∷ 0 ∷ 0 ∷ 0 ∷ 0 ∷ 240 ∷ 63 ∷ []))
 
