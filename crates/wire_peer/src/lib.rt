@@ -43,6 +43,7 @@ pub use counting::Count;
 pub use echoing::Echo;
 pub use free_id::next_free;
 pub use handlers::{Handler, HandlerStop};
+pub use limits::{MAX_WINDOW, MIN_LIMIT};
 pub use log::{AskRefusal, Entry, Logged, NoReplies, Outcome};
 pub use reply::Reply;
 pub use reply_buf::{ReplyBuf, ReplyRefusal};
