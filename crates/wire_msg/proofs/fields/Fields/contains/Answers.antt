@@ -1,4 +1,4 @@
-use Rattle.std.proofs.Common.{ap, subst, ◌∙◌}
+use Rattle.std.proofs.Common.{subst, ◌∙◌}
 use Rattle.bson_raw.specs.Pairs.{first_named}
 use Rattle.wire_msg.specs.Fields.{AreFields}
 use Rattle.wire_msg.proofs.FieldLaws.{searched}

@@ -1,7 +1,5 @@
-use Rattle.std.proofs.Common.{rules, [], sym, subst, ◌∙◌, ap}
-use Rattle.std.specs.Prelude.{is_some}
+use Rattle.std.proofs.Common.{rules, subst}
 use Rattle.std.proofs.lemmas.List.Sorted.{answers_always}
-use Rattle.bson_raw.specs.Pairs.{first_repeated}
 use Rattle.wire_msg.specs.Fields.{AreFields}
 use Rattle.wire_msg.proofs.FieldLaws.{is_below, neighbours}
 use Rattle.wire_msg.proofs.fields.Fields.has_repeated.Goals as goal
