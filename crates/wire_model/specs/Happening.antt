@@ -26,7 +26,8 @@ use Rattle.wire_model.specs.declared.reports.Report.TheVariants as reports
 use Rattle.wire_model.specs.Conns.{Conn, World, conn_at, new_conn, new_raw_conn, settled, with_conn}
 use Rattle.wire_model.specs.Cuts.{cleared_world, cut_down, cut_up, dropped, is_healthy, restarted_world}
 use Rattle.wire_model.specs.Moves.{Calls, GivesRaw, MovesDown, MovesUp, TakesNone, TakesRaw, TakesUncopied, joined}
-use Rattle.wire_model.specs.Refusing.{RefusesCall, connection_of, first_reason}
+use Rattle.wire_model.specs.Needing.{connection_of}
+use Rattle.wire_model.specs.Refusing.{RefusesCall, first_reason}
 
 abbrev pub with_pool : {H : Type 0} → World H → PoolSeen → World H
 with_pool w p = record w { pool = p }

@@ -19,10 +19,11 @@ abbrev pub shown_calls : List Call → List Record
 shown_calls [] = []
 shown_calls (x ∷ xs) = if is_ours x.state then shown x ∷ shown_calls xs else shown_calls xs
 
--- the world's calls and its log are those of the machine
+-- the world's calls, its log and its handler are those of the machine
 pub record Shows {H : Type 0} (w : World H) (m : Machine H) : Type 0 where
   pub calls : w.calls ≡ shown_calls m.calls
   pub log : w.log ≡ m.log
+  pub handler : w.handler ≡ m.handler
 
 -- the raw connections of a world
 abbrev pub is_raw : Option Conn → Bool

@@ -11,10 +11,12 @@
 mod events;
 pub mod laws;
 mod limits;
+mod needs;
 mod refusals;
 mod reports;
 
 pub use events::Event;
 pub use limits::WorldLimits;
+pub use needs::Needs;
 pub use refusals::{SetupRefusal, WorldRefusal};
 pub use reports::Report;

@@ -9,7 +9,6 @@
 #![tactic(auto)]
 
 mod connections;
-mod event_parts;
 mod lists;
 mod moving;
 mod records;

@@ -11,6 +11,8 @@ mod limits;
 #[cfg(test)]
 mod neighbours;
 #[cfg(test)]
+mod quiet;
+#[cfg(test)]
 mod rows;
 #[cfg(test)]
 mod runs;
