@@ -10,6 +10,9 @@
 //! `to_canonical` makes the canonical form of one, as a `RawDocumentBuf`. What `Document::to_raw` writes is canonical.
 //!
 //! `dump_to` and `dump_elements` of the crate `bson_text`, which write the text of a borrowed document, are given on.
+//!
+//! Stands on bson_raw and bson_text. engines and test_server stand on it. Read first: `documents`,
+//! `from_raw` and `to_raw`, and then `canon`.
 #![tactic(auto)]
 
 mod append;

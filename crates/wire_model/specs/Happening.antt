@@ -180,12 +180,13 @@ IsRefused l old e (refusals.Call refusal) new = (new ≡ old) × (first_reason o
 IsRefused l old e refusals.OutOfMemory new = (first_reason old e ≡ None) × (((new ≡ old) × IsMaking old e) ⊎ RunsOut l old e new)
 IsRefused l old e refusal new = (new ≡ old) × (first_reason old e ≡ Some refusal)
 
--- an event happens, with its result
+-- An event happens in a world, with this result, and this is the world after it: the event does what it is for
+-- (`Succeeds`), or is refused (`IsRefused`).
 abbrev pub Happens : {H : Type 0} → Does H → Stops H → WorldLimits → World H → Event → Result Report WorldRefusal → World H → Type 0
 Happens does stops l old e (Ok report) new = (first_reason old e ≡ None) × Succeeds does stops l old e report new
 Happens does stops l old e (Err refusal) new = IsRefused l old e refusal new
 
--- event after event
+-- the events of a list happen one after the other, each with some result, from one world to another
 abbrev pub Run : {H : Type 0} → Does H → Stops H → WorldLimits → World H → List Event → World H → Type 0
 Run does stops l old [] new = new ≡ old
 Run {H} does stops l old (e ∷ es) new = (mid : World H) × ((r : Result Report WorldRefusal) × Happens does stops l old e r mid) × Run does stops l mid es new

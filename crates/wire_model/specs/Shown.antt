@@ -40,7 +40,7 @@ IsStopped s = (s ≡ Closed ReplyTooLarge) ⊎ ((s ≡ Closed NoMemory) ⊎ (s �
 abbrev pub IsOpenOrStopped : ServerState → Type 0
 IsOpenOrStopped s = (s ≡ Open) ⊎ IsStopped s
 
--- on a connection that isn't cut the client is open, and so is the server, but where an answer closed it
+-- on a connection that isn't raw or cut the client is open, and so is the server, but where an answer closed it
 abbrev pub UncutIsOpen : {H : Type 0} → World H → Type 0
 UncutIsOpen w = (c : ℕ) (k : Conn) → conn_at w.conns c ≡ Some k → k.raw ≡ false → k.up_cut ≡ false → k.down_cut ≡ false
     → (k.client.state ≡ clients.Open) × IsOpenOrStopped k.server.state

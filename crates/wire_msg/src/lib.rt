@@ -11,6 +11,9 @@
 //!
 //! Checksums aren't verified: a message with one is refused by a cause of its own. Other opcodes
 //! and compression are left out.
+//!
+//! Stands on bson_raw. wire_stream, wire_peer and lughemra stand on it. Read first:
+//! `specs/Spelling.antt`, and then `msg` and `front`.
 #![tactic(auto)]
 
 mod append;

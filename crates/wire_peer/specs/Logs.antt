@@ -24,6 +24,7 @@ outcome_of Failed = None
 abbrev pub entry_of : Entry → LogEntry
 entry_of e = record { connection = e.connection; payload = buf_content e.payload; answers = outcome_of e.outcome }
 
+-- the entries of a log
 abbrev pub log_of : List Entry → List LogEntry
 log_of entries = map entry_of entries
 
