@@ -3,8 +3,9 @@
  *     streams read FILE PIECE ROUNDS    of a stream of messages: its check in memory, a reader that is fed pieces of
  *                                       PIECE bytes, and two copies of the bytes
  *     streams send FILE ROUNDS          of a message: an output that is sent byte by byte
- *     streams names FILE ROUNDS         of a message: its check, whose names are looked up in a table
+ *     streams names FILE ROUNDS         of a message: its check, whose names are sorted
  *     streams pairs FILE ROUNDS         of a message: its check, whose names are compared in pairs
+ *     streams own FILE ROUNDS           of a message: its check, and an owned document of its body
  *
  * prints the least processor time of each, in nanoseconds.
  */
@@ -21,6 +22,7 @@
 size_t stream_bench_read(const uint8_t *bytes, size_t length, size_t piece);
 size_t stream_bench_send(const uint8_t *bytes, size_t length);
 bool stream_bench_compare_pairs(const uint8_t *bytes, size_t length);
+bool stream_bench_own(const uint8_t *bytes, size_t length);
 
 /* Copies the bytes into memory of their own. Returns their sum's lowest bits, so that no compiler leaves the copy out. */
 static unsigned copy(const uint8_t *bytes, size_t size)
@@ -92,6 +94,8 @@ int main(int count, char **words)
         measure(is_message, bytes, size, atoi(words[3]));
     } else if (strcmp(words[1], "pairs") == 0) {
         measure(stream_bench_compare_pairs, bytes, size, atoi(words[3]));
+    } else if (strcmp(words[1], "own") == 0) {
+        measure(stream_bench_own, bytes, size, atoi(words[3]));
     } else {
         return 2;
     }

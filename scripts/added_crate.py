@@ -3,28 +3,7 @@
 import os
 import shutil
 
-ROOT = os.path.dirname(os.path.dirname(os.path.realpath(__file__)))
-
-
-def crates_below(names):
-    """Returns the lines of crates.txt of these crates and of all that they stand on."""
-    with open(os.path.join(ROOT, "crates.txt"), encoding="utf-8") as file:
-        lines = {line.split(":")[0].split()[0]: line.strip() for line in file if ":" in line}
-    found, waiting = {}, list(names)
-    while waiting:
-        name = waiting.pop()
-        if name in lines and name not in found:
-            found[name] = lines[name]
-            waiting += lines[name].split(":")[1].split()
-    return found
-
-
-def link(source, target):
-    """Links a file that a check left: a check never writes into one that is there, but puts another in its place."""
-    try:
-        os.link(source, target)
-    except OSError:
-        shutil.copy2(source, target)
+from copied_crates import ROOT, crates_below, link
 
 
 def add_crate(room, kind, stands_on, source, with_proofs):

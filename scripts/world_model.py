@@ -384,15 +384,17 @@ class Run:
 
     def __init__(self, handler, state, limits, short=lambda: False):
         self.world, self.machine, self.first = World(handler, state, limits, short), Machine(state), state
+        self.done_before = []  # of each call of the machine, the entries of the calls that were done when it was made
 
     def step(self, event):
-        touched, before = self.touched(event), self.seen()
+        touched, before, past = self.touched(event), self.seen(), self.past()
         report = self.world.step(event)
         for word, *rest in self.world.told:
             getattr(self.machine, word)(*rest)
         self.check_others(report, touched, before, self.seen())
         self.check_shown()
         self.check_headline()
+        self.check_lasting(*past)
         self.check_ends()
         for c in self.world.taken:
             self.check_apart(c)
@@ -450,6 +452,23 @@ class Run:
                 claim("a pending call holds a beginning", beginning)
             if x.place[0] in ("mute", "never"):
                 claim("a mute call is never done", x.state != "done")
+
+    def past(self):
+        """Returns the calls and the log as they stand now."""
+        return [(x.connection, x.asked, x.state, [*x.parts]) for x in self.world.calls], [*self.world.log]
+
+    def check_lasting(self, calls, log):
+        w, m = self.world, self.machine
+        claim("the log only grows", w.log[:len(log)] == log)
+        claim("each call is still there", len(calls) <= len(w.calls))
+        for (connection, asked, state, parts), x in zip(calls, w.calls):
+            claim("a call keeps its connection and what it asks", (connection, asked) == (x.connection, x.asked))
+            claim("a call keeps its parts", x.parts[:len(parts)] == parts)
+            claim("what is done, sent or lost stays so", state == "pending" or (state, parts) == (x.state, x.parts))
+        done = [x.entry() for x in m.calls if x.state == "done"]
+        self.done_before += [done] * (len(m.calls) - len(self.done_before))
+        for x, earlier in zip(m.calls, self.done_before):
+            claim("what was done before has the earlier entry", x.entry() is None or all(e < x.entry() for e in earlier))
 
     def check_ends(self):
         for c, k in enumerate(self.world.conns, 1):

@@ -1,4 +1,5 @@
 pub mod Names
+pub mod NameLists
 pub mod Pairs
 pub mod PlainLaws
 pub mod Naming

@@ -1,8 +1,7 @@
 -- Names that are put into a set.
-use Rattle.std.proofs.Common.{◌≡◌, ℕ, false, cond, ◌||◌, ◌&&◌, List, [], ◌∷◌, ◌++◌, map, refl, ap, ◌∙◌, String, string_bytes, nat_eq}
+use Rattle.std.proofs.Common.{◌≡◌, ℕ, ◌||◌, ◌&&◌, List, [], ◌∷◌, map, refl, String, string_bytes, nat_eq}
 use Rattle.std.specs.declared.alloc.Global.{Global}
 use Rattle.std.specs.List.{list_any}
-use Rattle.std.specs.String.{string_eq}
 use Rattle.std.specs.Str.{bytes_eq}
 use Rattle.std.proofs.lemmas.Bool.Decides.{nat_tests}
 use Rattle.std.proofs.Common.{arith}
@@ -21,7 +20,3 @@ bytes_eq-sym (x ∷ xs) (y ∷ ys) = λ i. nat_eq-sym x y i && bytes_eq-sym xs y
 pub among_keys : (n : List ℕ) (ks : List (String Global)) → list_any (λ k. bytes_eq n (string_bytes k)) ks ≡ is_among n (map string_bytes ks)
 among_keys n [] = refl
 among_keys n (x ∷ xs) = λ i. bytes_eq-sym n (string_bytes x) i || among_keys n xs i
-
--- a name that is put in, and was not there, is last
-pub put_last : (k : String Global) (ks news : List (String Global)) → is_among (string_bytes k) (map string_bytes ks) ≡ false → news ≡ cond (list_any (string_eq k) ks) ks (ks ++ k ∷ []) → news ≡ ks ++ k ∷ []
-put_last k ks news absent put = put ∙ ap (λ b. cond b ks (ks ++ k ∷ [])) (among_keys (string_bytes k) ks ∙ absent)

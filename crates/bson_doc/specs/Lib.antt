@@ -1,3 +1,4 @@
+pub mod NameList
 pub mod Plain
 pub mod Values
 pub mod Refusals

@@ -15,6 +15,7 @@ abbrev pub value_bytes : TreeValue → List ℕ
 value_bytes (leaf_value k v) = leaf_bytes (form_of k) v
 value_bytes (document_value k b inner) = inner_bytes b (elements inner)
 
+-- the kind of a value
 abbrev pub value_kind : TreeValue → Kind
 value_kind (leaf_value k v) = k
 value_kind (document_value k b inner) = k

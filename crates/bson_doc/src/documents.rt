@@ -6,7 +6,7 @@ ghost use Rattle.std.specs.Str.{bytes_eq};
 
 use crate::bson_values::Bson;
 use crate::iter::DocumentIter;
-use indexmap::IndexSet;
+use crate::name_list::NameList;
 use std::alloc::{AllocError, AllocFailed, Global};
 use std::marker::Model;
 use std::mem;
@@ -15,7 +15,7 @@ use std::mem;
 #[derive(Debug, Drop)]
 #[cycle(bson)]
 pub struct Document {
-    names: IndexSet<String>,
+    names: NameList,
     values: Vec<Bson>,
 }
 
@@ -32,15 +32,15 @@ impl Model for Document {
 
     ghost use Rattle.bson_doc.specs.Bson.{value_of};
 
-    ghost view = { λ d. paired (map string_bytes d.names.keys) (map value_of d.values.items) };
+    ghost view = { λ d. paired (map string_bytes d.names) (map value_of d.values.items) };
 
-    ghost invariant = { λ d. length d.names.keys ≡ length d.values.items };
+    ghost invariant = { λ d. length d.names ≡ length d.values.items };
 
     ghost size = { λ ps. tree_depth (tree_of ps) };
 
     ghost use Rattle.bson_doc.specs.Sizes.{document_deeper};
 
-    ghost size_decreases = { λ d h. document_deeper d.names.keys d.values.items h };
+    ghost size_decreases = { λ d h. document_deeper d.names d.values.items h };
 }
 
 impl Document {
@@ -52,15 +52,15 @@ impl Document {
         ensures { result ≡ [] }
     {
         Document {
-            names: IndexSet::new(alloc),
+            names: NameList::new(alloc),
             values: Vec::new(alloc),
         }
     }
 
     /// Returns the document of these names and their values.
-    pub(crate) fn of_parts(names: IndexSet<String>, values: Vec<Bson>) -> Document
-        requires { length names.keys ≡ length values.items }
-        ensures { result ≡ paired (map string_bytes names.keys) (map value_of values.items) }
+    pub(crate) fn of_parts(names: NameList, values: Vec<Bson>) -> Document
+        requires { length names ≡ length values.items }
+        ensures { result ≡ paired (map string_bytes names) (map value_of values.items) }
     {
         Document { names, values }
     }
@@ -84,7 +84,8 @@ impl Document {
         self.len() == 0
     }
 
-    /// Returns the value of the pair with this name, if there is one.
+    /// Returns the value of the pair with this name, if there is one. It compares names with at most 64 others, or in a tree
+    /// with a logarithm of their number, so that no choice of names makes it slow.
     pub fn get(&self, name: &str) -> Option<&Bson>
         ensures { option_map (λ v. value_of v.now) result ≡ value_named name.now self.now }
     {
@@ -129,8 +130,8 @@ impl Document {
                         value: (name, value),
                     });
                 };
-                match self.names.insert(name) {
-                    Ok(_) => {}
+                match self.names.append(name) {
+                    Ok(()) => {}
                     Err(e) => {
                         return Err(AllocFailed {
                             value: (e.value, value),
@@ -145,13 +146,14 @@ impl Document {
         }
     }
 
-    /// Removes the pair with this name, and returns its value. The pairs after it close up.
+    /// Removes the pair with this name, and returns its value. The pairs after it close up, so a call takes time in
+    /// proportion to the number of pairs.
     pub fn remove(&mut self, name: &str) -> Option<Bson>
         ensures after { self.new ≡ without name.now self.old }
         ensures value { option_map value_of result ≡ value_named name.now self.old }
     {
         let index = self.names.get_index_of(name)?;
-        drop(self.names.shift_remove_index(index));
+        self.names.remove(index);
         Some(self.values.remove(index))
     }
 
@@ -186,7 +188,7 @@ impl Document {
     pub fn try_clone(&self) -> Result<Document, AllocError>
         ensures { IfOk result (λ copy. copy ≡ self.now) }
     {
-        let names = self.names.clone()?;
+        let names = self.names.try_clone()?;
         let mut values = Vec::with_capacity(self.allocator(), self.values.len())?;
         for value in self.values.iter() {
             values.push(value.try_clone()?)?;

@@ -14,9 +14,9 @@ ghost use Rattle.bson_doc.specs.Values.{plain_value};
 use crate::arrays::Array;
 use crate::bson_values::Bson;
 use crate::documents::Document;
+use crate::name_list::NameList;
 use crate::refusal::DocRefusal;
 use bson_raw::{RawArray, RawBson, RawDocument};
-use indexmap::IndexSet;
 use std::alloc::Global;
 
 /// Returns the owned value of one that stands in a container of depth `depth`.
@@ -102,13 +102,13 @@ fn read_document(
     ensures refused { (t : Tree) → Spells t (document_bytes document.entry)
         → IfErr result (λ e. IsRepeat (repeat_in false depth [] t) e) }
 {
-    let mut names = IndexSet::new(alloc);
+    let mut names = NameList::new(alloc);
     let mut values = Vec::new(alloc);
     for (name, value) in document.iter() {
         if names.contains(name) {
             return Err(DocRefusal::RepeatedName { depth });
         }
-        names.insert(String::from_str(alloc, name)?)?;
+        names.append(String::from_str(alloc, name)?)?;
         values.push(read_value(alloc, value, depth)?)?;
     }
     Ok(Document::of_parts(names, values))

@@ -1,8 +1,8 @@
 //! BSON documents that own what they hold, documents in their bytes that are owned, and the canonical form of
 //! documents.
 //!
-//! A `Document` keeps its pairs in order, and finds a name without a walk. A contract sees it as the list of its
-//! pairs. The values in that list are those of the trees that bytes of documents spell. `Document::from_raw` reads a
+//! A `Document` keeps its pairs in order, and no choice of names makes it slow to find one. A contract sees it as the list
+//! of its pairs. The values in that list are those of the trees that bytes of documents spell. `Document::from_raw` reads a
 //! document out of its bytes, and `Document::to_raw` writes it to bytes of its own, a `RawDocumentBuf`.
 //!
 //! The values of an array stand in the bytes as pairs, whose names should be "0", "1" and so on. A document is in
@@ -10,6 +10,9 @@
 //! `to_canonical` makes the canonical form of one, as a `RawDocumentBuf`. What `Document::to_raw` writes is canonical.
 //!
 //! `dump_to` and `dump_elements` of the crate `bson_text`, which write the text of a borrowed document, are given on.
+//!
+//! Stands on bson_raw and bson_text. engines and test_server stand on it. Read first: `documents`,
+//! `from_raw` and `to_raw`, and then `canon`.
 #![tactic(auto)]
 
 mod append;
@@ -25,6 +28,7 @@ mod from_raw;
 mod iter;
 pub mod laws;
 mod name;
+mod name_list;
 mod refusal;
 mod room;
 mod to_raw;

@@ -47,6 +47,7 @@ held_len (values.Array a) = length (array_bytes a)
 held_len (values.CodeWithScope code scope) = length (document_bytes scope)
 held_len _ = 0
 
+-- the kind of a value
 abbrev pub kind_of_value : RawBson → Kind
 kind_of_value (values.Double _) = kinds.Double
 kind_of_value (values.String _) = kinds.String

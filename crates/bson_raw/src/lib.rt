@@ -7,6 +7,9 @@
 //!
 //! `totals` counts what stands in a document at all depths. `laws` proves that bytes are documents back to back and a
 //! rest in just one way.
+//!
+//! Stands on bson_elem. bson_text, bson_doc and wire_msg stand on it. Read first: `document`, and then
+//! `check`.
 #![tactic(auto)]
 
 mod array;

@@ -6,6 +6,8 @@
 //!
 //! The exit status is 0 where the input is good, 1 where it is at fault, 2 where the command line is,
 //! 3 where reading or writing failed, and 4 where memory ran out.
+//!
+//! Stands on engines. Read first: `commands`, and then `choice`.
 #![tactic(auto)]
 
 mod choice;

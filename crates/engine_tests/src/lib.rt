@@ -1,5 +1,7 @@
 //! Tests of the engines, by what no contract says: that runs are good where their input is, their texts, readers, writers and
 //! networks that fail, and refused allocations. They stand in a crate of their own, since a crate is proved once more with its tests.
+//!
+//! Stands on engines. Read first: `dump`.
 #![tactic(auto)]
 
 #[cfg(test)]

@@ -1,5 +1,5 @@
 -- A client that makes one call after another.
-use Rattle.std.proofs.Common.{◌≡◌, ◌∙◌, ◌<◌, ◌+◌, ◌^◌, ℕ, zero, suc, ap, refl, sym, subst, [], Option, None, Some, arith}
+use Rattle.std.proofs.Common.{◌≡◌, ◌∙◌, ◌<◌, ◌+◌, ◌^◌, ℕ, zero, suc, ap, refl, sym, subst, List, [], Option, None, Some, arith}
 use Rattle.std.specs.Prelude.{ℤ, pos, Contains}
 use Rattle.wire_msg.specs.{Content}
 use Rattle.wire_peer.specs.{ClientSeen, IsCalled, IsFirstFree, called, id_following, id_past, ids, number_after, released}
@@ -45,6 +45,10 @@ called_awaits k old c call small idle is =
         state = idle.state;
       },
     )
+
+-- bytes that were sent leave the call there
+pub sent_awaits : (k : ℕ) (old : ClientSeen) (left : List ℕ) → Awaits k old → Awaits k (record old { requests = record (old.requests) { output = left } })
+sent_awaits k old left a = record { number = a.number; id = a.id; outstanding = a.outstanding; ready = a.ready; state = a.state }
 
 -- a reply that is let go of
 pub released_idle : (k : ℕ) (old : ClientSeen) → HasReply k old → IsIdle (k + 1) (released old)

@@ -18,6 +18,7 @@ sized_line size canonical = codes "ok " ++ (decimal size ++ form_word canonical)
 abbrev pub check_line : Tree → List ℕ
 check_line t = sized_line (document_size t) (is_plain false 0 t)
 
+-- what `check` writes for a document
 abbrev pub check_of : Tree → Option (List ℕ)
 check_of t = Some (check_line t)
 

@@ -32,6 +32,7 @@ ended_inside_line offset = fault_line 14 (codes "EndedInside") offset
 abbrev pub script_line : ℕ → List ℕ
 script_line line = fault_line 15 (codes "Script") line
 
+-- the line of each fault of an input
 abbrev pub input_fault_line : InputFault → List ℕ
 input_fault_line (Hex offset) = hex_line offset
 input_fault_line (Bson f) = bson_fault_text f.at f.cause ++ codes "\n"

@@ -24,7 +24,7 @@ call_lines k (suc count) = call_line k ++ call_lines (k + 1) count
 abbrev pub last_line : ℕ → List ℕ
 last_line calls = codes "loop " ++ (decimal calls ++ codes " done\n")
 
--- the whole text
+-- the whole text of so many calls
 abbrev pub loop_text : ℕ → List ℕ
 loop_text calls = call_lines 0 calls ++ last_line calls
 

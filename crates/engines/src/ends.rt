@@ -61,19 +61,14 @@ impl<L: Link + Drop> End<Client, L> {
     }
 
     /// Sends all requests that wait. Errs if the link failed.
-    ///
-    /// The contract of `wire_stream::flush` doesn't say that the calls stay as they are.
     fn send(&mut self) -> Result<(), RunEnd>
         ensures calls { (k : ℕ) → Awaits k self.old.peer → Awaits k self.new.peer }
         ensures stopped { IfErr result (λ end. is_done end ≡ false) }
     {
-        while !self.peer.output().is_empty() {
-            match self.link.send(self.peer.output()) {
-                Ok(n) => self.peer.sent(n),
-                Err(_) => return Err(RunEnd::InOut),
-            }
+        match flush(&mut self.link, &mut self.peer) {
+            Ok(()) => Ok(()),
+            Err(_) => Err(RunEnd::InOut),
         }
-        Ok(())
     }
 
     /// Receives until the reply is ready, and lets go of it. Errs if the link failed or ended, if what came closed the

@@ -223,6 +223,49 @@ fn one_pair(alloc: Global, name: &str, value: Bson) -> Option<Document> {
     }
 }
 
+/// Returns a document of the numbers from 0 to 99, each under itself.
+fn numbers(alloc: Global) -> Option<Document> {
+    let mut document = Document::new(alloc);
+    for number in 0i32..100 {
+        let name = format!(in alloc; "{number}").ok()?;
+        put(&mut document, name, Bson::Int32(number))?;
+    }
+    Some(document)
+}
+
+/// Returns true if each number from 0 to 99 but `left_out` is found under itself, and that isn't.
+fn finds_numbers(alloc: Global, document: &Document, left_out: i32) -> bool {
+    for number in 0i32..100 {
+        let Ok(name) = format!(in alloc; "{number}") else {
+            return false;
+        };
+        if is_number(document.get(name.as_str()), number) == (number == left_out) {
+            return false;
+        }
+    }
+    true
+}
+
+/// Returns true if names are looked up in a document of many, in one that is read from its bytes, and behind one that is
+/// taken out.
+fn finds_many(alloc: Global) -> bool {
+    let Some(document) = numbers(alloc) else {
+        return false;
+    };
+    let Ok(mut again) = round_trip(alloc, &document) else {
+        return false;
+    };
+    finds_numbers(alloc, &document, -1)
+        && removes(&mut again, "7", 7)
+        && finds_numbers(alloc, &again, 7)
+        && again.len() == 99
+}
+
+#[test]
+fn many_names_are_looked_up(rt: HostRuntime) {
+    assert!(rt; finds_many(rt.alloc()));
+}
+
 /// Returns so many documents, one in another, and null in the innermost.
 fn nested(alloc: Global, count: u32) -> Option<Bson> {
     let mut value = Bson::Null;

@@ -4,6 +4,8 @@
 //!
 //! A test is proved like any function, and what it costs is its code. So a table is a constant, gone over by reference;
 //! a test asserts what a function answers by `bool`; and a function owns one value at most, and lends it to the next.
+//!
+//! Stands on bson_elem, bson_raw, bson_text, bson_doc and wire_msg. Read first: `each_kind`.
 #![tactic(auto)]
 
 #[cfg(test)]

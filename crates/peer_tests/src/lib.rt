@@ -1,5 +1,7 @@
 //! Tests of peers, by what no contract says: that calls succeed where memory is there, what is sent byte for byte, and that
 //! the definitions mean the protocol. They stand in a crate of their own, since a crate is proved once more with its tests.
+//!
+//! Stands on wire_peer. Read first: `clients` and `servers`.
 #![tactic(auto)]
 
 #[cfg(test)]

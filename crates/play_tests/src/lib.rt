@@ -1,5 +1,7 @@
 //! Tests of scripts of events, by what no contract says: that their runs succeed where memory is there, and that the texts are
 //! those that were worked out by hand. They stand in a crate of their own, since a crate is proved once more with its tests.
+//!
+//! Stands on engines and wire_play. Read first: `runs`.
 #![tactic(auto)]
 
 #[cfg(test)]

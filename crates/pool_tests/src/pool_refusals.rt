@@ -25,7 +25,7 @@ fn is_made_at_last(alloc: Global) -> bool {
     match Pool::new(alloc, 1) {
         Ok(mut pool) => lends_one(&mut pool),
         Err(refusal) => {
-            refusal == PoolRefusal::OutOfMemory && refusal.number().is_none() && is_made(alloc)
+            refusal == PoolRefusal::OutOfMemory && is_made(alloc)
         }
     }
 }

@@ -128,7 +128,7 @@ fn drawn_ids_are_never_lent(rt: HostRuntime) {
 fn is_refused(alloc: Global, max: usize) -> bool {
     match Pool::new(alloc, max) {
         Ok(_) => false,
-        Err(refusal) => refusal == PoolRefusal::BadMax && refusal.number() == Some(1),
+        Err(refusal) => refusal == PoolRefusal::BadMax,
     }
 }
 

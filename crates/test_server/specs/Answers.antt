@@ -20,6 +20,7 @@ int32 z = leaf_value kinds.Int32 (number_value z)
 abbrev pub int64 : ℤ → TreeValue
 int64 z = leaf_value kinds.Int64 (number_value z)
 
+-- a string
 abbrev pub text : List ℕ → TreeValue
 text s = leaf_value kinds.String (text_value s)
 
@@ -33,18 +34,22 @@ array vs = document_value kinds.Array no_code (array_tree 0 vs)
 abbrev pub double_zero : TreeValue
 double_zero = leaf_value kinds.Double (raw_value (0 ∷ 0 ∷ 0 ∷ 0 ∷ 0 ∷ 0 ∷ 0 ∷ 0 ∷ []))
 
+-- the double 1
 abbrev pub double_one : TreeValue
 double_one = leaf_value kinds.Double (raw_value (0 ∷ 0 ∷ 0 ∷ 0 ∷ 0 ∷ 0 ∷ 240 ∷ 63 ∷ []))
 
 -- ---- answers
 
+-- `ok` alone
 abbrev pub ok_alone : List (List ℕ × TreeValue)
 ok_alone = (codes "ok", double_one) ∷ []
 
+-- an error by its words, its number and its name
 abbrev pub error_pairs : List ℕ → ℤ → List ℕ → List (List ℕ × TreeValue)
 error_pairs words code name =
     (codes "ok", double_zero) ∷ (codes "errmsg", text words) ∷ (codes "code", int32 code) ∷ (codes "codeName", text name) ∷ []
 
+-- the answer to a command that errs
 abbrev pub refusal_pairs : CommandError → List (List ℕ × TreeValue)
 refusal_pairs e = error_pairs (words_of e) (code_of e) (code_name_of e)
 
@@ -52,6 +57,7 @@ refusal_pairs e = error_pairs (words_of e) (code_of e) (code_name_of e)
 abbrev pub primary_name : Bool → List ℕ
 primary_name legacy = if legacy then codes "ismaster" else codes "isWritablePrimary"
 
+-- the answer to hello
 abbrev pub hello_pairs : Bool → List (List ℕ × TreeValue)
 hello_pairs legacy =
     (codes "helloOk", truth true) ∷ (primary_name legacy, truth true)
@@ -74,6 +80,7 @@ batch_name Next = codes "nextBatch"
 abbrev pub cursor_pairs : Batch → List TreeValue → ℤ → List ℕ → List (List ℕ × TreeValue)
 cursor_pairs b vs id ns = (batch_name b, array vs) ∷ (codes "id", int64 id) ∷ (codes "ns", text ns) ∷ []
 
+-- an answer that has such a batch
 abbrev pub cursor_answer : Batch → List TreeValue → ℤ → List ℕ → List (List ℕ × TreeValue)
 cursor_answer b vs id ns = (codes "cursor", inner (cursor_pairs b vs id ns)) ∷ ok_alone
 

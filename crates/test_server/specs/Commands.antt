@@ -31,6 +31,7 @@ insert_reply s n vs = record {
   held = record { collections = with_documents n vs s.collections; cursors = s.cursors };
 }
 
+-- what insert answers and what is held then, or its error
 abbrev pub insert : StoreView → Content → Result Reply CommandError
 insert s c =
     and_then (namespace_at (codes "insert") errors.Insert c.body) (λ n.
@@ -61,6 +62,7 @@ query_in t =
 abbrev pub find_reply_to : StoreView → QueryView → Reply
 find_reply_to s q = find_reply s q.namespace q.count (found q.filter (documents_in q.namespace s.collections))
 
+-- what find answers and what is held then, or its error
 abbrev pub find : StoreView → Tree → Result Reply CommandError
 find s t = and_then (query_in t) (λ q. Ok (find_reply_to s q))
 
@@ -77,6 +79,7 @@ abbrev pub more : StoreView → ℤ → NamespaceView → ℕ → Result Reply C
 more s id n count =
     and_then (or_error errors.CursorNotFound (open_at n (cursor_index id) s.cursors)) (λ c. Ok (more_reply s id n count c))
 
+-- what getMore answers and what is held then, or its error
 abbrev pub get_more : StoreView → Tree → Result Reply CommandError
 get_more s t =
     and_then (id_field t) (λ id.
@@ -91,6 +94,7 @@ drop_reply s n others = record {
   held = record { collections = others; cursors = s.cursors };
 }
 
+-- what drop answers and what is held then, or its error
 abbrev pub drop_collection : StoreView → Tree → Result Reply CommandError
 drop_collection s t =
     and_then (namespace_at (codes "drop") errors.Drop t) (λ n.
@@ -112,6 +116,7 @@ list_answer s db f =
 abbrev pub list_reply : StoreView → List ℕ → Tree → Reply
 list_reply s db f = record { answer = list_answer s db f; held = s }
 
+-- what listCollections answers and what is held then, or its error
 abbrev pub list_collections : StoreView → Tree → Result Reply CommandError
 list_collections s t =
     and_then (text_field (codes "$db") errors.Database t) (λ db.

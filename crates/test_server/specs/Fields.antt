@@ -48,5 +48,6 @@ abbrev pub asked_size : ℕ → CommandError → Option TreeValue → Result ℕ
 asked_size least error None = Ok 101
 asked_size least error (Some v) = at_least least error (count_of v)
 
+-- the batch size that a command asks for, at least so many, and 101 where it asks for none
 abbrev pub batch_size : ℕ → CommandError → Tree → Result ℕ CommandError
 batch_size least error t = asked_size least error (first_named (codes "batchSize") t)

@@ -51,6 +51,7 @@ filter_of None = Ok no_pairs
 filter_of (Some (document_value kinds.Document b t)) = filter_in (has_operator t) (owned t)
 filter_of (Some _) = Err errors.Filter
 
+-- the filter in the field `filter` of a command
 abbrev pub filter_field : Tree → Result Tree CommandError
 filter_field t = filter_of (first_named (codes "filter") t)
 

@@ -30,6 +30,7 @@ pub record StoreView : Type 0 where
   pub collections : List CollectionView
   pub cursors : List CursorView
 
+-- no collections and no cursors
 abbrev pub empty_store : StoreView
 empty_store = record { collections = []; cursors = [] }
 
@@ -52,6 +53,7 @@ store_of s = record { collections = map collection_of s.collections.items; curso
 
 -- ---- namespaces
 
+-- whether two namespaces are the same
 abbrev pub is_same_namespace : NamespaceView → NamespaceView → Bool
 is_same_namespace a b = bytes_eq b.database a.database && bytes_eq b.collection a.collection
 

@@ -69,6 +69,7 @@ abbrev pub if_so_many : Option (List TreeValue) → Result (List TreeValue) Comm
 if_so_many None = Err errors.Documents
 if_so_many (Some vs) = if (nat_le 1 (length vs) && nat_le (length vs) 100000) then Ok vs else Err errors.Documents
 
+-- the documents that an insert brings
 abbrev pub inserted : Content → Result (List TreeValue) CommandError
 inserted c = if_so_many (in_field c.sequences (first_named (codes "documents") c.body))
 

@@ -23,7 +23,8 @@ pub record TakesFrom (n : NamespaceView) (id : ℤ) (count : ℕ) (old : List Cu
   pub id_is : after ≡ id_if_left id (drop count cursor.left)
   pub left : new ≡ with_left (cursor_index id) (drop count cursor.left) old
 
--- they were taken; or there is no such open cursor, or memory was wanting, and nothing changed
+-- The first documents that a cursor has left, at most so many, were taken off it; or there is no such open cursor, or memory
+-- was wanting, and nothing changed.
 abbrev pub IsNextBatch : NamespaceView → ℤ → ℕ → List CursorView → Result (Vec Bson Global × ℤ) Failure → List CursorView → Type 0
 IsNextBatch n id count old (Ok x) new = TakesFrom n id count old (map value_of x.0.items) x.1 new
 IsNextBatch n id count old (Err OutOfMemory) new = new ≡ old

@@ -41,6 +41,7 @@ end_text ReplyTooLarge = codes "end ReplyTooLarge\n"
 end_text OutOfMemory = codes "end OutOfMemory\n"
 end_text HandlerFailed = codes "end HandlerFailed\n"
 
+-- the text of a connection: its number, its entries, and how it ended
 abbrev pub connection_text : ℕ → List LogEntry → ServeEnd → List ℕ
 connection_text number entries end =
     codes "connection " ++ (decimal number ++ (codes "\n" ++ (flat_map entry_text entries ++ end_text end)))

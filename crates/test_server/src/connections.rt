@@ -1,7 +1,7 @@
 //! Serving one connection after another.
 
 ghost use Rattle.std.specs.Prelude.{◌≡◌, ◌≢◌, IfErr, OnOk, ℕ};
-ghost use Rattle.wire_peer.specs.{log_of};
+ghost use Rattle.wire_peer.specs.{seen};
 ghost use Rattle.test_server.specs.Serving.{ServesOne};
 
 use crate::store::Store;
@@ -33,22 +33,8 @@ fn serve_one<L: Link, W: Write>(
     out: &mut W,
 ) -> Result<ServeEnd, RunEnd>
     ensures { ServesOne number result
-        (record {
-          handler = logged.old.handler;
-          log = log_of logged.old.entries.items;
-          received = L.received link.old;
-          sent = L.sent link.old;
-          failures = L.failures link.old;
-          ends = L.ends link.old;
-        })
-        (record {
-          handler = logged.new.handler;
-          log = log_of logged.new.entries.items;
-          received = L.received link.new;
-          sent = L.sent link.new;
-          failures = L.failures link.new;
-          ends = L.ends link.new;
-        })
+        (seen L.received L.sent L.turns L.failures L.ends logged.old link.old)
+        (seen L.received L.sent L.turns L.failures L.ends logged.new link.new)
         (W.contents out.old) (W.contents out.new) }
 {
     let before = logged.entries().len();

@@ -6,6 +6,8 @@
 //!
 //! The exit status is 0 where as many connections were served as the command line says, 2 where the command line is at fault,
 //! 3 where listening, accepting a connection or writing the output failed, and 4 where memory ran out.
+//!
+//! Stands on bson_doc and wire_peer. Read first: `store`, then `commands`, and then `connections`.
 #![tactic(auto)]
 
 mod answer;

@@ -271,6 +271,11 @@ module _ {H : Type 0} (does : Does H) (stops : Stops H) (l : WorldLimits) where
   grows_run [] w n s = grows_same w.conns n.conns (ap (λ (z : World H). z.conns) s)
   grows_run (e ∷ es) w n s = grows_then w.conns s.0.conns n.conns (grew_event w s.0 e s.1.0 s.1.1).there (grows_run es s.0 n s.2)
 
+  -- the next number stays the number after the last
+  pub grew_run : (es : List Event) (w n : World H) → Run does stops l w es n → NextIs w → NextIs n
+  grew_run [] w n s next = rw s next
+  grew_run (e ∷ es) w n s next = grew_run es s.0 n s.2 ((grew_event w s.0 e s.1.0 s.1.1).next next)
+
   raw_step : (m n : Machine H) → machine.Step H does stops m n → (c : ℕ) → n.raw c ≡ m.raw c
   raw_step m n (machine.issue c' kind payload l e) c = ap (λ (z : Machine H). z.raw c) e
   raw_step m n (machine.arrive i x l at on f e) c = ap (λ (z : Machine H). z.raw c) e

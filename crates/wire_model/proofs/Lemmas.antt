@@ -3,6 +3,7 @@
 -- what holds of every run
 pub use Rattle.wire_model.proofs.Main.{headline, headline_alone, own_entries}
 pub use Rattle.wire_model.proofs.Ids.{ids_stay_apart}
+pub use Rattle.wire_model.proofs.Later.{goes_on_from_each}
 -- the answers of a log are contents of messages
 pub use Rattle.wire_model.proofs.Contents.{log_contents}
 -- connections by their numbers

@@ -42,5 +42,7 @@ pub mod Rooms
 pub mod Ids
 pub mod Wanting
 pub mod Runs
+pub mod Lasting
 pub mod Main
+pub mod Later
 pub mod Lemmas

@@ -17,7 +17,7 @@ use Rattle.wire_model.proofs.Replays.{run_empty, run_steps}
 use Rattle.wire_model.proofs.Runs.{followed_run}
 
 -- a message's length fits an int32
-short_limit : (l : WorldLimits) → AreGood l → l.limit < 2 ^ 31
+pub short_limit : (l : WorldLimits) → AreGood l → l.limit < 2 ^ 31
 short_limit l good = let most = good.limit_is.1 in omega arith
 
 module _ (H : Type 0) (does : Does H) (stops : Stops H) where
@@ -26,11 +26,11 @@ module _ (H : Type 0) (does : Does H) (stops : Stops H) where
   follows l first es w good run =
       followed_run H does stops l good (short_limit l good) (λ c. []) (λ c. []) es (opening l first) w (empty first (raws w)) refl (agrees_opening l first (raws w)) (λ c k at. sym (raws_at w c k at)) run
 
-  abbrev headline_of : (limit : ℕ) (t g : ℕ → List ℕ) (first : H) (w : World H) → limit < 2 ^ 31 → Follows H does stops limit t g (empty first (raws w)) w → Headline does stops first w
+  abbrev pub headline_of : (limit : ℕ) (t g : ℕ → List ℕ) (first : H) (w : World H) → limit < 2 ^ 31 → Follows H does stops limit t g (empty first (raws w)) w → Headline does stops first w
   headline_of limit t g first w short f = record {
     m = f.next;
     reached = f.steps;
-    shows = record { calls = sym f.agrees.calls; log = sym f.agrees.log };
+    shows = record { calls = sym f.agrees.calls; log = sym f.agrees.log; handler = sym f.agrees.handler };
     run = run_steps H does stops first (empty first (raws w)) f.next (run_empty H does stops first (raws w)) f.steps;
     whole = done_whole f.next f.agrees.ways.ok;
     one_call = one_call f.next f.agrees.ways.ok;

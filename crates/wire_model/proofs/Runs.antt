@@ -24,7 +24,7 @@ use Rattle.wire_model.proofs.Reaches.{steps_then}
 use Rattle.wire_model.proofs.Wanting.{followed_uncopied}
 
 module _ (H : Type 0) (does : Does H) (stops : Stops H) (l : WorldLimits) (good : AreGood l) (short : l.limit < 2 ^ 31) where
-  and_then : (t t' t'' g g' g'' : ℕ → List ℕ) (m : Machine H) (n o : World H) (first : Follows H does stops l.limit t g m n) → Follows H does stops l.limit t' g' first.next o → ((c : ℕ) → t'' c ≡ t' c) → ((c : ℕ) → g'' c ≡ g' c) → Follows H does stops l.limit t'' g'' m o
+  pub and_then : (t t' t'' g g' g'' : ℕ → List ℕ) (m : Machine H) (n o : World H) (first : Follows H does stops l.limit t g m n) → Follows H does stops l.limit t' g' first.next o → ((c : ℕ) → t'' c ≡ t' c) → ((c : ℕ) → g'' c ≡ g' c) → Follows H does stops l.limit t'' g'' m o
   and_then t t' t'' g g' g'' m n o first second e f = record {
     next = second.next;
     steps = steps_then H does stops m first.next second.next first.steps second.steps;
@@ -175,7 +175,7 @@ module _ (H : Type 0) (does : Does H) (stops : Stops H) (l : WorldLimits) (good 
     followed w n m e (Err refusals.OutOfMemory) next a raw (before, inl s) = not_made w n m e before s a
     followed w n m e (Err refusals.OutOfMemory) next a raw (before, inr s) = ran_out w n m e before s a
 
-  raws_before : (ks js : List Conn) (m : Machine H) → Grows ks js → RawsAre js m → RawsAre ks m
+  pub raws_before : (ks js : List Conn) (m : Machine H) → Grows ks js → RawsAre js m → RawsAre ks m
   raws_before ks js m grows raw c k at = let p = grows c k at in sym p.2 ∙ raw c p.0 p.1
 
   -- every list of events

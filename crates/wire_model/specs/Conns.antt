@@ -28,6 +28,7 @@ pub record Conn : Type 0 where
   pub up_cut : Bool
   pub down_cut : Bool
 
+-- The pool, the connections, the calls, the log and the handler.
 pub record World (H : Type 0) : Type 0 where
   pub pool : PoolSeen
   pub conns : List Conn
@@ -41,6 +42,7 @@ opening l h = record { pool = new_pool l.connections; conns = []; calls = []; lo
 
 -- ---- connections, numbered from 1
 
+-- the connection of a number
 abbrev pub conn_at : List Conn → ℕ → Option Conn
 conn_at ks zero = None
 conn_at ks (suc i) = slice_get ks i

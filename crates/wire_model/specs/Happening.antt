@@ -26,7 +26,8 @@ use Rattle.wire_model.specs.declared.reports.Report.TheVariants as reports
 use Rattle.wire_model.specs.Conns.{Conn, World, conn_at, new_conn, new_raw_conn, settled, with_conn}
 use Rattle.wire_model.specs.Cuts.{cleared_world, cut_down, cut_up, dropped, is_healthy, restarted_world}
 use Rattle.wire_model.specs.Moves.{Calls, GivesRaw, MovesDown, MovesUp, TakesNone, TakesRaw, TakesUncopied, joined}
-use Rattle.wire_model.specs.Refusing.{RefusesCall, connection_of, first_reason}
+use Rattle.wire_model.specs.Needing.{connection_of}
+use Rattle.wire_model.specs.Refusing.{RefusesCall, first_reason}
 
 abbrev pub with_pool : {H : Type 0} → World H → PoolSeen → World H
 with_pool w p = record w { pool = p }
@@ -179,12 +180,13 @@ IsRefused l old e (refusals.Call refusal) new = (new ≡ old) × (first_reason o
 IsRefused l old e refusals.OutOfMemory new = (first_reason old e ≡ None) × (((new ≡ old) × IsMaking old e) ⊎ RunsOut l old e new)
 IsRefused l old e refusal new = (new ≡ old) × (first_reason old e ≡ Some refusal)
 
--- an event happens, with its result
+-- An event happens in a world, with this result, and this is the world after it: the event does what it is for
+-- (`Succeeds`), or is refused (`IsRefused`).
 abbrev pub Happens : {H : Type 0} → Does H → Stops H → WorldLimits → World H → Event → Result Report WorldRefusal → World H → Type 0
 Happens does stops l old e (Ok report) new = (first_reason old e ≡ None) × Succeeds does stops l old e report new
 Happens does stops l old e (Err refusal) new = IsRefused l old e refusal new
 
--- event after event
+-- the events of a list happen one after the other, each with some result, from one world to another
 abbrev pub Run : {H : Type 0} → Does H → Stops H → WorldLimits → World H → List Event → World H → Type 0
 Run does stops l old [] new = new ≡ old
 Run {H} does stops l old (e ∷ es) new = (mid : World H) × ((r : Result Report WorldRefusal) × Happens does stops l old e r mid) × Run does stops l mid es new

@@ -117,11 +117,11 @@ pub record GivesOwn (limit c : ℕ) (taken given : List ℕ) (state : ServerStat
 abbrev pub OfEachRaw : {H : Type 0} → World H → (ℕ → Conn → Type 0) → Type 0
 OfEachRaw w P = (c : ℕ) (k : Conn) → conn_at w.conns c ≡ Some k → k.raw ≡ true → P c k
 
--- each has answered its own messages only
+-- each raw connection has answered its own messages only
 abbrev pub RawAnswerOwn : {H : Type 0} (does : Does H) (stops : Stops H) (l : WorldLimits) (first : H) (es : List Event) (w : World H) → Run does stops l (opening l first) es w → Machine H → Type 0
 RawAnswerOwn does stops l first es w run m = OfEachRaw w (λ c k. AnswersOwn l.limit c (taken does stops l c (opening l first) w es run) m.calls w.log)
 
--- each has given the replies to its own entries only; what it gave was taken away, or is its server's output
+-- each raw connection has given the replies to its own entries only; what it gave was taken away, or is its server's output
 abbrev pub RawGiveOwn : {H : Type 0} (does : Does H) (stops : Stops H) (l : WorldLimits) (first : H) (es : List Event) (w : World H) → Run does stops l (opening l first) es w → Machine H → Type 0
 RawGiveOwn does stops l first es w run m = OfEachRaw w (λ c k. GivesOwn l.limit c (taken does stops l c (opening l first) w es run)
     (given does stops l c (opening l first) w es run ++ k.server.output) k.server.state m.calls w.log)

@@ -11,58 +11,12 @@ use Rattle.wire_peer.specs.declared.server_state.AnswerRefusal.TheVariants as an
 use Rattle.wire_peer.specs.declared.server_state.ServerState.{ServerState}
 use Rattle.wire_peer.specs.declared.server_state.ServerState.TheVariants as servers
 use Rattle.wire_model.specs.declared.events.Event.{Event}
-use Rattle.wire_model.specs.declared.events.Event.TheVariants.{Open, Return, Call, Up, Down, Answer, CutUp, CutDown, Clear, Restart, RawOpen, Raw, RawTake}
+use Rattle.wire_model.specs.declared.events.Event.TheVariants.{Open, Call, Answer, RawOpen}
+use Rattle.wire_model.specs.declared.needs.Needs.{Needs}
 use Rattle.wire_model.specs.declared.refusals.WorldRefusal.{WorldRefusal}
 use Rattle.wire_model.specs.declared.refusals.WorldRefusal.TheVariants as refusals
 use Rattle.wire_model.specs.Conns.{Conn, World, conn_at}
-
--- the connection of an event, if it is of one
-abbrev pub connection_of : Event → Option ℕ
-connection_of Open = None
-connection_of (Return c) = Some c
-connection_of (Call c kind payload) = Some c
-connection_of (Up c n) = Some c
-connection_of (Down c n) = Some c
-connection_of (Answer c k) = Some c
-connection_of (CutUp c) = Some c
-connection_of (CutDown c) = Some c
-connection_of Clear = None
-connection_of Restart = None
-connection_of RawOpen = None
-connection_of (Raw c bytes) = Some c
-connection_of (RawTake c n) = Some c
-
--- an event of a client, which a raw connection hasn't
-abbrev pub wants_client : Event → Bool
-wants_client (Return c) = true
-wants_client (Call c kind payload) = true
-wants_client (Up c n) = true
-wants_client (Down c n) = true
-wants_client (CutDown c) = true
-wants_client e = false
-
--- an event of raw connections alone
-abbrev pub wants_raw : Event → Bool
-wants_raw (Raw c bytes) = true
-wants_raw (RawTake c n) = true
-wants_raw e = false
-
--- an event of connections that are lent
-abbrev pub wants_loan : Event → Bool
-wants_loan (Return c) = true
-wants_loan (Call c kind payload) = true
-wants_loan e = false
-
--- a way that the event needs is cut
-abbrev pub is_cut_for : Event → Conn → Bool
-is_cut_for (Call c kind payload) k = k.up_cut || k.down_cut
-is_cut_for (Up c n) k = k.up_cut
-is_cut_for (CutUp c) k = k.up_cut
-is_cut_for (Raw c bytes) k = k.up_cut
-is_cut_for (Down c n) k = k.down_cut
-is_cut_for (CutDown c) k = k.down_cut
-is_cut_for (RawTake c n) k = k.down_cut
-is_cut_for e k = false
+use Rattle.wire_model.specs.Needing.{needs_of}
 
 abbrev pub is_full : CheckOut → Bool
 is_full pools.Full = true
@@ -86,23 +40,27 @@ core_reason e k = None
 abbrev pub is_lent : ℕ → List Loan → Bool
 is_lent c lent = is_some (loan_of c lent)
 
--- the first check that an event of this connection fails
-abbrev pub reason_at : {H : Type 0} → World H → Event → ℕ → Option Conn → Option WorldRefusal
-reason_at w e c None = Some refusals.NoConnection
-reason_at w e c (Some k) =
-    if wants_client e && k.raw then Some refusals.Raw
-    else if wants_raw e && not k.raw then Some refusals.NotRaw
-    else if wants_loan e && not (is_lent c w.pool.lent) then Some refusals.NotLent
-    else if is_cut_for e k then Some refusals.Cut
+-- a way that must not be cut is
+abbrev pub is_cut_for : Needs → Conn → Bool
+is_cut_for needs k = (needs.up && k.up_cut) || (needs.down && k.down_cut)
+
+-- the first check that an event with these needs of its connection fails
+abbrev pub reason_at : {H : Type 0} → World H → Event → Needs → Option Conn → Option WorldRefusal
+reason_at w e needs None = Some refusals.NoConnection
+reason_at w e needs (Some k) =
+    if needs.client && k.raw then Some refusals.Raw
+    else if needs.raw && not k.raw then Some refusals.NotRaw
+    else if needs.loan && not (is_lent needs.connection w.pool.lent) then Some refusals.NotLent
+    else if is_cut_for needs k then Some refusals.Cut
     else core_reason e k
 
-abbrev pub reason_of : {H : Type 0} → World H → Event → Option ℕ → Option WorldRefusal
+abbrev pub reason_of : {H : Type 0} → World H → Event → Option Needs → Option WorldRefusal
 reason_of w e None = if is_full_for w e then Some refusals.Full else None
-reason_of w e (Some c) = reason_at w e c (conn_at w.conns c)
+reason_of w e (Some needs) = reason_at w e needs (conn_at w.conns needs.connection)
 
 -- the first check that the event fails, but for those of a client that is to call
 abbrev pub first_reason : {H : Type 0} → World H → Event → Option WorldRefusal
-first_reason w e = reason_of w e (connection_of e)
+first_reason w e = reason_of w e (needs_of e)
 
 -- the client refuses the call, for another cause than want of memory
 abbrev pub RefusesCall : {H : Type 0} → World H → Event → CallRefusal → Type 0

@@ -19,10 +19,11 @@ abbrev pub shown_calls : List Call → List Record
 shown_calls [] = []
 shown_calls (x ∷ xs) = if is_ours x.state then shown x ∷ shown_calls xs else shown_calls xs
 
--- the world's calls and its log are those of the machine
+-- the world's calls, its log and its handler are those of the machine
 pub record Shows {H : Type 0} (w : World H) (m : Machine H) : Type 0 where
   pub calls : w.calls ≡ shown_calls m.calls
   pub log : w.log ≡ m.log
+  pub handler : w.handler ≡ m.handler
 
 -- the raw connections of a world
 abbrev pub is_raw : Option Conn → Bool
@@ -39,7 +40,7 @@ IsStopped s = (s ≡ Closed ReplyTooLarge) ⊎ ((s ≡ Closed NoMemory) ⊎ (s �
 abbrev pub IsOpenOrStopped : ServerState → Type 0
 IsOpenOrStopped s = (s ≡ Open) ⊎ IsStopped s
 
--- on a connection that isn't cut the client is open, and so is the server, but where an answer closed it
+-- on a connection that isn't raw or cut the client is open, and so is the server, but where an answer closed it
 abbrev pub UncutIsOpen : {H : Type 0} → World H → Type 0
 UncutIsOpen w = (c : ℕ) (k : Conn) → conn_at w.conns c ≡ Some k → k.raw ≡ false → k.up_cut ≡ false → k.down_cut ≡ false
     → (k.client.state ≡ clients.Open) × IsOpenOrStopped k.server.state

@@ -3,15 +3,20 @@
 //! A world has a pool, connections, the calls that were made over them, and one handler with its log. `specs` says how each
 //! event changes it, and has the machine of calls and entries that a world shows. The laws say that every run shows a run of
 //! the machine, and what holds in each state of that.
+//!
+//! Stands on wire_peer and wire_pool. wire_world and wire_script stand on it. Read first: `events`, then
+//! `specs/Happening.antt` and `specs/Machines.antt`, and then `laws`.
 #![tactic(auto)]
 
 mod events;
 pub mod laws;
 mod limits;
+mod needs;
 mod refusals;
 mod reports;
 
 pub use events::Event;
 pub use limits::WorldLimits;
+pub use needs::Needs;
 pub use refusals::{SetupRefusal, WorldRefusal};
 pub use reports::Report;

@@ -1,8 +1,5 @@
 //! Why nothing happens in a world, and why none is made.
 
-ghost use Rattle.std.specs.Prelude.{◌≡◌};
-ghost use Rattle.wire_model.specs.Numbers.{refusal_number, setup_number};
-
 use wire_peer::{AnswerRefusal, CallRefusal};
 
 /// Why an event is refused. But for `OutOfMemory` nothing changes then.
@@ -29,25 +26,6 @@ pub enum WorldRefusal {
     NotRaw,
 }
 
-impl WorldRefusal {
-    /// Returns the number of the refusal, from 1 to 9.
-    pub fn number(self) -> u8
-        ensures { result ≡ refusal_number self }
-    {
-        match self {
-            WorldRefusal::NoConnection => 1,
-            WorldRefusal::Cut => 2,
-            WorldRefusal::NotLent => 3,
-            WorldRefusal::Full => 4,
-            WorldRefusal::Call(_) => 5,
-            WorldRefusal::Answer(_) => 6,
-            WorldRefusal::OutOfMemory => 7,
-            WorldRefusal::Raw => 8,
-            WorldRefusal::NotRaw => 9,
-        }
-    }
-}
-
 /// Why no world is made.
 #[derive(Clone, Copy, Debug, PartialEq, Eq)]
 pub enum SetupRefusal {
@@ -61,19 +39,4 @@ pub enum SetupRefusal {
     BadMax,
     /// Memory is wanting.
     OutOfMemory,
-}
-
-impl SetupRefusal {
-    /// Returns the number of the refusal, from 1 to 4, or `None` for want of memory.
-    pub fn number(self) -> Option<u8>
-        ensures { result ≡ setup_number self }
-    {
-        match self {
-            SetupRefusal::BadFirstId => Some(1),
-            SetupRefusal::BadWindow => Some(2),
-            SetupRefusal::BadLimit => Some(3),
-            SetupRefusal::BadMax => Some(4),
-            SetupRefusal::OutOfMemory => None,
-        }
-    }
 }

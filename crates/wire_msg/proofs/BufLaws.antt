@@ -38,10 +38,6 @@ copied_payload before body after b s e f (c, p) = (c, copied_parts before body a
 
 -- ---- a body alone
 
-pub none_repeated : (r : Option (Bor (List ℕ))) (found : Option (List ℕ)) → is_some r ≡ false → MatchOption r (found ≡ None) (λ name. found ≡ Some name.now) → found ≡ None
-none_repeated None found e m = m
-none_repeated (Some name) found e m = absurd cc
-
 pub alone_len : (t : Tree) (d : List ℕ) → Spells t d → message_len (body_alone t) ≡ length d + 21
 alone_len t d s = omega (arith, ap length s.parts, length-body t, length-append (body_section t) [])
 

@@ -21,6 +21,7 @@ pub mod AppendLaws
 pub mod BufLaws
 pub mod FaultOffsets
 pub mod FrontLaws
+pub mod ParseLaws
 pub mod SplitLaws
 pub mod ContentLaws
 pub mod ByteLaws

@@ -2,7 +2,6 @@
 use Rattle.std.proofs.Common.{◌≡◌, ◌≢◌, ℕ, ◌+◌, ◌-◌, ◌≤◌, true, false, List, [], ◌∷◌, ◌++◌, length, Option, Some, None, refl, sym, ap, ◌∙◌, arith, length-append, inl, inr}
 use Rattle.std.specs.Option.{option_or}
 use Rattle.std.specs.Prelude.{MatchOption, is_some}
-use Rattle.std.specs.Borrow.{Bor}
 use Rattle.std.specs.Str.{bytes_eq}
 use Rattle.std.proofs.lemmas.Bool.{cases_Bool}
 use Rattle.bson_elem.specs.Trees.{Tree, no_pairs, leaf_pair, inner_pair}
@@ -104,13 +103,13 @@ names_none first t last next e f n g =
     let offset : first_in_body t (20 + length (sequences_bytes first) + length (body_section t)) last ≡ None = ap (λ (k : ℕ). first_in_body t k last) (sym n) ∙ sym g in
     rw (e, ← f, offset) refl
 
-pub is_repeated : (r : Option (Bor (List ℕ))) (found : Option (List ℕ)) → MatchOption r (found ≡ None) (λ name. found ≡ Some name.now) → is_some r ≡ true → (name : List ℕ) × (found ≡ Some name)
-is_repeated None found m some = absurd cc
-is_repeated (Some name) found m some = (name.now, m)
+pub is_repeated : (found : Option (List ℕ)) → is_some found ≡ true → (name : List ℕ) × (found ≡ Some name)
+is_repeated None some = absurd cc
+is_repeated (Some name) some = (name, refl)
 
-pub not_repeated : (r : Option (Bor (List ℕ))) (found : Option (List ℕ)) → MatchOption r (found ≡ None) (λ name. found ≡ Some name.now) → is_some r ≡ false → found ≡ None
-not_repeated None found m some = m
-not_repeated (Some name) found m some = absurd cc
+pub not_repeated : (found : Option (List ℕ)) → is_some found ≡ false → found ≡ None
+not_repeated None none = refl
+not_repeated (Some name) none = absurd cc
 
 -- where there is no fault, each name stands once
 pub apart : (t : Tree) (p : ℕ) (qs : List Sequence) → first_in_body t p qs ≡ None → AreApart t qs

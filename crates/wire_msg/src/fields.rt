@@ -1,57 +1,71 @@
 //! The top-level names of a body, to look identifiers up in.
 
-ghost use Rattle.std.specs.Prelude.{◌≡◌, [], map, None, IfOk, IsSome, MatchOption};
-ghost use Rattle.std.specs.Map.Iter.{deref};
+ghost use Rattle.std.specs.Prelude.{◌≡◌, [], IfOk, is_some};
 ghost use Rattle.bson_elem.specs.{Spells, Tree};
-ghost use Rattle.bson_raw.specs.{document_bytes, first_repeated, names_of};
-ghost use Rattle.wire_msg.specs.Fields.{AreFields};
+ghost use Rattle.bson_raw.specs.{document_bytes, first_repeated};
+ghost use Rattle.wire_msg.specs.Fields.{AreFields, AreSorted};
 ghost use Rattle.wire_msg.specs.Messages.{is_field};
 
 use bson_raw::RawDocument;
-use indexmap::IndexSet;
 use std::alloc::{AllocError, Global};
 
-/// The top-level names of a body, looked up in its pairs or in a set.
-#[derive(Clone, Copy)]
-pub(crate) enum Fields<'a, 's> {
-    /// The body, whose pairs are gone through for each name.
-    Pairs(RawDocument<'a>),
-    /// The names.
-    Set(&'s IndexSet<&'a str>),
-}
-
-impl Fields<'_, '_> {
-    /// Returns true if `name` is one of the names.
-    pub(crate) fn contains(self, name: &str) -> bool
-        ensures { (t : Tree) → AreFields self.entry t → result ≡ is_field name.now t }
-    {
-        match self {
-            Fields::Pairs(body) => body.get(name).is_some(),
-            Fields::Set(names) => names.contains(name),
-        }
-    }
-}
-
-/// Returns the set of the top-level names of `body`, or `None` if one of them stands twice.
+/// Returns the top-level names of `body` in ascending order.
 ///
 /// # Errors
 ///
 /// Want of memory.
-pub(crate) fn unique_names<'a>(
-    alloc: Global,
-    body: RawDocument<'a>,
-) -> Result<Option<IndexSet<&'a str>>, AllocError>
-    ensures { (t : Tree) → Spells t (document_bytes body.entry) → IfOk result (λ found.
-        MatchOption found (IsSome (first_repeated [] t)) (λ names.
-        (first_repeated [] t ≡ None) × (map deref names.keys ≡ names_of t))) }
+fn sorted_names<'a>(alloc: Global, body: RawDocument<'a>) -> Result<Vec<&'a str>, AllocError>
+    ensures { (t : Tree) → Spells t (document_bytes body.entry)
+        → IfOk result (λ names. AreSorted names.items t) }
 {
-    let mut names = IndexSet::new(alloc);
+    let mut names = Vec::new(alloc);
     for (name, _) in body.iter() {
-        match names.insert(name) {
-            Ok(true) => {}
-            Ok(false) => return Ok(None),
-            Err(_) => return Err(AllocError),
+        names.push(name)?;
+    }
+    names.sort()?;
+    Ok(names)
+}
+
+/// The top-level names of a body, looked up in its pairs or in a sorted list.
+#[derive(Drop)]
+pub(crate) enum Fields<'a> {
+    /// The body, whose pairs are gone through for each name.
+    Pairs(RawDocument<'a>),
+    /// The names in ascending order.
+    Sorted(Vec<&'a str>),
+}
+
+impl<'a> Fields<'a> {
+    /// Returns the names of `body`: sorted where there is memory for that, else in its pairs.
+    pub(crate) fn of(memory: Option<Global>, body: RawDocument<'a>) -> Fields<'a>
+        ensures { (t : Tree) → Spells t (document_bytes body.entry) → AreFields result t }
+    {
+        let Some(alloc) = memory else {
+            return Fields::Pairs(body);
+        };
+        match sorted_names(alloc, body) {
+            Ok(names) => Fields::Sorted(names),
+            Err(_) => Fields::Pairs(body),
         }
     }
-    Ok(Some(names))
+
+    /// Returns true if one of the names stands twice.
+    pub(crate) fn has_repeated(&self) -> bool
+        ensures { (t : Tree) → AreFields self.now t → result ≡ is_some (first_repeated [] t) }
+    {
+        match self {
+            Fields::Pairs(body) => body.first_repeated_name().is_some(),
+            Fields::Sorted(names) => !names.is_sorted_by(|a, b| a < b),
+        }
+    }
+
+    /// Returns true if `name` is one of the names.
+    pub(crate) fn contains(&self, name: &str) -> bool
+        ensures { (t : Tree) → AreFields self.now t → result ≡ is_field name.now t }
+    {
+        match self {
+            Fields::Pairs(body) => body.get(name).is_some(),
+            Fields::Sorted(names) => names.binary_search(&name).is_ok(),
+        }
+    }
 }

@@ -8,7 +8,7 @@ ghost use Rattle.wire_msg.specs.Front.{HasWhole, IsFrame, IsFront};
 
 use crate::fault::MsgFault;
 use crate::header::MsgHeader;
-use crate::msg::{RawMsg, check_parts, check_parts_with};
+use crate::msg::{RawMsg, check_parts};
 use std::alloc::Global;
 
 /// What stands in front of bytes, as `RawMsg::front` tells it.
@@ -58,22 +58,13 @@ fn read_frame(bytes: &[u8], limit: u32) -> Frame<'_>
 }
 
 impl<'a> RawMsg<'a> {
-    /// Returns the message of at most `limit` bytes that begins `bytes`, with the bytes behind it;
-    /// `Open` where `bytes` end before that message does; or else the first fault and its offset.
-    ///
-    /// The header is enough to tell its own faults. All other faults are told once as many bytes
-    /// are there as the header announces. The faults are those that `RawMsg::parse` tells of the
-    /// announced bytes.
-    pub fn front(bytes: &'a [u8], limit: u32) -> MsgFront<'a>
+    /// Tells what `front` does. Names are looked up as `Fields::of` tells.
+    fn read_front(memory: Option<Global>, bytes: &'a [u8], limit: u32) -> MsgFront<'a>
         requires { limit ≤ 48_000_000 }
-        ensures front { IsFront limit bytes.now result }
-        ensures whole { (m : Message) (rest : List ℕ) (w : IsWhole limit bytes.now m rest)
-            → HasWhole w.front rest result }
-        ensures too_few { IsOpen limit bytes.now → result ≡ MsgFront.Open }
-        ensures bad { (f : MsgFault) → IsBad limit bytes.now f → result ≡ MsgFront.Bad f }
+        ensures { IsFront limit bytes.now result }
     {
         match read_frame(bytes, limit) {
-            Frame::Whole(message, rest) => match check_parts(message) {
+            Frame::Whole(message, rest) => match check_parts(memory, message) {
                 Ok(()) => MsgFront::Whole {
                     message: RawMsg::from_spelled(message),
                     rest,
@@ -85,8 +76,25 @@ impl<'a> RawMsg<'a> {
         }
     }
 
-    /// Like `front`, but looks names up in a set, so that a body of many names is read in linear
-    /// time, and goes on without one where memory is refused.
+    /// Returns the message of at most `limit` bytes that begins `bytes`, with the bytes behind it;
+    /// `Open` where `bytes` end before that message does; or else the first fault and its offset.
+    ///
+    /// The header is enough to tell its own faults. All other faults are told once as many bytes
+    /// are there as the header announces. The faults are those that `RawMsg::parse` tells of the
+    /// announced bytes, in as much time and without memory.
+    pub fn front(bytes: &'a [u8], limit: u32) -> MsgFront<'a>
+        requires { limit ≤ 48_000_000 }
+        ensures front { IsFront limit bytes.now result }
+        ensures whole { (m : Message) (rest : List ℕ) (w : IsWhole limit bytes.now m rest)
+            → HasWhole w.front rest result }
+        ensures too_few { IsOpen limit bytes.now → result ≡ MsgFront.Open }
+        ensures bad { (f : MsgFault) → IsBad limit bytes.now f → result ≡ MsgFront.Bad f }
+    {
+        RawMsg::read_front(None, bytes, limit)
+    }
+
+    /// Returns what `front` does, but sorts the body's names as `RawMsg::parse_with` does, in the
+    /// time that it takes, and compares them as `front` does where memory is refused.
     pub fn front_with(alloc: Global, bytes: &'a [u8], limit: u32) -> MsgFront<'a>
         requires { limit ≤ 48_000_000 }
         ensures front { IsFront limit bytes.now result }
@@ -95,16 +103,6 @@ impl<'a> RawMsg<'a> {
         ensures too_few { IsOpen limit bytes.now → result ≡ MsgFront.Open }
         ensures bad { (f : MsgFault) → IsBad limit bytes.now f → result ≡ MsgFront.Bad f }
     {
-        match read_frame(bytes, limit) {
-            Frame::Whole(message, rest) => match check_parts_with(alloc, message) {
-                Ok(()) => MsgFront::Whole {
-                    message: RawMsg::from_spelled(message),
-                    rest,
-                },
-                Err(fault) => MsgFront::Bad(fault),
-            },
-            Frame::Open => MsgFront::Open,
-            Frame::Bad(fault) => MsgFront::Bad(fault),
-        }
+        RawMsg::read_front(Some(alloc), bytes, limit)
     }
 }

@@ -4,13 +4,16 @@
 //! and any number of document sequences. `RawMsg::parse` runs through every check, and returns the
 //! first fault and its offset if there is one. From then on the type carries the fact that its
 //! bytes are a message, so a walk over it has no errors. Its `Payload` is borrowed from the same
-//! bytes. Nothing of this takes memory. `RawMsg::parse_with` takes some, to look names up in a set,
-//! and returns the same. `PayloadBuf` is a payload in bytes of its own, to which document sequences
+//! bytes. Nothing of this takes memory. `RawMsg::parse_with` takes some, to sort the names of the body,
+//! so that no names make it slow, and returns the same. `PayloadBuf` is a payload in bytes of its own, to which document sequences
 //! and their documents are appended, and `write_msg` appends the canonical spelling of a message to
 //! bytes.
 //!
 //! Checksums aren't verified: a message with one is refused by a cause of its own. Other opcodes
 //! and compression are left out.
+//!
+//! Stands on bson_raw. wire_stream, wire_peer and lughemra stand on it. Read first:
+//! `specs/Spelling.antt`, and then `msg` and `front`.
 #![tactic(auto)]
 
 mod append;

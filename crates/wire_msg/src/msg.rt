@@ -13,7 +13,7 @@ ghost use Rattle.wire_msg.specs.Faults.{FaultMsg, IsFramedMsg, PartsFault};
 use crate::fault::{MsgCause, MsgFault};
 use crate::flags::MsgFlags;
 use crate::header::{MAX_MESSAGE_LEN, MsgHeader};
-use crate::names::{check_names, check_names_with};
+use crate::names::check_names;
 use crate::payloads::Payload;
 use crate::sections::{SECTIONS, split_sections};
 use crate::sequence::{SEQUENCE, fault_at};
@@ -58,48 +58,26 @@ fn split_message(bytes: &[u8]) -> Result<(usize, RawDocument<'_>, usize), MsgFau
 }
 
 /// Checks the flags and the sections of bytes whose header is good and announces as many bytes.
-pub(crate) fn check_parts(bytes: &[u8]) -> Result<(), MsgFault>
+/// Names are looked up as `Fields::of` tells.
+pub(crate) fn check_parts(memory: Option<Global>, bytes: &[u8]) -> Result<(), MsgFault>
     requires { length bytes.now < 2 ^ 31 }
     ensures { MatchResult result
         (λ _. (limit : ℕ) → IsFramedMsg limit bytes.now → IsMessage limit bytes.now)
         (λ f. PartsFault bytes.now f) }
 {
     let (at, body, next) = split_message(bytes)?;
-    check_names(&bytes[SECTIONS..at], body, &bytes[next..])
+    check_names(memory, &bytes[SECTIONS..at], body, &bytes[next..])
 }
 
-/// Like `check_parts`, but looks names up in a set, and goes on without one where memory is
-/// refused.
-pub(crate) fn check_parts_with(alloc: Global, bytes: &[u8]) -> Result<(), MsgFault>
-    requires { length bytes.now < 2 ^ 31 }
-    ensures { MatchResult result
-        (λ _. (limit : ℕ) → IsFramedMsg limit bytes.now → IsMessage limit bytes.now)
-        (λ f. PartsFault bytes.now f) }
-{
-    let (at, body, next) = split_message(bytes)?;
-    check_names_with(alloc, &bytes[SECTIONS..at], body, &bytes[next..])
-}
-
-/// Checks a whole message.
-fn check_message(bytes: &[u8], limit: u32) -> Result<(), MsgFault>
+/// Checks a whole message. Names are looked up as `Fields::of` tells.
+fn check_message(memory: Option<Global>, bytes: &[u8], limit: u32) -> Result<(), MsgFault>
     requires { limit ≤ MAX_MESSAGE_LEN }
     ensures { MatchResult result
         (λ _. IsMessage limit bytes.now)
         (λ f. FaultMsg bytes.now limit f) }
 {
     check_framed(bytes, limit)?;
-    check_parts(bytes)
-}
-
-/// Checks a whole message, like `check_parts_with`.
-fn check_message_with(alloc: Global, bytes: &[u8], limit: u32) -> Result<(), MsgFault>
-    requires { limit ≤ MAX_MESSAGE_LEN }
-    ensures { MatchResult result
-        (λ _. IsMessage limit bytes.now)
-        (λ f. FaultMsg bytes.now limit f) }
-{
-    check_framed(bytes, limit)?;
-    check_parts_with(alloc, bytes)
+    check_parts(memory, bytes)
 }
 
 /// Returns the offset of the body's kind byte, in a message.
@@ -150,8 +128,20 @@ impl<'a> RawMsg<'a> {
     ghost use Rattle.wire_msg.specs.Carrying.{Carries};
     ghost use Rattle.wire_msg.specs.RawMsg.{msg_bytes};
 
-    /// Reads `bytes` as one message of at most `limit` bytes. It takes no memory; the time to find
-    /// repeated names grows as the square of their number.
+    /// Reads `bytes` as `parse` does. Names are looked up as `Fields::of` tells.
+    fn read(memory: Option<Global>, bytes: &'a [u8], limit: u32) -> Result<RawMsg<'a>, MsgFault>
+        requires { limit ≤ MAX_MESSAGE_LEN }
+        ensures { MatchResult result
+            (λ m. (msg_bytes m ≡ bytes.now) × IsMessage limit bytes.now)
+            (λ f. FaultMsg bytes.now limit f) }
+    {
+        check_message(memory, bytes, limit)?;
+        Ok(RawMsg { bytes })
+    }
+
+    /// Reads `bytes` as one message of at most `limit` bytes. It takes no memory. The body's names
+    /// are compared in pairs, and each identifier with all of them, so the time grows as the square
+    /// of the length: bytes that anyone may send are better read by `parse_with`.
     ///
     /// # Errors
     ///
@@ -165,15 +155,12 @@ impl<'a> RawMsg<'a> {
         ensures exact { (f : MsgFault) → FaultMsg bytes.now limit f → IsErrOf result f }
         ensures inside { IfErr result (λ f. f.at ≤ length bytes.now) }
     {
-        match check_message(bytes, limit) {
-            Ok(()) => Ok(RawMsg { bytes }),
-            Err(fault) => Err(fault),
-        }
+        RawMsg::read(None, bytes, limit)
     }
 
-    /// Reads `bytes` as `parse` does, but looks names up in a set, which takes memory, so that a
-    /// body of many names takes no longer than its bytes. Where memory is refused it goes on as
-    /// `parse` does.
+    /// Reads `bytes` as `parse` does, but sorts the body's names, which takes memory. Whatever the
+    /// names, the time grows as the length times its logarithm. Where memory is refused, names are
+    /// compared as `parse` compares them, in the time that it takes.
     ///
     /// # Errors
     ///
@@ -187,10 +174,7 @@ impl<'a> RawMsg<'a> {
         ensures exact { (f : MsgFault) → FaultMsg bytes.now limit f → IsErrOf result f }
         ensures inside { IfErr result (λ f. f.at ≤ length bytes.now) }
     {
-        match check_message_with(alloc, bytes, limit) {
-            Ok(()) => Ok(RawMsg { bytes }),
-            Err(fault) => Err(fault),
-        }
+        RawMsg::read(Some(alloc), bytes, limit)
     }
 
     /// Makes the message of bytes that are known to spell one.

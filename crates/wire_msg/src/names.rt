@@ -11,7 +11,7 @@ ghost use Rattle.wire_msg.specs.Faults.{first_in_body, names_fault};
 ghost use Rattle.wire_msg.specs.Checks.{HasSequences};
 
 use crate::fault::{MsgCause, MsgFault};
-use crate::fields::{Fields, unique_names};
+use crate::fields::Fields;
 use crate::sections::SECTIONS;
 use crate::sequence::fault_at;
 use crate::sequence_iter::split_sequence;
@@ -20,10 +20,10 @@ use std::alloc::Global;
 
 /// Returns the offset of the first of `sequences` whose identifier is one of `fields`. The first
 /// of them stands at offset `start`.
-fn offset_in_body(fields: Fields<'_, '_>, sequences: &[u8], start: usize) -> Option<usize>
+fn offset_in_body(fields: &Fields<'_>, sequences: &[u8], start: usize) -> Option<usize>
     requires known { ∥ HasSequences sequences.now ∥₁ }
     requires room { start + length sequences.now < 2 ^ 64 }
-    ensures { (t : Tree) (qs : List Sequence) → AreFields fields.entry t
+    ensures { (t : Tree) (qs : List Sequence) → AreFields fields.now t
         → AreSequences qs → sequences.now ≡ sequences_bytes qs
         → result ≡ first_in_body t start qs }
 {
@@ -41,7 +41,7 @@ fn offset_in_body(fields: Fields<'_, '_>, sequences: &[u8], start: usize) -> Opt
 /// Checks that no identifier of the sequences `before` and `after` the body is one of `fields`, of
 /// which each stands once.
 fn check_identifiers(
-    fields: Fields<'_, '_>,
+    fields: &Fields<'_>,
     before: &[u8],
     body: RawDocument<'_>,
     after: &[u8],
@@ -51,7 +51,7 @@ fn check_identifiers(
     requires room { length before.now + length after.now < 2 ^ 32 }
     ensures { (first : List Sequence) (t : Tree) (last : List Sequence)
         → AreSequences first → before.now ≡ sequences_bytes first
-        → Spells t (document_bytes body.entry) → AreFields fields.entry t
+        → Spells t (document_bytes body.entry) → AreFields fields.now t
         → AreSequences last → after.now ≡ sequences_bytes last
         → first_repeated [] t ≡ None
         → MatchResult result
@@ -68,9 +68,9 @@ fn check_identifiers(
     }
 }
 
-/// Checks the names of a message whose sections are known. The search goes through the body's
-/// names for each of them, and takes no memory.
+/// Checks the names of a message whose sections are known, looked up as `Fields::of` tells.
 pub(crate) fn check_names(
+    memory: Option<Global>,
     before: &[u8],
     body: RawDocument<'_>,
     after: &[u8],
@@ -86,34 +86,9 @@ pub(crate) fn check_names(
         (λ _. names_fault first t last ≡ None)
         (λ f. names_fault first t last ≡ Some f) }
 {
-    if body.first_repeated_name().is_some() {
+    let fields = Fields::of(memory, body);
+    if fields.has_repeated() {
         return Err(fault_at(SECTIONS + before.len(), MsgCause::RepeatedField));
     }
-    check_identifiers(Fields::Pairs(body), before, body, after)
-}
-
-/// Like `check_names`, but looks names up in a set, and goes on without one where memory is
-/// refused.
-pub(crate) fn check_names_with(
-    alloc: Global,
-    before: &[u8],
-    body: RawDocument<'_>,
-    after: &[u8],
-) -> Result<(), MsgFault>
-    requires first { ∥ HasSequences before.now ∥₁ }
-    requires last { ∥ HasSequences after.now ∥₁ }
-    requires room { length before.now + length after.now < 2 ^ 32 }
-    ensures { (first : List Sequence) (t : Tree) (last : List Sequence)
-        → AreSequences first → before.now ≡ sequences_bytes first
-        → Spells t (document_bytes body.entry)
-        → AreSequences last → after.now ≡ sequences_bytes last
-        → MatchResult result
-        (λ _. names_fault first t last ≡ None)
-        (λ f. names_fault first t last ≡ Some f) }
-{
-    match unique_names(alloc, body) {
-        Ok(Some(names)) => check_identifiers(Fields::Set(&names), before, body, after),
-        Ok(None) => Err(fault_at(SECTIONS + before.len(), MsgCause::RepeatedField)),
-        Err(_) => check_names(before, body, after),
-    }
+    check_identifiers(&fields, before, body, after)
 }

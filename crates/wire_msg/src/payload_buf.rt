@@ -9,6 +9,7 @@ ghost use Rattle.wire_msg.specs.Payload.{AreParts, IsPayload};
 ghost use Rattle.wire_msg.specs.Known.{IsLastOffset};
 
 use crate::append::{append_document, append_sequence};
+use crate::fields::Fields;
 use crate::payloads::Payload;
 use crate::refusal::MsgRefusal;
 use crate::sequence_iter::last_offset;
@@ -42,14 +43,15 @@ impl PayloadBuf {
     /// # Errors
     ///
     /// `RepeatedField` if a top-level name of the body stands twice; else `TooLarge` if its message
-    /// would have more than 2,147,483,647 bytes; else `OutOfMemory`.
+    /// would have more than 2,147,483,647 bytes; else `OutOfMemory`. Names are looked up as
+    /// `RawMsg::parse_with` looks them up.
     pub fn new(alloc: Global, body: RawDocument<'_>) -> Result<PayloadBuf, MsgRefusal>
         ensures made { (t : Tree) → Spells t (document_bytes body.entry)
             → IfOk result (λ b. BufCarries b (body_alone t)) }
         ensures refused { (t : Tree) → Spells t (document_bytes body.entry)
             → IfErr result (λ e. IsBodyRefusal t e) }
     {
-        if body.first_repeated_name().is_some() {
+        if Fields::of(Some(alloc), body).has_repeated() {
             return Err(MsgRefusal::RepeatedField);
         }
         let bytes = body.as_bytes();

@@ -1,7 +1,7 @@
 //! Why a message or a payload is refused.
 
 ghost use Rattle.std.specs.Prelude.{◌≡◌};
-ghost use Rattle.wire_msg.specs.Refusals.{refusal_number, refusal_text};
+ghost use Rattle.wire_msg.specs.Refusals.{refusal_text};
 ghost use Rattle.wire_msg.specs.declared.refusal.MsgRefusal.TheVariants.{OutOfMemory};
 
 use std::alloc::{AllocError, AllocFailed};
@@ -25,20 +25,6 @@ pub enum MsgRefusal {
 }
 
 impl MsgRefusal {
-    /// Returns the number of the refusal, from 1 to 5, or `None` for want of memory.
-    pub fn number(self) -> Option<u8>
-        ensures { result ≡ refusal_number self }
-    {
-        match self {
-            MsgRefusal::TooLarge => Some(1),
-            MsgRefusal::RepeatedField => Some(2),
-            MsgRefusal::SequenceInBody => Some(3),
-            MsgRefusal::ZeroInName => Some(4),
-            MsgRefusal::NoSequence => Some(5),
-            MsgRefusal::OutOfMemory => None,
-        }
-    }
-
     /// Returns what the refusal displays as.
     fn text(self) -> &'static str
         ensures { result.now ≡ refusal_text self }

@@ -5,6 +5,7 @@ pub mod LogLaws
 pub mod Lemmas
 pub mod SplitFronts
 pub mod Comings
+pub mod TurnLaws
 pub mod Serves
 pub mod OneAnswer
 pub mod ServerLaws

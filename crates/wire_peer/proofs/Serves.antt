@@ -4,21 +4,23 @@ use Rattle.std.specs.Io.KnownBytes.{Appends, Keeps}
 use Rattle.std.proofs.KnownBytes.{Appends-nil, Appends-trans, Appends-kept}
 use Rattle.wire_msg.specs.{AreSpelled, Message, SpellsMsg}
 use Rattle.wire_msg.proofs.Lemmas.{bad_ends, bad_longer, open_ends, spelled-append, spelled_alone}
-use Rattle.wire_stream.specs.{Rose}
+use Rattle.wire_stream.specs.{AddsTurns, Rose, Turn}
+use Rattle.wire_stream.proofs.Lemmas.{AddsTurns-nil, AddsTurns-trans}
 use Rattle.wire_peer.specs.Chains.{written}
 use Rattle.wire_peer.specs.Logs.{Does, LogEntry, LogStep, RunOf, Stops}
 use Rattle.wire_peer.specs.declared.serving.ServeEnd.{ServeEnd}
 use Rattle.wire_peer.specs.declared.serving.ServeEnd.TheVariants as end
-use Rattle.wire_peer.specs.Coming.{Came, HasGoodHeader, Worked}
+use Rattle.wire_peer.specs.Coming.{AreBetween, Came, HasGoodHeader, Worked}
 use Rattle.wire_peer.specs.Requests.{asked_by}
-use Rattle.wire_peer.specs.Serving.{AllSent, AreAnswered, AreOf, EndsAs, LastSent, Seen, Served, WantedMemory, id_behind, last_id, replies_to, requests_of, serve_out}
+use Rattle.wire_peer.specs.Serving.{AllSent, AreAnswered, AreInTurn, AreOf, EndsAs, LastSent, Seen, Served, WantedMemory, id_behind, last_id, replies_to, requests_of, serve_out}
 use Rattle.wire_peer.specs.Answering.{AnswersAs, GotEntry}
 use Rattle.wire_peer.proofs.LogLaws.{run_push}
 use Rattle.wire_peer.proofs.Comings.{begun_open, whole_header}
+use Rattle.wire_peer.proofs.TurnLaws.{between_in_turn, in_turn_append, in_turn_more}
 use Rattle.wire_peer.proofs.SplitFronts.{first_of_split}
 
 rose_from : (o a f : ℕ) → a ≡ o → Rose a f → Rose o f
-rose_from o a f e r = rw (sym e) r
+rose_from o a f e r = subst (λ n. Rose n f) e r
 
 of_push : (c : ℕ) (es : List LogEntry) (e : LogEntry) → AreOf c es → e.connection ≡ c → AreOf c (es ++ e ∷ [])
 of_push c [] e a is = (is, tt)
@@ -69,6 +71,7 @@ module _ {H : Type 0} (does : Does H) (stops : Stops H) where
     pub next : id ≡ last_id 1 ms made
     pub sent : gave ≡ serve_out 1 ms made
     pub answered : AreAnswered made
+    pub turns : (ts : List Turn) × AddsTurns old.turns new.turns ts × AreInTurn limit old.received old.sent ms made ts
 
   pub progress_start : (c limit : ℕ) (old : Seen H) → Progress c limit old old 0 1 []
   progress_start c limit old = record {
@@ -86,12 +89,14 @@ module _ {H : Type 0} (does : Does H) (stops : Stops H) where
     next = refl;
     sent = refl;
     answered = tt;
+    turns = ([], AddsTurns-nil old.turns, tt);
   }
 
   -- more bytes came
-  pub progress_came : (c limit : ℕ) (old a b : Seen H) (k id : ℕ) (held held' more : List ℕ) → Progress c limit old a k id held
-      → Appends a.received b.received more → held' ≡ held ++ more → Keeps a.sent b.sent → b.log ≡ a.log → b.handler ≡ a.handler → Progress c limit old b k id held'
-  progress_came c limit old a b k id held held' more p r e keeps log handler = record {
+  pub progress_came : (c limit n : ℕ) (old a b : Seen H) (k id : ℕ) (held held' more : List ℕ) → Progress c limit old a k id held
+      → Appends a.received b.received more → held' ≡ held ++ more → Keeps a.sent b.sent → n ≡ limit
+      → ((ts : List Turn) × AddsTurns a.turns b.turns ts × AreBetween n a.received a.sent held ts) → b.log ≡ a.log → b.handler ≡ a.handler → Progress c limit old b k id held'
+  progress_came c limit n old a b k id held held' more p r e keeps same turns log handler = record {
     ms = p.ms;
     made = p.made;
     joined = p.joined;
@@ -106,7 +111,25 @@ module _ {H : Type 0} (does : Does H) (stops : Stops H) where
     next = p.next;
     sent = p.sent;
     answered = p.answered;
+    turns = (
+      p.turns.0 ++ turns.0,
+      AddsTurns-trans old.turns a.turns b.turns p.turns.0 turns.0 p.turns.1 turns.1,
+      in_turn_append limit old.received old.sent p.ms p.made p.turns.0 turns.0 p.turns.2
+          (between_in_turn limit old.received a.received old.sent a.sent p.ms p.made p.joined held p.gave turns.0 p.received p.put_out p.spelled (record { sent = p.sent; answered = p.answered })
+          (subst (λ (x : ℕ). AreBetween x a.received a.sent held turns.0) same turns.2)),
+    );
   }
+
+  -- no turn came
+  turns_stay : (limit : ℕ) (old a b : Seen H) (ms : List Message) (made : List LogEntry) → ((ts : List Turn) × AddsTurns old.turns a.turns ts × AreInTurn limit old.received old.sent ms made ts) → AddsTurns a.turns b.turns []
+      → (ts : List Turn) × AddsTurns old.turns b.turns ts × AreInTurn limit old.received old.sent ms made ts
+  turns_stay limit old a b ms made t none =
+      (t.0, subst (AddsTurns old.turns b.turns) (append-nil t.0) (AddsTurns-trans old.turns a.turns b.turns t.0 [] t.1 none), t.2)
+
+  turns_more : (limit : ℕ) (old a b : Seen H) (ms : List Message) (made : List LogEntry) (m : Message) (e : LogEntry) → ((ts : List Turn) × AddsTurns old.turns a.turns ts × AreInTurn limit old.received old.sent ms made ts) → AddsTurns a.turns b.turns []
+      → (ts : List Turn) × AddsTurns old.turns b.turns ts × AreInTurn limit old.received old.sent (ms ++ m ∷ []) (made ++ e ∷ []) ts
+  turns_more limit old a b ms made m e t none =
+      let u = turns_stay limit old a b ms made t none in (u.0, u.1, in_turn_more limit old.received old.sent ms made m e u.0 u.2)
 
   -- the bytes of messages, and of one more
   received_one : (old new : _) (joined front piece : List ℕ) → Appends old new (joined ++ (front ++ piece)) → Appends old new ((joined ++ front) ++ piece)
@@ -114,8 +137,8 @@ module _ {H : Type 0} (does : Does H) (stops : Stops H) where
 
   -- a message was answered, and all its replies were sent
   pub progress_sent : (c limit : ℕ) (old a b : Seen H) (k id id' : ℕ) (m : Message) (front piece : List ℕ) → Progress c limit old a k id (front ++ piece)
-      → SpellsMsg m front → length front ≤ limit → Keeps a.received b.received → AnswersAs does stops c limit m (Ok tt) id id' a b → Progress c limit old b (k + 1) id' piece
-  progress_sent c limit old a b k id id' m front piece p spells within keeps x =
+      → SpellsMsg m front → length front ≤ limit → Keeps a.received b.received → AddsTurns a.turns b.turns [] → AnswersAs does stops c limit m (Ok tt) id id' a b → Progress c limit old b (k + 1) id' piece
+  progress_sent c limit old a b k id id' m front piece p spells within keeps none x =
       let g = x.1 in
       record {
         ms = p.ms ++ m ∷ [];
@@ -133,6 +156,7 @@ module _ {H : Type 0} (does : Does H) (stops : Stops H) where
         sent = ap (λ q. q ++ written (replies_to id m g.entry.answers)) p.sent ∙ ap (λ q. serve_out 1 p.ms p.made ++ written (replies_to q m g.entry.answers)) p.next
             ∙ sym (out_push old.handler a.handler 1 p.ms p.made m g.entry p.run);
         answered = answered_push p.made g.entry p.answered x.2;
+        turns = turns_more limit old a b p.ms p.made m g.entry p.turns none;
       }
 
   -- ---- the ends between two messages
@@ -157,6 +181,7 @@ module _ {H : Type 0} (does : Does H) (stops : Stops H) where
     run = p.run;
     connected = p.connected;
     within = (let q = p.counted in omega arith);
+    in_turn = p.turns;
     ends = ends;
   }
 
@@ -199,11 +224,11 @@ module _ {H : Type 0} (does : Does H) (stops : Stops H) where
       let bad = bad_longer limit held piece f came.0 in
       let count : length p.made < budget = (let n = p.counted in omega arith) in
       served_by c limit budget (end.Fault f) old new k id (held ++ piece) p (omega arith)
-      (w ∙ works, count, all_sent c limit old new k id (held ++ piece) p, bad_ends limit p.ms p.joined (held ++ piece) f came.1 p.spelled bad, bad)
+      (w ∙ works, came.2 ∙ told, count, all_sent c limit old new k id (held ++ piece) p, bad_ends limit p.ms p.joined (held ++ piece) f came.1 p.spelled bad, bad)
   ends_coming c limit budget end.Link old new k id held piece failures ends p lt works told came w =
       let count : length p.made < budget = (let n = p.counted in omega arith) in
       served_by c limit budget end.Link old new k id (held ++ piece) p (omega arith)
-      (rose_from old.failures failures new.failures works w, p.answered, inl (count, all_sent c limit old new k id (held ++ piece) p))
+      (rose_from old.failures failures new.failures works w, came ∙ told, p.answered, inl (count, all_sent c limit old new k id (held ++ piece) p))
   ends_coming c limit budget end.OutOfMemory old new k id held piece failures ends p lt works told came w =
       ends_memory c limit budget old new k id (held ++ piece) p lt (w ∙ works) (came.1 ∙ told) came.0
   ends_coming c limit budget end.Budget old new k id held piece failures ends p lt works told came w = absurd came
@@ -230,10 +255,10 @@ module _ {H : Type 0} (does : Does H) (stops : Stops H) where
   }
 
   served_with : (c limit budget : ℕ) (e : ServeEnd) (old a b : Seen H) (k id : ℕ) (m : Message) (front piece part : List ℕ) → (p : Progress c limit old a k id (front ++ piece))
-      → SpellsMsg m front → length front ≤ limit → Keeps a.received b.received → k < budget → (g : GotEntry does stops c m a b) → Appends a.sent b.sent part
+      → SpellsMsg m front → length front ≤ limit → Keeps a.received b.received → AddsTurns a.turns b.turns [] → k < budget → (g : GotEntry does stops c m a b) → Appends a.sent b.sent part
       → EndsAs does stops limit budget e old b (p.ms ++ m ∷ []) (p.made ++ g.entry ∷ []) ((p.joined ++ front) ++ piece) (p.gave ++ part) piece
       → Served does stops c limit budget e old b
-  served_with c limit budget e old a b k id m front piece part p spells within keeps lt g sent ends =
+  served_with c limit budget e old a b k id m front piece part p spells within keeps none lt g sent ends =
       let spelled = spelled-append limit p.ms (m ∷ []) p.joined front p.spelled (spelled_alone limit m front spells within) in
       record {
         ms = p.ms ++ m ∷ [];
@@ -249,32 +274,34 @@ module _ {H : Type 0} (does : Does H) (stops : Stops H) where
         run = requests_run old.handler a.handler b.handler p.ms p.made m g.entry p.run g.payload g.step;
         connected = of_push c p.made g.entry p.connected g.connected;
         within = (let q = p.counted in let l = length-append p.made (g.entry ∷ []) in omega arith);
+        in_turn = turns_more limit old a b p.ms p.made m g.entry p.turns none;
         ends = ends;
       }
 
   ends_by_answer : (c limit budget : ℕ) (e : ServeEnd) (old a b : Seen H) (k id id' : ℕ) (m : Message) (front piece : List ℕ) → Progress c limit old a k id (front ++ piece)
-      → SpellsMsg m front → length front ≤ limit → Keeps a.received b.received → k < budget → a.failures ≡ old.failures → b.ends ≡ old.ends
+      → SpellsMsg m front → length front ≤ limit → Keeps a.received b.received → AddsTurns a.turns b.turns [] → k < budget → a.failures ≡ old.failures → b.ends ≡ old.ends
       → AnswersAs does stops c limit m (Err e) id id' a b → Served does stops c limit budget e old b
-  ends_by_answer c limit budget end.Link old a b k id id' m front piece p spells within keeps lt works told x =
-      served_with c limit budget end.Link old a b k id m front piece x.3 p spells within keeps lt x.1 x.5 (
+  ends_by_answer c limit budget end.Link old a b k id id' m front piece p spells within keeps none lt works told x =
+      served_with c limit budget end.Link old a b k id m front piece x.3 p spells within keeps none lt x.1 x.5 (
         rose_from old.failures a.failures b.failures works x.0,
+        told,
         answered_push p.made x.1.entry p.answered x.2,
         inr (x.3, x.4, last_of c limit old a b k id m (front ++ piece) x.3 p x.1, rw (sym p.next) x.6),
       )
-  ends_by_answer c limit budget end.ReplyTooLarge old a b k id id' m front piece p spells within keeps lt works told x =
-      served_with c limit budget end.ReplyTooLarge old a b k id m front piece [] p spells within keeps lt x.2 x.1
-      (x.0 ∙ works, last_of c limit old a b k id m (front ++ piece) [] p x.2, rw (sym p.next) x.3)
-  ends_by_answer c limit budget end.HandlerFailed old a b k id id' m front piece p spells within keeps lt works told x =
-      served_with c limit budget end.HandlerFailed old a b k id m front piece [] p spells within keeps lt x.2 x.1
-      (x.0 ∙ works, last_of c limit old a b k id m (front ++ piece) [] p x.2, x.3, x.4)
-  ends_by_answer c limit budget end.OutOfMemory old a b k id id' m front piece p spells within keeps lt works told x =
-      memory c limit budget old a b k id m front piece p spells within keeps lt (x.0 ∙ works) told x.1 x.2
+  ends_by_answer c limit budget end.ReplyTooLarge old a b k id id' m front piece p spells within keeps none lt works told x =
+      served_with c limit budget end.ReplyTooLarge old a b k id m front piece [] p spells within keeps none lt x.2 x.1
+      (x.0 ∙ works, told, last_of c limit old a b k id m (front ++ piece) [] p x.2, rw (sym p.next) x.3)
+  ends_by_answer c limit budget end.HandlerFailed old a b k id id' m front piece p spells within keeps none lt works told x =
+      served_with c limit budget end.HandlerFailed old a b k id m front piece [] p spells within keeps none lt x.2 x.1
+      (x.0 ∙ works, told, last_of c limit old a b k id m (front ++ piece) [] p x.2, x.3, x.4)
+  ends_by_answer c limit budget end.OutOfMemory old a b k id id' m front piece p spells within keeps none lt works told x =
+      memory c limit budget old a b k id m front piece p spells within keeps none lt (x.0 ∙ works) told x.1 x.2
     where
       memory : (c limit budget : ℕ) (old a b : Seen H) (k id : ℕ) (m : Message) (front piece : List ℕ) → Progress c limit old a k id (front ++ piece)
-          → SpellsMsg m front → length front ≤ limit → Keeps a.received b.received → k < budget → b.failures ≡ old.failures → b.ends ≡ old.ends → Appends a.sent b.sent []
+          → SpellsMsg m front → length front ≤ limit → Keeps a.received b.received → AddsTurns a.turns b.turns [] → k < budget → b.failures ≡ old.failures → b.ends ≡ old.ends → Appends a.sent b.sent []
           → ((b.handler ≡ a.handler) × (b.log ≡ a.log)) ⊎ ((g : GotEntry does stops c m a b) × WantedMemory stops limit a.handler m (replies_to id m g.entry.answers) g.entry.answers b.handler)
           → Served does stops c limit budget end.OutOfMemory old b
-      memory c limit budget old a b k id m front piece p spells within keeps lt works told sent (inl x) =
+      memory c limit budget old a b k id m front piece p spells within keeps none lt works told sent (inl x) =
           let q : Progress c limit old b k id (front ++ piece) = record {
             ms = p.ms;
             made = p.made;
@@ -290,19 +317,20 @@ module _ {H : Type 0} (does : Does H) (stops : Stops H) where
             next = p.next;
             sent = p.sent;
             answered = p.answered;
+            turns = turns_stay limit old a b p.ms p.made p.turns none;
           } in
           ends_memory c limit budget old b k id (front ++ piece) q lt works told (whole_header limit m front piece spells within)
-      memory c limit budget old a b k id m front piece p spells within keeps lt works told sent (inr x) =
-          served_with c limit budget end.OutOfMemory old a b k id m front piece [] p spells within keeps lt x.0 sent
+      memory c limit budget old a b k id m front piece p spells within keeps none lt works told sent (inr x) =
+          served_with c limit budget end.OutOfMemory old a b k id m front piece [] p spells within keeps none lt x.0 sent
           (works, told, inr (last_of c limit old a b k id m (front ++ piece) [] p x.0, rw (sym p.next) x.1))
-  ends_by_answer c limit budget end.Ended old a b k id id' m front piece p spells within keeps lt works told x = absurd x
-  ends_by_answer c limit budget end.EndedInside old a b k id id' m front piece p spells within keeps lt works told x = absurd x
-  ends_by_answer c limit budget (end.Fault f) old a b k id id' m front piece p spells within keeps lt works told x = absurd x
-  ends_by_answer c limit budget end.Budget old a b k id id' m front piece p spells within keeps lt works told x = absurd x
+  ends_by_answer c limit budget end.Ended old a b k id id' m front piece p spells within keeps none lt works told x = absurd x
+  ends_by_answer c limit budget end.EndedInside old a b k id id' m front piece p spells within keeps none lt works told x = absurd x
+  ends_by_answer c limit budget (end.Fault f) old a b k id id' m front piece p spells within keeps none lt works told x = absurd x
+  ends_by_answer c limit budget end.Budget old a b k id id' m front piece p spells within keeps none lt works told x = absurd x
 
   -- a message was not answered, or not all its replies were sent
   pub ends_answer : (c limit budget n : ℕ) (e : ServeEnd) (old a b : Seen H) (k id id' : ℕ) (m : Message) (front piece : List ℕ) → Progress c limit old a k id (front ++ piece)
-      → SpellsMsg m front → length front ≤ limit → Keeps a.received b.received → k < budget → a.failures ≡ old.failures → b.ends ≡ old.ends
+      → SpellsMsg m front → length front ≤ limit → Keeps a.received b.received → AddsTurns a.turns b.turns [] → k < budget → a.failures ≡ old.failures → b.ends ≡ old.ends
       → n ≡ limit → AnswersAs does stops c n m (Err e) id id' a b → Served does stops c limit budget e old b
-  ends_answer c limit budget n e old a b k id id' m front piece p spells within keeps lt works told same x =
-      ends_by_answer c limit budget e old a b k id id' m front piece p spells within keeps lt works told (subst (λ l. AnswersAs does stops c l m (Err e) id id' a b) same x)
+  ends_answer c limit budget n e old a b k id id' m front piece p spells within keeps none lt works told same x =
+      ends_by_answer c limit budget e old a b k id id' m front piece p spells within keeps none lt works told (subst (λ l. AnswersAs does stops c l m (Err e) id id' a b) same x)

@@ -1,5 +1,5 @@
 -- Calls: the request of each kind, and the refusals.
-use Rattle.std.specs.Prelude.{ℕ, ℤ, pos, Bool, true, false, List, codes, Option, Some, None}
+use Rattle.std.specs.Prelude.{ℕ, ℤ, pos, Bool, true, false, List, codes, Option, Some}
 use Rattle.wire_msg.specs.{Content, Message}
 use Rattle.wire_msg.specs.declared.flags.MsgFlags.{MsgFlags}
 use Rattle.wire_peer.specs.declared.calls.CallKind.{CallKind}
@@ -28,14 +28,6 @@ request_flags Unacknowledged = record { more = true; allows = false }
 -- the request of a call under an id
 abbrev pub request : ℤ → CallKind → Content → Message
 request id kind c = record { id = id; response_to = pos 0; flags = request_flags kind; content = c }
-
--- the number of a refusal; want of memory has none
-abbrev pub refusal_number : CallRefusal → Option ℕ
-refusal_number Closed = Some 1
-refusal_number WindowFull = Some 2
-refusal_number TooLarge = Some 3
-refusal_number NumbersSpent = Some 6
-refusal_number OutOfMemory = None
 
 -- what a refusal displays as
 abbrev pub refusal_text : CallRefusal → List ℕ

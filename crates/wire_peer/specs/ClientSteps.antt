@@ -39,7 +39,7 @@ new_client first_id window limit = record {
 abbrev pub IsCalled : ClientSeen → CallKind → Content → CallNo → Type 0
 IsCalled k kind c call = (k.state ≡ Open) × IsAccepted k.requests kind c call
 
--- the client after it
+-- the client after a call that is accepted
 abbrev pub called : ClientSeen → CallKind → Content → CallNo → ClientSeen
 called k kind c call = record k { requests = after_call k.requests kind c call }
 
@@ -99,6 +99,7 @@ abbrev pub after_release : Option ReadyReply → ClientSeen → ClientSeen
 after_release None k = k
 after_release (Some reply) k = record k { held = []; reply = None }
 
+-- the client without the reply that was ready
 abbrev pub released : ClientSeen → ClientSeen
 released k = after_release k.reply k
 
@@ -108,5 +109,6 @@ end_cause None (b ∷ held) = causes.EndedInside
 end_cause None [] = causes.Ended
 end_cause (Some reply) held = causes.Ended
 
+-- the client where no more bytes come
 abbrev pub ended : ClientSeen → ClientSeen
 ended k = closed k (end_cause k.reply k.held)

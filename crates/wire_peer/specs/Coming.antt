@@ -1,8 +1,9 @@
 -- How the next message comes over a link.
-use Rattle.std.specs.Prelude.{◌≡◌, ◌≢◌, ℕ, ◌≤◌, List, [], ◌++◌, length, Result, Ok, Err}
+use Rattle.std.specs.Prelude.{◌≡◌, ◌≢◌, ℕ, ◌≤◌, List, [], ◌∷◌, ◌++◌, length, Option, Result, Ok, Err}
+use Rattle.std.specs.Io.KnownBytes.{Appends, Keeps}
 use Rattle.bson_elem.specs.{IsBytes}
 use Rattle.wire_msg.specs.{IsBad, IsGoodHeader, IsMessage, IsOpen, header_of}
-use Rattle.wire_stream.specs.{Rose}
+use Rattle.wire_stream.specs.{Rose, Turn}
 use Rattle.wire_peer.specs.declared.serving.ServeEnd.{ServeEnd}
 use Rattle.wire_peer.specs.declared.serving.ServeEnd.TheVariants.{Ended, EndedInside, Fault, Link, OutOfMemory}
 
@@ -26,3 +27,10 @@ Came (Err _) limit held piece old new = ⊥
 abbrev pub Worked : Result (Unit {0}) ServeEnd → ℕ → ℕ → Type 0
 Worked (Err Link) old new = Rose old new
 Worked _ old new = new ≡ old
+
+-- At each of these calls of `recv` nothing had been sent since then, and the bytes that were held, with those that had been
+-- received since then, were open.
+abbrev pub AreBetween : ℕ → (received sent : Option (List ℕ)) → (held : List ℕ) → List Turn → Type 0
+AreBetween limit received sent held [] = Unit {0}
+AreBetween limit received sent held (t ∷ ts) =
+    Keeps sent t.sent × ((more : List ℕ) × Appends received t.received more × IsOpen limit (held ++ more)) × AreBetween limit received sent held ts

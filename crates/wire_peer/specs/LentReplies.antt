@@ -2,6 +2,6 @@
 use Rattle.wire_peer.specs.declared.call_table.ReadyReply.{ReadyReply}
 use Rattle.wire_peer.specs.declared.reply.Reply.{Reply}
 
--- the call that it belongs to, and whether another one follows
+-- the call that a reply belongs to, and whether it is the last one
 abbrev pub ready_of : Reply → ReadyReply
 ready_of r = record { call = r.call; last = r.last }

@@ -13,7 +13,6 @@ pub mod Serving
 pub mod Answering
 pub mod Refusals
 pub mod Servers
-pub mod ServerNumbers
 pub mod ServerParts
 pub mod ServerAnswers
 pub mod FreeIds
@@ -45,4 +44,4 @@ pub use Rattle.wire_peer.specs.Requesting.{IsAccepted, IsFull, IsNextCall, IsRef
 pub use Rattle.wire_peer.specs.Requests.{Asked, IsCount, asked, asked_by, takes_more}
 pub use Rattle.wire_peer.specs.ServerAnswers.{AnswerStep, WaitsAt}
 pub use Rattle.wire_peer.specs.Servers.{IsNewServer, ServerView, TakesBytes, closed_for, end_cause, new_server}
-pub use Rattle.wire_peer.specs.Serving.{EndsAs, Seen, Served, serve_out}
+pub use Rattle.wire_peer.specs.Serving.{EndsAs, Seen, Served, seen, serve_out}

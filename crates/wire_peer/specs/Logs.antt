@@ -1,5 +1,5 @@
 -- The log of what a handler was asked and what it answered.
-use Rattle.std.specs.Prelude.{◌≡◌, ℕ, List, [], ◌∷◌, ◌++◌, length, map, Option, Some, None, Result, Ok, Err}
+use Rattle.std.specs.Prelude.{◌≡◌, ℕ, ◌+◌, ◌<◌, ◌≤◌, max, List, [], ◌∷◌, ◌++◌, length, map, Option, Some, None, Result, Ok, Err}
 use Rattle.wire_msg.specs.{Content}
 use Rattle.wire_peer.specs.declared.handlers.HandlerStop.{HandlerStop}
 use Rattle.wire_peer.specs.declared.log.Entry.{Entry}
@@ -24,12 +24,19 @@ outcome_of Failed = None
 abbrev pub entry_of : Entry → LogEntry
 entry_of e = record { connection = e.connection; payload = buf_content e.payload; answers = outcome_of e.outcome }
 
+-- the entries of a log
 abbrev pub log_of : List Entry → List LogEntry
 log_of entries = map entry_of entries
 
 -- the entry of a request that came over a connection
 abbrev pub entered : ℕ → Asked → Option (List Content) → LogEntry
 entered connection a answers = record { connection = connection; payload = a.payload; answers = answers }
+
+-- The room of a log with so many entries, before and after one more was put: it stays where there is some, and is at most
+-- doubled where there is none, for four at least.
+pub record IsGrown (count old new : ℕ) : Type 0 where
+  pub stays : count < old → new ≡ old
+  pub doubles : old ≤ count → new ≤ count + max count 4
 
 -- ---- runs
 

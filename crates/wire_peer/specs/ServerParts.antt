@@ -27,7 +27,7 @@ view_of connection window limit reader waiting replies state = record {
   state = state;
 }
 
--- The parts belong together: there is room for as many messages as may wait, and an open server is between messages or
+-- The parts belong together: there is room for just as many messages as may wait, and an open server is between messages or
 -- inside one.
 pub record AreParts (window limit : ℕ) (reader : Reading) (waiting : VecDeque (List ℕ) Global) (replies : ReplyState) (state : ServerState) : Type 0 where
   pub window_is : IsWindow window
@@ -35,7 +35,7 @@ pub record AreParts (window limit : ℕ) (reader : Reading) (waiting : VecDeque 
   pub read_limit : reader.limit ≡ limit
   pub reply_limit : replies.limit ≡ limit
   pub between : state ≡ Open → IsOpen limit reader.held
-  pub room : window ≤ deque_capacity waiting
+  pub room : deque_capacity waiting ≡ window
   pub within : deque_len waiting ≤ window
   pub each : All (IsMessage limit) waiting.items
 

@@ -2,12 +2,13 @@
 use Rattle.std.specs.Prelude.{◌≡◌, ◌≢◌, ℕ, ◌<◌, ◌≤◌, ◌⊎◌, List, [], ◌∷◌, ◌++◌, length, Option, Some, None, true, false}
 use Rattle.std.specs.Io.KnownBytes.{Appends}
 use Rattle.wire_msg.specs.{AreSpelled, Content, IsBad, IsOpen, Message, Split}
-use Rattle.wire_stream.specs.{Rose}
+use Rattle.wire_stream.specs.{AddsTurns, Rose, Turn}
 use Rattle.wire_peer.specs.Chains.{is_longer, next_id, replies, written}
 use Rattle.wire_peer.specs.Coming.{HasGoodHeader}
-use Rattle.wire_peer.specs.Logs.{Does, LogEntry, LogStep, RunOf, Stops}
+use Rattle.wire_peer.specs.Logs.{Does, LogEntry, LogStep, RunOf, Stops, log_of}
 use Rattle.wire_peer.specs.Requests.{Asked, asked_by}
 use Rattle.wire_peer.specs.declared.handlers.HandlerStop.TheVariants as stop
+use Rattle.wire_peer.specs.declared.log.Logged.{Logged}
 use Rattle.wire_peer.specs.declared.serving.ServeEnd.{ServeEnd}
 use Rattle.wire_peer.specs.declared.serving.ServeEnd.TheVariants.{Ended, EndedInside, Fault, Link, Budget, ReplyTooLarge, OutOfMemory, HandlerFailed}
 
@@ -57,13 +58,48 @@ pub record Seen (H : Type 0) : Type 0 where
   pub log : List LogEntry
   pub received : Option (List ℕ)
   pub sent : Option (List ℕ)
+  pub turns : Option (List Turn)
   pub failures : ℕ
   pub ends : ℕ
+
+-- what is seen of these, by what a link's kind tells of its links
+abbrev pub seen : {H L : Type 0} → (received sent : L → Option (List ℕ)) → (turns : L → Option (List Turn)) → (failures ends : L → ℕ) → Logged H → L → Seen H
+seen received sent turns failures ends logged link = record {
+  handler = logged.handler;
+  log = log_of logged.entries.items;
+  received = received link;
+  sent = sent link;
+  turns = turns link;
+  failures = failures link;
+  ends = ends link;
+}
 
 -- all these messages were answered, and all their replies were sent
 pub record AllSent (ms : List Message) (made : List LogEntry) (gave : List ℕ) : Type 0 where
   pub sent : gave ≡ serve_out 1 ms made
   pub answered : AreAnswered made
+
+-- At a call of `recv` the messages in what had been received were the first of these, theirs are the first of these entries,
+-- and all their replies had been sent.
+pub record IsInTurn (limit : ℕ) (came went : Option (List ℕ)) (ms : List Message) (made : List LogEntry) (t : Turn) : Type 0 where
+  pub got : List ℕ
+  pub gave : List ℕ
+  pub early : List Message
+  pub late : List Message
+  pub past : List LogEntry
+  pub after : List LogEntry
+  pub rest : List ℕ
+  pub received : Appends came t.received got
+  pub sent : Appends went t.sent gave
+  pub messages : ms ≡ early ++ late
+  pub entries : made ≡ past ++ after
+  pub split : Split limit got early rest
+  pub all : AllSent early past gave
+
+-- each of them was
+abbrev pub AreInTurn : ℕ → (came went : Option (List ℕ)) → List Message → List LogEntry → List Turn → Type 0
+AreInTurn limit came went ms made [] = Unit {0}
+AreInTurn limit came went ms made (t ∷ ts) = IsInTurn limit came went ms made t × AreInTurn limit came went ms made ts
 
 -- The last of these messages and its entry. Those before it were answered, all their replies were sent, and then this part
 -- of the last one's.
@@ -98,24 +134,25 @@ EndsAs does stops limit budget Ended old new ms made got gave rest =
 EndsAs does stops limit budget EndedInside old new ms made got gave rest =
     (new.failures ≡ old.failures) × Rose old.ends new.ends × (length made < budget) × AllSent ms made gave × Split limit got ms rest × (rest ≢ []) × IsOpen limit rest
 EndsAs does stops limit budget (Fault f) old new ms made got gave rest =
-    (new.failures ≡ old.failures) × (length made < budget) × AllSent ms made gave × Split limit got ms rest × IsBad limit rest f
+    (new.failures ≡ old.failures) × (new.ends ≡ old.ends) × (length made < budget) × AllSent ms made gave × Split limit got ms rest × IsBad limit rest f
 EndsAs does stops limit budget Budget old new ms made got gave rest =
     (new.failures ≡ old.failures) × (new.ends ≡ old.ends) × (length made ≡ budget) × AllSent ms made gave
 EndsAs does stops limit budget Link old new ms made got gave rest =
-    Rose old.failures new.failures × AreAnswered made
+    Rose old.failures new.failures × (new.ends ≡ old.ends) × AreAnswered made
     × (((length made < budget) × AllSent ms made gave) ⊎ ((part : List ℕ) × (lost : List ℕ) × (l : LastSent does stops old.handler new.handler ms made gave part) × (written (last_replies l) ≡ part ++ lost)))
 EndsAs does stops limit budget ReplyTooLarge old new ms made got gave rest =
-    (new.failures ≡ old.failures)
+    (new.failures ≡ old.failures) × (new.ends ≡ old.ends)
     × (l : LastSent does stops old.handler new.handler ms made gave []) × (is_longer limit (last_replies l) ≡ true)
 EndsAs does stops limit budget HandlerFailed old new ms made got gave rest =
-    (new.failures ≡ old.failures)
+    (new.failures ≡ old.failures) × (new.ends ≡ old.ends)
     × (l : LastSent does stops old.handler new.handler ms made gave []) × (l.entry.answers ≡ None) × stops l.mid (asked_by l.message) stop.Failed new.handler
 EndsAs does stops limit budget OutOfMemory old new ms made got gave rest =
     (new.failures ≡ old.failures) × (new.ends ≡ old.ends)
     × ((AllSent ms made gave × ((got ≡ []) ⊎ ((length made < budget) × HasGoodHeader limit rest))) ⊎ ((l : LastSent does stops old.handler new.handler ms made gave []) × WantedMemory stops limit l.mid l.message (last_replies l) l.entry.answers new.handler))
 
 -- Serving a connection ended so. It received the bytes of these messages and a rest. These are the first messages of each
--- split of what was received, and each of them has an entry, in order.
+-- split of what was received, and each of them has an entry, in order. It called `recv` only once each message that had come
+-- was answered, and all its replies were sent.
 pub record Served {H : Type 0} (does : Does H) (stops : Stops H) (connection limit budget : ℕ) (end : ServeEnd) (old new : Seen H) : Type 0 where
   pub ms : List Message
   pub made : List LogEntry
@@ -130,4 +167,5 @@ pub record Served {H : Type 0} (does : Does H) (stops : Stops H) (connection lim
   pub run : RunOf does stops old.handler (requests_of ms) made new.handler
   pub connected : AreOf connection made
   pub within : length made ≤ budget
+  pub in_turn : (ts : List Turn) × AddsTurns old.turns new.turns ts × AreInTurn limit old.received old.sent ms made ts
   pub ends : EndsAs does stops limit budget end old new ms made (joined ++ rest) gave rest

@@ -1,7 +1,7 @@
 //! Calls: their kinds, their numbers, and why one is refused.
 
 ghost use Rattle.std.specs.Prelude.{◌≡◌};
-ghost use Rattle.wire_peer.specs.Calls.{awaits_reply, allows_more, refusal_number, refusal_text, request_flags};
+ghost use Rattle.wire_peer.specs.Calls.{awaits_reply, allows_more, refusal_text, request_flags};
 
 use std::fmt;
 use wire_msg::MsgFlags;
@@ -81,19 +81,6 @@ pub enum CallRefusal {
 }
 
 impl CallRefusal {
-    /// Returns the number of the refusal, or `None` for want of memory. The numbers 4 and 5 stand for nothing.
-    pub fn number(self) -> Option<u8>
-        ensures { result ≡ refusal_number self }
-    {
-        match self {
-            CallRefusal::Closed => Some(1),
-            CallRefusal::WindowFull => Some(2),
-            CallRefusal::TooLarge => Some(3),
-            CallRefusal::NumbersSpent => Some(6),
-            CallRefusal::OutOfMemory => None,
-        }
-    }
-
     /// Returns what the refusal displays as.
     fn text(self) -> &'static str
         ensures { result.now ≡ refusal_text self }

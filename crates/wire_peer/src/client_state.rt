@@ -1,8 +1,5 @@
 //! Whether a client is open, and why it was closed or isn't made.
 
-ghost use Rattle.std.specs.Prelude.{◌≡◌};
-ghost use Rattle.wire_peer.specs.ClientCauses.{cause_number};
-
 use wire_msg::MsgFault;
 
 /// Why a client was closed. The first cause stays.
@@ -20,22 +17,6 @@ pub enum ClientCause {
     Ended,
     /// No more bytes come, and the last ones ended inside a message.
     EndedInside,
-}
-
-impl ClientCause {
-    /// Returns the number of the cause, from 1 to 6.
-    pub fn number(self) -> u8
-        ensures { result ≡ cause_number self }
-    {
-        match self {
-            ClientCause::Message(_) => 1,
-            ClientCause::UnknownReply(_) => 2,
-            ClientCause::MoreNotAllowed => 3,
-            ClientCause::StreamBroken => 4,
-            ClientCause::Ended => 5,
-            ClientCause::EndedInside => 6,
-        }
-    }
 }
 
 /// Whether a client is open.

@@ -1,6 +1,6 @@
 //! The client's end of a connection.
 
-ghost use Rattle.std.specs.Prelude.{◌≡◌, ◌≢◌, ◌≤◌, None, IfOk, IfSome, IsNone, IsOkAnd, MatchResult, OnErr, drop, length, option_map};
+ghost use Rattle.std.specs.Prelude.{◌≡◌, ◌≢◌, ◌≤◌, None, IfOk, IfSome, IsNone, IsOkAnd, MatchResult, OnErr, drop, length, option_map, refl};
 ghost use Rattle.std.specs.List.{IsDistinct};
 ghost use Rattle.std.specs.Ordering.{int_eq};
 ghost use Rattle.wire_msg.specs.{Carries, IsMessage, IsOpen, Message, SpellsMsg};
@@ -294,6 +294,14 @@ impl Client {
 
 impl Outlet for Client {
     ghost waiting = { λ s. s.requests.output };
+
+    ghost with_waiting = { λ s bytes. record s { requests = record (s.requests) { output = bytes } } };
+
+    ghost waits = { λ o bytes. refl };
+
+    ghost unchanged = { λ o. refl };
+
+    ghost last = { λ o first then. refl };
 
     fn output(&self) -> &[u8] {
         Client::output(self)

@@ -4,8 +4,8 @@ ghost use Rattle.std.specs.Prelude.{◌≡◌, ◌++◌, [], IfErr, IfOk, List, 
 ghost use Rattle.std.specs.Io.KnownBytes.{Appends, Keeps};
 ghost use Rattle.bson_elem.specs.{IsBytes};
 ghost use Rattle.wire_msg.specs.{IsOpen};
-ghost use Rattle.wire_stream.specs.{CompletesHeader, Feeds};
-ghost use Rattle.wire_peer.specs.Coming.{Came, Worked};
+ghost use Rattle.wire_stream.specs.{AddsTurns, CompletesHeader, Feeds, Turn};
+ghost use Rattle.wire_peer.specs.Coming.{AreBetween, Came, Worked};
 
 use crate::serving::ServeEnd;
 use wire_stream::{Fed, Inlet, Link, MsgReader, Pulled, ReadEnd, ReaderState};
@@ -48,6 +48,8 @@ pub(crate) fn next_message<L: Link>(
     ensures came { Came result reader.new.limit reader.new.held inlet.new
         (L.ends link.old) (L.ends link.new) }
     ensures sent { Keeps (L.sent link.old) (L.sent link.new) }
+    ensures turns { (ts : List Turn) × AddsTurns (L.turns link.old) (L.turns link.new) ts
+        × AreBetween reader.old.limit (L.received link.old) (L.sent link.old) inlet.old ts }
     ensures works { Worked result (L.failures link.old) (L.failures link.new) }
 {
     loop {

@@ -7,6 +7,9 @@
 //! of one connection until they are sent. `Echo`, `Count` and `StopAt` are handlers. A `Server` is the whole end without a
 //! link: bytes are fed to it, requests wait in it and are answered in any order, and its output is taken off as it is sent.
 //! `serve` answers the messages of a link in order.
+//!
+//! Stands on wire_stream. wire_model, wire_world, engines and test_server stand on it. Read first:
+//! `handlers` and `log`, then `servers` and `clients`, and then `serving`.
 #![tactic(auto)]
 
 mod answer_list;
@@ -40,6 +43,7 @@ pub use counting::Count;
 pub use echoing::Echo;
 pub use free_id::next_free;
 pub use handlers::{Handler, HandlerStop};
+pub use limits::{MAX_WINDOW, MIN_LIMIT};
 pub use log::{AskRefusal, Entry, Logged, NoReplies, Outcome};
 pub use reply::Reply;
 pub use reply_buf::{ReplyBuf, ReplyRefusal};

@@ -3,7 +3,7 @@
 ghost use Rattle.std.specs.Prelude.{◌≡◌, ◌<◌, ◌++◌, ◌∷◌, [], IfOk, List, OnOk, Some, ℕ};
 ghost use Rattle.std.specs.Vec.{vec_capacity, vec_len};
 ghost use Rattle.wire_peer.specs.Contents.{buf_content};
-ghost use Rattle.wire_peer.specs.Logs.{AskStep, IsLastAnswered, LogEntry, OutcomeStep, entered, log_of, outcome_of};
+ghost use Rattle.wire_peer.specs.Logs.{AskStep, IsGrown, IsLastAnswered, LogEntry, OutcomeStep, entered, log_of, outcome_of};
 ghost use Rattle.wire_msg.specs.{Content};
 ghost use Rattle.wire_peer.specs.AnswerLists.{answers_of};
 ghost use Rattle.wire_peer.specs.Replying.{PutStep, ReplyStep};
@@ -84,14 +84,29 @@ impl<H> Logged<H> {
         &self.entries
     }
 
+    /// Takes room for one more entry where there is none: as much again, and for four at least.
+    fn make_room(&mut self) -> Result<(), AllocError>
+        ensures handler { self.new.handler ≡ self.old.handler }
+        ensures entries { self.new.entries.items ≡ self.old.entries.items }
+        ensures room { OnOk result (vec_len self.new.entries < vec_capacity self.new.entries) }
+        ensures grown { IsGrown (vec_len self.old.entries) (vec_capacity self.old.entries) (vec_capacity self.new.entries) }
+    {
+        let count = self.entries.len();
+        if count < self.entries.capacity() {
+            return Ok(());
+        }
+        self.entries.try_reserve_exact(count.max(4))
+    }
+
     /// Takes the room for an entry, and copies the payload of a request.
     fn room_for(&mut self, request: &Request<'_>) -> Result<PayloadBuf, AllocError>
         ensures handler { self.new.handler ≡ self.old.handler }
         ensures entries { self.new.entries.items ≡ self.old.entries.items }
         ensures room { OnOk result (vec_len self.new.entries < vec_capacity self.new.entries) }
+        ensures grown { IsGrown (vec_len self.old.entries) (vec_capacity self.old.entries) (vec_capacity self.new.entries) }
         ensures payload { IfOk result (λ b. buf_content b ≡ (asked request.now).payload) }
     {
-        self.entries.try_reserve(1)?;
+        self.make_room()?;
         let alloc = *self.entries.allocator();
         request.payload.to_buf(alloc)
     }
@@ -148,16 +163,18 @@ fn put_replies(
 }
 
 impl<H: Handler> Logged<H> {
-    /// Asks the handler a request that came over a connection, and adds its entry.
+    /// Asks the handler a request that came over a connection, and adds its entry. Where the log has no room for one, it
+    /// takes as much again.
     ///
     /// # Errors
     ///
     /// `NotAsked` where the allocator refuses the memory for the entry: then the handler isn't asked, and nothing changes.
     /// `Stopped` where the handler stops: the entry stands as failed.
     pub fn ask(&mut self, connection: u64, request: &Request<'_>) -> Result<(), AskRefusal>
-        ensures { AskStep H.does H.stops connection (asked request.now) result
+        ensures step { AskStep H.does H.stops connection (asked request.now) result
             self.old.handler (log_of self.old.entries.items)
             self.new.handler (log_of self.new.entries.items) }
+        ensures room { IsGrown (vec_len self.old.entries) (vec_capacity self.old.entries) (vec_capacity self.new.entries) }
     {
         let Ok(payload) = self.room_for(request) else {
             return Err(AskRefusal::NotAsked);
@@ -169,10 +186,8 @@ impl<H: Handler> Logged<H> {
             payload,
             outcome,
         };
-        match self.entries.push(entry) {
-            Ok(()) => result,
-            Err(_) => unreachable!(),
-        }
+        self.entries.push_reserved(entry);
+        result
     }
 
     /// Asks the handler a request of this id that came over a connection, adds its entry, and appends the replies, of which
@@ -188,9 +203,10 @@ impl<H: Handler> Logged<H> {
         request: &Request<'_>,
         replies: &mut ReplyBuf,
     ) -> Result<(), NoReplies>
-        ensures { ReplyStep H.does H.stops connection id (asked request.now) result
+        ensures step { ReplyStep H.does H.stops connection id (asked request.now) result
             self.old.handler (log_of self.old.entries.items) replies.old
             self.new.handler (log_of self.new.entries.items) replies.new }
+        ensures room { IsGrown (vec_len self.old.entries) (vec_capacity self.old.entries) (vec_capacity self.new.entries) }
     {
         self.ask(connection, request)?;
         put_replies(id, request, last_answers(&self.entries), replies)?;

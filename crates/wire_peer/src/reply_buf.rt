@@ -1,10 +1,8 @@
 //! Replies that wait to be sent.
 
-ghost use Rattle.std.specs.Prelude.{◌≡◌, ◌≤◌, ◌<◌, ◌^◌, ◌++◌, [], IfNone, IfSome, List, OnErr, OnOk, drop, false, length, map, nat_lt, true, ℕ, ℤ};
+ghost use Rattle.std.specs.Prelude.{◌≡◌, ◌≤◌, ◌<◌, ◌^◌, ◌++◌, [], IfNone, IfSome, List, OnErr, OnOk, drop, false, length, map, nat_lt, refl, true, ℕ, ℤ};
 ghost use Rattle.std.specs.Io.{StartsWith};
-ghost use Rattle.std.specs.Io.KnownBytes.{Appends, Keeps};
 ghost use Rattle.wire_msg.specs.{canonical, message_len};
-ghost use Rattle.wire_stream.specs.{Rose};
 ghost use Rattle.wire_peer.specs.AnswerLists.{answers_of};
 ghost use Rattle.wire_peer.specs.Chains.{ReplyState, chain, id_after, id_after_one, is_longer, reply, written};
 ghost use Rattle.wire_peer.specs.Contents.{buf_content};
@@ -15,7 +13,7 @@ use crate::limits::MAX_ID;
 use std::alloc::Global;
 use std::marker::Model;
 use wire_msg::{MsgFlags, PayloadBuf};
-use wire_stream::{Link, LinkFault, OutBuf, Outlet, flush};
+use wire_stream::{OutBuf, Outlet};
 
 /// Why replies aren't appended.
 #[derive(Clone, Copy, Debug, PartialEq, Eq)]
@@ -89,25 +87,6 @@ impl ReplyBuf {
         } }
     {
         self.out.sent(n);
-    }
-
-    /// Sends over `link` all bytes that weren't sent yet.
-    ///
-    /// # Errors
-    ///
-    /// `LinkFault` where the link failed. What was sent by then no longer waits.
-    pub fn flush<L: Link>(&mut self, link: &mut L) -> Result<(), LinkFault>
-        ensures sent { (gone : List ℕ) × Appends (L.sent link.old) (L.sent link.new) gone
-            × (self.old.output ≡ gone ++ self.new.output) }
-        ensures all { OnOk result (self.new.output ≡ []) }
-        ensures next { self.new.next ≡ self.old.next }
-        ensures limit { self.new.limit ≡ self.old.limit }
-        ensures received { Keeps (L.received link.old) (L.received link.new) }
-        ensures end { L.ends link.new ≡ L.ends link.old }
-        ensures works { OnOk result (L.failures link.new ≡ L.failures link.old) }
-        ensures fails { OnErr result (Rose (L.failures link.old) (L.failures link.new)) }
-    {
-        flush(link, &mut self.out)
     }
 
     /// Appends the answers to the request of this id as replies. The first one's responseTo is `id`, and that of each later
@@ -215,6 +194,14 @@ fn write_chain(
 
 impl Outlet for ReplyBuf {
     ghost waiting = { λ s. s.output };
+
+    ghost with_waiting = { λ s bytes. record s { output = bytes } };
+
+    ghost waits = { λ o bytes. refl };
+
+    ghost unchanged = { λ o. refl };
+
+    ghost last = { λ o first then. refl };
 
     fn output(&self) -> &[u8] {
         ReplyBuf::output(self)

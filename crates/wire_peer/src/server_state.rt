@@ -1,8 +1,5 @@
 //! Whether a server is open, why it closed, and why a call of it is refused.
 
-ghost use Rattle.std.specs.Prelude.{◌≡◌};
-ghost use Rattle.wire_peer.specs.ServerNumbers.{answer_refusal_number, server_cause_number, server_refusal_number};
-
 use wire_msg::MsgFault;
 
 /// Why a server closed. The first cause stays.
@@ -20,22 +17,6 @@ pub enum ServerCause {
     NoMemory,
     /// The handler failed.
     HandlerFailed,
-}
-
-impl ServerCause {
-    /// Returns the number of the cause, from 1 to 6.
-    pub fn number(self) -> u8
-        ensures { result ≡ server_cause_number self }
-    {
-        match self {
-            ServerCause::Message(_) => 1,
-            ServerCause::Ended => 2,
-            ServerCause::EndedInside => 3,
-            ServerCause::ReplyTooLarge => 4,
-            ServerCause::NoMemory => 5,
-            ServerCause::HandlerFailed => 6,
-        }
-    }
 }
 
 /// Whether a server is open.
@@ -58,19 +39,6 @@ pub enum ServerRefusal {
     OutOfMemory,
 }
 
-impl ServerRefusal {
-    /// Returns the number of the refusal, 2 or 3, or `None` for want of memory.
-    pub fn number(self) -> Option<u8>
-        ensures { result ≡ server_refusal_number self }
-    {
-        match self {
-            ServerRefusal::BadWindow => Some(2),
-            ServerRefusal::BadLimit => Some(3),
-            ServerRefusal::OutOfMemory => None,
-        }
-    }
-}
-
 /// Why a request isn't answered.
 #[derive(Clone, Copy, Debug, PartialEq, Eq)]
 pub enum AnswerRefusal {
@@ -83,18 +51,4 @@ pub enum AnswerRefusal {
     /// The server closed in this call, for this cause. The request has its entry and waits no longer, and none of its
     /// replies is put out.
     NowClosed(ServerCause),
-}
-
-impl AnswerRefusal {
-    /// Returns the number of the refusal, from 1 to 3, or `None` for want of memory.
-    pub fn number(self) -> Option<u8>
-        ensures { result ≡ answer_refusal_number self }
-    {
-        match self {
-            AnswerRefusal::NoSuchRequest => Some(1),
-            AnswerRefusal::Closed => Some(2),
-            AnswerRefusal::NowClosed(_) => Some(3),
-            AnswerRefusal::OutOfMemory => None,
-        }
-    }
 }

@@ -1,6 +1,6 @@
 //! A server of one connection: bytes come in, requests wait and are answered, and replies go out.
 
-ghost use Rattle.std.specs.Prelude.{◌≡◌, ◌≢◌, ◌≤◌, ◌<◌, ◌↔◌, All, IfOk, IfSome, IsSome, Ok, OnErr, Some, drop, length, slice_get};
+ghost use Rattle.std.specs.Prelude.{◌≡◌, ◌≢◌, ◌≤◌, ◌<◌, ◌↔◌, All, IfOk, IfSome, IsSome, Ok, OnErr, Some, drop, length, refl, slice_get};
 ghost use Rattle.std.specs.VecDeque.{deque_capacity, deque_len};
 ghost use Rattle.wire_msg.specs.{IsMessage, IsOpen, Message, SpellsMsg, msg_bytes};
 ghost use Rattle.wire_stream.specs.{CompletesHeader, StandsAt};
@@ -287,6 +287,14 @@ impl Server {
 
 impl Outlet for Server {
     ghost waiting = { λ s. s.output };
+
+    ghost with_waiting = { λ s bytes. record s { output = bytes } };
+
+    ghost waits = { λ o bytes. refl };
+
+    ghost unchanged = { λ o. refl };
+
+    ghost last = { λ o first then. refl };
 
     fn output(&self) -> &[u8] {
         Server::output(self)

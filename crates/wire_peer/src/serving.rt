@@ -3,9 +3,9 @@
 ghost use Rattle.std.specs.Prelude.{◌≡◌, ◌≤◌, [], OnOk};
 ghost use Rattle.std.specs.Io.KnownBytes.{Keeps};
 ghost use Rattle.wire_msg.specs.{Message, SpellsMsg, msg_bytes};
+ghost use Rattle.wire_stream.specs.{AddsTurns};
 ghost use Rattle.wire_peer.specs.Answering.{AnswersAs, end_of};
-ghost use Rattle.wire_peer.specs.Logs.{log_of};
-ghost use Rattle.wire_peer.specs.Serving.{Served};
+ghost use Rattle.wire_peer.specs.Serving.{Served, seen};
 
 use crate::coming::next_message;
 use crate::handlers::{Handler, HandlerStop};
@@ -14,7 +14,7 @@ use crate::reply_buf::ReplyBuf;
 use crate::requests::request_of;
 use std::alloc::Global;
 use wire_msg::{MsgFault, RawMsg};
-use wire_stream::{Inlet, Link, MsgReader};
+use wire_stream::{Inlet, Link, MsgReader, flush};
 
 /// Why serving a connection ended.
 #[derive(Clone, Copy, Debug, PartialEq, Eq)]
@@ -67,29 +67,16 @@ fn answer_one<L: Link, H: Handler>(
     ensures answered { (m : Message) → SpellsMsg m (msg_bytes message.entry)
         → AnswersAs H.does H.stops connection replies.old.limit m result
         replies.old.next replies.new.next
-        (record {
-          handler = logged.old.handler;
-          log = log_of logged.old.entries.items;
-          received = L.received link.old;
-          sent = L.sent link.old;
-          failures = L.failures link.old;
-          ends = L.ends link.old;
-        })
-        (record {
-          handler = logged.new.handler;
-          log = log_of logged.new.entries.items;
-          received = L.received link.new;
-          sent = L.sent link.new;
-          failures = L.failures link.new;
-          ends = L.ends link.new;
-        }) }
+        (seen L.received L.sent L.turns L.failures L.ends logged.old link.old)
+        (seen L.received L.sent L.turns L.failures L.ends logged.new link.new) }
     ensures waiting { OnOk result (replies.new.output ≡ []) }
     ensures limit { OnOk result (replies.new.limit ≡ replies.old.limit) }
     ensures received { Keeps (L.received link.old) (L.received link.new) }
+    ensures turns { AddsTurns (L.turns link.old) (L.turns link.new) [] }
     ensures end { L.ends link.new ≡ L.ends link.old }
 {
     logged.reply(connection, message.id(), &request_of(message), replies)?;
-    match replies.flush(link) {
+    match flush(link, replies) {
         Ok(()) => Ok(()),
         Err(_) => Err(ServeEnd::Link),
     }
@@ -107,22 +94,8 @@ pub fn serve<L: Link, H: Handler>(
 ) -> ServeEnd
     requires { limit ≤ 48_000_000 }
     ensures { Served H.does H.stops connection limit budget result
-        (record {
-          handler = logged.old.handler;
-          log = log_of logged.old.entries.items;
-          received = L.received link.old;
-          sent = L.sent link.old;
-          failures = L.failures link.old;
-          ends = L.ends link.old;
-        })
-        (record {
-          handler = logged.new.handler;
-          log = log_of logged.new.entries.items;
-          received = L.received link.new;
-          sent = L.sent link.new;
-          failures = L.failures link.new;
-          ends = L.ends link.new;
-        }) }
+        (seen L.received L.sent L.turns L.failures L.ends logged.old link.old)
+        (seen L.received L.sent L.turns L.failures L.ends logged.new link.new) }
 {
     let Ok(mut inlet) = Inlet::new(alloc) else {
         return ServeEnd::OutOfMemory;

@@ -2,6 +2,9 @@
 //!
 //! `play` reads a script line by line. Its first line makes a world, and each of the others names an event in it, for whose
 //! result one line is written. A line that names none ends the text, and its number is returned.
+//!
+//! Stands on wire_script and wire_world. engines stands on it. Read first: `specs/Scripts.antt`, and then
+//! `playing`.
 #![tactic(auto)]
 
 mod closing;

@@ -1,5 +1,5 @@
 -- How a pool keeps what it holds.
-use Rattle.std.specs.Prelude.{ℕ, ◌+◌, ◌≤◌, All, Bool, length, Option}
+use Rattle.std.specs.Prelude.{◌≡◌, ℕ, ◌+◌, ◌≤◌, All, Bool, length, Option}
 use Rattle.std.specs.Vec.{vec_capacity}
 use Rattle.std.specs.VecDeque.{deque_capacity}
 use Rattle.std.specs.declared.alloc.Global.{Global}
@@ -12,11 +12,11 @@ use Rattle.wire_pool.specs.Pools.{IsGiven, PoolSeen}
 abbrev pub view_of : ℕ → VecDeque ℕ Global → Vec Loan Global → Option ℕ → Bool → PoolSeen
 view_of max idle lent next closed = record { max = max; idle = idle.items; lent = lent.items; next = next; closed = closed }
 
--- The parts belong together: the pool has no more connections than it may have, there is room for as many in each list,
--- and all their ids were given.
+-- The parts belong together: the pool has no more connections than it may have, each list has room for exactly as many, and
+-- all their ids were given.
 pub record AreParts (max : ℕ) (idle : VecDeque ℕ Global) (lent : Vec Loan Global) (next : Option ℕ) (closed : Bool) : Type 0 where
   pub within : length idle.items + length lent.items ≤ max
-  pub idle_room : max ≤ deque_capacity idle
-  pub lent_room : max ≤ vec_capacity lent
+  pub idle_room : deque_capacity idle ≡ max
+  pub lent_room : vec_capacity lent ≡ max
   pub idle_given : All (IsGiven next) idle.items
   pub lent_given : All (λ loan. IsGiven next loan.id) lent.items

@@ -68,6 +68,6 @@ abbrev pub times_lent : ℕ → List Loan → ℕ
 times_lent id [] = 0
 times_lent id (loan ∷ lent) = (if loan.id == id then 1 else 0) + times_lent id lent
 
--- how often it stands among all of them
+-- how often the connection of this id stands among the idle and the lent ones
 abbrev pub times_known : ℕ → PoolSeen → ℕ
 times_known id p = times_idle id p.idle + times_lent id p.lent

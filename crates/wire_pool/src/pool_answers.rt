@@ -1,8 +1,5 @@
 //! What a pool answers, and why none is made.
 
-ghost use Rattle.std.specs.Prelude.{◌≡◌};
-ghost use Rattle.wire_pool.specs.PoolNumbers.{pool_refusal_number};
-
 /// What became of asking for a connection.
 #[derive(Clone, Copy, Debug, PartialEq, Eq)]
 pub enum CheckOut {
@@ -34,16 +31,4 @@ pub enum PoolRefusal {
     BadMax,
     /// Memory for the lists was wanting.
     OutOfMemory,
-}
-
-impl PoolRefusal {
-    /// Returns the number of the refusal, 1, or `None` for want of memory.
-    pub fn number(self) -> Option<u8>
-        ensures { result ≡ pool_refusal_number self }
-    {
-        match self {
-            PoolRefusal::BadMax => Some(1),
-            PoolRefusal::OutOfMemory => None,
-        }
-    }
 }

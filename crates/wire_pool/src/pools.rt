@@ -41,7 +41,8 @@ impl Model for Pool {
 }
 
 impl Pool {
-    /// Returns a pool of at most `max` connections, 1 to 1,024. It takes the memory of all that it will hold.
+    /// Returns a pool of at most `max` connections, 1 to 1,024. It takes the memory of all that it will hold: each of
+    /// its lists has room for exactly `max`.
     ///
     /// # Errors
     ///

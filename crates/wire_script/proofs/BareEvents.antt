@@ -5,8 +5,8 @@ use Rattle.wire_model.specs.declared.events.Event.{Event}
 use Rattle.wire_model.specs.declared.events.Event.TheVariants as events
 use Rattle.wire_script.specs.declared.keyword.Keyword.{Keyword}
 use Rattle.wire_script.specs.declared.keyword.Keyword.TheVariants as keywords
-use Rattle.wire_script.specs.Naming.{AreEventOperands, AreTwo, IsOne}
-use Rattle.wire_script.specs.Reading.{IsBare, event_kind}
+use Rattle.wire_script.specs.Naming.{AreEventOperands, AreTwo, IsOne, event_kind}
+use Rattle.wire_script.specs.Reading.{IsBare}
 
 -- the value of the first operand, and of the second
 abbrev pub first_value : List (List ℕ) → ℕ

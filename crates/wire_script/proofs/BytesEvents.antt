@@ -10,8 +10,7 @@ use Rattle.wire_msg.proofs.Lemmas.{one_content}
 use Rattle.wire_peer.specs.declared.calls.CallKind.{CallKind}
 use Rattle.bson_raw.specs.{document_bytes}
 use Rattle.wire_script.specs.declared.keyword.Keyword.TheVariants as keywords
-use Rattle.wire_script.specs.Naming.{AreEventOperands, HasHex, IsCall, IsRaw, event}
-use Rattle.wire_script.specs.Reading.{event_kind}
+use Rattle.wire_script.specs.Naming.{AreEventOperands, HasHex, IsCall, IsRaw, event, event_kind}
 use Rattle.wire_script.specs.Same.{IsSame}
 use Rattle.wire_script.specs.Words.{IsDocumentHex, IsHex}
 use Rattle.wire_script.proofs.BareEvents.{first_value}

@@ -2,33 +2,10 @@
 use Rattle.std.proofs.Common.{◌≡◌, ◌∙◌, List, ℕ, Option, Some, None, refl, sym, ap}
 use Rattle.std.specs.Prelude.{codes, if◌then◌else◌}
 use Rattle.std.specs.Str.{bytes_eq}
-use Rattle.wire_model.specs.declared.events.Event.{Event}
-use Rattle.wire_model.specs.declared.events.Event.TheVariants as events
 use Rattle.wire_peer.specs.declared.calls.CallKind.TheVariants.{Plain, Exhaust, Unacknowledged}
 use Rattle.wire_script.specs.declared.keyword.Keyword.{Keyword}
 use Rattle.wire_script.specs.declared.keyword.Keyword.TheVariants as keywords
-use Rattle.wire_script.specs.Naming.{Named, event, setup, event_keyword, keyword_of}
-use Rattle.wire_script.specs.Reading.{event_kind, keyword_text, kind_of}
-
-pub event_text : (e : Event) → event_keyword e ≡ keyword_text (event_kind e)
-event_text events.Open = refl
-event_text (events.Return c) = refl
-event_text (events.Call c kind payload) = refl
-event_text (events.Up c n) = refl
-event_text (events.Down c n) = refl
-event_text (events.Answer c i) = refl
-event_text (events.CutUp c) = refl
-event_text (events.CutDown c) = refl
-event_text events.Clear = refl
-event_text events.Restart = refl
-event_text events.RawOpen = refl
-event_text (events.Raw c bytes) = refl
-event_text (events.RawTake c n) = refl
-
--- the keyword of what a line names is the text of its kind
-pub named_text : (n : Named) → keyword_of n ≡ keyword_text (kind_of n)
-named_text (setup s) = refl
-named_text (event e) = event_text e
+use Rattle.wire_script.specs.Naming.{keyword_text}
 
 -- the keyword of a text
 abbrev keyword_for : List ℕ → Option Keyword

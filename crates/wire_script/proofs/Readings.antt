@@ -4,9 +4,9 @@ use Rattle.wire_model.specs.declared.events.Event.{Event}
 use Rattle.wire_model.specs.declared.events.Event.TheVariants as events
 use Rattle.wire_peer.specs.declared.calls.CallKind.{CallKind}
 use Rattle.wire_script.specs.declared.keyword.Keyword.TheVariants as keywords
-use Rattle.wire_script.specs.Naming.{AreEventOperands, AreOperands, Named, Names, event, keyword_of, setup}
-use Rattle.wire_script.specs.Reading.{IsBare, event_kind, keyword_text, kind_of}
-use Rattle.wire_script.proofs.Keywords.{named_text, one_keyword}
+use Rattle.wire_script.specs.Naming.{AreEventOperands, AreOperands, Named, Names, event, event_kind, keyword_of, keyword_text, kind_of, setup}
+use Rattle.wire_script.specs.Reading.{IsBare}
+use Rattle.wire_script.proofs.Keywords.{one_keyword}
 use Rattle.wire_script.specs.Same.{IsSame}
 use Rattle.wire_script.proofs.BareEvents.{same_bare}
 use Rattle.wire_script.proofs.BytesEvents.{same_call, same_raw}
@@ -45,6 +45,6 @@ same_named operands (event e) (event f) kinds are are' = same_event operands e f
 pub one_named : (line : List ℕ) (m n : Named) → Names line m → Names line n → IsSame m n
 one_named line m n names names' =
     let words : keyword_of m ∷ names.0 ≡ keyword_of n ∷ names'.0 = sym names.1 ∙ names'.1 in
-    let texts : keyword_text (kind_of m) ≡ keyword_text (kind_of n) = sym (named_text m) ∙ (cc words ∙ named_text n) in
+    let texts : keyword_text (kind_of m) ≡ keyword_text (kind_of n) = cc words in
     let operands : names'.0 ≡ names.0 = cc words in
     same_named names.0 m n (one_keyword (kind_of m) (kind_of n) texts) names.2 (subst (λ (o : List (List ℕ)). AreOperands o n) operands names'.2)

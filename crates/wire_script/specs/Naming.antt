@@ -7,6 +7,8 @@ use Rattle.wire_msg.specs.{Carries, body_alone}
 use Rattle.wire_msg.specs.declared.payloads.Payload.{Payload}
 use Rattle.wire_peer.specs.declared.calls.CallKind.{CallKind}
 use Rattle.wire_peer.specs.declared.calls.CallKind.TheVariants.{Plain, Exhaust, Unacknowledged}
+use Rattle.wire_script.specs.declared.keyword.Keyword.{Keyword}
+use Rattle.wire_script.specs.declared.keyword.Keyword.TheVariants as keywords
 use Rattle.wire_script.specs.declared.named.HandlerName.{HandlerName}
 use Rattle.wire_script.specs.declared.named.HandlerName.TheVariants.{Echo, Count}
 use Rattle.wire_script.specs.declared.named.Setup.{Setup}
@@ -24,24 +26,44 @@ call_keyword Plain = codes "call"
 call_keyword Exhaust = codes "exhaust"
 call_keyword Unacknowledged = codes "send"
 
-abbrev pub event_keyword : Event → List ℕ
-event_keyword Open = codes "open"
-event_keyword (Return c) = codes "return"
-event_keyword (Call c kind payload) = call_keyword kind
-event_keyword (Up c n) = codes "up"
-event_keyword (Down c n) = codes "down"
-event_keyword (Answer c i) = codes "answer"
-event_keyword (CutUp c) = codes "cutup"
-event_keyword (CutDown c) = codes "cutdown"
-event_keyword Clear = codes "clear"
-event_keyword Restart = codes "restart"
-event_keyword RawOpen = codes "rawopen"
-event_keyword (Raw c bytes) = codes "raw"
-event_keyword (RawTake c n) = codes "rawtake"
+abbrev pub keyword_text : Keyword → List ℕ
+keyword_text keywords.World = codes "world"
+keyword_text keywords.Open = codes "open"
+keyword_text keywords.Return = codes "return"
+keyword_text (keywords.Call kind) = call_keyword kind
+keyword_text keywords.Up = codes "up"
+keyword_text keywords.Down = codes "down"
+keyword_text keywords.Answer = codes "answer"
+keyword_text keywords.CutUp = codes "cutup"
+keyword_text keywords.CutDown = codes "cutdown"
+keyword_text keywords.Clear = codes "clear"
+keyword_text keywords.Restart = codes "restart"
+keyword_text keywords.RawOpen = codes "rawopen"
+keyword_text keywords.Raw = codes "raw"
+keyword_text keywords.RawTake = codes "rawtake"
+
+-- the keyword of an event
+abbrev pub event_kind : Event → Keyword
+event_kind Open = keywords.Open
+event_kind (Return c) = keywords.Return
+event_kind (Call c kind payload) = keywords.Call kind
+event_kind (Up c n) = keywords.Up
+event_kind (Down c n) = keywords.Down
+event_kind (Answer c i) = keywords.Answer
+event_kind (CutUp c) = keywords.CutUp
+event_kind (CutDown c) = keywords.CutDown
+event_kind Clear = keywords.Clear
+event_kind Restart = keywords.Restart
+event_kind RawOpen = keywords.RawOpen
+event_kind (Raw c bytes) = keywords.Raw
+event_kind (RawTake c n) = keywords.RawTake
+
+abbrev pub kind_of : Named → Keyword
+kind_of (setup s) = keywords.World
+kind_of (event e) = event_kind e
 
 abbrev pub keyword_of : Named → List ℕ
-keyword_of (setup s) = codes "world"
-keyword_of (event e) = event_keyword e
+keyword_of named = keyword_text (kind_of named)
 
 -- ---- operands
 

@@ -1,7 +1,7 @@
 //! The first words of lines.
 
 ghost use Rattle.std.specs.Prelude.{◌≡◌, IfSome, Some};
-ghost use Rattle.wire_script.specs.Reading.{keyword_text};
+ghost use Rattle.wire_script.specs.Naming.{keyword_text};
 
 use wire_peer::CallKind;
 

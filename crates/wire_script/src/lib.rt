@@ -2,6 +2,8 @@
 //!
 //! `Lines` cuts a script into its lines, and passes over empty ones and those that begin with `#`. `parse_line` reads one of
 //! them: it names with what a world is made, or an event in it. What happens in the world is no concern of this crate.
+//!
+//! Stands on wire_model. wire_play stands on it. Read first: docs/SCRIPTS.md, and then `parse`.
 #![tactic(auto)]
 
 mod body;

@@ -3,8 +3,8 @@
 ghost use Rattle.std.specs.Prelude.{◌≡◌, Err, IfOk, IfSome, List, ℕ};
 ghost use Rattle.wire_model.specs.declared.events.Event.{Event as Happening};
 ghost use Rattle.wire_script.specs.Lent.{IsLine, Lends};
-ghost use Rattle.wire_script.specs.Naming.{AreEventOperands, HasHex, IsBytesKeyword, Named, Names, NamesBytes};
-ghost use Rattle.wire_script.specs.Reading.{IsBare, event_kind, keyword_text, words_behind};
+ghost use Rattle.wire_script.specs.Naming.{AreEventOperands, HasHex, IsBytesKeyword, Named, Names, NamesBytes, event_kind, keyword_text};
+ghost use Rattle.wire_script.specs.Reading.{IsBare, words_behind};
 
 use crate::cut::cut_word;
 use crate::keyword::{Keyword, read_keyword};

@@ -1,28 +1,9 @@
 -- How what calls did to known bytes goes together.
-use Rattle.std.proofs.Common.{◌≡◌, ℕ, ◌+◌, ◌-◌, ◌≤◌, List, [], ◌++◌, length, take, drop, Option, Some, None, refl, sym, ap, ◌∙◌, arith, append_assoc, append-nil, take-add, take-append-drop, length-take}
+use Rattle.std.proofs.Common.{◌≡◌, ℕ, ◌+◌, ◌-◌, ◌≤◌, List, ◌++◌, length, take, drop, Option, sym, ap, ◌∙◌, arith, append_assoc, take-add, take-append-drop, length-take}
 use Rattle.std.proofs.lemmas.List.{drop-take, drop-drop}
 use Rattle.std.proofs.Math.Seq.{take-append_seam}
-use Rattle.std.specs.Io.KnownBytes.{Appends, Keeps}
-
-pub Keeps-refl : (a : Option (List ℕ)) → Keeps a a
-Keeps-refl None = tt
-Keeps-refl (Some x) = refl
-
-pub Keeps-trans : (a b c : Option (List ℕ)) → Keeps a b → Keeps b c → Keeps a c
-Keeps-trans None b c k l = tt
-Keeps-trans (Some x) None c k l = absurd k
-Keeps-trans (Some x) (Some y) None k l = absurd l
-Keeps-trans (Some x) (Some y) (Some z) k l = l ∙ k
-
-pub Appends-nil : (a : Option (List ℕ)) → Appends a a []
-Appends-nil None = tt
-Appends-nil (Some x) = sym (append-nil x)
-
-pub Appends-trans : (a b c : Option (List ℕ)) (xs ys : List ℕ) → Appends a b xs → Appends b c ys → Appends a c (xs ++ ys)
-Appends-trans None b c xs ys k l = tt
-Appends-trans (Some x) None c xs ys k l = absurd k
-Appends-trans (Some x) (Some y) None xs ys k l = absurd l
-Appends-trans (Some x) (Some y) (Some z) xs ys k l = l ∙ ap (λ q. q ++ ys) k ∙ append_assoc x xs ys
+use Rattle.std.proofs.KnownBytes.{Appends-trans}
+use Rattle.std.specs.Io.KnownBytes.{Appends}
 
 -- what a copy put in front
 pub copied : (input buf new : List ℕ) (at n : ℕ) → new ≡ take n (drop at input) → length new ≡ n → take (at + n) input ≡ take at input ++ take n (new ++ drop n buf)

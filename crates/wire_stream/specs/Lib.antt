@@ -7,6 +7,6 @@ pub mod Cutting
 pub mod Gathering
 -- the words that clauses of other crates cite
 pub use Rattle.wire_stream.specs.Cutting.{AnnouncesMore, Cuts, IsHeldOf, SpellEach}
-pub use Rattle.wire_stream.specs.Links.{Rose, TellsEnd}
+pub use Rattle.wire_stream.specs.Links.{AddsTurns, Rose, TellsEnd, Turn}
 pub use Rattle.wire_stream.specs.Pulls.{IsPulled}
 pub use Rattle.wire_stream.specs.Readers.{CompletesHeader, Feeds, HoldsNoMore, IsRoom, Reading, StandsAt}

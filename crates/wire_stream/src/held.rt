@@ -35,15 +35,16 @@ pub(crate) fn begin_message(
     requires { IsGoodHeader limit (header_of header.now) }
     ensures items { IfOk result (λ message. message.items ≡ header.now) }
     ensures begun { IfOk result (λ message. IsBegun limit message) }
+    ensures room { IfOk result (λ message. vec_capacity message ≡ number_at header.now 0) }
 {
     let announced = little_u32(header) as usize;
     let Ok(mut message) = Vec::with_capacity(alloc, announced) else {
         return Err(ReadRefusal::OutOfMemory);
     };
-    match message.extend_from_slice(header) {
-        Ok(()) => Ok(message),
-        Err(_) => unreachable!(),
+    for byte in header {
+        message.push_reserved(*byte);
     }
+    Ok(message)
 }
 
 /// Returns where a reader stands that holds these bytes of a message whose header is good and announces so many.

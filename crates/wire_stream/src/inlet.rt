@@ -1,8 +1,8 @@
 //! The piece of bytes that a link gave last.
 
-ghost use Rattle.std.specs.Prelude.{◌≡◌, ◌≢◌, ◌≤◌, ◌<◌, ◌++◌, [], Ok, OnErr, OnOk, IfOk, List, drop, length, ℕ};
+ghost use Rattle.std.specs.Prelude.{◌≡◌, ◌≢◌, ◌≤◌, ◌<◌, ◌++◌, ◌∷◌, [], Ok, OnErr, OnOk, IfOk, List, drop, length, ℕ};
 ghost use Rattle.std.specs.Io.KnownBytes.{Appends, Keeps};
-ghost use Rattle.wire_stream.specs.Links.{Rose};
+ghost use Rattle.wire_stream.specs.Links.{AddsTurns, Rose};
 ghost use Rattle.wire_stream.specs.Pulls.{IsPulled};
 
 use crate::link::{Link, LinkFault};
@@ -61,9 +61,10 @@ impl Inlet {
         })
     }
 
-    /// Returns the bytes that are held.
+    /// Returns the bytes that are held, at most 4,096.
     pub fn bytes(&self) -> &[u8]
-        ensures { result.now ≡ self.now }
+        ensures bytes { result.now ≡ self.now }
+        ensures within { length self.now ≤ 4096 }
     {
         &self.piece[self.start..self.end]
     }
@@ -85,6 +86,9 @@ impl Inlet {
         ensures held { self.old ≢ [] → (result ≡ Ok Pulled.Bytes) × (self.new ≡ self.old) × (link.new ≡ link.old) }
         ensures received { (more : List ℕ) × Appends (L.received link.old) (L.received link.new) more
             × (self.new ≡ self.old ++ more) }
+        ensures turn { self.old ≡ [] → AddsTurns (L.turns link.old) (L.turns link.new)
+            (record { received = L.received link.old; sent = L.sent link.old } ∷ []) }
+        ensures within { length self.new ≤ 4096 }
         ensures found { IsPulled result (self.new) (L.ends link.old) (L.ends link.new) }
         ensures sent { Keeps (L.sent link.old) (L.sent link.new) }
         ensures works { OnOk result (L.failures link.new ≡ L.failures link.old) }

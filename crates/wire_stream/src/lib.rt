@@ -3,6 +3,8 @@
 //! A `MsgReader` makes messages of bytes that come in pieces. A `Link` moves bytes both ways and may fail. An `Inlet` holds
 //! the piece that a link gave last, and `flush` sends what an `Outlet`, such as an `OutBuf`, has waiting. Nothing here looks
 //! into a message, but at its length, except by the contract of wire_msg.
+//!
+//! Stands on wire_msg. wire_peer stands on it. Read first: `reader`, and then `link`.
 #![tactic(auto)]
 
 mod held;

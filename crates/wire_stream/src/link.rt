@@ -1,8 +1,8 @@
 //! Links, which move bytes both ways.
 
-ghost use Rattle.std.specs.Prelude.{◌≡◌, ◌<◌, ◌≤◌, ℕ, List, Option, IfOk, OnErr, OnOk, length, take};
+ghost use Rattle.std.specs.Prelude.{◌≡◌, ◌<◌, ◌≤◌, ◌∷◌, [], ℕ, List, Option, IfOk, OnErr, OnOk, length, take};
 ghost use Rattle.std.specs.Io.KnownBytes.{Appends, Keeps};
-ghost use Rattle.wire_stream.specs.Links.{Rose, TellsEnd};
+ghost use Rattle.wire_stream.specs.Links.{AddsTurns, Rose, TellsEnd, Turn};
 
 /// A link failed to move bytes.
 #[derive(Clone, Copy, Debug, PartialEq, Eq)]
@@ -14,6 +14,8 @@ pub trait Link {
     ghost received: { Self → Option (List ℕ) };
     // The bytes sent since the link was made, where the link tells them.
     ghost sent: { Self → Option (List ℕ) };
+    // What had been received and sent before each call of `recv`, where the link tells it.
+    ghost turns: { Self → Option (List Turn) };
     // How often a call failed, counted up to 2 ^ 64 - 1.
     ghost failures: { Self → ℕ };
     // How often `recv` told the end of the link, counted up to 2 ^ 64 - 1.
@@ -31,6 +33,8 @@ pub trait Link {
             Appends (received self.old) (received self.new) (take n buffer.new)) }
         ensures none_received { OnErr result (Keeps (received self.old) (received self.new)) }
         ensures sent { Keeps (sent self.old) (sent self.new) }
+        ensures turn { AddsTurns (turns self.old) (turns self.new)
+            (record { received = received self.old; sent = sent self.old } ∷ []) }
         ensures end { TellsEnd (length buffer.old) result (ends self.old) (ends self.new) }
         ensures works { OnOk result (failures self.new ≡ failures self.old) }
         ensures fails { OnErr result (Rose (failures self.old) (failures self.new)) };
@@ -47,6 +51,7 @@ pub trait Link {
             Appends (sent self.old) (sent self.new) (take n bytes.now)) }
         ensures none_sent { OnErr result (Keeps (sent self.old) (sent self.new)) }
         ensures received { Keeps (received self.old) (received self.new) }
+        ensures turns { AddsTurns (turns self.old) (turns self.new) [] }
         ensures end { ends self.new ≡ ends self.old }
         ensures works { OnOk result (failures self.new ≡ failures self.old) }
         ensures fails { OnErr result (Rose (failures self.old) (failures self.new)) };

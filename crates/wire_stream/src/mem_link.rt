@@ -147,6 +147,8 @@ impl Link for MemLink {
 
     ghost sent = { λ s. Some s.sent };
 
+    ghost turns = { λ _. None };
+
     ghost failures = { λ s. s.failures };
 
     ghost ends = { λ s. s.ends };

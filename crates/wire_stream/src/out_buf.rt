@@ -1,6 +1,6 @@
 //! Messages that wait to be sent.
 
-ghost use Rattle.std.specs.Prelude.{◌≡◌, ◌≤◌, ◌++◌, [], IfErr, List, OnErr, OnOk, drop, length, take, ℕ};
+ghost use Rattle.std.specs.Prelude.{◌≡◌, ◌≤◌, ◌++◌, [], IfErr, List, OnErr, OnOk, drop, length, refl, take, ℕ};
 ghost use Rattle.wire_msg.specs.{Carries, Content, IsWriteRefusal, Message, canonical, message_len};
 
 use crate::outlet::Outlet;
@@ -130,6 +130,14 @@ impl OutBuf {
 
 impl Outlet for OutBuf {
     ghost waiting = { λ s. s };
+
+    ghost with_waiting = { λ s bytes. bytes };
+
+    ghost waits = { λ o bytes. refl };
+
+    ghost unchanged = { λ o. refl };
+
+    ghost last = { λ o first then. refl };
 
     fn output(&self) -> &[u8] {
         OutBuf::output(self)

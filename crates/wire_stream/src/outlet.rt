@@ -2,7 +2,7 @@
 
 ghost use Rattle.std.specs.Prelude.{◌≡◌, ◌≤◌, ◌++◌, [], ℕ, List, OnErr, OnOk, drop, length};
 ghost use Rattle.std.specs.Io.KnownBytes.{Appends, Keeps};
-ghost use Rattle.wire_stream.specs.Links.{Rose};
+ghost use Rattle.wire_stream.specs.Links.{AddsTurns, Rose};
 
 use crate::link::{Link, LinkFault};
 
@@ -10,18 +10,29 @@ use crate::link::{Link, LinkFault};
 pub trait Outlet {
     // The bytes that wait, in order.
     ghost waiting: { Self → List ℕ };
+    // The outlet with these bytes in place of those that wait. All else of it stays.
+    ghost with_waiting: { Self → List ℕ → Self };
 
     /// Returns the bytes that wait.
     fn output(&self) -> &[u8]
         ensures { result.now ≡ waiting self.now };
 
-    /// Takes the first `n` of the bytes that wait off, since they were sent.
+    /// Takes the first `n` of the bytes that wait off, since they were sent. Nothing else of the outlet changes.
     fn sent(&mut self, n: usize)
         requires { n ≤ length (waiting self.old) }
-        ensures { waiting self.new ≡ drop n (waiting self.old) };
+        ensures { self.new ≡ with_waiting self.old (drop n (waiting self.old)) };
+
+    // What was put in waits.
+    ghost waits: { (o : Self) (bytes : List ℕ) → waiting (with_waiting o bytes) ≡ bytes };
+
+    // What waits, put in again, changes nothing.
+    ghost unchanged: { (o : Self) → with_waiting o (waiting o) ≡ o };
+
+    // What is put in last counts alone.
+    ghost last: { (o : Self) (first then : List ℕ) → with_waiting (with_waiting o first) then ≡ with_waiting o then };
 }
 
-/// Sends over `link` all bytes that wait in `outlet`.
+/// Sends over `link` all bytes that wait in `outlet`. Nothing else of the outlet changes.
 ///
 /// # Errors
 ///
@@ -29,8 +40,10 @@ pub trait Outlet {
 pub fn flush<L: Link, O: Outlet>(link: &mut L, outlet: &mut O) -> Result<(), LinkFault>
     ensures sent { (gone : List ℕ) × Appends (L.sent link.old) (L.sent link.new) gone
         × (O.waiting outlet.old ≡ gone ++ O.waiting outlet.new) }
+    ensures others { outlet.new ≡ O.with_waiting outlet.old (O.waiting outlet.new) }
     ensures all { OnOk result (O.waiting outlet.new ≡ []) }
     ensures received { Keeps (L.received link.old) (L.received link.new) }
+    ensures turns { AddsTurns (L.turns link.old) (L.turns link.new) [] }
     ensures end { L.ends link.new ≡ L.ends link.old }
     ensures works { OnOk result (L.failures link.new ≡ L.failures link.old) }
     ensures fails { OnErr result (Rose (L.failures link.old) (L.failures link.new)) }

@@ -1,12 +1,15 @@
 //! A link over a stream, such as a TCP connection.
 
-ghost use Rattle.std.specs.Prelude.{◌≡◌, None};
+ghost use Rattle.std.specs.Prelude.{◌≡◌, ◌≤◌, ◌<◌, None, IfOk, OnErr, OnOk, length};
+ghost use Rattle.std.specs.Io.KnownBytes.{ReadConsumes, WriteAppends};
+ghost use Rattle.wire_stream.specs.Links.{Rose, TellsEnd};
 
 use crate::link::{Link, LinkFault};
 use std::io::{Read, Write};
 
-/// A link over a stream such as `TcpStream`. It leaves its bytes untold, since no contract can say what a socket carries.
-/// A call that sends nothing of some bytes counts as a failure.
+/// A link over a stream such as `TcpStream`. It leaves its bytes untold, since no contract can say what a socket carries;
+/// of a stream that tells its own, it gives the bytes that were read, and writes those that it counts. A call that sends
+/// nothing of some bytes counts as a failure.
 #[derive(Drop)]
 pub struct TcpLink<S: Read + Write + Drop> {
     stream: S,
@@ -27,6 +30,16 @@ impl<S: Read + Write + Drop> TcpLink<S> {
             ends: 0,
         }
     }
+
+    /// Counts a failure.
+    fn fail(&mut self) -> LinkFault
+        ensures failures { Rose self.old.failures self.new.failures }
+        ensures ends { self.new.ends ≡ self.old.ends }
+        ensures stream { self.new.stream ≡ self.old.stream }
+    {
+        self.failures = self.failures.saturating_add(1);
+        LinkFault
+    }
 }
 
 impl<S: Read + Write + Drop> Link for TcpLink<S> {
@@ -34,11 +47,19 @@ impl<S: Read + Write + Drop> Link for TcpLink<S> {
 
     ghost sent = { λ _. None };
 
+    ghost turns = { λ _. None };
+
     ghost failures = { λ s. s.failures };
 
     ghost ends = { λ s. s.ends };
 
-    fn recv(&mut self, buffer: &mut [u8]) -> Result<usize, LinkFault> {
+    fn recv(&mut self, buffer: &mut [u8]) -> Result<usize, LinkFault>
+        ensures within { IfOk result (λ n. n ≤ length buffer.old) }
+        ensures read { ReadConsumes (S.remaining self.old.stream) (S.remaining self.new.stream) result buffer.new }
+        ensures end { TellsEnd (length buffer.old) result self.old.ends self.new.ends }
+        ensures works { OnOk result (self.new.failures ≡ self.old.failures) }
+        ensures fails { OnErr result (Rose self.old.failures self.new.failures) }
+    {
         if buffer.is_empty() {
             return Ok(0);
         }
@@ -48,23 +69,25 @@ impl<S: Read + Write + Drop> Link for TcpLink<S> {
                 Ok(0)
             }
             Ok(n) => Ok(n),
-            Err(_) => {
-                self.failures = self.failures.saturating_add(1);
-                Err(LinkFault)
-            }
+            Err(_) => Err(self.fail()),
         }
     }
 
-    fn send(&mut self, bytes: &[u8]) -> Result<usize, LinkFault> {
+    fn send(&mut self, bytes: &[u8]) -> Result<usize, LinkFault>
+        ensures within { IfOk result (λ n. n ≤ length bytes.now) }
+        ensures some { 0 < length bytes.now → IfOk result (λ n. 0 < n) }
+        ensures written { WriteAppends (S.contents self.old.stream) (S.contents self.new.stream) result bytes.now }
+        ensures end { self.new.ends ≡ self.old.ends }
+        ensures works { OnOk result (self.new.failures ≡ self.old.failures) }
+        ensures fails { OnErr result (Rose self.old.failures self.new.failures) }
+    {
         if bytes.is_empty() {
             return Ok(0);
         }
         match self.stream.write(bytes) {
-            Ok(n) if n > 0 => Ok(n),
-            _ => {
-                self.failures = self.failures.saturating_add(1);
-                Err(LinkFault)
-            }
+            Ok(0) => Err(self.fail()),
+            Ok(n) => Ok(n),
+            Err(_) => Err(self.fail()),
         }
     }
 }

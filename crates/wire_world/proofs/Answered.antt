@@ -9,7 +9,7 @@ use Rattle.wire_peer.specs.declared.server_state.AnswerRefusal.{AnswerRefusal}
 use Rattle.wire_peer.specs.declared.server_state.AnswerRefusal.TheVariants as answers
 use Rattle.wire_peer.specs.declared.server_state.ServerState.{ServerState}
 use Rattle.wire_peer.specs.declared.server_state.ServerState.TheVariants.{Open, Closed}
-use Rattle.wire_model.specs.{Answers, Conn, World, answer_reason, conn_at, conn_set, first_reason, reason_at}
+use Rattle.wire_model.specs.{Answers, Conn, World, answer_reason, conn_at, conn_set, first_reason, no_needs, reason_at}
 use Rattle.wire_model.specs.declared.events.Event.TheVariants.{Answer}
 use Rattle.wire_model.specs.declared.refusals.WorldRefusal.{WorldRefusal}
 use Rattle.wire_model.specs.declared.refusals.WorldRefusal.TheVariants as refusals
@@ -32,7 +32,7 @@ is_open (Closed cause) w i e = absurd (none-some (refusals.Answer answers.Closed
 -- the server is open, and the request waits
 pub answer_passes : {H : Type 0} {v now : WorldSeen H} (c i : ℕ) (k : Conn) → v ≡ now → first_reason now.state (Answer c i) ≡ None → conn_at v.state.conns c ≡ Some k → (k.server.state ≡ Open) × (i < length k.server.waiting)
 answer_passes {v = v} c i k seen passes at =
-    is_open k.server.state (length k.server.waiting) i (subst (λ (o : Option Conn). reason_at v.state (Answer c i) c o ≡ None) at
+    is_open k.server.state (length k.server.waiting) i (subst (λ (o : Option Conn). reason_at v.state (Answer c i) (no_needs c) o ≡ None) at
     (subst (λ (u : WorldSeen _). first_reason u.state (Answer c i) ≡ None) (sym seen) passes))
 
 module _ {H : Type 0} (does : Does H) (stops : Stops H) {v now : WorldSeen H} (c i : ℕ) (k k' : Conn) (h : H) (entries : List Entry) (seen : v ≡ now) (at : conn_at v.state.conns c ≡ Some k) (others : k' ≡ record k { server = k'.server }) where

@@ -1,11 +1,11 @@
 -- What holds of a world that a list of events made, by the laws of runs.
 use Rattle.std.specs.Prelude.{◌≡◌, IfOk, MatchResult, Result, Ok, Err, List}
 use Rattle.wire_peer.specs.{Does, Stops}
-use Rattle.wire_model.specs.{AreGood, Headline, IdsApart, QuietIsDone, RawAnswerOwn, RawGiveOwn, Run, UncutIsOpen, opening}
+use Rattle.wire_model.specs.{AreGood, GoesOnFromEach, Headline, IdsApart, QuietIsDone, RawAnswerOwn, RawGiveOwn, Run, UncutIsOpen, opening}
 use Rattle.wire_model.specs.declared.events.Event.{Event}
 use Rattle.wire_model.specs.declared.limits.WorldLimits.{WorldLimits}
 use Rattle.wire_model.specs.declared.refusals.SetupRefusal.{SetupRefusal}
-use Rattle.wire_model.proofs.Lemmas.{headline, headline_alone, ids_stay_apart, own_entries}
+use Rattle.wire_model.proofs.Lemmas.{goes_on_from_each, headline, headline_alone, ids_stay_apart, own_entries}
 use Rattle.wire_world.specs.Setups.{IsSetupRefusal}
 use Rattle.wire_world.specs.Worlds.{WorldSeen}
 
@@ -16,6 +16,10 @@ module _ (H : Type 0) (does : Does H) (stops : Stops H) (l : WorldLimits) (first
   pub shown_of : (r : Result (WorldSeen H) SetupRefusal) → Ran r → IfOk r (λ w. Headline does stops first w.state)
   shown_of (Ok w) ran = headline_alone H does stops l first es w.state ran.0 ran.2
   shown_of (Err refusal) ran = tt
+
+  pub goes_on_of : (r : Result (WorldSeen H) SetupRefusal) → Ran r → IfOk r (λ w. GoesOnFromEach does stops l first es w.state)
+  goes_on_of (Ok w) ran = goes_on_from_each H does stops l first es w.state ran.0 ran.2
+  goes_on_of (Err refusal) ran = tt
 
   pub quiet_of : (r : Result (WorldSeen H) SetupRefusal) → Ran r → IfOk r (λ w. QuietIsDone w.state)
   quiet_of (Ok w) ran = (headline_alone H does stops l first es w.state ran.0 ran.2).quiet

@@ -1,20 +1,27 @@
 -- The connection of an event that passes the checks.
-use Rattle.std.specs.Prelude.{◌≡◌, ℕ, zero, suc, ◌-◌, ◌<◌, List, length, Option, None, Some}
-use Rattle.std.proofs.Common.{◌∙◌, arith, get_or, refl, subst, sym}
-use Rattle.std.proofs.lemmas.Option.{none-some, slice_get_read, slice_get_within}
-use Rattle.wire_model.specs.{Conn, World, conn_at, connection_of, first_reason, reason_at, reason_of}
+use Rattle.std.specs.Prelude.{◌≡◌, ℕ, zero, suc, ◌-◌, ◌<◌, List, length, Option, None, Some, option_map}
+use Rattle.std.proofs.Common.{◌∙◌, ap, arith, get_or, refl, subst, sym}
+use Rattle.std.proofs.lemmas.Option.{none-some, same_Some, slice_get_read, slice_get_within}
+use Rattle.wire_model.specs.{Conn, World, conn_at, connection_of, first_reason, needs_of, reason_at, reason_of}
 use Rattle.wire_model.specs.declared.events.Event.{Event}
+use Rattle.wire_model.specs.declared.needs.Needs.{Needs}
 use Rattle.wire_model.specs.declared.refusals.WorldRefusal.TheVariants.{NoConnection}
 use Rattle.wire_world.specs.Worlds.{WorldSeen}
 use Rattle.wire_world.proofs.Numbered.{conn_at_place}
 
 -- its connection is there
 pub is_there : {H : Type 0} (w : World H) (e : Event) (c : ℕ) → connection_of e ≡ Some c → first_reason w e ≡ None → (k : Conn) × (conn_at w.conns c ≡ Some k)
-is_there w e c is passes = by (conn_at w.conns c) refl (subst (λ (o : Option ℕ). reason_of w e o ≡ None) is passes)
+is_there w e c is passes = of (needs_of e) is passes
   where
-    by : (o : Option Conn) → conn_at w.conns c ≡ o → reason_at w e c (conn_at w.conns c) ≡ None → (k : Conn) × (conn_at w.conns c ≡ Some k)
-    by None at p = absurd (none-some NoConnection (sym (subst (λ (o : Option Conn). reason_at w e c o ≡ None) at p)))
-    by (Some k) at p = (k, at)
+    by : (n : Needs) (o : Option Conn) → conn_at w.conns n.connection ≡ o → reason_at w e n o ≡ None → (k : Conn) × (conn_at w.conns n.connection ≡ Some k)
+    by n None at p = absurd (none-some NoConnection (sym p))
+    by n (Some k) at p = (k, at)
+
+    of : (o : Option Needs) → option_map (λ (n : Needs). n.connection) o ≡ Some c → reason_of w e o ≡ None → (k : Conn) × (conn_at w.conns c ≡ Some k)
+    of None is p = absurd (none-some c is)
+    of (Some n) is p =
+        let found = by n (conn_at w.conns n.connection) refl p in
+        (found.0, ap (conn_at w.conns) (sym (same_Some n.connection c is)) ∙ found.1)
 
 -- a connection's number is from 1 to their count
 pub numbered : (ks : List Conn) (c : ℕ) (k : Conn) → conn_at ks c ≡ Some k → (0 < c) × (c - 1 < length ks)

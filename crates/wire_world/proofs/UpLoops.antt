@@ -1,5 +1,5 @@
 -- Pieces of a client's output that go into the server, one after another.
-use Rattle.std.proofs.Common.{◌≡◌, ℕ, ◌+◌, ◌-◌, ◌<◌, ◌≤◌, ◌⊎◌, inl, inr, Bool, true, false, true≢false, List, [], ◌++◌, length, take, drop, Option, Some, ap, refl, sym, subst, ◌∙◌, arith}
+use Rattle.std.proofs.Common.{◌≡◌, ℕ, ◌+◌, ◌-◌, ◌<◌, ◌≤◌, ◌⊎◌, inl, inr, Bool, false, true≢false, List, [], ◌++◌, length, take, drop, Option, Some, ap, refl, sym, subst, ◌∙◌, arith}
 use Rattle.std.specs.Result.{IsErr}
 use Rattle.std.specs.Prelude.{min, Result, Ok, Err}
 use Rattle.std.proofs.lemmas.List.{length-take-le}

@@ -1,8 +1,11 @@
 -- A connection, as a world sees it.
-use Rattle.std.specs.Prelude.{◌≡◌, ℕ, Bool, true, false, List, Option, Some, None}
+use Rattle.std.specs.Prelude.{◌≡◌, ℕ, ◌&&◌, not, Bool, true, false, List, Option, Some, None}
 use Rattle.wire_peer.specs.{ClientSeen, ServerView}
 use Rattle.wire_peer.specs.declared.client_state.ClientState.TheVariants.{Open}
-use Rattle.wire_model.specs.{Conn, no_client}
+use Rattle.wire_peer.specs.declared.server_state.ServerCause.TheVariants.{ReplyTooLarge, NoMemory, HandlerFailed}
+use Rattle.wire_peer.specs.declared.server_state.ServerState.{ServerState}
+use Rattle.wire_peer.specs.declared.server_state.ServerState.TheVariants as servers
+use Rattle.wire_model.specs.{Conn, is_empty, no_client}
 
 -- a connection without a client is raw
 abbrev pub conn_of : Option ClientSeen → ServerView → List ℕ → (up_cut down_cut : Bool) → Conn
@@ -13,3 +16,14 @@ conn_of (Some client) server calls up_cut down_cut = record { raw = false; clien
 abbrev pub IsReleased : Option ClientSeen → Type 0
 IsReleased None = Unit {0}
 IsReleased (Some client) = client.state ≡ Open → client.reply ≡ None
+
+-- an answer closed the server
+abbrev pub is_stopped : ServerState → Bool
+is_stopped (servers.Closed ReplyTooLarge) = true
+is_stopped (servers.Closed NoMemory) = true
+is_stopped (servers.Closed HandlerFailed) = true
+is_stopped s = false
+
+-- not cut, nor closed by an answer, with nothing on its ways, and nothing that waits
+abbrev pub is_quiet : Conn → Bool
+is_quiet k = not k.up_cut && (not k.down_cut && (not (is_stopped k.server.state) && (is_empty k.client.requests.output && (is_empty k.server.output && is_empty k.server.waiting))))

@@ -1,16 +1,17 @@
 //! A connection of a world: its two ends, and which ways are cut.
 
-ghost use Rattle.std.specs.Prelude.{◌≡◌, ◌≢◌, ◌++◌, ◌∷◌, [], IfErr, IfOk, MatchResult, OnErr, length, option_map};
+ghost use Rattle.std.specs.Prelude.{◌≡◌, ◌≢◌, ◌++◌, ◌∷◌, [], false, IfErr, IfOk, MatchResult, OnErr, length, option_map};
 ghost use Rattle.wire_peer.specs.{AnswerStep, IsCallRefusal, IsCalled, called, content_of, log_of};
-ghost use Rattle.wire_model.specs.{AreGood, answer_reason, cut_both, cut_down, cut_up, is_closed, is_healthy, new_conn, new_raw_conn, restarted};
+ghost use Rattle.wire_world.specs.Connections.{is_quiet, is_stopped};
+ghost use Rattle.wire_model.specs.{AreGood, answer_reason, cut_both, cut_down, cut_up, is_closed, is_cut_for, is_empty, is_healthy, new_conn, new_raw_conn, restarted};
 
 use std::alloc::{AllocError, Global};
 use std::marker::Model;
-use wire_model::{WorldLimits, WorldRefusal};
+use wire_model::{Needs, WorldLimits, WorldRefusal};
 use wire_msg::Payload;
 use wire_peer::{
     AnswerRefusal, CallKind, CallNo, CallRefusal, Client, ClientState, Handler, Logged, Server,
-    ServerState,
+    ServerCause, ServerState,
 };
 
 /// A connection. A raw one has no client of ours.
@@ -115,6 +116,35 @@ impl Connection {
         }
     }
 
+    /// Returns true if the connection was not cut nor closed by an answer, and nothing is on its ways or waits.
+    pub(crate) fn is_quiet(&self) -> bool
+        ensures { result ≡ is_quiet self.now }
+    {
+        !self.up_cut
+            && !self.down_cut
+            && !is_stopped(self.server.state())
+            && self.is_up_empty()
+            && self.server.output().is_empty()
+            && self.server.waiting() == 0
+    }
+
+    /// Returns true if the client has nothing to send, or was never there.
+    fn is_up_empty(&self) -> bool
+        ensures { result ≡ is_empty self.now.client.requests.output }
+    {
+        match &self.client {
+            Some(client) => client.output().is_empty(),
+            None => true,
+        }
+    }
+
+    /// Returns true if a way is cut that must not be.
+    pub(crate) fn is_cut_for(&self, needs: Needs) -> bool
+        ensures { result ≡ is_cut_for needs self.now }
+    {
+        (needs.up && self.up_cut) || (needs.down && self.down_cut)
+    }
+
     /// Cuts the way up: nothing more moves, and the server is told the end.
     pub(crate) fn cut_up(&mut self)
         ensures { self.new ≡ cut_up self.old }
@@ -161,6 +191,7 @@ impl Connection {
         payload: Payload<'_>,
         index: usize,
     ) -> Result<CallNo, CallRefusal>
+        requires { self.old.raw ≡ false }
         ensures called { IfOk result (λ no. IsCalled self.old.client kind (content_of payload.entry) no
             × (self.new ≡ record self.old {
               client = called self.old.client kind (content_of payload.entry) no;
@@ -174,7 +205,7 @@ impl Connection {
             return Err(CallRefusal::OutOfMemory);
         }
         let Some(client) = &mut self.client else {
-            return Err(CallRefusal::Closed);
+            unreachable!()
         };
         let call = call_as(client, kind, payload)?;
         self.calls.push_reserved(index);
@@ -206,6 +237,18 @@ impl Connection {
         ensures others { self.new ≡ record self.old { server = self.new.server } }
     {
         self.server.answer(k, logged)
+    }
+}
+
+/// Returns true if an answer closed the server.
+fn is_stopped(state: ServerState) -> bool
+    ensures { result ≡ is_stopped state }
+{
+    match state {
+        ServerState::Closed(
+            ServerCause::ReplyTooLarge | ServerCause::NoMemory | ServerCause::HandlerFailed,
+        ) => true,
+        _ => false,
     }
 }
 

@@ -3,10 +3,12 @@
 //! A `World` has connections, each with a client and a server of its own, one handler with its log, and a record of each call.
 //! An `Event` moves bytes over a connection, makes a call, has a request answered, cuts a way, or lends and takes back a
 //! connection. `step` makes one event happen, and `run` many.
+//!
+//! Stands on wire_model, and on the code of wire_peer and wire_pool. wire_play stands on it. Read
+//! first: `worlds`.
 #![tactic(auto)]
 
 mod connections;
-mod event_parts;
 mod lists;
 mod moving;
 mod records;

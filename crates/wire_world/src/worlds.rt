@@ -1,7 +1,7 @@
 //! Worlds of connections, and the events that happen in them.
 
-ghost use Rattle.std.specs.Prelude.{◌≡◌, ◌≢◌, IfErr, IfNone, IfOk, IfSome, Err, MatchResult, None, Ok, OnErr, Some, map};
-ghost use Rattle.wire_model.specs.{AreGood, Calls, CutsDown, CutsUp, Happens, Headline, IdsApart, QuietIsDone, RawAnswerOwn, RawGiveOwn, RefusesCall, Returns, Run, UncutIsOpen, cleared_world, dropped, first_reason, is_full_for, opening, restarted_world};
+ghost use Rattle.std.specs.Prelude.{◌≡◌, ◌≢◌, ◌↔◌, IfErr, IfNone, IfOk, IfSome, IsTrue, Err, MatchResult, None, Ok, OnErr, Some, map};
+ghost use Rattle.wire_model.specs.{AreGood, Calls, CutsDown, CutsUp, GoesOnFromEach, Happens, Headline, IdsApart, IsQuiet, QuietIsDone, RawAnswerOwn, RawGiveOwn, RefusesCall, Returns, Run, UncutIsOpen, cleared_world, dropped, first_reason, is_full_for, opening, restarted_world};
 ghost use Rattle.wire_model.specs.declared.events.Event.TheVariants as events;
 ghost use Rattle.wire_model.specs.declared.reports.Report.TheVariants as reports;
 ghost use Rattle.wire_peer.specs.{content_of, log_of};
@@ -9,7 +9,6 @@ ghost use Rattle.wire_world.specs.Records.{record_of};
 ghost use Rattle.wire_world.specs.Setups.{AreGoodForEnds, IsNewWorld, IsSetupRefusal};
 
 use crate::connections::Connection;
-use crate::event_parts::{connection_of, is_cut_for, wants_client, wants_loan, wants_raw};
 use crate::lists::{connection_at, cut_all, cut_at, restart_all, settle};
 use crate::moving::closed_now;
 use crate::records::CallRecord;
@@ -17,14 +16,10 @@ use std::alloc::{AllocError, Global};
 use std::marker::Model;
 use wire_model::{Event, Report, SetupRefusal, WorldLimits, WorldRefusal};
 use wire_msg::{MAX_MESSAGE_LEN, Payload};
-use wire_peer::{AnswerRefusal, CallKind, CallNo, CallRefusal, Entry, Handler, Logged};
+use wire_peer::{
+    AnswerRefusal, CallKind, CallNo, CallRefusal, Entry, Handler, Logged, MAX_WINDOW, MIN_LIMIT,
+};
 use wire_pool::{CheckIn, CheckOut, Pool, PoolRefusal};
-
-/// The most calls that may be outstanding, and requests that may wait.
-const MAX_WINDOW: usize = 1024;
-
-/// The least limit on the length of a message.
-const MIN_LIMIT: u32 = 26;
 
 /// A world: a pool, its connections, the records of the calls, and a handler with its log.
 ///
@@ -123,6 +118,17 @@ impl<H> World<H> {
         self.logged.entries()
     }
 
+    /// Returns true if neither way of the connection of this number was cut, no answer closed its server, nothing is on
+    /// the ways, and no request waits.
+    pub fn is_quiet(&self, number: u64) -> bool
+        ensures { IsTrue result ↔ IsQuiet self.now.state number }
+    {
+        match connection_at(&self.connections, number) {
+            Some(connection) => connection.is_quiet(),
+            None => false,
+        }
+    }
+
     /// Returns the first reason that stands against the event, if one does; but for a call, the client may refuse it too.
     fn check(&self, event: &Event<'_>) -> Result<(), WorldRefusal>
         ensures { MatchResult result
@@ -132,22 +138,22 @@ impl<H> World<H> {
         if self.is_full_for(event) {
             return Err(WorldRefusal::Full);
         }
-        let Some(number) = connection_of(event) else {
+        let Some(needs) = event.needs() else {
             return Ok(());
         };
-        let Some(connection) = connection_at(&self.connections, number) else {
+        let Some(connection) = connection_at(&self.connections, needs.connection) else {
             return Err(WorldRefusal::NoConnection);
         };
-        if wants_client(event) && connection.is_raw() {
+        if needs.client && connection.is_raw() {
             return Err(WorldRefusal::Raw);
         }
-        if wants_raw(event) && !connection.is_raw() {
+        if needs.raw && !connection.is_raw() {
             return Err(WorldRefusal::NotRaw);
         }
-        if wants_loan(event) && !self.pool.is_lent(number) {
+        if needs.loan && !self.pool.is_lent(needs.connection) {
             return Err(WorldRefusal::NotLent);
         }
-        if is_cut_for(event, connection) {
+        if connection.is_cut_for(needs) {
             return Err(WorldRefusal::Cut);
         }
         if let Event::Answer(_, k) = *event
@@ -563,6 +569,8 @@ impl<H: Handler + Drop> World<H> {
             × Run H.does H.stops limits (opening limits handler) events.now w.state)
             (λ refusal. IsSetupRefusal limits refusal) }
         ensures headline { IfOk result (λ w. Headline H.does H.stops handler w.state) }
+        ensures goes_on { IfOk result
+            (λ w. GoesOnFromEach H.does H.stops limits handler events.now w.state) }
         ensures quiet { IfOk result (λ w. QuietIsDone w.state) }
         ensures uncut { IfOk result (λ w. UncutIsOpen w.state) }
         ensures ids { IfOk result (λ w. IdsApart w.state) }

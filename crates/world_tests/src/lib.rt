@@ -1,5 +1,7 @@
 //! Tests of worlds, by what no contract says: that events succeed where memory is there, and that the definitions mean the
 //! protocol. They stand in a crate of their own, since a crate is proved once more with its tests.
+//!
+//! Stands on wire_world. Read first: `runs`.
 #![tactic(auto)]
 
 #[cfg(test)]
@@ -8,6 +10,8 @@ mod deliveries;
 mod limits;
 #[cfg(test)]
 mod neighbours;
+#[cfg(test)]
+mod quiet;
 #[cfg(test)]
 mod rows;
 #[cfg(test)]

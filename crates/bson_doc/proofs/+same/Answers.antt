@@ -42,28 +42,28 @@ pub documents::DocumentPartialEq::eq-returns-then-ne : goal.documents::DocumentP
 documents::DocumentPartialEq::eq-returns-then-ne t c =
     not_same coded_pairs _ _
     (λ e.
-    let all = same_names c.self.inside.names.keys c.other.inside.names.keys (same_document_names c.self.inside.names.keys c.other.inside.names.keys c.self.inside.values.items c.other.inside.values.items c.self.invariant c.other.invariant (c.self.view_is ∙ e ∙ sym c.other.view_is)) in
-    differ _ c.ne.result c.if-ne.true c.ne.ensures (rw (c.as_slice.ensures.keys, c.as_slice-2.ensures.keys) all))
+    let all = same_names c.self.inside.names c.other.inside.names (same_document_names c.self.inside.names c.other.inside.names c.self.inside.values.items c.other.inside.values.items c.self.invariant c.other.invariant (c.self.view_is ∙ e ∙ sym c.other.view_is)) in
+    differ _ c.ne.result c.if-ne.true c.ne.ensures (rw (c.as_slice.ensures.names, c.as_slice-2.ensures.names) all))
 
 pub documents::DocumentPartialEq::eq-loop-i-preserved : goal.documents::DocumentPartialEq::eq-loop-i-preserved
 documents::DocumentPartialEq::eq-loop-i-preserved t c =
     let many = as_many_names c.as_slice.result.now c.as_slice-2.result.now (stay _ c.ne.result c.if-ne.false c.ne.ensures) in
-    let short : c.loop-i.i < length c.other.inside.values.items = omega (arith, many, ap length c.as_slice.ensures.keys, ap length c.as_slice-2.ensures.keys, c.self.invariant, c.other.invariant, ap length c.deref-value-items.ensures.value) in
+    let short : c.loop-i.i < length c.other.inside.values.items = omega (arith, many, ap length c.as_slice.ensures.names, ap length c.as_slice-2.ensures.names, c.self.invariant, c.other.invariant, ap length c.deref-value-items.ensures.value) in
     one_more c.deref-value-items.result.now c.other.inside.values.items c.loop-i.i c.value-item.result c.index.result.now (omega arith) short c.value-item.is c.index.ensures c.loop-i.invariant (sym c.eq.ensures ∙ c.if-not-eq.false)
 
 pub documents::DocumentPartialEq::eq-returns-then-not-eq : goal.documents::DocumentPartialEq::eq-returns-then-not-eq
 documents::DocumentPartialEq::eq-returns-then-not-eq t c =
     let many = as_many_names c.as_slice.result.now c.as_slice-2.result.now (stay _ c.ne.result c.if-ne.false c.ne.ensures) in
-    let short : c.loop-i.i < length c.other.inside.values.items = omega (arith, many, ap length c.as_slice.ensures.keys, ap length c.as_slice-2.ensures.keys, c.self.invariant, c.other.invariant, ap length c.deref-value-items.ensures.value) in
+    let short : c.loop-i.i < length c.other.inside.values.items = omega (arith, many, ap length c.as_slice.ensures.names, ap length c.as_slice-2.ensures.names, c.self.invariant, c.other.invariant, ap length c.deref-value-items.ensures.value) in
     not_same coded_pairs _ _
     (λ e. one_other c.deref-value-items.result.now c.other.inside.values.items c.loop-i.i c.value-item.result c.index.result.now (omega arith) short c.value-item.is c.index.ensures (sym c.eq.ensures ∙ c.if-not-eq.true)
-    (ap (map value_of) c.deref-value-items.ensures.value ∙ same_document_values c.self.inside.names.keys c.other.inside.names.keys c.self.inside.values.items c.other.inside.values.items c.self.invariant c.other.invariant (c.self.view_is ∙ e ∙ sym c.other.view_is)))
+    (ap (map value_of) c.deref-value-items.ensures.value ∙ same_document_values c.self.inside.names c.other.inside.names c.self.inside.values.items c.other.inside.values.items c.self.invariant c.other.invariant (c.self.view_is ∙ e ∙ sym c.other.view_is)))
 
 pub documents::DocumentPartialEq::eq-returns : goal.documents::DocumentPartialEq::eq-returns
 documents::DocumentPartialEq::eq-returns t c =
     let named = stay _ c.ne.result c.if-ne.false c.ne.ensures in
     let many = as_many_names c.as_slice.result.now c.as_slice-2.result.now named in
-    let lengths : length c.deref-value-items.result.now ≡ length c.other.inside.values.items = omega (arith, many, ap length c.as_slice.ensures.keys, ap length c.as_slice-2.ensures.keys, c.self.invariant, c.other.invariant, ap length c.deref-value-items.ensures.value) in
+    let lengths : length c.deref-value-items.result.now ≡ length c.other.inside.values.items = omega (arith, many, ap length c.as_slice.ensures.names, ap length c.as_slice-2.ensures.names, c.self.invariant, c.other.invariant, ap length c.deref-value-items.ensures.value) in
     let all = sym (ap (map value_of) c.deref-value-items.ensures.value) ∙ all_same c.deref-value-items.result.now c.other.inside.values.items c.loop-i.i c.loop-i-test.false lengths c.loop-i.invariant in
-    let keys = rw (c.as_slice.ensures.keys, c.as_slice-2.ensures.keys) at (names_same c.as_slice.result.now c.as_slice-2.result.now named) in
+    let keys = rw (c.as_slice.ensures.names, c.as_slice-2.ensures.names) at (names_same c.as_slice.result.now c.as_slice-2.result.now named) in
     sym (is_same coded_pairs _ _ (sym c.self.view_is ∙ (λ i. paired (keys i) (all i)) ∙ c.other.view_is))

@@ -4,8 +4,7 @@ use Rattle.std.proofs.lemmas.Result.{err_from_is_err_and}
 use Rattle.bson_doc.specs.Array.{array_tree}
 use Rattle.bson_doc.specs.Bson.{value_of}
 use Rattle.bson_doc.specs.Document.{tree_of}
-use Rattle.bson_raw.specs.Pairs.{is_among}
-use Rattle.bson_doc.proofs.Names.{among_keys, put_last}
+use Rattle.bson_doc.proofs.Names.{among_keys}
 use Rattle.bson_doc.proofs.Reading.{document_more, array_more, document_done, array_done, document_name_refused, document_value_refused}
 use Rattle.bson_doc.proofs.from_raw.+read.Goals as goal
 
@@ -32,7 +31,7 @@ pub read_document-returns-then-contains-clause-refused :
 read_document-returns-then-contains-clause-refused t c = λ whole spelled.
     let before = c.loop-name.invariant.so_far whole spelled in
     let first = c.in-Some.ensures.steps.1.0 before.rest before.left in
-    let there = sym (among_keys c.in-Some.name.now c.loop-name.names.keys) ∙ sym c.contains.ensures ∙ c.if-contains.true in
+    let there = sym (among_keys c.in-Some.name.now c.loop-name.names) ∙ sym c.contains.ensures ∙ c.if-contains.true in
     document_name_refused c.args.depth whole _ _ _ before c.in-Some.name.now first.tree_value first.others first.is_first there
 
 pub read_document-returns-in_err-read_value-clause-refused :
@@ -40,16 +39,20 @@ pub read_document-returns-in_err-read_value-clause-refused :
 read_document-returns-in_err-read_value-clause-refused t c = λ whole spelled.
     let before = c.loop-name.invariant.so_far whole spelled in
     let first = c.in-Some.ensures.steps.1.0 before.rest before.left in
-    let new = sym (among_keys c.in-Some.name.now c.loop-name.names.keys) ∙ sym c.contains.ensures ∙ c.if-contains.false in
+    let new = sym (among_keys c.in-Some.name.now c.loop-name.names) ∙ sym c.contains.ensures ∙ c.if-contains.false in
     let told = err_from_is_err_and c.from_residual-in_err-read_value.result c.from_residual-in_err-read_value.ensures.1 in
     rw (told.1, told.2)
     (document_value_refused c.args.depth whole _ _ _ before c.in-Some.name.now first.tree_value first.others c.in_err-read_value.field-0.0 first.is_first new (c.in_err-read_value.ensures.refused first.tree_value first.shown))
 
+pub read_document-append-requires : goal.read_document-append-requires
+read_document-append-requires t c =
+    rw c.in_ok-from_str.ensures.ok (sym c.contains.ensures ∙ c.if-contains.false)
+
 pub read_document-loop-name-preserved : goal.read_document-loop-name-preserved
 read_document-loop-name-preserved t c =
-    let names = c.loop-name.names.keys in
+    let names = c.loop-name.names in
     let new = sym (among_keys c.in-Some.name.now names) ∙ sym c.contains.ensures ∙ c.if-contains.false in
-    let put = put_last c.in_ok-from_str.field-0 names c.insert.new.self.keys (ap (λ n. is_among n (map string_bytes names)) c.in_ok-from_str.ensures.ok ∙ new) c.in_ok-insert.ensures.keys in
+    let put = c.in_ok-append.ensures.ok in
     record {
       can_next = tt;
       is_finite = tt;

@@ -31,6 +31,6 @@ invariant-read_document-loop-name l = record {
   can_next : (goal.iterator-read_document-loop-name).can_next l.name-iterator;
   is_finite : (goal.iterator-read_document-loop-name).is_finite l.name-iterator;
   walked : walked_len l.name-iterator ≡ length (document_bytes l.fn.document);
-  lengths : length l.names.keys ≡ length l.values.items;
-  so_far : (t : Tree) → Spells t (document_bytes l.fn.document) → DocumentRead l.depth t (map string_bytes l.names.keys) (map value_of l.values.items) (PairsLeft l.name-iterator);
+  lengths : length l.names ≡ length l.values.items;
+  so_far : (t : Tree) → Spells t (document_bytes l.fn.document) → DocumentRead l.depth t (map string_bytes l.names) (map value_of l.values.items) (PairsLeft l.name-iterator);
 }

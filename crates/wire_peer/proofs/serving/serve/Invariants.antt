@@ -1,5 +1,5 @@
 use Rattle.std.proofs.Common.{◌≡◌, []}
-use Rattle.wire_peer.specs.Logs.{log_of}
+use Rattle.wire_peer.specs.Serving.{seen}
 use Rattle.wire_peer.proofs.Serves.{Progress}
 use Rattle.wire_peer.proofs.serving.serve.Given as goal
 
@@ -15,7 +15,6 @@ invariant-loop-i g l =
       works : L.failures l.link ≡ L.failures l.fn.link;
       ends : L.ends l.link ≡ L.ends l.fn.link;
       progress : Progress H.does H.stops l.connection l.limit
-          (record { handler = l.fn.logged.handler; log = log_of l.fn.logged.entries.items; received = L.received l.fn.link; sent = L.sent l.fn.link; failures = L.failures l.fn.link; ends = L.ends l.fn.link })
-          (record { handler = l.logged.handler; log = log_of l.logged.entries.items; received = L.received l.link; sent = L.sent l.link; failures = L.failures l.link; ends = L.ends l.link })
+          (seen L.received L.sent L.turns L.failures L.ends l.fn.logged l.fn.link) (seen L.received L.sent L.turns L.failures L.ends l.logged l.link)
           l.i l.replies.next l.inlet;
     }

@@ -1,13 +1,12 @@
-use Rattle.std.proofs.Common.{◌∙◌, ◌≡◌, rules}
-use Rattle.wire_script.specs.Reading.{kind_of, words_behind}
-use Rattle.wire_script.specs.Naming.{keyword_of}
-use Rattle.wire_script.proofs.Keywords.{named_text}
+use Rattle.std.proofs.Common.{◌≡◌, rules}
+use Rattle.wire_script.specs.Naming.{keyword_of, kind_of}
+use Rattle.wire_script.specs.Reading.{words_behind}
 use Rattle.wire_script.proofs.parse.parse_line.Goals as goal
 
 pub returns-in_default-clause-nothing : goal.returns-in_default-clause-nothing
 returns-in_default-clause-nothing c = λ malformed named names.
     let word : c.cut_word.result.0.now ≡ keyword_of named = cc (c.cut_word.ensures, names.1) in
-    let known = c.read_keyword.ensures.only (kind_of named) (word ∙ named_text named) in
+    let known = c.read_keyword.ensures.only (kind_of named) word in
     absurd cc
 
 pub returns-in_err-event-clause-memory : goal.returns-in_err-event-clause-memory

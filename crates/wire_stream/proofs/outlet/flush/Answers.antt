@@ -1,11 +1,34 @@
-use Rattle.std.proofs.Common.{◌∙◌}
-use Rattle.wire_stream.proofs.KnownBytes.{Keeps-trans, sent_on}
+use Rattle.std.proofs.Common.{◌≡◌, ◌∙◌, List, ℕ, [], ap, drop, refl, sym}
+use Rattle.std.proofs.KnownBytes.{Appends-nil, Keeps-refl, Keeps-trans}
+use Rattle.wire_stream.proofs.KnownBytes.{sent_on}
+use Rattle.wire_stream.proofs.Turns.{AddsTurns-nil, AddsTurns-trans}
 use Rattle.wire_stream.proofs.outlet.flush.Goals as goal
 
-pub loop-link-preserved : goal.loop-link-preserved
-loop-link-preserved g c = let i = c.loop-link.invariant.sent in record {
-  sent = sent_on _ _ _ _ i.0 _ c.output-in-loop-link.result.now _ c.in_ok-n.n i.1 i.2 c.output-in-loop-link.ensures c.in_ok-n.ensures.sent c.sent.ensures;
-  received = Keeps-trans _ _ _ c.loop-link.invariant.received c.in_ok-n.ensures.received;
-  end = c.in_ok-n.ensures.end ∙ c.loop-link.invariant.end;
-  works = c.in_ok-n.ensures.works ∙ c.loop-link.invariant.works;
+pub loop-link-init : goal.loop-link-init
+loop-link-init g c = record {
+  sent = ([], Appends-nil _, refl);
+  others = sym (g.met.O.Outlet.unchanged c.args.outlet.now);
+  received = Keeps-refl _;
+  turns = AddsTurns-nil _;
+  end = refl;
+  works = refl;
 }
+
+pub loop-link-preserved : goal.loop-link-preserved
+loop-link-preserved g c =
+    let O = g.O.Outlet in
+    let laws = g.met.O.Outlet in
+    let i = c.loop-link.invariant in
+    let left : List ℕ = drop c.in_ok-n.n (O.waiting c.loop-link.outlet) in
+    let waits : O.waiting c.sent.new.self ≡ left = ap O.waiting c.sent.ensures ∙ laws.waits c.loop-link.outlet left in
+    record {
+      sent = sent_on _ _ _ _ i.sent.0 _ c.output-in-loop-link.result.now _ c.in_ok-n.n i.sent.1 i.sent.2 c.output-in-loop-link.ensures c.in_ok-n.ensures.sent waits;
+      others =
+          c.sent.ensures ∙ ap (λ o. O.with_waiting o left) i.others
+          ∙ laws.last c.args.outlet.now (O.waiting c.loop-link.outlet) left
+          ∙ ap (O.with_waiting c.args.outlet.now) (sym waits);
+      received = Keeps-trans _ _ _ i.received c.in_ok-n.ensures.received;
+      turns = AddsTurns-trans _ _ _ [] [] i.turns c.in_ok-n.ensures.turns;
+      end = c.in_ok-n.ensures.end ∙ i.end;
+      works = c.in_ok-n.ensures.works ∙ i.works;
+    }

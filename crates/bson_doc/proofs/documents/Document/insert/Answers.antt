@@ -5,14 +5,14 @@ use Rattle.bson_doc.proofs.documents.Document.insert.Goals as goal
 
 pub returns-in-Some-clause-ok : goal.returns-in-Some-clause-ok
 returns-in-Some-clause-ok c =
-    let keys = c.self.inside.names.keys in
+    let keys = c.self.inside.names in
     let f = index_found (string_bytes c.args.name) keys c.in-Some.index (rw c.as_str.ensures.value at (sym c.get_index_of.ensures.index ∙ c.in-Some.is)) in
     let v = put_there (string_bytes c.args.name) keys c.self.inside.values.items c.args.value c.self.invariant f.1 in
     rw (← c.self.view_is, c.replace-before.ensures.after) (rw f.0 at v)
 
 pub returns-in-Some-clause-before : goal.returns-in-Some-clause-before
 returns-in-Some-clause-before c =
-    let keys = c.self.inside.names.keys in
+    let keys = c.self.inside.names in
     let f = index_found (string_bytes c.args.name) keys c.in-Some.index (rw c.as_str.ensures.value at (sym c.get_index_of.ensures.index ∙ c.in-Some.is)) in
     let v = value_there (string_bytes c.args.name) keys c.self.inside.values.items c.index_mut.result.now c.self.invariant f.1 in
     let old = c.replace-before.ensures.value ∙ c.index_mut.ensures.value in
@@ -20,35 +20,36 @@ returns-in-Some-clause-before c =
 
 pub returns-in-Ok-push-clause-before : goal.returns-in-Ok-push-clause-before
 returns-in-Ok-push-clause-before c =
-    let keys = c.self.inside.names.keys in
+    let keys = c.self.inside.names in
     let f = index_absent (string_bytes c.args.name) keys (rw c.as_str.ensures.value at (sym c.get_index_of.ensures.index ∙ c.in-None.is)) in
     rw (← c.self.view_is) (sym (value_nowhere (string_bytes c.args.name) keys c.self.inside.values.items f))
 
 pub returns-in-Ok-push-clause-ok : goal.returns-in-Ok-push-clause-ok
 returns-in-Ok-push-clause-ok c =
-    let keys = c.self.inside.names.keys in
+    let keys = c.self.inside.names in
     let f = index_absent (string_bytes c.args.name) keys (rw c.as_str.ensures.value at (sym c.get_index_of.ensures.index ∙ c.in-None.is)) in
     let v = put_last c.args.name keys c.self.inside.values.items c.args.value c.self.invariant f in
-    let none = rw (c.in-None.is, c.as_str.ensures.value) at c.get_index_of.ensures.found in
-    let ks = rw (sym none) at c.in-Ok-insert.ensures.keys in
+    let ks = c.in-Ok-append.ensures.ok in
     let vs = rw c.in-Ok.ensures.items at c.in-Ok-push.ensures.items in
     rw (← c.self.view_is, ks, vs) v
 
 pub invariant_of-self-in-None : goal.invariant_of-self-in-None
 invariant_of-self-in-None c =
-    let none = rw (c.in-None.is, c.as_str.ensures.value) at c.get_index_of.ensures.found in
-    let ks = rw (sym none) at c.in-Ok-insert.ensures.keys in
+    let ks = c.in-Ok-append.ensures.ok in
     let vs = rw c.in-Ok.ensures.items at c.in-Ok-push.ensures.items in
-    rw (ks, vs) (length-append c.self.inside.names.keys (c.args.name ∷ []) ∙ ap (λ n. n + 1) c.self.invariant ∙ sym (length-append c.self.inside.values.items (c.args.value ∷ [])))
+    rw (ks, vs) (length-append c.self.inside.names (c.args.name ∷ []) ∙ ap (λ n. n + 1) c.self.invariant ∙ sym (length-append c.self.inside.values.items (c.args.value ∷ [])))
 
 pub returns-in_default-clause-present : goal.returns-in_default-clause-present
 returns-in_default-clause-present c = λ h.
-    let keys = c.self.inside.names.keys in
+    let keys = c.self.inside.names in
     let f = index_absent (string_bytes c.args.name) keys (rw c.as_str.ensures.value at (sym c.get_index_of.ensures.index ∙ c.in-None.is)) in
     rw (← c.self.view_is, value_nowhere (string_bytes c.args.name) keys c.self.inside.values.items f) at h
 
 pub returns-in-Err-clause-present : goal.returns-in-Err-clause-present
 returns-in-Err-clause-present c = λ h.
-    let keys = c.self.inside.names.keys in
+    let keys = c.self.inside.names in
     let f = index_absent (string_bytes c.args.name) keys (rw c.as_str.ensures.value at (sym c.get_index_of.ensures.index ∙ c.in-None.is)) in
     rw (← c.self.view_is, value_nowhere (string_bytes c.args.name) keys c.self.inside.values.items f) at h
+
+pub append-requires : goal.append-requires
+append-requires c = sym (rw (c.in-None.is, c.as_str.ensures.value) at c.get_index_of.ensures.found)

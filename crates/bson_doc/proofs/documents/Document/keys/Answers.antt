@@ -3,4 +3,4 @@ use Rattle.bson_doc.proofs.Owned.{names_seen}
 use Rattle.bson_doc.proofs.documents.Document.keys.Goals as goal
 
 pub returns : goal.returns
-returns c = rw (← c.self.view_is) (ap (map string_bytes) c.as_slice.ensures.keys ∙ sym (names_seen c.self.inside.names.keys c.self.inside.values.items c.self.invariant))
+returns c = rw (← c.self.view_is) (ap (map string_bytes) c.as_slice.ensures.names ∙ sym (names_seen c.self.inside.names c.self.inside.values.items c.self.invariant))

@@ -1,7 +1,7 @@
-use Rattle.std.proofs.Common.{ap, subst, ◌∙◌}
-use Rattle.bson_raw.specs.Pairs.{first_named, is_among}
+use Rattle.std.proofs.Common.{subst, ◌∙◌}
+use Rattle.bson_raw.specs.Pairs.{first_named}
 use Rattle.wire_msg.specs.Fields.{AreFields}
-use Rattle.wire_msg.proofs.FieldLaws.{among_keys}
+use Rattle.wire_msg.proofs.FieldLaws.{searched}
 use Rattle.wire_msg.proofs.NameLaws.{field_found, found_shown}
 use Rattle.wire_msg.proofs.fields.Fields.contains.Goals as goal
 
@@ -11,8 +11,9 @@ returns-in-Pairs c = λ t are.
     let spelled = subst (λ f. AreFields f t) c.in-Pairs.is are in
     c.is_some.ensures ∙ found_shown c.get.result (first_named name t) (c.get.ensures t spelled) ∙ field_found name t
 
-pub returns-in-Set : goal.returns-in-Set
-returns-in-Set c = λ t are.
-    let name = c.args.name.now in
-    let names = subst (λ f. AreFields f t) c.in-Set.is are in
-    c.contains.ensures ∙ among_keys name c.in-Set.names.now.keys ∙ ap (is_among name) names
+pub returns-in-Sorted : goal.returns-in-Sorted
+returns-in-Sorted c = λ t are.
+    let sorted = subst (λ f. AreFields f t) c.in-Sorted.is are in
+    let names = rw c.deref.ensures.value at c.binary_search.ensures.position in
+    let range = rw c.deref.ensures.value at c.binary_search.ensures.bound in
+    c.is_ok.ensures.value ∙ searched c.args.name.now t c.in-Sorted.names.items c.binary_search.result sorted range names

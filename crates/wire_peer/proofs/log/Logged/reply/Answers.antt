@@ -11,10 +11,9 @@ use Rattle.wire_peer.proofs.LogLaws.{not_replied}
 use Rattle.wire_peer.specs.Replying.{IsAnswered, PutStep}
 use Rattle.wire_peer.proofs.log.Logged.reply.Goals as goal
 
--- src/log.rt:195:9
-pub returns-in_err-put_replies : goal.returns-in_err-put_replies
-returns-in_err-put_replies g c =
-    let q = c.in_ok-ask.ensures in
+pub returns-in_err-put_replies-clause-step : goal.returns-in_err-put_replies-clause-step
+returns-in_err-put_replies-clause-step g c =
+    let q = c.in_ok-ask.ensures.step in
     let same = c.last_answers.ensures (log_of c.args.self.now.entries.items) c.args.connection (asked c.args.request.now) q.0 (ap log_of c.deref.ensures.value ∙ q.3) in
     let to : to_z w32 (of_z w32 c.args.id) ≡ c.args.id = to_z-of_z w32 c.args.id c.ranges.id in
     let was : IsAnswered g.H.Handler.does c.args.connection (asked c.args.request.now) q.0 c.args.self.now.handler (log_of c.args.self.now.entries.items) c.ask.new.self.handler (log_of c.ask.new.self.entries.items)
@@ -27,10 +26,9 @@ returns-in_err-put_replies g c =
     (log_of c.args.self.now.entries.items) (log_of c.ask.new.self.entries.items) c.args.replies.now c.put_replies.new.replies c.in_err-put_replies.field-0.0 c.from_residual-in_err-put_replies.result
     was step c.from_residual-in_err-put_replies.ensures.1
 
--- src/log.rt:183:5
-pub returns : goal.returns
-returns g c =
-    let q = c.in_ok-ask.ensures in
+pub returns-clause-step : goal.returns-clause-step
+returns-clause-step g c =
+    let q = c.in_ok-ask.ensures.step in
     let same = c.last_answers.ensures (log_of c.args.self.now.entries.items) c.args.connection (asked c.args.request.now) q.0 (ap log_of c.deref.ensures.value ∙ q.3) in
     let to : to_z w32 (of_z w32 c.args.id) ≡ c.args.id = to_z-of_z w32 c.args.id c.ranges.id in
     let was : IsAnswered g.H.Handler.does c.args.connection (asked c.args.request.now) q.0 c.args.self.now.handler (log_of c.args.self.now.entries.items) c.ask.new.self.handler (log_of c.ask.new.self.entries.items)

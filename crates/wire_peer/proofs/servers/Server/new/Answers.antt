@@ -11,7 +11,7 @@ invariant_of-result c = record {
   read_limit = rw c.new.ensures;
   reply_limit = rw c.new-in-Ok.ensures;
   between = λ _. rw c.new.ensures (nothing_is_open c.args.limit);
-  room = c.in-Ok.ensures.capacity;
+  room = c.in-Ok.ensures.exact;
   within = let none = c.in-Ok.ensures.len in omega (arith, none);
   each = rw c.in-Ok.ensures.items (All-nil (IsMessage c.args.limit));
 }

@@ -8,11 +8,15 @@ use Rattle.wire_model.specs.{Conn, Record, asked_as, conn_at, conn_set, is_close
 use Rattle.wire_model.specs.declared.events.Event.TheVariants as events
 use Rattle.wire_world.specs.Records.{record_of}
 use Rattle.wire_world.specs.Worlds.{AreParts}
+use Rattle.wire_world.proofs.Arms.{calls_ours}
 use Rattle.wire_world.proofs.CallMade.{call_made}
 use Rattle.wire_world.proofs.Found.{numbered, read_by}
 use Rattle.wire_world.proofs.Numbered.{conn_set_place}
 use Rattle.wire_world.proofs.StayParts.{conn_at_set, map_push, parts_called, parts_changed}
 use Rattle.wire_world.proofs.worlds.World.make_call.Goals as goal
+
+pub call-requires : goal.call-requires
+call-requires g c = calls_ours c.args.number c.args.kind c.args.payload c.index_mut-connection.result.now c.self.view_is c.requires c.index_mut-connection.ensures.value
 
 pub invariant_of-self-2 : goal.invariant_of-self-2
 invariant_of-self-2 g c =

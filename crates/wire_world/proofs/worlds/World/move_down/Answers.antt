@@ -1,12 +1,12 @@
 use Rattle.std.specs.Prelude.{◌-◌, slice_set}
 use Rattle.std.proofs.Common.{◌≡◌, ◌∙◌, ap, map, refl, subst, sym, List, Some}
 use Rattle.std.proofs.lemmas.List.{length-set}
-use Rattle.wire_model.specs.{Conn, Record, World, conn_at, settled, settled_record}
+use Rattle.wire_model.specs.{Conn, Record, World, conn_at, settled_record}
 use Rattle.wire_model.specs.declared.events.Event.TheVariants as events
 use Rattle.wire_peer.specs.{log_of}
 use Rattle.wire_world.specs.Records.{record_of}
 use Rattle.wire_world.specs.declared.records.CallRecord.{CallRecord}
-use Rattle.wire_world.specs.Worlds.{AreParts, WorldSeen}
+use Rattle.wire_world.specs.Worlds.{AreParts}
 use Rattle.wire_world.proofs.CopiedParts.{moved_parts, open_before}
 use Rattle.wire_world.proofs.Found.{numbered, read_by}
 use Rattle.wire_world.proofs.MovedDown.{changed, down_ends}

@@ -1,8 +1,11 @@
-use Rattle.wire_world.proofs.Claims.{entries_of, ids_of, quiet_of, replies_of, shown_of, uncut_of}
+use Rattle.wire_world.proofs.Claims.{entries_of, goes_on_of, ids_of, quiet_of, replies_of, shown_of, uncut_of}
 use Rattle.wire_world.proofs.worlds.World.run.Goals as goal
 
 pub returns-clause-headline : goal.returns-clause-headline
 returns-clause-headline g c = shown_of _ g.H.Handler.does g.H.Handler.stops c.args.limits c.args.handler c.args.events.now c.run_events.result c.run_events.ensures
+
+pub returns-clause-goes_on : goal.returns-clause-goes_on
+returns-clause-goes_on g c = goes_on_of _ g.H.Handler.does g.H.Handler.stops c.args.limits c.args.handler c.args.events.now c.run_events.result c.run_events.ensures
 
 pub returns-clause-quiet : goal.returns-clause-quiet
 returns-clause-quiet g c = quiet_of _ g.H.Handler.does g.H.Handler.stops c.args.limits c.args.handler c.args.events.now c.run_events.result c.run_events.ensures
