@@ -2,6 +2,7 @@ pub mod Causes
 pub mod FaultText
 pub mod Kinds
 pub mod Trees
+pub mod Codes
 pub mod Spelling
 pub mod Checks
 pub mod Elements
@@ -13,6 +14,7 @@ pub mod Extents
 -- the words that clauses of other crates cite
 pub use Rattle.bson_elem.specs.Causes.{cause_number}
 pub use Rattle.bson_elem.specs.Checks.{Read, Value, a_leaf, cstring_at, document_at, fault, is_zero, opens}
+pub use Rattle.bson_elem.specs.Codes.{coded_beside, coded_kind, coded_leaf, coded_text, coded_tree}
 pub use Rattle.bson_elem.specs.Documents.{elements_of}
 pub use Rattle.bson_elem.specs.FaultText.{bson_fault_text}
 pub use Rattle.bson_elem.specs.Faults.{FaultIn, FrontFault}

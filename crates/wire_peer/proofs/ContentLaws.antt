@@ -8,7 +8,8 @@ use Rattle.wire_msg.specs.{BufCarries, Carries, Content}
 use Rattle.wire_msg.specs.declared.payloads.Payload.{Payload}
 use Rattle.wire_msg.specs.declared.payload_buf.PayloadBuf.{PayloadBuf}
 use Rattle.wire_msg.proofs.Lemmas.{one_content}
-use Rattle.wire_peer.specs.ContentSets.{coded_text, content_set}
+use Rattle.bson_elem.specs.{coded_text}
+use Rattle.wire_peer.specs.ContentSets.{content_set}
 use Rattle.wire_peer.specs.Contents.{buf_content, carried, carried_by_buf, content_of}
 
 pub content_is : (p : Payload) (c : Content) → Carries p c → content_of p ≡ c

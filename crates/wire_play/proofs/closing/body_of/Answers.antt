@@ -2,7 +2,7 @@ use Rattle.std.proofs.Common.{◌≡◌, ◌∙◌}
 use base.Stored.{Coded-set}
 use Rattle.bson_elem.specs.{document, elements}
 use Rattle.wire_msg.specs.{Content}
-use Rattle.wire_peer.specs.ContentSets.{coded_text}
+use Rattle.bson_elem.specs.{coded_text}
 use Rattle.wire_peer.proofs.Lemmas.{of_buf_content}
 use Rattle.wire_play.proofs.closing.body_of.Goals as goal
 
