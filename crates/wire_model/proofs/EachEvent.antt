@@ -49,7 +49,7 @@ joint t u d = t d ++ u d
 
 module _ (H : Type 0) (does : Does H) (stops : Stops H) (limit : ℕ) (short : limit < 2 ^ 31) where
   -- one connection goes on
-  follow : (t t' g g' : ℕ → List ℕ) (w n : World H) (m : Machine H) (c : ℕ) (k k' : Conn) → Agrees limit t g w m → conn_at w.conns c ≡ Some k
+  pub follow : (t t' g g' : ℕ → List ℕ) (w n : World H) (m : Machine H) (c : ℕ) (k k' : Conn) → Agrees limit t g w m → conn_at w.conns c ≡ Some k
       → ((d : ℕ) → (d ≡ c → ⊥) → t' d ≡ t d) → ((d : ℕ) → (d ≡ c → ⊥) → g' d ≡ g d)
       → Reaches H does stops limit c k' m n.calls n.log n.handler (t' c) (g' c) → n.conns ≡ conn_set w.conns c k' → Follows H does stops limit t' g' m n
   follow t t' g g' w n m c k k' a at far_t far_g r e = record {

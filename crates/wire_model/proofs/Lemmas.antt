@@ -6,5 +6,28 @@ pub use Rattle.wire_model.proofs.Ids.{ids_stay_apart}
 pub use Rattle.wire_model.proofs.Later.{goes_on_from_each}
 -- the answers of a log are contents of messages
 pub use Rattle.wire_model.proofs.Contents.{log_contents}
--- connections by their numbers
-pub use Rattle.wire_model.proofs.Places.{conn_set-same, conn_within}
+-- lists, and connections by their numbers
+pub use Rattle.wire_model.proofs.Lists.{get-map, get-map_back, get-push_cases, get-push_new, get-push_old, get-set_other, get-set_same, map-push, same_or_not}
+pub use Rattle.wire_model.proofs.Places.{conn_set-same, conn_within, length-push, length-slice_set}
+pub use Rattle.wire_model.proofs.ConnCalls.{is_elsewhere, is_here}
+-- a message is spelled in one way
+pub use Rattle.wire_model.proofs.Wires.{same_request}
+-- how a world stands with a state of the machine, and how the machine goes on as one of its connections does
+pub use Rattle.wire_model.proofs.Agreeing.{Agrees, Follows, Here, down_here, up_here}
+pub use Rattle.wire_model.proofs.Reaches.{Reaches, steps_then}
+pub use Rattle.wire_model.proofs.EachEvent.{follow, followed_calls}
+pub use Rattle.wire_model.proofs.Begun.{agrees_opening, new_here, ways_opened}
+pub use Rattle.wire_model.proofs.Grows.{raw_steps}
+pub use Rattle.wire_model.proofs.Frames.{same_client_gone, same_server_gone}
+-- what each move of one connection comes to
+pub use Rattle.wire_model.proofs.Arrive.{conn_up}
+pub use Rattle.wire_model.proofs.MovesUp.{take_all_up}
+pub use Rattle.wire_model.proofs.Return.{conn_down, released_none}
+pub use Rattle.wire_model.proofs.MovesDown.{take_all_down}
+pub use Rattle.wire_model.proofs.Answered.{answered_reaches, closed_reaches}
+pub use Rattle.wire_model.proofs.Readies.{ReadyTo, ready_to}
+-- what the machine shows, and what holds of it
+pub use Rattle.wire_model.proofs.Main.{headline_of}
+pub use Rattle.wire_model.proofs.Promises.{done_whole, one_call, silent_none}
+pub use Rattle.wire_model.proofs.Quiet.{quiet_of}
+pub use Rattle.wire_model.proofs.Ranks.{lost_at, ours-lost, rank, shows-get_back, shows-map, shows_never}

@@ -36,6 +36,7 @@ pub mod MovesUp
 pub mod MovesDown
 pub mod MovesRaw
 pub mod Begun
+pub mod Readies
 pub mod EachEvent
 pub mod Quiet
 pub mod Rooms

@@ -60,9 +60,9 @@ pub conn_push-cases : (ks : List Conn) (c : ℕ) (k j : Conn) → conn_at (ks ++
 conn_push-cases ks zero k j g = absurd (none-some k g)
 conn_push-cases ks (suc i) k j g = elim (get-push_cases ks i k j g) [ inl h ↦ inl h | inr h ↦ inr (ap suc h.0, h.1) ]
 
-pub length-push : (ks : List Conn) (k : Conn) → length (ks ++ k ∷ []) ≡ suc (length ks)
-length-push [] k = refl
-length-push (j ∷ ks) k = ap suc (length-push ks k)
+pub length-push : {A : Type 0} (xs : List A) (x : A) → length (xs ++ x ∷ []) ≡ suc (length xs)
+length-push [] x = refl
+length-push (y ∷ xs) x = ap suc (length-push xs x)
 
 -- ---- all of them are changed
 

@@ -105,16 +105,23 @@ shows-get (a ∷ calls) (suc i) x g ox = elim (ours a) as (λ b. slice_get (show
   | false ↦ shows-get calls i x g ox
 ]
 
--- what is shown is a call of ours
-pub shows-get_back : (calls : List Call) (i : ℕ) (r : Record) → slice_get (shown_calls calls) i ≡ Some r → (j : ℕ) × (x : Call) × CallIs calls j x × (shown x ≡ r) × (ours x ≡ true)
+-- what is shown is a call of ours, by its number
+abbrev pub ShownAt : List Call → ℕ → Record → Type 0
+ShownAt calls i r = (j : ℕ) × (x : Call) × CallIs calls j x × (shown x ≡ r) × (ours x ≡ true) × (rank calls j ≡ i)
+
+pub shows-get_back : (calls : List Call) (i : ℕ) (r : Record) → slice_get (shown_calls calls) i ≡ Some r → ShownAt calls i r
 shows-get_back [] i r g = absurd (none-some r g)
 shows-get_back (a ∷ calls) i r g = by (ours a) refl i g (λ k h. shows-get_back calls k r h)
   where
     by : (b : Bool) → ours a ≡ b → (k : ℕ) → slice_get (shows_by b (shown a) (shown_calls calls)) k ≡ Some r
-        → ((k : ℕ) → slice_get (shown_calls calls) k ≡ Some r → (j : ℕ) × (x : Call) × CallIs calls j x × (shown x ≡ r) × (ours x ≡ true)) → (j : ℕ) × (x : Call) × CallIs (a ∷ calls) j x × (shown x ≡ r) × (ours x ≡ true)
-    by true e zero g back = (zero, a, refl, same_Some (shown a) r g, e)
-    by true e (suc k) g back = let p = back k g in (suc p.0, p.1, p.2, p.3, p.4)
-    by false e k g back = let p = back k g in (suc p.0, p.1, p.2, p.3, p.4)
+        → ((k : ℕ) → slice_get (shown_calls calls) k ≡ Some r → ShownAt calls k r) → ShownAt (a ∷ calls) k r
+    by true e zero g back = (zero, a, refl, same_Some (shown a) r g, e, refl)
+    by true e (suc k) g back =
+        let p = back k g in
+        (suc p.0, p.1, p.2, p.3, p.4, ap (λ b. more_by b (rank calls p.0)) e ∙ ap suc p.5)
+    by false e k g back =
+        let p = back k g in
+        (suc p.0, p.1, p.2, p.3, p.4, ap (λ b. more_by b (rank calls p.0)) e ∙ p.5)
 
 pub shows-map : (f : Call → Call) (r : Record → Record) → ((x : Call) → shown (f x) ≡ r (shown x)) → ((x : Call) → ours (f x) ≡ ours x) → (calls : List Call) → shown_calls (map f calls) ≡ map r (shown_calls calls)
 shows-map f r e o [] = refl

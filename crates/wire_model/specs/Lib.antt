@@ -17,7 +17,7 @@ pub use Rattle.wire_model.specs.Happening.{Answers, AreContents, ClientWantsRoom
 pub use Rattle.wire_model.specs.Hostile.{RawAnswerOwn, RawGiveOwn}
 pub use Rattle.wire_model.specs.Lasting.{GoesOn, GoesOnFromEach}
 pub use Rattle.wire_model.specs.Machines.{Done, Foreign, Lost, Machine, Pending, Sent, State, asked_as, lost_state}
-pub use Rattle.wire_model.specs.Moves.{Calls, ClientTakes, ClientTakesAll, CopiesReply, ServerTakesAll, TakesNone, joined, with_client_output, with_server_output}
+pub use Rattle.wire_model.specs.Moves.{Calls, ClientTakes, ClientTakesAll, CopiesReply, ServerTakes, ServerTakesAll, TakesNone, joined, put_at, put_part, with_client_output, with_server_output}
 pub use Rattle.wire_model.specs.Needing.{connection_of, needs_of, no_needs}
 pub use Rattle.wire_model.specs.Refusing.{RefusesCall, answer_reason, core_reason, first_reason, is_cut_for, is_full, is_full_for, is_lent, reason_at, reason_of}
 pub use Rattle.wire_model.specs.Shown.{Headline, IdsApart, IsQuiet, IsStopped, QuietIsDone, UncutIsOpen}

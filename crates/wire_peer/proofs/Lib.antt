@@ -14,3 +14,4 @@ pub mod MarkLaws
 pub mod TableLaws
 pub mod RequestLaws
 pub mod ClientLaws
+pub mod OwnPieces

@@ -1,17 +1,17 @@
 -- What a server, or a client, does with one piece.
 use Rattle.std.proofs.Common.{◌≡◌, ℕ, zero, suc, ◌+◌, ◌<◌, ◌≤◌, inl, inr, Bool, true, false, true≢false, List, [], ◌∷◌, ◌++◌, length, take, drop, ap, refl, sym, subst, ◌∙◌, arith, append_assoc}
-use Rattle.std.proofs.Math.Seq.{take-length}
 use Rattle.std.proofs.lemmas.Bool.{cases_lt}
 use Rattle.std.specs.Prelude.{min, Result, Ok, Err, IfOk, MatchResult, OnErr}
 use Rattle.std.proofs.lemmas.List.{append-nil, take-append-drop}
 use Rattle.std.proofs.lemmas.List.Concat.{flat_map-append}
-use Rattle.wire_stream.specs.{CompletesHeader, HoldsNoMore, StandsAt}
+use Rattle.wire_stream.specs.{CompletesHeader, StandsAt}
 use Rattle.wire_stream.specs.declared.reader_state.ReaderState.{ReaderState}
 use Rattle.wire_stream.specs.declared.reader_state.ReaderState.TheVariants.{Need, Ready, Bad}
 use Rattle.wire_msg.specs.{IsOpen}
 use Rattle.wire_msg.proofs.Lemmas.{open_not_bad, open_not_whole}
-use Rattle.wire_peer.specs.{ClientSeen, MayTake, ServerView, Settles, Takes, TakesBytes, holding, released}
+use Rattle.wire_peer.specs.{ClientSeen, MayTake, ServerView, Takes, TakesBytes, released}
 use Rattle.wire_peer.specs.declared.server_state.ServerState.TheVariants as servers
+use Rattle.wire_peer.proofs.Lemmas.{client_own, server_own}
 use Rattle.wire_model.specs.{Record}
 use Rattle.wire_model.specs.Moves.{ClientTakes, CopiesReply, ServerTakesAll, TakesNone, joined}
 use Rattle.wire_model.specs.Happening.{WantsRoom}
@@ -29,9 +29,6 @@ take_front zero m xs le = refl
 take_front (suc n) zero xs le = absurd (omega (arith, le))
 take_front (suc n) (suc m) [] le = absurd (omega (arith, le))
 take_front (suc n) (suc m) (x ∷ xs) le = ap (λ ys. x ∷ ys) (take_front n m xs (omega (arith, le)))
-
-take_own : (n : ℕ) (xs : List ℕ) → take (length (take n xs)) (take n xs) ≡ take n xs
-take_own n xs = take-length (take n xs)
 
 no_front : (m : ℕ) (xs : List ℕ) → 0 < m → take m xs ≡ [] → xs ≡ []
 no_front zero xs lt e = absurd (omega (arith, lt))
@@ -74,28 +71,13 @@ empty : (xs : List ℕ) → 0 ≡ length xs → xs ≡ []
 empty [] e = refl
 empty (x ∷ xs) e = absurd (omega (arith, e))
 
--- the bytes that a server took are a piece that it took all of
-takes_own : (s : ServerView) (piece : List ℕ) (n : ℕ) (new : ServerView) → TakesBytes s piece n new → TakesBytes s (take n piece) (length (take n piece)) new
-takes_own s piece n new t = record {
-  bytes = t.bytes;
-  found = t.found;
-  fed = record {
-    taken = omega arith;
-    held = t.fed.held ∙ ap (λ (b : List ℕ). s.held ++ b) (sym (take_own n piece));
-    state = t.fed.state;
-    no_more = t.fed.no_more;
-    all = λ e. refl;
-  };
-  is = t.is;
-}
-
 -- an open server with room took so many
 pub fed_open : (s : ServerView) (piece : List ℕ) (n : ℕ) (new : ServerView) → s.state ≡ servers.Open → IsOpen s.limit s.held → length s.waiting < s.window → TakesBytes s piece n new → FedServer s piece n new
 fed_open s piece n new is live lt t = record {
   within = t.fed.taken;
   pieces = take n piece ∷ [];
   are = joined_one (take n piece);
-  takes = (new, record { is_open = is; has_room = lt; takes = takes_own s piece n new t }, refl);
+  takes = (new, record { is_open = is; has_room = lt; takes = server_own s piece n new t }, refl);
   none = λ e. inl (nothing n e t);
 }
   where
@@ -136,14 +118,6 @@ fed_server s piece new (Ok n) is live full taken refused = elim (cases_lt (lengt
   | inl lt ↦ fed_open s piece n new is live lt (taken is lt)
   | inr none ↦ let w : s.window ≤ length s.waiting = omega (arith, none) in fed_none s piece n new (inr w) (ap value_of (full w).0) (full w).1
 ]
-
-client_own : (k : ClientSeen) (piece : List ℕ) (n : ℕ) (new : ClientSeen) → Takes k piece n new → Takes k (take n piece) (length (take n piece)) new
-client_own k piece n new t = record {
-  within = omega arith;
-  no_more = subst (λ (b : List ℕ). HoldsNoMore k.requests.limit (k.held ++ b)) (sym (take_own n piece)) t.no_more;
-  all = λ live. refl;
-  settles = subst (λ (b : List ℕ). Settles (holding k (k.held ++ b)) new) (sym (take_own n piece)) t.settles;
-}
 
 pub client_takes : (k : ClientSeen) (piece : List ℕ) (n : ℕ) (new : ClientSeen) → MayTake k → Takes k piece n new → ClientTakes k (take n piece) new
 client_takes k piece n new may t = record { may = may; takes = client_own k piece n new t }

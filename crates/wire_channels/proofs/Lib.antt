@@ -1,0 +1,9 @@
+pub mod Pairs
+pub mod Ends
+pub mod Goes
+pub mod Records
+pub mod Main
+pub mod Fits
+pub mod Deeds
+pub mod Meets
+pub mod Starts

@@ -1,0 +1,70 @@
+-- What happened at both ends, in one order, and the run that the owners have in common.
+use Rattle.std.specs.Prelude.{◌≡◌, ℕ, ◌≤◌, ◌==◌, if◌then◌else◌, Some, List, [], ◌∷◌, ◌++◌, slice_get}
+use Rattle.wire_peer.specs.{Does, Stops}
+use Rattle.wire_model.specs.{Record}
+use Rattle.wire_channels.specs.Channels.{Pair, System, Trace, no_pairs, pair_at}
+use Rattle.wire_channels.specs.Owners.{ClientAct, ClientEnd, ServerAct, ServerEnds, ServersDo, server_at, Calls, Collects, EndsDown, SendsUp, TakesDown, Answers, EndsUp, SendsDown, TakesUp}
+
+-- ---- both
+
+-- what happened, at the end of a connection: at its client or at its server
+pub data Deed : Type 0 where
+  AtClient : (c : ℕ) → (act : ClientAct) → Deed
+  AtServer : (c : ℕ) → (act : ServerAct) → Deed
+
+-- the deeds at the servers, one after the other
+abbrev pub ServersRun : {H : Type 0} → Does H → Stops H → ServerEnds H → List Deed → ServerEnds H
+    → Type 0
+ServersRun does stops old [] new = new ≡ old
+ServersRun does stops old (AtClient c act ∷ deeds) new = ServersRun does stops old deeds new
+ServersRun {H} does stops old (AtServer c act ∷ deeds) new = (mid : ServerEnds H)
+    × ServersDo does stops c act old mid × ServersRun does stops mid deeds new
+
+-- what the client of a connection did
+abbrev pub acts_at : ℕ → List Deed → List ClientAct
+acts_at c [] = []
+acts_at c (AtClient d act ∷ deeds) = if d == c then act ∷ acts_at c deeds else acts_at c deeds
+acts_at c (AtServer d act ∷ deeds) = acts_at c deeds
+
+-- these bytes at one connection, and what was at the others
+abbrev pub at_one : (ℕ → List ℕ) → ℕ → List ℕ → ℕ → List ℕ
+at_one f c bytes d = if d == c then bytes else f d
+
+-- What an end takes are the first bytes in flight to it, where these are in flight up and down: what
+-- was put in and not taken yet, in order.
+abbrev pub Arrive : (up down : ℕ → List ℕ) → List Deed → Type 0
+Arrive up down [] = Unit {0}
+Arrive up down (AtClient c (Calls kind payload number) ∷ deeds) = Arrive up down deeds
+Arrive up down (AtClient c (SendsUp bytes) ∷ deeds) =
+    Arrive (at_one up c (up c ++ bytes)) down deeds
+Arrive up down (AtClient c (TakesDown bytes) ∷ deeds) =
+    (rest : List ℕ) × (down c ≡ bytes ++ rest) × Arrive up (at_one down c rest) deeds
+Arrive up down (AtClient c (Collects reply m) ∷ deeds) = Arrive up down deeds
+Arrive up down (AtClient c EndsDown ∷ deeds) = Arrive up down deeds
+Arrive up down (AtServer c (TakesUp bytes) ∷ deeds) =
+    (rest : List ℕ) × (up c ≡ bytes ++ rest) × Arrive (at_one up c rest) down deeds
+Arrive up down (AtServer c (Answers i result) ∷ deeds) = Arrive up down deeds
+Arrive up down (AtServer c (SendsDown bytes) ∷ deeds) =
+    Arrive up (at_one down c (down c ++ bytes)) deeds
+Arrive up down (AtServer c EndsUp ∷ deeds) = Arrive up down deeds
+
+-- ---- what comes of it
+
+-- Each record that the owner of a client has is the system's, under its own index, and so is the log.
+pub record AreOf {H : Type 0} (k : ℕ) (ends : ℕ → ClientEnd) (servers : ServerEnds H) (s : System H)
+    : Type 0 where
+  pub pair : (c : ℕ) → 1 ≤ c → c ≤ k → (p : Pair) × (pair_at s.pairs c ≡ Some p)
+  pub client : (c : ℕ) (p : Pair) → pair_at s.pairs c ≡ Some p → ((ends c).client ≡ p.client)
+      × (server_at servers.servers c ≡ Some p.server)
+  pub records : (c : ℕ) (p : Pair) → pair_at s.pairs c ≡ Some p → (n : ℕ) (x : Record)
+      → slice_get (ends c).records n ≡ Some x
+      → (i : ℕ) × (slice_get p.calls n ≡ Some i) × (slice_get s.calls i ≡ Some x)
+      × (x.connection ≡ c)
+  pub log : s.log ≡ servers.log
+
+-- the owners of the ends have a run in common
+pub record Common {H : Type 0} (does : Does H) (stops : Stops H) (limit k : ℕ) (first : H)
+    (ends : ℕ → ClientEnd) (servers : ServerEnds H) : Type 0 where
+  pub s : System H
+  pub trace : Trace does stops limit (no_pairs first) s
+  pub of : AreOf k ends servers s

@@ -1,0 +1,130 @@
+-- The owners of the ends, each by itself: what the owner of a client, or of the servers, holds, and what
+-- it does call by call.
+use Rattle.std.specs.Prelude.{◌≡◌, ℕ, zero, suc, ℤ, pos, ◌≤ℤ◌, FitsSigned, Option, None, Some, List, [], ◌∷◌, ◌++◌, map, slice_get, slice_set, Result}
+use Rattle.std.specs.Int.{w32}
+use Rattle.wire_msg.specs.{Message, SpellsMsg}
+use Rattle.wire_msg.specs.declared.payloads.Payload.{Payload}
+use Rattle.wire_peer.specs.{AnswerStep, ClientSeen, Does, IsCalled, LogEntry, ServerView, Stops, called, content_of, ended, new_client, new_server, released}
+use Rattle.wire_peer.specs.declared.call_table.ReadyReply.{ReadyReply}
+use Rattle.wire_peer.specs.declared.calls.CallKind.{CallKind}
+use Rattle.wire_peer.specs.declared.calls.CallNo.{CallNo}
+use Rattle.wire_peer.specs.declared.server_state.AnswerRefusal.{AnswerRefusal}
+use Rattle.wire_model.specs.{AreContents, ClientTakes, Record, ServerTakes, asked_as, ended_server, lost_record, new_record, put_at, with_client_output, with_server_output}
+
+-- ---- the owner of a client
+
+-- a client, and the records of its calls, by their numbers
+pub record ClientEnd : Type 0 where
+  pub client : ClientSeen
+  pub records : List Record
+
+-- what the owner of a client does
+pub data ClientAct : Type 0 where
+  Calls : (kind : CallKind) → (payload : Payload) → (number : CallNo) → ClientAct
+  SendsUp : (bytes : List ℕ) → ClientAct
+  TakesDown : (bytes : List ℕ) → ClientAct
+  Collects : (reply : ReadyReply) → (m : Message) → ClientAct
+  EndsDown : ClientAct
+
+-- the client of this connection is called, its first bytes are sent, it takes bytes, its reply is
+-- recorded and let go of, or it is told the end
+abbrev pub ClientDoes : ℕ → ClientAct → ClientEnd → ClientEnd → Type 0
+ClientDoes c (Calls kind payload number) old new =
+    IsCalled old.client kind (content_of payload) number
+    × (new ≡ record {
+      client = called old.client kind (content_of payload) number;
+      records = old.records ++ new_record c (asked_as kind (content_of payload)) ∷ [];
+    })
+ClientDoes c (SendsUp bytes) old new =
+    (rest : List ℕ) × (old.client.requests.output ≡ bytes ++ rest)
+    × (new ≡ record { client = with_client_output old.client rest; records = old.records })
+ClientDoes c (TakesDown bytes) old new =
+    (client : ClientSeen) × ClientTakes old.client bytes client
+    × (new ≡ record { client = client; records = old.records })
+ClientDoes c (Collects reply m) old new =
+    (old.client.reply ≡ Some reply) × SpellsMsg m old.client.held
+    × (new ≡ record {
+      client = released old.client;
+      records = put_at (Some reply.call) m.content reply.last old.records;
+    })
+ClientDoes c EndsDown old new =
+    new ≡ record { client = ended old.client; records = map lost_record old.records }
+
+-- the acts of a client's owner, one after the other
+abbrev pub ClientRun : ℕ → ClientEnd → List ClientAct → ClientEnd → Type 0
+ClientRun c old [] new = new ≡ old
+ClientRun c old (a ∷ acts) new =
+    (mid : ClientEnd) × ClientDoes c a old mid × ClientRun c mid acts new
+
+-- ---- the owner of the servers
+
+-- servers by the numbers of their connections, from 1, and one handler with its log
+pub record ServerEnds (H : Type 0) : Type 0 where
+  pub servers : List ServerView
+  pub log : List LogEntry
+  pub handler : H
+
+-- what the owner of the servers does with one of them
+pub data ServerAct : Type 0 where
+  TakesUp : (bytes : List ℕ) → ServerAct
+  Answers : (i : ℕ) → (result : Result ℕ AnswerRefusal) → ServerAct
+  SendsDown : (bytes : List ℕ) → ServerAct
+  EndsUp : ServerAct
+
+-- the server of a connection
+abbrev pub server_at : List ServerView → ℕ → Option ServerView
+server_at ss zero = None
+server_at ss (suc i) = slice_get ss i
+
+abbrev pub server_set : List ServerView → ℕ → ServerView → List ServerView
+server_set ss zero s = ss
+server_set ss (suc i) s = slice_set ss i s
+
+-- a server takes bytes, answers a request that waits, or refuses to, has its first bytes sent, or is
+-- told the end
+abbrev pub ServerDoes : {H : Type 0} → Does H → Stops H → ServerAct → ServerView → List LogEntry → H
+    → ServerView → List LogEntry → H → Type 0
+ServerDoes does stops (TakesUp bytes) s log h s' log' h' =
+    ServerTakes s bytes s' × (log' ≡ log) × (h' ≡ h)
+ServerDoes does stops (Answers i result) s log h s' log' h' =
+    AnswerStep does stops i result s h log s' h' log' × AreContents log'
+ServerDoes does stops (SendsDown bytes) s log h s' log' h' =
+    (rest : List ℕ) × (s.output ≡ bytes ++ rest) × (s' ≡ with_server_output s rest) × (log' ≡ log)
+    × (h' ≡ h)
+ServerDoes does stops EndsUp s log h s' log' h' = (s' ≡ ended_server s) × (log' ≡ log) × (h' ≡ h)
+
+-- one of the servers does, and the others stay
+pub record ServersDo {H : Type 0} (does : Does H) (stops : Stops H) (c : ℕ) (act : ServerAct)
+    (old new : ServerEnds H) : Type 0 where
+  pub s : ServerView
+  pub at : server_at old.servers c ≡ Some s
+  pub s' : ServerView
+  pub does_ : ServerDoes does stops act s old.log old.handler s' new.log new.handler
+  pub after : new.servers ≡ server_set old.servers c s'
+
+-- ---- connections that are made before anything happens
+
+-- what a client and its server are made with
+pub record Made : Type 0 where
+  pub first_id : ℤ
+  pub client_window : ℕ
+  pub server_window : ℕ
+
+abbrev pub AreMade : (ℕ → Made) → Type 0
+AreMade made = (c : ℕ) → (pos 1 ≤ℤ (made c).first_id) × FitsSigned w32 (made c).first_id
+
+-- a client before its first call
+abbrev pub first_end : (limit : ℕ) → (ℕ → Made) → ℕ → ClientEnd
+first_end limit made c = record {
+  client = new_client (made c).first_id (made c).client_window limit;
+  records = [];
+}
+
+-- servers before their first requests
+abbrev pub first_servers : (limit : ℕ) → (ℕ → Made) → ℕ → List ServerView
+first_servers limit made zero = []
+first_servers limit made (suc k) =
+    first_servers limit made k ++ new_server (suc k) (made (suc k)).server_window limit ∷ []
+
+abbrev pub first_servers_of : {H : Type 0} → (limit : ℕ) → (ℕ → Made) → ℕ → H → ServerEnds H
+first_servers_of limit made k h = record { servers = first_servers limit made k; log = []; handler = h }

@@ -1,0 +1,30 @@
+//! The laws of pairs. The contract of a function is the law.
+
+ghost use Rattle.std.specs.Prelude.{[], ℕ, List};
+ghost use Rattle.wire_peer.specs.{IsLimit};
+ghost use Rattle.wire_channels.specs.Channels.{System, Trace, no_pairs};
+ghost use Rattle.wire_channels.specs.Deeds.{Arrive, Common, Deed, ServersRun, acts_at};
+ghost use Rattle.wire_channels.specs.Owners.{AreMade, ClientEnd, ClientRun, Made, ServerEnds, first_end, first_servers_of};
+ghost use Rattle.wire_channels.specs.Seen.{Channelled};
+
+use wire_peer::Handler;
+
+/// Proves that whatever public calls are made at the ends of pairs, and whatever of the bytes in flight comes, the
+/// headline holds.
+pub fn channels_hold<H: Handler>()
+    ensures { (limit : ℕ) (first : H) (s : System H)
+        → IsLimit limit → Trace H.does H.stops limit (no_pairs first) s
+        → Channelled H.does H.stops first s }
+{}
+
+/// Proves that where the owners of clients and the owner of their servers do what they do in some order, in which what
+/// each end takes are the first bytes in flight to it, all of them have one run of pairs in common.
+pub fn halves_meet<H: Handler>()
+    ensures { (limit k : ℕ) (first : H) (made : ℕ → Made) (deeds : List Deed)
+        (ends : ℕ → ClientEnd) (servers : ServerEnds H)
+        → IsLimit limit → AreMade made
+        → ((c : ℕ) → ClientRun c (first_end limit made c) (acts_at c deeds) (ends c))
+        → ServersRun H.does H.stops (first_servers_of limit made k first) deeds servers
+        → Arrive (λ _. []) (λ _. []) deeds
+        → Common H.does H.stops limit k first ends servers }
+{}

@@ -1,0 +1,25 @@
+//! One step of the owner of a client: bytes go over a link.
+
+ghost use Rattle.std.specs.Prelude.{◌≡◌, ◌++◌, ℕ, List};
+ghost use Rattle.std.specs.Io.KnownBytes.{Appends};
+ghost use Rattle.wire_model.specs.{Record};
+ghost use Rattle.wire_channels.specs.Owners.{ClientDoes, SendsUp};
+
+use wire_peer::Client;
+use wire_stream::{Link, LinkFault};
+
+/// Sends the first bytes that wait in `client` over `link`, as many as it takes at once.
+///
+/// # Errors
+///
+/// `LinkFault` where the link failed; none were sent then.
+pub fn send_some<L: Link>(link: &mut L, client: &mut Client) -> Result<(), LinkFault>
+    ensures { (bytes : List ℕ) × Appends (L.sent link.old) (L.sent link.new) bytes
+        × ((c : ℕ) (records : List Record) → ClientDoes c (SendsUp bytes)
+        (record { client = client.old; records = records })
+        (record { client = client.new; records = records })) }
+{
+    let n = link.send(client.output())?;
+    client.sent(n);
+    Ok(())
+}
