@@ -7,3 +7,4 @@ pub mod Fits
 pub mod Deeds
 pub mod Meets
 pub mod Starts
+pub mod GoingOn

@@ -56,6 +56,30 @@ ClientRun c old [] new = new ≡ old
 ClientRun c old (a ∷ acts) new =
     (mid : ClientEnd) × ClientDoes c a old mid × ClientRun c mid acts new
 
+-- what an act sends, and what it takes
+abbrev pub sent_by : ClientAct → List ℕ
+sent_by (Calls kind payload number) = []
+sent_by (SendsUp bytes) = bytes
+sent_by (TakesDown bytes) = []
+sent_by (Collects reply m) = []
+sent_by EndsDown = []
+
+abbrev pub taken_by : ClientAct → List ℕ
+taken_by (Calls kind payload number) = []
+taken_by (SendsUp bytes) = []
+taken_by (TakesDown bytes) = bytes
+taken_by (Collects reply m) = []
+taken_by EndsDown = []
+
+-- the bytes that the acts sent, joined, and those that they took
+abbrev pub bytes_sent : List ClientAct → List ℕ
+bytes_sent [] = []
+bytes_sent (act ∷ acts) = sent_by act ++ bytes_sent acts
+
+abbrev pub bytes_taken : List ClientAct → List ℕ
+bytes_taken [] = []
+bytes_taken (act ∷ acts) = taken_by act ++ bytes_taken acts
+
 -- ---- the owner of the servers
 
 -- servers by the numbers of their connections, from 1, and one handler with its log

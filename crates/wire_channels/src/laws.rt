@@ -1,10 +1,10 @@
 //! The laws of pairs. The contract of a function is the law.
 
-ghost use Rattle.std.specs.Prelude.{[], ℕ, List};
+ghost use Rattle.std.specs.Prelude.{◌≡◌, [], ◌++◌, ℕ, List};
 ghost use Rattle.wire_peer.specs.{IsLimit};
 ghost use Rattle.wire_channels.specs.Channels.{System, Trace, no_pairs};
 ghost use Rattle.wire_channels.specs.Deeds.{Arrive, Common, Deed, ServersRun, acts_at};
-ghost use Rattle.wire_channels.specs.Owners.{AreMade, ClientEnd, ClientRun, Made, ServerEnds, first_end, first_servers_of};
+ghost use Rattle.wire_channels.specs.Owners.{AreMade, ClientAct, ClientEnd, ClientRun, Made, ServerEnds, bytes_sent, bytes_taken, first_end, first_servers_of};
 ghost use Rattle.wire_channels.specs.Seen.{Channelled};
 
 use wire_peer::Handler;
@@ -27,4 +27,20 @@ pub fn halves_meet<H: Handler>()
         → ServersRun H.does H.stops (first_servers_of limit made k first) deeds servers
         → Arrive (λ _. []) (λ _. []) deeds
         → Common H.does H.stops limit k first ends servers }
+{}
+
+/// Proves that what the owner of a client did, and then did from there on, is one run, and so are the bytes.
+pub fn runs_go_on()
+    ensures { (c : ℕ) (acts more : List ClientAct) (old mid new : ClientEnd)
+        → ClientRun c old acts mid → ClientRun c mid more new
+        → ClientRun c old (acts ++ more) new
+        × (bytes_sent (acts ++ more) ≡ bytes_sent acts ++ bytes_sent more)
+        × (bytes_taken (acts ++ more) ≡ bytes_taken acts ++ bytes_taken more) }
+{}
+
+/// Proves that what the owner of the servers did, and then did from there on, is one run.
+pub fn servers_go_on<H: Handler>()
+    ensures { (deeds more : List Deed) (old mid new : ServerEnds H)
+        → ServersRun H.does H.stops old deeds mid → ServersRun H.does H.stops mid more new
+        → ServersRun H.does H.stops old (deeds ++ more) new }
 {}
