@@ -24,9 +24,7 @@ fn is_made(alloc: Global) -> bool {
 fn is_made_at_last(alloc: Global) -> bool {
     match Pool::new(alloc, 1) {
         Ok(mut pool) => lends_one(&mut pool),
-        Err(refusal) => {
-            refusal == PoolRefusal::OutOfMemory && is_made(alloc)
-        }
+        Err(refusal) => { refusal == PoolRefusal::OutOfMemory && is_made(alloc) }
     }
 }
 

@@ -33,9 +33,7 @@ fn comes_to_rest<H: Handler + Drop>(
     rows: &[Quiet],
 ) -> bool {
     match World::new(alloc, handler, ample(1)) {
-        Ok(mut world) => {
-            good_steps(&mut world, steps) == steps.len() && stands_so(&world, rows)
-        }
+        Ok(mut world) => { good_steps(&mut world, steps) == steps.len() && stands_so(&world, rows) }
         Err(_) => false,
     }
 }
