@@ -1,9 +1,15 @@
--- The exit status of a run's end, and of words that ask for no run.
-use Rattle.std.specs.Prelude.{◌==◌, ◌||◌, ℕ, Bool, if◌then◌else◌}
-use Rattle.clap.specs.declared.error.kind.ErrorKind as clap
+-- The exit status of a run's end, and of the words of a command line.
+use Rattle.std.specs.Prelude.{◌≡◌, ◌≢◌, ◌⊎◌, ◌==◌, ◌||◌, ℕ, Bool, List, []}
+use Rattle.clap.specs.Words.{IsAmong, Kinds, Text, fault_of}
+use Rattle.clap.specs.declared.error.kind.ErrorKind.{ErrorKind}
 use Rattle.clap.specs.declared.error.kind.ErrorKind.TheVariants as kind
+use Rattle.command_words.specs.{words_status}
 use Rattle.engines.specs.declared.run.RunEnd.{RunEnd}
 use Rattle.engines.specs.declared.run.RunEnd.TheVariants.{Good, Fault, InOut, Memory}
+use Rattle.bsonwire.specs.declared.choice.Choice.{Choice}
+use Rattle.bsonwire.specs.declared.choice.Choice.TheVariants.{Loop, Over}
+use Rattle.bsonwire.specs.Choices.{IsChosen}
+use Rattle.bsonwire.specs.CommandLine.{command_line}
 
 -- the exit status of each end; 2 is left for a fault in the command line
 abbrev pub exit_status : RunEnd → ℕ
@@ -20,14 +26,20 @@ tells_done status = status == 0 || status == 1
 abbrev pub tells_fault : ℕ → Bool
 tells_fault status = status == 1
 
--- the exit status where the words could not be read, by the end that the error would bring a run
-abbrev pub unread_status : RunEnd → ℕ
-unread_status Memory = 4
-unread_status _ = 2
+-- ---- words
 
--- the exit status of words for which `clap` has an error of this kind, by whether its text could be printed
-abbrev pub words_status : clap.ErrorKind → Bool → ℕ
-words_status kind.OutOfMemory printed = 4
-words_status kind.DisplayHelp printed = if printed then 0 else 3
-words_status kind.DisplayVersion printed = if printed then 0 else 3
-words_status _ printed = 2
+-- the status of what was chosen: that of an end, and calls end with no fault
+abbrev pub IsStatusFor : Choice → ℕ → Type 0
+IsStatusFor (Over command file) status = (end : RunEnd) × (status ≡ exit_status end)
+IsStatusFor (Loop calls) status = (end : RunEnd) × (end ≢ Fault) × (status ≡ exit_status end)
+
+-- memory ran out, or the words have a fault of this kind
+abbrev pub MayRefuse : ErrorKind → Kinds → Type 0
+MayRefuse k faults = (k ≡ kind.OutOfMemory) ⊎ IsAmong k faults
+
+-- The status for the words of a command line: where they have no fault that of what they choose, and else that of the fault, by
+-- whether its text could be printed.
+abbrev pub IsStatusOf : List Text → ℕ → Type 0
+IsStatusOf words status =
+    ((choice : Choice) × IsChosen choice words × (fault_of command_line words ≡ []) × IsStatusFor choice status)
+    ⊎ ((k : ErrorKind) × (printed : Bool) × MayRefuse k (fault_of command_line words) × (status ≡ words_status k printed))

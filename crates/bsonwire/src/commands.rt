@@ -6,10 +6,11 @@ ghost use Rattle.std.specs.Str.{chars};
 ghost use Rattle.core.specs.Char.{is_control};
 ghost use Rattle.std.specs.IoError.{error_kind, raw_os_error};
 ghost use Rattle.bsonwire.specs.Choices.{CommandText, wants_memory};
-ghost use Rattle.bsonwire.specs.ExitStatus.{exit_status, tells_done, tells_fault};
+ghost use Rattle.bsonwire.specs.ExitStatus.{IsStatusFor, exit_status, tells_done, tells_fault};
 ghost use Rattle.engines.specs.{AppendsText, AppendsUpTo, end_of_error, is_done, is_fault, loop_text};
 
 use crate::choice::{Choice, Command};
+use command_words::{IN_OUT, MEMORY};
 use engines::{RunEnd, end_of, run_canon, run_check, run_dump, run_loop, run_msg, run_play};
 use std::alloc::Global;
 use std::fs::OpenFile;
@@ -20,14 +21,14 @@ use std::{fmt, fs, io};
 
 /// Returns the exit status of an end: 0 good, 1 a fault in the input, 3 reading or writing failed, 4
 /// memory ran out.
-pub fn status_of(end: RunEnd) -> u8
+fn status_of(end: RunEnd) -> u8
     ensures { result ≡ exit_status end }
 {
     match end {
         RunEnd::Good => 0,
         RunEnd::Fault => 1,
-        RunEnd::InOut => 3,
-        RunEnd::Memory => 4,
+        RunEnd::InOut => IN_OUT,
+        RunEnd::Memory => MEMORY,
     }
 }
 
@@ -81,10 +82,9 @@ impl fmt::Display for InputName<'_> {
 
 /// Does what the command line asks for, says on standard error why it could not go on, and returns the
 /// exit status.
-pub fn run<R: Files + Input + Print + Eprint + Net + AllocGlobal>(
-    rt: &R,
-    choice: Choice<'_>,
-) -> u8 {
+pub fn run<R: Files + Input + Print + Eprint + Net + AllocGlobal>(rt: &R, choice: Choice<'_>) -> u8
+    ensures { IsStatusFor choice.entry result }
+{
     match choice {
         Choice::Over { command, file } => run_file(rt, command, file),
         Choice::Loop { calls } => loop_status(rt, calls, &mut io::writer(rt)),
@@ -96,7 +96,9 @@ fn run_file<R: Files + Input + Print + Eprint + AllocGlobal>(
     rt: &R,
     command: Command,
     file: &str,
-) -> u8 {
+) -> u8
+    ensures { (end : RunEnd) × (result ≡ exit_status end) }
+{
     let alloc = rt.alloc();
     let input = InputName::of(file);
     if file == "-" {

@@ -8,7 +8,8 @@ use Rattle.wire_msg.specs.Messages.{Message}
 use Rattle.wire_msg.proofs.Lemmas.{bad_once, one_split, open_not_bad}
 use Rattle.engines.specs.Documents.{or_nothing, is_there}
 use Rattle.engines.specs.InputFault.{msg_line}
-use Rattle.engines.specs.Msg.{message_text, messages_len, IsLastMsg, MessagesAre, MsgText}
+use Rattle.wire_text.specs.{message_text}
+use Rattle.engines.specs.Msg.{messages_len, IsLastMsg, MessagesAre, MsgText}
 
 -- there is one last line at most
 one_last : (limit start : ℕ) (rest : List ℕ) (last last' : Option (List ℕ)) → IsBytes rest → IsLastMsg limit start rest last → IsLastMsg limit start rest last' → last ≡ last'

@@ -14,7 +14,8 @@ use Rattle.wire_msg.specs.Standing.{IsOpen, IsBad}
 use Rattle.wire_msg.proofs.Lemmas.{bad_ends, length-spelled, open_ends, spelled-append, spelled_alone}
 use Rattle.engines.specs.Documents.{or_nothing, is_there}
 use Rattle.engines.specs.InputFault.{ended_inside_line, msg_line}
-use Rattle.engines.specs.Msg.{message_text, messages_len, IsLastMsg, MessagesAre, MsgText}
+use Rattle.wire_text.specs.{message_text}
+use Rattle.engines.specs.Msg.{messages_len, IsLastMsg, MessagesAre, MsgText}
 use Rattle.engines.specs.Output.{AppendsText}
 
 -- what was read and written: these messages

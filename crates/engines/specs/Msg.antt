@@ -1,50 +1,10 @@
--- What `msg` writes.
-use Rattle.std.specs.Prelude.{◌≡◌, ◌⊎◌, ℕ, ◌+◌, List, [], ◌∷◌, ◌++◌, length, codes, flat_map, Bool, true, false, Option, None, Some}
-use Rattle.std.specs.Fmt.{decimal, signed_decimal}
-use Rattle.bson_elem.specs.{Tree}
-use Rattle.bson_text.specs.{document_size, element_lines, quoted}
+-- What `msg` writes for messages back to back.
+use Rattle.std.specs.Prelude.{◌≡◌, ◌⊎◌, ℕ, ◌+◌, List, [], ◌∷◌, ◌++◌, flat_map, Bool, Option, None, Some}
 use Rattle.wire_msg.specs.declared.fault.MsgFault.{MsgFault}
-use Rattle.wire_msg.specs.declared.flags.MsgFlags.{MsgFlags}
-use Rattle.wire_msg.specs.{IsBad, IsOpen, Message, Sequence, Split, message_len}
+use Rattle.wire_msg.specs.{IsBad, IsOpen, Message, Split, message_len}
+use Rattle.wire_text.specs.{message_text}
 use Rattle.engines.specs.Documents.{or_nothing, is_there}
 use Rattle.engines.specs.InputFault.{msg_line, ended_inside_line}
-
--- ---- one message
-
--- moreToCome and exhaustAllowed in one word
-abbrev pub flag_names : Bool → Bool → List ℕ
-flag_names false false = codes "-"
-flag_names true false = codes "more"
-flag_names false true = codes "exhaust"
-flag_names true true = codes "more+exhaust"
-
--- the flags in one word
-abbrev pub flags_text : MsgFlags → List ℕ
-flags_text flags = flag_names flags.more flags.allows
-
--- the first line of a message
-abbrev pub message_line : Message → List ℕ
-message_line m =
-    codes "message " ++ (decimal (message_len m.content) ++ (codes " id " ++ (signed_decimal m.id ++ (codes " to " ++ (signed_decimal m.response_to ++ (codes " flags " ++ (flags_text m.flags ++ codes "\n")))))))
-
--- the body: the line of its size, and those of its elements
-abbrev pub body_text : Tree → List ℕ
-body_text t = codes "body " ++ (decimal (document_size t) ++ (codes "\n" ++ element_lines 1 t))
-
--- a document of a sequence, one deeper
-abbrev pub member_text : Tree → List ℕ
-member_text t = codes "  document " ++ (decimal (document_size t) ++ (codes "\n" ++ element_lines 2 t))
-
--- a document sequence: the line of its identifier and the count of its documents, and the documents
-abbrev pub sequence_text : Sequence → List ℕ
-sequence_text q =
-    codes "sequence " ++ (quoted q.identifier ++ (codes " " ++ (decimal (length q.documents) ++ (codes "\n" ++ flat_map member_text q.documents))))
-
--- the text of a message: its first line, the body, and the document sequences in order
-abbrev pub message_text : Message → List ℕ
-message_text m = message_line m ++ (body_text m.content.body ++ flat_map sequence_text m.content.sequences)
-
--- ---- messages back to back
 
 -- how many bytes the messages have
 abbrev pub messages_len : List Message → ℕ

@@ -1,6 +1,10 @@
--- What `play` writes.
+-- What `play` writes, and how a run ends whose play stopped.
 use Rattle.std.specs.Prelude.{◌≡◌, ℕ, List, ◌++◌, Bool, Option, None, Some}
 use Rattle.wire_play.specs.{TextUpTo}
+use Rattle.wire_play.specs.declared.playing.PlayStop.{PlayStop}
+use Rattle.wire_play.specs.declared.playing.PlayStop.TheVariants.{Failed, OutOfMemory}
+use Rattle.engines.specs.declared.run.RunEnd.{RunEnd}
+use Rattle.engines.specs.declared.run.RunEnd.TheVariants.{InOut, Memory}
 use Rattle.engines.specs.Documents.{or_nothing, is_there}
 use Rattle.engines.specs.InputFault.{script_line}
 
@@ -15,3 +19,8 @@ abbrev pub ScriptText : List ℕ → List ℕ → Bool → Type 0
 ScriptText script text fault =
     (texts : List ℕ) × (line : Option ℕ) × TextUpTo script texts line
     × (text ≡ texts ++ or_nothing (last_of line)) × (fault ≡ is_there (last_of line))
+
+-- the run ends so where the play stopped so
+abbrev pub end_of_stop : PlayStop → RunEnd
+end_of_stop Failed = InOut
+end_of_stop OutOfMemory = Memory

@@ -1,11 +1,17 @@
 //! The two ends of a connection, a client and a server, each with its link.
 
-ghost use Rattle.std.specs.Prelude.{◌≡◌, ◌+◌, ◌<◌, ◌^◌, ℕ, IfErr, IfOk, Ok, OnOk, false, pos};
-ghost use Rattle.engines.specs.Ends.{Awaits, IsFed, IsIdle};
+ghost use Rattle.std.specs.Prelude.{◌≡◌, ◌+◌, ◌++◌, ◌<◌, ◌^◌, ◌↔◌, ℕ, [], List, IfErr, IfOk, IsTrue, Ok, OnOk, false, pos};
+ghost use Rattle.std.specs.Io.KnownBytes.{Appends, Keeps};
+ghost use Rattle.bson_elem.specs.{Spells, Tree};
+ghost use Rattle.bson_raw.specs.{document_bytes};
+ghost use Rattle.engines.specs.Ends.{Awaits, HasReply, IsEchoed, IsFed, IsIdle, IsReply, Receives, arrived};
 ghost use Rattle.engines.specs.Run.{is_done};
-ghost use Rattle.wire_peer.specs.{MayTake};
+ghost use Rattle.wire_msg.specs.{Carries, Content, body_alone, canonical};
+ghost use Rattle.wire_peer.specs.declared.calls.CallKind.TheVariants.{Plain};
+ghost use Rattle.wire_peer.specs.{MayTake, content_of, log_of, request};
 
 use crate::run::RunEnd;
+use bson_raw::RawDocument;
 use std::alloc::{AllocError, Global};
 use wire_msg::{MAX_MESSAGE_LEN, Payload};
 use wire_peer::{
@@ -34,6 +40,9 @@ impl<P: Drop, L: Link + Drop> End<P, L> {
     /// Receives a piece, where none is held. Errs if the link failed or ended.
     fn pull(&mut self) -> Result<(), RunEnd>
         ensures peer { self.new.peer ≡ self.old.peer }
+        ensures received { (more : List ℕ) × Appends (L.received self.old.link) (L.received self.new.link) more
+            × (self.new.inlet ≡ self.old.inlet ++ more) }
+        ensures sent { Keeps (L.sent self.old.link) (L.sent self.new.link) }
         ensures stopped { IfErr result (λ end. is_done end ≡ false) }
     {
         match self.inlet.pull(&mut self.link) {
@@ -48,6 +57,11 @@ impl<L: Link + Drop> End<Client, L> {
     pub fn call(&mut self, payload: Payload<'_>) -> Result<CallNo, RunEnd>
         ensures called { (k : ℕ) → k < 2 ^ 8 → IsIdle k self.old.peer
             → IfOk result (λ call. (call.number ≡ k) × (call.id ≡ pos (k + 1)) × Awaits k self.new.peer) }
+        ensures sent { (k : ℕ) → k < 2 ^ 8 → IsIdle k self.old.peer
+            → OnOk result (Appends (L.sent self.old.link) (L.sent self.new.link)
+            (canonical (request (pos (k + 1)) Plain (content_of payload.entry)))) }
+        ensures received { Keeps (L.received self.old.link) (L.received self.new.link) }
+        ensures arrived { arrived self.new.peer self.new.inlet ≡ arrived self.old.peer self.old.inlet }
         ensures stopped { IfErr result (λ end. is_done end ≡ false) }
     {
         match self.peer.call(payload) {
@@ -62,7 +76,14 @@ impl<L: Link + Drop> End<Client, L> {
 
     /// Sends all requests that wait. Errs if the link failed.
     fn send(&mut self) -> Result<(), RunEnd>
-        ensures calls { (k : ℕ) → Awaits k self.old.peer → Awaits k self.new.peer }
+        ensures others { self.new.peer ≡ record (self.old.peer) {
+          requests = record (self.old.peer.requests) { output = self.new.peer.requests.output };
+        } }
+        ensures sent { (gone : List ℕ) × Appends (L.sent self.old.link) (L.sent self.new.link) gone
+            × (self.old.peer.requests.output ≡ gone ++ self.new.peer.requests.output) }
+        ensures all { OnOk result (self.new.peer.requests.output ≡ []) }
+        ensures received { Keeps (L.received self.old.link) (L.received self.new.link) }
+        ensures inlet { self.new.inlet ≡ self.old.inlet }
         ensures stopped { IfErr result (λ end. is_done end ≡ false) }
     {
         match flush(&mut self.link, &mut self.peer) {
@@ -71,18 +92,20 @@ impl<L: Link + Drop> End<Client, L> {
         }
     }
 
-    /// Receives until the reply is ready, and lets go of it. Errs if the link failed or ended, if what came closed the
-    /// client, or if memory ran out.
+    /// Receives until the reply is ready. Errs if the link failed or ended, if what came closed the client, or if memory ran
+    /// out.
     pub fn receive_reply(&mut self) -> Result<(), RunEnd>
         requires { MayTake self.old.peer }
-        ensures complete { (k : ℕ) → Awaits k self.old.peer → OnOk result (IsIdle (k + 1) self.new.peer) }
+        ensures ready { (k : ℕ) → Awaits k self.old.peer → OnOk result (HasReply k self.new.peer) }
+        ensures received { Receives (L.received self.old.link) (L.received self.new.link)
+            (arrived self.old.peer self.old.inlet) (arrived self.new.peer self.new.inlet) }
+        ensures sent { Keeps (L.sent self.old.link) (L.sent self.new.link) }
         ensures stopped { IfErr result (λ end. is_done end ≡ false) }
     {
         // Each turn takes one byte at least, and no message has more bytes.
         for _ in 0..MAX_MESSAGE_LEN {
             self.pull()?;
             if self.feed()? {
-                self.peer.release();
                 return Ok(());
             }
         }
@@ -95,6 +118,8 @@ impl<L: Link + Drop> End<Client, L> {
         requires { MayTake self.old.peer }
         ensures takes { result ≡ Ok false → MayTake self.new.peer }
         ensures fed { (k : ℕ) → Awaits k self.old.peer → IfOk result (λ ready. IsFed k ready self.new.peer) }
+        ensures arrived { arrived self.new.peer self.new.inlet ≡ arrived self.old.peer self.old.inlet }
+        ensures link { self.new.link ≡ self.old.link }
         ensures stopped { IfErr result (λ end. is_done end ≡ false) }
     {
         match self.peer.feed(self.inlet.bytes()) {
@@ -109,6 +134,30 @@ impl<L: Link + Drop> End<Client, L> {
             ClientState::Closed(_) => Err(RunEnd::InOut),
         }
     }
+
+    /// Lets go of the reply that is ready. Errs, and keeps it, if it carries anything but `body`.
+    pub fn take_reply(&mut self, body: RawDocument<'_>) -> Result<(), RunEnd>
+        ensures complete { (k : ℕ) → HasReply k self.old.peer → OnOk result (IsIdle (k + 1) self.new.peer) }
+        ensures reply { (t : Tree) → Spells t (document_bytes body.entry) → OnOk result (IsReply t self.old.peer.held) }
+        ensures rest { OnOk result (arrived self.new.peer self.new.inlet ≡ self.old.inlet) }
+        ensures link { self.new.link ≡ self.old.link }
+        ensures stopped { IfErr result (λ end. is_done end ≡ false) }
+    {
+        match self.peer.reply() {
+            Some(reply) if is_alone(reply.payload, body) => {}
+            _ => return Err(RunEnd::InOut),
+        }
+        self.peer.release();
+        Ok(())
+    }
+}
+
+/// Returns true if a payload is `body` and no document sequence.
+fn is_alone(payload: Payload<'_>, body: RawDocument<'_>) -> bool
+    ensures { (c : Content) (t : Tree) → Carries payload.entry c → Spells t (document_bytes body.entry)
+        → (IsTrue result ↔ (c ≡ body_alone t)) }
+{
+    payload.body().as_bytes() == body.as_bytes() && payload.sequences().next().is_none()
 }
 
 impl<L: Link + Drop> End<Server, L> {
@@ -145,7 +194,9 @@ impl<L: Link + Drop> End<Server, L> {
     /// Answers the request that waits, and sends the reply. Errs if the link failed, if the server closed, or if memory ran
     /// out.
     pub fn answer(&mut self, logged: &mut Logged<Echo>) -> Result<(), RunEnd>
-        ensures { IfErr result (λ end. is_done end ≡ false) }
+        ensures echoed { OnOk result (IsEchoed (log_of logged.old.entries.items) (log_of logged.new.entries.items)) }
+        ensures sent { OnOk result (self.new.peer.output ≡ []) }
+        ensures stopped { IfErr result (λ end. is_done end ≡ false) }
     {
         match self.peer.answer(0, logged) {
             Ok(_) => {}

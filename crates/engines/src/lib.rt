@@ -22,7 +22,6 @@ pub mod laws;
 mod loopback;
 mod messages;
 mod msg;
-mod msg_text;
 mod play;
 mod run;
 

@@ -1,10 +1,12 @@
 //! The command `loop`: calls over a connection of the program with itself.
 
 ghost use Rattle.std.specs.Prelude.{◌≡◌, ◌≢◌, ◌+◌, ℕ, List, [], IfErr, IfOk, OnOk, false, pos};
-ghost use Rattle.engines.specs.Ends.{IsIdle};
-ghost use Rattle.engines.specs.Loopback.{AppendsUpTo, call_body, call_line, last_line, loop_text};
+ghost use Rattle.std.specs.Io.KnownBytes.{Appends};
+ghost use Rattle.engines.specs.Ends.{IsEchoed, IsIdle, arrived};
+ghost use Rattle.engines.specs.Loopback.{AppendsUpTo, GetsReply, call_body, call_line, last_line, loop_text, request_bytes, requests_bytes};
 ghost use Rattle.engines.specs.Run.{is_done};
 ghost use Rattle.wire_msg.specs.{BufCarries, body_alone};
+ghost use Rattle.wire_peer.specs.{log_of};
 
 use crate::ends::End;
 use crate::run::{RunEnd, end_of};
@@ -12,7 +14,7 @@ use bson_doc::{Bson, RawDocumentBuf};
 use std::alloc::{AllocError, Global};
 use std::io;
 use std::io::{ErrorKind, Write};
-use std::net::{Net, OpenListener, OpenStream, TcpListener, TcpStream};
+use std::net::{Net, OpenListener, OpenStream, SocketAddr, TcpListener, TcpStream};
 use wire_msg::{MAX_MESSAGE_LEN, PayloadBuf};
 use wire_peer::{CallNo, Client, Echo, Logged, Server};
 use wire_stream::{Link, TcpLink};
@@ -43,19 +45,27 @@ impl<L: Link + Drop> Loopback<L> {
         })
     }
 
-    /// Makes the call of number `k`, and waits for its reply. Errs if a link failed or ended, if an end was closed, or if
-    /// memory ran out.
+    /// Makes the call of number `k`, answers it, and waits for its reply. Errs if the reply carries anything but what was sent,
+    /// if a link failed or ended, if an end was closed, or if memory ran out.
     fn call(&mut self, alloc: Global, k: u8) -> Result<CallNo, RunEnd>
         requires { IsIdle k (self.old.client.peer) }
         ensures number { IfOk result (λ call. (call.number ≡ k) × (call.id ≡ pos (k + 1))) }
         ensures complete { OnOk result (IsIdle (k + 1) (self.new.client.peer)) }
+        ensures sent { OnOk result (Appends (L.sent self.old.client.link) (L.sent self.new.client.link)
+            (request_bytes k)) }
+        ensures echoed { OnOk result (IsEchoed (log_of self.old.logged.entries.items)
+            (log_of self.new.logged.entries.items)) }
+        ensures reply { OnOk result (GetsReply k (L.received self.old.client.link) (L.received self.new.client.link)
+            (arrived self.old.client.peer self.old.client.inlet) (arrived self.new.client.peer self.new.client.inlet)) }
         ensures stopped { IfErr result (λ end. is_done end ≡ false) }
     {
         let payload = payload_of(alloc, k)?;
-        let call = self.client.call(payload.as_payload())?;
+        let sent = payload.as_payload();
+        let call = self.client.call(sent)?;
         self.server.receive_request()?;
         self.server.answer(&mut self.logged)?;
         self.client.receive_reply()?;
+        self.client.take_reply(sent.body())?;
         Ok(call)
     }
 }
@@ -78,15 +88,23 @@ fn payload_of(alloc: Global, number: u8) -> Result<PayloadBuf, RunEnd>
     }
 }
 
+/// Returns the stream of an accepted connection if its other end is at `own`. Errs if not, since another program may have been
+/// there first.
+fn only_from<S: Drop>(own: SocketAddr, accepted: (S, SocketAddr)) -> io::Result<S>
+    ensures { IfOk result (λ stream. (accepted.1 ≡ own) × (stream ≡ accepted.0)) }
+{
+    let (stream, address) = accepted;
+    if address != own {
+        return Err(io::Error::from(ErrorKind::ConnectionRefused));
+    }
+    Ok(stream)
+}
+
 /// Connects the program to itself, over 127.0.0.1 and a free port. Returns the two streams.
 fn connect<R: Net>(rt: &R) -> io::Result<(R::Stream, R::Stream)> {
     let listener = TcpListener::bind(rt, "127.0.0.1:0")?;
     let near = TcpStream::connect(rt, listener.local_addr()?)?;
-    let (far, address) = listener.accept()?;
-    // Another program may have been there first.
-    if address != near.local_addr()? {
-        return Err(io::Error::from(ErrorKind::ConnectionRefused));
-    }
+    let far = only_from(near.local_addr()?, listener.accept()?)?;
     Ok((near, far))
 }
 
@@ -152,6 +170,9 @@ fn make_calls<L: Link + Drop, W: Write>(
     requires { IsIdle 0 (loopback.old.client.peer) }
     ensures written { (left : List ℕ) × AppendsUpTo left (loop_text calls)
         (W.contents out.old) (W.contents out.new) × OnOk result (left ≡ []) }
+    ensures made { OnOk result (IsIdle calls (loopback.new.client.peer)) }
+    ensures sent { OnOk result (Appends (L.sent loopback.old.client.link) (L.sent loopback.new.client.link)
+        (requests_bytes calls)) }
     ensures stopped { IfErr result (λ end. is_done end ≡ false) }
 {
     for k in 0..calls {
@@ -182,8 +203,8 @@ fn run_calls<R: Net + AllocGlobal, W: Write>(rt: &R, calls: u8, out: &mut W) -> 
 /// and answered with the same, and writes a line for each and a last one. The calls are numbered from 0, and their ids
 /// count from 1.
 ///
-/// The line of a call is written when its reply has come. What a socket carries no contract can say; so none says that the
-/// run is good.
+/// The line of a call is written when its reply has come and carries what was sent. What a socket carries no contract can say;
+/// so none says that the run is good.
 pub fn run_loop<R: Net + AllocGlobal, W: Write>(rt: &R, calls: u8, writer: &mut W) -> RunEnd
     ensures ends { result ≢ RunEnd.Fault }
     ensures written { (left : List ℕ) × AppendsUpTo left (loop_text calls)

@@ -8,11 +8,11 @@ ghost use Rattle.engines.specs.Output.{AppendsText};
 
 use crate::documents::write_last;
 use crate::input_fault::InputFault;
-use crate::msg_text::write_message;
 use crate::run::RunEnd;
 use std::alloc::Global;
 use std::io::Write;
 use wire_msg::{MAX_MESSAGE_LEN, MsgFault, MsgFront, RawMsg};
+use wire_text::write_message;
 
 /// Returns the fault of a message that begins at offset `start` of the input.
 fn fault_in_message(start: usize, fault: MsgFault) -> InputFault

@@ -4,7 +4,7 @@ ghost use Rattle.std.specs.Prelude.{◌≡◌, ◌⊎◌, IfSome, true};
 ghost use Rattle.std.specs.Io.KnownBytes.{IsAtEnd, Keeps};
 ghost use Rattle.engines.specs.InputFault.{line_of};
 ghost use Rattle.engines.specs.Output.{AppendsText};
-ghost use Rattle.engines.specs.Play.{ScriptText, last_of};
+ghost use Rattle.engines.specs.Play.{ScriptText, end_of_stop, last_of};
 ghost use Rattle.engines.specs.Run.{is_done, is_fault};
 
 use crate::documents::write_last;
@@ -30,6 +30,16 @@ fn script_fault(line: Option<usize>) -> Option<InputFault>
     }
 }
 
+/// Returns the end of a run whose play stopped so.
+fn end_of_stop(stop: PlayStop) -> RunEnd
+    ensures { result ≡ end_of_stop stop }
+{
+    match stop {
+        PlayStop::Failed => RunEnd::InOut,
+        PlayStop::OutOfMemory => RunEnd::Memory,
+    }
+}
+
 impl Engine for Play {
     ghost is_text = { λ _. ScriptText };
 
@@ -38,8 +48,7 @@ impl Engine for Play {
     fn write_text<W: Write>(&self, bytes: &[u8], out: &mut W) -> Result<bool, RunEnd> {
         match wire_play::play(self.alloc, bytes, out) {
             Ok(line) => write_last(script_fault(line), out),
-            Err(PlayStop::Failed) => Err(RunEnd::InOut),
-            Err(PlayStop::OutOfMemory) => Err(RunEnd::Memory),
+            Err(stop) => Err(end_of_stop(stop)),
         }
     }
 }

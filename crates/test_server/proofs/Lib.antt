@@ -8,5 +8,6 @@ pub mod ReplySets
 pub mod Handled
 pub mod Texts
 pub mod Made
+pub mod ServingLaws
 pub mod NumberLemmas
 pub mod ParseLemmas

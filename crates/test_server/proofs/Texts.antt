@@ -4,16 +4,12 @@ use Rattle.std.specs.Prelude.{OnOk, flat_map}
 use Rattle.std.specs.Coded.{coded_ℕ, coded_list}
 use base.Stored.{Coded-set}
 use Rattle.std.specs.Io.KnownBytes.{Appends}
-use Rattle.std.proofs.KnownBytes.{Appends-trans}
 use Rattle.std.proofs.lemmas.List.{flat_map_more, map_more}
 use Rattle.std.specs.Fmt.{decimal}
+use Rattle.wire_text.proofs.Lemmas.{two_written}
 use Rattle.wire_peer.specs.{LogEntry}
 use Rattle.wire_peer.specs.declared.serving.ServeEnd.{ServeEnd}
 use Rattle.test_server.specs.Transcript.{connection_text, end_text, entry_text}
-
--- what was written before, what was written now, and what is left
-pub text_so_far : (all text now rest first : List ℕ) → all ≡ text ++ first → first ≡ now ++ rest → all ≡ (text ++ now) ++ rest
-text_so_far all text now rest first e f = e ∙ ap (λ (x : List ℕ). text ++ x) f ∙ sym (append_assoc text now rest)
 
 -- two proofs that a text was written are the same proof
 pub written_prop : {E : Type 0} (r : Result (Unit {0}) E) (a b : Option (List ℕ)) (text : List ℕ) → IsProp (OnOk r (Appends a b text))
@@ -21,12 +17,6 @@ written_prop (Err e) a b text = λ p q i. tt
 written_prop (Ok u) None b text = λ p q i. tt
 written_prop (Ok u) (Some x) None text = λ p q. absurd p
 written_prop (Ok u) (Some x) (Some y) text = Coded-set (coded_list coded_ℕ) y (x ++ text)
-
--- a piece is written, and then another
-pub two_written : {E : Type 0} (r : Result (Unit {0}) E) (a b c : Option (List ℕ)) (first second : List ℕ)
-    → Appends a b first → OnOk r (Appends b c second) → OnOk r (Appends a c (first ++ second))
-two_written (Err e) a b c first second p q = tt
-two_written (Ok u) a b c first second p q = Appends-trans a b c first second p q
 
 -- the texts of one more
 pub one_more : {X Y : Type 0} (f : Y → List ℕ) (v : X → Y) (xs : List X) (i : ℕ) (x : X) → i < length xs → x ≡ get_or xs i x

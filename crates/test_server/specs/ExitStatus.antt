@@ -1,11 +1,14 @@
--- The exit status of the program: of a server's end, and of words that ask for no server.
-use Rattle.std.specs.Prelude.{ℕ, Bool, if◌then◌else◌}
-use Rattle.clap.specs.declared.error.kind.ErrorKind as clap
+-- The exit status of a server's end, and of the words of a command line.
+use Rattle.std.specs.Prelude.{◌≡◌, ◌⊎◌, ℕ, Bool, List, []}
+use Rattle.clap.specs.Words.{IsAmong, Kinds, Text, fault_of}
+use Rattle.clap.specs.declared.error.kind.ErrorKind.{ErrorKind}
 use Rattle.clap.specs.declared.error.kind.ErrorKind.TheVariants as kind
-use Rattle.std.specs.declared.io.ErrorKind as io
-use Rattle.std.specs.declared.io.ErrorKind.TheVariants as io_kind
+use Rattle.command_words.specs.{words_status}
+use Rattle.test_server.specs.declared.choice.Choice.{Choice}
 use Rattle.test_server.specs.declared.connections.RunEnd.{RunEnd}
 use Rattle.test_server.specs.declared.connections.RunEnd.TheVariants.{Served, InOut, OutOfMemory}
+use Rattle.test_server.specs.Choices.{IsChosen}
+use Rattle.test_server.specs.CommandLine.{command_line}
 
 -- the exit status of each end; 2 is left for a fault in the command line
 abbrev pub exit_status : RunEnd → ℕ
@@ -13,14 +16,19 @@ exit_status (Served n) = 0
 exit_status InOut = 3
 exit_status OutOfMemory = 4
 
--- the exit status where reading the words gives an error of this kind
-abbrev pub unread_status : io.ErrorKind → ℕ
-unread_status io_kind.OutOfMemory = 4
-unread_status _ = 2
+-- ---- words
 
--- the exit status of words for which `clap` has an error of this kind, by whether its text could be printed
-abbrev pub words_status : clap.ErrorKind → Bool → ℕ
-words_status kind.OutOfMemory printed = 4
-words_status kind.DisplayHelp printed = if printed then 0 else 3
-words_status kind.DisplayVersion printed = if printed then 0 else 3
-words_status _ printed = 2
+-- the status of what was chosen: that of an end, which, if it is good, served as many connections as were asked for
+abbrev pub IsStatusFor : Choice → ℕ → Type 0
+IsStatusFor choice status = (end : RunEnd) × ((n : ℕ) → end ≡ Served n → n ≡ choice.connections) × (status ≡ exit_status end)
+
+-- memory ran out, or the words have a fault of this kind
+abbrev pub MayRefuse : ErrorKind → Kinds → Type 0
+MayRefuse k faults = (k ≡ kind.OutOfMemory) ⊎ IsAmong k faults
+
+-- The status for the words of a command line: where they have no fault that of what they choose, and else that of the fault, by
+-- whether its text could be printed.
+abbrev pub IsStatusOf : List Text → ℕ → Type 0
+IsStatusOf words status =
+    ((choice : Choice) × IsChosen choice words × (fault_of command_line words ≡ []) × IsStatusFor choice status)
+    ⊎ ((k : ErrorKind) × (printed : Bool) × MayRefuse k (fault_of command_line words) × (status ≡ words_status k printed))

@@ -1,20 +1,18 @@
 -- The text of what became of a connection: its requests with their answers, and how it ended.
-use Rattle.std.specs.Prelude.{ℕ, List, ◌++◌, length, codes, flat_map, Option, None, Some}
+use Rattle.std.specs.Prelude.{ℕ, List, ◌++◌, codes, flat_map, Option, None, Some}
 use Rattle.std.specs.Fmt.{decimal}
 use Rattle.bson_text.specs.{document_text, quoted}
-use Rattle.wire_msg.specs.{Content, Sequence, fault_text}
+use Rattle.wire_msg.specs.{Content, fault_text}
+use Rattle.wire_text.specs.{text_of_sequence}
+use Rattle.wire_text.specs.declared.messages.Detail.TheVariants.{Line}
 use Rattle.wire_peer.specs.declared.serving.ServeEnd.{ServeEnd}
 use Rattle.wire_peer.specs.declared.serving.ServeEnd.TheVariants.{Ended, EndedInside, Fault, Link, Budget, ReplyTooLarge, OutOfMemory, HandlerFailed}
 use Rattle.wire_peer.specs.{LogEntry}
 use Rattle.test_server.specs.Commands.{first_name}
 
--- the line of a document sequence: its identifier, and the count of its documents
-abbrev pub sequence_line : Sequence → List ℕ
-sequence_line q = codes "sequence " ++ (quoted q.identifier ++ (codes " " ++ (decimal (length q.documents) ++ codes "\n")))
-
 -- the text of a body, and the lines of the sequences
 abbrev pub payload_text : Content → List ℕ
-payload_text c = document_text c.body ++ flat_map sequence_line c.sequences
+payload_text c = document_text c.body ++ flat_map (text_of_sequence Line) c.sequences
 
 -- the line of the command's name, and the payload
 abbrev pub request_text : Content → List ℕ

@@ -1,12 +1,14 @@
 //! Serving one connection after another.
 
-ghost use Rattle.std.specs.Prelude.{◌≡◌, ◌≢◌, IfErr, OnOk, ℕ};
-ghost use Rattle.wire_peer.specs.{seen};
-ghost use Rattle.test_server.specs.Serving.{ServesOne};
+ghost use Rattle.std.specs.Prelude.{◌≡◌, ◌<◌, OnOk, ℕ};
+ghost use Rattle.std.specs.Io.KnownBytes.{Appends};
+ghost use Rattle.wire_peer.specs.{log_of, seen};
+ghost use Rattle.test_server.specs.Serving.{IsListened, IsRun, ServesAll, ServesNext, ServesOne, kept, served_line, settled};
 
 use crate::store::Store;
 use crate::transcript::write_connection;
 use std::alloc::Global;
+use std::io;
 use std::io::{BufWriter, Write};
 use std::net::{Net, OpenListener, TcpListener};
 use wire_msg::MAX_MESSAGE_LEN;
@@ -24,7 +26,7 @@ pub enum RunEnd {
     OutOfMemory,
 }
 
-/// Serves one connection, and writes what became of it. Returns how it ended.
+/// Serves one connection, and writes what became of it, so that it goes out. Returns how it ended.
 fn serve_one<L: Link, W: Write>(
     alloc: Global,
     number: u64,
@@ -40,59 +42,72 @@ fn serve_one<L: Link, W: Write>(
     let before = logged.entries().len();
     let end = serve(alloc, link, logged, number, MAX_MESSAGE_LEN, u64::MAX);
     match write_connection(number, &logged.entries()[before..], end, out) {
-        Ok(()) => Ok(end),
-        Err(_) => Err(RunEnd::InOut),
+        Ok(()) if out.flush().is_ok() => Ok(end),
+        _ => Err(RunEnd::InOut),
     }
 }
 
-/// Makes what was written of a connection go out.
-///
-/// # Errors
-///
-/// Returns why the server doesn't go on: it couldn't be written, or the connection ended for want of memory.
-fn settle<W: Write>(end: ServeEnd, out: &mut W) -> Result<(), RunEnd>
-    ensures goes { OnOk result (end ≢ ServeEnd.OutOfMemory) }
-    ensures stops { (n : ℕ) → IfErr result (λ why. why ≢ RunEnd.Served n) }
+/// Returns whether the server goes on after a connection that ended so: it stops for want of memory alone.
+fn settle(end: ServeEnd) -> Result<(), RunEnd>
+    ensures { result ≡ settled end }
 {
-    if out.flush().is_err() {
-        return Err(RunEnd::InOut);
-    }
     match end {
         ServeEnd::OutOfMemory => Err(RunEnd::OutOfMemory),
         _ => Ok(()),
     }
 }
 
-/// Accepts `count` connections one after another, serves each, and writes what became of it.
+/// Accepts a connection, serves it under this number, and writes what became of it.
+///
+/// # Errors
+///
+/// Returns why the server doesn't go on.
+fn serve_next<R: Net, W: Write>(
+    alloc: Global,
+    listener: &R::Listener,
+    number: u64,
+    logged: &mut Logged<Store>,
+    out: &mut W,
+) -> Result<(), RunEnd>
+    ensures { ServesNext number result
+        (kept logged.old.handler (log_of logged.old.entries.items))
+        (kept logged.new.handler (log_of logged.new.entries.items))
+        (W.contents out.old) (W.contents out.new) }
+{
+    let Ok((stream, _)) = listener.accept() else {
+        return Err(RunEnd::InOut);
+    };
+    let mut link = TcpLink::new(stream);
+    let end = serve_one(alloc, number, &mut link, logged, out)?;
+    settle(end)
+}
+
+/// Accepts `count` connections one after another, numbered from 1, serves each over what the one before left, and writes what
+/// became of it.
 fn serve_all<R: Net, W: Write>(
     alloc: Global,
     listener: &R::Listener,
     count: u64,
+    logged: &mut Logged<Store>,
     out: &mut W,
 ) -> RunEnd
-    ensures { (n : ℕ) → result ≡ RunEnd.Served n → n ≡ count }
+    ensures { ServesAll count result
+        (kept logged.old.handler (log_of logged.old.entries.items))
+        (kept logged.new.handler (log_of logged.new.entries.items))
+        (W.contents out.old) (W.contents out.new) }
 {
-    let mut logged = Logged::new(alloc, Store::new(alloc));
     for i in 0..count {
-        let Ok((stream, _)) = listener.accept() else {
-            return RunEnd::InOut;
-        };
-        let mut link = TcpLink::new(stream);
-        match serve_one(alloc, i + 1, &mut link, &mut logged, out) {
-            Ok(end) => {
-                if let Err(why) = settle(end, out) {
-                    return why;
-                }
-            }
-            Err(why) => return why,
+        if let Err(why) = serve_next::<R, W>(alloc, listener, i + 1, logged, out) {
+            return why;
         }
     }
     RunEnd::Served(count)
 }
 
-/// Listens at `address`, says where on `out`, and serves `count` connections.
+/// Listens at `address`, says where on `out`, and serves `count` connections, of which there is at least one.
 fn listen<R: Net, W: Write>(rt: &R, alloc: Global, address: &str, count: u64, out: &mut W) -> RunEnd
-    ensures { (n : ℕ) → result ≡ RunEnd.Served n → n ≡ count }
+    requires { 0 < count }
+    ensures { IsListened count result (W.contents out.old) (W.contents out.new) }
 {
     let Ok(listener) = TcpListener::bind(rt, address) else {
         return RunEnd::InOut;
@@ -103,10 +118,40 @@ fn listen<R: Net, W: Write>(rt: &R, alloc: Global, address: &str, count: u64, ou
     if writeln!(out, "listening {local}").is_err() || out.flush().is_err() {
         return RunEnd::InOut;
     }
-    serve_all::<R, W>(alloc, &listener, count, out)
+    let mut logged = Logged::new(alloc, Store::new(alloc));
+    serve_all::<R, W>(alloc, &listener, count, &mut logged, out)
 }
 
-/// Serves `count` connections at `address`, and says so. Opens no socket if `count` is 0.
+/// Writes the last line, so that it goes out.
+fn write_last<W: Write>(count: u64, out: &mut W) -> io::Result<()>
+    ensures { OnOk result (Appends (W.contents out.old) (W.contents out.new) (served_line count)) }
+{
+    writeln!(out, "served {count}")?;
+    out.flush()
+}
+
+/// Serves `count` connections at `address`, and writes what became of them. Opens no socket if `count` is 0.
+fn serve_at<R: Net, W: Write>(
+    rt: &R,
+    alloc: Global,
+    address: &str,
+    count: u64,
+    out: &mut W,
+) -> RunEnd
+    ensures { IsRun count result (W.contents out.old) (W.contents out.new) }
+{
+    let end = if count == 0 {
+        RunEnd::Served(0)
+    } else {
+        listen(rt, alloc, address, count, out)
+    };
+    match end {
+        RunEnd::Served(_) if write_last(count, out).is_err() => RunEnd::InOut,
+        end => end,
+    }
+}
+
+/// Serves `count` connections at `address`, and writes what became of them through a buffer.
 pub fn run<R: Net, W: Write + Drop>(
     rt: &R,
     alloc: Global,
@@ -116,18 +161,8 @@ pub fn run<R: Net, W: Write + Drop>(
 ) -> RunEnd
     ensures { (n : ℕ) → result ≡ RunEnd.Served n → n ≡ count }
 {
-    let Ok(mut out) = BufWriter::new(alloc, out) else {
-        return RunEnd::OutOfMemory;
-    };
-    let end = if count == 0 {
-        RunEnd::Served(0)
-    } else {
-        listen(rt, alloc, address, count, &mut out)
-    };
-    if let RunEnd::Served(served) = end {
-        if writeln!(out, "served {served}").is_err() || out.flush().is_err() {
-            return RunEnd::InOut;
-        }
+    match BufWriter::new(alloc, out) {
+        Ok(mut out) => serve_at(rt, alloc, address, count, &mut out),
+        Err(_) => RunEnd::OutOfMemory,
     }
-    end
 }

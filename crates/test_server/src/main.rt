@@ -24,19 +24,19 @@ mod namespace;
 mod store;
 mod transcript;
 
-ghost use Rattle.std.specs.Prelude.{◌≡◌, ℕ, Bool};
-ghost use Rattle.std.specs.IoError.{error_kind};
-ghost use Rattle.clap.specs.Words.{kind_of};
-ghost use Rattle.test_server.specs.ExitStatus.{exit_status, unread_status, words_status};
+ghost use Rattle.std.specs.Prelude.{◌≡◌, map};
+ghost use Rattle.test_server.specs.ExitStatus.{IsStatusFor, IsStatusOf, exit_status};
 
 use choice::{Choice, choose};
-use clap::error::ErrorKind;
+use command_words::{IN_OUT, MEMORY, Program, texts};
 use connections::{RunEnd, run};
+use std::io;
 use std::process::ExitCode;
-use std::{env, io};
 
-/// The exit status of a fault in the command line.
-const USAGE: u8 = 2;
+/// This program.
+const PROGRAM: Program<'static> = Program {
+    name: "test_server",
+};
 
 fn main(rt: HostRuntime) -> ExitCode {
     ExitCode::from(status(&rt))
@@ -44,30 +44,29 @@ fn main(rt: HostRuntime) -> ExitCode {
 
 /// Reads the words, serves what they ask for, and returns the exit status.
 fn status(rt: &HostRuntime) -> u8 {
-    let args = match env::args(rt) {
-        Ok(args) => args,
-        Err(error) => return unread_words(rt, error),
+    let words = match PROGRAM.read_words(rt) {
+        Ok(words) => words,
+        Err(status) => return status,
     };
-    let Ok(texts) = args.collect::<Vec<String>>(rt.alloc()) else {
-        return out_of_memory(rt);
-    };
-    let Ok(words) = texts
-        .iter()
-        .map(|text| text.as_str())
-        .collect::<Vec<&str>>(rt.alloc())
-    else {
-        return out_of_memory(rt);
-    };
-    match choose(rt.alloc(), words.as_slice()) {
+    match texts(rt.alloc(), words.as_slice()) {
+        Ok(texts) => status_of_words(rt, texts.as_slice()),
+        Err(_) => PROGRAM.out_of_memory(rt),
+    }
+}
+
+/// Serves what the words ask for, or says why they ask for nothing. Returns the exit status.
+fn status_of_words(rt: &HostRuntime, words: &[&str]) -> u8
+    ensures { IsStatusOf (map (λ w. w.now) words.now) result }
+{
+    match choose(rt.alloc(), words) {
         Ok(choice) => run_choice(rt, choice),
-        Err(error) => unchosen(rt, error),
+        Err(error) => PROGRAM.tell_unchosen(rt, &error),
     }
 }
 
 /// Serves what the words ask for, and returns the exit status. If it stopped short, standard error says why.
 fn run_choice(rt: &HostRuntime, choice: Choice<'_>) -> u8
-    ensures { (end : RunEnd) × ((n : ℕ) → end ≡ RunEnd.Served n → n ≡ choice.entry.connections)
-        × (result ≡ exit_status end) }
+    ensures { IsStatusFor choice.entry result }
 {
     let end = run(
         rt,
@@ -98,59 +97,7 @@ fn status_of(end: RunEnd) -> u8
 {
     match end {
         RunEnd::Served(_) => 0,
-        RunEnd::InOut => 3,
-        RunEnd::OutOfMemory => 4,
+        RunEnd::InOut => IN_OUT,
+        RunEnd::OutOfMemory => MEMORY,
     }
-}
-
-/// Says on standard error why the words could not be read: there was no memory, or one of them isn't text. Returns the exit
-/// status.
-fn unread_words(rt: &impl Eprint, error: io::Error) -> u8
-    ensures { result ≡ unread_status (error_kind error) }
-{
-    if error.kind() == io::ErrorKind::OutOfMemory {
-        return out_of_memory(rt);
-    }
-    let _ = eprintln!(rt; "test_server: an argument is not UTF-8");
-    USAGE
-}
-
-/// Prints help, the version or what is wrong with the words, and returns the exit status.
-fn unchosen(rt: &HostRuntime, error: clap::Error) -> u8
-    ensures { (printed : Bool) × (result ≡ words_status (kind_of error) printed) }
-{
-    let printed = print_error(rt, &error);
-    status_of_words(&error, printed)
-}
-
-/// Prints what `clap` has to say. Returns true if that could be printed.
-fn print_error(rt: &HostRuntime, error: &clap::Error) -> bool {
-    if error.kind() == ErrorKind::OutOfMemory {
-        return eprintln!(rt; "test_server: out of memory").is_ok();
-    }
-    let printed = error.print(rt).is_ok();
-    if !printed && !error.use_stderr() {
-        let _ = eprintln!(rt; "test_server: could not write standard output");
-    }
-    printed
-}
-
-/// Returns the exit status of words that ask for no server, by whether `clap`'s text was printed.
-fn status_of_words(error: &clap::Error, printed: bool) -> u8
-    ensures { result ≡ words_status (kind_of error.now) printed }
-{
-    match error.kind() {
-        ErrorKind::OutOfMemory => status_of(RunEnd::OutOfMemory),
-        ErrorKind::DisplayHelp | ErrorKind::DisplayVersion if printed => 0,
-        ErrorKind::DisplayHelp | ErrorKind::DisplayVersion => status_of(RunEnd::InOut),
-        _ => USAGE,
-    }
-}
-
-/// Says on standard error that memory ran out. Returns the exit status.
-fn out_of_memory(rt: &impl Eprint) -> u8
-    ensures { result ≡ 4 }
-{
-    let _ = eprintln!(rt; "test_server: out of memory");
-    status_of(RunEnd::OutOfMemory)
 }

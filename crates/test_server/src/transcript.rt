@@ -2,43 +2,17 @@
 
 ghost use Rattle.std.specs.Prelude.{◌≡◌, OnOk, codes, flat_map, map};
 ghost use Rattle.std.specs.Io.KnownBytes.{Appends};
-ghost use Rattle.wire_msg.specs.{Carries, Content, DocumentsAre, Sequence};
+ghost use Rattle.wire_msg.specs.{Carries, Content};
 ghost use Rattle.wire_peer.specs.{buf_content, entry_of, log_of, outcome_of};
-ghost use Rattle.test_server.specs.Transcript.{answer_text, connection_text, end_text, entry_text, outcome_text, payload_text, request_text, sequence_line};
+ghost use Rattle.test_server.specs.Transcript.{answer_text, connection_text, end_text, entry_text, outcome_text, payload_text, request_text};
 
 use crate::commands::name_of;
 use bson_text::{dump_to, quoted_to};
 use std::io;
 use std::io::Write;
-use wire_msg::{Documents, Payload, PayloadBuf};
+use wire_msg::{Payload, PayloadBuf};
 use wire_peer::{Entry, Outcome, ServeEnd};
-
-/// Writes the line of a document sequence: its identifier, and the count of its documents.
-fn write_sequence<W: Write>(
-    identifier: &str,
-    documents: Documents<'_>,
-    out: &mut W,
-) -> io::Result<()>
-    ensures { (q : Sequence) → identifier.now ≡ q.identifier
-        → DocumentsAre documents.entry q.documents → OnOk result
-        (Appends (W.contents out.old) (W.contents out.new) (sequence_line q)) }
-{
-    let count = documents.count();
-    out.write_all(b"sequence ")?;
-    quoted_to(identifier, out)?;
-    writeln!(out, " {count}")
-}
-
-/// Writes the lines of the document sequences of a payload, in order.
-fn write_sequences<W: Write>(payload: Payload<'_>, out: &mut W) -> io::Result<()>
-    ensures { (c : Content) → Carries payload.entry c → OnOk result
-        (Appends (W.contents out.old) (W.contents out.new) (flat_map sequence_line c.sequences)) }
-{
-    for (identifier, documents) in payload.sequences() {
-        write_sequence(identifier, documents, out)?;
-    }
-    Ok(())
-}
+use wire_text::{Detail, write_sequences};
 
 /// Writes the text of a body, and the line of each sequence.
 fn write_payload<W: Write>(payload: Payload<'_>, out: &mut W) -> io::Result<()>
@@ -46,7 +20,7 @@ fn write_payload<W: Write>(payload: Payload<'_>, out: &mut W) -> io::Result<()>
         (Appends (W.contents out.old) (W.contents out.new) (payload_text c)) }
 {
     dump_to(payload.body(), out)?;
-    write_sequences(payload, out)
+    write_sequences(payload, Detail::Line, out)
 }
 
 /// Writes the line of the command's name, and the payload.

@@ -1,7 +1,7 @@
 use Rattle.std.proofs.Common.{◌++◌, ◌+◌}
 use Rattle.std.proofs.lemmas.Result.{err_from_is_err_and}
 use Rattle.engines.specs.Loopback.{loop_text}
-use Rattle.engines.proofs.LoopLemmas.{call_written, last_written, left_from}
+use Rattle.engines.proofs.LoopLemmas.{call_written, last_written, left_from, one_more_sent}
 use Rattle.engines.proofs.loopback.make_calls.Goals as goal
 
 pub returns-in_err-write_call-clause-written : goal.returns-in_err-write_call-clause-written
@@ -25,6 +25,7 @@ loop-k-preserved g c =
     let whole = rw c.in_ok-write_call.was at line.2 in
     record {
       idle = c.in_ok-call.ensures.complete;
+      sent = one_more_sent k _ _ _ c.loop-k.invariant.sent c.in_ok-call.ensures.sent;
       written = rw whole at (call_written k calls line.0 (loop_text calls) _ _ _ c.loop-k-test.true c.loop-k.invariant.written line.1);
     }
 

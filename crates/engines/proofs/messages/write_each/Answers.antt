@@ -4,7 +4,8 @@ use Rattle.std.proofs.KnownBytes.{Appends-trans}
 use Rattle.wire_msg.specs.RawMsg.{msg_bytes}
 use Rattle.wire_msg.specs.Standing.{IsOpen, in_header}
 use Rattle.wire_msg.proofs.Lemmas.{cut_smaller}
-use Rattle.engines.specs.Msg.{message_text, MessagesAre}
+use Rattle.engines.specs.Msg.{MessagesAre}
+use Rattle.wire_text.specs.{message_text}
 use Rattle.engines.proofs.MessageReadings.{ended, ended_inside, faulted, message_more}
 use Rattle.engines.proofs.messages.write_each.Goals as goal
 

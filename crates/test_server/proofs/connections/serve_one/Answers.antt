@@ -1,5 +1,6 @@
 use Rattle.std.proofs.Common.{List, refl, subst}
 use Rattle.std.specs.Io.KnownBytes.{Appends}
+use Rattle.std.proofs.KnownBytes.{Appends-kept}
 use Rattle.wire_peer.specs.{LogEntry}
 use Rattle.test_server.specs.Transcript.{connection_text}
 use Rattle.test_server.proofs.Made.{made_are}
@@ -14,7 +15,7 @@ returns-in-Ok g c =
       served = c.serve-end.ensures;
       told = (
         refl,
-        subst (λ (es : List LogEntry). Appends (g.W.Write.contents c.args.out.now) (g.W.Write.contents c.write_connection.new.out) (connection_text c.args.number es c.serve-end.result))
-            (made_are old new c.entries-before.result.now c.entries.result.now c.serve-end.ensures.made c.entries-before.ensures c.entries.ensures c.serve-end.ensures.logged) c.in-Ok.ensures,
+        Appends-kept _ (g.W.Write.contents c.write_connection.new.out) _ _ (subst (λ (es : List LogEntry). Appends (g.W.Write.contents c.args.out.now) (g.W.Write.contents c.write_connection.new.out) (connection_text c.args.number es c.serve-end.result))
+            (made_are old new c.entries-before.result.now c.entries.result.now c.serve-end.ensures.made c.entries-before.ensures c.entries.ensures c.serve-end.ensures.logged) c.in-Ok.ensures) c.flush.ensures.bytes,
       );
     }

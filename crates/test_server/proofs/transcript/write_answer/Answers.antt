@@ -3,7 +3,8 @@ use Rattle.std.specs.Prelude.{OnOk}
 use Rattle.std.specs.Io.KnownBytes.{Appends}
 use Rattle.wire_peer.proofs.Lemmas.{of_buf_content}
 use Rattle.test_server.specs.Transcript.{answer_text, payload_text}
-use Rattle.test_server.proofs.Texts.{two_written, written_prop}
+use Rattle.wire_text.proofs.Lemmas.{two_written}
+use Rattle.test_server.proofs.Texts.{written_prop}
 use Rattle.test_server.proofs.transcript.write_answer.Goals as goal
 
 pub returns : goal.returns

@@ -1,0 +1,2 @@
+pub mod MessageTexts
+pub mod Lemmas

@@ -1,0 +1,3 @@
+pub mod MessageText
+-- the words that clauses of other crates cite
+pub use Rattle.wire_text.specs.MessageText.{message_text, text_of_sequence}

@@ -1,0 +1,6 @@
+//! The text of a message, over any writer. No function takes memory.
+#![tactic(auto)]
+
+mod messages;
+
+pub use messages::{Detail, write_message, write_sequences};

@@ -1,0 +1,149 @@
+//! The text of a message. No function here takes memory.
+
+ghost use Rattle.std.specs.Prelude.{◌≡◌, List, OnOk, flat_map};
+ghost use Rattle.std.specs.Io.KnownBytes.{Appends};
+ghost use Rattle.bson_elem.specs.{Spells, Tree};
+ghost use Rattle.bson_raw.specs.{document_bytes};
+ghost use Rattle.wire_msg.specs.{Carries, Content, DocumentsAre, Message, Sequence, SpellsMsg, msg_bytes};
+ghost use Rattle.wire_text.specs.MessageText.{body_text, flags_text, member_text, message_line, message_text, sequence_line, text_of_sequence};
+
+use bson_raw::RawDocument;
+use bson_text::{dump_elements, quoted_to};
+use std::io;
+use std::io::Write;
+use wire_msg::{Documents, MsgFlags, Payload, RawMsg};
+
+/// How much is written of a document sequence.
+#[derive(Clone, Copy, Debug, PartialEq, Eq)]
+pub enum Detail {
+    /// The line of its identifier and the count of its documents.
+    Line,
+    /// That line, and the documents.
+    Documents,
+}
+
+/// Returns the word for the flags.
+fn flags_word(flags: MsgFlags) -> &'static str
+    ensures { result.now ≡ flags_text flags }
+{
+    match (flags.more, flags.allows) {
+        (false, false) => "-",
+        (true, false) => "more",
+        (false, true) => "exhaust",
+        (true, true) => "more+exhaust",
+    }
+}
+
+/// Writes the first line of a message.
+fn write_message_line<W: Write>(message: RawMsg<'_>, out: &mut W) -> io::Result<()>
+    ensures { (m : Message) → SpellsMsg m (msg_bytes message.entry) → OnOk result
+        (Appends (W.contents out.old) (W.contents out.new)
+        (message_line m)) }
+{
+    let size = message.as_bytes().len();
+    let id = message.id();
+    let response_to = message.response_to();
+    let flags = flags_word(message.flags());
+    writeln!(out, "message {size} id {id} to {response_to} flags {flags}")
+}
+
+/// Writes the line of the body's size, and those of its elements.
+fn write_body<W: Write>(body: RawDocument<'_>, out: &mut W) -> io::Result<()>
+    ensures { (t : Tree) → Spells t (document_bytes body.entry) → OnOk result
+        (Appends (W.contents out.old) (W.contents out.new) (body_text t)) }
+{
+    let size = body.as_bytes().len();
+    writeln!(out, "body {size}")?;
+    dump_elements(body, 1, out)
+}
+
+/// Writes a document of a sequence, one deeper than the body.
+fn write_member<W: Write>(document: RawDocument<'_>, out: &mut W) -> io::Result<()>
+    ensures { (t : Tree) → Spells t (document_bytes document.entry) → OnOk result
+        (Appends (W.contents out.old) (W.contents out.new) (member_text t)) }
+{
+    let size = document.as_bytes().len();
+    writeln!(out, "  document {size}")?;
+    dump_elements(document, 2, out)
+}
+
+/// Writes the documents of a sequence.
+fn write_documents<W: Write>(documents: Documents<'_>, out: &mut W) -> io::Result<()>
+    ensures { (ts : List Tree) → DocumentsAre documents.entry ts → OnOk result
+        (Appends (W.contents out.old) (W.contents out.new) (flat_map member_text ts)) }
+{
+    for document in documents.iter() {
+        write_member(document, out)?;
+    }
+    Ok(())
+}
+
+/// Writes the line of a document sequence: its identifier, and the count of its documents.
+fn write_sequence_line<W: Write>(
+    identifier: &str,
+    documents: Documents<'_>,
+    out: &mut W,
+) -> io::Result<()>
+    ensures { (q : Sequence) → identifier.now ≡ q.identifier
+        → DocumentsAre documents.entry q.documents → OnOk result
+        (Appends (W.contents out.old) (W.contents out.new) (sequence_line q)) }
+{
+    let count = documents.count();
+    out.write_all(b"sequence ")?;
+    quoted_to(identifier, out)?;
+    writeln!(out, " {count}")
+}
+
+/// Writes a document sequence: its line, and as `detail` says its documents.
+fn write_sequence<W: Write>(
+    identifier: &str,
+    documents: Documents<'_>,
+    detail: Detail,
+    out: &mut W,
+) -> io::Result<()>
+    ensures { (q : Sequence) → identifier.now ≡ q.identifier
+        → DocumentsAre documents.entry q.documents → OnOk result
+        (Appends (W.contents out.old) (W.contents out.new) (text_of_sequence detail q)) }
+{
+    write_sequence_line(identifier, documents, out)?;
+    match detail {
+        Detail::Line => Ok(()),
+        Detail::Documents => write_documents(documents, out),
+    }
+}
+
+/// Writes the document sequences of a payload, in order, each as `detail` says.
+///
+/// # Errors
+///
+/// Returns the error of the writer, which may have taken a part of the text.
+pub fn write_sequences<W: Write>(
+    payload: Payload<'_>,
+    detail: Detail,
+    out: &mut W,
+) -> io::Result<()>
+    ensures { (c : Content) → Carries payload.entry c → OnOk result
+        (Appends (W.contents out.old) (W.contents out.new)
+        (flat_map (text_of_sequence detail) c.sequences)) }
+{
+    for (identifier, documents) in payload.sequences() {
+        write_sequence(identifier, documents, detail, out)?;
+    }
+    Ok(())
+}
+
+/// Writes the text of a message: its first line, its body, and its document sequences in order.
+///
+/// # Errors
+///
+/// Returns the error of the writer, which may have taken a part of the text.
+pub fn write_message<W: Write>(message: RawMsg<'_>, out: &mut W) -> io::Result<()>
+    ensures { (m : Message) → SpellsMsg m (msg_bytes message.entry) → OnOk result
+        (Appends (W.contents out.old) (W.contents out.new)
+        (message_text m)) }
+{
+    let payload = message.payload();
+    write_message_line(message, out)?;
+    write_body(payload.body(), out)?;
+    write_sequences(payload, Detail::Documents, out)
+}
