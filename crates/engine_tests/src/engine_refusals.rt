@@ -1,4 +1,4 @@
-//! That the canonical forms under a limit are written whole, or not at all where memory is refused. `./try-refusals` runs this
+//! That the canonical forms under a limit are written whole, or not at all where memory is refused. `scripts/checks/try-refusals` runs this
 //! test with each of its allocations refused in turn, and the other commands with the program.
 
 use crate::writers::Counter;

@@ -1,4 +1,4 @@
-//! Tests of what stays of documents after a refused allocation. `./try-refusals` runs them with each of their allocations
+//! Tests of what stays of documents after a refused allocation. `scripts/checks/try-refusals` runs them with each of their allocations
 //! refused in turn. No other one is refused then, so what is asked for again is granted.
 
 use bson_doc::laws::round_trip;
@@ -112,7 +112,7 @@ fn finds(alloc: Global, raw: RawDocument<'_>) -> Result<bool, DocRefusal> {
 }
 
 /// A name that is there is looked up before it is copied. So this asks for memory as often as `a_pair_is_read`, which
-/// `./try-refusals` compares.
+/// `scripts/checks/try-refusals` compares.
 #[test]
 fn a_repeated_name_is_found(rt: HostRuntime) {
     let alloc = rt.alloc();

@@ -1,4 +1,4 @@
-//! That a message is told the same whether memory is refused or not. `./try-refusals` runs this test
+//! That a message is told the same whether memory is refused or not. `scripts/checks/try-refusals` runs this test
 //! with each of its allocations refused in turn. No other one is refused then, so bytes are read when
 //! they are read again.
 

@@ -1,4 +1,4 @@
-//! Tests of what stays of payloads after a refused allocation. `./try-refusals` runs them with each of their allocations refused
+//! Tests of what stays of payloads after a refused allocation. `scripts/checks/try-refusals` runs them with each of their allocations refused
 //! in turn. No other one is refused then, so what is asked for again is granted.
 
 use bson_raw::RawDocument;

@@ -1,4 +1,4 @@
-//! Tests of what stays of answers, replies and logs after a refused allocation. `./try-refusals` runs them with each of their
+//! Tests of what stays of answers, replies and logs after a refused allocation. `scripts/checks/try-refusals` runs them with each of their
 //! allocations refused in turn. No other one is refused then, so what is asked for again is granted.
 
 use crate::log_rows::{Noted, are_bodies, is_log};

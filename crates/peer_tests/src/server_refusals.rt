@@ -1,4 +1,4 @@
-//! Tests of what stays of a server after a refused allocation. `./try-refusals` runs them with each of their allocations
+//! Tests of what stays of a server after a refused allocation. `scripts/checks/try-refusals` runs them with each of their allocations
 //! refused in turn. No other one is refused then, so what is asked for again is granted.
 
 use crate::log_rows::{Noted, is_log};

@@ -1,4 +1,4 @@
-//! A test of what stands after serving that wanted memory. `./try-refusals` runs it with each of its allocations refused in
+//! A test of what stands after serving that wanted memory. `scripts/checks/try-refusals` runs it with each of its allocations refused in
 //! turn. No other one is refused then, so a connection that is served again is served to its end.
 
 use crate::log_rows::{Noted, is_log};

@@ -1,4 +1,4 @@
-//! Tests of a script where memory is refused. `./try-refusals` runs them with each of their allocations refused in turn. No other
+//! Tests of a script where memory is refused. `scripts/checks/try-refusals` runs them with each of their allocations refused in turn. No other
 //! one is refused then, so the script is played when it comes again.
 
 use engines::{RunEnd, run_play};

@@ -1,4 +1,4 @@
-//! A test of pools where memory is refused. `./try-refusals` runs it with each of its allocations refused in turn. No other one
+//! A test of pools where memory is refused. `scripts/checks/try-refusals` runs it with each of its allocations refused in turn. No other one
 //! is refused then, so a pool is made when it is asked for again.
 
 use std::alloc::Global;

@@ -1,4 +1,4 @@
-//! A test of lines where memory is refused. `./try-refusals` runs it with each of its allocations refused in turn. No other one
+//! A test of lines where memory is refused. `scripts/checks/try-refusals` runs it with each of its allocations refused in turn. No other one
 //! is refused then, so a line is read when it is read again.
 
 use crate::readings::{Reading, is_reading, reads};

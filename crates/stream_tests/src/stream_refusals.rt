@@ -1,4 +1,4 @@
-//! Tests of what stands after a refused allocation. `./try-refusals` runs them with each of their allocations refused in
+//! Tests of what stands after a refused allocation. `scripts/checks/try-refusals` runs them with each of their allocations refused in
 //! turn. No other one is refused then, so what is asked for again is granted.
 
 use crate::links::{REPLY, body_payload, link_of, push_payload};

@@ -1,4 +1,4 @@
-//! Tests of what is appended where memory is refused. `./try-refusals` runs them with each of their
+//! Tests of what is appended where memory is refused. `scripts/checks/try-refusals` runs them with each of their
 //! allocations refused in turn. No other one is refused then, so what is asked for again is granted.
 
 use bson_raw::RawDocument;

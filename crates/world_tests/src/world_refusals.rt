@@ -1,4 +1,4 @@
-//! Tests of what a world is after a refused allocation. `./try-refusals` runs them with each of their allocations refused
+//! Tests of what a world is after a refused allocation. `scripts/checks/try-refusals` runs them with each of their allocations refused
 //! in turn. No other one is refused then, so what comes again, in this world or in another one, comes to its end.
 
 use crate::rows::{
