@@ -1,0 +1,50 @@
+//! That the canonical forms under a limit are written whole, or not at all where memory is refused, and a script up to the event that
+//! it is refused to. `scripts/checks/try-refusals` runs these tests with each of their allocations refused in turn, and the other
+//! commands with the program.
+
+use crate::writers::Counter;
+use engines::{RunEnd, run_canon_within, run_play};
+use std::alloc::Global;
+use wire_play_tests::kept::{SCRIPT, empty, ends_refused, is_played};
+
+/// Two documents: one of 5 bytes, and one whose canonical form has 27.
+const TWO: &str = "0500000000 19000000 04 7600 11000000 10 00 07000000 10 00 08000000 00 00";
+
+/// Returns whether the line of both forms is written, or none for want of memory, where nothing was written.
+fn writes(alloc: Global) -> Option<bool> {
+    let mut writer = Counter::failing_at(0);
+    match run_canon_within(alloc, 27, true, &mut TWO.as_bytes(), &mut writer) {
+        RunEnd::Memory if writer.taken == 0 => None,
+        end => Some(end == RunEnd::Good && writer.taken == 65),
+    }
+}
+
+#[test]
+fn canonical_forms_are_written_whole_or_not_at_all(rt: HostRuntime) {
+    let holds = match writes(rt.alloc()) {
+        Some(holds) => holds,
+        None => writes(rt.alloc()) == Some(true),
+    };
+    assert!(rt; holds);
+}
+
+/// Returns true if `run_play` writes the whole text; or none for want of memory: where that is in an event, the line of its refusal
+/// is the last one then, and else nothing was passed on.
+fn plays(alloc: Global) -> Option<bool> {
+    let mut writer = empty();
+    let mut script = SCRIPT;
+    match run_play(alloc, &mut script, &mut writer) {
+        RunEnd::Good => is_played(writer.text()),
+        RunEnd::Memory if writer.text().is_empty() || ends_refused(writer.text()) => None,
+        _ => Some(false),
+    }
+}
+
+#[test]
+fn a_script_is_played_up_to_a_refused_event(rt: HostRuntime) {
+    let holds = match plays(rt.alloc()) {
+        Some(holds) => holds,
+        None => plays(rt.alloc()) == Some(true),
+    };
+    assert!(rt; holds);
+}

@@ -1,0 +1,28 @@
+//! Tests of the engines, by what no contract says: that runs are good where their input is, their texts, readers, writers and
+//! networks that fail, and refused allocations. They stand in a crate of their own, since a crate is proved once more with its tests.
+//!
+//! Stands on engines and wire_play_tests. Read first: `dump`.
+#![tactic(auto)]
+
+#[cfg(test)]
+mod calls;
+#[cfg(test)]
+mod canon;
+#[cfg(test)]
+mod check;
+#[cfg(test)]
+mod dump;
+#[cfg(test)]
+mod engine_refusals;
+#[cfg(test)]
+mod fault_line;
+#[cfg(test)]
+mod msg;
+#[cfg(test)]
+mod networks;
+#[cfg(test)]
+mod play;
+#[cfg(test)]
+mod readers;
+#[cfg(test)]
+mod writers;

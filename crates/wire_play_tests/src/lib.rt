@@ -1,0 +1,23 @@
+//! Tests of scripts of events, by what no contract says: that their runs succeed where memory is there, and that the texts are
+//! those that were worked out by hand. They stand in a crate of their own, since a crate is proved once more with its tests.
+//!
+//! Stands on wire_play. engines_tests stands on it, for `kept`. Read first: `runs`.
+#![tactic(auto)]
+
+#[cfg(test)]
+mod cut_runs;
+#[cfg(test)]
+mod faulty_lines;
+#[cfg(test)]
+mod forms;
+pub mod kept;
+#[cfg(test)]
+mod neighbours;
+#[cfg(test)]
+mod play_refusals;
+#[cfg(test)]
+mod rows;
+#[cfg(test)]
+mod runs;
+#[cfg(test)]
+mod streams;
