@@ -42,8 +42,8 @@ message_bytes id response_to word sections = header_bytes (length sections + 20)
 -- 31, only exhaustAllowed means something, which is bit 16.
 pub record FlagsAre (word : ℕ) (flags : MsgFlags) : Type 0 where
   pub four_bytes : word < 2 ^ 32
-  pub required : word % 2 ^ 16 ≡ from_bool flags.more * 2
-  pub optional : bit_at word 16 ≡ from_bool flags.allows
+  pub required : word % 2 ^ 16 ≡ from_bool flags.more_to_come * 2
+  pub optional : bit_at word 16 ≡ from_bool flags.exhaust_allowed
 
 -- ---- messages
 
@@ -72,7 +72,7 @@ IsMessage limit bytes = (length bytes ≤ limit) × IsSpelledMsg bytes
 -- ---- the canonical spelling: the body first, and no free flag bit set
 
 abbrev pub flag_word : MsgFlags → ℕ
-flag_word flags = from_bool flags.more * 2 + from_bool flags.allows * 2 ^ 16
+flag_word flags = from_bool flags.more_to_come * 2 + from_bool flags.exhaust_allowed * 2 ^ 16
 
 abbrev pub canonical : Message → List ℕ
 canonical m = message_bytes m.id m.response_to (flag_word m.flags) (sections_bytes [] m.content.body m.content.sequences)

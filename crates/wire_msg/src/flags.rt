@@ -23,16 +23,16 @@ const EXHAUST_ALLOWED: u32 = 0x1_0000;
 #[derive(Clone, Copy, Debug, PartialEq, Eq)]
 pub struct MsgFlags {
     /// moreToCome, bit 1: on a request, no reply is wanted; on a reply, another one follows.
-    pub more: bool,
+    pub more_to_come: bool,
     /// exhaustAllowed, bit 16: more than one reply may be sent to this request.
-    pub allows: bool,
+    pub exhaust_allowed: bool,
 }
 
 impl MsgFlags {
     /// No flag is set.
     pub const NONE: MsgFlags = MsgFlags {
-        more: false,
-        allows: false,
+        more_to_come: false,
+        exhaust_allowed: false,
     };
 
     /// Reads the flags from `word`, the number that their four bytes are, the lowest first.
@@ -61,8 +61,8 @@ impl MsgFlags {
             });
         }
         Ok(MsgFlags {
-            more: required & MORE_TO_COME != 0,
-            allows: word & EXHAUST_ALLOWED != 0,
+            more_to_come: required & MORE_TO_COME != 0,
+            exhaust_allowed: word & EXHAUST_ALLOWED != 0,
         })
     }
 
@@ -70,6 +70,7 @@ impl MsgFlags {
     pub(crate) fn word(self) -> u32
         ensures { result ≡ flag_word self }
     {
-        u32::from(self.more) * MORE_TO_COME + u32::from(self.allows) * EXHAUST_ALLOWED
+        u32::from(self.more_to_come) * MORE_TO_COME
+            + u32::from(self.exhaust_allowed) * EXHAUST_ALLOWED
     }
 }

@@ -224,17 +224,17 @@ impl<'a> RawMsg<'a> {
     }
 
     /// Returns moreToCome: on a request, no reply is wanted; on a reply, another one follows.
-    pub fn more(self) -> bool
-        ensures { (m : Message) → SpellsMsg m (msg_bytes self.entry) → result ≡ m.flags.more }
+    pub fn more_to_come(self) -> bool
+        ensures { (m : Message) → SpellsMsg m (msg_bytes self.entry) → result ≡ m.flags.more_to_come }
     {
-        self.flags().more
+        self.flags().more_to_come
     }
 
     /// Returns exhaustAllowed: more than one reply may be sent to this request.
-    pub fn allows_more(self) -> bool
-        ensures { (m : Message) → SpellsMsg m (msg_bytes self.entry) → result ≡ m.flags.allows }
+    pub fn exhaust_allowed(self) -> bool
+        ensures { (m : Message) → SpellsMsg m (msg_bytes self.entry) → result ≡ m.flags.exhaust_allowed }
     {
-        self.flags().allows
+        self.flags().exhaust_allowed
     }
 
     /// Returns the payload: the body and the document sequences.

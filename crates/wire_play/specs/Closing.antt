@@ -19,8 +19,8 @@ numbered text n (x ∷ xs) = text n x ++ numbered text (n + 1) xs
 -- ---- calls
 
 -- what a call asks for: just one reply, one or more, or none
-abbrev pub kind_word : (allows silent : Bool) → List ℕ
-kind_word allows true = codes "unacknowledged"
+abbrev pub kind_word : (exhaust_allowed more_to_come : Bool) → List ℕ
+kind_word exhaust_allowed true = codes "unacknowledged"
 kind_word true false = codes "exhaust"
 kind_word false false = codes "plain"
 
@@ -35,7 +35,7 @@ state_word Foreign = codes "foreign"
 -- the line of a call: its number, its connection, what it asks for, how it stands, and how many parts it has
 abbrev pub call_line : ℕ → Record → List ℕ
 call_line k r =
-    codes "call " ++ (decimal k ++ (codes " connection " ++ (decimal r.connection ++ (codes " " ++ (kind_word r.asked.allows r.asked.silent ++ (codes " " ++ (state_word r.state ++ (codes " " ++ (decimal (length r.parts) ++ codes "\n")))))))))
+    codes "call " ++ (decimal k ++ (codes " connection " ++ (decimal r.connection ++ (codes " " ++ (kind_word r.asked.exhaust_allowed r.asked.more_to_come ++ (codes " " ++ (state_word r.state ++ (codes " " ++ (decimal (length r.parts) ++ codes "\n")))))))))
 
 abbrev pub part_line : Content → List ℕ
 part_line c = codes "part " ++ (body_hex c ++ codes "\n")

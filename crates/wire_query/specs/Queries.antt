@@ -30,4 +30,4 @@ pub record IsCommand (body : Tree) : Type 0 where
 
 -- the message of the same id and body
 abbrev pub message_of : Query → Message
-message_of q = record { id = q.id; response_to = q.response_to; flags = record { more = false; allows = false }; content = body_alone q.body }
+message_of q = record { id = q.id; response_to = q.response_to; flags = record { more_to_come = false; exhaust_allowed = false }; content = body_alone q.body }

@@ -17,7 +17,7 @@ flag_names true true = codes "more+exhaust"
 
 -- the flags in one word
 abbrev pub flags_text : MsgFlags → List ℕ
-flags_text flags = flag_names flags.more flags.allows
+flags_text flags = flag_names flags.more_to_come flags.exhaust_allowed
 
 -- the first line of a message
 abbrev pub message_line : Message → List ℕ

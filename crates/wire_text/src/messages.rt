@@ -26,7 +26,7 @@ pub enum Detail {
 fn flags_word(flags: MsgFlags) -> &'static str
     ensures { result.now ≡ flags_text flags }
 {
-    match (flags.more, flags.allows) {
+    match (flags.more_to_come, flags.exhaust_allowed) {
         (false, false) => "-",
         (true, false) => "more",
         (false, true) => "exhaust",
