@@ -5,7 +5,8 @@ use Rattle.std.specs.Str.{bytes_eq}
 use Rattle.bson_elem.specs.declared.kinds.Kind.{Kind}
 use Rattle.bson_elem.specs.{Beside, Leaf, Tree, inner_pair, leaf_pair, no_pairs}
 
--- the value of a pair: of a kind and a leaf, or of a kind, what stands beside, and the tree of the document held
+-- the value of a pair: a kind and a leaf; or a kind, what the value has beside its document, and
+-- the document's tree
 pub data TreeValue : Type 0 where
   leaf_value : Kind → Leaf → TreeValue
   document_value : Kind → Beside → Tree → TreeValue
@@ -39,7 +40,7 @@ names_of (inner_pair n k b inner ps) = n ∷ names_of ps
 abbrev pub is_among : List ℕ → List (List ℕ) → Bool
 is_among name names = list_any (λ n. bytes_eq n name) names
 
--- the name of the first pair whose name was seen, where these names were seen before the pairs
+-- the first name that is one of these or the name of an earlier pair
 abbrev pub first_repeated : List (List ℕ) → Tree → Option (List ℕ)
 first_repeated seen no_pairs = None
 first_repeated seen (leaf_pair n k v ps) = if is_among n seen then Some n else first_repeated (seen ++ n ∷ []) ps

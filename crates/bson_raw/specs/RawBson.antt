@@ -40,7 +40,7 @@ Shows values.MaxKey v = v ≡ leaf_value kinds.MaxKey (raw_value [])
 abbrev pub ShowsFound : RawBson → Option TreeValue → Type 0
 ShowsFound value found = (v : TreeValue) × (found ≡ Some v) × Shows value v
 
--- how many bytes the document, array or scope has that the value holds, and 0 where it holds none
+-- the number of bytes of the document, array or scope that the value holds, or 0 if it holds none
 abbrev pub held_len : RawBson → ℕ
 held_len (values.Document d) = length (document_bytes d)
 held_len (values.Array a) = length (array_bytes a)

@@ -1,4 +1,4 @@
-//! The check of a whole document.
+//! Checks a whole document.
 
 ghost use Rattle.std.specs.Prelude.{◌≡◌, ◌+◌, ◌-◌, ◌<◌, ◌≤◌, ◌^◌, length, slice_range, max, IfErr, MatchResult, false, true};
 ghost use Rattle.bson_elem.specs.{FaultIn};
@@ -47,7 +47,8 @@ fn check_pair(
     let (document, rest) = skip_value(depth, offset, end - rest.len(), kind, rest)?;
     let next = end - rest.len();
     if let Some(inner) = document {
-        // Told by the byte: a test of the kind would turn its table of sizes into a jump for each kind.
+        // Looks at the byte: a test of the kind would turn its table of sizes into a jump for each
+        // kind.
         let is_array = bytes[offset] == Kind::Array.byte();
         let within = check(bytes, inner, next - 1, depth + 1, is_array)?;
         return Ok((next, canonical && within));
@@ -134,7 +135,7 @@ pub(crate) fn check(
         (λ f. FaultIn depth start (start + 4) (slice_range bytes.now (start + 4) end) f) }
     ensures bound { IfErr result (λ f. f.at ≤ end) }
 {
-    // Each has a loop of its own, so that no document's names are tested.
+    // Two loops, so that the names in a document aren't compared with numbers.
     if in_array {
         check_array(bytes, start, end, depth)
     } else {

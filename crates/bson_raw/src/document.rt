@@ -34,7 +34,8 @@ fn spells_canonical(bytes: &[u8]) -> bool
     }
 }
 
-/// Returns true if the length at the front is that of the bytes, or if there are too few bytes for one.
+/// Returns true if the length at the front is that of the bytes, or if there are fewer than four
+/// bytes.
 fn is_length_of(bytes: &[u8]) -> bool
     ensures { IsTrue result ↔ IsLengthOf bytes.now }
 {
@@ -85,11 +86,12 @@ impl<'a> RawDocument<'a> {
         }
     }
 
-    /// Does what `front` does, and by the same walk finds out whether the document is in canonical form.
+    /// Checks the document at the front of the bytes, as `front` does. In the same walk it also
+    /// finds out whether the document is in canonical form.
     ///
     /// # Errors
     ///
-    /// Returns the faults that `front` does.
+    /// Returns the same fault as `front`.
     pub fn front_with_form(bytes: &'a [u8]) -> Result<Front<'a>, BsonFault>
         ensures found { IfOk result (λ x.
             (bytes.now ≡ document_bytes x.document ++ x.rest.now) × IsSpelled (document_bytes x.document)) }
@@ -118,7 +120,8 @@ impl<'a> RawDocument<'a> {
     ///
     /// # Errors
     ///
-    /// Returns `Length` at 0 if the length at the front isn't that of the bytes, and else the fault that `front` does.
+    /// Returns `Length` at 0 if the length at the front isn't that of the bytes, and otherwise the
+    /// fault that `front` returns.
     pub fn from_bytes(bytes: &'a [u8]) -> Result<RawDocument<'a>, BsonFault>
         ensures found { IfOk result (λ d. (document_bytes d ≡ bytes.now) × IsSpelled bytes.now) }
         ensures only { IsSpelled bytes.now → IsOk result }

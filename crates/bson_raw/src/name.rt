@@ -92,7 +92,7 @@ fn after_index(bytes: &[u8], index: usize) -> Option<&[u8]>
     after_name(bytes, n, index)
 }
 
-/// Does what `skip_name` does in an array, for any name.
+/// Reads a name as `skip_name` does in an array. It works for any name, and is slower.
 #[inline(never)]
 fn skip_any_name(bytes: &[u8], index: usize) -> Result<(bool, &[u8]), BsonCause>
     ensures read { Gives (λ x. (x.0, x.1.now)) result (named_at true index (cstring_at bytes.now)) }
@@ -114,7 +114,7 @@ pub(crate) fn skip_name(
     ensures shorter { IfOk result (λ x. length x.1.now < length bytes.now) }
 {
     if in_array {
-        // A canonical name, which is known beforehand, need not be searched for its end.
+        // The canonical name is known, so its end need not be searched for.
         return match after_index(bytes, index) {
             Some(rest) => Ok((true, rest)),
             None => skip_any_name(bytes, index),

@@ -1,5 +1,5 @@
-//! The text of a document: the line of its size, and a line for each element, at all depths. No
-//! function here takes memory.
+//! Writes the text of a document: the line of its size, and a line for each element, at all
+//! depths. No function here takes memory.
 
 ghost use Rattle.std.specs.Prelude.{◌≡◌, ◌+◌, ◌<◌, ◌≤◌, ◌^◌, IfOk, IfSome, MatchOption, None, OnOk, length};
 ghost use Rattle.std.specs.Io.KnownBytes.{Appends};
@@ -21,7 +21,7 @@ use core::mem::replace_with;
 use std::io;
 use std::io::Write;
 
-/// Writes the word of the value's kind and the value, which stand behind an element's name.
+/// Writes the word of the value's kind, and the value, as they follow an element's name.
 fn write_value<W: Write>(value: RawBson<'_>, out: &mut TextWriter<W>) -> Result<(), Failed>
     ensures { (v : TreeValue) → Shows value.entry v → OnOk result
         (Appends (text_contents W.contents out.old) (text_contents W.contents out.new) (value_text v)) }
@@ -71,7 +71,7 @@ fn write_line<W: Write>(
     out.write_all(b"\n")
 }
 
-/// Returns the document of the elements that a value holds, if it holds any kind of document.
+/// Returns the document, array or scope that a value holds, if it holds one.
 fn held_document(value: RawBson<'_>) -> Option<RawDocument<'_>>
     ensures tree { (v : TreeValue) → Shows value.entry v → MatchOption result (held_tree v ≡ None)
         (λ d. IsHeld v (document_bytes d)) }
@@ -85,9 +85,9 @@ fn held_document(value: RawBson<'_>) -> Option<RawDocument<'_>>
     }
 }
 
-/// Writes the lines of the next elements, up to and with the first that holds a document. Returns
-/// that document, or `None` after the last element. It isn't inlined, so that a level of nesting
-/// takes little of the stack.
+/// Writes the lines of the next elements, up to the first that holds a document, and that one's
+/// too. Returns that document, or `None` after the last element. Not inlined, so that a level of
+/// nesting takes little of the stack.
 #[inline(never)]
 fn write_to_held<'a, W: Write>(
     pairs: &mut RawIter<'a>,

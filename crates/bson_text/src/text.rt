@@ -1,4 +1,5 @@
-//! Indentation, numbers, quoted text and hexadecimal digits: the parts of the text of documents.
+//! Writes the parts of the text of documents: indentation, numbers, quoted text and hexadecimal
+//! digits.
 
 ghost use Rattle.std.specs.Prelude.{◌≡◌, ◌+◌, ◌≤◌, MatchOption, OnOk, Some, flat_map, length, position};
 ghost use Rattle.std.specs.Io.KnownBytes.{Appends};
@@ -11,10 +12,10 @@ use itoa::{Buffer, Integer};
 use std::io::Write;
 use std::simd::prelude::*;
 
-/// The greatest count of bytes that are written as digits at a time.
+/// The most bytes that are written as digits at a time.
 const HEX_CHUNK: usize = 128;
 
-/// The greatest count of bytes of a number or an id.
+/// The most bytes that a number or an id has.
 const HEX_FEW: usize = 16;
 
 /// Writes two spaces `deep` times.
@@ -27,7 +28,7 @@ pub(crate) fn write_indent<W: Write>(deep: u32, out: &mut TextWriter<W>) -> Resu
     Ok(())
 }
 
-/// Returns true if quoted text has a backslash for the byte.
+/// Returns true if the byte is escaped in quoted text.
 #[inline(always)]
 fn is_escaped(b: u8) -> bool
     ensures { result ≡ needs_escape b }
@@ -35,7 +36,8 @@ fn is_escaped(b: u8) -> bool
     matches!(b, b'"' | b'\\' | 0..=31 | 127)
 }
 
-/// Returns the offset of the first byte to escape, if it is one of the 16 bytes at offset `at`.
+/// Returns the offset of the first byte to escape among the 16 bytes at offset `at`, if there is
+/// one.
 #[inline(always)]
 fn escaped_in_16(bytes: &[u8], at: usize) -> Option<usize>
     requires { (at + 16 ≤ length bytes.now) × NeedsNoEscapeBefore bytes.now at }
@@ -53,7 +55,8 @@ fn escaped_in_16(bytes: &[u8], at: usize) -> Option<usize>
     Some(at + mask.trailing_zeros() as usize)
 }
 
-/// Returns the offset of the first byte to escape, if it is one of the 4 bytes at offset `at`.
+/// Returns the offset of the first byte to escape among the 4 bytes at offset `at`, if there is
+/// one.
 #[inline(always)]
 fn escaped_in_4(bytes: &[u8], at: usize) -> Option<usize>
     requires { (at + 4 ≤ length bytes.now) × NeedsNoEscapeBefore bytes.now at }
@@ -71,7 +74,7 @@ fn escaped_in_4(bytes: &[u8], at: usize) -> Option<usize>
     Some(at + mask.trailing_zeros() as usize)
 }
 
-/// Like `first_escaped`, for fewer than 4 bytes.
+/// Does what `first_escaped` does, for fewer than 4 bytes.
 #[inline(always)]
 fn escaped_one_by_one(bytes: &[u8]) -> Option<usize>
     ensures { result ≡ position needs_escape bytes.now }
@@ -84,7 +87,7 @@ fn escaped_one_by_one(bytes: &[u8]) -> Option<usize>
     None
 }
 
-/// Like `first_escaped`, for fewer than 16 bytes.
+/// Does what `first_escaped` does, for fewer than 16 bytes.
 #[inline(always)]
 fn escaped_in_few(bytes: &[u8]) -> Option<usize>
     ensures { result ≡ position needs_escape bytes.now }
@@ -103,7 +106,7 @@ fn escaped_in_few(bytes: &[u8]) -> Option<usize>
     escaped_in_4(bytes, bytes.len() - 4)
 }
 
-/// Returns the offset of the first byte that quoted text has a backslash for.
+/// Returns the offset of the first byte to escape.
 fn first_escaped(bytes: &[u8]) -> Option<usize>
     ensures { result ≡ position needs_escape bytes.now }
 {
@@ -121,7 +124,7 @@ fn first_escaped(bytes: &[u8]) -> Option<usize>
     escaped_in_16(bytes, bytes.len() - 16)
 }
 
-/// Writes one byte as quoted text has it.
+/// Writes one byte as it appears in quoted text.
 fn write_escaped<W: Write>(b: u8, out: &mut TextWriter<W>) -> Result<(), Failed>
     ensures { OnOk result (Appends (text_contents W.contents out.old) (text_contents W.contents out.new) (escaped b)) }
 {
@@ -136,7 +139,7 @@ fn write_escaped<W: Write>(b: u8, out: &mut TextWriter<W>) -> Result<(), Failed>
     }
 }
 
-/// Writes bytes as quoted text has them, each run of bytes that need no escape by one call.
+/// Writes bytes as they appear in quoted text, each run of bytes that need no escape in one call.
 #[inline(never)]
 fn write_runs<W: Write>(bytes: &[u8], out: &mut TextWriter<W>) -> Result<(), Failed>
     ensures { OnOk result (Appends (text_contents W.contents out.old) (text_contents W.contents out.new)

@@ -1,4 +1,4 @@
-//! Numbers, quoted text and hexadecimal digits, for texts that have documents in them.
+//! Writes numbers, quoted text and hexadecimal digits, for texts that contain documents.
 
 ghost use Rattle.std.specs.Prelude.{OnOk};
 ghost use Rattle.std.specs.Io.KnownBytes.{Appends};
@@ -29,7 +29,8 @@ fn quoted_through<W: Write>(out: W, text: &str) -> (W, io::Result<()>)
     waiting.finish(written)
 }
 
-/// Writes a text between quotes: `"` and `\` behind a backslash, 00 to 1F and 7F as `\x` and two digits.
+/// Writes a text between quotes. In it `"` and `\` follow a backslash, and 00 to 1F and 7F are
+/// `\x` and two digits.
 pub fn quoted_to<W: Write>(text: &str, out: &mut W) -> io::Result<()>
     ensures { OnOk result (Appends (W.contents out.old) (W.contents out.new) (quoted text.now)) }
 {

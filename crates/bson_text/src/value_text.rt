@@ -1,7 +1,8 @@
-//! The text behind an element's name: a space, the word of the kind and the value, if the kind has one.
+//! Writes what follows an element's name: a space, the word of the kind, and the value if the kind
+//! has one.
 //!
-//! No function here writes the name or the line feed. A kind with no value is its word alone, as
-//! ` null`, and has no function here; those whose values are bytes as they stand share `write_raw`.
+//! No function here writes the name or the line feed. A kind without a value is its word alone, as
+//! ` null`, and has no function here. Kinds whose values are plain bytes share `write_raw`.
 
 ghost use Rattle.std.specs.Prelude.{◌++◌, OnOk};
 ghost use Rattle.std.specs.Io.KnownBytes.{Appends};
@@ -36,7 +37,7 @@ pub(crate) fn write_string<W: Write>(text: &str, out: &mut TextWriter<W>) -> Res
     write_quoted(text, out)
 }
 
-/// Writes ` document ` and the count of its bytes.
+/// Writes ` document ` and its size in bytes.
 pub(crate) fn write_inner_document<W: Write>(
     size: usize,
     out: &mut TextWriter<W>,
@@ -48,7 +49,7 @@ pub(crate) fn write_inner_document<W: Write>(
     write_number(size, out)
 }
 
-/// Writes ` array ` and the count of its bytes.
+/// Writes ` array ` and its size in bytes.
 pub(crate) fn write_array<W: Write>(size: usize, out: &mut TextWriter<W>) -> Result<(), Failed>
     ensures { OnOk result (Appends (text_contents W.contents out.old) (text_contents W.contents out.new)
         (array_text size)) }
@@ -57,7 +58,7 @@ pub(crate) fn write_array<W: Write>(size: usize, out: &mut TextWriter<W>) -> Res
     write_number(size, out)
 }
 
-/// Writes ` binary `, the subtype, the count of the data and, where there are any, the data.
+/// Writes ` binary `, the subtype, the number of data bytes and, if there are any, the data.
 pub(crate) fn write_binary<W: Write>(
     subtype: u8,
     bytes: &[u8],
@@ -150,7 +151,7 @@ pub(crate) fn write_symbol<W: Write>(text: &str, out: &mut TextWriter<W>) -> Res
     write_quoted(text, out)
 }
 
-/// Writes ` codescope `, the quoted code and the count of the scope's bytes.
+/// Writes ` codescope `, the quoted code and the scope's size in bytes.
 pub(crate) fn write_codescope<W: Write>(
     code: &str,
     size: usize,

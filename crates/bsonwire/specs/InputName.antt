@@ -12,7 +12,7 @@ name_text StandardInput = Some (codes "standard input")
 name_text (File file) = Some file.now
 name_text (Quoted file) = debug_str file.now
 
--- a name that would name nothing or break the line, so that it stands in quotes
+-- a name that would be invisible or break the line, so that it is put in quotes
 abbrev pub wants_quotes : List ℕ → Bool
 wants_quotes operand = length operand == 0 || list_any is_control (chars operand)
 

@@ -25,11 +25,11 @@ pub data EndsAs (offset : ℕ) (rest : List ℕ) : Option BsonFault → Type 0 w
   is_nothing : {last : Option BsonFault} → rest ≡ [] → last ≡ None → EndsAs offset rest last
   is_bad : {last : Option BsonFault} (f : BsonFault) → rest ≢ [] → FrontFault rest f → last ≡ Some (fault (offset + f.at) f.cause) → EndsAs offset rest last
 
--- how many documents there are, how many bytes they take, and the first fault behind them
+-- the number of documents, the number of bytes that they take, and the first fault after them
 abbrev pub documents_check : List Tree → Option BsonFault → DocumentsCheck
 documents_check documents last = record { documents = length documents; bytes_read = length (documents_bytes documents); fault = first_fault last }
 
--- the check tells of the documents that begin the bytes, and of the rest behind them
+-- the check is that of the documents at the front of the bytes, and of the rest after them
 abbrev pub IsDocumentsCheck : List ℕ → DocumentsCheck → Type 0
 IsDocumentsCheck bytes check =
     (documents : List Tree) × (rest : List ℕ) × DocumentSplit bytes documents rest × (last : Option BsonFault)

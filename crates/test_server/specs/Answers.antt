@@ -49,7 +49,7 @@ abbrev pub error_pairs : List ℕ → ℤ → List ℕ → List (List ℕ × Tre
 error_pairs words code name =
     (codes "ok", double_zero) ∷ (codes "errmsg", text words) ∷ (codes "code", int32 code) ∷ (codes "codeName", text name) ∷ []
 
--- the answer to a command that errs
+-- the answer to a refused command
 abbrev pub refusal_pairs : CommandError → List (List ℕ × TreeValue)
 refusal_pairs e = error_pairs (words_of e) (code_of e) (code_name_of e)
 
@@ -76,15 +76,16 @@ abbrev pub batch_name : Batch → List ℕ
 batch_name First = codes "firstBatch"
 batch_name Next = codes "nextBatch"
 
--- a batch of documents, the id of the cursor that has more of them, or 0, and the namespace
+-- a batch of documents, the id of the cursor that has more of them (0 if none has), and the
+-- namespace
 abbrev pub cursor_pairs : Batch → List TreeValue → ℤ → List ℕ → List (List ℕ × TreeValue)
 cursor_pairs b vs id ns = (batch_name b, array vs) ∷ (codes "id", int64 id) ∷ (codes "ns", text ns) ∷ []
 
--- an answer that has such a batch
+-- an answer with these fields in its field `cursor`
 abbrev pub cursor_answer : Batch → List TreeValue → ℤ → List ℕ → List (List ℕ × TreeValue)
 cursor_answer b vs id ns = (codes "cursor", inner (cursor_pairs b vs id ns)) ∷ ok_alone
 
--- what is told of a collection of this name
+-- the listing of the collection with this name
 abbrev pub listing : List ℕ → TreeValue
 listing name =
     inner ((codes "name", text name) ∷ (codes "type", text (codes "collection")) ∷ (codes "options", inner [])

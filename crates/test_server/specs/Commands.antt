@@ -1,4 +1,4 @@
--- What each command does: the answer, and what is held then.
+-- What each command does: its answer, and what is held after it.
 use Rattle.std.specs.Prelude.{◌≡◌, ℕ, ℤ, pos, List, [], ◌∷◌, ◌++◌, true, false, Result, Ok, Err, codes, drop, length, take, if◌then◌else◌}
 use Rattle.std.specs.Str.{bytes_eq}
 use Rattle.bson_elem.specs.{Tree, inner_pair, leaf_pair, no_pairs}
@@ -18,7 +18,7 @@ use Rattle.test_server.specs.Filters.{filter_field, found}
 use Rattle.test_server.specs.Held.{CollectionView, CursorView, NamespaceView, StoreView, cursor_index, documents_in, id_if_left, namespace_text, open_at, opened, opened_id, with_documents, with_left, without_collection}
 use Rattle.test_server.specs.Inserted.{inserted}
 
--- an answer, and what is held then
+-- an answer, and what is held after it
 pub record Reply : Type 0 where
   pub answer : List (List ℕ × TreeValue)
   pub held : StoreView
@@ -31,7 +31,7 @@ insert_reply s n vs = record {
   held = record { collections = with_documents n vs s.collections; cursors = s.cursors };
 }
 
--- what insert answers and what is held then, or its error
+-- the answer of insert and what is held after it, or its error
 abbrev pub insert : StoreView → Content → Result Reply CommandError
 insert s c =
     and_then (namespace_at (codes "insert") errors.Insert c.body) (λ n.
@@ -62,7 +62,7 @@ query_in t =
 abbrev pub find_reply_to : StoreView → QueryView → Reply
 find_reply_to s q = find_reply s q.namespace q.count (found q.filter (documents_in q.namespace s.collections))
 
--- what find answers and what is held then, or its error
+-- the answer of find and what is held after it, or its error
 abbrev pub find : StoreView → Tree → Result Reply CommandError
 find s t = and_then (query_in t) (λ q. Ok (find_reply_to s q))
 
@@ -79,7 +79,7 @@ abbrev pub more : StoreView → ℤ → NamespaceView → ℕ → Result Reply C
 more s id n count =
     and_then (or_error errors.CursorNotFound (open_at n (cursor_index id) s.cursors)) (λ c. Ok (more_reply s id n count c))
 
--- what getMore answers and what is held then, or its error
+-- the answer of getMore and what is held after it, or its error
 abbrev pub get_more : StoreView → Tree → Result Reply CommandError
 get_more s t =
     and_then (id_field t) (λ id.
@@ -94,7 +94,7 @@ drop_reply s n others = record {
   held = record { collections = others; cursors = s.cursors };
 }
 
--- what drop answers and what is held then, or its error
+-- the answer of drop and what is held after it, or its error
 abbrev pub drop_collection : StoreView → Tree → Result Reply CommandError
 drop_collection s t =
     and_then (namespace_at (codes "drop") errors.Drop t) (λ n.
@@ -103,7 +103,7 @@ drop_collection s t =
 
 -- ---- listCollections
 
--- what is told of each collection of a database, in order
+-- the listings of the collections of a database, in order
 abbrev pub listings : List ℕ → List CollectionView → List TreeValue
 listings db [] = []
 listings db (c ∷ cs) = if bytes_eq c.namespace.database db then listing c.namespace.collection ∷ listings db cs else listings db cs
@@ -116,7 +116,7 @@ list_answer s db f =
 abbrev pub list_reply : StoreView → List ℕ → Tree → Reply
 list_reply s db f = record { answer = list_answer s db f; held = s }
 
--- what listCollections answers and what is held then, or its error
+-- the answer of listCollections and what is held after it, or its error
 abbrev pub list_collections : StoreView → Tree → Result Reply CommandError
 list_collections s t =
     and_then (text_field (codes "$db") errors.Database t) (λ db.
@@ -130,7 +130,7 @@ first_name no_pairs = []
 first_name (leaf_pair n k v ps) = n
 first_name (inner_pair n k b inner ps) = n
 
--- the command of this name
+-- the command with this name
 abbrev pub command_of : List ℕ → Command
 command_of name =
     if bytes_eq name (codes "hello") then commands.Hello else
@@ -168,13 +168,13 @@ abbrev pub settled : StoreView → Result Reply CommandError → Reply
 settled s (Ok r) = r
 settled s (Err e) = record { answer = refusal_pairs e; held = s }
 
--- what a request is answered, and what is held then
+-- the answer to a request, and what is held after it
 abbrev pub reply_to : StoreView → Content → Reply
 reply_to s c = settled s (run (command_of (first_name c.body)) s c)
 
 -- ---- carrying them out
 
--- A command was carried out so; or it was refused, and nothing changed; or memory was wanting.
+-- A command was carried out as said; or it was refused, and nothing changed; or memory ran out.
 abbrev pub IsCarriedOut : Result Reply CommandError → StoreView → Result (List (List ℕ × TreeValue)) Failure → StoreView → Type 0
 IsCarriedOut step old (Ok answer) new = step ≡ Ok (record { answer = answer; held = new })
 IsCarriedOut step old (Err (Refused e)) new = (step ≡ Err e) × (new ≡ old)

@@ -19,13 +19,13 @@ pub record CollectionView : Type 0 where
   pub namespace : NamespaceView
   pub documents : List TreeValue
 
--- what was found in a namespace and not given yet; a cursor that has nothing left is closed
+-- what was found in a namespace and not given yet; a cursor with nothing left is closed
 pub record CursorView : Type 0 where
   pub namespace : NamespaceView
   pub left : List TreeValue
 
--- The collections, in the order in which the first document of each was inserted, and the cursors, of which the first has
--- the id 1.
+-- The collections, in the order in which the first document of each was inserted, and the cursors.
+-- The first cursor has the id 1.
 pub record StoreView : Type 0 where
   pub collections : List CollectionView
   pub cursors : List CursorView
@@ -68,7 +68,7 @@ abbrev pub documents_in : NamespaceView → List CollectionView → List TreeVal
 documents_in n [] = []
 documents_in n (c ∷ cs) = if is_same_namespace n c.namespace then c.documents else documents_in n cs
 
--- the collections with these documents more in a namespace, behind those that are there
+-- the collections with these documents added to a namespace, after those that are there
 abbrev pub with_documents : NamespaceView → List TreeValue → List CollectionView → List CollectionView
 with_documents n vs [] = record { namespace = n; documents = vs } ∷ []
 with_documents n vs (c ∷ cs) =
@@ -89,17 +89,17 @@ collection_index n (c ∷ cs) = if is_same_namespace n c.namespace then Some 0 e
 
 -- ---- cursors
 
--- the cursors with one more over what is left, if anything is
+-- the cursors with one more over what is left, if anything is left
 abbrev pub opened : NamespaceView → List TreeValue → List CursorView → List CursorView
 opened n [] cs = cs
 opened n (v ∷ vs) cs = cs ++ record { namespace = n; left = v ∷ vs } ∷ []
 
--- the id of that cursor, or 0
+-- the id of that cursor, or 0 if none was opened
 abbrev pub opened_id : List TreeValue → List CursorView → ℤ
 opened_id [] cs = pos 0
 opened_id (v ∷ vs) cs = pos (length cs + 1)
 
--- the index of the cursor of this id
+-- the index of the cursor with this id
 abbrev pub cursor_index : ℤ → Option ℕ
 cursor_index (pos (suc i)) = Some i
 cursor_index _ = None
@@ -114,14 +114,14 @@ abbrev pub open_at : NamespaceView → Option ℕ → List CursorView → Option
 open_at n None cs = None
 open_at n (Some i) cs = if_open n (slice_get cs i)
 
--- the cursors, where the one at an index has this left
+-- the cursors, after the one at an index was left with this
 abbrev pub with_left : Option ℕ → List TreeValue → List CursorView → List CursorView
 with_left None vs cs = cs
 with_left (Some i) vs [] = []
 with_left (Some zero) vs (c ∷ cs) = record { namespace = c.namespace; left = vs } ∷ cs
 with_left (Some (suc i)) vs (c ∷ cs) = c ∷ with_left (Some i) vs cs
 
--- the id of a cursor that has this left, or 0 where it is nothing
+-- the id of a cursor that has this left, or 0 if it is nothing
 abbrev pub id_if_left : ℤ → List TreeValue → ℤ
 id_if_left id [] = pos 0
 id_if_left id (v ∷ vs) = id

@@ -1,4 +1,4 @@
--- The text of what became of a connection: its requests with their answers, and how it ended.
+-- The transcript of a connection: its requests with their answers, and how it ended.
 use Rattle.std.specs.Prelude.{ℕ, List, ◌++◌, codes, flat_map, Option, None, Some}
 use Rattle.std.specs.Fmt.{decimal}
 use Rattle.bson_text.specs.{document_text, quoted}
@@ -39,7 +39,7 @@ end_text ReplyTooLarge = codes "end ReplyTooLarge\n"
 end_text OutOfMemory = codes "end OutOfMemory\n"
 end_text HandlerFailed = codes "end HandlerFailed\n"
 
--- the text of a connection: its number, its entries, and how it ended
+-- the transcript of a connection: its number, its entries, and how it ended
 abbrev pub connection_text : ℕ → List LogEntry → ServeEnd → List ℕ
 connection_text number entries end =
     codes "connection " ++ (decimal number ++ (codes "\n" ++ (flat_map entry_text entries ++ end_text end)))

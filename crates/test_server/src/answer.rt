@@ -1,4 +1,4 @@
-//! The parts of answers.
+//! Makes the parts of answers.
 
 ghost use Rattle.std.specs.Prelude.{◌≡◌, IfOk, OnOk, OnSome, codes, map, string_bytes};
 ghost use Rattle.bson_doc.specs.{value_of, put};
@@ -11,17 +11,17 @@ use std::alloc::{AllocError, Global};
 /// The number 1 as a double.
 const ONE: [u8; 8] = [0, 0, 0, 0, 0, 0, 0xf0, 0x3f];
 
-/// Which batch of a cursor an answer has.
+/// The batch of a cursor that an answer has.
 #[derive(Clone, Copy, Debug, PartialEq, Eq)]
 pub enum Batch {
     /// The first one.
     First,
-    /// One after the first.
+    /// A later one.
     Next,
 }
 
 impl Batch {
-    /// Returns the name of the field that has the batch.
+    /// Returns the name of the field for the batch.
     fn name(self) -> &'static str
         ensures { result.now ≡ batch_name self }
     {
@@ -32,7 +32,7 @@ impl Batch {
     }
 }
 
-/// Sets the field of this name of an answer.
+/// Sets the field with this name in an answer.
 fn put_field(answer: &mut Document, name: String, value: Bson) -> Option<()>
     ensures { OnSome result (answer.new ≡ put (string_bytes name) (value_of value) answer.old) }
 {
@@ -40,7 +40,7 @@ fn put_field(answer: &mut Document, name: String, value: Bson) -> Option<()>
     Some(())
 }
 
-/// Sets a field of an answer.
+/// Sets a field in an answer.
 pub fn set(alloc: Global, answer: &mut Document, name: &str, value: Bson) -> Result<(), AllocError>
     ensures { OnOk result (answer.new ≡ put name.now (value_of value) answer.old) }
 {
@@ -48,7 +48,7 @@ pub fn set(alloc: Global, answer: &mut Document, name: &str, value: Bson) -> Res
     put_field(answer, name, value).ok_or(AllocError)
 }
 
-/// Sets a field of an answer to a text.
+/// Sets a field in an answer to a text.
 pub fn set_text(
     alloc: Global,
     answer: &mut Document,
@@ -61,14 +61,14 @@ pub fn set_text(
     set(alloc, answer, name, Bson::String(words))
 }
 
-/// Sets the field `ok` of an answer to 1.
+/// Sets the field `ok` in an answer to 1.
 pub fn set_ok(alloc: Global, answer: &mut Document) -> Result<(), AllocError>
     ensures { OnOk result (answer.new ≡ put (codes "ok") double_one answer.old) }
 {
     set(alloc, answer, "ok", Bson::Double(ONE))
 }
 
-/// Returns the answer that a command was carried out, and no more.
+/// Makes the answer that says only that a command was carried out.
 pub fn ok_alone(alloc: Global) -> Result<Document, AllocError>
     ensures { IfOk result (λ d. d ≡ ok_alone) }
 {
@@ -77,7 +77,7 @@ pub fn ok_alone(alloc: Global) -> Result<Document, AllocError>
     Ok(answer)
 }
 
-/// Returns the answer of an error.
+/// Makes the answer for an error.
 pub fn error_answer(
     alloc: Global,
     words: &str,
@@ -94,15 +94,15 @@ pub fn error_answer(
     Ok(answer)
 }
 
-/// Returns the answer of a command that is refused.
+/// Makes the answer to a refused command.
 pub fn refusal_answer(alloc: Global, error: CommandError) -> Result<Document, AllocError>
     ensures { IfOk result (λ d. d ≡ refusal_pairs error) }
 {
     error_answer(alloc, error.words(), error.code(), error.code_name())
 }
 
-/// Returns the field `cursor` of an answer: a batch of documents, the id of the cursor that has more of them, or 0, and the
-/// namespace.
+/// Makes the field `cursor` of an answer: a batch of documents, the id of the cursor that has more
+/// of them (0 if none has), and the namespace.
 fn cursor_document(
     alloc: Global,
     which: Batch,
@@ -121,7 +121,8 @@ fn cursor_document(
     Ok(cursor)
 }
 
-/// Returns the answer with a batch of documents, the id of the cursor that has more of them, or 0, and the namespace.
+/// Makes the answer with a batch of documents, the id of the cursor that has more of them (0 if
+/// none has), and the namespace.
 pub fn cursor_answer(
     alloc: Global,
     which: Batch,

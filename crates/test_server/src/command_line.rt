@@ -1,4 +1,4 @@
-//! The command line that `clap` reads: the address, and how many connections are served.
+//! Describes the command line to `clap`: the address, and the number of connections to serve.
 
 ghost use Rattle.std.specs.Prelude.{◌≡◌, IfOk, false};
 ghost use Rattle.clap.specs.Words.{app_of, rule_of};
@@ -32,7 +32,7 @@ fn connections_option<'a>(alloc: Global) -> Arg<'a>
         .value_parser(value_parser!(u64))
 }
 
-/// Makes the command line without operand and option.
+/// Makes the command line without its operand and its option.
 fn top<'a>(alloc: Global) -> Command<'a>
     ensures { app_of result ≡ top_app }
 {
@@ -41,7 +41,7 @@ fn top<'a>(alloc: Global) -> Command<'a>
         .version("0.1.0")
 }
 
-/// Makes the whole command line. Errs if memory runs out.
+/// Makes the whole command line.
 pub fn program<'a>(alloc: Global) -> Result<Command<'a>, AllocError>
     ensures { IfOk result (λ c. app_of c ≡ command_line) }
 {

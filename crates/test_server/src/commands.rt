@@ -1,4 +1,4 @@
-//! The commands that the server knows, one in each module, and which of them a request asks for.
+//! Carries out the commands that the server knows. Each has a module of its own.
 
 mod drop_collection;
 mod find;
@@ -43,7 +43,7 @@ pub enum Command {
     Unknown,
 }
 
-/// Returns the command of this name.
+/// Returns the command with this name.
 fn command_of(name: &str) -> Command
     ensures { result ≡ command_of name.now }
 {
@@ -61,7 +61,7 @@ fn command_of(name: &str) -> Command
     }
 }
 
-/// Returns the name of the command that a body asks for: that of its first field.
+/// Returns the name of the command that a body asks for, which is the name of its first field.
 pub fn name_of(body: RawDocument<'_>) -> &str
     ensures { (t : Tree) → Spells t (document_bytes body.entry) → result.now ≡ first_name t }
 {
@@ -71,7 +71,7 @@ pub fn name_of(body: RawDocument<'_>) -> &str
     }
 }
 
-/// Returns the answer that no command has this name.
+/// Makes the answer that says that no command has this name.
 fn unknown_command(alloc: Global, name: &str) -> Result<Document, AllocError>
     ensures { IfOk result (λ d. d ≡ unknown_pairs name.now) }
 {
@@ -108,7 +108,7 @@ fn run(command: Command, store: &mut Store, payload: Payload<'_>) -> Result<Docu
 ///
 /// # Errors
 ///
-/// Want of memory. The documents held are as they were then.
+/// Returns `AllocError` if memory runs out. Then the held documents are unchanged.
 pub fn answer_to(store: &mut Store, payload: Payload<'_>) -> Result<Document, AllocError>
     ensures answered { (c : Content) → Carries payload.entry c
         → IfOk result (λ d. reply_to (store_of store.old) c

@@ -1,4 +1,4 @@
-//! Serving one connection after another.
+//! Serves one connection after another.
 
 ghost use Rattle.std.specs.Prelude.{◌≡◌, ◌<◌, OnOk, ℕ};
 ghost use Rattle.std.specs.Io.KnownBytes.{Appends};
@@ -18,15 +18,15 @@ use wire_stream::{Link, TcpLink};
 /// Why the server ends.
 #[derive(Clone, Copy, Debug, PartialEq, Eq)]
 pub enum RunEnd {
-    /// So many connections were served.
+    /// This many connections were served.
     Served(u64),
     /// Listening, accepting a connection or writing the output failed.
     InOut,
-    /// The allocator refused memory.
+    /// Memory ran out.
     OutOfMemory,
 }
 
-/// Serves one connection, and writes what became of it, so that it goes out. Returns how it ended.
+/// Serves one connection, and writes and flushes its transcript. Returns how it ended.
 fn serve_one<L: Link, W: Write>(
     alloc: Global,
     number: u64,
@@ -47,7 +47,8 @@ fn serve_one<L: Link, W: Write>(
     }
 }
 
-/// Returns whether the server goes on after a connection that ended so: it stops for want of memory alone.
+/// Returns `Ok` if the server goes on after a connection that ended like this. It stops only if
+/// memory ran out.
 fn settle(end: ServeEnd) -> Result<(), RunEnd>
     ensures { result ≡ settled end }
 {
@@ -57,11 +58,11 @@ fn settle(end: ServeEnd) -> Result<(), RunEnd>
     }
 }
 
-/// Accepts a connection, serves it under this number, and writes what became of it.
+/// Accepts a connection, serves it under this number, and writes its transcript.
 ///
 /// # Errors
 ///
-/// Returns why the server doesn't go on.
+/// Returns why the server stops.
 fn serve_next<R: Net, W: Write>(
     alloc: Global,
     listener: &R::Listener,
@@ -82,8 +83,8 @@ fn serve_next<R: Net, W: Write>(
     settle(end)
 }
 
-/// Accepts `count` connections one after another, numbered from 1, serves each over what the one before left, and writes what
-/// became of it.
+/// Accepts `count` connections one after another, and numbers them from 1. Serves each with what
+/// the one before left, and writes its transcript.
 fn serve_all<R: Net, W: Write>(
     alloc: Global,
     listener: &R::Listener,
@@ -104,7 +105,8 @@ fn serve_all<R: Net, W: Write>(
     RunEnd::Served(count)
 }
 
-/// Listens at `address`, says where on `out`, and serves `count` connections, of which there is at least one.
+/// Listens at `address`, writes to `out` where that is, and serves `count` connections, which are
+/// at least one.
 fn listen<R: Net, W: Write>(rt: &R, alloc: Global, address: &str, count: u64, out: &mut W) -> RunEnd
     requires { 0 < count }
     ensures { IsListened count result (W.contents out.old) (W.contents out.new) }
@@ -122,7 +124,7 @@ fn listen<R: Net, W: Write>(rt: &R, alloc: Global, address: &str, count: u64, ou
     serve_all::<R, W>(alloc, &listener, count, &mut logged, out)
 }
 
-/// Writes the last line, so that it goes out.
+/// Writes and flushes the last line.
 fn write_last<W: Write>(count: u64, out: &mut W) -> io::Result<()>
     ensures { OnOk result (Appends (W.contents out.old) (W.contents out.new) (served_line count)) }
 {
@@ -130,7 +132,8 @@ fn write_last<W: Write>(count: u64, out: &mut W) -> io::Result<()>
     out.flush()
 }
 
-/// Serves `count` connections at `address`, and writes what became of them. Opens no socket if `count` is 0.
+/// Serves `count` connections at `address`, and writes their transcripts. Opens no socket if
+/// `count` is 0.
 fn serve_at<R: Net, W: Write>(
     rt: &R,
     alloc: Global,
@@ -151,7 +154,7 @@ fn serve_at<R: Net, W: Write>(
     }
 }
 
-/// Serves `count` connections at `address`, and writes what became of them through a buffer.
+/// Serves `count` connections at `address`, and writes their transcripts through a buffer.
 pub fn run<R: Net, W: Write + Drop>(
     rt: &R,
     alloc: Global,

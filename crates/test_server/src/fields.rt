@@ -1,4 +1,4 @@
-//! The fields of a command, read out of its body.
+//! Reads the fields of a command out of its body.
 
 ghost use Rattle.std.specs.Prelude.{◌≡◌, Err, MatchOption, MatchResult, None, Ok, Option, Some};
 ghost use Rattle.bson_elem.specs.{Spells, Tree};
@@ -10,7 +10,7 @@ use crate::failure::CommandError;
 use crate::namespace::Namespace;
 use bson_raw::{RawBson, RawDocument};
 
-/// How many documents a batch has at most where the command doesn't say it.
+/// The most documents in a batch, if the command doesn't say.
 const DEFAULT_BATCH_SIZE: usize = 101;
 
 /// Returns the text of a value, if it is a string.
@@ -25,7 +25,7 @@ fn text_of(value: Option<RawBson<'_>>) -> Option<&str>
     }
 }
 
-/// Returns the number that a value is, if it is an int64.
+/// Returns the number, if the value is an int64.
 fn id_of(value: Option<RawBson<'_>>) -> Option<i64>
     ensures { (found : Option TreeValue)
         → MatchOption value.entry (found ≡ None) (λ v. ShowsFound v found)
@@ -37,7 +37,7 @@ fn id_of(value: Option<RawBson<'_>>) -> Option<i64>
     }
 }
 
-/// Returns the number that a value is, if it is an int32 or an int64 from 0 on.
+/// Returns the number, if the value is an int32 or an int64 that isn't negative.
 fn count_of(value: RawBson<'_>) -> Option<usize>
     ensures { (v : TreeValue) → Shows value.entry v → result ≡ count_of v }
 {
@@ -72,7 +72,8 @@ pub fn text_field<'a>(
 ///
 /// # Errors
 ///
-/// Returns `Database` if the field `$db` isn't a string, and else `error` if the field `name` isn't.
+/// Returns `Database` if the field `$db` isn't a string, and otherwise `error` if the field `name`
+/// isn't.
 pub fn namespace_field<'a>(
     body: RawDocument<'a>,
     name: &str,
@@ -104,7 +105,8 @@ pub fn id_field(body: RawDocument<'_>) -> Result<i64, CommandError>
     }
 }
 
-/// Returns how many documents a batch may have: the field `batchSize`, or 101 if there is none.
+/// Returns the most documents that a batch may have: the field `batchSize`, or 101 if there is
+/// none.
 ///
 /// # Errors
 ///

@@ -1,4 +1,5 @@
-//! The filters of find: documents match where they have each field of the filter, with the same value.
+//! Applies the filters of find: a document matches if it has each field of the filter, with the
+//! same value.
 
 ghost use Rattle.std.specs.Prelude.{◌≡◌, IfErr, IfOk, MatchOption, None, Ok, Option, map};
 ghost use Rattle.bson_elem.specs.{Spells, Tree};
@@ -12,7 +13,7 @@ use bson_doc::{Bson, DocRefusal, Document};
 use bson_raw::{RawBson, RawDocument};
 use std::alloc::{AllocError, Global};
 
-/// Returns true if `name` is that of an operator, which begins with `$`.
+/// Returns true if `name` is that of an operator: if it begins with `$`.
 fn is_operator(name: &str) -> bool
     ensures { result ≡ is_operator name.now }
 {
@@ -44,7 +45,7 @@ fn has_operator(filter: RawDocument<'_>) -> bool
     false
 }
 
-/// Returns the filter that a value is.
+/// Reads the filter out of a value.
 fn filter_of(alloc: Global, value: Option<RawBson<'_>>) -> Result<Document, Failure>
     ensures ok { (found : Option TreeValue)
         → MatchOption value.entry (found ≡ None) (λ v. ShowsFound v found)
@@ -67,11 +68,13 @@ fn filter_of(alloc: Global, value: Option<RawBson<'_>>) -> Result<Document, Fail
     }
 }
 
-/// Returns the filter in the field `filter`: the empty one, which every document matches, where there is no such field.
+/// Reads the filter in the field `filter`. If there is no such field, it is the empty one, which
+/// every document matches.
 ///
 /// # Errors
 ///
-/// Returns `Filter` if it isn't a document, else `Operator` if it has an operator, else `Filter` if a name stands twice in it.
+/// Returns `Filter` if it isn't a document, else `Operator` if it has an operator, else `Filter`
+/// if a name is repeated in it.
 pub fn filter_field(alloc: Global, body: RawDocument<'_>) -> Result<Document, Failure>
     ensures ok { (t : Tree) → Spells t (document_bytes body.entry)
         → IfOk result (λ d. filter_field t ≡ Ok (tree_of d)) }
@@ -108,7 +111,7 @@ fn is_match(filter: &Document, value: &Bson) -> bool
 ///
 /// # Errors
 ///
-/// Want of memory.
+/// Returns `AllocError` if memory runs out.
 pub fn matching(
     alloc: Global,
     filter: &Document,

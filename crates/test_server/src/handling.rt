@@ -1,4 +1,4 @@
-//! The server's handler.
+//! Answers requests: this is the server's handler.
 
 ghost use Rattle.std.specs.Prelude.{◌≡◌, ◌++◌, ◌∷◌, [], IfErr, OnErr, OnOk};
 ghost use Rattle.bson_doc.specs.{tree_of};

@@ -1,4 +1,4 @@
-//! The documents that an insert brings: those of an array in its body, or of its sequences.
+//! Collects the documents of an insert: those of an array in its body, or of its sequences.
 
 ghost use Rattle.std.specs.Prelude.{◌≡◌, ◌∷◌, [], IfErr, IfOk, List, Ok, codes, map, vec_len, ◌≤◌};
 ghost use Rattle.bson_elem.specs.{Spells, Tree};
@@ -14,7 +14,7 @@ use bson_raw::{RawArray, RawBson, RawDocument};
 use std::alloc::Global;
 use wire_msg::{Documents, Payload};
 
-/// The most documents that one insert may bring.
+/// The most documents in one insert.
 const MOST_DOCUMENTS: usize = 100_000;
 
 /// Appends a document, in its canonical form.
@@ -36,7 +36,7 @@ fn push_document(
     }
 }
 
-/// Appends a value, which has to be a document.
+/// Appends a value, which must be a document.
 fn push_value(alloc: Global, value: RawBson<'_>, documents: &mut Vec<Bson>) -> Result<(), Failure>
     ensures { (v : TreeValue) → Shows value.entry v
         → Appended (map value_of documents.old.items) (alone (kept_value v)) result (map value_of documents.new.items) }
@@ -47,7 +47,7 @@ fn push_value(alloc: Global, value: RawBson<'_>, documents: &mut Vec<Bson>) -> R
     }
 }
 
-/// Appends the values of an array, which have to be documents.
+/// Appends the values of an array, which must be documents.
 fn push_array(alloc: Global, array: RawArray<'_>, documents: &mut Vec<Bson>) -> Result<(), Failure>
     ensures { (t : Tree) → Spells t (array_bytes array.entry)
         → Appended (map value_of documents.old.items) (in_array t) result (map value_of documents.new.items) }
@@ -73,7 +73,7 @@ fn push_sequence(
     Ok(())
 }
 
-/// Appends the documents of a sequence with the identifier `documents`, and none of one with another.
+/// Appends the documents of a sequence if its identifier is `documents`, and otherwise none.
 fn push_brought(
     alloc: Global,
     identifier: &str,
@@ -105,7 +105,7 @@ fn push_sequences(
     Ok(())
 }
 
-/// Appends the documents that an insert brings.
+/// Appends the documents of an insert.
 fn push_all(alloc: Global, payload: Payload<'_>, documents: &mut Vec<Bson>) -> Result<(), Failure>
     ensures { (c : Content) → Carries payload.entry c
         → Appended (map value_of documents.old.items) (in_field c.sequences (first_named (codes "documents") c.body)) result (map value_of documents.new.items) }
@@ -117,11 +117,12 @@ fn push_all(alloc: Global, payload: Payload<'_>, documents: &mut Vec<Bson>) -> R
     }
 }
 
-/// Returns the documents that an insert brings: those of the array `documents` in its body, or of the sequences of this name.
+/// Returns the documents of an insert: those of the array `documents` in its body, or of the
+/// sequences with this identifier.
 ///
 /// # Errors
 ///
-/// Returns `Documents` unless they are from 1 to 100,000 documents, none of which has a name twice.
+/// Returns `Documents` unless they are 1 to 100,000 documents, and no name is repeated in one.
 pub fn inserted_documents(alloc: Global, payload: Payload<'_>) -> Result<Vec<Bson>, Failure>
     ensures ok { (c : Content) → Carries payload.entry c
         → IfOk result (λ vs. inserted c ≡ Ok (map value_of vs.items)) }

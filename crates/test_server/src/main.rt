@@ -1,13 +1,17 @@
-//! `test_server` is a server for trying drivers: it keeps documents in memory, answers hello, ping, insert, find, getMore,
-//! listCollections, drop and endSessions, and writes down each request with its answer.
+//! `test_server` is a server for trying out drivers. It keeps documents in memory, answers hello,
+//! ping, insert, find, getMore, listCollections, drop and endSessions, and writes down each
+//! request with its answer.
 //!
-//! It serves one connection after another. What a connection sends that is no message, or is asked for in vain, ends that
-//! connection at most: the server goes on with the next, unless memory ran out.
+//! It serves one connection after another. Bytes that are not a message, or a request that can't
+//! be answered, end at most that connection. The server goes on with the next, unless memory ran
+//! out.
 //!
-//! The exit status is 0 where as many connections were served as the command line says, 2 where the command line is at fault,
-//! 3 where listening, accepting a connection or writing the output failed, and 4 where memory ran out.
+//! The exit status is 0 if as many connections were served as the command line says, 2 if the
+//! command line is at fault, 3 if listening, accepting a connection or writing the output failed,
+//! and 4 if memory ran out.
 //!
-//! Stands on bson_doc and wire_peer. Read first: `store`, then `commands`, and then `connections`.
+//! Uses bson_doc, wire_peer and wire_text. Read first: `store`, then `commands`, and then
+//! `connections`.
 #![tactic(auto)]
 
 mod answer;
@@ -64,7 +68,8 @@ fn status_of_words(rt: &HostRuntime, words: &[&str]) -> u8
     }
 }
 
-/// Serves what the words ask for, and returns the exit status. If it stopped short, standard error says why.
+/// Serves what the words ask for, and returns the exit status. If it stopped early, standard error
+/// says why.
 fn run_choice(rt: &HostRuntime, choice: Choice<'_>) -> u8
     ensures { IsStatusFor choice.entry result }
 {
@@ -78,11 +83,11 @@ fn run_choice(rt: &HostRuntime, choice: Choice<'_>) -> u8
     tell(rt, end, choice.address)
 }
 
-/// Says on standard error why serving stopped short, if it did. Returns the exit status.
+/// Says on standard error why serving stopped early, if it did. Returns the exit status.
 fn tell(rt: &impl Eprint, end: RunEnd, address: &str) -> u8
     ensures { result ≡ exit_status end }
 {
-    // Where standard error takes no line, the status alone says it.
+    // If standard error takes no line, there is only the status.
     let _ = match end {
         RunEnd::InOut => eprintln!(rt; "test_server: could not serve at {address:?}"),
         RunEnd::OutOfMemory => eprintln!(rt; "test_server: out of memory"),

@@ -1,4 +1,4 @@
-//! Namespaces: the name of a database and that of a collection in it.
+//! Names a database and a collection in it: a namespace.
 
 ghost use Rattle.std.specs.Prelude.{◌≡◌, ◌++◌, codes, IfOk, string_bytes};
 ghost use Rattle.test_server.specs.Held.{is_same_namespace, namespace_buf, namespace_of, namespace_text};
@@ -28,7 +28,7 @@ impl Namespace<'_> {
     ///
     /// # Errors
     ///
-    /// Want of memory.
+    /// Returns `AllocError` if memory runs out.
     pub fn to_buf(self, alloc: Global) -> Result<NamespaceBuf, AllocError>
         ensures { IfOk result (λ b. namespace_buf b ≡ namespace_of self.entry) }
     {
@@ -44,7 +44,7 @@ impl Namespace<'_> {
     ///
     /// # Errors
     ///
-    /// Want of memory.
+    /// Returns `AllocError` if memory runs out.
     pub fn to_text(self, alloc: Global) -> Result<String, AllocError>
         ensures { IfOk result (λ s. string_bytes s ≡ namespace_text (namespace_of self.entry)) }
     {

@@ -1,4 +1,4 @@
-//! The text of what became of a connection: each request with its answer, and how it ended.
+//! Writes the transcript of a connection: each request with its answer, and how it ended.
 
 ghost use Rattle.std.specs.Prelude.{◌≡◌, OnOk, codes, flat_map, map};
 ghost use Rattle.std.specs.Io.KnownBytes.{Appends};
@@ -42,7 +42,7 @@ fn write_request<W: Write>(request: &PayloadBuf, out: &mut W) -> io::Result<()>
     write_named(request.as_payload(), out)
 }
 
-/// Writes an answer, behind a line `answer`.
+/// Writes an answer, after a line `answer`.
 fn write_answer<W: Write>(answer: &PayloadBuf, out: &mut W) -> io::Result<()>
     ensures { OnOk result (Appends (W.contents out.old) (W.contents out.new)
         (answer_text (buf_content answer.now))) }
@@ -62,7 +62,7 @@ fn write_answers<W: Write>(answers: &[PayloadBuf], out: &mut W) -> io::Result<()
     Ok(())
 }
 
-/// Writes what became of a request.
+/// Writes the outcome of a request.
 fn write_outcome<W: Write>(outcome: &Outcome, out: &mut W) -> io::Result<()>
     ensures { OnOk result (Appends (W.contents out.old) (W.contents out.new)
         (outcome_text (outcome_of outcome.now))) }
@@ -73,7 +73,7 @@ fn write_outcome<W: Write>(outcome: &Outcome, out: &mut W) -> io::Result<()>
     }
 }
 
-/// Writes a request, and what became of it.
+/// Writes a request, and its outcome.
 fn write_entry<W: Write>(entry: &Entry, out: &mut W) -> io::Result<()>
     ensures { OnOk result (Appends (W.contents out.old) (W.contents out.new)
         (entry_text (entry_of entry.now))) }
@@ -82,7 +82,7 @@ fn write_entry<W: Write>(entry: &Entry, out: &mut W) -> io::Result<()>
     write_outcome(&entry.outcome, out)
 }
 
-/// Writes the requests of a connection, and what became of each, in order.
+/// Writes the requests of a connection, and the outcome of each, in order.
 fn write_entries<W: Write>(entries: &[Entry], out: &mut W) -> io::Result<()>
     ensures { OnOk result (Appends (W.contents out.old) (W.contents out.new)
         (flat_map entry_text (log_of entries.now))) }
@@ -109,7 +109,8 @@ fn write_end<W: Write>(end: ServeEnd, out: &mut W) -> io::Result<()>
     }
 }
 
-/// Writes what became of a connection: the line of its number, its requests with their answers, and how it ended.
+/// Writes the transcript of a connection: the line of its number, its requests with their answers,
+/// and how it ended.
 ///
 /// # Errors
 ///

@@ -6,11 +6,11 @@ use Rattle.wire_msg.specs.declared.fault.MsgFault.{MsgFault}
 use Rattle.wire_msg.specs.declared.fault.MsgCause.TheVariants.{Length, Opcode}
 use Rattle.wire_msg.specs.Causes.{msg_fault}
 
--- the unsigned number of four bytes that stands at an offset
+-- the unsigned number in the four bytes at an offset
 abbrev pub number_at : List ℕ → ℕ → ℕ
 number_at bytes at = from_le_bytes w32 (slice_range bytes at (at + 4))
 
--- the header that the first 16 bytes are
+-- the header in the first 16 bytes
 abbrev pub header_of : List ℕ → MsgHeader
 header_of bytes = record {
   length = number_at bytes 0;

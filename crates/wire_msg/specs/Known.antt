@@ -1,10 +1,10 @@
--- Bytes that are known to be documents back to back, or document sequences, one after another.
+-- Bytes that are known to be documents or document sequences, one after another.
 use Rattle.std.specs.Prelude.{◌≡◌, ℕ, ◌+◌, List, [], ◌∷◌, ◌++◌, length}
 use Rattle.bson_raw.specs.{documents_bytes}
 use Rattle.wire_msg.specs.Messages.{Sequence, IsSequence, AreSequences}
 use Rattle.wire_msg.specs.Spelling.{sequence_section, sequences_bytes}
 
--- a document sequence begins the bytes
+-- the bytes begin with a document sequence
 abbrev pub BeginsSequence : List ℕ → Type 0
 BeginsSequence bytes = (q : Sequence) × (rest : List ℕ) × IsSequence q × (bytes ≡ sequence_section q ++ rest)
 
@@ -22,7 +22,7 @@ pub record AreRuns (bytes then : List ℕ) (qs : List Sequence) : Type 0 where
   pub last_are : then ≡ sequences_bytes last
   pub all : qs ≡ first ++ last
 
--- where the last of the sequences begins; 0 where there is none
+-- the offset at which the last of the sequences begins, or 0 if there is none
 abbrev pub last_offset : List Sequence → ℕ
 last_offset [] = 0
 last_offset (q ∷ []) = 0

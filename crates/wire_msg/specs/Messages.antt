@@ -23,7 +23,8 @@ pub record Message : Type 0 where
 
 -- ---- which of them have a spelling
 
--- the size of a document sequence, which counts itself, the identifier with its 00, and the documents
+-- the size of a document sequence, which counts itself, the identifier with its 00, and the
+-- documents
 abbrev pub sequence_size : Sequence → ℕ
 sequence_size q = 4 + length (cstring q.identifier) + length (documents_bytes q.documents)
 

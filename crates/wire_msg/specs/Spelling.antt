@@ -12,7 +12,7 @@ use Rattle.wire_msg.specs.Messages.{Sequence, Content, Message, sequence_size, I
 unfoldable pub body_section : Tree → List ℕ
 body_section t = 0 ∷ document (elements t)
 
--- kind 1: a document sequence, as its size, its identifier, and its documents back to back
+-- kind 1: a document sequence, as its size, its identifier, and its documents one after another
 unfoldable pub sequence_section : Sequence → List ℕ
 sequence_section q = 1 ∷ (little (sequence_size q) ++ (cstring q.identifier ++ documents_bytes q.documents))
 
@@ -47,8 +47,8 @@ pub record FlagsAre (word : ℕ) (flags : MsgFlags) : Type 0 where
 
 -- ---- messages
 
--- The bytes spell the message. The body stands at any place among the sections, and the optional flag bits but
--- exhaustAllowed are free.
+-- The bytes spell the message. The body may be anywhere among the sequences, and the optional flag
+-- bits other than exhaustAllowed may be anything.
 pub record SpellsMsg (m : Message) (bytes : List ℕ) : Type 0 where
   pub word : ℕ
   pub before : List Sequence
@@ -77,6 +77,6 @@ flag_word flags = from_bool flags.more_to_come * 2 + from_bool flags.exhaust_all
 abbrev pub canonical : Message → List ℕ
 canonical m = message_bytes m.id m.response_to (flag_word m.flags) (sections_bytes [] m.content.body m.content.sequences)
 
--- how many bytes the canonical spelling of a message has that carries this
+-- the number of bytes of the canonical spelling of a message with this content
 abbrev pub message_len : Content → ℕ
 message_len c = 20 + length (sections_bytes [] c.body c.sequences)

@@ -22,8 +22,9 @@ cause_text causes.HandlerFailed = codes "6 HandlerFailed"
 
 -- ---- refusals
 
--- Why an event is refused. Some of a core's reasons are never the world's: want of memory is its own, and a server that closes in
--- its answer has answered.
+-- Why an event is refused. A client or server has two more reasons, which an event of a world
+-- never has: running out of memory, which the world reports itself, and closing in an answer,
+-- where the server has answered.
 abbrev pub refusal_text : WorldRefusal → List ℕ
 refusal_text NoConnection = codes "1 NoConnection"
 refusal_text Cut = codes "2 Cut"
@@ -42,13 +43,13 @@ refusal_text OutOfMemory = codes "7 OutOfMemory"
 refusal_text Raw = codes "8 Raw"
 refusal_text NotRaw = codes "9 NotRaw"
 
--- the line of an event that is refused
+-- the line of a refused event
 abbrev pub refusal_line : WorldRefusal → List ℕ
 refusal_line refusal = codes "refused " ++ (refusal_text refusal ++ codes "\n")
 
 -- ---- reports
 
--- bytes in hexadecimal, or `-` for none
+-- bytes in hexadecimal, or `-` if there are none
 abbrev pub hex_or_dash : List ℕ → List ℕ
 hex_or_dash [] = codes "-"
 hex_or_dash (b ∷ bs) = encode_lower (b ∷ bs)

@@ -1,4 +1,5 @@
-//! The lists that end a run: the calls with their parts, and the entries of the log. No function here takes memory.
+//! Writes the lists that end a run: the calls with their parts, and the entries of the log. No
+//! function here takes memory.
 
 ghost use Rattle.std.specs.Prelude.{◌≡◌, OnOk, false, flat_map, if◌then◌else◌, map, true};
 ghost use Rattle.std.specs.Io.KnownBytes.{Appends};
@@ -32,7 +33,7 @@ fn kind_word(kind: CallKind) -> &'static str
     }
 }
 
-/// Returns the word for how a call stands.
+/// Returns the word for the state of a call.
 fn state_word(state: CallState) -> &'static str
     ensures { result.now ≡ state_word (state_of state) }
 {
@@ -58,7 +59,7 @@ fn write_call_line<W: Write>(k: usize, call: &CallRecord, out: &mut W) -> io::Re
     )
 }
 
-/// Writes the body of a request behind the word for it, and the end of the line.
+/// Writes the word `body`, the body in hexadecimal, and the end of the line.
 fn write_body<W: Write>(payload: &PayloadBuf, out: &mut W) -> io::Result<()>
     ensures { OnOk result (Appends (W.contents out.old) (W.contents out.new) (body_text (buf_content payload.now))) }
 {
@@ -86,7 +87,7 @@ fn write_parts<W: Write>(parts: &[PayloadBuf], out: &mut W) -> io::Result<()>
     Ok(())
 }
 
-/// Writes the line of a call, and then one for each of its parts.
+/// Writes the line of a call, and a line for each of its parts.
 fn write_call<W: Write>(k: usize, call: &CallRecord, out: &mut W) -> io::Result<()>
     ensures { OnOk result (Appends (W.contents out.old) (W.contents out.new) (call_text k (record_of call.now))) }
 {
@@ -104,7 +105,7 @@ fn write_calls<W: Write>(calls: &[CallRecord], out: &mut W) -> io::Result<()>
     Ok(())
 }
 
-/// Writes what became of a request.
+/// Writes the outcome of a request.
 fn write_outcome<W: Write>(outcome: &Outcome, out: &mut W) -> io::Result<()>
     ensures { OnOk result (Appends (W.contents out.old) (W.contents out.new) (outcome_text (outcome_of outcome.now))) }
 {
@@ -137,7 +138,8 @@ fn write_entries<W: Write>(entries: &[Entry], out: &mut W) -> io::Result<()>
     Ok(())
 }
 
-/// Writes how many calls a world has, and each of them; and then the entries of its log so.
+/// Writes the number of calls of a world, and each of them; and then the number of entries of its
+/// log, and each of them.
 pub fn write_closing<H, W: Write>(world: &World<H>, out: &mut W) -> io::Result<()>
     ensures { OnOk result (Appends (W.contents out.old) (W.contents out.new) (closing_text world.now.state)) }
 {

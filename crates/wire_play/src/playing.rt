@@ -1,4 +1,4 @@
-//! Scripts that are played: their lines name the events of a world, one after the other.
+//! Plays scripts: makes the events that their lines name happen in a world, one after another.
 
 ghost use Rattle.std.specs.Prelude.{◌≡◌, IfOk, OnOk};
 ghost use Rattle.wire_script.specs.{lines_left};
@@ -19,7 +19,7 @@ use wire_world::{Event, SetupRefusal, World, WorldLimits, WorldRefusal};
 pub enum PlayStop {
     /// The writer failed.
     Failed,
-    /// Memory is wanting.
+    /// Memory ran out.
     OutOfMemory,
 }
 
@@ -33,8 +33,8 @@ impl From<io::Error> for PlayStop {
     }
 }
 
-/// Has an event happen, and writes the line of its result. For want of memory it passes on what was written, that line as
-/// the last one, and errs.
+/// Makes an event happen, and writes the line of its result. If memory runs out, flushes the
+/// output, which ends with that line, and returns the error.
 fn play_event<H: Handler, W: Write>(
     world: &mut World<H>,
     event: &Event<'_>,
@@ -53,7 +53,8 @@ fn play_event<H: Handler, W: Write>(
     Ok(())
 }
 
-/// Has the event happen that a line names, and writes the line of its result. Returns false if the line names none.
+/// Makes the event of a line happen, and writes the line of its result. Returns false if the line
+/// names no event.
 fn play_line<H: Handler, W: Write>(
     alloc: Global,
     world: &mut World<H>,
@@ -75,7 +76,7 @@ fn play_line<H: Handler, W: Write>(
     }
 }
 
-/// Plays lines, up to the first one that names no event. Returns the number of that one.
+/// Plays lines, up to the first one that names no event. Returns the number of that line.
 fn play_lines<H: Handler, W: Write>(
     alloc: Global,
     world: &mut World<H>,
@@ -94,7 +95,8 @@ fn play_lines<H: Handler, W: Write>(
     Ok(None)
 }
 
-/// Plays lines in a world, and writes its calls and its log at their end. Returns the number of the line at fault.
+/// Plays lines in a world, and writes its calls and its log after them. Returns the number of the
+/// line at fault.
 fn play_world<H: Handler, W: Write>(
     alloc: Global,
     world: &mut World<H>,
@@ -114,8 +116,8 @@ fn play_world<H: Handler, W: Write>(
     }
 }
 
-/// Plays lines in a new world over `handler`. Returns the number of the line at fault: if a limit is out of range, that is
-/// `number`, that of the world's own line.
+/// Plays lines in a new world over `handler`. Returns the number of the line at fault, which is
+/// `number`, that of the world's own line, if a limit is out of range.
 fn play_over<H: Handler + Drop, W: Write>(
     alloc: Global,
     handler: H,
@@ -134,7 +136,8 @@ fn play_over<H: Handler + Drop, W: Write>(
     }
 }
 
-/// Plays lines in the world that the line before them makes. Returns the number of the line at fault.
+/// Plays lines in the world that the line before them makes. Returns the number of the line at
+/// fault.
 fn play_setup<W: Write>(
     alloc: Global,
     setup: Setup,
@@ -151,12 +154,14 @@ fn play_setup<W: Write>(
     }
 }
 
-/// Plays a script: writes a line for each of its lines that names a world or an event, and then the calls and the log. Returns
-/// the number of the line at fault, if there is one; then nothing is written for that line, and nothing behind it.
+/// Plays a script: writes a line for the world, a line for each event, and then the calls and the
+/// log. Returns the number of the line at fault, if there is one. Nothing is written for that
+/// line, or after it.
 ///
 /// # Errors
 ///
-/// The writer fails, or memory is wanting. Where it is wanting in an event, the line of that was written, and passed on.
+/// Returns `Failed` if the writer fails, and `OutOfMemory` if memory runs out. If it runs out in
+/// an event, the output is flushed up to the line of that event.
 pub fn play<W: Write>(alloc: Global, script: &[u8], out: &mut W) -> Result<Option<usize>, PlayStop>
     ensures { IfOk result (λ fault. Writes (λ text. TextUpTo script.now text fault) (W.contents out.old) (W.contents out.new)) }
 {
@@ -167,7 +172,7 @@ pub fn play<W: Write>(alloc: Global, script: &[u8], out: &mut W) -> Result<Optio
     match parse_line(alloc, line.text) {
         Ok(Line::World(setup)) => play_setup(alloc, setup, line.number, lines, out),
         Ok(Line::Event(event)) => {
-            // It names an event, and so no world.
+            // The line names an event, and so no world.
             let _ = event.as_event();
             Ok(Some(line.number))
         }

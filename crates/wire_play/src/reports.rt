@@ -1,4 +1,5 @@
-//! The line that is written for an event: what it has done, or why it is refused. No function here takes memory.
+//! Writes the line of an event's result: what it has done, or why it is refused. No function here
+//! takes memory.
 
 ghost use Rattle.std.specs.Prelude.{◌≡◌, ◌++◌, OnOk, codes};
 ghost use Rattle.std.specs.Io.KnownBytes.{Appends};
@@ -24,7 +25,8 @@ fn cause_text(cause: ServerCause) -> &'static str
     }
 }
 
-/// Returns the number and the name of a refusal, and of the client's or server's own reason behind it.
+/// Returns the number and the name of a refusal, and of the client's or server's own reason for
+/// it.
 fn refusal_text(refusal: WorldRefusal) -> &'static str
     ensures { result.now ≡ refusal_text refusal }
 {
@@ -48,7 +50,7 @@ fn refusal_text(refusal: WorldRefusal) -> &'static str
     }
 }
 
-/// Writes the line of an event that is refused.
+/// Writes the line of a refused event.
 fn write_refusal<W: Write>(refusal: WorldRefusal, out: &mut W) -> io::Result<()>
     ensures { OnOk result (Appends (W.contents out.old) (W.contents out.new) (refusal_line refusal)) }
 {
@@ -56,7 +58,7 @@ fn write_refusal<W: Write>(refusal: WorldRefusal, out: &mut W) -> io::Result<()>
     writeln!(out, "refused {why}")
 }
 
-/// Writes the line of bytes that were taken away: in hexadecimal, or `-` where there are none.
+/// Writes the line of bytes that were taken away: in hexadecimal, or `-` if there are none.
 fn write_bytes<W: Write>(bytes: &[u8], out: &mut W) -> io::Result<()>
     ensures { OnOk result (Appends (W.contents out.old) (W.contents out.new)
         (codes "bytes " ++ (hex_or_dash bytes.now ++ codes "\n"))) }

@@ -1,4 +1,4 @@
--- The first fault of bytes that are no query, in the order of the checks.
+-- The first fault of bytes that are not a query, in the order of the checks.
 use Rattle.std.specs.Prelude.{◌≡◌, ℕ, ℤ, pos, ◌+◌, ◌≤◌, List, [], ◌++◌, length, drop, None, Ok, Err, Bool}
 use Rattle.bson_elem.specs.declared.fault.BsonCause.{BsonCause}
 use Rattle.bson_elem.specs.declared.fault.BsonFault.{BsonFault}
@@ -36,7 +36,7 @@ NumbersFault p bytes f =
 
 -- ---- fullCollectionName, which begins at offset 20, and what follows it
 
--- the full name is that by which some database is sent commands
+-- the full name is that of a collection to which some database's commands are sent
 abbrev pub IsOfCommands : List ℕ → Type 0
 IsOfCommands name = (database : List ℕ) × IsDatabase database × (name ≡ command_name database)
 
@@ -57,11 +57,11 @@ pub record IsWholeLength (limit : ℕ) (bytes : List ℕ) : Type 0 where
 abbrev pub opcode_of : List ℕ → ℤ
 opcode_of bytes = (header_of bytes).opcode
 
--- no unknown flag is set
+-- no flag is set that is unknown
 abbrev pub IsFlagWord : ℕ → Type 0
 IsFlagWord word = (secondary_ok : Bool) × (word ≡ flag_word secondary_ok)
 
--- The first fault of bytes that are no query within the limit.
+-- The first fault of bytes that are not a query within the limit.
 abbrev pub FaultQuery : List ℕ → ℕ → QueryFault → Type 0
 FaultQuery bytes limit f =
     Check (IsWholeLength limit bytes) (query_fault 0 causes.Length) f

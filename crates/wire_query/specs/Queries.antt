@@ -12,12 +12,12 @@ pub record Query : Type 0 where
   pub database : List ℕ
   pub body : Tree
 
--- the full name of the collection by which a database is sent commands
+-- the full name of the collection to which a database's commands are sent
 abbrev pub command_name : List ℕ → List ℕ
 command_name database = database ++ codes ".$cmd"
 
--- The database's name is what stands before the first dot of the collection's full name. It isn't empty, and the full
--- name is UTF-8 without 00.
+-- The database's name is the part of the collection's full name before the first dot. It isn't
+-- empty, and the full name is UTF-8 without 00.
 pub record IsDatabase (database : List ℕ) : Type 0 where
   pub some : 0 < length database
   pub no_dot : (i : ℕ) → i < length database → slice_index database i ≢ 46

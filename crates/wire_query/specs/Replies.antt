@@ -10,7 +10,7 @@ use Rattle.wire_query.specs.Spelling.{signed, header_bytes}
 abbrev pub long : ℤ → List ℕ
 long z = to_le_bytes w64 (cast_unsigned w64 z)
 
--- how many bytes the reply of this document has
+-- the number of bytes of the reply with this document
 abbrev pub reply_len : Tree → ℕ
 reply_len t = 36 + length (document (elements t))
 

@@ -12,11 +12,11 @@ signed z = little (cast_unsigned w32 z)
 unfoldable pub header_bytes : ℕ → ℤ → ℤ → ℕ → List ℕ
 header_bytes len id response_to opcode = little len ++ (signed id ++ (signed response_to ++ little opcode))
 
--- flags: of its bits only SlaveOk may be set, which is bit 2
+-- flags: only SlaveOk may be set, which is bit 2
 abbrev pub flag_word : Bool → ℕ
 flag_word secondary_ok = from_bool secondary_ok * 4
 
--- numberToReturn is 1 or -1: one document, which for a command are the same
+-- numberToReturn is 1 or -1, which mean the same for a command: one document
 abbrev pub IsOneDocument : ℕ → Type 0
 IsOneDocument count = (count ≡ 1) ⊎ (count ≡ 2 ^ 32 - 1)
 

@@ -7,16 +7,16 @@ use Rattle.std.specs.List.{filter, slice_split}
 abbrev pub is_lf : ℕ → Bool
 is_lf b = b == 10
 
--- what stands before an LF, without the CR right before that, if there is one
+-- a line as it is before its LF, without the CR at its end, if there is one
 abbrev pub without_cr : List ℕ → List ℕ
 without_cr line = if slice_index line (length line - 1) == 13 then take (length line - 1) line else line
 
--- the last line lacks its LF, and is none if it is empty
+-- the last line, which has no LF; there is none if it is empty
 abbrev pub last_line : List ℕ → List (List ℕ)
 last_line [] = []
 last_line (b ∷ bs) = (b ∷ bs) ∷ []
 
--- the lines that these parts of a text are, between which its LFs stand
+-- the lines of a text that its LFs cut into these parts
 abbrev pub lines_in : List (List ℕ) → List (List ℕ)
 lines_in [] = []
 lines_in (part ∷ []) = last_line part

@@ -14,7 +14,7 @@ use Rattle.wire_script.specs.declared.named.HandlerName.TheVariants.{Echo, Count
 use Rattle.wire_script.specs.declared.named.Setup.{Setup}
 use Rattle.wire_script.specs.Words.{IsDocumentHex, IsHex, IsNumber, words_of}
 
--- with what a world is made, or what happens in it
+-- the handler and the limits of a world, or an event in it
 pub data Named : Type 0 where
   setup : Setup → Named
   event : Event → Named
@@ -149,7 +149,7 @@ Names line named = (operands : List (List ℕ)) × (words_of line ≡ keyword_of
 abbrev pub IsBytesKeyword : List ℕ → Type 0
 IsBytesKeyword word = (word ≡ codes "raw") ⊎ ((kind : CallKind) × (word ≡ call_keyword kind))
 
--- such a keyword stands first, and behind it a number and one word more
+-- the first word is such a keyword, and after it come a number and one more word
 pub record NamesBytes (line : List ℕ) : Type 0 where
   pub keyword : List ℕ
   pub operands : List (List ℕ)

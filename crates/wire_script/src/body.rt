@@ -1,4 +1,4 @@
-//! Bytes in hexadecimal digits, and documents.
+//! Reads bytes in hexadecimal digits, and documents.
 
 ghost use Rattle.std.specs.Prelude.{◌≡◌, ℕ, Err, IfOk, List};
 ghost use Rattle.bson_elem.specs.{Tree};

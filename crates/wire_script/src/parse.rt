@@ -1,4 +1,4 @@
-//! A line of a script, read.
+//! Parses a line of a script.
 
 ghost use Rattle.std.specs.Prelude.{◌≡◌, Err, IfOk, IfSome, List, ℕ};
 ghost use Rattle.wire_model.specs.declared.events.Event.{Event as Happening};
@@ -13,7 +13,7 @@ use crate::operands::{call, has_no_words, one, raw, setup, two};
 use std::alloc::Global;
 use wire_model::Event;
 
-/// Returns the event that the keyword and its operands name, if it is one that names no bytes.
+/// Parses an event without bytes, by its keyword and its operands.
 fn bare_event(keyword: Keyword, rest: Option<&[u8]>) -> Option<Event<'static>>
     ensures found { IfSome result (λ e. (event_kind e ≡ keyword)
         × AreEventOperands (words_behind rest.entry) e) }
@@ -48,7 +48,7 @@ fn bare_event(keyword: Keyword, rest: Option<&[u8]>) -> Option<Event<'static>>
     }
 }
 
-/// Returns the event that the keyword and its operands name.
+/// Parses an event, by its keyword and its operands.
 fn script_event(
     alloc: Global,
     keyword: Keyword,
@@ -77,12 +77,13 @@ fn script_event(
     }
 }
 
-/// Reads a line of a script, without its end.
+/// Parses a line of a script, without its end.
 ///
 /// # Errors
 ///
-/// `Malformed` if the line names nothing. `OutOfMemory` for want of memory, which only a line with a document or bytes takes;
-/// whether it names anything isn't told then.
+/// Returns `Malformed` if the line names nothing, and `OutOfMemory` if memory runs out. Only a
+/// line with a document or bytes takes memory; if there is none for it, the line may still be one
+/// that names nothing.
 pub fn parse_line(alloc: Global, line: &[u8]) -> Result<Line, LineError>
     ensures named { IfOk result (λ read. IsLine line.now read) }
     ensures nothing { result ≡ Err LineError.Malformed → (named : Named) → Names line.now named → ⊥ }

@@ -1,4 +1,4 @@
-//! A link in memory.
+//! Makes a link of bytes in memory.
 
 ghost use Rattle.std.specs.Prelude.{◌≡◌, ◌≢◌, ◌<◌, ◌≤◌, ◌-◌, ◌^◌, ◌++◌, [], Ok, IfOk, IsErr, OnErr, OnOk, None, Some, drop, false, length, take, true};
 ghost use Rattle.std.specs.Io.KnownBytes.{Appends, Keeps};
@@ -9,16 +9,17 @@ use crate::link::{Link, LinkFault};
 use std::alloc::{AllocError, Global};
 use std::marker::Model;
 
-/// A link that gives the bytes of a vector and keeps what is sent, as far as there is room. It tells its bytes.
+/// A link that gives the bytes of a vector, and keeps what is sent as long as there is room.
+/// Contracts see all its bytes.
 #[derive(Drop)]
 pub struct MemLink {
     input: Vec<u8>,
-    /// How many bytes of the input were received.
+    /// The number of input bytes that were received.
     start: usize,
     output: Vec<u8>,
-    /// How many bytes may be sent in all.
+    /// The number of bytes that may be sent in all.
     room: usize,
-    /// How many bytes a call moves at most.
+    /// The most bytes that a call moves.
     most: usize,
     fails_after: Option<u64>,
     failures: u64,
@@ -51,12 +52,12 @@ impl Model for MemLink {
 }
 
 impl MemLink {
-    /// Returns a link that gives the bytes of `input` and has room for `room` bytes. It takes the memory for these, and no
-    /// call of it takes more.
+    /// Makes a link that gives the bytes of `input` and has room for `room` bytes. Takes memory
+    /// for these; no other call takes any.
     ///
     /// # Errors
     ///
-    /// `AllocError` where memory is wanting.
+    /// Returns `AllocError` if memory runs out.
     pub fn new(alloc: Global, input: Vec<u8>, room: usize) -> Result<MemLink, AllocError>
         ensures { IfOk result (λ link. link ≡ record {
           received = [];
@@ -82,7 +83,7 @@ impl MemLink {
         })
     }
 
-    /// Returns the link with at most `most` bytes moved in a call.
+    /// Makes each call move at most `most` bytes.
     pub fn moving_at_most(self, most: usize) -> MemLink
         requires { 0 < most }
         ensures { result ≡ record self { most = most } }
@@ -92,7 +93,7 @@ impl MemLink {
         link
     }
 
-    /// Returns the link with one call that fails, after `calls` others.
+    /// Makes one call fail, after `calls` others.
     pub fn failing_after(self, calls: u64) -> MemLink
         ensures { result ≡ record self { fails_after = Some calls } }
     {
@@ -101,14 +102,14 @@ impl MemLink {
         link
     }
 
-    /// Returns the bytes that were sent.
+    /// Returns the sent bytes.
     pub fn sent_bytes(&self) -> &[u8]
         ensures { result.now ≡ self.now.sent }
     {
         &self.output
     }
 
-    /// Tells whether this call is the one that fails, and counts the call.
+    /// Counts the call. Returns true if it is the one that fails.
     fn is_failing(&mut self) -> bool
         ensures { (result ≡ is_due self.old.fails_after) × (self.new ≡ record self.old { fails_after = one_less self.old.fails_after }) }
     {
@@ -125,7 +126,7 @@ impl MemLink {
         }
     }
 
-    /// Moves bytes of the input to the front of `buffer`, as many as a call may, and returns how many.
+    /// Moves input bytes to the front of `buffer`, as many as one call may. Returns how many.
     fn give(&mut self, buffer: &mut [u8]) -> usize
         ensures count { result ≡ moved self.old.most (length buffer.old) (length self.old.left) }
         ensures received { self.new.received ≡ self.old.received ++ take result buffer.new }

@@ -1,4 +1,4 @@
-//! A link over a stream, such as a TCP connection.
+//! Makes a link of a stream, such as a TCP connection.
 
 ghost use Rattle.std.specs.Prelude.{◌≡◌, ◌≤◌, ◌<◌, None, IfOk, OnErr, OnOk, length};
 ghost use Rattle.std.specs.Io.KnownBytes.{ReadConsumes, WriteAppends};
@@ -7,9 +7,10 @@ ghost use Rattle.wire_stream.specs.Links.{Rose, TellsEnd};
 use crate::link::{Link, LinkFault};
 use std::io::{Read, Write};
 
-/// A link over a stream such as `TcpStream`. It leaves its bytes untold, since no contract can say what a socket carries;
-/// of a stream that tells its own, it gives the bytes that were read, and writes those that it counts. A call that sends
-/// nothing of some bytes counts as a failure.
+/// A link over a stream such as `TcpStream`. It doesn't show its bytes, since no contract can say
+/// what a socket carries. If a stream shows its own, the link gives the bytes that were read from
+/// it, and counts those that were written to it. A call that sends none of some bytes counts as a
+/// failure.
 #[derive(Drop)]
 pub struct TcpLink<S: Read + Write + Drop> {
     stream: S,
@@ -18,7 +19,7 @@ pub struct TcpLink<S: Read + Write + Drop> {
 }
 
 impl<S: Read + Write + Drop> TcpLink<S> {
-    /// Returns the link over `stream`.
+    /// Makes the link over `stream`.
     pub fn new(stream: S) -> TcpLink<S>
         ensures stream { result.stream ≡ stream }
         ensures failures { result.failures ≡ 0 }

@@ -32,11 +32,11 @@ body_text t = codes "body " ++ (decimal (document_size t) ++ (codes "\n" ++ elem
 abbrev pub member_text : Tree → List ℕ
 member_text t = codes "  document " ++ (decimal (document_size t) ++ (codes "\n" ++ element_lines 2 t))
 
--- the line of a document sequence: its identifier, and the count of its documents
+-- the line of a document sequence: its identifier, and the number of its documents
 abbrev pub sequence_line : Sequence → List ℕ
 sequence_line q = codes "sequence " ++ (quoted q.identifier ++ (codes " " ++ (decimal (length q.documents) ++ codes "\n")))
 
--- what is written of a document sequence: its line, and, where they are wanted, its documents
+-- what is written of a document sequence: its line, and its documents if they are asked for
 abbrev pub text_of_sequence : Detail → Sequence → List ℕ
 text_of_sequence Line q = sequence_line q
 text_of_sequence Documents q = sequence_line q ++ flat_map member_text q.documents

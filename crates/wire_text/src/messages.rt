@@ -1,4 +1,4 @@
-//! The text of a message. No function here takes memory.
+//! Writes the text of a message. No function here takes memory.
 
 ghost use Rattle.std.specs.Prelude.{◌≡◌, List, OnOk, flat_map};
 ghost use Rattle.std.specs.Io.KnownBytes.{Appends};
@@ -13,10 +13,10 @@ use std::io;
 use std::io::Write;
 use wire_msg::{Documents, MsgFlags, Payload, RawMsg};
 
-/// How much is written of a document sequence.
+/// How much of a document sequence is written.
 #[derive(Clone, Copy, Debug, PartialEq, Eq)]
 pub enum Detail {
-    /// The line of its identifier and the count of its documents.
+    /// Its line: the identifier, and the number of documents.
     Line,
     /// That line, and the documents.
     Documents,
@@ -78,7 +78,7 @@ fn write_documents<W: Write>(documents: Documents<'_>, out: &mut W) -> io::Resul
     Ok(())
 }
 
-/// Writes the line of a document sequence: its identifier, and the count of its documents.
+/// Writes the line of a document sequence: its identifier, and the number of its documents.
 fn write_sequence_line<W: Write>(
     identifier: &str,
     documents: Documents<'_>,
@@ -94,7 +94,7 @@ fn write_sequence_line<W: Write>(
     writeln!(out, " {count}")
 }
 
-/// Writes a document sequence: its line, and as `detail` says its documents.
+/// Writes a document sequence: its line, and its documents if `detail` says so.
 fn write_sequence<W: Write>(
     identifier: &str,
     documents: Documents<'_>,

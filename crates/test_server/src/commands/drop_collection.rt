@@ -1,4 +1,4 @@
-//! The command drop.
+//! Carries out the command drop.
 
 ghost use Rattle.std.specs.Prelude.{OnErr, ◌≡◌, IfOk};
 ghost use Rattle.bson_elem.specs.{Spells, Tree};
@@ -16,7 +16,7 @@ use bson_doc::{Bson, Document};
 use bson_raw::RawDocument;
 use std::alloc::{AllocError, Global};
 
-/// Returns the answer that a collection was dropped.
+/// Makes the answer that says that a collection was dropped.
 fn dropped_answer(alloc: Global, namespace: Namespace<'_>) -> Result<Document, AllocError>
     ensures { IfOk result (λ d. d ≡ dropped_pairs (namespace_text (namespace_of namespace.entry))) }
 {

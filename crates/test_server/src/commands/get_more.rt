@@ -1,4 +1,4 @@
-//! The command getMore.
+//! Carries out the command getMore.
 
 ghost use Rattle.std.specs.Prelude.{◌≡◌};
 ghost use Rattle.bson_elem.specs.{Spells, Tree};
@@ -15,7 +15,7 @@ use bson_doc::Document;
 use bson_raw::RawDocument;
 use std::alloc::Global;
 
-/// Answers the next documents of the cursor of this id and this namespace, at most `count`.
+/// Answers with the next documents of the cursor with this id and this namespace, at most `count`.
 fn more(
     alloc: Global,
     store: &mut Store,
@@ -33,7 +33,7 @@ fn more(
     Ok(answer)
 }
 
-/// Answers the next documents of a cursor.
+/// Answers with the next documents of a cursor.
 pub fn get_more(
     alloc: Global,
     store: &mut Store,

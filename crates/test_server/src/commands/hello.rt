@@ -1,4 +1,4 @@
-//! The command hello, and its older forms isMaster and ismaster.
+//! Answers the command hello, and its older forms isMaster and ismaster.
 
 ghost use Rattle.std.specs.Prelude.{◌≡◌, IfOk, OnOk, codes, pos, true};
 ghost use Rattle.bson_doc.specs.{put};
@@ -19,7 +19,7 @@ fn set_primary(alloc: Global, answer: &mut Document, legacy: bool) -> Result<(),
     }
 }
 
-/// Sets the limits of what the server takes.
+/// Sets the limits on what the server takes.
 fn set_limits(alloc: Global, answer: &mut Document) -> Result<(), AllocError>
     ensures { OnOk result (answer.new
         ≡ put (codes "maxWriteBatchSize") (int32 (pos 100000))
@@ -46,7 +46,7 @@ fn set_versions(alloc: Global, answer: &mut Document) -> Result<(), AllocError>
     set(alloc, answer, "maxWireVersion", Bson::Int32(13))
 }
 
-/// Returns what a standalone server says of itself, as an older form of hello wants it if `legacy`.
+/// Makes the answer of a standalone server, in an older form of hello if `legacy`.
 pub fn hello(alloc: Global, legacy: bool) -> Result<Document, AllocError>
     ensures { IfOk result (λ d. d ≡ hello_pairs legacy) }
 {

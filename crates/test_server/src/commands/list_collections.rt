@@ -1,4 +1,4 @@
-//! The command listCollections.
+//! Carries out the command listCollections.
 
 ghost use Rattle.std.specs.Prelude.{◌≡◌, IfOk, map, codes, false, ◌∷◌, []};
 ghost use Rattle.bson_elem.specs.{Spells, Tree};
@@ -18,7 +18,7 @@ use bson_doc::{Bson, Document};
 use bson_raw::RawDocument;
 use std::alloc::{AllocError, Global};
 
-/// Returns what is told of a collection beside its name and its type.
+/// Makes what a listing says of a collection beside its name and its type.
 fn info(alloc: Global) -> Result<Document, AllocError>
     ensures { IfOk result (λ d. d ≡ (codes "readOnly", truth false) ∷ []) }
 {
@@ -27,7 +27,7 @@ fn info(alloc: Global) -> Result<Document, AllocError>
     Ok(info)
 }
 
-/// Returns what is told of a collection of this name.
+/// Makes the listing of the collection with this name.
 fn listing(alloc: Global, name: &str) -> Result<Document, AllocError>
     ensures { IfOk result (λ d. inner d ≡ listing name.now) }
 {
@@ -45,7 +45,7 @@ fn listing(alloc: Global, name: &str) -> Result<Document, AllocError>
     Ok(listing)
 }
 
-/// Returns what is told of each collection of a database, in order.
+/// Makes the listings of the collections of a database, in order.
 fn listings(
     alloc: Global,
     collections: &[Collection],
@@ -64,7 +64,7 @@ fn listings(
     Ok(found)
 }
 
-/// Answers what is told of each collection of a database that matches a filter.
+/// Answers with the listings of the collections of a database that match a filter.
 fn answer_list(
     alloc: Global,
     store: &Store,
@@ -83,7 +83,7 @@ fn answer_list(
     cursor_answer(alloc, Batch::First, found, 0, text)
 }
 
-/// Answers what is told of each collection of a database that matches a filter.
+/// Answers with the listings of the collections of a database that match a filter.
 pub fn list_collections(
     alloc: Global,
     store: &mut Store,
