@@ -17,7 +17,7 @@ use wire_stream::{Link, TcpLink};
 
 /// Why the server ends.
 #[derive(Clone, Copy, Debug, PartialEq, Eq)]
-pub enum RunEnd {
+pub enum ServerEnd {
     /// This many connections were served.
     Served(u64),
     /// Listening, accepting a connection or writing the output failed.
@@ -33,7 +33,7 @@ fn serve_one<L: Link, W: Write>(
     link: &mut L,
     logged: &mut Logged<Store>,
     out: &mut W,
-) -> Result<ServeEnd, RunEnd>
+) -> Result<ServeEnd, ServerEnd>
     ensures { ServesOne number result
         (seen L.received L.sent L.turns L.failures L.ends logged.old link.old)
         (seen L.received L.sent L.turns L.failures L.ends logged.new link.new)
@@ -43,17 +43,17 @@ fn serve_one<L: Link, W: Write>(
     let end = serve(alloc, link, logged, number, MAX_MESSAGE_LEN, u64::MAX);
     match write_connection(number, &logged.entries()[before..], end, out) {
         Ok(()) if out.flush().is_ok() => Ok(end),
-        _ => Err(RunEnd::InOut),
+        _ => Err(ServerEnd::InOut),
     }
 }
 
 /// Returns `Ok` if the server goes on after a connection that ended like this. It stops only if
 /// memory ran out.
-fn settle(end: ServeEnd) -> Result<(), RunEnd>
+fn settle(end: ServeEnd) -> Result<(), ServerEnd>
     ensures { result ≡ settled end }
 {
     match end {
-        ServeEnd::OutOfMemory => Err(RunEnd::OutOfMemory),
+        ServeEnd::OutOfMemory => Err(ServerEnd::OutOfMemory),
         _ => Ok(()),
     }
 }
@@ -69,14 +69,14 @@ fn serve_next<R: Net, W: Write>(
     number: u64,
     logged: &mut Logged<Store>,
     out: &mut W,
-) -> Result<(), RunEnd>
+) -> Result<(), ServerEnd>
     ensures { ServesNext number result
         (kept logged.old.handler (log_of logged.old.entries.items))
         (kept logged.new.handler (log_of logged.new.entries.items))
         (W.contents out.old) (W.contents out.new) }
 {
     let Ok((stream, _)) = listener.accept() else {
-        return Err(RunEnd::InOut);
+        return Err(ServerEnd::InOut);
     };
     let mut link = TcpLink::new(stream);
     let end = serve_one(alloc, number, &mut link, logged, out)?;
@@ -91,7 +91,7 @@ fn serve_all<R: Net, W: Write>(
     count: u64,
     logged: &mut Logged<Store>,
     out: &mut W,
-) -> RunEnd
+) -> ServerEnd
     ensures { ServesAll count result
         (kept logged.old.handler (log_of logged.old.entries.items))
         (kept logged.new.handler (log_of logged.new.entries.items))
@@ -102,23 +102,29 @@ fn serve_all<R: Net, W: Write>(
             return why;
         }
     }
-    RunEnd::Served(count)
+    ServerEnd::Served(count)
 }
 
 /// Listens at `address`, writes to `out` where that is, and serves `count` connections, which are
 /// at least one.
-fn listen<R: Net, W: Write>(rt: &R, alloc: Global, address: &str, count: u64, out: &mut W) -> RunEnd
+fn listen<R: Net, W: Write>(
+    rt: &R,
+    alloc: Global,
+    address: &str,
+    count: u64,
+    out: &mut W,
+) -> ServerEnd
     requires { 0 < count }
     ensures { IsListened count result (W.contents out.old) (W.contents out.new) }
 {
     let Ok(listener) = TcpListener::bind(rt, address) else {
-        return RunEnd::InOut;
+        return ServerEnd::InOut;
     };
     let Ok(local) = listener.local_addr() else {
-        return RunEnd::InOut;
+        return ServerEnd::InOut;
     };
     if writeln!(out, "listening {local}").is_err() || out.flush().is_err() {
-        return RunEnd::InOut;
+        return ServerEnd::InOut;
     }
     let mut logged = Logged::new(alloc, Store::new(alloc));
     serve_all::<R, W>(alloc, &listener, count, &mut logged, out)
@@ -140,16 +146,16 @@ fn serve_at<R: Net, W: Write>(
     address: &str,
     count: u64,
     out: &mut W,
-) -> RunEnd
+) -> ServerEnd
     ensures { IsRun count result (W.contents out.old) (W.contents out.new) }
 {
     let end = if count == 0 {
-        RunEnd::Served(0)
+        ServerEnd::Served(0)
     } else {
         listen(rt, alloc, address, count, out)
     };
     match end {
-        RunEnd::Served(_) if write_last(count, out).is_err() => RunEnd::InOut,
+        ServerEnd::Served(_) if write_last(count, out).is_err() => ServerEnd::InOut,
         end => end,
     }
 }
@@ -161,11 +167,11 @@ pub fn run<R: Net, W: Write + Drop>(
     address: &str,
     count: u64,
     out: W,
-) -> RunEnd
-    ensures { (n : ℕ) → result ≡ RunEnd.Served n → n ≡ count }
+) -> ServerEnd
+    ensures { (n : ℕ) → result ≡ ServerEnd.Served n → n ≡ count }
 {
     match BufWriter::new(alloc, out) {
         Ok(mut out) => serve_at(rt, alloc, address, count, &mut out),
-        Err(_) => RunEnd::OutOfMemory,
+        Err(_) => ServerEnd::OutOfMemory,
     }
 }

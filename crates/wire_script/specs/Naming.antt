@@ -86,13 +86,13 @@ pub record IsSetup (operands : List (List ℕ)) (s : Setup) : Type 0 where
   pub limit_is : IsNumber (2 ^ 32) limit s.limits.limit
 
 -- C: a number
-pub record IsOne (operands : List (List ℕ)) (c : ℕ) : Type 0 where
+pub record IsOneNumber (operands : List (List ℕ)) (c : ℕ) : Type 0 where
   pub connection : List ℕ
   pub words : operands ≡ connection ∷ []
   pub connection_is : IsNumber (2 ^ 64) connection c
 
 -- C N: two numbers
-pub record AreTwo (operands : List (List ℕ)) (c n : ℕ) : Type 0 where
+pub record AreTwoNumbers (operands : List (List ℕ)) (c n : ℕ) : Type 0 where
   pub connection : List ℕ
   pub count : List ℕ
   pub words : operands ≡ connection ∷ count ∷ []
@@ -122,18 +122,18 @@ pub record IsRaw (operands : List (List ℕ)) (c : ℕ) (bytes : List ℕ) : Typ
 
 abbrev pub AreEventOperands : List (List ℕ) → Event → Type 0
 AreEventOperands operands Open = operands ≡ []
-AreEventOperands operands (Return c) = IsOne operands c
+AreEventOperands operands (Return c) = IsOneNumber operands c
 AreEventOperands operands (Call c kind payload) = IsCall operands c payload
-AreEventOperands operands (Up c n) = AreTwo operands c n
-AreEventOperands operands (Down c n) = AreTwo operands c n
-AreEventOperands operands (Answer c i) = AreTwo operands c i
-AreEventOperands operands (CutUp c) = IsOne operands c
-AreEventOperands operands (CutDown c) = IsOne operands c
+AreEventOperands operands (Up c n) = AreTwoNumbers operands c n
+AreEventOperands operands (Down c n) = AreTwoNumbers operands c n
+AreEventOperands operands (Answer c i) = AreTwoNumbers operands c i
+AreEventOperands operands (CutUp c) = IsOneNumber operands c
+AreEventOperands operands (CutDown c) = IsOneNumber operands c
 AreEventOperands operands Clear = operands ≡ []
 AreEventOperands operands Restart = operands ≡ []
 AreEventOperands operands RawOpen = operands ≡ []
 AreEventOperands operands (Raw c bytes) = IsRaw operands c bytes.now
-AreEventOperands operands (RawTake c n) = AreTwo operands c n
+AreEventOperands operands (RawTake c n) = AreTwoNumbers operands c n
 
 abbrev pub AreOperands : List (List ℕ) → Named → Type 0
 AreOperands operands (setup s) = IsSetup operands s

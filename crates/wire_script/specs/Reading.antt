@@ -12,8 +12,8 @@ words_behind None = []
 words_behind (Some rest) = words_of rest.now
 
 -- the words of a setup, in order
-abbrev pub five : SetupWords → List (List ℕ)
-five x = x.handler.now ∷ x.first.now ∷ x.window.now ∷ x.max.now ∷ x.limit.now ∷ []
+abbrev pub setup_words : SetupWords → List (List ℕ)
+setup_words x = x.handler.now ∷ x.first.now ∷ x.window.now ∷ x.max.now ∷ x.limit.now ∷ []
 
 -- the event names no bytes
 abbrev pub IsBare : Event → Type 0

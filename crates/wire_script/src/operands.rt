@@ -3,8 +3,8 @@
 ghost use Rattle.std.specs.Prelude.{◌≡◌, ◌↔◌, ◌∷◌, [], ℕ, Err, IfOk, IfSome, IsSomeAnd, IsTrue, List, Some};
 ghost use Rattle.wire_msg.specs.{BufCarries, Carries, Content};
 ghost use Rattle.wire_msg.specs.declared.payloads.Payload.{Payload};
-ghost use Rattle.wire_script.specs.Naming.{AreTwo, HasHex, IsCall, IsOne, IsRaw, IsSetup, handler_word};
-ghost use Rattle.wire_script.specs.Reading.{five, words_behind};
+ghost use Rattle.wire_script.specs.Naming.{AreTwoNumbers, HasHex, IsCall, IsOneNumber, IsRaw, IsSetup, handler_word};
+ghost use Rattle.wire_script.specs.Reading.{setup_words, words_behind};
 
 use crate::body::{bytes_of, payload_of};
 use crate::cut::next_word;
@@ -49,9 +49,9 @@ struct SetupWords<'a> {
 
 /// Returns the words after a keyword, if there are exactly five.
 fn five_words(rest: Option<&[u8]>) -> Option<SetupWords<'_>>
-    ensures found { IfSome result (λ x. words_behind rest.entry ≡ five x) }
+    ensures found { IfSome result (λ x. words_behind rest.entry ≡ setup_words x) }
     ensures only { (a b c d e : List ℕ) → words_behind rest.entry ≡ a ∷ b ∷ c ∷ d ∷ e ∷ []
-        → IsSomeAnd result (λ x. five x ≡ a ∷ b ∷ c ∷ d ∷ e ∷ []) }
+        → IsSomeAnd result (λ x. setup_words x ≡ a ∷ b ∷ c ∷ d ∷ e ∷ []) }
 {
     let (handler, rest) = next_word(rest)?;
     let (first, rest) = next_word(rest)?;
@@ -74,17 +74,17 @@ pub(crate) fn has_no_words(rest: Option<&[u8]>) -> bool
 }
 
 /// Parses the operand C: a number.
-pub(crate) fn one(rest: Option<&[u8]>) -> Option<u64>
-    ensures found { IfSome result (λ c. IsOne (words_behind rest.entry) c) }
-    ensures only { (c : ℕ) → IsOne (words_behind rest.entry) c → result ≡ Some c }
+pub(crate) fn one_number(rest: Option<&[u8]>) -> Option<u64>
+    ensures found { IfSome result (λ c. IsOneNumber (words_behind rest.entry) c) }
+    ensures only { (c : ℕ) → IsOneNumber (words_behind rest.entry) c → result ≡ Some c }
 {
     number(one_word(rest)?)
 }
 
 /// Parses the operands C and N: two numbers.
-pub(crate) fn two(rest: Option<&[u8]>) -> Option<(u64, usize)>
-    ensures found { IfSome result (λ x. AreTwo (words_behind rest.entry) x.0 x.1) }
-    ensures only { (c n : ℕ) → AreTwo (words_behind rest.entry) c n → result ≡ Some (c, n) }
+pub(crate) fn two_numbers(rest: Option<&[u8]>) -> Option<(u64, usize)>
+    ensures found { IfSome result (λ x. AreTwoNumbers (words_behind rest.entry) x.0 x.1) }
+    ensures only { (c n : ℕ) → AreTwoNumbers (words_behind rest.entry) c n → result ≡ Some (c, n) }
 {
     let (connection, count) = two_words(rest)?;
     let connection = number(connection)?;

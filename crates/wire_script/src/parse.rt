@@ -9,7 +9,7 @@ ghost use Rattle.wire_script.specs.Reading.{IsBare, words_behind};
 use crate::cut::cut_word;
 use crate::keyword::{Keyword, read_keyword};
 use crate::named::{Line, LineError, ScriptEvent};
-use crate::operands::{call, has_no_words, one, raw, setup, two};
+use crate::operands::{call, has_no_words, one_number, raw, setup, two_numbers};
 use std::alloc::Global;
 use wire_model::Event;
 
@@ -25,23 +25,23 @@ fn bare_event(keyword: Keyword, rest: Option<&[u8]>) -> Option<Event<'static>>
         Keyword::Clear if has_no_words(rest) => Some(Event::Clear),
         Keyword::Restart if has_no_words(rest) => Some(Event::Restart),
         Keyword::RawOpen if has_no_words(rest) => Some(Event::RawOpen),
-        Keyword::Return => Some(Event::Return(one(rest)?)),
-        Keyword::CutUp => Some(Event::CutUp(one(rest)?)),
-        Keyword::CutDown => Some(Event::CutDown(one(rest)?)),
+        Keyword::Return => Some(Event::Return(one_number(rest)?)),
+        Keyword::CutUp => Some(Event::CutUp(one_number(rest)?)),
+        Keyword::CutDown => Some(Event::CutDown(one_number(rest)?)),
         Keyword::Up => {
-            let (connection, count) = two(rest)?;
+            let (connection, count) = two_numbers(rest)?;
             Some(Event::Up(connection, count))
         }
         Keyword::Down => {
-            let (connection, count) = two(rest)?;
+            let (connection, count) = two_numbers(rest)?;
             Some(Event::Down(connection, count))
         }
         Keyword::Answer => {
-            let (connection, index) = two(rest)?;
+            let (connection, index) = two_numbers(rest)?;
             Some(Event::Answer(connection, index))
         }
         Keyword::RawTake => {
-            let (connection, count) = two(rest)?;
+            let (connection, count) = two_numbers(rest)?;
             Some(Event::RawTake(connection, count))
         }
         _ => None,

@@ -68,7 +68,7 @@ fn state_of(alloc: Global, message: &[u8], announced: usize, limit: u32) -> Read
 }
 
 /// Appends bytes from the front of `piece`, until the message is whole or the piece is used up.
-pub(crate) fn go_on(alloc: Global, message: &mut Vec<u8>, limit: u32, piece: &[u8]) -> Fed
+pub(crate) fn append_piece(alloc: Global, message: &mut Vec<u8>, limit: u32, piece: &[u8]) -> Fed
     requires limit { limit ≤ 48_000_000 }
     requires begun { IsBegun limit message.old }
     ensures fed { Feeds limit message.old.items piece.now message.new.items result }

@@ -5,7 +5,7 @@ ghost use Rattle.wire_msg.specs.{IsBad, IsMessage, IsOpen, msg_bytes};
 ghost use Rattle.wire_msg.specs.declared.fault.MsgFault.{MsgFault};
 ghost use Rattle.wire_stream.specs.Readers.{CompletesHeader, Feeds, IsRoom, Reading, StandsAt};
 
-use crate::held::{begin_message, fill_header, go_on};
+use crate::held::{append_piece, begin_message, fill_header};
 use crate::msg_buf::MsgBuf;
 use crate::reader_state::{Fed, ReadEnd, ReadRefusal, ReaderState};
 use bson_elem::little_u32;
@@ -97,7 +97,7 @@ impl MsgReader {
         };
         match &mut self.message {
             Some(message) => {
-                let fed = go_on(self.alloc, message, self.limit, piece);
+                let fed = append_piece(self.alloc, message, self.limit, piece);
                 self.state = fed.state;
                 Ok(fed)
             }
@@ -130,7 +130,7 @@ impl MsgReader {
             });
         }
         let mut message = begin_message(self.alloc, &self.header, self.limit)?;
-        let fed = go_on(self.alloc, &mut message, self.limit, &piece[n..]);
+        let fed = append_piece(self.alloc, &mut message, self.limit, &piece[n..]);
         self.message = Some(message);
         self.state = fed.state;
         Ok(Fed {
