@@ -2,7 +2,7 @@
 //! digits.
 
 ghost use Rattle.std.specs.Prelude.{◌≡◌, ◌+◌, ◌≤◌, MatchOption, OnOk, Some, flat_map, length, position};
-ghost use Rattle.std.specs.Io.KnownBytes.{Appends};
+ghost use Rattle.bson_text.specs.Writing.{WritesOut};
 ghost use Rattle.hex.specs.Hex.{encode_lower};
 ghost use Rattle.bson_text.specs.TextWriter.{text_contents};
 ghost use Rattle.bson_text.specs.Text.{NeedsNoEscapeBefore, escaped, indent, needs_escape, quoted};
@@ -20,7 +20,7 @@ const HEX_FEW: usize = 16;
 
 /// Writes two spaces `deep` times.
 pub(crate) fn write_indent<W: Write>(deep: u32, out: &mut TextWriter<W>) -> Result<(), Failed>
-    ensures { OnOk result (Appends (text_contents W.contents out.old) (text_contents W.contents out.new) (indent deep)) }
+    ensures { OnOk result (WritesOut (text_contents W.contents) out.old out.new (indent deep)) }
 {
     for _ in 0..deep {
         out.write_all(b"  ")?;
@@ -126,7 +126,7 @@ fn first_escaped(bytes: &[u8]) -> Option<usize>
 
 /// Writes one byte as it appears in quoted text.
 fn write_escaped<W: Write>(b: u8, out: &mut TextWriter<W>) -> Result<(), Failed>
-    ensures { OnOk result (Appends (text_contents W.contents out.old) (text_contents W.contents out.new) (escaped b)) }
+    ensures { OnOk result (WritesOut (text_contents W.contents) out.old out.new (escaped b)) }
 {
     match b {
         b'"' => out.write_all(b"\\\""),
@@ -142,7 +142,7 @@ fn write_escaped<W: Write>(b: u8, out: &mut TextWriter<W>) -> Result<(), Failed>
 /// Writes bytes as they appear in quoted text, each run of bytes that need no escape in one call.
 #[inline(never)]
 fn write_runs<W: Write>(bytes: &[u8], out: &mut TextWriter<W>) -> Result<(), Failed>
-    ensures { OnOk result (Appends (text_contents W.contents out.old) (text_contents W.contents out.new)
+    ensures { OnOk result (WritesOut (text_contents W.contents) out.old out.new
         (flat_map escaped bytes.now)) }
 {
     let mut rest = bytes;
@@ -157,7 +157,7 @@ fn write_runs<W: Write>(bytes: &[u8], out: &mut TextWriter<W>) -> Result<(), Fai
 
 /// Writes a text between quotes.
 pub(crate) fn write_quoted<W: Write>(text: &str, out: &mut TextWriter<W>) -> Result<(), Failed>
-    ensures { OnOk result (Appends (text_contents W.contents out.old) (text_contents W.contents out.new) (quoted text.now)) }
+    ensures { OnOk result (WritesOut (text_contents W.contents) out.old out.new (quoted text.now)) }
 {
     let bytes = text.as_bytes();
     out.write_all(b"\"")?;
@@ -174,7 +174,7 @@ pub(crate) fn write_number<I: Integer, W: Write>(
     number: I,
     out: &mut TextWriter<W>,
 ) -> Result<(), Failed>
-    ensures { OnOk result (Appends (text_contents W.contents out.old) (text_contents W.contents out.new) (I.text number)) }
+    ensures { OnOk result (WritesOut (text_contents W.contents) out.old out.new (I.text number)) }
 {
     let mut digits = Buffer::new();
     out.write_all(digits.format(number).as_bytes())
@@ -183,7 +183,7 @@ pub(crate) fn write_number<I: Integer, W: Write>(
 /// Writes at most 16 bytes as lower-case hexadecimal digits.
 fn write_hex_few<W: Write>(few: &[u8], out: &mut TextWriter<W>) -> Result<(), Failed>
     requires { length few.now ≤ HEX_FEW }
-    ensures { OnOk result (Appends (text_contents W.contents out.old) (text_contents W.contents out.new)
+    ensures { OnOk result (WritesOut (text_contents W.contents) out.old out.new
         (encode_lower few.now)) }
 {
     let mut buffer = [0u8; 2 * HEX_FEW];
@@ -196,7 +196,7 @@ fn write_hex_few<W: Write>(few: &[u8], out: &mut TextWriter<W>) -> Result<(), Fa
 /// Writes at most 128 bytes as lower-case hexadecimal digits.
 fn write_hex_chunk<W: Write>(chunk: &[u8], out: &mut TextWriter<W>) -> Result<(), Failed>
     requires { length chunk.now ≤ HEX_CHUNK }
-    ensures { OnOk result (Appends (text_contents W.contents out.old) (text_contents W.contents out.new)
+    ensures { OnOk result (WritesOut (text_contents W.contents) out.old out.new
         (encode_lower chunk.now)) }
 {
     let mut buffer = [0u8; 2 * HEX_CHUNK];
@@ -208,7 +208,7 @@ fn write_hex_chunk<W: Write>(chunk: &[u8], out: &mut TextWriter<W>) -> Result<()
 
 /// Writes any count of bytes as lower-case hexadecimal digits.
 pub(crate) fn write_hex<W: Write>(bytes: &[u8], out: &mut TextWriter<W>) -> Result<(), Failed>
-    ensures { OnOk result (Appends (text_contents W.contents out.old) (text_contents W.contents out.new)
+    ensures { OnOk result (WritesOut (text_contents W.contents) out.old out.new
         (encode_lower bytes.now)) }
 {
     if bytes.len() <= HEX_FEW {

@@ -1,7 +1,8 @@
 //! Puts a small buffer in front of a writer, and keeps the first error.
 
 ghost use Rattle.std.specs.Prelude.{◌≡◌, [], Err, IfSome, IsSome, Ok, OnErr, OnOk};
-ghost use Rattle.std.specs.Io.KnownBytes.{Appends, Keeps};
+ghost use Rattle.std.specs.Io.KnownBytes.{Keeps};
+ghost use Rattle.bson_text.specs.Writing.{WritesOut};
 ghost use Rattle.bson_text.specs.TextWriter.{text_contents};
 
 use arrayvec::ArrayVec;
@@ -42,8 +43,7 @@ impl<W: Write> TextWriter<W> {
     /// Writes all of `bytes`. If that fails, the writer's error is kept.
     #[inline(always)]
     pub(crate) fn write_all(&mut self, bytes: &[u8]) -> Result<(), Failed>
-        ensures bytes { OnOk result (Appends (text_contents W.contents self.old)
-            (text_contents W.contents self.new) bytes.now) }
+        ensures bytes { OnOk result (WritesOut (text_contents W.contents) self.old self.new bytes.now) }
         ensures kept { OnErr result (IsSome self.new.error) }
     {
         match self.text.try_extend_from_slice(bytes) {
@@ -57,8 +57,7 @@ impl<W: Write> TextWriter<W> {
     #[cold]
     #[inline(never)]
     fn write_all_past(&mut self, bytes: &[u8]) -> Result<(), Failed>
-        ensures bytes { OnOk result (Appends (text_contents W.contents self.old)
-            (text_contents W.contents self.new) bytes.now) }
+        ensures bytes { OnOk result (WritesOut (text_contents W.contents) self.old self.new bytes.now) }
         ensures kept { OnErr result (IsSome self.new.error) }
     {
         self.pass_on()?;
@@ -90,8 +89,7 @@ impl<W: Write> TextWriter<W> {
     /// Writes `bytes` to the writer. No bytes may wait.
     fn write_through(&mut self, bytes: &[u8]) -> Result<(), Failed>
         requires { self.old.text.items ≡ [] }
-        ensures bytes { OnOk result (Appends (text_contents W.contents self.old)
-            (text_contents W.contents self.new) bytes.now) }
+        ensures bytes { OnOk result (WritesOut (text_contents W.contents) self.old self.new bytes.now) }
         ensures kept { OnErr result (IsSome self.new.error) }
     {
         match self.out.write_all(bytes) {

@@ -1,7 +1,7 @@
 //! Serves one connection after another.
 
 ghost use Rattle.std.specs.Prelude.{◌≡◌, ◌<◌, OnOk, ℕ};
-ghost use Rattle.std.specs.Io.KnownBytes.{Appends};
+ghost use Rattle.bson_text.specs.{WritesOut};
 ghost use Rattle.wire_peer.specs.{log_of, seen};
 ghost use Rattle.test_server.specs.Serving.{IsListened, IsRun, ServesAll, ServesNext, ServesOne, kept, served_line, settled};
 
@@ -132,7 +132,7 @@ fn listen<R: Net, W: Write>(
 
 /// Writes and flushes the last line.
 fn write_last<W: Write>(count: u64, out: &mut W) -> io::Result<()>
-    ensures { OnOk result (Appends (W.contents out.old) (W.contents out.new) (served_line count)) }
+    ensures { OnOk result (WritesOut W.contents out.old out.new (served_line count)) }
 {
     writeln!(out, "served {count}")?;
     out.flush()

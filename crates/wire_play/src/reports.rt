@@ -2,7 +2,7 @@
 //! takes memory.
 
 ghost use Rattle.std.specs.Prelude.{◌≡◌, ◌++◌, OnOk, codes};
-ghost use Rattle.std.specs.Io.KnownBytes.{Appends};
+ghost use Rattle.bson_text.specs.{WritesOut};
 ghost use Rattle.wire_play.specs.Reports.{cause_text, hex_or_dash, refusal_line, refusal_text, report_line, result_line};
 
 use bson_text::hex_to;
@@ -52,7 +52,7 @@ fn refusal_text(refusal: WorldRefusal) -> &'static str
 
 /// Writes the line of a refused event.
 fn write_refusal<W: Write>(refusal: WorldRefusal, out: &mut W) -> io::Result<()>
-    ensures { OnOk result (Appends (W.contents out.old) (W.contents out.new) (refusal_line refusal)) }
+    ensures { OnOk result (WritesOut W.contents out.old out.new (refusal_line refusal)) }
 {
     let why = refusal_text(refusal);
     writeln!(out, "refused {why}")
@@ -60,7 +60,7 @@ fn write_refusal<W: Write>(refusal: WorldRefusal, out: &mut W) -> io::Result<()>
 
 /// Writes the line of bytes that were taken away: in hexadecimal, or `-` if there are none.
 fn write_bytes<W: Write>(bytes: &[u8], out: &mut W) -> io::Result<()>
-    ensures { OnOk result (Appends (W.contents out.old) (W.contents out.new)
+    ensures { OnOk result (WritesOut W.contents out.old out.new
         (codes "bytes " ++ (hex_or_dash bytes.now ++ codes "\n"))) }
 {
     if bytes.is_empty() {
@@ -73,7 +73,7 @@ fn write_bytes<W: Write>(bytes: &[u8], out: &mut W) -> io::Result<()>
 
 /// Writes the line of what an event has done.
 fn write_report<W: Write>(report: &Report, out: &mut W) -> io::Result<()>
-    ensures { OnOk result (Appends (W.contents out.old) (W.contents out.new) (report_line report.now)) }
+    ensures { OnOk result (WritesOut W.contents out.old out.new (report_line report.now)) }
 {
     match report {
         Report::Opened {
@@ -112,7 +112,7 @@ fn write_report<W: Write>(report: &Report, out: &mut W) -> io::Result<()>
 
 /// Writes the line of an event's result.
 pub fn write_result<W: Write>(ended: &Result<Report, WorldRefusal>, out: &mut W) -> io::Result<()>
-    ensures { OnOk result (Appends (W.contents out.old) (W.contents out.new) (result_line ended.now)) }
+    ensures { OnOk result (WritesOut W.contents out.old out.new (result_line ended.now)) }
 {
     match ended {
         Ok(report) => write_report(report, out),

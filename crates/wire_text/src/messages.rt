@@ -1,7 +1,7 @@
 //! Writes the text of a message. No function here takes memory.
 
 ghost use Rattle.std.specs.Prelude.{◌≡◌, List, OnOk, flat_map};
-ghost use Rattle.std.specs.Io.KnownBytes.{Appends};
+ghost use Rattle.bson_text.specs.{WritesOut};
 ghost use Rattle.bson_elem.specs.{Spells, Tree};
 ghost use Rattle.bson_raw.specs.{document_bytes};
 ghost use Rattle.wire_msg.specs.{Carries, Content, DocumentsAre, Message, Sequence, SpellsMsg, msg_bytes};
@@ -37,8 +37,7 @@ fn flags_word(flags: MsgFlags) -> &'static str
 /// Writes the first line of a message.
 fn write_message_line<W: Write>(message: RawMsg<'_>, out: &mut W) -> io::Result<()>
     ensures { (m : Message) → SpellsMsg m (msg_bytes message.entry) → OnOk result
-        (Appends (W.contents out.old) (W.contents out.new)
-        (message_line m)) }
+        (WritesOut W.contents out.old out.new (message_line m)) }
 {
     let size = message.as_bytes().len();
     let id = message.id();
@@ -50,7 +49,7 @@ fn write_message_line<W: Write>(message: RawMsg<'_>, out: &mut W) -> io::Result<
 /// Writes the line of the body's size, and those of its elements.
 fn write_body<W: Write>(body: RawDocument<'_>, out: &mut W) -> io::Result<()>
     ensures { (t : Tree) → Spells t (document_bytes body.entry) → OnOk result
-        (Appends (W.contents out.old) (W.contents out.new) (body_text t)) }
+        (WritesOut W.contents out.old out.new (body_text t)) }
 {
     let size = body.as_bytes().len();
     writeln!(out, "body {size}")?;
@@ -60,7 +59,7 @@ fn write_body<W: Write>(body: RawDocument<'_>, out: &mut W) -> io::Result<()>
 /// Writes a document of a sequence, one deeper than the body.
 fn write_member<W: Write>(document: RawDocument<'_>, out: &mut W) -> io::Result<()>
     ensures { (t : Tree) → Spells t (document_bytes document.entry) → OnOk result
-        (Appends (W.contents out.old) (W.contents out.new) (member_text t)) }
+        (WritesOut W.contents out.old out.new (member_text t)) }
 {
     let size = document.as_bytes().len();
     writeln!(out, "  document {size}")?;
@@ -70,7 +69,7 @@ fn write_member<W: Write>(document: RawDocument<'_>, out: &mut W) -> io::Result<
 /// Writes the documents of a sequence.
 fn write_documents<W: Write>(documents: Documents<'_>, out: &mut W) -> io::Result<()>
     ensures { (ts : List Tree) → DocumentsAre documents.entry ts → OnOk result
-        (Appends (W.contents out.old) (W.contents out.new) (flat_map member_text ts)) }
+        (WritesOut W.contents out.old out.new (flat_map member_text ts)) }
 {
     for document in documents.iter() {
         write_member(document, out)?;
@@ -86,7 +85,7 @@ fn write_sequence_line<W: Write>(
 ) -> io::Result<()>
     ensures { (q : Sequence) → identifier.now ≡ q.identifier
         → DocumentsAre documents.entry q.documents → OnOk result
-        (Appends (W.contents out.old) (W.contents out.new) (sequence_line q)) }
+        (WritesOut W.contents out.old out.new (sequence_line q)) }
 {
     let count = documents.count();
     out.write_all(b"sequence ")?;
@@ -103,7 +102,7 @@ fn write_sequence<W: Write>(
 ) -> io::Result<()>
     ensures { (q : Sequence) → identifier.now ≡ q.identifier
         → DocumentsAre documents.entry q.documents → OnOk result
-        (Appends (W.contents out.old) (W.contents out.new) (text_of_sequence detail q)) }
+        (WritesOut W.contents out.old out.new (text_of_sequence detail q)) }
 {
     write_sequence_line(identifier, documents, out)?;
     match detail {
@@ -123,8 +122,7 @@ pub fn write_sequences<W: Write>(
     out: &mut W,
 ) -> io::Result<()>
     ensures { (c : Content) → Carries payload.entry c → OnOk result
-        (Appends (W.contents out.old) (W.contents out.new)
-        (flat_map (text_of_sequence detail) c.sequences)) }
+        (WritesOut W.contents out.old out.new (flat_map (text_of_sequence detail) c.sequences)) }
 {
     for (identifier, documents) in payload.sequences() {
         write_sequence(identifier, documents, detail, out)?;
@@ -139,8 +137,7 @@ pub fn write_sequences<W: Write>(
 /// Returns the error of the writer, which may have taken a part of the text.
 pub fn write_message<W: Write>(message: RawMsg<'_>, out: &mut W) -> io::Result<()>
     ensures { (m : Message) → SpellsMsg m (msg_bytes message.entry) → OnOk result
-        (Appends (W.contents out.old) (W.contents out.new)
-        (message_text m)) }
+        (WritesOut W.contents out.old out.new (message_text m)) }
 {
     let payload = message.payload();
     write_message_line(message, out)?;
