@@ -8,4 +8,5 @@ LeftIs bytes offset t = Fits 1 t × (slice_range bytes offset (length bytes - 1)
 
 -- the bytes from this offset up to the last byte are pairs
 abbrev pub HasLeft : List ℕ → ℕ → Type 0
-HasLeft bytes offset = (offset + 1 ≤ length bytes) × (length bytes < 2 ^ 31) × ((t : Tree) × LeftIs bytes offset t)
+HasLeft bytes offset =
+    (offset + 1 ≤ length bytes) × (length bytes < 2 ^ 31) × ((t : Tree) × LeftIs bytes offset t)

@@ -1,5 +1,6 @@
 -- The pairs of a tree, one after another.
-use Rattle.std.specs.Prelude.{ℕ, zero, suc, List, [], ◌∷◌, ◌++◌, Option, Some, None, Bool, if◌then◌else◌}
+use Rattle.std.specs.Prelude.{ℕ, zero, suc, List, [], ◌∷◌, ◌++◌, Option, Some, None, Bool}
+use Rattle.std.specs.Prelude.{if◌then◌else◌}
 use Rattle.std.specs.List.{list_any}
 use Rattle.std.specs.Str.{bytes_eq}
 use Rattle.bson_elem.specs.declared.kinds.Kind.{Kind}
@@ -19,8 +20,10 @@ with_first name (document_value k b inner) others = inner_pair name k b inner ot
 -- the value of the first pair of a name
 abbrev pub first_named : List ℕ → Tree → Option TreeValue
 first_named name no_pairs = None
-first_named name (leaf_pair n k v ps) = if bytes_eq n name then Some (leaf_value k v) else first_named name ps
-first_named name (inner_pair n k b inner ps) = if bytes_eq n name then Some (document_value k b inner) else first_named name ps
+first_named name (leaf_pair n k v ps) =
+    if bytes_eq n name then Some (leaf_value k v) else first_named name ps
+first_named name (inner_pair n k b inner ps) =
+    if bytes_eq n name then Some (document_value k b inner) else first_named name ps
 
 -- the value of the pair at this index, counted from 0
 abbrev pub nth_value : ℕ → Tree → Option TreeValue
@@ -43,5 +46,7 @@ is_among name names = list_any (λ n. bytes_eq n name) names
 -- the first name that is one of these or the name of an earlier pair
 abbrev pub first_repeated : List (List ℕ) → Tree → Option (List ℕ)
 first_repeated seen no_pairs = None
-first_repeated seen (leaf_pair n k v ps) = if is_among n seen then Some n else first_repeated (seen ++ n ∷ []) ps
-first_repeated seen (inner_pair n k b inner ps) = if is_among n seen then Some n else first_repeated (seen ++ n ∷ []) ps
+first_repeated seen (leaf_pair n k v ps) =
+    if is_among n seen then Some n else first_repeated (seen ++ n ∷ []) ps
+first_repeated seen (inner_pair n k b inner ps) =
+    if is_among n seen then Some n else first_repeated (seen ++ n ∷ []) ps

@@ -1,6 +1,7 @@
 -- What a document holds, at all depths.
 use Rattle.std.specs.Prelude.{ℕ, ◌+◌, length}
-use Rattle.bson_elem.specs.{Beside, Leaf, Tree, binary_value, inner_pair, leaf_pair, no_code, no_pairs, pointer_value, regex_value, text_value, with_code}
+use Rattle.bson_elem.specs.{Beside, Leaf, Tree, binary_value, inner_pair, leaf_pair, no_code}
+use Rattle.bson_elem.specs.{no_pairs, pointer_value, regex_value, text_value, with_code}
 use Rattle.bson_raw.specs.Pairs.{TreeValue, leaf_value, document_value}
 
 -- the number of elements, including those of the documents, arrays and scopes inside
@@ -9,8 +10,8 @@ elements_in no_pairs = 0
 elements_in (leaf_pair name k v ps) = 1 + elements_in ps
 elements_in (inner_pair name k b inner ps) = 1 + elements_in inner + elements_in ps
 
--- the bytes of a leaf's texts and data: of a string, a code or a symbol, of the namespace of a DBPointer, of the data of
--- a binary, of a pattern and its options
+-- the bytes of a leaf's texts and data: of a string, a code or a symbol, of the namespace of a
+-- DBPointer, of the data of a binary, of a pattern and its options
 abbrev pub leaf_size : Leaf → ℕ
 leaf_size (text_value words) = length words
 leaf_size (pointer_value namespace id) = length namespace
@@ -35,7 +36,8 @@ abbrev pub elements_held : TreeValue → ℕ
 elements_held (leaf_value k leaf) = 0
 elements_held (document_value k b inner) = elements_in inner
 
--- the bytes of the texts and the data that a value has, and of the names, texts and data in what it holds
+-- the bytes of the texts and the data that a value has, and of the names, texts and data in what
+-- it holds
 abbrev pub sizes_held : TreeValue → ℕ
 sizes_held (leaf_value k leaf) = leaf_size leaf
 sizes_held (document_value k b inner) = beside_size b + sizes_in inner

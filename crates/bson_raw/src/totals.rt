@@ -20,7 +20,8 @@ pub struct DocumentTotals {
 }
 
 impl DocumentTotals {
-    /// Returns the totals of a value that holds no document, and whose texts and data have `sizes` bytes.
+    /// Returns the totals of a value that holds no document, and whose texts and data have `sizes`
+    /// bytes.
     fn of_leaf(sizes: usize) -> DocumentTotals
         ensures { (result.elements ≡ 0) × (result.sizes ≡ sizes) }
     {

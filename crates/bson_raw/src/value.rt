@@ -6,7 +6,8 @@ use crate::array::RawArray;
 use crate::document::RawDocument;
 use bson_elem::{Item, Kind};
 
-/// A borrowed value, with one variant for each kind. Its texts, bytes, documents and arrays borrow the document's bytes.
+/// A borrowed value, with one variant for each kind. Its texts, bytes, documents and arrays borrow
+/// the document's bytes.
 #[derive(Clone, Copy, Debug, PartialEq, Eq)]
 pub enum RawBson<'a> {
     /// The 8 bytes of the number, exactly as in the document.

@@ -21,11 +21,13 @@ IsHeld v bytes = (inner : Tree) × (held_tree v ≡ Some inner) × Spells inner 
 -- The lines of the pairs of t are written, up to that of the first pair whose value holds pairs of
 -- its own; these bytes spell those. Still to be written are the lines of those pairs, and of the
 -- others that are left.
-pub record StopsAt (deep : ℕ) (t : Tree) (bytes : List ℕ) (IsLeft : Tree → Type 0) (IsWritten : List ℕ → Type 0) : Type 0 where
+pub record StopsAt (deep : ℕ) (t : Tree) (bytes : List ℕ) (IsLeft : Tree → Type 0)
+    (IsWritten : List ℕ → Type 0) : Type 0 where
   pub inner : Tree
   pub others : Tree
   pub text : List ℕ
   pub spelled : Spells inner bytes
   pub left : IsLeft others
   pub written : IsWritten text
-  pub lines : element_lines deep t ≡ text ++ (element_lines (deep + 1) inner ++ element_lines deep others)
+  pub lines : element_lines deep t
+      ≡ text ++ (element_lines (deep + 1) inner ++ element_lines deep others)

@@ -24,7 +24,8 @@ data_text (b ∷ rest) = codes " " ++ encode_lower (b ∷ rest)
 -- a subtype, the number of data bytes, and the data
 abbrev pub binary_text : ℕ → List ℕ → List ℕ
 binary_text subtype bytes =
-    codes " binary " ++ (encode_lower (subtype ∷ []) ++ (codes " " ++ (decimal (length bytes) ++ data_text bytes)))
+    codes " binary " ++ (encode_lower (subtype ∷ [])
+    ++ (codes " " ++ (decimal (length bytes) ++ data_text bytes)))
 
 abbrev pub boolean_text : Bool → List ℕ
 boolean_text true = codes " boolean true"
@@ -55,7 +56,8 @@ abbrev pub int32_text : ℤ → List ℕ
 int32_text value = codes " int32 " ++ signed_decimal value
 
 abbrev pub timestamp_text : ℕ → ℕ → List ℕ
-timestamp_text seconds increment = codes " timestamp " ++ (decimal seconds ++ (codes " " ++ decimal increment))
+timestamp_text seconds increment =
+    codes " timestamp " ++ (decimal seconds ++ (codes " " ++ decimal increment))
 
 abbrev pub int64_text : ℤ → List ℕ
 int64_text value = codes " int64 " ++ signed_decimal value

@@ -1,10 +1,12 @@
 //! Writes the text of a document: the line of its size, and a line for each element, at all
 //! depths. No function here takes memory.
 
-ghost use Rattle.std.specs.Prelude.{◌≡◌, ◌+◌, ◌<◌, ◌≤◌, ◌^◌, IfOk, IfSome, MatchOption, None, OnOk, length};
+ghost use Rattle.std.specs.Prelude.{◌≡◌, ◌+◌, ◌<◌, ◌≤◌, ◌^◌, IfOk, IfSome, MatchOption, None, OnOk};
+ghost use Rattle.std.specs.Prelude.{length};
 ghost use Rattle.bson_text.specs.Writing.{WritesOut};
 ghost use Rattle.bson_elem.specs.{Spells, Tree};
-ghost use Rattle.bson_raw.specs.{PairsLeft, Shows, TreeValue, document_bytes, held_len, pairs_bound, walked_len};
+ghost use Rattle.bson_raw.specs.{PairsLeft, Shows, TreeValue, document_bytes, held_len};
+ghost use Rattle.bson_raw.specs.{pairs_bound, walked_len};
 ghost use Rattle.bson_text.specs.Dump.{document_text, element_line, element_lines};
 ghost use Rattle.bson_text.specs.TextWriter.{text_contents};
 ghost use Rattle.bson_text.specs.DumpValues.{IsHeld, StopsAt, held_tree, value_text};

@@ -1,7 +1,8 @@
 //! Writes the parts of the text of documents: indentation, numbers, quoted text and hexadecimal
 //! digits.
 
-ghost use Rattle.std.specs.Prelude.{◌≡◌, ◌+◌, ◌≤◌, MatchOption, OnOk, Some, flat_map, length, position};
+ghost use Rattle.std.specs.Prelude.{◌≡◌, ◌+◌, ◌≤◌, MatchOption, OnOk, Some, flat_map, length};
+ghost use Rattle.std.specs.Prelude.{position};
 ghost use Rattle.bson_text.specs.Writing.{WritesOut};
 ghost use Rattle.hex.specs.Hex.{encode_lower};
 ghost use Rattle.bson_text.specs.TextWriter.{text_contents};

@@ -43,7 +43,8 @@ impl<W: Write> TextWriter<W> {
     /// Writes all of `bytes`. If that fails, the writer's error is kept.
     #[inline(always)]
     pub(crate) fn write_all(&mut self, bytes: &[u8]) -> Result<(), Failed>
-        ensures bytes { OnOk result (WritesOut (text_contents W.contents) self.old self.new bytes.now) }
+        ensures bytes { OnOk result
+            (WritesOut (text_contents W.contents) self.old self.new bytes.now) }
         ensures kept { OnErr result (IsSome self.new.error) }
     {
         match self.text.try_extend_from_slice(bytes) {
@@ -57,7 +58,8 @@ impl<W: Write> TextWriter<W> {
     #[cold]
     #[inline(never)]
     fn write_all_past(&mut self, bytes: &[u8]) -> Result<(), Failed>
-        ensures bytes { OnOk result (WritesOut (text_contents W.contents) self.old self.new bytes.now) }
+        ensures bytes { OnOk result
+            (WritesOut (text_contents W.contents) self.old self.new bytes.now) }
         ensures kept { OnErr result (IsSome self.new.error) }
     {
         self.pass_on()?;
@@ -89,7 +91,8 @@ impl<W: Write> TextWriter<W> {
     /// Writes `bytes` to the writer. No bytes may wait.
     fn write_through(&mut self, bytes: &[u8]) -> Result<(), Failed>
         requires { self.old.text.items ≡ [] }
-        ensures bytes { OnOk result (WritesOut (text_contents W.contents) self.old self.new bytes.now) }
+        ensures bytes { OnOk result
+            (WritesOut (text_contents W.contents) self.old self.new bytes.now) }
         ensures kept { OnErr result (IsSome self.new.error) }
     {
         match self.out.write_all(bytes) {
@@ -105,7 +108,8 @@ impl<W: Write> TextWriter<W> {
     /// if it failed.
     pub(crate) fn finish(mut self, written: Result<(), Failed>) -> (W, io::Result<()>)
         ensures whole { OnOk result.1 (written ≡ Ok tt) }
-        ensures bytes { OnOk result.1 (Keeps (text_contents W.contents self) (W.contents result.0)) }
+        ensures bytes { OnOk result.1
+            (Keeps (text_contents W.contents self) (W.contents result.0)) }
         ensures failed { OnErr written (IfSome self.error (λ e. result.1 ≡ Err e)) }
     {
         let ended = match written {

@@ -8,7 +8,10 @@ ghost use Rattle.std.specs.Prelude.{◌++◌, OnOk};
 ghost use Rattle.bson_text.specs.Writing.{WritesOut};
 ghost use Rattle.hex.specs.Hex.{encode_lower};
 ghost use Rattle.bson_text.specs.TextWriter.{text_contents};
-ghost use Rattle.bson_text.specs.ValueText.{array_text, binary_text, boolean_text, code_text, codescope_text, datetime_text, dbpointer_text, inner_document_text, int32_text, int64_text, regex_text, string_text, symbol_text, timestamp_text};
+ghost use Rattle.bson_text.specs.ValueText.{array_text, binary_text, boolean_text, code_text};
+ghost use Rattle.bson_text.specs.ValueText.{codescope_text, datetime_text, dbpointer_text};
+ghost use Rattle.bson_text.specs.ValueText.{inner_document_text, int32_text, int64_text};
+ghost use Rattle.bson_text.specs.ValueText.{regex_text, string_text, symbol_text, timestamp_text};
 
 use crate::text::{write_hex, write_number, write_quoted};
 use crate::text_writer::{Failed, TextWriter};

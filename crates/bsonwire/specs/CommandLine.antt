@@ -39,7 +39,8 @@ abbrev pub file_line : App
 file_line =
     with_subcommand
     (with_subcommand
-    (with_subcommand (with_subcommand top_app (file_app (codes "dump")).top) (file_app (codes "check")).top)
+    (with_subcommand (with_subcommand top_app (file_app (codes "dump")).top)
+    (file_app (codes "check")).top)
     (file_app (codes "canon")).top)
     (file_app (codes "msg")).top
 

@@ -41,5 +41,7 @@ MayRefuse k faults = (k ≡ kind.OutOfMemory) ⊎ IsAmong k faults
 -- otherwise that of the fault, by whether its text could be printed.
 abbrev pub IsStatusOf : List Text → ℕ → Type 0
 IsStatusOf words status =
-    ((choice : Choice) × IsChosen choice words × (fault_of command_line words ≡ []) × IsStatusFor choice status)
-    ⊎ ((k : ErrorKind) × (printed : Bool) × MayRefuse k (fault_of command_line words) × (status ≡ words_status k printed))
+    ((choice : Choice) × IsChosen choice words × (fault_of command_line words ≡ [])
+    × IsStatusFor choice status)
+    ⊎ ((k : ErrorKind) × (printed : Bool) × MayRefuse k (fault_of command_line words)
+    × (status ≡ words_status k printed))

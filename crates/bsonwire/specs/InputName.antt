@@ -1,5 +1,6 @@
 -- What a message calls the input of a run.
-use Rattle.std.specs.Prelude.{◌≡◌, ◌≢◌, ℕ, List, ◌==◌, ◌||◌, Bool, true, false, length, Option, Some, codes}
+use Rattle.std.specs.Prelude.{◌≡◌, ◌≢◌, ℕ, List, ◌==◌, ◌||◌, Bool, true, false, length, Option}
+use Rattle.std.specs.Prelude.{Some, codes}
 use Rattle.std.specs.List.{list_any}
 use Rattle.std.specs.Str.{chars}
 use Rattle.core.specs.Char.{is_control}
@@ -19,5 +20,7 @@ wants_quotes operand = length operand == 0 || list_any is_control (chars operand
 -- the name is that of this operand FILE
 abbrev pub NamesFile : InputName → List ℕ → Type 0
 NamesFile StandardInput operand = operand ≡ codes "-"
-NamesFile (File file) operand = (operand ≢ codes "-") × (wants_quotes operand ≡ false) × (file.now ≡ operand)
-NamesFile (Quoted file) operand = (operand ≢ codes "-") × (wants_quotes operand ≡ true) × (file.now ≡ operand)
+NamesFile (File file) operand =
+    (operand ≢ codes "-") × (wants_quotes operand ≡ false) × (file.now ≡ operand)
+NamesFile (Quoted file) operand =
+    (operand ≢ codes "-") × (wants_quotes operand ≡ true) × (file.now ≡ operand)

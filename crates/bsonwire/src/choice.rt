@@ -1,9 +1,12 @@
 //! Finds out what the words of the command line ask for.
 
-ghost use Rattle.std.specs.Prelude.{◌≡◌, IfOk, IsErrAnd, IsOkAnd, MatchResult, Some, is_some, map, true, Bool};
-ghost use Rattle.clap.specs.Words.{FailsBy, fault_of, first_of, found_of, rows_of, subcommand_rows_of};
+ghost use Rattle.std.specs.Prelude.{◌≡◌, IfOk, IsErrAnd, IsOkAnd, MatchResult, Some, is_some, map};
+ghost use Rattle.std.specs.Prelude.{true, Bool};
+ghost use Rattle.clap.specs.Words.{FailsBy, fault_of, first_of, found_of, rows_of};
+ghost use Rattle.clap.specs.Words.{subcommand_rows_of};
 ghost use Rattle.bsonwire.specs.CommandLine.{command_line};
-ghost use Rattle.bsonwire.specs.Choices.{HoldsCalls, HoldsHex, IsChosen, IsCommand, IsMetSubcommand, HasCalls, NamesChoice, NamesCommand};
+ghost use Rattle.bsonwire.specs.Choices.{HoldsCalls, HoldsHex, IsChosen, IsCommand};
+ghost use Rattle.bsonwire.specs.Choices.{IsMetSubcommand, HasCalls, NamesChoice, NamesCommand};
 
 use crate::command_line::program;
 use clap::{ArgMatches, Error};

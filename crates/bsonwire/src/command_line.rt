@@ -2,7 +2,8 @@
 ghost use Rattle.std.specs.Prelude.{◌≡◌, IfOk, codes, false};
 ghost use Rattle.clap.specs.Words.{app_of, rule_of, with_subcommand};
 ghost use Rattle.clap.specs.declared.builder.command.Command.TheViews.{out-Command};
-ghost use Rattle.bsonwire.specs.CommandLine.{calls_rule, command_line, file_app, file_line, hex_rule, loop_app, operand_rule, play_app, top_app};
+ghost use Rattle.bsonwire.specs.CommandLine.{calls_rule, command_line, file_app, file_line};
+ghost use Rattle.bsonwire.specs.CommandLine.{hex_rule, loop_app, operand_rule, play_app, top_app};
 
 use clap::{Arg, ArgAction, Command, value_parser};
 use std::alloc::{AllocError, Global};

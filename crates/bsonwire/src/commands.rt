@@ -7,7 +7,8 @@ ghost use Rattle.core.specs.Char.{is_control};
 ghost use Rattle.std.specs.IoError.{error_kind, raw_os_error};
 ghost use Rattle.bsonwire.specs.Choices.{CommandText, wants_memory};
 ghost use Rattle.bsonwire.specs.ExitStatus.{IsStatusFor, exit_status, tells_done, tells_fault};
-ghost use Rattle.engines.specs.{AppendsText, AppendsUpTo, end_of_error, is_done, is_fault, loop_text};
+ghost use Rattle.engines.specs.{AppendsText, AppendsUpTo, end_of_error, is_done, is_fault};
+ghost use Rattle.engines.specs.{loop_text};
 
 use crate::choice::{Choice, Command};
 use command_words::{IN_OUT, MEMORY};

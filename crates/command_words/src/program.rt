@@ -45,7 +45,8 @@ impl Program<'_> {
         }
     }
 
-    /// Says on standard error why the words can't be read: memory ran out, or one of them isn't text. Returns the exit status.
+    /// Says on standard error why the words can't be read: memory ran out, or one of them isn't
+    /// text. Returns the exit status.
     fn tell_unread(self, rt: &impl Eprint, error: &io::Error) -> u8
         ensures { result ≡ unread_status (error_kind error.now) }
     {

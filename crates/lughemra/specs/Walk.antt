@@ -22,5 +22,6 @@ documents_walk documents last = record {
 -- the walk is that of the documents at the front of the bytes, and of the rest after them
 abbrev pub IsDocumentsWalk : List ℕ → DocumentsWalk → Type 0
 IsDocumentsWalk bytes walk =
-    (documents : List Tree) × (rest : List ℕ) × DocumentSplit bytes documents rest × (last : Option BsonFault)
+    (documents : List Tree) × (rest : List ℕ) × DocumentSplit bytes documents rest
+    × (last : Option BsonFault)
     × EndsAs (length (documents_bytes documents)) rest last × (walk ≡ documents_walk documents last)

@@ -9,12 +9,14 @@ use Rattle.test_server.specs.CommandLine.{command_line}
 -- text it is the greatest number
 abbrev pub AsksFor : ℕ → Option Text → Type 0
 AsksFor n None = n ≡ 18446744073709551615
-AsksFor n (Some text) = IsNumeral 10 (without_leading_plus text) × (digits_value 10 (without_leading_plus text) ≡ n)
+AsksFor n (Some text) =
+    IsNumeral 10 (without_leading_plus text) × (digits_value 10 (without_leading_plus text) ≡ n)
 
 -- the matches hold the address and the number of connections
 abbrev pub IsHeld : Choice → List Row → Type 0
 IsHeld c rows =
-    (first_of (codes "address") rows ≡ Some c.address.now) × AsksFor c.connections (one_of (codes "connections") rows)
+    (first_of (codes "address") rows ≡ Some c.address.now)
+    × AsksFor c.connections (one_of (codes "connections") rows)
 
 -- the choice is what the command line makes of the words
 abbrev pub IsChosen : Choice → List Text → Type 0

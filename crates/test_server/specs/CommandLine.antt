@@ -7,7 +7,8 @@ use Rattle.clap.specs.declared.builder.value_parser.ValueParser.TheVariants.{Uns
 
 -- the required operand ADDRESS
 abbrev pub address_rule : Rule
-address_rule = record (new_rule (codes "address")) { action = Some Set; value_names = 1; required = true }
+address_rule =
+    record (new_rule (codes "address")) { action = Some Set; value_names = 1; required = true }
 
 -- the option `--connections N`, a number of 64 bits
 abbrev pub connections_rule : Rule

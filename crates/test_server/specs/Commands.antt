@@ -1,5 +1,6 @@
 -- What each command does: its answer, and what is held after it.
-use Rattle.std.specs.Prelude.{◌≡◌, ℕ, ℤ, pos, List, [], ◌∷◌, ◌++◌, true, false, Result, Ok, Err, codes, drop, length, take, if◌then◌else◌}
+use Rattle.std.specs.Prelude.{◌≡◌, ℕ, ℤ, pos, List, [], ◌∷◌, ◌++◌, true, false, Result, Ok, Err}
+use Rattle.std.specs.Prelude.{codes, drop, length, take, if◌then◌else◌}
 use Rattle.std.specs.Str.{bytes_eq}
 use Rattle.bson_elem.specs.{Tree, inner_pair, leaf_pair, no_pairs}
 use Rattle.bson_raw.specs.{TreeValue}
@@ -11,11 +12,14 @@ use Rattle.test_server.specs.declared.failure.CommandError.{CommandError}
 use Rattle.test_server.specs.declared.failure.CommandError.TheVariants as errors
 use Rattle.test_server.specs.declared.failure.Failure.{Failure}
 use Rattle.test_server.specs.declared.failure.Failure.TheVariants.{OutOfMemory, Refused}
-use Rattle.test_server.specs.Answers.{cursor_answer, dropped_pairs, error_pairs, hello_pairs, inserted_pairs, listing, ok_alone, refusal_pairs}
+use Rattle.test_server.specs.Answers.{cursor_answer, dropped_pairs, error_pairs, hello_pairs}
+use Rattle.test_server.specs.Answers.{inserted_pairs, listing, ok_alone, refusal_pairs}
 use Rattle.test_server.specs.Errors.{and_then, or_error}
 use Rattle.test_server.specs.Fields.{batch_size, id_field, namespace_at, text_field}
 use Rattle.test_server.specs.Filters.{filter_field, found}
-use Rattle.test_server.specs.Held.{CollectionView, CursorView, NamespaceView, StoreView, cursor_index, documents_in, id_if_left, namespace_text, open_at, opened, opened_id, with_documents, with_left, without_collection}
+use Rattle.test_server.specs.Held.{CollectionView, CursorView, NamespaceView, StoreView}
+use Rattle.test_server.specs.Held.{cursor_index, documents_in, id_if_left, namespace_text, open_at}
+use Rattle.test_server.specs.Held.{opened, opened_id, with_documents, with_left, without_collection}
 use Rattle.test_server.specs.Inserted.{inserted}
 
 -- an answer, and what is held after it
@@ -42,7 +46,8 @@ insert s c =
 -- the first documents that match, and a cursor over the others
 abbrev pub find_reply : StoreView → NamespaceView → ℕ → List TreeValue → Reply
 find_reply s n count vs = record {
-  answer = cursor_answer First (take count vs) (opened_id (drop count vs) s.cursors) (namespace_text n);
+  answer =
+      cursor_answer First (take count vs) (opened_id (drop count vs) s.cursors) (namespace_text n);
   held = record { collections = s.collections; cursors = opened n (drop count vs) s.cursors };
 }
 
@@ -60,7 +65,8 @@ query_in t =
     Ok (record { namespace = n; filter = f; count = count }))))
 
 abbrev pub find_reply_to : StoreView → QueryView → Reply
-find_reply_to s q = find_reply s q.namespace q.count (found q.filter (documents_in q.namespace s.collections))
+find_reply_to s q =
+    find_reply s q.namespace q.count (found q.filter (documents_in q.namespace s.collections))
 
 -- the answer of find and what is held after it, or its error
 abbrev pub find : StoreView → Tree → Result Reply CommandError
@@ -71,13 +77,19 @@ find s t = and_then (query_in t) (λ q. Ok (find_reply_to s q))
 -- the next documents of a cursor
 abbrev pub more_reply : StoreView → ℤ → NamespaceView → ℕ → CursorView → Reply
 more_reply s id n count c = record {
-  answer = cursor_answer Next (take count c.left) (id_if_left id (drop count c.left)) (namespace_text n);
-  held = record { collections = s.collections; cursors = with_left (cursor_index id) (drop count c.left) s.cursors };
+  answer =
+      cursor_answer Next (take count c.left) (id_if_left id (drop count c.left)) (namespace_text n);
+  held =
+      record {
+        collections = s.collections;
+        cursors = with_left (cursor_index id) (drop count c.left) s.cursors;
+      };
 }
 
 abbrev pub more : StoreView → ℤ → NamespaceView → ℕ → Result Reply CommandError
 more s id n count =
-    and_then (or_error errors.CursorNotFound (open_at n (cursor_index id) s.cursors)) (λ c. Ok (more_reply s id n count c))
+    and_then (or_error errors.CursorNotFound (open_at n (cursor_index id) s.cursors))
+    (λ c. Ok (more_reply s id n count c))
 
 -- the answer of getMore and what is held after it, or its error
 abbrev pub get_more : StoreView → Tree → Result Reply CommandError
@@ -106,7 +118,9 @@ drop_collection s t =
 -- the listings of the collections of a database, in order
 abbrev pub listings : List ℕ → List CollectionView → List TreeValue
 listings db [] = []
-listings db (c ∷ cs) = if bytes_eq c.namespace.database db then listing c.namespace.collection ∷ listings db cs else listings db cs
+listings db (c ∷ cs) =
+    if bytes_eq c.namespace.database db then listing c.namespace.collection ∷ listings db cs
+    else listings db cs
 
 abbrev pub list_answer : StoreView → List ℕ → Tree → List (List ℕ × TreeValue)
 list_answer s db f =
@@ -145,7 +159,8 @@ command_of name =
     if bytes_eq name (codes "listCollections") then commands.ListCollections else commands.Unknown
 
 abbrev pub unknown_pairs : List ℕ → List (List ℕ × TreeValue)
-unknown_pairs name = error_pairs (codes "no such command: '" ++ name ++ codes "'") (pos 59) (codes "CommandNotFound")
+unknown_pairs name =
+    error_pairs (codes "no such command: '" ++ name ++ codes "'") (pos 59) (codes "CommandNotFound")
 
 -- an answer that changes nothing
 abbrev pub only : StoreView → List (List ℕ × TreeValue) → Result Reply CommandError
@@ -175,7 +190,8 @@ reply_to s c = settled s (run (command_of (first_name c.body)) s c)
 -- ---- carrying them out
 
 -- A command was carried out as said; or it was refused, and nothing changed; or memory ran out.
-abbrev pub IsCarriedOut : Result Reply CommandError → StoreView → Result (List (List ℕ × TreeValue)) Failure → StoreView → Type 0
+abbrev pub IsCarriedOut : Result Reply CommandError → StoreView
+    → Result (List (List ℕ × TreeValue)) Failure → StoreView → Type 0
 IsCarriedOut step old (Ok answer) new = step ≡ Ok (record { answer = answer; held = new })
 IsCarriedOut step old (Err (Refused e)) new = (step ≡ Err e) × (new ≡ old)
 IsCarriedOut step old (Err OutOfMemory) new = Unit {0}

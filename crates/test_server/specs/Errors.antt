@@ -22,7 +22,8 @@ words_of errors.Find = codes "the field 'find' must be a string"
 words_of errors.Drop = codes "the field 'drop' must be a string"
 words_of errors.GetMore = codes "the field 'getMore' must be an int64"
 words_of errors.Collection = codes "the field 'collection' must be a string"
-words_of errors.Documents = codes "the field 'documents' must be from 1 to 100000 documents, with no name twice in one"
+words_of errors.Documents =
+    codes "the field 'documents' must be from 1 to 100000 documents, with no name twice in one"
 words_of errors.Filter = codes "the field 'filter' must be a document with no name twice"
 words_of errors.Operator = codes "the field 'filter' must have no operator"
 words_of errors.FirstBatchSize = codes "the field 'batchSize' must be a whole number"
@@ -38,7 +39,8 @@ or_error e None = Err e
 or_error e (Some a) = Ok a
 
 -- the next step with the result of the first, or the error of the first
-abbrev pub and_then : {A B : Type 0} → Result A CommandError → (A → Result B CommandError) → Result B CommandError
+abbrev pub and_then : {A B : Type 0} → Result A CommandError → (A → Result B CommandError)
+    → Result B CommandError
 and_then (Ok a) next = next a
 and_then (Err e) next = Err e
 

@@ -21,7 +21,9 @@ exit_status OutOfMemory = 4
 -- the status of what was chosen: that of an end; if it is good, as many connections were served as
 -- asked for
 abbrev pub IsStatusFor : Choice → ℕ → Type 0
-IsStatusFor choice status = (end : ServerEnd) × ((n : ℕ) → end ≡ Served n → n ≡ choice.connections) × (status ≡ exit_status end)
+IsStatusFor choice status =
+    (end : ServerEnd) × ((n : ℕ) → end ≡ Served n → n ≡ choice.connections)
+    × (status ≡ exit_status end)
 
 -- memory ran out, or the words have a fault of this kind
 abbrev pub MayRefuse : ErrorKind → Kinds → Type 0
@@ -31,5 +33,7 @@ MayRefuse k faults = (k ≡ kind.OutOfMemory) ⊎ IsAmong k faults
 -- otherwise that of the fault, by whether its text could be printed.
 abbrev pub IsStatusOf : List Text → ℕ → Type 0
 IsStatusOf words status =
-    ((choice : Choice) × IsChosen choice words × (fault_of command_line words ≡ []) × IsStatusFor choice status)
-    ⊎ ((k : ErrorKind) × (printed : Bool) × MayRefuse k (fault_of command_line words) × (status ≡ words_status k printed))
+    ((choice : Choice) × IsChosen choice words × (fault_of command_line words ≡ [])
+    × IsStatusFor choice status)
+    ⊎ ((k : ErrorKind) × (printed : Bool) × MayRefuse k (fault_of command_line words)
+    × (status ≡ words_status k printed))

@@ -1,5 +1,6 @@
 -- The fields of a command.
-use Rattle.std.specs.Prelude.{ℕ, ℤ, pos, List, Option, Some, None, Result, Ok, Err, codes, nat_le, if◌then◌else◌}
+use Rattle.std.specs.Prelude.{ℕ, ℤ, pos, List, Option, Some, None, Result, Ok, Err, codes, nat_le}
+use Rattle.std.specs.Prelude.{if◌then◌else◌}
 use Rattle.bson_elem.specs.declared.kinds.Kind.TheVariants as kinds
 use Rattle.bson_elem.specs.{Tree, number_value, text_value}
 use Rattle.bson_raw.specs.{TreeValue, first_named, leaf_value}

@@ -1,5 +1,6 @@
 -- The filters of find: which ones are accepted, and which documents match them.
-use Rattle.std.specs.Prelude.{ℕ, List, [], ◌∷◌, Bool, true, false, ◌&&◌, ◌||◌, ◌==◌, Option, Some, None, Result, Ok, Err, codes, if◌then◌else◌}
+use Rattle.std.specs.Prelude.{ℕ, List, [], ◌∷◌, Bool, true, false, ◌&&◌, ◌||◌, ◌==◌, Option, Some}
+use Rattle.std.specs.Prelude.{None, Result, Ok, Err, codes, if◌then◌else◌}
 use Rattle.bson_elem.specs.declared.kinds.Kind.TheVariants as kinds
 use Rattle.bson_elem.specs.{Tree, inner_pair, leaf_pair, no_pairs}
 use Rattle.bson_raw.specs.{TreeValue, document_value, first_named, leaf_value}
@@ -28,8 +29,10 @@ is_operators _ = false
 -- a filter has an operator in the place of a field or of a value
 abbrev pub has_operator : Tree → Bool
 has_operator no_pairs = false
-has_operator (leaf_pair n k v ps) = (is_operator n || is_operators (leaf_value k v)) || has_operator ps
-has_operator (inner_pair n k b inner ps) = (is_operator n || is_operators (document_value k b inner)) || has_operator ps
+has_operator (leaf_pair n k v ps) =
+    (is_operator n || is_operators (leaf_value k v)) || has_operator ps
+has_operator (inner_pair n k b inner ps) =
+    (is_operator n || is_operators (document_value k b inner)) || has_operator ps
 
 -- a document in its canonical form, if no name is repeated in it or in a document or scope inside
 abbrev pub if_no_repeat : {A : Type 0} → Option ℕ → A → Option A
@@ -66,7 +69,8 @@ has_value (Some own) v = same coded_value own v
 abbrev pub has_fields : Tree → Tree → Bool
 has_fields no_pairs t = true
 has_fields (leaf_pair n k v ps) t = has_value (first_named n t) (leaf_value k v) && has_fields ps t
-has_fields (inner_pair n k b inner ps) t = has_value (first_named n t) (document_value k b inner) && has_fields ps t
+has_fields (inner_pair n k b inner ps) t =
+    has_value (first_named n t) (document_value k b inner) && has_fields ps t
 
 abbrev pub matches : Tree → TreeValue → Bool
 matches f (document_value kinds.Document b t) = has_fields f t

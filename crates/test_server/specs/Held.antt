@@ -1,5 +1,7 @@
 -- What the server holds, as its contracts see it: documents by namespace, and cursors.
-use Rattle.std.specs.Prelude.{ℕ, zero, suc, ℤ, pos, nat_lt, slice_get, ◌+◌, ◌&&◌, List, [], ◌∷◌, ◌++◌, Bool, Option, Some, None, codes, length, map, string_bytes, if◌then◌else◌, option_map}
+use Rattle.std.specs.Prelude.{ℕ, zero, suc, ℤ, pos, nat_lt, slice_get, ◌+◌, ◌&&◌, List, [], ◌∷◌}
+use Rattle.std.specs.Prelude.{◌++◌, Bool, Option, Some, None, codes, length, map, string_bytes}
+use Rattle.std.specs.Prelude.{if◌then◌else◌, option_map}
 use Rattle.std.specs.Str.{bytes_eq}
 use Rattle.bson_raw.specs.{TreeValue}
 use Rattle.bson_doc.specs.{value_of}
@@ -40,16 +42,22 @@ abbrev pub namespace_of : Namespace → NamespaceView
 namespace_of n = record { database = n.database.now; collection = n.collection.now }
 
 abbrev pub namespace_buf : NamespaceBuf → NamespaceView
-namespace_buf n = record { database = string_bytes n.database; collection = string_bytes n.collection }
+namespace_buf n =
+    record { database = string_bytes n.database; collection = string_bytes n.collection }
 
 abbrev pub collection_of : Collection → CollectionView
-collection_of c = record { namespace = namespace_buf c.namespace; documents = map value_of c.documents.items }
+collection_of c =
+    record { namespace = namespace_buf c.namespace; documents = map value_of c.documents.items }
 
 abbrev pub cursor_of : Cursor → CursorView
 cursor_of c = record { namespace = namespace_buf c.namespace; left = map value_of c.left.items }
 
 abbrev pub store_of : Store → StoreView
-store_of s = record { collections = map collection_of s.collections.items; cursors = map cursor_of s.cursors.items }
+store_of s =
+    record {
+      collections = map collection_of s.collections.items;
+      cursors = map cursor_of s.cursors.items;
+    }
 
 -- ---- namespaces
 
@@ -69,10 +77,12 @@ documents_in n [] = []
 documents_in n (c ∷ cs) = if is_same_namespace n c.namespace then c.documents else documents_in n cs
 
 -- the collections with these documents added to a namespace, after those that are there
-abbrev pub with_documents : NamespaceView → List TreeValue → List CollectionView → List CollectionView
+abbrev pub with_documents : NamespaceView → List TreeValue → List CollectionView
+    → List CollectionView
 with_documents n vs [] = record { namespace = n; documents = vs } ∷ []
 with_documents n vs (c ∷ cs) =
-    if is_same_namespace n c.namespace then record { namespace = c.namespace; documents = c.documents ++ vs } ∷ cs
+    if is_same_namespace n c.namespace
+    then record { namespace = c.namespace; documents = c.documents ++ vs } ∷ cs
     else c ∷ with_documents n vs cs
 
 -- the collections without that of a namespace, or nothing if there is none
@@ -85,7 +95,9 @@ without_collection n (c ∷ cs) =
 -- the index of the collection of a namespace
 abbrev pub collection_index : NamespaceView → List CollectionView → Option ℕ
 collection_index n [] = None
-collection_index n (c ∷ cs) = if is_same_namespace n c.namespace then Some 0 else option_map (λ i. suc i) (collection_index n cs)
+collection_index n (c ∷ cs) =
+    if is_same_namespace n c.namespace then Some 0
+    else option_map (λ i. suc i) (collection_index n cs)
 
 -- ---- cursors
 
@@ -107,7 +119,8 @@ cursor_index _ = None
 -- the cursor, if it is of this namespace and has something left
 abbrev pub if_open : NamespaceView → Option CursorView → Option CursorView
 if_open n None = None
-if_open n (Some c) = if (is_same_namespace n c.namespace && nat_lt 0 (length c.left)) then Some c else None
+if_open n (Some c) =
+    if (is_same_namespace n c.namespace && nat_lt 0 (length c.left)) then Some c else None
 
 -- the open cursor of this namespace at an index
 abbrev pub open_at : NamespaceView → Option ℕ → List CursorView → Option CursorView

@@ -1,5 +1,6 @@
 -- The documents of an insert.
-use Rattle.std.specs.Prelude.{◌≡◌, ◌&&◌, List, [], ◌∷◌, ◌++◌, length, Option, Some, None, Result, Ok, Err, codes, nat_le, option_map, if◌then◌else◌}
+use Rattle.std.specs.Prelude.{◌≡◌, ◌&&◌, List, [], ◌∷◌, ◌++◌, length, Option, Some, None, Result}
+use Rattle.std.specs.Prelude.{Ok, Err, codes, nat_le, option_map, if◌then◌else◌}
 use Rattle.std.specs.Str.{bytes_eq}
 use Rattle.bson_elem.specs.declared.kinds.Kind.TheVariants as kinds
 use Rattle.bson_elem.specs.{Tree, inner_pair, leaf_pair, no_code, no_pairs}
@@ -67,7 +68,8 @@ in_field qs (Some _) = None
 -- the documents, if there are 1 to 100,000 of them
 abbrev pub if_so_many : Option (List TreeValue) → Result (List TreeValue) CommandError
 if_so_many None = Err errors.Documents
-if_so_many (Some vs) = if (nat_le 1 (length vs) && nat_le (length vs) 100000) then Ok vs else Err errors.Documents
+if_so_many (Some vs) =
+    if (nat_le 1 (length vs) && nat_le (length vs) 100000) then Ok vs else Err errors.Documents
 
 -- the documents of an insert
 abbrev pub inserted : Content → Result (List TreeValue) CommandError
@@ -76,7 +78,8 @@ inserted c = if_so_many (in_field c.sequences (first_named (codes "documents") c
 -- ---- appending them
 
 -- These documents were appended, if they are kept; otherwise they were refused; or memory ran out.
-abbrev pub Appended : List TreeValue → Option (List TreeValue) → Result (Unit {0}) Failure → List TreeValue → Type 0
+abbrev pub Appended : List TreeValue → Option (List TreeValue) → Result (Unit {0}) Failure
+    → List TreeValue → Type 0
 Appended old given (Ok _) new = behind old given ≡ Some new
 Appended old given (Err OutOfMemory) new = Unit {0}
 Appended old given (Err (Refused e)) new = (given ≡ None) × (e ≡ errors.Documents)

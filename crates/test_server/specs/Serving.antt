@@ -1,5 +1,6 @@
 -- Serving one connection after another, and their transcripts.
-use Rattle.std.specs.Prelude.{◌≡◌, ◌≢◌, ◌⊎◌, ℕ, zero, suc, ◌<◌, List, [], ◌++◌, codes, Option, Result, Ok, Err}
+use Rattle.std.specs.Prelude.{◌≡◌, ◌≢◌, ◌⊎◌, ℕ, zero, suc, ◌<◌, List, [], ◌++◌, codes, Option}
+use Rattle.std.specs.Prelude.{Result, Ok, Err}
 use Rattle.std.specs.Fmt.{decimal}
 use Rattle.std.specs.Io.KnownBytes.{Appends, Keeps}
 use Rattle.wire_peer.specs.declared.serving.ServeEnd.{ServeEnd}
@@ -16,13 +17,16 @@ use Rattle.test_server.specs.Transcript.{connection_text}
 -- ---- one connection
 
 -- this end was returned, and the transcript of the connection was written; or writing it failed
-abbrev pub Tells : ℕ → ServeEnd → List LogEntry → Result ServeEnd ServerEnd → Option (List ℕ) → Option (List ℕ) → Type 0
-Tells number end made (Ok told) before after = (told ≡ end) × Appends before after (connection_text number made end)
+abbrev pub Tells : ℕ → ServeEnd → List LogEntry → Result ServeEnd ServerEnd → Option (List ℕ)
+    → Option (List ℕ) → Type 0
+Tells number end made (Ok told) before after =
+    (told ≡ end) × Appends before after (connection_text number made end)
 Tells number end made (Err why) before after = why ≡ run.InOut
 
 -- A connection was served with what is held, with messages of at most 48,000,000 bytes, and ended
 -- like this. Its entries were written.
-pub record ServesOne (number : ℕ) (result : Result ServeEnd ServerEnd) (old new : Seen Store) (before after : Option (List ℕ)) : Type 0 where
+pub record ServesOne (number : ℕ) (result : Result ServeEnd ServerEnd) (old new : Seen Store)
+    (before after : Option (List ℕ)) : Type 0 where
   pub end : ServeEnd
   pub served : Served Answered StopsAt number 48000000 18446744073709551615 end old new
   pub told : Tells number end served.made result before after
@@ -63,7 +67,8 @@ seen_over k w = record {
 
 -- A connection with this number was served with what the ones before left, and ended like this. By
 -- the result, its transcript was written, or writing it failed.
-pub record ServesFrom (number : ℕ) (result : Result ServeEnd ServerEnd) (old new : Kept) (before after : Option (List ℕ)) : Type 0 where
+pub record ServesFrom (number : ℕ) (result : Result ServeEnd ServerEnd) (old new : Kept)
+    (before after : Option (List ℕ)) : Type 0 where
   pub from : Wire
   pub to : Wire
   pub serves : ServesOne number result (seen_over old from) (seen_over new to) before after
@@ -71,11 +76,14 @@ pub record ServesFrom (number : ℕ) (result : Result ServeEnd ServerEnd) (old n
 -- The next connection, with this number, was served and its transcript written, and the server
 -- goes on, or stops because memory ran out. Or no connection came, or its transcript couldn't be
 -- written.
-abbrev pub ServesNext : ℕ → Result (Unit {0}) ServerEnd → Kept → Kept → Option (List ℕ) → Option (List ℕ) → Type 0
+abbrev pub ServesNext : ℕ → Result (Unit {0}) ServerEnd → Kept → Kept → Option (List ℕ)
+    → Option (List ℕ) → Type 0
 ServesNext number (Ok _) old new before after =
     (end : ServeEnd) × (end ≢ ends.OutOfMemory) × ServesFrom number (Ok end) old new before after
-ServesNext number (Err run.OutOfMemory) old new before after = ServesFrom number (Ok ends.OutOfMemory) old new before after
-ServesNext number (Err run.InOut) old new before after = (new ≡ old) ⊎ ServesFrom number (Err run.InOut) old new before after
+ServesNext number (Err run.OutOfMemory) old new before after =
+    ServesFrom number (Ok ends.OutOfMemory) old new before after
+ServesNext number (Err run.InOut) old new before after =
+    (new ≡ old) ⊎ ServesFrom number (Err run.InOut) old new before after
 ServesNext number (Err (run.Served n)) old new before after = ⊥
 
 -- This many connections were served, one after another. The first has the number 1, and each was
@@ -83,13 +91,16 @@ ServesNext number (Err (run.Served n)) old new before after = ⊥
 abbrev pub AreServed : ℕ → Kept → Kept → Option (List ℕ) → Option (List ℕ) → Type 0
 AreServed zero old new before after = (new ≡ old) × Keeps before after
 AreServed (suc n) old new before after =
-    (mid : Kept) × (text : Option (List ℕ)) × AreServed n old mid before text × ServesNext (suc n) (Ok tt) mid new text after
+    (mid : Kept) × (text : Option (List ℕ)) × AreServed n old mid before text
+    × ServesNext (suc n) (Ok tt) mid new text after
 
 -- this many connections were served, or fewer, and the server stopped at the next one
 abbrev pub ServesAll : ℕ → ServerEnd → Kept → Kept → Option (List ℕ) → Option (List ℕ) → Type 0
-ServesAll count (run.Served n) old new before after = (n ≡ count) × AreServed count old new before after
+ServesAll count (run.Served n) old new before after =
+    (n ≡ count) × AreServed count old new before after
 ServesAll count why old new before after =
-    (n : ℕ) × (n < count) × (mid : Kept) × (text : Option (List ℕ)) × AreServed n old mid before text × ServesNext (suc n) (Err why) mid new text after
+    (n : ℕ) × (n < count) × (mid : Kept) × (text : Option (List ℕ))
+    × AreServed n old mid before text × ServesNext (suc n) (Err why) mid new text after
 
 -- ---- the whole text
 
@@ -104,7 +115,8 @@ served_line count = codes "served " ++ (decimal count ++ codes "\n")
 -- documents
 abbrev pub IsListened : ℕ → ServerEnd → Option (List ℕ) → Option (List ℕ) → Type 0
 IsListened count (run.Served n) before after =
-    (local : List ℕ) × (store : Store) × (new : Kept) × (mid : Option (List ℕ)) × Appends before mid (listening_line local)
+    (local : List ℕ) × (store : Store) × (new : Kept) × (mid : Option (List ℕ))
+    × Appends before mid (listening_line local)
     × (store_of store ≡ empty_store) × ServesAll count (run.Served n) (kept store []) new mid after
 IsListened count why before after = Unit {0}
 
@@ -115,5 +127,7 @@ IsBegun (suc n) before after = IsListened (suc n) (run.Served (suc n)) before af
 
 -- this many connections were served, and the last line says so
 abbrev pub IsRun : ℕ → ServerEnd → Option (List ℕ) → Option (List ℕ) → Type 0
-IsRun count (run.Served n) before after = (n ≡ count) × (mid : Option (List ℕ)) × IsBegun count before mid × Appends mid after (served_line count)
+IsRun count (run.Served n) before after =
+    (n ≡ count) × (mid : Option (List ℕ)) × IsBegun count before mid
+    × Appends mid after (served_line count)
 IsRun count why before after = Unit {0}

@@ -6,7 +6,9 @@ use Rattle.wire_msg.specs.{Content, fault_text}
 use Rattle.wire_text.specs.{text_of_sequence}
 use Rattle.wire_text.specs.declared.messages.Detail.TheVariants.{Line}
 use Rattle.wire_peer.specs.declared.serving.ServeEnd.{ServeEnd}
-use Rattle.wire_peer.specs.declared.serving.ServeEnd.TheVariants.{Ended, EndedInside, Fault, Link, Budget, ReplyTooLarge, OutOfMemory, HandlerFailed}
+use Rattle.wire_peer.specs.declared.serving.ServeEnd.TheVariants.{Ended, EndedInside, Fault, Link}
+use Rattle.wire_peer.specs.declared.serving.ServeEnd.TheVariants.{Budget, ReplyTooLarge}
+use Rattle.wire_peer.specs.declared.serving.ServeEnd.TheVariants.{OutOfMemory, HandlerFailed}
 use Rattle.wire_peer.specs.{LogEntry}
 use Rattle.test_server.specs.Commands.{first_name}
 
@@ -42,4 +44,5 @@ end_text HandlerFailed = codes "end HandlerFailed\n"
 -- the transcript of a connection: its number, its entries, and how it ended
 abbrev pub connection_text : ℕ → List LogEntry → ServeEnd → List ℕ
 connection_text number entries end =
-    codes "connection " ++ (decimal number ++ (codes "\n" ++ (flat_map entry_text entries ++ end_text end)))
+    codes "connection " ++ (decimal number
+    ++ (codes "\n" ++ (flat_map entry_text entries ++ end_text end)))

@@ -2,7 +2,8 @@
 
 ghost use Rattle.std.specs.Prelude.{◌≡◌, IfOk, OnOk, OnSome, codes, map, string_bytes};
 ghost use Rattle.bson_doc.specs.{value_of, put};
-ghost use Rattle.test_server.specs.Answers.{batch_name, cursor_answer, cursor_pairs, double_one, error_pairs, inner, ok_alone, refusal_pairs, text};
+ghost use Rattle.test_server.specs.Answers.{batch_name, cursor_answer, cursor_pairs, double_one};
+ghost use Rattle.test_server.specs.Answers.{error_pairs, inner, ok_alone, refusal_pairs, text};
 
 use crate::failure::CommandError;
 use bson_doc::{Array, Bson, Document};
@@ -110,8 +111,8 @@ fn cursor_document(
     id: i64,
     namespace: String,
 ) -> Result<Document, AllocError>
-    ensures { IfOk result (λ d. d
-        ≡ cursor_pairs which (map value_of batch.items) id (string_bytes namespace)) }
+    ensures { IfOk result
+        (λ d. d ≡ cursor_pairs which (map value_of batch.items) id (string_bytes namespace)) }
 {
     let mut cursor = Document::new(alloc);
     let batch = Array::from_vec(batch);
@@ -130,8 +131,8 @@ pub fn cursor_answer(
     id: i64,
     namespace: String,
 ) -> Result<Document, AllocError>
-    ensures { IfOk result (λ d. d
-        ≡ cursor_answer which (map value_of batch.items) id (string_bytes namespace)) }
+    ensures { IfOk result
+        (λ d. d ≡ cursor_answer which (map value_of batch.items) id (string_bytes namespace)) }
 {
     let cursor = cursor_document(alloc, which, batch, id, namespace)?;
     let mut answer = Document::new(alloc);

@@ -2,7 +2,8 @@
 
 ghost use Rattle.std.specs.Prelude.{◌≡◌, IfOk, IsErrAnd, IsOkAnd, MatchResult, Some, codes, map};
 ghost use Rattle.clap.specs.Words.{FailsBy, fault_of, first_of, found_of, one_of, rows_of};
-ghost use Rattle.test_server.specs.Choices.{AsksFor, HasAddress, HasChoice, HasNumber, IsChosen, IsHeld};
+ghost use Rattle.test_server.specs.Choices.{AsksFor, HasAddress, HasChoice, HasNumber, IsChosen};
+ghost use Rattle.test_server.specs.Choices.{IsHeld};
 ghost use Rattle.test_server.specs.CommandLine.{command_line};
 
 use crate::command_line::program;

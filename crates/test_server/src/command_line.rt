@@ -2,7 +2,8 @@
 
 ghost use Rattle.std.specs.Prelude.{◌≡◌, IfOk, false};
 ghost use Rattle.clap.specs.Words.{app_of, rule_of};
-ghost use Rattle.test_server.specs.CommandLine.{address_rule, command_line, connections_rule, top_app};
+ghost use Rattle.test_server.specs.CommandLine.{address_rule, command_line, connections_rule};
+ghost use Rattle.test_server.specs.CommandLine.{top_app};
 
 use clap::{Arg, ArgAction, Command, value_parser};
 use std::alloc::{AllocError, Global};

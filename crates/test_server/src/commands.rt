@@ -11,7 +11,8 @@ ghost use Rattle.std.specs.Prelude.{◌≡◌, ◌≢◌, IfOk, OnErr};
 ghost use Rattle.bson_elem.specs.{Spells, Tree};
 ghost use Rattle.bson_raw.specs.{document_bytes};
 ghost use Rattle.wire_msg.specs.{Carries, Content};
-ghost use Rattle.test_server.specs.Commands.{IsCarriedOut, command_of, first_name, reply_to, run, unknown_pairs};
+ghost use Rattle.test_server.specs.Commands.{IsCarriedOut, command_of, first_name, reply_to, run};
+ghost use Rattle.test_server.specs.Commands.{unknown_pairs};
 ghost use Rattle.test_server.specs.Held.{store_of};
 
 use crate::answer::{error_answer, ok_alone, refusal_answer};
@@ -84,8 +85,10 @@ fn unknown_command(alloc: Global, name: &str) -> Result<Document, AllocError>
 /// Carries out a command, and returns its answer.
 fn run(command: Command, store: &mut Store, payload: Payload<'_>) -> Result<Document, Failure>
     ensures carried { (c : Content) → Carries payload.entry c
-        → IsCarriedOut (run command (store_of store.old) c) (store_of store.old) result (store_of store.new) }
-    ensures kept { OnErr result ((store_of store.new).collections ≡ (store_of store.old).collections) }
+        → IsCarriedOut (run command (store_of store.old) c) (store_of store.old) result
+        (store_of store.new) }
+    ensures kept { OnErr result
+        ((store_of store.new).collections ≡ (store_of store.old).collections) }
     ensures steady { command ≢ Command.Insert → command ≢ Command.Drop
         → (store_of store.new).collections ≡ (store_of store.old).collections }
 {
@@ -113,9 +116,11 @@ pub fn answer_to(store: &mut Store, payload: Payload<'_>) -> Result<Document, Al
     ensures answered { (c : Content) → Carries payload.entry c
         → IfOk result (λ d. reply_to (store_of store.old) c
         ≡ record { answer = d; held = store_of store.new }) }
-    ensures kept { OnErr result ((store_of store.new).collections ≡ (store_of store.old).collections) }
+    ensures kept { OnErr result
+        ((store_of store.new).collections ≡ (store_of store.old).collections) }
     ensures steady { (c : Content) → Carries payload.entry c
-        → command_of (first_name c.body) ≢ Command.Insert → command_of (first_name c.body) ≢ Command.Drop
+        → command_of (first_name c.body) ≢ Command.Insert
+        → command_of (first_name c.body) ≢ Command.Drop
         → (store_of store.new).collections ≡ (store_of store.old).collections }
 {
     let command = command_of(name_of(payload.body()));

@@ -3,7 +3,8 @@
 ghost use Rattle.std.specs.Prelude.{◌≡◌, ◌<◌, OnOk, ℕ};
 ghost use Rattle.bson_text.specs.{WritesOut};
 ghost use Rattle.wire_peer.specs.{log_of, seen};
-ghost use Rattle.test_server.specs.Serving.{IsListened, IsRun, ServesAll, ServesNext, ServesOne, kept, served_line, settled};
+ghost use Rattle.test_server.specs.Serving.{IsListened, IsRun, ServesAll, ServesNext, ServesOne};
+ghost use Rattle.test_server.specs.Serving.{kept, served_line, settled};
 
 use crate::store::Store;
 use crate::transcript::write_connection;

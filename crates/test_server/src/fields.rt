@@ -3,7 +3,8 @@
 ghost use Rattle.std.specs.Prelude.{◌≡◌, Err, MatchOption, MatchResult, None, Ok, Option, Some};
 ghost use Rattle.bson_elem.specs.{Spells, Tree};
 ghost use Rattle.bson_raw.specs.{Shows, ShowsFound, TreeValue, document_bytes, first_named};
-ghost use Rattle.test_server.specs.Fields.{batch_size, count_of, id_field, id_of, namespace_at, text_field, text_of};
+ghost use Rattle.test_server.specs.Fields.{batch_size, count_of, id_field, id_of, namespace_at};
+ghost use Rattle.test_server.specs.Fields.{text_field, text_of};
 ghost use Rattle.test_server.specs.Held.{namespace_of};
 
 use crate::failure::CommandError;
@@ -68,7 +69,8 @@ pub fn text_field<'a>(
     }
 }
 
-/// Returns the namespace that a command names: its database, and its collection in the field `name`.
+/// Returns the namespace that a command names: its database, and its collection in the field
+/// `name`.
 ///
 /// # Errors
 ///

@@ -5,7 +5,8 @@ ghost use Rattle.std.specs.Prelude.{◌≡◌, IfErr, IfOk, MatchOption, None, O
 ghost use Rattle.bson_elem.specs.{Spells, Tree};
 ghost use Rattle.bson_raw.specs.{ShowsFound, TreeValue, Shows, document_bytes, first_named};
 ghost use Rattle.bson_doc.specs.{value_of, tree_of};
-ghost use Rattle.test_server.specs.Filters.{filter_field, filter_of, found, has_fields, has_operator, is_operator, is_operators, matches};
+ghost use Rattle.test_server.specs.Filters.{filter_field, filter_of, found, has_fields};
+ghost use Rattle.test_server.specs.Filters.{has_operator, is_operator, is_operators, matches};
 ghost use Rattle.test_server.specs.Errors.{IsFailure};
 
 use crate::failure::{CommandError, Failure};
@@ -20,7 +21,8 @@ fn is_operator(name: &str) -> bool
     name.as_bytes().first() == Some(&b'$')
 }
 
-/// Returns true if a value is an operator with its operands: a document whose first name is that of an operator.
+/// Returns true if a value is an operator with its operands: a document whose first name is that
+/// of an operator.
 fn is_operators(value: RawBson<'_>) -> bool
     ensures { (v : TreeValue) → Shows value.entry v → result ≡ is_operators v }
 {

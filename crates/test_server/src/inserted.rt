@@ -6,7 +6,8 @@ ghost use Rattle.bson_raw.specs.{Shows, TreeValue, array_bytes, document_bytes, 
 ghost use Rattle.bson_doc.specs.{value_of};
 ghost use Rattle.wire_msg.specs.{Carries, Content, DocumentsAre, Sequence};
 ghost use Rattle.test_server.specs.Errors.{IsFailure};
-ghost use Rattle.test_server.specs.Inserted.{Appended, in_array, in_field, in_sequence, in_sequences, alone, brought, inserted, kept_value};
+ghost use Rattle.test_server.specs.Inserted.{Appended, in_array, in_field, in_sequence};
+ghost use Rattle.test_server.specs.Inserted.{in_sequences, alone, brought, inserted, kept_value};
 
 use crate::failure::{CommandError, Failure};
 use bson_doc::{Bson, DocRefusal, Document};
@@ -24,7 +25,8 @@ fn push_document(
     documents: &mut Vec<Bson>,
 ) -> Result<(), Failure>
     ensures { (t : Tree) → Spells t (document_bytes document.entry)
-        → Appended (map value_of documents.old.items) (in_sequence (t ∷ [])) result (map value_of documents.new.items) }
+        → Appended (map value_of documents.old.items) (in_sequence (t ∷ [])) result
+        (map value_of documents.new.items) }
 {
     match Document::from_raw(alloc, document) {
         Ok(document) => match documents.push(Bson::Document(document)) {
@@ -39,7 +41,8 @@ fn push_document(
 /// Appends a value, which must be a document.
 fn push_value(alloc: Global, value: RawBson<'_>, documents: &mut Vec<Bson>) -> Result<(), Failure>
     ensures { (v : TreeValue) → Shows value.entry v
-        → Appended (map value_of documents.old.items) (alone (kept_value v)) result (map value_of documents.new.items) }
+        → Appended (map value_of documents.old.items) (alone (kept_value v)) result
+        (map value_of documents.new.items) }
 {
     match value {
         RawBson::Document(document) => push_document(alloc, document, documents),
@@ -50,7 +53,8 @@ fn push_value(alloc: Global, value: RawBson<'_>, documents: &mut Vec<Bson>) -> R
 /// Appends the values of an array, which must be documents.
 fn push_array(alloc: Global, array: RawArray<'_>, documents: &mut Vec<Bson>) -> Result<(), Failure>
     ensures { (t : Tree) → Spells t (array_bytes array.entry)
-        → Appended (map value_of documents.old.items) (in_array t) result (map value_of documents.new.items) }
+        → Appended (map value_of documents.old.items) (in_array t) result
+        (map value_of documents.new.items) }
 {
     for value in array.iter() {
         push_value(alloc, value, documents)?;
@@ -65,7 +69,8 @@ fn push_sequence(
     documents: &mut Vec<Bson>,
 ) -> Result<(), Failure>
     ensures { (ts : List Tree) → DocumentsAre sequence.entry ts
-        → Appended (map value_of documents.old.items) (in_sequence ts) result (map value_of documents.new.items) }
+        → Appended (map value_of documents.old.items) (in_sequence ts) result
+        (map value_of documents.new.items) }
 {
     for document in sequence.iter() {
         push_document(alloc, document, documents)?;
@@ -80,8 +85,10 @@ fn push_brought(
     sequence: Documents<'_>,
     documents: &mut Vec<Bson>,
 ) -> Result<(), Failure>
-    ensures { (q : Sequence) → identifier.now ≡ q.identifier → DocumentsAre sequence.entry q.documents
-        → Appended (map value_of documents.old.items) (brought q) result (map value_of documents.new.items) }
+    ensures { (q : Sequence) → identifier.now ≡ q.identifier
+        → DocumentsAre sequence.entry q.documents
+        → Appended (map value_of documents.old.items) (brought q) result
+        (map value_of documents.new.items) }
 {
     if identifier == "documents" {
         push_sequence(alloc, sequence, documents)
@@ -97,7 +104,8 @@ fn push_sequences(
     documents: &mut Vec<Bson>,
 ) -> Result<(), Failure>
     ensures { (c : Content) → Carries payload.entry c
-        → Appended (map value_of documents.old.items) (in_sequences c.sequences) result (map value_of documents.new.items) }
+        → Appended (map value_of documents.old.items) (in_sequences c.sequences) result
+        (map value_of documents.new.items) }
 {
     for (identifier, sequence) in payload.sequences() {
         push_brought(alloc, identifier, sequence, documents)?;
@@ -108,7 +116,9 @@ fn push_sequences(
 /// Appends the documents of an insert.
 fn push_all(alloc: Global, payload: Payload<'_>, documents: &mut Vec<Bson>) -> Result<(), Failure>
     ensures { (c : Content) → Carries payload.entry c
-        → Appended (map value_of documents.old.items) (in_field c.sequences (first_named (codes "documents") c.body)) result (map value_of documents.new.items) }
+        → Appended (map value_of documents.old.items)
+        (in_field c.sequences (first_named (codes "documents") c.body)) result
+        (map value_of documents.new.items) }
 {
     match payload.body().get("documents") {
         None => push_sequences(alloc, payload, documents),

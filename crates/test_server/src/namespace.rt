@@ -1,7 +1,8 @@
 //! Names a database and a collection in it: a namespace.
 
 ghost use Rattle.std.specs.Prelude.{◌≡◌, ◌++◌, codes, IfOk, string_bytes};
-ghost use Rattle.test_server.specs.Held.{is_same_namespace, namespace_buf, namespace_of, namespace_text};
+ghost use Rattle.test_server.specs.Held.{is_same_namespace, namespace_buf, namespace_of};
+ghost use Rattle.test_server.specs.Held.{namespace_text};
 
 use std::alloc::{AllocError, Global};
 
@@ -58,7 +59,8 @@ impl Namespace<'_> {
 impl NamespaceBuf {
     /// Returns true if the names are those of `namespace`.
     pub fn is(&self, namespace: Namespace<'_>) -> bool
-        ensures { result ≡ is_same_namespace (namespace_of namespace.entry) (namespace_buf self.now) }
+        ensures { result ≡ is_same_namespace (namespace_of namespace.entry)
+            (namespace_buf self.now) }
     {
         self.database.as_str() == namespace.database
             && self.collection.as_str() == namespace.collection

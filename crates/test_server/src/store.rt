@@ -1,8 +1,12 @@
 //! Holds documents by namespace, and the cursors over what was found.
 
-ghost use Rattle.std.specs.Prelude.{◌≡◌, ◌≤◌, ◌<◌, IfErr, IfOk, MatchOption, None, OnErr, OnOk, Some, drop, length, map, take};
+ghost use Rattle.std.specs.Prelude.{◌≡◌, ◌≤◌, ◌<◌, IfErr, IfOk, MatchOption, None, OnErr, OnOk};
+ghost use Rattle.std.specs.Prelude.{Some, drop, length, map, take};
 ghost use Rattle.bson_doc.specs.{value_of};
-ghost use Rattle.test_server.specs.Held.{collection_index, collection_of, cursor_index, cursor_of, documents_in, empty_store, id_if_left, namespace_of, open_at, opened, opened_id, store_of, with_documents, with_left, without_collection};
+ghost use Rattle.test_server.specs.Held.{collection_index, collection_of, cursor_index, cursor_of};
+ghost use Rattle.test_server.specs.Held.{documents_in, empty_store, id_if_left, namespace_of};
+ghost use Rattle.test_server.specs.Held.{open_at, opened, opened_id, store_of, with_documents};
+ghost use Rattle.test_server.specs.Held.{with_left, without_collection};
 ghost use Rattle.test_server.specs.Taking.{IsNextBatch, IsOpenAt};
 
 use crate::failure::{CommandError, Failure};
@@ -40,7 +44,8 @@ pub struct Store {
 
 /// Returns the index of the first collection with this namespace.
 fn index_of(collections: &[Collection], namespace: Namespace<'_>) -> Option<usize>
-    ensures { result ≡ collection_index (namespace_of namespace.entry) (map collection_of collections.now) }
+    ensures { result ≡ collection_index (namespace_of namespace.entry)
+        (map collection_of collections.now) }
 {
     for (i, collection) in collections.iter().enumerate() {
         if collection.namespace.is(namespace) {
@@ -88,8 +93,10 @@ impl Store {
         mut documents: Vec<Bson>,
     ) -> Result<(), AllocError>
         ensures inserted { OnOk result ((store_of self.new).collections
-            ≡ with_documents (namespace_of namespace.entry) (map value_of documents.items) (store_of self.old).collections) }
-        ensures unchanged { OnErr result ((store_of self.new).collections ≡ (store_of self.old).collections) }
+            ≡ with_documents (namespace_of namespace.entry) (map value_of documents.items)
+            (store_of self.old).collections) }
+        ensures unchanged { OnErr result
+            ((store_of self.new).collections ≡ (store_of self.old).collections) }
         ensures cursors { (store_of self.new).cursors ≡ (store_of self.old).cursors }
     {
         match index_of(&self.collections, namespace) {
@@ -112,11 +119,14 @@ impl Store {
     ///
     /// Returns `NamespaceNotFound` if it has none.
     pub fn drop_collection(&mut self, namespace: Namespace<'_>) -> Result<(), CommandError>
-        ensures dropped { OnOk result (without_collection (namespace_of namespace.entry) (store_of self.old).collections
+        ensures dropped { OnOk result
+            (without_collection (namespace_of namespace.entry) (store_of self.old).collections
             ≡ Some (store_of self.new).collections) }
         ensures none { IfErr result (λ e. (e ≡ CommandError.NamespaceNotFound)
-            × (without_collection (namespace_of namespace.entry) (store_of self.old).collections ≡ None)) }
-        ensures unchanged { OnErr result ((store_of self.new).collections ≡ (store_of self.old).collections) }
+            × (without_collection (namespace_of namespace.entry) (store_of self.old).collections
+            ≡ None)) }
+        ensures unchanged { OnErr result
+            ((store_of self.new).collections ≡ (store_of self.old).collections) }
         ensures cursors { (store_of self.new).cursors ≡ (store_of self.old).cursors }
     {
         match index_of(&self.collections, namespace) {
@@ -139,10 +149,13 @@ impl Store {
         namespace: Namespace<'_>,
         left: Vec<Bson>,
     ) -> Result<i64, AllocError>
-        ensures id { IfOk result (λ id. id ≡ opened_id (map value_of left.items) (store_of self.old).cursors) }
+        ensures id { IfOk result
+            (λ id. id ≡ opened_id (map value_of left.items) (store_of self.old).cursors) }
         ensures opened { OnOk result ((store_of self.new).cursors
-            ≡ opened (namespace_of namespace.entry) (map value_of left.items) (store_of self.old).cursors) }
-        ensures unchanged { OnErr result ((store_of self.new).cursors ≡ (store_of self.old).cursors) }
+            ≡ opened (namespace_of namespace.entry) (map value_of left.items)
+            (store_of self.old).cursors) }
+        ensures unchanged { OnErr result
+            ((store_of self.new).cursors ≡ (store_of self.old).cursors) }
         ensures collections { (store_of self.new).collections ≡ (store_of self.old).collections }
     {
         if left.is_empty() {
@@ -157,7 +170,8 @@ impl Store {
     /// Returns the index of the open cursor with this id and this namespace.
     fn open_cursor_index(&self, id: i64, namespace: Namespace<'_>) -> Option<usize>
         ensures { MatchOption result
-            (open_at (namespace_of namespace.entry) (cursor_index id) (store_of self.now).cursors ≡ None)
+            (open_at (namespace_of namespace.entry) (cursor_index id) (store_of self.now).cursors
+            ≡ None)
             (λ i. IsOpenAt (namespace_of namespace.entry) id self.now.cursors.items i) }
     {
         let index = index_of_id(id)?;
@@ -217,7 +231,8 @@ impl Store {
         namespace: Namespace<'_>,
         count: usize,
     ) -> Result<(Vec<Bson>, i64), Failure>
-        ensures cursors { IsNextBatch (namespace_of namespace.entry) id count (store_of self.old).cursors result
+        ensures cursors { IsNextBatch (namespace_of namespace.entry) id count
+            (store_of self.old).cursors result
             (store_of self.new).cursors }
         ensures collections { (store_of self.new).collections ≡ (store_of self.old).collections }
     {

@@ -4,7 +4,8 @@ ghost use Rattle.std.specs.Prelude.{◌≡◌, OnOk, codes, flat_map, map};
 ghost use Rattle.bson_text.specs.{WritesOut};
 ghost use Rattle.wire_msg.specs.{Carries, Content};
 ghost use Rattle.wire_peer.specs.{buf_content, entry_of, log_of, outcome_of};
-ghost use Rattle.test_server.specs.Transcript.{answer_text, connection_text, end_text, entry_text, outcome_text, payload_text, request_text};
+ghost use Rattle.test_server.specs.Transcript.{answer_text, connection_text, end_text, entry_text};
+ghost use Rattle.test_server.specs.Transcript.{outcome_text, payload_text, request_text};
 
 use crate::commands::name_of;
 use bson_text::{dump_to, quoted_to};

@@ -1,10 +1,13 @@
 -- What an owned payload carries, what is added to it, and why one isn't made or nothing is added.
-use Rattle.std.specs.Prelude.{◌≡◌, ◌≢◌, ℕ, ◌^◌, ◌<◌, ◌≤◌, List, [], ◌∷◌, ◌++◌, true, false, None, Contains}
+use Rattle.std.specs.Prelude.{◌≡◌, ◌≢◌, ℕ, ◌^◌, ◌<◌, ◌≤◌, List, [], ◌∷◌, ◌++◌, true, false, None}
+use Rattle.std.specs.Prelude.{Contains}
 use Rattle.bson_elem.specs.{HasNoZero, Tree}
 use Rattle.bson_raw.specs.{first_repeated}
 use Rattle.wire_msg.specs.declared.payload_buf.PayloadBuf.{PayloadBuf}
 use Rattle.wire_msg.specs.declared.refusal.MsgRefusal.{MsgRefusal}
-use Rattle.wire_msg.specs.declared.refusal.MsgRefusal.TheVariants.{TooLarge, RepeatedField, SequenceInBody, ZeroInName, NoSequence, OutOfMemory}
+use Rattle.wire_msg.specs.declared.refusal.MsgRefusal.TheVariants.{TooLarge, RepeatedField}
+use Rattle.wire_msg.specs.declared.refusal.MsgRefusal.TheVariants.{SequenceInBody, ZeroInName}
+use Rattle.wire_msg.specs.declared.refusal.MsgRefusal.TheVariants.{NoSequence, OutOfMemory}
 use Rattle.wire_msg.specs.Messages.{Sequence, Content, is_field}
 use Rattle.wire_msg.specs.Spelling.{message_len}
 use Rattle.wire_msg.specs.Payload.{AreParts}

@@ -28,5 +28,6 @@ pub record GivesDocument (ts : List Tree) (d : RawDocument) (after : DocumentsIt
 
 -- Whatever documents are left, the first of them is returned; or there is none, and none is left.
 abbrev pub DocumentStepsTo : DocumentsIter → Option RawDocument → DocumentsIter → Type 0
-DocumentStepsTo s None after = (ts : List Tree) → DocumentsLeft s ts → (ts ≡ []) × DocumentsLeft after []
+DocumentStepsTo s None after =
+    (ts : List Tree) → DocumentsLeft s ts → (ts ≡ []) × DocumentsLeft after []
 DocumentStepsTo s (Some d) after = (ts : List Tree) → DocumentsLeft s ts → GivesDocument ts d after

@@ -12,14 +12,16 @@ use Rattle.wire_msg.specs.Standing.{IsOpen, IsBad}
 
 -- the bytes that a good header announces and the rest, too few bytes, or a header's fault
 abbrev pub IsFrame : ℕ → List ℕ → Frame → Type 0
-IsFrame limit bytes (frames.Whole message rest) = (bytes ≡ message.now ++ rest.now) × IsFramedMsg limit message.now
+IsFrame limit bytes (frames.Whole message rest) =
+    (bytes ≡ message.now ++ rest.now) × IsFramedMsg limit message.now
 IsFrame limit bytes frames.Open = IsOpen limit bytes
 IsFrame limit bytes (frames.Bad f) = (16 ≤ length bytes) × HeaderFault limit (header_of bytes) f
 
 -- a message within the limit and the rest after it, too few bytes, or a fault at an offset in the
 -- bytes
 abbrev pub IsFront : ℕ → List ℕ → MsgFront → Type 0
-IsFront limit bytes (Whole message rest) = (bytes ≡ msg_bytes message ++ rest.now) × IsMessage limit (msg_bytes message)
+IsFront limit bytes (Whole message rest) =
+    (bytes ≡ msg_bytes message ++ rest.now) × IsMessage limit (msg_bytes message)
 IsFront limit bytes Open = IsOpen limit bytes
 IsFront limit bytes (Bad f) = IsBad limit bytes f × (f.at ≤ length bytes)
 

@@ -6,11 +6,14 @@ use Rattle.wire_msg.specs.Spelling.{sequence_section, sequences_bytes}
 
 -- the bytes begin with a document sequence
 abbrev pub BeginsSequence : List ℕ → Type 0
-BeginsSequence bytes = (q : Sequence) × (rest : List ℕ) × IsSequence q × (bytes ≡ sequence_section q ++ rest)
+BeginsSequence bytes =
+    (q : Sequence) × (rest : List ℕ) × IsSequence q × (bytes ≡ sequence_section q ++ rest)
 
 -- These are the identifier and the documents of a sequence, and what follows it.
 abbrev pub ArePartsOf : List ℕ → List ℕ → List ℕ → Sequence → List Sequence → Type 0
-ArePartsOf identifier documents rest q others = (identifier ≡ q.identifier) × (documents ≡ documents_bytes q.documents) × (rest ≡ sequences_bytes others)
+ArePartsOf identifier documents rest q others =
+    (identifier ≡ q.identifier) × (documents ≡ documents_bytes q.documents)
+    × (rest ≡ sequences_bytes others)
 
 -- These are the sequences of one run of bytes, and then those of another.
 pub record AreRuns (bytes then : List ℕ) (qs : List Sequence) : Type 0 where
@@ -30,4 +33,5 @@ last_offset (q ∷ r ∷ qs) = length (sequence_section q) + last_offset (r ∷ 
 
 -- whatever sequences the bytes are, the last of them begins at this offset
 abbrev pub IsLastOffset : List ℕ → ℕ → Type 0
-IsLastOffset bytes offset = (qs : List Sequence) → AreSequences qs → bytes ≡ sequences_bytes qs → offset ≡ last_offset qs
+IsLastOffset bytes offset =
+    (qs : List Sequence) → AreSequences qs → bytes ≡ sequences_bytes qs → offset ≡ last_offset qs

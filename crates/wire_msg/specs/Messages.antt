@@ -1,7 +1,8 @@
 -- A message as a value (MongoDB Wire Protocol manual: OP_MSG).
 use Rattle.std.specs.Prelude.{◌≡◌, ℕ, ℤ, ◌+◌, ◌^◌, ◌<◌, List, [], ◌∷◌, length, Bool, false, None}
 use Rattle.bson_elem.specs.{IsName, Tree, cstring}
-use Rattle.bson_raw.specs.{AreDocuments, IsDocument, documents_bytes, first_repeated, is_among, names_of}
+use Rattle.bson_raw.specs.{AreDocuments, IsDocument, documents_bytes, first_repeated, is_among}
+use Rattle.bson_raw.specs.{names_of}
 use Rattle.wire_msg.specs.declared.flags.MsgFlags.{MsgFlags}
 
 -- a document sequence: its identifier, and its documents in order

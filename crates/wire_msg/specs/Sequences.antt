@@ -16,7 +16,8 @@ abbrev pub sequences_bound : SequencesIter → ℕ
 sequences_bound s = length s.bytes.now + length s.then.now
 
 -- The first sequence has this identifier and these documents, and the others are left.
-pub record GivesSequence (qs : List Sequence) (identifier : List ℕ) (documents : Documents) (after : SequencesIter) : Type 0 where
+pub record GivesSequence (qs : List Sequence) (identifier : List ℕ) (documents : Documents)
+    (after : SequencesIter) : Type 0 where
   pub sequence : Sequence
   pub others : List Sequence
   pub is_first : qs ≡ sequence ∷ others
@@ -25,6 +26,9 @@ pub record GivesSequence (qs : List Sequence) (identifier : List ℕ) (documents
   pub left : SequencesLeft after others
 
 -- Whatever sequences are left, the first of them is returned; or there is none, and none is left.
-abbrev pub SequenceStepsTo : SequencesIter → Option (Bor (List ℕ) × Documents) → SequencesIter → Type 0
-SequenceStepsTo s None after = (qs : List Sequence) → SequencesLeft s qs → (qs ≡ []) × SequencesLeft after []
-SequenceStepsTo s (Some x) after = (qs : List Sequence) → SequencesLeft s qs → GivesSequence qs x.0.now x.1 after
+abbrev pub SequenceStepsTo : SequencesIter → Option (Bor (List ℕ) × Documents) → SequencesIter
+    → Type 0
+SequenceStepsTo s None after =
+    (qs : List Sequence) → SequencesLeft s qs → (qs ≡ []) × SequencesLeft after []
+SequenceStepsTo s (Some x) after =
+    (qs : List Sequence) → SequencesLeft s qs → GivesSequence qs x.0.now x.1 after

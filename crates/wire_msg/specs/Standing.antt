@@ -10,7 +10,8 @@ use Rattle.wire_msg.specs.Faults.{FaultMsg}
 -- There are fewer bytes than a header has, or than a good header announces.
 pub data IsOpen : ℕ → List ℕ → Type 0 where
   in_header : {limit : ℕ} {bytes : List ℕ} → length bytes < 16 → IsOpen limit bytes
-  in_message : {limit : ℕ} {bytes : List ℕ} → 16 ≤ length bytes → IsGoodHeader limit (header_of bytes) → length bytes < number_at bytes 0 → IsOpen limit bytes
+  in_message : {limit : ℕ} {bytes : List ℕ} → 16 ≤ length bytes
+      → IsGoodHeader limit (header_of bytes) → length bytes < number_at bytes 0 → IsOpen limit bytes
 
 -- The bytes are a message within the limit, and the rest after it.
 pub record IsWhole (limit : ℕ) (bytes : List ℕ) (m : Message) (rest : List ℕ) : Type 0 where
@@ -21,8 +22,11 @@ pub record IsWhole (limit : ℕ) (bytes : List ℕ) (m : Message) (rest : List �
 
 -- The header has this fault, or the bytes that a good header announces have it.
 pub data IsBad : ℕ → List ℕ → MsgFault → Type 0 where
-  bad_header : {limit : ℕ} {bytes : List ℕ} {f : MsgFault} → 16 ≤ length bytes → HeaderFault limit (header_of bytes) f → IsBad limit bytes f
-  bad_message : {limit : ℕ} {bytes : List ℕ} {f : MsgFault} → 16 ≤ length bytes → IsGoodHeader limit (header_of bytes) → number_at bytes 0 ≤ length bytes → FaultMsg (take (number_at bytes 0) bytes) limit f → IsBad limit bytes f
+  bad_header : {limit : ℕ} {bytes : List ℕ} {f : MsgFault} → 16 ≤ length bytes
+      → HeaderFault limit (header_of bytes) f → IsBad limit bytes f
+  bad_message : {limit : ℕ} {bytes : List ℕ} {f : MsgFault} → 16 ≤ length bytes
+      → IsGoodHeader limit (header_of bytes) → number_at bytes 0 ≤ length bytes
+      → FaultMsg (take (number_at bytes 0) bytes) limit f → IsBad limit bytes f
 
 -- the bytes are one of the three
 pub data Stands (limit : ℕ) (bytes : List ℕ) : Type 0 where

@@ -1,7 +1,8 @@
 //! Appends a document sequence after others, and a document to the last of them (MongoDB Wire
 //! Protocol manual: OP_MSG, sections of kind 1).
 
-ghost use Rattle.std.specs.Prelude.{◌≡◌, ◌+◌, ◌-◌, ◌≤◌, ◌<◌, ◌^◌, ◌++◌, [], length, take, drop, vec_len, OnOk, OnErr};
+ghost use Rattle.std.specs.Prelude.{◌≡◌, ◌+◌, ◌-◌, ◌≤◌, ◌<◌, ◌^◌, ◌++◌, [], length, take, drop};
+ghost use Rattle.std.specs.Prelude.{vec_len, OnOk, OnErr};
 ghost use Rattle.bson_elem.specs.{little};
 ghost use Rattle.wire_msg.specs.Spelling.{sequence_section};
 ghost use Rattle.wire_msg.specs.Buf.{empty_sequence};

@@ -1,7 +1,8 @@
 //! Proves the laws of the format, which everything that cuts bytes into messages needs. The
 //! contract of each function is the law.
 
-ghost use Rattle.std.specs.Prelude.{◌≡◌, ◌≢◌, ◌<◌, ◌≤◌, ◌^◌, ◌++◌, ◌∷◌, ◌⊎◌, [], ℕ, FitsSigned, List, length, take};
+ghost use Rattle.std.specs.Prelude.{◌≡◌, ◌≢◌, ◌<◌, ◌≤◌, ◌^◌, ◌++◌, ◌∷◌, ◌⊎◌, [], ℕ, FitsSigned};
+ghost use Rattle.std.specs.Prelude.{List, length, take};
 ghost use Rattle.std.specs.Int.{w32};
 ghost use Rattle.bson_elem.specs.{IsBytes};
 ghost use Rattle.wire_msg.specs.declared.fault.MsgFault.{MsgFault};

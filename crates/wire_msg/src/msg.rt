@@ -1,6 +1,7 @@
 //! Reads a message, borrowed from its bytes (MongoDB Wire Protocol manual: OP_MSG).
 
-ghost use Rattle.std.specs.Prelude.{◌≡◌, ◌+◌, ◌<◌, ◌≤◌, ◌^◌, ℕ, length, MatchResult, IfOk, IfErr, IsOk, IsErrOf};
+ghost use Rattle.std.specs.Prelude.{◌≡◌, ◌+◌, ◌<◌, ◌≤◌, ◌^◌, ℕ, length, MatchResult, IfOk, IfErr};
+ghost use Rattle.std.specs.Prelude.{IsOk, IsErrOf};
 ghost use Rattle.bson_elem.specs.{document, elements};
 ghost use Rattle.bson_raw.specs.{document_bytes};
 ghost use Rattle.wire_msg.specs.declared.fault.MsgFault.{MsgFault};
@@ -224,14 +225,16 @@ impl<'a> RawMsg<'a> {
 
     /// Returns moreToCome: on a request, no reply is wanted; on a reply, another one follows.
     pub fn more_to_come(self) -> bool
-        ensures { (m : Message) → SpellsMsg m (msg_bytes self.entry) → result ≡ m.flags.more_to_come }
+        ensures { (m : Message) → SpellsMsg m (msg_bytes self.entry)
+            → result ≡ m.flags.more_to_come }
     {
         self.flags().more_to_come
     }
 
     /// Returns exhaustAllowed: more than one reply may be sent to this request.
     pub fn exhaust_allowed(self) -> bool
-        ensures { (m : Message) → SpellsMsg m (msg_bytes self.entry) → result ≡ m.flags.exhaust_allowed }
+        ensures { (m : Message) → SpellsMsg m (msg_bytes self.entry)
+            → result ≡ m.flags.exhaust_allowed }
     {
         self.flags().exhaust_allowed
     }

@@ -1,6 +1,7 @@
 //! Checks document sequences (MongoDB Wire Protocol manual: OP_MSG, sections of kind 1).
 
-ghost use Rattle.std.specs.Prelude.{◌≡◌, ◌+◌, ◌<◌, ◌≤◌, ◌^◌, length, drop, MatchOption, MatchResult, IfErr};
+ghost use Rattle.std.specs.Prelude.{◌≡◌, ◌+◌, ◌<◌, ◌≤◌, ◌^◌, length, drop, MatchOption};
+ghost use Rattle.std.specs.Prelude.{MatchResult, IfErr};
 ghost use Rattle.wire_msg.specs.Header.{number_at};
 ghost use Rattle.wire_msg.specs.Causes.{msg_fault};
 ghost use Rattle.wire_msg.specs.Faults.{DocumentsFault, IsSized, SequenceFault};

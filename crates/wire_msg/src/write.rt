@@ -38,8 +38,8 @@ fn write_i32(n: i32, out: &mut Vec<u8>) -> Result<(), AllocError>
 
 /// Appends the header of a message of `len` bytes.
 fn write_header(len: u32, id: i32, response_to: i32, out: &mut Vec<u8>) -> Result<(), AllocError>
-    ensures added { OnOk result (out.new.items
-        ≡ out.old.items ++ header_bytes len id response_to) }
+    ensures added { OnOk result
+        (out.new.items ≡ out.old.items ++ header_bytes len id response_to) }
     ensures kept { OnErr result (StartsWith out.new.items out.old.items) }
 {
     write_u32(len, out)?;

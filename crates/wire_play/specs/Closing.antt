@@ -1,5 +1,6 @@
 -- What a script's run writes at its end: the calls with their parts, and the entries of the log.
-use Rattle.std.specs.Prelude.{ℕ, ◌+◌, Bool, true, false, Option, None, Some, List, [], ◌∷◌, ◌++◌, codes, flat_map, length}
+use Rattle.std.specs.Prelude.{ℕ, ◌+◌, Bool, true, false, Option, None, Some, List, [], ◌∷◌, ◌++◌}
+use Rattle.std.specs.Prelude.{codes, flat_map, length}
 use Rattle.std.specs.Fmt.{decimal}
 use Rattle.hex.specs.Hex.{encode_lower}
 use Rattle.bson_elem.specs.{document, elements}
@@ -36,7 +37,11 @@ state_word Foreign = codes "foreign"
 -- its parts
 abbrev pub call_line : ℕ → Record → List ℕ
 call_line k r =
-    codes "call " ++ (decimal k ++ (codes " connection " ++ (decimal r.connection ++ (codes " " ++ (kind_word r.asked.exhaust_allowed r.asked.more_to_come ++ (codes " " ++ (state_word r.state ++ (codes " " ++ (decimal (length r.parts) ++ codes "\n")))))))))
+    codes "call " ++ (decimal k ++ (codes " connection "
+    ++ (decimal r.connection ++ (codes " "
+    ++ (kind_word r.asked.exhaust_allowed r.asked.more_to_come
+    ++ (codes " " ++ (state_word r.state
+    ++ (codes " " ++ (decimal (length r.parts) ++ codes "\n")))))))))
 
 abbrev pub part_line : Content → List ℕ
 part_line c = codes "part " ++ (body_hex c ++ codes "\n")
@@ -58,7 +63,9 @@ body_text c = codes " body " ++ (body_hex c ++ codes "\n")
 -- the line of an entry: its number, its connection, its outcome, and the request's body
 abbrev pub entry_line : ℕ → LogEntry → List ℕ
 entry_line e entry =
-    codes "entry " ++ (decimal e ++ (codes " connection " ++ (decimal entry.connection ++ (outcome_text entry.answers ++ body_text entry.payload))))
+    codes "entry " ++ (decimal e
+    ++ (codes " connection " ++ (decimal entry.connection
+    ++ (outcome_text entry.answers ++ body_text entry.payload))))
 
 -- ---- both
 
@@ -66,4 +73,5 @@ entry_line e entry =
 abbrev pub closing_text : {H : Type 0} → World H → List ℕ
 closing_text w =
     codes "calls " ++ (decimal (length w.calls) ++ (codes "\n" ++ (numbered call_text 0 w.calls
-    ++ (codes "entries " ++ (decimal (length w.log) ++ (codes "\n" ++ numbered entry_line 0 w.log))))))
+    ++ (codes "entries " ++ (decimal (length w.log)
+    ++ (codes "\n" ++ numbered entry_line 0 w.log))))))

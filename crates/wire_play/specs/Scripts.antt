@@ -1,5 +1,6 @@
 -- What a script writes. Its lines name the events of a world, one after another.
-use Rattle.std.specs.Prelude.{◌≡◌, ◌≢◌, ℕ, ◌⊎◌, List, [], ◌∷◌, ◌++◌, codes, flat_map, Option, None, Some, Result, Err}
+use Rattle.std.specs.Prelude.{◌≡◌, ◌≢◌, ℕ, ◌⊎◌, List, [], ◌∷◌, ◌++◌, codes, flat_map, Option, None}
+use Rattle.std.specs.Prelude.{Some, Result, Err}
 use Rattle.std.specs.Io.KnownBytes.{Appends}
 use Rattle.wire_peer.specs.declared.counting.Count.{Count as CountHandler}
 use Rattle.wire_peer.specs.declared.echoing.Echo.{Echo as EchoHandler}
@@ -26,7 +27,9 @@ NamesNoEvent line = (e : Event) → Names line (event e) → ⊥
 
 -- the line names an event, which happens with this result; a result that says memory ran out has
 -- no text here
-pub record LineHappens {H : Type 0} (does : Does H) (stop : Stops H) (l : WorldLimits) (old : World H) (line : List ℕ) (result : Result Report WorldRefusal) (new : World H) : Type 0 where
+pub record LineHappens {H : Type 0} (does : Does H) (stop : Stops H) (l : WorldLimits)
+    (old : World H) (line : List ℕ) (result : Result Report WorldRefusal)
+    (new : World H) : Type 0 where
   pub what : Event
   pub named : Names line (event what)
   pub happens : Happens does stop l old what result new
@@ -35,10 +38,12 @@ pub record LineHappens {H : Type 0} (does : Does H) (stop : Stops H) (l : WorldL
 -- Line after line, the event that the line names happens, from the old world to the new one and
 -- with these results, up to the first line that names no event, if there is one. That line is at
 -- fault.
-abbrev pub Plays : {H : Type 0} → Does H → Stops H → WorldLimits → World H → List (ℕ × List ℕ) → List (Result Report WorldRefusal) → World H → Option ℕ → Type 0
+abbrev pub Plays : {H : Type 0} → Does H → Stops H → WorldLimits → World H → List (ℕ × List ℕ)
+    → List (Result Report WorldRefusal) → World H → Option ℕ → Type 0
 Plays does stop l old [] results new fault = (results ≡ []) × (new ≡ old) × (fault ≡ None)
 Plays {H} does stop l old (line ∷ lines) results new fault =
-    ((mid : World H) × (result : Result Report WorldRefusal) × (others : List (Result Report WorldRefusal)) × LineHappens does stop l old line.1 result mid
+    ((mid : World H) × (result : Result Report WorldRefusal)
+    × (others : List (Result Report WorldRefusal)) × LineHappens does stop l old line.1 result mid
     × Plays does stop l mid lines others new fault × (results ≡ result ∷ others))
     ⊎ (NamesNoEvent line.1 × (results ≡ []) × (new ≡ old) × (fault ≡ Some line.0))
 
@@ -50,13 +55,16 @@ ending w None = closing_text w
 ending w (Some line) = []
 
 -- the text of a world: its own line, one for each result, and the lists at the end
-abbrev pub world_text : {H : Type 0} → List (Result Report WorldRefusal) → World H → Option ℕ → List ℕ
+abbrev pub world_text : {H : Type 0} → List (Result Report WorldRefusal) → World H → Option ℕ
+    → List ℕ
 world_text results w fault = codes "world\n" ++ (flat_map result_line results ++ ending w fault)
 
 -- the text of lines that are played in this world
-abbrev pub PlaysIn : {H : Type 0} → Does H → Stops H → WorldLimits → World H → List (ℕ × List ℕ) → List ℕ → Option ℕ → Type 0
+abbrev pub PlaysIn : {H : Type 0} → Does H → Stops H → WorldLimits → World H → List (ℕ × List ℕ)
+    → List ℕ → Option ℕ → Type 0
 PlaysIn {H} does stop l old lines text fault =
-    (results : List (Result Report WorldRefusal)) × (new : World H) × Plays does stop l old lines results new fault × (text ≡ world_text results new fault)
+    (results : List (Result Report WorldRefusal)) × (new : World H)
+    × Plays does stop l old lines results new fault × (text ≡ world_text results new fault)
 
 -- ---- handlers
 
@@ -76,8 +84,10 @@ count_stops h a stop h' = stop ≡ stops.OutOfMemory
 
 -- the text of lines in a new world over this handler
 abbrev pub PlaysBy : HandlerName → WorldLimits → List (ℕ × List ℕ) → List ℕ → Option ℕ → Type 0
-PlaysBy Echo l lines text fault = (h : EchoHandler) × PlaysIn echo_does echo_stops l (opening l h) lines text fault
-PlaysBy Count l lines text fault = (h : CountHandler) × PlaysIn count_does count_stops l (opening l h) lines text fault
+PlaysBy Echo l lines text fault =
+    (h : EchoHandler) × PlaysIn echo_does echo_stops l (opening l h) lines text fault
+PlaysBy Count l lines text fault =
+    (h : CountHandler) × PlaysIn count_does count_stops l (opening l h) lines text fault
 
 -- ---- scripts
 

@@ -20,7 +20,10 @@ pub fn one_fault()
 /// Proves that lines have one text, given the results of their events, and the calls and the log
 /// of the last world.
 pub fn one_text<H: Handler>()
-    ensures { (l : Limits) (old new new' : World H) (lines : List (ℕ × List ℕ)) (results : List (Result Done Refusal)) (fault fault' : Option ℕ)
-        → Plays H.does H.stops l old lines results new fault → Plays H.does H.stops l old lines results new' fault'
-        → closing_text new ≡ closing_text new' → world_text results new fault ≡ world_text results new' fault' }
+    ensures { (l : Limits) (old new new' : World H) (lines : List (ℕ × List ℕ))
+        (results : List (Result Done Refusal)) (fault fault' : Option ℕ)
+        → Plays H.does H.stops l old lines results new fault
+        → Plays H.does H.stops l old lines results new' fault'
+        → closing_text new ≡ closing_text new'
+        → world_text results new fault ≡ world_text results new' fault' }
 {}

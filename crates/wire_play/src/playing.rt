@@ -41,7 +41,8 @@ fn play_event<H: Handler, W: Write>(
     out: &mut W,
 ) -> Result<(), PlayStop>
     ensures limits { world.new.limits ≡ world.old.limits }
-    ensures played { OnOk result (EventPlayed H.does H.stops world.old.limits world.old.state event.now world.new.state
+    ensures played { OnOk result
+        (EventPlayed H.does H.stops world.old.limits world.old.state event.now world.new.state
         (W.contents out.old) (W.contents out.new)) }
 {
     let ended = world.step(event);
@@ -62,7 +63,8 @@ fn play_line<H: Handler, W: Write>(
     out: &mut W,
 ) -> Result<bool, PlayStop>
     ensures limits { world.new.limits ≡ world.old.limits }
-    ensures played { IfOk result (LinePlayed H.does H.stops world.old.limits world.old.state line.now world.new.state
+    ensures played { IfOk result
+        (LinePlayed H.does H.stops world.old.limits world.old.state line.now world.new.state
         (W.contents out.old) (W.contents out.new)) }
 {
     match parse_line(alloc, line) {
@@ -84,7 +86,9 @@ fn play_lines<H: Handler, W: Write>(
     out: &mut W,
 ) -> Result<Option<usize>, PlayStop>
     ensures limits { world.new.limits ≡ world.old.limits }
-    ensures played { IfOk result (λ fault. LinesPlayed H.does H.stops world.old.limits world.old.state (lines_left lines.entry)
+    ensures played { IfOk result
+        (λ fault. LinesPlayed H.does H.stops world.old.limits world.old.state
+        (lines_left lines.entry)
         world.new.state fault (W.contents out.old) (W.contents out.new)) }
 {
     for line in lines {
@@ -103,7 +107,9 @@ fn play_world<H: Handler, W: Write>(
     lines: Lines<'_>,
     out: &mut W,
 ) -> Result<Option<usize>, PlayStop>
-    ensures { IfOk result (λ fault. Writes (λ text. PlaysIn H.does H.stops world.old.limits world.old.state (lines_left lines.entry) text fault)
+    ensures { IfOk result (λ fault. Writes
+        (λ text. PlaysIn H.does H.stops world.old.limits world.old.state
+        (lines_left lines.entry) text fault)
         (W.contents out.old) (W.contents out.new)) }
 {
     out.write_all(b"world\n")?;
@@ -126,7 +132,8 @@ fn play_over<H: Handler + Drop, W: Write>(
     lines: Lines<'_>,
     out: &mut W,
 ) -> Result<Option<usize>, PlayStop>
-    ensures { IfOk result (λ fault. Writes (λ text. OverText H.does H.stops handler limits number (lines_left lines.entry) text fault)
+    ensures { IfOk result (λ fault. Writes
+        (λ text. OverText H.does H.stops handler limits number (lines_left lines.entry) text fault)
         (W.contents out.old) (W.contents out.new)) }
 {
     match World::new(alloc, handler, limits) {
@@ -145,7 +152,8 @@ fn play_setup<W: Write>(
     lines: Lines<'_>,
     out: &mut W,
 ) -> Result<Option<usize>, PlayStop>
-    ensures { IfOk result (λ fault. Writes (λ text. SetupText setup number (lines_left lines.entry) text fault)
+    ensures { IfOk result (λ fault. Writes
+        (λ text. SetupText setup number (lines_left lines.entry) text fault)
         (W.contents out.old) (W.contents out.new)) }
 {
     match setup.handler {
@@ -163,7 +171,8 @@ fn play_setup<W: Write>(
 /// Returns `Failed` if the writer fails, and `OutOfMemory` if memory runs out. If it runs out in
 /// an event, the output is flushed up to the line of that event.
 pub fn play<W: Write>(alloc: Global, script: &[u8], out: &mut W) -> Result<Option<usize>, PlayStop>
-    ensures { IfOk result (λ fault. Writes (λ text. TextUpTo script.now text fault) (W.contents out.old) (W.contents out.new)) }
+    ensures { IfOk result (λ fault. Writes (λ text. TextUpTo script.now text fault)
+        (W.contents out.old) (W.contents out.new)) }
 {
     let mut lines = Lines::new(script);
     let Some(line) = lines.next() else {

@@ -3,7 +3,8 @@
 
 ghost use Rattle.std.specs.Prelude.{◌≡◌, ◌++◌, OnOk, codes};
 ghost use Rattle.bson_text.specs.{WritesOut};
-ghost use Rattle.wire_play.specs.Reports.{cause_text, hex_or_dash, refusal_line, refusal_text, report_line, result_line};
+ghost use Rattle.wire_play.specs.Reports.{cause_text, hex_or_dash, refusal_line, refusal_text};
+ghost use Rattle.wire_play.specs.Reports.{report_line, result_line};
 
 use bson_text::hex_to;
 use std::io;

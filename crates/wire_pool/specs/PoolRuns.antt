@@ -1,9 +1,11 @@
 -- What a pool gives over many calls.
-use Rattle.std.specs.Prelude.{ℕ, ◌+◌, ◌<◌, ◌==◌, ⊤, All, Bool, if◌then◌else◌, List, [], ◌∷◌, ◌++◌, Option, Some, None}
+use Rattle.std.specs.Prelude.{ℕ, ◌+◌, ◌<◌, ◌==◌, ⊤, All, Bool, if◌then◌else◌, List, [], ◌∷◌, ◌++◌}
+use Rattle.std.specs.Prelude.{Option, Some, None}
 use Rattle.wire_pool.specs.declared.loans.Loan.{Loan}
 use Rattle.wire_pool.specs.declared.pool_answers.CheckOut.{CheckOut}
 use Rattle.wire_pool.specs.declared.pool_answers.CheckOut.TheVariants.{Use, Open, Full, PoolClosed}
-use Rattle.wire_pool.specs.Pools.{PoolSeen, checked_in, checked_out, cleared_pool, closed_pool, drawn, reset_pool}
+use Rattle.wire_pool.specs.Pools.{PoolSeen, checked_in, checked_out, cleared_pool, closed_pool}
+use Rattle.wire_pool.specs.Pools.{drawn, reset_pool}
 
 -- a call of a pool
 pub data PoolCall : Type 0 where

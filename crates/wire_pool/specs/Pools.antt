@@ -1,5 +1,7 @@
 -- What a pool holds, and what its calls do to that.
-use Rattle.std.specs.Prelude.{◌≡◌, ℕ, ◌+◌, ◌-◌, ◌^◌, ◌<◌, ◌≤◌, ◌⊎◌, ⊤, Bool, true, false, ◌&&◌, not, if◌then◌else◌, ◌==◌, nat_lt, List, [], ◌∷◌, ◌++◌, length, map, Option, Some, None, Result, Ok, Err}
+use Rattle.std.specs.Prelude.{◌≡◌, ℕ, ◌+◌, ◌-◌, ◌^◌, ◌<◌, ◌≤◌, ◌⊎◌, ⊤, Bool, true, false, ◌&&◌, not}
+use Rattle.std.specs.Prelude.{if◌then◌else◌, ◌==◌, nat_lt, List, [], ◌∷◌, ◌++◌, length, map, Option}
+use Rattle.std.specs.Prelude.{Some, None, Result, Ok, Err}
 use Rattle.wire_pool.specs.declared.loans.Loan.{Loan}
 use Rattle.wire_pool.specs.declared.pool_answers.CheckIn.{CheckIn}
 use Rattle.wire_pool.specs.declared.pool_answers.CheckIn.TheVariants.{Kept, Dropped, NotLent}
@@ -9,8 +11,9 @@ use Rattle.wire_pool.specs.declared.pool_answers.PoolRefusal.{PoolRefusal}
 use Rattle.wire_pool.specs.declared.pool_answers.PoolRefusal.TheVariants.{BadMax, OutOfMemory}
 use Rattle.wire_pool.specs.Loans.{cleared, lending, loan_of, without}
 
--- What a caller sees of a pool: how many connections it may have; the ids of the idle ones, the most recently returned
--- first; the lent ones, in the order in which they were lent; the next new id, if one is left; and whether it is closed.
+-- What a caller sees of a pool: how many connections it may have; the ids of the idle ones, the
+-- most recently returned first; the lent ones, in the order in which they were lent; the next new
+-- id, if one is left; and whether it is closed.
 pub record PoolSeen : Type 0 where
   pub max : ℕ
   pub idle : List ℕ

@@ -3,7 +3,8 @@
 ghost use Rattle.std.specs.Prelude.{◌≡◌, ◌<◌, ℕ, All, IfSome, Some, is_some};
 ghost use Rattle.wire_pool.specs.declared.pool_answers.CheckOut.TheVariants.{Open};
 ghost use Rattle.wire_pool.specs.Loans.{loan_of};
-ghost use Rattle.wire_pool.specs.Pools.{IsNewPool, checked_in, checked_out, cleared_pool, closed_pool, drawn, known_ids, reset_pool};
+ghost use Rattle.wire_pool.specs.Pools.{IsNewPool, checked_in, checked_out, cleared_pool};
+ghost use Rattle.wire_pool.specs.Pools.{closed_pool, drawn, known_ids, reset_pool};
 
 use crate::loans::{Loan, clear_all, loan_of, take_out};
 use crate::pool_answers::{CheckIn, CheckOut, PoolRefusal};
@@ -73,7 +74,8 @@ impl Pool {
     /// greatest id was given, and `PoolClosed` if the pool is closed. Takes no memory.
     pub fn check_out(&mut self) -> CheckOut
         ensures step { (result, self.new) ≡ checked_out self.old }
-        ensures newer { (id : ℕ) → result ≡ Open id → All (λ known. known < id) (known_ids self.old) }
+        ensures newer { (id : ℕ) → result ≡ Open id
+            → All (λ known. known < id) (known_ids self.old) }
     {
         if self.closed {
             return CheckOut::PoolClosed;

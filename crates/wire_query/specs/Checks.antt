@@ -42,4 +42,6 @@ pub record HasParts (limit : ℕ) (bytes database command : List ℕ) : Type 0 w
 
 -- whatever query the bytes spell, it is sent to this database, and its command is these bytes
 abbrev pub ArePartsOf : List ℕ → List ℕ → List ℕ → Type 0
-ArePartsOf bytes database command = (q : Query) → SpellsQuery q bytes → (q.database ≡ database) × (document (elements q.body) ≡ command)
+ArePartsOf bytes database command =
+    (q : Query) → SpellsQuery q bytes
+    → (q.database ≡ database) × (document (elements q.body) ≡ command)

@@ -1,5 +1,7 @@
--- The query of a command as a value, and the message that asks the same (MongoDB Wire Protocol manual: OP_QUERY).
-use Rattle.std.specs.Prelude.{◌≡◌, ◌≢◌, ℕ, ℤ, ◌<◌, List, [], ◌++◌, length, slice_index, codes, Bool, false, None}
+-- The query of a command as a value, and the message that asks the same (MongoDB Wire Protocol
+-- manual: OP_QUERY).
+use Rattle.std.specs.Prelude.{◌≡◌, ◌≢◌, ℕ, ℤ, ◌<◌, List, [], ◌++◌, length, slice_index, codes, Bool}
+use Rattle.std.specs.Prelude.{false, None}
 use Rattle.bson_elem.specs.{IsName, Tree}
 use Rattle.bson_raw.specs.{IsDocument, first_repeated}
 use Rattle.wire_msg.specs.{Message, body_alone}
@@ -30,4 +32,10 @@ pub record IsCommand (body : Tree) : Type 0 where
 
 -- the message of the same id and body
 abbrev pub message_of : Query → Message
-message_of q = record { id = q.id; response_to = q.response_to; flags = record { more_to_come = false; exhaust_allowed = false }; content = body_alone q.body }
+message_of q =
+    record {
+      id = q.id;
+      response_to = q.response_to;
+      flags = record { more_to_come = false; exhaust_allowed = false };
+      content = body_alone q.body;
+    }

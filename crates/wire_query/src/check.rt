@@ -1,10 +1,12 @@
 //! Checks the parts of a query (MongoDB Wire Protocol manual: OP_QUERY), in their order.
 
-ghost use Rattle.std.specs.Prelude.{◌≡◌, ◌+◌, ◌<◌, ◌≤◌, ◌^◌, length, drop, MatchOption, MatchResult};
+ghost use Rattle.std.specs.Prelude.{◌≡◌, ◌+◌, ◌<◌, ◌≤◌, ◌^◌, length, drop, MatchOption};
+ghost use Rattle.std.specs.Prelude.{MatchResult};
 ghost use Rattle.bson_elem.specs.{IsName};
 ghost use Rattle.bson_raw.specs.{document_bytes};
 ghost use Rattle.wire_query.specs.Queries.{command_name, IsDatabase};
-ghost use Rattle.wire_query.specs.Faults.{CommandFault, FaultQuery, IsOfCommands, NameFault, NumbersFault};
+ghost use Rattle.wire_query.specs.Faults.{CommandFault, FaultQuery, IsOfCommands, NameFault};
+ghost use Rattle.wire_query.specs.Faults.{NumbersFault};
 ghost use Rattle.wire_query.specs.Checks.{HasCommand, HasHeader, HasName, HasNumbers, HasParts};
 
 use crate::fault::{QueryCause, QueryFault, fault_at};

@@ -48,8 +48,8 @@ pub(crate) fn write_header(
     opcode: u32,
     out: &mut Vec<u8>,
 ) -> Result<(), AllocError>
-    ensures added { OnOk result (out.new.items
-        ≡ out.old.items ++ header_bytes len id response_to opcode) }
+    ensures added { OnOk result
+        (out.new.items ≡ out.old.items ++ header_bytes len id response_to opcode) }
     ensures kept { OnErr result (StartsWith out.new.items out.old.items) }
 {
     write_u32(len, out)?;

@@ -15,8 +15,11 @@ use Rattle.wire_script.specs.Naming.{Names, event, setup}
 -- bytes
 abbrev pub Lends : ScriptEvent → Event → Type 0
 Lends (Bare e) lent = lent ≡ e
-Lends (Call c kind owned) lent = (payload : Payload) × (lent ≡ events.Call c kind payload) × ((content : Content) → BufCarries owned content → Carries payload content)
-Lends (Raw c owned) lent = (bytes : Bor (List ℕ)) × (lent ≡ events.Raw c bytes) × (bytes.now ≡ owned.items)
+Lends (Call c kind owned) lent =
+    (payload : Payload) × (lent ≡ events.Call c kind payload)
+    × ((content : Content) → BufCarries owned content → Carries payload content)
+Lends (Raw c owned) lent =
+    (bytes : Bor (List ℕ)) × (lent ≡ events.Raw c bytes) × (bytes.now ≡ owned.items)
 
 -- the line names what was read
 abbrev pub IsLine : List ℕ → Line → Type 0

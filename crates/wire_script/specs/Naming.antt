@@ -2,7 +2,9 @@
 use Rattle.std.specs.Prelude.{◌≡◌, ◌≢◌, ◌⊎◌, ℕ, ◌^◌, pos, List, [], ◌∷◌, codes}
 use Rattle.bson_elem.specs.{Tree}
 use Rattle.wire_model.specs.declared.events.Event.{Event}
-use Rattle.wire_model.specs.declared.events.Event.TheVariants.{Open, Return, Call, Up, Down, Answer, CutUp, CutDown, Clear, Restart, RawOpen, Raw, RawTake}
+use Rattle.wire_model.specs.declared.events.Event.TheVariants.{Open, Return, Call, Up, Down, Answer}
+use Rattle.wire_model.specs.declared.events.Event.TheVariants.{CutUp, CutDown, Clear, Restart}
+use Rattle.wire_model.specs.declared.events.Event.TheVariants.{RawOpen, Raw, RawTake}
 use Rattle.wire_msg.specs.{Carries, body_alone}
 use Rattle.wire_msg.specs.declared.payloads.Payload.{Payload}
 use Rattle.wire_peer.specs.declared.calls.CallKind.{CallKind}
@@ -71,7 +73,8 @@ abbrev pub handler_word : HandlerName → List ℕ
 handler_word Echo = codes "echo"
 handler_word Count = codes "count"
 
--- HANDLER FIRST WINDOW MAX LIMIT: the name of the handler, and four numbers that fit the limits' types
+-- HANDLER FIRST WINDOW MAX LIMIT: the name of the handler, and four numbers that fit the limits'
+-- types
 pub record IsSetup (operands : List (List ℕ)) (s : Setup) : Type 0 where
   pub first : List ℕ
   pub window : List ℕ
@@ -143,7 +146,9 @@ AreOperands operands (event e) = AreEventOperands operands e
 
 -- the line names this: its first word is the keyword, and the others are the operands
 abbrev pub Names : List ℕ → Named → Type 0
-Names line named = (operands : List (List ℕ)) × (words_of line ≡ keyword_of named ∷ operands) × AreOperands operands named
+Names line named =
+    (operands : List (List ℕ)) × (words_of line ≡ keyword_of named ∷ operands)
+    × AreOperands operands named
 
 -- the keyword of a call or of raw bytes
 abbrev pub IsBytesKeyword : List ℕ → Type 0

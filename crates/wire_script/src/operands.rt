@@ -1,9 +1,11 @@
 //! Parses the operands of a line.
 
-ghost use Rattle.std.specs.Prelude.{◌≡◌, ◌↔◌, ◌∷◌, [], ℕ, Err, IfOk, IfSome, IsSomeAnd, IsTrue, List, Some};
+ghost use Rattle.std.specs.Prelude.{◌≡◌, ◌↔◌, ◌∷◌, [], ℕ, Err, IfOk, IfSome, IsSomeAnd, IsTrue};
+ghost use Rattle.std.specs.Prelude.{List, Some};
 ghost use Rattle.wire_msg.specs.{BufCarries, Carries, Content};
 ghost use Rattle.wire_msg.specs.declared.payloads.Payload.{Payload};
-ghost use Rattle.wire_script.specs.Naming.{AreTwoNumbers, HasHex, IsCall, IsOneNumber, IsRaw, IsSetup, handler_word};
+ghost use Rattle.wire_script.specs.Naming.{AreTwoNumbers, HasHex, IsCall, IsOneNumber, IsRaw};
+ghost use Rattle.wire_script.specs.Naming.{IsSetup, handler_word};
 ghost use Rattle.wire_script.specs.Reading.{setup_words, words_behind};
 
 use crate::body::{bytes_of, payload_of};
@@ -17,7 +19,8 @@ use wire_msg::PayloadBuf;
 /// Returns the word after a keyword, if there is exactly one.
 fn one_word(rest: Option<&[u8]>) -> Option<&[u8]>
     ensures found { IfSome result (λ w. words_behind rest.entry ≡ w.now ∷ []) }
-    ensures only { (w : List ℕ) → words_behind rest.entry ≡ w ∷ [] → IsSomeAnd result (λ x. x.now ≡ w) }
+    ensures only { (w : List ℕ) → words_behind rest.entry ≡ w ∷ []
+        → IsSomeAnd result (λ x. x.now ≡ w) }
 {
     let (word, rest) = next_word(rest)?;
     if rest.is_some() {

@@ -3,7 +3,8 @@
 ghost use Rattle.std.specs.Prelude.{◌≡◌, Err, IfOk, IfSome, List, ℕ};
 ghost use Rattle.wire_model.specs.declared.events.Event.{Event as Happening};
 ghost use Rattle.wire_script.specs.Lent.{IsLine, Lends};
-ghost use Rattle.wire_script.specs.Naming.{AreEventOperands, HasHex, IsBytesKeyword, Named, Names, NamesBytes, event_kind, keyword_text};
+ghost use Rattle.wire_script.specs.Naming.{AreEventOperands, HasHex, IsBytesKeyword, Named, Names};
+ghost use Rattle.wire_script.specs.Naming.{NamesBytes, event_kind, keyword_text};
 ghost use Rattle.wire_script.specs.Reading.{IsBare, words_behind};
 
 use crate::cut::cut_word;
@@ -15,8 +16,8 @@ use wire_model::Event;
 
 /// Parses an event without bytes, by its keyword and its operands.
 fn bare_event(keyword: Keyword, rest: Option<&[u8]>) -> Option<Event<'static>>
-    ensures found { IfSome result (λ e. (event_kind e ≡ keyword)
-        × AreEventOperands (words_behind rest.entry) e) }
+    ensures found { IfSome result
+        (λ e. (event_kind e ≡ keyword) × AreEventOperands (words_behind rest.entry) e) }
     ensures nothing { result ≡ None → (e : Happening) → event_kind e ≡ keyword → IsBare e
         → AreEventOperands (words_behind rest.entry) e → ⊥ }
 {
@@ -86,7 +87,8 @@ fn script_event(
 /// that names nothing.
 pub fn parse_line(alloc: Global, line: &[u8]) -> Result<Line, LineError>
     ensures named { IfOk result (λ read. IsLine line.now read) }
-    ensures nothing { result ≡ Err LineError.Malformed → (named : Named) → Names line.now named → ⊥ }
+    ensures nothing { result ≡ Err LineError.Malformed → (named : Named) → Names line.now named
+        → ⊥ }
     ensures memory { result ≡ Err LineError.OutOfMemory → NamesBytes line.now }
 {
     let (word, rest) = cut_word(line);

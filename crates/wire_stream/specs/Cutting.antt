@@ -1,7 +1,8 @@
 -- All messages of some bytes, and what a reader holds after them.
 use Rattle.std.specs.Prelude.{◌≡◌, ℕ, ◌≤◌, List, [], ◌∷◌, ◌++◌, length}
 use Rattle.wire_msg.specs.declared.fault.MsgFault.{MsgFault}
-use Rattle.wire_msg.specs.{AreSpelled, IsBad, IsGoodHeader, IsOpen, Message, SpellsMsg, Split, header_of}
+use Rattle.wire_msg.specs.{AreSpelled, IsBad, IsGoodHeader, IsOpen, Message, SpellsMsg, Split}
+use Rattle.wire_msg.specs.{header_of}
 use Rattle.wire_stream.specs.Readers.{HoldsNoMore}
 
 -- the lists of bytes, one after another
@@ -18,8 +19,10 @@ SpellEach limit messages found = ⊥
 -- What is held of a rest: all of it if it is open; otherwise the 16 bytes of a bad header, or the
 -- bytes that a good header announces.
 pub data IsHeldOf : ℕ → List ℕ → List ℕ → Type 0 where
-  all : {limit : ℕ} {rest held : List ℕ} → IsOpen limit rest → held ≡ rest → IsHeldOf limit rest held
-  bad : {limit : ℕ} {rest held : List ℕ} (f : MsgFault) (untaken : List ℕ) → IsBad limit held f → HoldsNoMore limit held → rest ≡ held ++ untaken → IsHeldOf limit rest held
+  all : {limit : ℕ} {rest held : List ℕ} → IsOpen limit rest → held ≡ rest
+      → IsHeldOf limit rest held
+  bad : {limit : ℕ} {rest held : List ℕ} (f : MsgFault) (untaken : List ℕ) → IsBad limit held f
+      → HoldsNoMore limit held → rest ≡ held ++ untaken → IsHeldOf limit rest held
 
 -- The bytes split into messages and a rest, in one way. The messages were found, in the spellings
 -- that they have there, and this is held of the rest.
@@ -27,7 +30,8 @@ pub record Cuts (limit : ℕ) (bytes : List ℕ) (found : List (List ℕ)) (held
   pub messages : List Message
   pub rest : List ℕ
   pub split : Split limit bytes messages rest
-  pub only : (others : List Message) (after : List ℕ) → Split limit bytes others after → (messages ≡ others) × (rest ≡ after)
+  pub only : (others : List Message) (after : List ℕ) → Split limit bytes others after
+      → (messages ≡ others) × (rest ≡ after)
   pub spelled : SpellEach limit messages found
   pub parts : bytes ≡ joined found ++ rest
   pub of_rest : IsHeldOf limit rest held

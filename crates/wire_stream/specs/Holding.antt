@@ -1,5 +1,6 @@
 -- How a reader keeps the bytes that it holds.
-use Rattle.std.specs.Prelude.{◌≡◌, ℕ, ◌<◌, ◌≤◌, ◌⊎◌, List, Option, None, Some, Vec, length, take, vec_capacity}
+use Rattle.std.specs.Prelude.{◌≡◌, ℕ, ◌<◌, ◌≤◌, ◌⊎◌, List, Option, None, Some, Vec, length, take}
+use Rattle.std.specs.Prelude.{vec_capacity}
 use Rattle.std.specs.declared.alloc.Global.{Global}
 use Rattle.wire_msg.specs.declared.fault.MsgFault.{MsgFault}
 use Rattle.wire_msg.specs.{HeaderFault, IsGoodHeader, header_of, number_at}
@@ -18,5 +19,6 @@ pub record IsBegun (limit : ℕ) (message : Vec ℕ Global) : Type 0 where
 
 -- an incomplete header, a complete one that is bad, or a message with room for the rest of it
 abbrev pub IsKept : ℕ → List ℕ → ℕ → Option (Vec ℕ Global) → Type 0
-IsKept limit header len None = (len < 16) ⊎ ((len ≡ 16) × ((f : MsgFault) × HeaderFault limit (header_of header) f))
+IsKept limit header len None =
+    (len < 16) ⊎ ((len ≡ 16) × ((f : MsgFault) × HeaderFault limit (header_of header) f))
 IsKept limit header len (Some message) = IsBegun limit message

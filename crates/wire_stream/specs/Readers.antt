@@ -1,7 +1,8 @@
 -- What a reader of messages holds, and its state.
 use Rattle.std.specs.Prelude.{◌≡◌, ℕ, ◌<◌, ◌≤◌, ◌⊎◌, List, ◌++◌, length, take}
 use Rattle.wire_msg.specs.declared.fault.MsgFault.{MsgFault}
-use Rattle.wire_msg.specs.{HeaderFault, IsBad, IsGoodHeader, IsMessage, IsOpen, header_of, number_at}
+use Rattle.wire_msg.specs.{HeaderFault, IsBad, IsGoodHeader, IsMessage, IsOpen, header_of}
+use Rattle.wire_msg.specs.{number_at}
 use Rattle.wire_stream.specs.declared.reader_state.Fed.{Fed}
 use Rattle.wire_stream.specs.declared.reader_state.ReaderState.{ReaderState}
 use Rattle.wire_stream.specs.declared.reader_state.ReaderState.TheVariants.{Need, Ready, Bad}
@@ -19,7 +20,8 @@ StandsAt limit held (Bad f) = IsBad limit held f
 
 -- no more bytes are held than a header has, or than a good header announces
 abbrev pub HoldsNoMore : ℕ → List ℕ → Type 0
-HoldsNoMore limit held = (length held ≤ 16) ⊎ (IsGoodHeader limit (header_of held) × (length held ≤ number_at held 0))
+HoldsNoMore limit held =
+    (length held ≤ 16) ⊎ (IsGoodHeader limit (header_of held) × (length held ≤ number_at held 0))
 
 -- A reader that held the old bytes was fed the piece, and holds the new bytes now.
 pub record Feeds (limit : ℕ) (old piece new : List ℕ) (fed : Fed) : Type 0 where
@@ -37,6 +39,9 @@ pub record CompletesHeader (limit : ℕ) (held piece : List ℕ) : Type 0 where
 
 -- the number of bytes that there is room for: those that a good header announces, or none
 pub data IsRoom : ℕ → List ℕ → ℕ → Type 0 where
-  announced : {limit : ℕ} {held : List ℕ} {room : ℕ} → 16 ≤ length held → IsGoodHeader limit (header_of held) → room ≡ number_at held 0 → IsRoom limit held room
-  in_header : {limit : ℕ} {held : List ℕ} {room : ℕ} → length held < 16 → room ≡ 0 → IsRoom limit held room
-  bad_header : {limit : ℕ} {held : List ℕ} {room : ℕ} (f : MsgFault) → 16 ≤ length held → HeaderFault limit (header_of held) f → room ≡ 0 → IsRoom limit held room
+  announced : {limit : ℕ} {held : List ℕ} {room : ℕ} → 16 ≤ length held
+      → IsGoodHeader limit (header_of held) → room ≡ number_at held 0 → IsRoom limit held room
+  in_header : {limit : ℕ} {held : List ℕ} {room : ℕ} → length held < 16 → room ≡ 0
+      → IsRoom limit held room
+  bad_header : {limit : ℕ} {held : List ℕ} {room : ℕ} (f : MsgFault) → 16 ≤ length held
+      → HeaderFault limit (header_of held) f → room ≡ 0 → IsRoom limit held room

@@ -1,6 +1,7 @@
 //! Collects the bytes of the current message for a reader.
 
-ghost use Rattle.std.specs.Prelude.{◌≡◌, ◌<◌, ◌≤◌, ◌+◌, ◌-◌, ◌++◌, IfOk, List, length, min, take, vec_capacity, ℕ};
+ghost use Rattle.std.specs.Prelude.{◌≡◌, ◌<◌, ◌≤◌, ◌+◌, ◌-◌, ◌++◌, IfOk, List, length, min, take};
+ghost use Rattle.std.specs.Prelude.{vec_capacity, ℕ};
 ghost use Rattle.wire_msg.specs.{IsGoodHeader, header_of, number_at};
 ghost use Rattle.wire_stream.specs.Holding.{IsBegun};
 ghost use Rattle.wire_stream.specs.Readers.{Feeds, StandsAt};

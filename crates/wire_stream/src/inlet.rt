@@ -1,6 +1,7 @@
 //! Holds the piece of bytes that a link gave last.
 
-ghost use Rattle.std.specs.Prelude.{◌≡◌, ◌≢◌, ◌≤◌, ◌<◌, ◌++◌, ◌∷◌, [], Ok, OnErr, OnOk, IfOk, List, drop, length, ℕ};
+ghost use Rattle.std.specs.Prelude.{◌≡◌, ◌≢◌, ◌≤◌, ◌<◌, ◌++◌, ◌∷◌, [], Ok, OnErr, OnOk, IfOk, List};
+ghost use Rattle.std.specs.Prelude.{drop, length, ℕ};
 ghost use Rattle.std.specs.Io.KnownBytes.{Appends, Keeps};
 ghost use Rattle.wire_stream.specs.Links.{AddsTurns, Rose};
 ghost use Rattle.wire_stream.specs.Pulls.{IsPulled};
@@ -84,8 +85,10 @@ impl Inlet {
     ///
     /// Returns `LinkFault` if the link failed. The held bytes are unchanged then.
     pub fn pull<L: Link>(&mut self, link: &mut L) -> Result<Pulled, LinkFault>
-        ensures held { self.old ≢ [] → (result ≡ Ok Pulled.Bytes) × (self.new ≡ self.old) × (link.new ≡ link.old) }
-        ensures received { (more : List ℕ) × Appends (L.received link.old) (L.received link.new) more
+        ensures held { self.old ≢ []
+            → (result ≡ Ok Pulled.Bytes) × (self.new ≡ self.old) × (link.new ≡ link.old) }
+        ensures received { (more : List ℕ)
+            × Appends (L.received link.old) (L.received link.new) more
             × (self.new ≡ self.old ++ more) }
         ensures turn { self.old ≡ [] → AddsTurns (L.turns link.old) (L.turns link.new)
             (record { received = L.received link.old; sent = L.sent link.old } ∷ []) }

@@ -1,6 +1,7 @@
 //! Makes a link of bytes in memory.
 
-ghost use Rattle.std.specs.Prelude.{◌≡◌, ◌≢◌, ◌<◌, ◌≤◌, ◌-◌, ◌^◌, ◌++◌, [], Ok, IfOk, IsErr, OnErr, OnOk, None, Some, drop, false, length, take, true};
+ghost use Rattle.std.specs.Prelude.{◌≡◌, ◌≢◌, ◌<◌, ◌≤◌, ◌-◌, ◌^◌, ◌++◌, [], Ok, IfOk, IsErr, OnErr};
+ghost use Rattle.std.specs.Prelude.{OnOk, None, Some, drop, false, length, take, true};
 ghost use Rattle.std.specs.Io.KnownBytes.{Appends, Keeps};
 ghost use Rattle.wire_stream.specs.Links.{Rose, TellsEnd};
 ghost use Rattle.wire_stream.specs.MemLinks.{is_due, moved, one_less};
@@ -111,7 +112,8 @@ impl MemLink {
 
     /// Counts the call. Returns true if it is the one that fails.
     fn is_failing(&mut self) -> bool
-        ensures { (result ≡ is_due self.old.fails_after) × (self.new ≡ record self.old { fails_after = one_less self.old.fails_after }) }
+        ensures { (result ≡ is_due self.old.fails_after)
+            × (self.new ≡ record self.old { fails_after = one_less self.old.fails_after }) }
     {
         match self.fails_after {
             None => false,
@@ -131,7 +133,8 @@ impl MemLink {
         ensures count { result ≡ moved self.old.most (length buffer.old) (length self.old.left) }
         ensures received { self.new.received ≡ self.old.received ++ take result buffer.new }
         ensures left { self.old.received ++ self.old.left ≡ self.new.received ++ self.new.left }
-        ensures others { self.new ≡ record self.old { received = self.new.received; left = self.new.left } }
+        ensures others { self.new ≡ record self.old
+            { received = self.new.received; left = self.new.left } }
     {
         let n = buffer
             .len()
@@ -186,17 +189,21 @@ impl Link for MemLink {
         ensures some { 0 < length bytes.now → IfOk result (λ n. 0 < n) }
         ensures sent { IfOk result (λ n. self.new.sent ≡ self.old.sent ++ take n bytes.now) }
         ensures none_sent { OnErr result (self.new.sent ≡ self.old.sent) }
-        ensures received { (self.new.received ≡ self.old.received) × (self.new.left ≡ self.old.left) }
+        ensures received { (self.new.received ≡ self.old.received)
+            × (self.new.left ≡ self.old.left) }
         ensures end { self.new.ends ≡ self.old.ends }
         ensures works { OnOk result (self.new.failures ≡ self.old.failures) }
         ensures fails { OnErr result (Rose self.old.failures self.new.failures) }
         ensures fault { is_due self.old.fails_after ≡ true → IsErr result }
         ensures full { self.old.room ≡ 0 → bytes.now ≢ [] → IsErr result }
         ensures empty { is_due self.old.fails_after ≡ false → bytes.now ≡ [] → result ≡ Ok 0 }
-        ensures moved { is_due self.old.fails_after ≡ false → 0 < moved self.old.most (length bytes.now) self.old.room
+        ensures moved { is_due self.old.fails_after ≡ false
+            → 0 < moved self.old.most (length bytes.now) self.old.room
             → result ≡ Ok (moved self.old.most (length bytes.now) self.old.room) }
         ensures counted { self.new.fails_after ≡ one_less self.old.fails_after }
-        ensures limits { (self.new.room ≡ self.old.room - (length self.new.sent - length self.old.sent)) × (self.new.most ≡ self.old.most) }
+        ensures limits { (self.new.room
+            ≡ self.old.room - (length self.new.sent - length self.old.sent))
+            × (self.new.most ≡ self.old.most) }
     {
         if self.is_failing() {
             self.failures = self.failures.saturating_add(1);

@@ -1,6 +1,7 @@
 //! Holds messages until they are sent.
 
-ghost use Rattle.std.specs.Prelude.{◌≡◌, ◌≤◌, ◌++◌, [], IfErr, List, OnErr, OnOk, drop, length, refl, take, ℕ};
+ghost use Rattle.std.specs.Prelude.{◌≡◌, ◌≤◌, ◌++◌, [], IfErr, List, OnErr, OnOk, drop, length};
+ghost use Rattle.std.specs.Prelude.{refl, take, ℕ};
 ghost use Rattle.wire_msg.specs.{Carries, Content, IsWriteRefusal, Message, canonical, message_len};
 
 use crate::outlet::Outlet;

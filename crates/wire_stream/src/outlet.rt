@@ -30,7 +30,8 @@ pub trait Outlet {
     ghost unchanged: { (o : Self) → with_waiting o (waiting o) ≡ o };
 
     // Only what was put in last counts.
-    ghost last: { (o : Self) (first then : List ℕ) → with_waiting (with_waiting o first) then ≡ with_waiting o then };
+    ghost last: { (o : Self) (first then : List ℕ)
+        → with_waiting (with_waiting o first) then ≡ with_waiting o then };
 }
 
 /// Sends all bytes that wait in `outlet` over `link`. Nothing else of the outlet changes.

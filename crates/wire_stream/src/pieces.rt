@@ -31,8 +31,10 @@ pub fn read_pieces(alloc: Global, limit: u32, pieces: &[&[u8]]) -> Result<Pieces
     requires { limit ≤ 48_000_000 }
     ensures limit { IfOk result (λ read. read.reader.limit ≡ limit) }
     ensures cuts { IfOk result (λ read.
-        Cuts limit (flat_map (λ piece. piece.now) pieces.now) read.messages.items read.reader.held) }
-    ensures refused { OnErr result (AnnouncesMore limit (flat_map (λ piece. piece.now) pieces.now)) }
+        Cuts limit (flat_map
+        (λ piece. piece.now) pieces.now) read.messages.items read.reader.held) }
+    ensures refused { OnErr result
+        (AnnouncesMore limit (flat_map (λ piece. piece.now) pieces.now)) }
 {
     let mut reader = MsgReader::new(alloc, limit);
     let mut messages = Vec::new(alloc);
@@ -59,9 +61,11 @@ fn read_piece(
 ) -> Result<Fed, ReadRefusal>
     requires { IsOpen reader.old.limit reader.old.held }
     ensures limit { reader.new.limit ≡ reader.old.limit }
-    ensures gathers { IfOk result (λ fed. Gathers reader.old.limit messages.old.items reader.old.held piece.now
+    ensures gathers { IfOk result
+        (λ fed. Gathers reader.old.limit messages.old.items reader.old.held piece.now
         messages.new.items reader.new.held fed) }
-    ensures refused { OnErr result ((bytes : List ℕ) → Gathered reader.old.limit bytes messages.old.items reader.old.held
+    ensures refused { OnErr result
+        ((bytes : List ℕ) → Gathered reader.old.limit bytes messages.old.items reader.old.held
         → AnnouncesMore reader.old.limit (bytes ++ piece.now)) }
 {
     let mut taken = 0;

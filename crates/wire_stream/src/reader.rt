@@ -1,6 +1,7 @@
 //! Reads messages from bytes that come in pieces.
 
-ghost use Rattle.std.specs.Prelude.{◌≡◌, ◌≢◌, ◌≤◌, ◌<◌, ◌+◌, ◌++◌, [], IfOk, IfNone, IfSome, IsOkAnd, IsSome, List, OnErr, length, max, take, ℕ};
+ghost use Rattle.std.specs.Prelude.{◌≡◌, ◌≢◌, ◌≤◌, ◌<◌, ◌+◌, ◌++◌, [], IfOk, IfNone, IfSome};
+ghost use Rattle.std.specs.Prelude.{IsOkAnd, IsSome, List, OnErr, length, max, take, ℕ};
 ghost use Rattle.wire_msg.specs.{IsBad, IsMessage, IsOpen, msg_bytes};
 ghost use Rattle.wire_msg.specs.declared.fault.MsgFault.{MsgFault};
 ghost use Rattle.wire_stream.specs.Readers.{CompletesHeader, Feeds, IsRoom, Reading, StandsAt};
@@ -109,7 +110,8 @@ impl MsgReader {
     fn feed_header(&mut self, piece: &[u8]) -> Result<Fed, ReadRefusal>
         requires { length self.old.held < 16 }
         ensures limit { self.new.limit ≡ self.old.limit }
-        ensures fed { IfOk result (λ fed. Feeds self.old.limit self.old.held piece.now self.new.held fed) }
+        ensures fed { IfOk result
+            (λ fed. Feeds self.old.limit self.old.held piece.now self.new.held fed) }
         ensures refused { OnErr result (CompletesHeader self.old.limit self.old.held piece.now) }
         ensures unchanged { OnErr result (self.new ≡ self.old) }
     {
@@ -141,7 +143,8 @@ impl MsgReader {
 
     /// Borrows the message that is ready, if one is. Checks nothing again.
     pub fn message(&self) -> Option<RawMsg<'_>>
-        ensures some { IfSome result (λ m. (msg_bytes m ≡ self.now.held) × IsMessage self.now.limit self.now.held) }
+        ensures some { IfSome result
+            (λ m. (msg_bytes m ≡ self.now.held) × IsMessage self.now.limit self.now.held) }
         ensures ready { IsMessage self.now.limit self.now.held → IsSome result }
     {
         let ReaderState::Ready = self.state else {
@@ -185,10 +188,12 @@ impl MsgReader {
 
     /// Returns whether the bytes, if no more come, end between messages or inside one.
     pub fn end(&self) -> ReadEnd
-        ensures inside { IsOpen self.now.limit self.now.held → self.now.held ≢ [] → result ≡ ReadEnd.EndedInside }
+        ensures inside { IsOpen self.now.limit self.now.held → self.now.held ≢ []
+            → result ≡ ReadEnd.EndedInside }
         ensures between { self.now.held ≡ [] → result ≡ ReadEnd.Ended }
         ensures ready { IsMessage self.now.limit self.now.held → result ≡ ReadEnd.Ended }
-        ensures bad { (f : MsgFault) → IsBad self.now.limit self.now.held f → result ≡ ReadEnd.Ended }
+        ensures bad { (f : MsgFault) → IsBad self.now.limit self.now.held f
+            → result ≡ ReadEnd.Ended }
     {
         let ReaderState::Need = self.state else {
             return ReadEnd::Ended;

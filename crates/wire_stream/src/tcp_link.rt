@@ -56,7 +56,8 @@ impl<S: Read + Write + Drop> Link for TcpLink<S> {
 
     fn recv(&mut self, buffer: &mut [u8]) -> Result<usize, LinkFault>
         ensures within { IfOk result (λ n. n ≤ length buffer.old) }
-        ensures read { ReadConsumes (S.remaining self.old.stream) (S.remaining self.new.stream) result buffer.new }
+        ensures read { ReadConsumes (S.remaining self.old.stream)
+            (S.remaining self.new.stream) result buffer.new }
         ensures end { TellsEnd (length buffer.old) result self.old.ends self.new.ends }
         ensures works { OnOk result (self.new.failures ≡ self.old.failures) }
         ensures fails { OnErr result (Rose self.old.failures self.new.failures) }
@@ -77,7 +78,8 @@ impl<S: Read + Write + Drop> Link for TcpLink<S> {
     fn send(&mut self, bytes: &[u8]) -> Result<usize, LinkFault>
         ensures within { IfOk result (λ n. n ≤ length bytes.now) }
         ensures some { 0 < length bytes.now → IfOk result (λ n. 0 < n) }
-        ensures written { WriteAppends (S.contents self.old.stream) (S.contents self.new.stream) result bytes.now }
+        ensures written { WriteAppends (S.contents self.old.stream)
+            (S.contents self.new.stream) result bytes.now }
         ensures end { self.new.ends ≡ self.old.ends }
         ensures works { OnOk result (self.new.failures ≡ self.old.failures) }
         ensures fails { OnErr result (Rose self.old.failures self.new.failures) }

@@ -4,8 +4,10 @@ ghost use Rattle.std.specs.Prelude.{◌≡◌, List, OnOk, flat_map};
 ghost use Rattle.bson_text.specs.{WritesOut};
 ghost use Rattle.bson_elem.specs.{Spells, Tree};
 ghost use Rattle.bson_raw.specs.{document_bytes};
-ghost use Rattle.wire_msg.specs.{Carries, Content, DocumentsAre, Message, Sequence, SpellsMsg, msg_bytes};
-ghost use Rattle.wire_text.specs.MessageText.{body_text, flags_text, member_text, message_line, message_text, sequence_line, text_of_sequence};
+ghost use Rattle.wire_msg.specs.{Carries, Content, DocumentsAre, Message, Sequence, SpellsMsg};
+ghost use Rattle.wire_msg.specs.{msg_bytes};
+ghost use Rattle.wire_text.specs.MessageText.{body_text, flags_text, member_text, message_line};
+ghost use Rattle.wire_text.specs.MessageText.{message_text, sequence_line, text_of_sequence};
 
 use bson_raw::RawDocument;
 use bson_text::{dump_elements, quoted_to};

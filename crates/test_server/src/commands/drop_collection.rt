@@ -35,8 +35,10 @@ pub fn drop_collection(
     body: RawDocument<'_>,
 ) -> Result<Document, Failure>
     ensures carried { (t : Tree) → Spells t (document_bytes body.entry)
-        → IsCarriedOut (drop_collection (store_of store.old) t) (store_of store.old) result (store_of store.new) }
-    ensures kept { OnErr result ((store_of store.new).collections ≡ (store_of store.old).collections) }
+        → IsCarriedOut (drop_collection (store_of store.old) t) (store_of store.old) result
+        (store_of store.new) }
+    ensures kept { OnErr result
+        ((store_of store.new).collections ≡ (store_of store.old).collections) }
 {
     let namespace = namespace_field(body, "drop", CommandError::Drop)?;
     let answer = dropped_answer(alloc, namespace)?;

@@ -63,7 +63,8 @@ fn answer_query(alloc: Global, store: &mut Store, query: &Query<'_>) -> Result<D
 /// opens a cursor over the others.
 pub fn find(alloc: Global, store: &mut Store, body: RawDocument<'_>) -> Result<Document, Failure>
     ensures carried { (t : Tree) → Spells t (document_bytes body.entry)
-        → IsCarriedOut (find (store_of store.old) t) (store_of store.old) result (store_of store.new) }
+        → IsCarriedOut (find (store_of store.old) t) (store_of store.old) result
+        (store_of store.new) }
     ensures steady { (store_of store.new).collections ≡ (store_of store.old).collections }
 {
     let query = query_in(alloc, body)?;

@@ -23,7 +23,8 @@ fn more(
     namespace: Namespace<'_>,
     count: usize,
 ) -> Result<Document, Failure>
-    ensures carried { IsCarriedOut (more (store_of store.old) id (namespace_of namespace.entry) count)
+    ensures carried { IsCarriedOut
+        (more (store_of store.old) id (namespace_of namespace.entry) count)
         (store_of store.old) result (store_of store.new) }
     ensures steady { (store_of store.new).collections ≡ (store_of store.old).collections }
 {
@@ -40,7 +41,8 @@ pub fn get_more(
     body: RawDocument<'_>,
 ) -> Result<Document, Failure>
     ensures carried { (t : Tree) → Spells t (document_bytes body.entry)
-        → IsCarriedOut (get_more (store_of store.old) t) (store_of store.old) result (store_of store.new) }
+        → IsCarriedOut (get_more (store_of store.old) t) (store_of store.old) result
+        (store_of store.new) }
     ensures steady { (store_of store.new).collections ≡ (store_of store.old).collections }
 {
     let id = id_field(body)?;

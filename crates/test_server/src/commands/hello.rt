@@ -21,8 +21,8 @@ fn set_primary(alloc: Global, answer: &mut Document, legacy: bool) -> Result<(),
 
 /// Sets the limits on what the server takes.
 fn set_limits(alloc: Global, answer: &mut Document) -> Result<(), AllocError>
-    ensures { OnOk result (answer.new
-        ≡ put (codes "maxWriteBatchSize") (int32 (pos 100000))
+    ensures { OnOk result
+        (answer.new ≡ put (codes "maxWriteBatchSize") (int32 (pos 100000))
         (put (codes "maxMessageSizeBytes") (int32 (pos 48000000))
         (put (codes "maxBsonObjectSize") (int32 (pos 16777216)) answer.old))) }
 {
@@ -38,8 +38,8 @@ fn set_limits(alloc: Global, answer: &mut Document) -> Result<(), AllocError>
 
 /// Sets the versions of the wire protocol that the server speaks.
 fn set_versions(alloc: Global, answer: &mut Document) -> Result<(), AllocError>
-    ensures { OnOk result (answer.new
-        ≡ put (codes "maxWireVersion") (int32 (pos 13))
+    ensures { OnOk result
+        (answer.new ≡ put (codes "maxWireVersion") (int32 (pos 13))
         (put (codes "minWireVersion") (int32 (pos 0)) answer.old)) }
 {
     set(alloc, answer, "minWireVersion", Bson::Int32(0))?;

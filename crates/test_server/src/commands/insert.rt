@@ -29,8 +29,10 @@ fn inserted_answer(alloc: Global, count: i32) -> Result<Document, AllocError>
 /// identifier.
 pub fn insert(alloc: Global, store: &mut Store, payload: Payload<'_>) -> Result<Document, Failure>
     ensures carried { (c : Content) → Carries payload.entry c
-        → IsCarriedOut (insert (store_of store.old) c) (store_of store.old) result (store_of store.new) }
-    ensures kept { OnErr result ((store_of store.new).collections ≡ (store_of store.old).collections) }
+        → IsCarriedOut (insert (store_of store.old) c) (store_of store.old) result
+        (store_of store.new) }
+    ensures kept { OnErr result
+        ((store_of store.new).collections ≡ (store_of store.old).collections) }
 {
     let namespace = namespace_field(payload.body(), "insert", CommandError::Insert)?;
     let documents = inserted_documents(alloc, payload)?;

@@ -51,8 +51,8 @@ fn listings(
     collections: &[Collection],
     database: &str,
 ) -> Result<Vec<Bson>, AllocError>
-    ensures { IfOk result (λ vs. map value_of vs.items
-        ≡ listings database.now (map collection_of collections.now)) }
+    ensures { IfOk result
+        (λ vs. map value_of vs.items ≡ listings database.now (map collection_of collections.now)) }
 {
     let mut found = Vec::new(alloc);
     for collection in collections {
@@ -71,7 +71,8 @@ fn answer_list(
     database: &str,
     filter: &Document,
 ) -> Result<Document, AllocError>
-    ensures { IfOk result (λ d. d ≡ list_answer (store_of store.now) database.now (tree_of filter.now)) }
+    ensures { IfOk result
+        (λ d. d ≡ list_answer (store_of store.now) database.now (tree_of filter.now)) }
 {
     let all = listings(alloc, &store.collections, database)?;
     let found = matching(alloc, filter, &all)?;
@@ -90,7 +91,8 @@ pub fn list_collections(
     body: RawDocument<'_>,
 ) -> Result<Document, Failure>
     ensures carried { (t : Tree) → Spells t (document_bytes body.entry)
-        → IsCarriedOut (list_collections (store_of store.old) t) (store_of store.old) result (store_of store.new) }
+        → IsCarriedOut (list_collections (store_of store.old) t) (store_of store.old) result
+        (store_of store.new) }
     ensures steady { (store_of store.new).collections ≡ (store_of store.old).collections }
 {
     let database = text_field(body, "$db", CommandError::Database)?;
