@@ -86,8 +86,8 @@ more_reply s id n count c = record {
       };
 }
 
-abbrev pub more : StoreView → ℤ → NamespaceView → ℕ → Result Reply CommandError
-more s id n count =
+abbrev pub next_answer : StoreView → ℤ → NamespaceView → ℕ → Result Reply CommandError
+next_answer s id n count =
     and_then (or_error errors.CursorNotFound (open_at n (cursor_index id) s.cursors))
     (λ c. Ok (more_reply s id n count c))
 
@@ -96,7 +96,7 @@ abbrev pub get_more : StoreView → Tree → Result Reply CommandError
 get_more s t =
     and_then (id_field t) (λ id.
     and_then (namespace_at (codes "collection") errors.Collection t) (λ n.
-    and_then (batch_size 1 errors.NextBatchSize t) (λ count. more s id n count)))
+    and_then (batch_size 1 errors.NextBatchSize t) (λ count. next_answer s id n count)))
 
 -- ---- drop
 
@@ -163,20 +163,20 @@ unknown_pairs name =
     error_pairs (codes "no such command: '" ++ name ++ codes "'") (pos 59) (codes "CommandNotFound")
 
 -- an answer that changes nothing
-abbrev pub only : StoreView → List (List ℕ × TreeValue) → Result Reply CommandError
-only s pairs = Ok (record { answer = pairs; held = s })
+abbrev pub unchanged : StoreView → List (List ℕ × TreeValue) → Result Reply CommandError
+unchanged s pairs = Ok (record { answer = pairs; held = s })
 
 abbrev pub run : Command → StoreView → Content → Result Reply CommandError
-run commands.Hello s c = only s (hello_pairs false)
-run commands.LegacyHello s c = only s (hello_pairs true)
-run commands.Ping s c = only s ok_alone
-run commands.EndSessions s c = only s ok_alone
+run commands.Hello s c = unchanged s (hello_pairs false)
+run commands.LegacyHello s c = unchanged s (hello_pairs true)
+run commands.Ping s c = unchanged s ok_alone
+run commands.EndSessions s c = unchanged s ok_alone
 run commands.Insert s c = insert s c
 run commands.Find s c = find s c.body
 run commands.GetMore s c = get_more s c.body
 run commands.Drop s c = drop_collection s c.body
 run commands.ListCollections s c = list_collections s c.body
-run commands.Unknown s c = only s (unknown_pairs (first_name c.body))
+run commands.Unknown s c = unchanged s (unknown_pairs (first_name c.body))
 
 -- an error is answered, too, and changes nothing
 abbrev pub settled : StoreView → Result Reply CommandError → Reply

@@ -7,7 +7,8 @@ ghost use Rattle.bson_doc.specs.{value_of};
 ghost use Rattle.wire_msg.specs.{Carries, Content, DocumentsAre, Sequence};
 ghost use Rattle.test_server.specs.Errors.{IsFailure};
 ghost use Rattle.test_server.specs.Inserted.{Appended, in_array, in_field, in_sequence};
-ghost use Rattle.test_server.specs.Inserted.{in_sequences, alone, brought, inserted, kept_value};
+ghost use Rattle.test_server.specs.Inserted.{in_sequences, alone, sequence_documents, inserted};
+ghost use Rattle.test_server.specs.Inserted.{kept_value};
 
 use crate::failure::{CommandError, Failure};
 use bson_doc::{Bson, DocRefusal, Document};
@@ -87,7 +88,7 @@ fn push_brought(
 ) -> Result<(), Failure>
     ensures { (q : Sequence) → identifier.now ≡ q.identifier
         → DocumentsAre sequence.entry q.documents
-        → Appended (map value_of documents.old.items) (brought q) result
+        → Appended (map value_of documents.old.items) (sequence_documents q) result
         (map value_of documents.new.items) }
 {
     if identifier == "documents" {

@@ -8,9 +8,8 @@ use crate::link::{Link, LinkFault};
 use std::io::{Read, Write};
 
 /// A link over a stream such as `TcpStream`. It doesn't show its bytes, since no contract can say
-/// what a socket carries. If a stream shows its own, the link gives the bytes that were read from
-/// it, and counts those that were written to it. A call that sends none of some bytes counts as a
-/// failure.
+/// what a socket carries. Over a stream that shows its own, it gives the bytes that were read, and
+/// what it counts as sent was written. A call that sends none of some bytes counts as a failure.
 #[derive(Drop)]
 pub struct TcpLink<S: Read + Write + Drop> {
     stream: S,

@@ -3,7 +3,7 @@
 ghost use Rattle.std.specs.Prelude.{◌≡◌};
 ghost use Rattle.bson_elem.specs.{Spells, Tree};
 ghost use Rattle.bson_raw.specs.{document_bytes};
-ghost use Rattle.test_server.specs.Commands.{IsCarriedOut, get_more, more};
+ghost use Rattle.test_server.specs.Commands.{IsCarriedOut, get_more, next_answer};
 ghost use Rattle.test_server.specs.Held.{namespace_of, store_of};
 
 use crate::answer::{Batch, cursor_answer};
@@ -16,7 +16,7 @@ use bson_raw::RawDocument;
 use std::alloc::Global;
 
 /// Answers with the next documents of the cursor with this id and this namespace, at most `count`.
-fn more(
+fn answer_next(
     alloc: Global,
     store: &mut Store,
     id: i64,
@@ -24,7 +24,7 @@ fn more(
     count: usize,
 ) -> Result<Document, Failure>
     ensures carried { IsCarriedOut
-        (more (store_of store.old) id (namespace_of namespace.entry) count)
+        (next_answer (store_of store.old) id (namespace_of namespace.entry) count)
         (store_of store.old) result (store_of store.new) }
     ensures steady { (store_of store.new).collections ≡ (store_of store.old).collections }
 {
@@ -48,5 +48,5 @@ pub fn get_more(
     let id = id_field(body)?;
     let namespace = namespace_field(body, "collection", CommandError::Collection)?;
     let count = batch_size(body, 1, CommandError::NextBatchSize)?;
-    more(alloc, store, id, namespace, count)
+    answer_next(alloc, store, id, namespace, count)
 }
