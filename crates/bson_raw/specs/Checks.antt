@@ -1,4 +1,4 @@
--- What the parts of the check tell.
+-- What the parts of the check find.
 use Rattle.std.specs.Prelude.{◌≡◌, ℕ, Bool, ◌&&◌, List, ◌∷◌, [], ◌++◌, length}
 use Rattle.bson_elem.specs.{Beside, Fits, Leaf, Tree, Value, a_leaf, elements, opens}
 use Rattle.bson_raw.specs.Naming.{is_plain}
@@ -11,13 +11,17 @@ IsLeaf part = (v : Leaf) × (part ≡ a_leaf v)
 abbrev pub Opens : ℕ → Value → Type 0
 Opens q part = (b : Beside) × (body : List ℕ) × (part ≡ opens q b body)
 
--- The bytes are the elements of a tree in a container of this depth, and this tells whether its names are canonical.
+-- The bytes are the elements of a tree in a container at this depth. The last argument says
+-- whether its names are canonical.
 abbrev pub IsTree : ℕ → Bool → List ℕ → Bool → Type 0
-IsTree depth in_array bytes canonical = (t : Tree) × Fits depth t × (bytes ≡ elements t) × (canonical ≡ is_plain in_array 0 t)
+IsTree depth in_array bytes canonical =
+    (t : Tree) × Fits depth t × (bytes ≡ elements t) × (canonical ≡ is_plain in_array 0 t)
 
--- The bytes are a pair at this index of a container, and this rest, which stands n bytes behind. Where `before` tells
--- whether the names of the pairs before are canonical, `canonical` tells it of those and this pair together.
-pub record IsPair (depth : ℕ) (in_array : Bool) (index : ℕ) (bytes : List ℕ) (n : ℕ) (rest : List ℕ) (before canonical : Bool) : Type 0 where
+-- The bytes are the pair at this index of a container, which takes n bytes, and then the rest.
+-- `before` says whether the names of all earlier pairs are canonical, and `canonical` says so of
+-- those and this one.
+pub record IsPair (depth : ℕ) (in_array : Bool) (index : ℕ) (bytes : List ℕ) (n : ℕ)
+    (rest : List ℕ) (before canonical : Bool) : Type 0 where
   pub pair : Tree
   pub name : List ℕ
   pub is_one : names_of pair ≡ name ∷ []

@@ -4,7 +4,8 @@ use Rattle.bson_elem.specs.declared.kinds.Kind.{Kind}
 use Rattle.bson_elem.specs.declared.kinds.Kind.TheVariants as kinds
 use Rattle.bson_elem.specs.declared.items.Item.{Item}
 use Rattle.bson_elem.specs.declared.items.Item.TheVariants as items
-use Rattle.bson_elem.specs.{Spells, Tree, Value, a_leaf, item_kind, item_value, no_code, opens, with_code}
+use Rattle.bson_elem.specs.{Spells, Tree, Value, a_leaf, item_kind, item_value, no_code, opens}
+use Rattle.bson_elem.specs.{with_code}
 use Rattle.bson_raw.specs.Pairs.{TreeValue, leaf_value, document_value}
 use Rattle.bson_raw.specs.Spelled.{IsSpelled}
 
@@ -15,9 +16,13 @@ IsLeafOf kind (opens q b body) v = ⊥
 
 -- the item lends the value, and the bytes of a document spell the tree that it holds
 abbrev pub IsItemOf : Item → TreeValue → Type 0
-IsItemOf (items.Document d) v = (inner : Tree) × (v ≡ document_value kinds.Document no_code inner) × Spells inner d.now
-IsItemOf (items.Array d) v = (inner : Tree) × (v ≡ document_value kinds.Array no_code inner) × Spells inner d.now
-IsItemOf (items.CodeWithScope s d) v = (inner : Tree) × (v ≡ document_value kinds.CodeWithScope (with_code s.now) inner) × Spells inner d.now
+IsItemOf (items.Document d) v =
+    (inner : Tree) × (v ≡ document_value kinds.Document no_code inner) × Spells inner d.now
+IsItemOf (items.Array d) v =
+    (inner : Tree) × (v ≡ document_value kinds.Array no_code inner) × Spells inner d.now
+IsItemOf (items.CodeWithScope s d) v =
+    (inner : Tree) × (v ≡ document_value kinds.CodeWithScope (with_code s.now) inner)
+    × Spells inner d.now
 IsItemOf item v = IsLeafOf (item_kind item) (item_value 0 item) v
 
 -- what the item holds is spelled

@@ -1,4 +1,4 @@
--- The pairs that stand from an offset of a document's bytes on.
+-- The pairs from an offset of a document's bytes up to its end.
 use Rattle.std.specs.Prelude.{◌≡◌, ℕ, ◌+◌, ◌-◌, ◌^◌, ◌<◌, ◌≤◌, List, length, slice_range}
 use Rattle.bson_elem.specs.{Fits, Tree, elements}
 
@@ -6,6 +6,7 @@ use Rattle.bson_elem.specs.{Fits, Tree, elements}
 abbrev pub LeftIs : List ℕ → ℕ → Tree → Type 0
 LeftIs bytes offset t = Fits 1 t × (slice_range bytes offset (length bytes - 1) ≡ elements t)
 
--- pairs are left from this offset on
+-- the bytes from this offset up to the last byte are pairs
 abbrev pub HasLeft : List ℕ → ℕ → Type 0
-HasLeft bytes offset = (offset + 1 ≤ length bytes) × (length bytes < 2 ^ 31) × ((t : Tree) × LeftIs bytes offset t)
+HasLeft bytes offset =
+    (offset + 1 ≤ length bytes) × (length bytes < 2 ^ 31) × ((t : Tree) × LeftIs bytes offset t)

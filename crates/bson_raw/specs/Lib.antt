@@ -12,7 +12,8 @@ pub mod RawIter
 pub mod Totals
 -- the words that clauses of other crates cite
 pub use Rattle.bson_raw.specs.Naming.{is_array_kind, is_plain, name_at}
-pub use Rattle.bson_raw.specs.Pairs.{TreeValue, document_value, first_named, first_repeated, is_among, leaf_value, names_of, nth_value, with_first}
+pub use Rattle.bson_raw.specs.Pairs.{TreeValue, document_value, first_named, first_repeated}
+pub use Rattle.bson_raw.specs.Pairs.{is_among, leaf_value, names_of, nth_value, with_first}
 pub use Rattle.bson_raw.specs.RawArray.{array_bytes}
 pub use Rattle.bson_raw.specs.RawBson.{Shows, ShowsFound, held_len}
 pub use Rattle.bson_raw.specs.RawDocument.{document_bytes}

@@ -1,5 +1,5 @@
--- Whether the names of each array are "0", "1" and so on (bsonspec.org, version 1.1: an array is a document whose names
--- are those).
+-- Whether the names of each array are "0", "1" and so on (bsonspec.org, version 1.1: an array is a
+-- document whose names are those).
 use Rattle.std.specs.Prelude.{ℕ, ◌+◌, Bool, true, false, ◌&&◌, List, Ok, Err, if◌then◌else◌}
 use Rattle.std.specs.Fmt.{decimal}
 use Rattle.std.specs.Str.{bytes_eq}
@@ -11,7 +11,8 @@ abbrev pub is_array_kind : Kind → Bool
 is_array_kind Array = true
 is_array_kind _ = false
 
--- the canonical name of the pair at an index, counted from 0: the index in decimal in an array, its own elsewhere
+-- the canonical name of the pair at an index, counted from 0: the index in decimal in an array,
+-- its own elsewhere
 abbrev pub name_at : Bool → ℕ → List ℕ → List ℕ
 name_at in_array index name = if in_array then decimal index else name
 
@@ -22,11 +23,14 @@ is_named in_array index name = bytes_eq name (name_at in_array index name)
 -- the pairs from this index of a container on have their canonical names, at every depth
 abbrev pub is_plain : Bool → ℕ → Tree → Bool
 is_plain in_array index no_pairs = true
-is_plain in_array index (leaf_pair name k v ps) = is_named in_array index name && is_plain in_array (index + 1) ps
+is_plain in_array index (leaf_pair name k v ps) =
+    is_named in_array index name && is_plain in_array (index + 1) ps
 is_plain in_array index (inner_pair name k b inner ps) =
-    is_named in_array index name && (is_plain (is_array_kind k) 0 inner && is_plain in_array (index + 1) ps)
+    is_named in_array index name
+    && (is_plain (is_array_kind k) 0 inner && is_plain in_array (index + 1) ps)
 
--- what was read as the name of the pair at an index of a container: whether it is canonical, and what follows it
+-- what was read as the name of the pair at an index of a container: whether it is canonical, and
+-- what follows it
 abbrev pub named_at : Bool → ℕ → Read (List ℕ) → Read Bool
 named_at in_array index (Ok name) = Ok (is_named in_array index name.0, name.1)
 named_at in_array index (Err c) = Err c

@@ -1,11 +1,13 @@
 -- The pairs of a tree, one after another.
-use Rattle.std.specs.Prelude.{ℕ, zero, suc, List, [], ◌∷◌, ◌++◌, Option, Some, None, Bool, if◌then◌else◌}
+use Rattle.std.specs.Prelude.{ℕ, zero, suc, List, [], ◌∷◌, ◌++◌, Option, Some, None, Bool}
+use Rattle.std.specs.Prelude.{if◌then◌else◌}
 use Rattle.std.specs.List.{list_any}
 use Rattle.std.specs.Str.{bytes_eq}
 use Rattle.bson_elem.specs.declared.kinds.Kind.{Kind}
 use Rattle.bson_elem.specs.{Beside, Leaf, Tree, inner_pair, leaf_pair, no_pairs}
 
--- the value of a pair: of a kind and a leaf, or of a kind, what stands beside, and the tree of the document held
+-- the value of a pair: a kind and a leaf; or a kind, what the value has beside its document, and
+-- the document's tree
 pub data TreeValue : Type 0 where
   leaf_value : Kind → Leaf → TreeValue
   document_value : Kind → Beside → Tree → TreeValue
@@ -18,8 +20,10 @@ with_first name (document_value k b inner) others = inner_pair name k b inner ot
 -- the value of the first pair of a name
 abbrev pub first_named : List ℕ → Tree → Option TreeValue
 first_named name no_pairs = None
-first_named name (leaf_pair n k v ps) = if bytes_eq n name then Some (leaf_value k v) else first_named name ps
-first_named name (inner_pair n k b inner ps) = if bytes_eq n name then Some (document_value k b inner) else first_named name ps
+first_named name (leaf_pair n k v ps) =
+    if bytes_eq n name then Some (leaf_value k v) else first_named name ps
+first_named name (inner_pair n k b inner ps) =
+    if bytes_eq n name then Some (document_value k b inner) else first_named name ps
 
 -- the value of the pair at this index, counted from 0
 abbrev pub nth_value : ℕ → Tree → Option TreeValue
@@ -39,8 +43,10 @@ names_of (inner_pair n k b inner ps) = n ∷ names_of ps
 abbrev pub is_among : List ℕ → List (List ℕ) → Bool
 is_among name names = list_any (λ n. bytes_eq n name) names
 
--- the name of the first pair whose name was seen, where these names were seen before the pairs
+-- the first name that is one of these or the name of an earlier pair
 abbrev pub first_repeated : List (List ℕ) → Tree → Option (List ℕ)
 first_repeated seen no_pairs = None
-first_repeated seen (leaf_pair n k v ps) = if is_among n seen then Some n else first_repeated (seen ++ n ∷ []) ps
-first_repeated seen (inner_pair n k b inner ps) = if is_among n seen then Some n else first_repeated (seen ++ n ∷ []) ps
+first_repeated seen (leaf_pair n k v ps) =
+    if is_among n seen then Some n else first_repeated (seen ++ n ∷ []) ps
+first_repeated seen (inner_pair n k b inner ps) =
+    if is_among n seen then Some n else first_repeated (seen ++ n ∷ []) ps

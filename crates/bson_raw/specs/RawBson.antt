@@ -3,7 +3,9 @@ use Rattle.std.specs.Prelude.{◌≡◌, ℕ, ℤ, [], List, length, Bool, Optio
 use Rattle.std.specs.Borrow.{Bor}
 use Rattle.bson_elem.specs.declared.kinds.Kind.{Kind}
 use Rattle.bson_elem.specs.declared.kinds.Kind.TheVariants as kinds
-use Rattle.bson_elem.specs.{Spells, Tree, binary_value, boolean_value, no_code, number_value, pointer_value, raw_value, regex_value, text_value, timestamp_value, with_code}
+use Rattle.bson_elem.specs.{Spells, Tree, binary_value, boolean_value, no_code, number_value}
+use Rattle.bson_elem.specs.{pointer_value, raw_value, regex_value, text_value, timestamp_value}
+use Rattle.bson_elem.specs.{with_code}
 use Rattle.bson_raw.specs.declared.document.RawDocument.{RawDocument}
 use Rattle.bson_raw.specs.declared.array.RawArray.{RawArray}
 use Rattle.bson_raw.specs.declared.value.RawBson.{RawBson}
@@ -12,25 +14,34 @@ use Rattle.bson_raw.specs.RawDocument.{document_bytes}
 use Rattle.bson_raw.specs.RawArray.{array_bytes}
 use Rattle.bson_raw.specs.Pairs.{TreeValue, leaf_value, document_value}
 
--- The value lends this value of the tree. The bytes of a document, an array or a scope spell the tree that it holds.
+-- The value lends this value of the tree. The bytes of a document, an array or a scope spell the
+-- tree that it holds.
 abbrev pub Shows : RawBson → TreeValue → Type 0
 Shows (values.Double bytes) v = v ≡ leaf_value kinds.Double (raw_value bytes)
 Shows (values.String text) v = v ≡ leaf_value kinds.String (text_value text.now)
-Shows (values.Document d) v = (inner : Tree) × (v ≡ document_value kinds.Document no_code inner) × Spells inner (document_bytes d)
-Shows (values.Array a) v = (inner : Tree) × (v ≡ document_value kinds.Array no_code inner) × Spells inner (array_bytes a)
+Shows (values.Document d) v =
+    (inner : Tree) × (v ≡ document_value kinds.Document no_code inner)
+    × Spells inner (document_bytes d)
+Shows (values.Array a) v =
+    (inner : Tree) × (v ≡ document_value kinds.Array no_code inner) × Spells inner (array_bytes a)
 Shows (values.Binary subtype bytes) v = v ≡ leaf_value kinds.Binary (binary_value subtype bytes.now)
 Shows values.Undefined v = v ≡ leaf_value kinds.Undefined (raw_value [])
 Shows (values.ObjectId bytes) v = v ≡ leaf_value kinds.ObjectId (raw_value bytes)
 Shows (values.Boolean truth) v = v ≡ leaf_value kinds.Boolean (boolean_value truth)
 Shows (values.DateTime millis) v = v ≡ leaf_value kinds.DateTime (number_value millis)
 Shows values.Null v = v ≡ leaf_value kinds.Null (raw_value [])
-Shows (values.Regex pattern options) v = v ≡ leaf_value kinds.Regex (regex_value pattern.now options.now)
-Shows (values.DbPointer namespace id) v = v ≡ leaf_value kinds.DbPointer (pointer_value namespace.now id)
+Shows (values.Regex pattern options) v =
+    v ≡ leaf_value kinds.Regex (regex_value pattern.now options.now)
+Shows (values.DbPointer namespace id) v =
+    v ≡ leaf_value kinds.DbPointer (pointer_value namespace.now id)
 Shows (values.Code text) v = v ≡ leaf_value kinds.Code (text_value text.now)
 Shows (values.Symbol text) v = v ≡ leaf_value kinds.Symbol (text_value text.now)
-Shows (values.CodeWithScope code scope) v = (inner : Tree) × (v ≡ document_value kinds.CodeWithScope (with_code code.now) inner) × Spells inner (document_bytes scope)
+Shows (values.CodeWithScope code scope) v =
+    (inner : Tree) × (v ≡ document_value kinds.CodeWithScope (with_code code.now) inner)
+    × Spells inner (document_bytes scope)
 Shows (values.Int32 n) v = v ≡ leaf_value kinds.Int32 (number_value n)
-Shows (values.Timestamp increment seconds) v = v ≡ leaf_value kinds.Timestamp (timestamp_value increment seconds)
+Shows (values.Timestamp increment seconds) v =
+    v ≡ leaf_value kinds.Timestamp (timestamp_value increment seconds)
 Shows (values.Int64 n) v = v ≡ leaf_value kinds.Int64 (number_value n)
 Shows (values.Decimal128 bytes) v = v ≡ leaf_value kinds.Decimal128 (raw_value bytes)
 Shows values.MinKey v = v ≡ leaf_value kinds.MinKey (raw_value [])
@@ -40,7 +51,7 @@ Shows values.MaxKey v = v ≡ leaf_value kinds.MaxKey (raw_value [])
 abbrev pub ShowsFound : RawBson → Option TreeValue → Type 0
 ShowsFound value found = (v : TreeValue) × (found ≡ Some v) × Shows value v
 
--- how many bytes the document, array or scope has that the value holds, and 0 where it holds none
+-- the number of bytes of the document, array or scope that the value holds, or 0 if it holds none
 abbrev pub held_len : RawBson → ℕ
 held_len (values.Document d) = length (document_bytes d)
 held_len (values.Array a) = length (array_bytes a)

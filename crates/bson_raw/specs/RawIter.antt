@@ -14,7 +14,8 @@ use Rattle.bson_raw.specs.Left.{LeftIs}
 use Rattle.bson_raw.specs.Pairs.{TreeValue, with_first}
 
 -- The tree is a pair of this name and value and other pairs, and those are left.
-pub record GivesFirst (t : Tree) (name : List ℕ) (value : RawBson) (IsLeft : Tree → Type 0) : Type 0 where
+pub record GivesFirst (t : Tree) (name : List ℕ) (value : RawBson)
+    (IsLeft : Tree → Type 0) : Type 0 where
   pub tree_value : TreeValue
   pub others : Tree
   pub is_first : t ≡ with_first name tree_value others
@@ -27,26 +28,32 @@ pub record GivesFirst (t : Tree) (name : List ℕ) (value : RawBson) (IsLeft : T
 abbrev pub PairsLeft : RawIter → Tree → Type 0
 PairsLeft s t = LeftIs s.bytes.now s.offset t
 
--- how many bytes the document has that is walked
+-- the number of bytes of the document that is walked
 abbrev pub walked_len : RawIter → ℕ
 walked_len s = length s.bytes.now
 
 -- the iterator has all pairs of the document left
 abbrev pub BeginsAtFirstPair : RawDocument → RawIter → Type 0
-BeginsAtFirstPair d s = ((t : Tree) → Spells t (document_bytes d) → PairsLeft s t) × (walked_len s ≡ length (document_bytes d))
+BeginsAtFirstPair d s =
+    ((t : Tree) → Spells t (document_bytes d) → PairsLeft s t)
+    × (walked_len s ≡ length (document_bytes d))
 
 -- a bound on how many pairs are left
 abbrev pub pairs_bound : RawIter → ℕ
 pairs_bound s = length s.bytes.now - s.offset
 
--- Of every tree left the first pair was given, or there is none. What a value holds is shorter than what is walked.
+-- Whatever pairs are left, the first of them is returned, or there is none. A document inside its
+-- value is shorter than the document that is walked.
 abbrev pub GivesPair : RawIter → Option (Bor (List ℕ) × RawBson) → RawIter → Type 0
 GivesPair s None after = (t : Tree) → PairsLeft s t → t ≡ no_pairs
-GivesPair s (Some x) after = ((t : Tree) → PairsLeft s t → GivesFirst t x.0.now x.1 (PairsLeft after)) × (held_len x.1 < walked_len s)
+GivesPair s (Some x) after =
+    ((t : Tree) → PairsLeft s t → GivesFirst t x.0.now x.1 (PairsLeft after))
+    × (held_len x.1 < walked_len s)
 
--- One step of the iterator, in the same document. After its end the iterator stays as it is.
+-- One step of the iterator, in the same document. After the last pair the iterator doesn't change.
 abbrev pub StepsTo : RawIter → Option (Bor (List ℕ) × RawBson) → RawIter → Type 0
-StepsTo s given after = (walked_len after ≡ walked_len s) × GivesPair s given after × (given ≡ None → after ≡ s)
+StepsTo s given after =
+    (walked_len after ≡ walked_len s) × GivesPair s given after × (given ≡ None → after ≡ s)
 
 -- ---- the values of an array
 
@@ -54,23 +61,30 @@ StepsTo s given after = (walked_len after ≡ walked_len s) × GivesPair s given
 abbrev pub ValuesLeft : RawArrayIter → Tree → Type 0
 ValuesLeft s t = PairsLeft s.pairs t
 
--- how many bytes the array has that is walked
+-- the number of bytes of the array that is walked
 abbrev pub walked_array_len : RawArrayIter → ℕ
 walked_array_len s = walked_len s.pairs
 
 -- the iterator has all values of the array left
 abbrev pub BeginsAtFirstValue : RawArray → RawArrayIter → Type 0
-BeginsAtFirstValue a s = ((t : Tree) → Spells t (array_bytes a) → ValuesLeft s t) × (walked_array_len s ≡ length (array_bytes a))
+BeginsAtFirstValue a s =
+    ((t : Tree) → Spells t (array_bytes a) → ValuesLeft s t)
+    × (walked_array_len s ≡ length (array_bytes a))
 
 -- a bound on how many values are left
 abbrev pub values_bound : RawArrayIter → ℕ
 values_bound s = pairs_bound s.pairs
 
--- Of every tree left the value of the first pair was given, or there is none. What it holds is shorter than what is walked.
+-- Whatever values are left, the first of them is returned, or there is none. A document inside it
+-- is shorter than the array that is walked.
 abbrev pub GivesValue : RawArrayIter → Option RawBson → RawArrayIter → Type 0
 GivesValue s None after = (t : Tree) → ValuesLeft s t → t ≡ no_pairs
-GivesValue s (Some value) after = ((t : Tree) → ValuesLeft s t → (name : List ℕ) × GivesFirst t name value (ValuesLeft after)) × (held_len value < walked_array_len s)
+GivesValue s (Some value) after =
+    ((t : Tree) → ValuesLeft s t → (name : List ℕ) × GivesFirst t name value (ValuesLeft after))
+    × (held_len value < walked_array_len s)
 
--- One step of the iterator, in the same array. After its end the iterator stays as it is.
+-- One step of the iterator, in the same array. After the last value the iterator doesn't change.
 abbrev pub ValueStepsTo : RawArrayIter → Option RawBson → RawArrayIter → Type 0
-ValueStepsTo s given after = (walked_array_len after ≡ walked_array_len s) × GivesValue s given after × (given ≡ None → after ≡ s)
+ValueStepsTo s given after =
+    (walked_array_len after ≡ walked_array_len s) × GivesValue s given after
+    × (given ≡ None → after ≡ s)

@@ -9,8 +9,8 @@ use crate::iter::RawArrayIter;
 use crate::value::RawBson;
 use std::convert::AsSlice;
 
-/// A borrowed array. Its bytes spell a document whose values are those of the array. The names, mostly "0", "1" and so
-/// on, stay in the bytes as they were.
+/// A borrowed array. Its bytes are those of a document with the same values, in which the names of
+/// the pairs, usually "0", "1" and so on, are kept as they were.
 #[derive(Clone, Copy, Debug, PartialEq, Eq)]
 pub struct RawArray<'a> {
     bytes: &'a [u8],
@@ -39,7 +39,7 @@ impl<'a> RawArray<'a> {
         self.bytes
     }
 
-    /// Returns the array as the document that spells it, with the names of its pairs as they were.
+    /// Returns the array as a document, with the names of its pairs as they were.
     pub fn as_document(self) -> RawDocument<'a>
         ensures { document_bytes result ≡ array_bytes self.entry }
     {
@@ -54,7 +54,7 @@ impl<'a> RawArray<'a> {
         RawArrayIter::of_spelled(self.bytes)
     }
 
-    /// Returns the value at `index`, counted from 0, if there are so many.
+    /// Returns the value at `index`, counted from 0, or `None` if the array is shorter.
     pub fn get(self, index: usize) -> Option<RawBson<'a>>
         ensures { (t : Tree) → Spells t (array_bytes self.entry)
             → MatchOption result (nth_value index t ≡ None)

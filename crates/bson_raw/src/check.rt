@@ -1,16 +1,17 @@
-//! The check of a whole document.
+//! Checks a whole document.
 
-ghost use Rattle.std.specs.Prelude.{◌≡◌, ◌+◌, ◌-◌, ◌<◌, ◌≤◌, ◌^◌, length, slice_range, max, IfErr, MatchResult, false, true};
+ghost use Rattle.std.specs.Prelude.{◌≡◌, ◌+◌, ◌-◌, ◌<◌, ◌≤◌, ◌^◌, length, slice_range, max, IfErr};
+ghost use Rattle.std.specs.Prelude.{MatchResult, false, true};
 ghost use Rattle.bson_elem.specs.{FaultIn};
 ghost use Rattle.bson_raw.specs.Checks.{IsTree, IsPair};
 
 use crate::name::skip_name;
 use bson_elem::{BsonCause, BsonFault, Kind, fault_at, skip_value};
 
-/// Checks the pair at `offset`, and everything inside it. Returns the offset after it, and whether every name so far is
-/// canonical, where `canonical` says so of the `index` pairs before it.
-// The arguments stay apart: with the container's four as one struct, a check of small documents takes 13 % more
-// instructions, and of nested ones 20 %.
+/// Checks the pair at `offset`, and everything inside it. Returns the offset after it, and whether
+/// every name so far is canonical, where `canonical` says so of the `index` pairs before it.
+// The arguments stay apart: with the container's four as one struct, a check of small documents
+// takes 13 % more instructions, and of nested ones 20 %.
 #[cycle(check)]
 #[inline(always)]
 fn check_pair(
@@ -28,7 +29,8 @@ fn check_pair(
     requires depth { depth ≤ 200 }
     ensures checked { MatchResult result
         (λ x. (offset < x.0) × (x.0 ≤ end)
-        × IsPair depth in_array index (slice_range bytes.now offset end) (x.0 - offset) (slice_range bytes.now x.0 end) canonical x.1)
+        × IsPair depth in_array index (slice_range bytes.now offset end) (x.0 - offset)
+        (slice_range bytes.now x.0 end) canonical x.1)
         (λ f. FaultIn depth start offset (slice_range bytes.now offset end) f) }
     ensures bound { IfErr result (λ f. f.at ≤ max start end) }
 {
@@ -47,7 +49,8 @@ fn check_pair(
     let (document, rest) = skip_value(depth, offset, end - rest.len(), kind, rest)?;
     let next = end - rest.len();
     if let Some(inner) = document {
-        // Told by the byte: a test of the kind would turn its table of sizes into a jump for each kind.
+        // Looks at the byte: a test of the kind would turn its table of sizes into a jump for each
+        // kind.
         let is_array = bytes[offset] == Kind::Array.byte();
         let within = check(bytes, inner, next - 1, depth + 1, is_array)?;
         return Ok((next, canonical && within));
@@ -115,8 +118,9 @@ fn check_array(bytes: &[u8], start: usize, end: usize, depth: u32) -> Result<boo
     check_elements(bytes, start, end, depth, true)
 }
 
-/// Checks the elements of a container of this `depth`, whose first byte is at `start` and whose last is at `end`. Returns
-/// whether its names are canonical at every depth: in an array these are "0", "1" and so on.
+/// Checks the elements of a container of this `depth`, whose first byte is at `start` and whose
+/// last is at `end`. Returns whether its names are canonical at every depth: in an array these are
+/// "0", "1" and so on.
 #[cycle(check)]
 #[inline(always)]
 pub(crate) fn check(
@@ -134,7 +138,7 @@ pub(crate) fn check(
         (λ f. FaultIn depth start (start + 4) (slice_range bytes.now (start + 4) end) f) }
     ensures bound { IfErr result (λ f. f.at ≤ end) }
 {
-    // Each has a loop of its own, so that no document's names are tested.
+    // Two loops, so that the names in a document aren't compared with numbers.
     if in_array {
         check_array(bytes, start, end, depth)
     } else {

@@ -1,6 +1,8 @@
 //! A document that borrows its bytes.
 
-ghost use Rattle.std.specs.Prelude.{◌≡◌, ◌≤◌, ◌<◌, ◌^◌, List, ℕ, ◌++◌, IfOk, IfErr, IsOkAnd, IsErrOf, length, MatchResult, MatchOption, IsTrue, IsOk, ◌↔◌, Some, None, [], take, false};
+ghost use Rattle.std.specs.Prelude.{◌≡◌, ◌≤◌, ◌<◌, ◌^◌, List, ℕ, ◌++◌, IfOk, IfErr, IsOkAnd};
+ghost use Rattle.std.specs.Prelude.{IsErrOf, length, MatchResult, MatchOption, IsTrue, IsOk, ◌↔◌};
+ghost use Rattle.std.specs.Prelude.{Some, None, [], take, false};
 ghost use Rattle.bson_elem.specs.declared.fault.BsonFault.{BsonFault};
 ghost use Rattle.bson_elem.specs.{FrontFault, Spells, Tree};
 ghost use Rattle.bson_raw.specs.Naming.{is_plain};
@@ -12,10 +14,13 @@ use crate::value::RawBson;
 use bson_elem::{BsonCause, BsonFault, little_u32, read_document};
 use std::convert::AsSlice;
 
-/// Checks the document at the front. Returns its bytes, whether its names are canonical, and what follows it.
+/// Checks the document at the front. Returns its bytes, whether its names are canonical, and what
+/// follows it.
 fn front_parts(bytes: &[u8]) -> Result<(&[u8], bool, &[u8]), BsonFault>
-    ensures parts { MatchResult result (λ x. FrontIs bytes.now x.0.now x.2.now) (λ f. FrontFault bytes.now f) }
-    ensures canonical { IfOk result (λ x. (t : Tree) → Spells t x.0.now → x.1 ≡ is_plain false 0 t) }
+    ensures parts { MatchResult result (λ x. FrontIs bytes.now x.0.now x.2.now)
+        (λ f. FrontFault bytes.now f) }
+    ensures canonical { IfOk result
+        (λ x. (t : Tree) → Spells t x.0.now → x.1 ≡ is_plain false 0 t) }
     ensures bound { IfErr result (λ f. f.at ≤ length bytes.now) }
 {
     let (whole, rest) = read_document(0, 0, bytes)?;
@@ -34,7 +39,8 @@ fn spells_canonical(bytes: &[u8]) -> bool
     }
 }
 
-/// Returns true if the length at the front is that of the bytes, or if there are too few bytes for one.
+/// Returns true if the length at the front is that of the bytes, or if there are fewer than four
+/// bytes.
 fn is_length_of(bytes: &[u8]) -> bool
     ensures { IsTrue result ↔ IsLengthOf bytes.now }
 {
@@ -56,7 +62,8 @@ pub struct RawDocument<'a> {
 pub struct Front<'a> {
     /// The document.
     pub document: RawDocument<'a>,
-    /// Whether it is in canonical form: whether the names of each array in it are "0", "1" and so on.
+    /// Whether it is in canonical form: whether the names of each array in it are "0", "1" and so
+    /// on.
     pub canonical: bool,
     /// What follows it.
     pub rest: &'a [u8],
@@ -85,14 +92,16 @@ impl<'a> RawDocument<'a> {
         }
     }
 
-    /// Does what `front` does, and by the same walk finds out whether the document is in canonical form.
+    /// Checks the document at the front of the bytes, as `front` does. In the same walk it also
+    /// finds out whether the document is in canonical form.
     ///
     /// # Errors
     ///
-    /// Returns the faults that `front` does.
+    /// Returns the same fault as `front`.
     pub fn front_with_form(bytes: &'a [u8]) -> Result<Front<'a>, BsonFault>
         ensures found { IfOk result (λ x.
-            (bytes.now ≡ document_bytes x.document ++ x.rest.now) × IsSpelled (document_bytes x.document)) }
+            (bytes.now ≡ document_bytes x.document ++ x.rest.now)
+            × IsSpelled (document_bytes x.document)) }
         ensures canonical { IfOk result (λ x. (t : Tree) → Spells t (document_bytes x.document)
             → x.canonical ≡ is_plain false 0 t) }
         ensures only { (t : Tree) (b rest : List ℕ) → Spells t b → bytes.now ≡ b ++ rest
@@ -118,7 +127,8 @@ impl<'a> RawDocument<'a> {
     ///
     /// # Errors
     ///
-    /// Returns `Length` at 0 if the length at the front isn't that of the bytes, and else the fault that `front` does.
+    /// Returns `Length` at 0 if the length at the front isn't that of the bytes, and otherwise the
+    /// fault that `front` returns.
     pub fn from_bytes(bytes: &'a [u8]) -> Result<RawDocument<'a>, BsonFault>
         ensures found { IfOk result (λ d. (document_bytes d ≡ bytes.now) × IsSpelled bytes.now) }
         ensures only { IsSpelled bytes.now → IsOk result }
@@ -154,8 +164,8 @@ impl<'a> RawDocument<'a> {
         self.bytes
     }
 
-    /// Returns true if the document is in canonical form: if the names of each array in it are "0", "1" and so on. This
-    /// checks the whole document once more.
+    /// Returns true if the document is in canonical form: if the names of each array in it are
+    /// "0", "1" and so on. This checks the whole document once more.
     pub fn is_canonical(self) -> bool
         ensures { (t : Tree) → Spells t (document_bytes self.entry) → result ≡ is_plain false 0 t }
     {

@@ -1,4 +1,4 @@
-//! Iterators over the pairs of a document and over the values of an array, in order.
+//! Iterates over the pairs of a document, and over the values of an array, in order.
 
 ghost use Rattle.std.specs.Prelude.{◌≡◌, length};
 ghost use Rattle.std.specs.Iterator.{at_most};
@@ -11,7 +11,7 @@ use crate::document::RawDocument;
 use crate::value::RawBson;
 use bson_elem::reread_element;
 
-/// An iterator over the pairs of a document. After its end it stays at the end.
+/// Iterates over the pairs of a document. After the last one it returns `None` for ever.
 #[derive(Debug, Drop)]
 pub struct RawIter<'a> {
     bytes: &'a [u8],
@@ -41,7 +41,8 @@ impl<'a> Iterator for RawIter<'a> {
 
     ghost next_gives = { StepsTo };
 
-    // Isn't inlined, so that a caller that goes into inner documents has a small frame for each level.
+    // Not inlined, so that a caller that goes into inner documents needs little stack for each
+    // level.
     #[inline(never)]
     fn next(&mut self) -> Option<(&'a str, RawBson<'a>)> {
         let bytes = self.bytes;
@@ -69,7 +70,7 @@ impl<'a> IntoIterator for RawDocument<'a> {
     }
 }
 
-/// An iterator over the values of an array. After its end it stays at the end.
+/// Iterates over the values of an array. After the last one it returns `None` for ever.
 #[derive(Debug, Drop)]
 pub struct RawArrayIter<'a> {
     pairs: RawIter<'a>,

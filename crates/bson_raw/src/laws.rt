@@ -6,15 +6,15 @@ ghost use Rattle.bson_raw.specs.Split.{DocumentSplit};
 
 use crate::document::RawDocument;
 
-/// Proves that bytes are documents and a rest in one way at most. Does nothing.
+/// Proves that bytes split into documents and a rest in at most one way. Does nothing.
 pub fn one_document_split()
     ensures { (bytes : List ℕ) (documents others : List Tree) (rest after : List ℕ) → IsBytes bytes
         → DocumentSplit bytes documents rest → DocumentSplit bytes others after
         → (documents ≡ others) × (rest ≡ after) }
 {}
 
-/// Goes over the documents at the front of the bytes, and returns the rest. So bytes are always
-/// documents and a rest.
+/// Walks over the documents at the front of the bytes, and returns the rest. So any bytes can be
+/// split into documents and a rest.
 pub fn documents_split(bytes: &[u8]) -> &[u8]
     ensures { (documents : List Tree) × DocumentSplit bytes.now documents result.now }
 {

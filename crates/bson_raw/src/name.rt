@@ -46,7 +46,8 @@ fn is_decimal(name: &[u8], index: usize) -> bool
     }
 }
 
-/// Returns true if the name is `index` in decimal. Compares names of one and two digits without a loop.
+/// Returns true if the name is `index` in decimal. Compares names of one and two digits without a
+/// loop.
 #[inline(always)]
 fn is_index(name: &[u8], index: usize) -> bool
     ensures { result ≡ bytes_eq name.now (decimal index) }
@@ -72,7 +73,8 @@ fn after_name(bytes: &[u8], n: usize, index: usize) -> Option<&[u8]>
     None
 }
 
-/// Returns what follows the name at the front, if that is `index` in decimal and has at most five digits.
+/// Returns what follows the name at the front, if that is `index` in decimal and has at most five
+/// digits.
 #[inline(always)]
 fn after_index(bytes: &[u8], index: usize) -> Option<&[u8]>
     ensures read { IfSome result (λ rest. cstring_at bytes.now ≡ Ok (decimal index, rest.now)) }
@@ -92,7 +94,7 @@ fn after_index(bytes: &[u8], index: usize) -> Option<&[u8]>
     after_name(bytes, n, index)
 }
 
-/// Does what `skip_name` does in an array, for any name.
+/// Reads a name as `skip_name` does in an array. It works for any name, and is slower.
 #[inline(never)]
 fn skip_any_name(bytes: &[u8], index: usize) -> Result<(bool, &[u8]), BsonCause>
     ensures read { Gives (λ x. (x.0, x.1.now)) result (named_at true index (cstring_at bytes.now)) }
@@ -102,19 +104,20 @@ fn skip_any_name(bytes: &[u8], index: usize) -> Result<(bool, &[u8]), BsonCause>
     Ok((is_decimal(name.as_bytes(), index), rest))
 }
 
-/// Reads the name at the front, of the pair at `index` of a container. Returns whether it is canonical, and what follows
-/// it. In a document or a scope each name is canonical.
+/// Reads the name at the front, of the pair at `index` of a container. Returns whether it is
+/// canonical, and what follows it. In a document or a scope each name is canonical.
 #[inline(always)]
 pub(crate) fn skip_name(
     bytes: &[u8],
     in_array: bool,
     index: usize,
 ) -> Result<(bool, &[u8]), BsonCause>
-    ensures read { Gives (λ x. (x.0, x.1.now)) result (named_at in_array index (cstring_at bytes.now)) }
+    ensures read { Gives (λ x. (x.0, x.1.now)) result
+        (named_at in_array index (cstring_at bytes.now)) }
     ensures shorter { IfOk result (λ x. length x.1.now < length bytes.now) }
 {
     if in_array {
-        // A canonical name, which is known beforehand, need not be searched for its end.
+        // The canonical name is known, so its end need not be searched for.
         return match after_index(bytes, index) {
             Some(rest) => Ok((true, rest)),
             None => skip_any_name(bytes, index),

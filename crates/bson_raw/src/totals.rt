@@ -1,4 +1,4 @@
-//! The totals of a document: how much stands in it, at all depths.
+//! Counts what a document holds, at all depths.
 
 ghost use Rattle.std.specs.Prelude.{◌≡◌, ◌+◌, ◌≤◌, length};
 ghost use Rattle.bson_elem.specs.{Spells, Tree};
@@ -10,7 +10,7 @@ ghost use Rattle.bson_raw.specs.Totals.{elements_in, elements_held, sizes_held, 
 use crate::document::RawDocument;
 use crate::value::RawBson;
 
-/// How much stands in a document, with the documents, arrays and scopes inside.
+/// The totals of a document, which include the documents, arrays and scopes inside it.
 #[derive(Clone, Copy, Debug, PartialEq, Eq)]
 pub struct DocumentTotals {
     /// The number of elements.
@@ -20,7 +20,8 @@ pub struct DocumentTotals {
 }
 
 impl DocumentTotals {
-    /// Returns the totals of a value that holds no document, and whose texts and data have `sizes` bytes.
+    /// Returns the totals of a value that holds no document, and whose texts and data have `sizes`
+    /// bytes.
     fn of_leaf(sizes: usize) -> DocumentTotals
         ensures { (result.elements ≡ 0) × (result.sizes ≡ sizes) }
     {
@@ -56,7 +57,7 @@ fn value_totals(value: RawBson<'_>) -> DocumentTotals
     }
 }
 
-/// Counts what stands in the document.
+/// Counts what the document holds.
 #[cycle(totals)]
 fn document_totals(document: RawDocument<'_>) -> DocumentTotals
     ensures all { (t : Tree) → Spells t (document_bytes document.entry)
@@ -74,8 +75,8 @@ fn document_totals(document: RawDocument<'_>) -> DocumentTotals
 }
 
 impl<'a> RawDocument<'a> {
-    /// Counts the elements of the document, and the bytes of its names, texts and data, at all depths. The two counts
-    /// come to no more than the document's length together.
+    /// Counts the elements of the document, and the bytes of its names, texts and data, at all
+    /// depths. The sum of the two counts is at most the length of the document.
     pub fn totals(self) -> DocumentTotals
         ensures all { (t : Tree) → Spells t (document_bytes self.entry)
             → (result.elements ≡ elements_in t) × (result.sizes ≡ sizes_in t) }

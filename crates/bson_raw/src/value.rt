@@ -6,15 +6,16 @@ use crate::array::RawArray;
 use crate::document::RawDocument;
 use bson_elem::{Item, Kind};
 
-/// A borrowed value, with one variant for each kind. Its texts, bytes, documents and arrays borrow the document's bytes.
+/// A borrowed value, with one variant for each kind. Its texts, bytes, documents and arrays borrow
+/// the document's bytes.
 #[derive(Clone, Copy, Debug, PartialEq, Eq)]
 pub enum RawBson<'a> {
-    /// The 8 bytes of the number, as they stand in the document.
+    /// The 8 bytes of the number, exactly as in the document.
     Double([u8; 8]),
     String(&'a str),
     Document(RawDocument<'a>),
     Array(RawArray<'a>),
-    /// The `bytes` of subtype 2 are the data alone, without the inner count.
+    /// For subtype 2, `bytes` is the data alone, without the inner length.
     Binary {
         subtype: u8,
         bytes: &'a [u8],
@@ -45,7 +46,7 @@ pub enum RawBson<'a> {
         seconds: u32,
     },
     Int64(i64),
-    /// The 16 bytes of the number, as they stand in the document.
+    /// The 16 bytes of the number, exactly as in the document.
     Decimal128([u8; 16]),
     MinKey,
     MaxKey,
@@ -56,7 +57,7 @@ impl<'a> RawBson<'a> {
     ghost use Rattle.bson_raw.specs.Held.{IsItemOf, HoldsSpelled};
     ghost use Rattle.bson_raw.specs.RawBson.{Shows};
 
-    /// Returns the value that an item of a checked document lends.
+    /// Makes the value of an item of a checked document.
     pub(crate) fn of_item(item: Item<'a>) -> RawBson<'a>
         requires { HoldsSpelled item }
         ensures { (v : TreeValue) → IsItemOf item.entry v → Shows result v }

@@ -3,12 +3,21 @@ use Rattle.std.specs.Prelude.{ℕ, ◌+◌, List, [], ◌++◌, length, codes}
 use Rattle.std.specs.Fmt.{decimal}
 use Rattle.hex.specs.Hex.{encode_lower}
 use Rattle.bson_elem.specs.declared.kinds.Kind.{Kind}
-use Rattle.bson_elem.specs.declared.kinds.Kind.TheVariants.{Double, String, Document, Array, Binary, Undefined, ObjectId, Boolean, DateTime, Null, Regex, DbPointer, Code, Symbol, CodeWithScope, Int32, Timestamp, Int64, Decimal128, MinKey, MaxKey}
-use Rattle.bson_elem.specs.{Beside, Leaf, Tree, binary_value, boolean_value, document, elements, inner_pair, leaf_pair, no_code, no_pairs, number_value, pointer_value, raw_value, regex_value, text_value, timestamp_value, with_code}
+use Rattle.bson_elem.specs.declared.kinds.Kind.TheVariants.{Double, String, Document, Array, Binary}
+use Rattle.bson_elem.specs.declared.kinds.Kind.TheVariants.{Undefined, ObjectId, Boolean, DateTime}
+use Rattle.bson_elem.specs.declared.kinds.Kind.TheVariants.{Null, Regex, DbPointer, Code, Symbol}
+use Rattle.bson_elem.specs.declared.kinds.Kind.TheVariants.{CodeWithScope, Int32, Timestamp, Int64}
+use Rattle.bson_elem.specs.declared.kinds.Kind.TheVariants.{Decimal128, MinKey, MaxKey}
+use Rattle.bson_elem.specs.{Beside, Leaf, Tree, binary_value, boolean_value, document, elements}
+use Rattle.bson_elem.specs.{inner_pair, leaf_pair, no_code, no_pairs, number_value, pointer_value}
+use Rattle.bson_elem.specs.{raw_value, regex_value, text_value, timestamp_value, with_code}
 use Rattle.bson_text.specs.Text.{indent, quoted}
-use Rattle.bson_text.specs.ValueText.{string_text, inner_document_text, array_text, binary_text, boolean_text, datetime_text, regex_text, dbpointer_text, code_text, symbol_text, codescope_text, int32_text, timestamp_text, int64_text}
+use Rattle.bson_text.specs.ValueText.{string_text, inner_document_text, array_text, binary_text}
+use Rattle.bson_text.specs.ValueText.{boolean_text, datetime_text, regex_text, dbpointer_text}
+use Rattle.bson_text.specs.ValueText.{code_text, symbol_text, codescope_text, int32_text}
+use Rattle.bson_text.specs.ValueText.{timestamp_text, int64_text}
 
--- a leaf of this kind, as its line has it behind the name; bytes are in file order
+-- what follows the name in the line of a leaf; bytes are in file order
 abbrev pub leaf_text : Kind → Leaf → List ℕ
 leaf_text Double (raw_value bytes) = codes " double " ++ encode_lower bytes
 leaf_text String (text_value words) = string_text words
@@ -30,28 +39,32 @@ leaf_text MinKey (raw_value bytes) = codes " minkey"
 leaf_text MaxKey (raw_value bytes) = codes " maxkey"
 leaf_text _ _ = []
 
--- a document of this kind and so many bytes, with what stands beside it, as its line has it behind the name
+-- what follows the name in the line of a document, an array or a code with scope: the kind, what
+-- is beside the document, and its size
 abbrev pub inner_text : Kind → Beside → ℕ → List ℕ
 inner_text Document no_code size = inner_document_text size
 inner_text Array no_code size = array_text size
 inner_text CodeWithScope (with_code words) size = codescope_text words size
 inner_text _ _ size = []
 
--- the line of an element so deep, of this name, whose value has this text
+-- the line of an element at this depth, by its name and the text of its value
 abbrev pub element_line : ℕ → List ℕ → List ℕ → List ℕ
 element_line deep name shown = indent deep ++ (quoted name ++ (shown ++ codes "\n"))
 
--- how many bytes the document of these pairs has
+-- the number of bytes of the document of these pairs
 abbrev pub document_size : Tree → ℕ
 document_size t = length (document (elements t))
 
--- the lines of the pairs, so deep; those of an inner document follow its own line, one deeper
+-- the lines of the pairs at this depth; those of an inner document follow its own line, one deeper
 abbrev pub element_lines : ℕ → Tree → List ℕ
 element_lines deep no_pairs = []
-element_lines deep (leaf_pair name k v ps) = element_line deep name (leaf_text k v) ++ element_lines deep ps
+element_lines deep (leaf_pair name k v ps) =
+    element_line deep name (leaf_text k v) ++ element_lines deep ps
 element_lines deep (inner_pair name k b inner ps) =
-    element_line deep name (inner_text k b (document_size inner)) ++ (element_lines (deep + 1) inner ++ element_lines deep ps)
+    element_line deep name (inner_text k b (document_size inner))
+    ++ (element_lines (deep + 1) inner ++ element_lines deep ps)
 
 -- the text of a document: the line of its size, and those of its elements
 abbrev pub document_text : Tree → List ℕ
-document_text t = codes "document " ++ (decimal (document_size t) ++ (codes "\n" ++ element_lines 1 t))
+document_text t =
+    codes "document " ++ (decimal (document_size t) ++ (codes "\n" ++ element_lines 1 t))

@@ -4,7 +4,7 @@ use Rattle.bson_elem.specs.{Spells, Tree}
 use Rattle.bson_raw.specs.{TreeValue, document_value, leaf_value}
 use Rattle.bson_text.specs.Dump.{leaf_text, inner_text, document_size, element_lines}
 
--- the value, as its line has it behind the name
+-- what follows the name in the line of the value
 abbrev pub value_text : TreeValue → List ℕ
 value_text (leaf_value k v) = leaf_text k v
 value_text (document_value k b inner) = inner_text k b (document_size inner)
@@ -18,13 +18,16 @@ held_tree (document_value k b inner) = Some inner
 abbrev pub IsHeld : TreeValue → List ℕ → Type 0
 IsHeld v bytes = (inner : Tree) × (held_tree v ≡ Some inner) × Spells inner bytes
 
--- The lines of the pairs of t are written up to that of a pair whose value holds pairs of its own, which are spelled by
--- these bytes. To be written are the lines of those, and then of the others, which are left.
-pub record StopsAt (deep : ℕ) (t : Tree) (bytes : List ℕ) (IsLeft : Tree → Type 0) (IsWritten : List ℕ → Type 0) : Type 0 where
+-- The lines of the pairs of t are written, up to that of the first pair whose value holds pairs of
+-- its own; these bytes spell those. Still to be written are the lines of those pairs, and of the
+-- others that are left.
+pub record StopsAt (deep : ℕ) (t : Tree) (bytes : List ℕ) (IsLeft : Tree → Type 0)
+    (IsWritten : List ℕ → Type 0) : Type 0 where
   pub inner : Tree
   pub others : Tree
   pub text : List ℕ
   pub spelled : Spells inner bytes
   pub left : IsLeft others
   pub written : IsWritten text
-  pub lines : element_lines deep t ≡ text ++ (element_lines (deep + 1) inner ++ element_lines deep others)
+  pub lines : element_lines deep t
+      ≡ text ++ (element_lines (deep + 1) inner ++ element_lines deep others)

@@ -1,4 +1,5 @@
--- What stands after an element's name in a dump: a space, the kind's word and, where there is one, the value.
+-- What follows an element's name in a dump: a space, the kind's word and, if the kind has one, the
+-- value.
 use Rattle.std.specs.Prelude.{ℕ, ℤ, Bool, true, false, List, [], ◌∷◌, ◌++◌, codes, length}
 use Rattle.std.specs.Fmt.{decimal, signed_decimal}
 use Rattle.hex.specs.Hex.{encode_lower}
@@ -7,23 +8,24 @@ use Rattle.bson_text.specs.Text.{quoted}
 abbrev pub string_text : List ℕ → List ℕ
 string_text text = codes " string " ++ quoted text
 
--- the count of a document's bytes
+-- a document, by its size in bytes
 abbrev pub inner_document_text : ℕ → List ℕ
 inner_document_text size = codes " document " ++ decimal size
 
--- the count of an array's bytes
+-- an array, by its size in bytes
 abbrev pub array_text : ℕ → List ℕ
 array_text size = codes " array " ++ decimal size
 
--- the data after their count: nothing where there are none
+-- the data after their number: nothing if there are none
 abbrev pub data_text : List ℕ → List ℕ
 data_text [] = []
 data_text (b ∷ rest) = codes " " ++ encode_lower (b ∷ rest)
 
--- a subtype, the count of the data and the data
+-- a subtype, the number of data bytes, and the data
 abbrev pub binary_text : ℕ → List ℕ → List ℕ
 binary_text subtype bytes =
-    codes " binary " ++ (encode_lower (subtype ∷ []) ++ (codes " " ++ (decimal (length bytes) ++ data_text bytes)))
+    codes " binary " ++ (encode_lower (subtype ∷ [])
+    ++ (codes " " ++ (decimal (length bytes) ++ data_text bytes)))
 
 abbrev pub boolean_text : Bool → List ℕ
 boolean_text true = codes " boolean true"
@@ -46,7 +48,7 @@ code_text text = codes " code " ++ quoted text
 abbrev pub symbol_text : List ℕ → List ℕ
 symbol_text text = codes " symbol " ++ quoted text
 
--- the code and the count of its scope's bytes
+-- the code and the scope's size in bytes
 abbrev pub codescope_text : List ℕ → ℕ → List ℕ
 codescope_text code size = codes " codescope " ++ (quoted code ++ (codes " " ++ decimal size))
 
@@ -54,7 +56,8 @@ abbrev pub int32_text : ℤ → List ℕ
 int32_text value = codes " int32 " ++ signed_decimal value
 
 abbrev pub timestamp_text : ℕ → ℕ → List ℕ
-timestamp_text seconds increment = codes " timestamp " ++ (decimal seconds ++ (codes " " ++ decimal increment))
+timestamp_text seconds increment =
+    codes " timestamp " ++ (decimal seconds ++ (codes " " ++ decimal increment))
 
 abbrev pub int64_text : ℤ → List ℕ
 int64_text value = codes " int64 " ++ signed_decimal value

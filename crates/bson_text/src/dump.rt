@@ -1,10 +1,12 @@
-//! The text of a document: the line of its size, and a line for each element, at all depths. No
-//! function here takes memory.
+//! Writes the text of a document: the line of its size, and a line for each element, at all
+//! depths. No function here takes memory.
 
-ghost use Rattle.std.specs.Prelude.{◌≡◌, ◌+◌, ◌<◌, ◌≤◌, ◌^◌, IfOk, IfSome, MatchOption, None, OnOk, length};
-ghost use Rattle.std.specs.Io.KnownBytes.{Appends};
+ghost use Rattle.std.specs.Prelude.{◌≡◌, ◌+◌, ◌<◌, ◌≤◌, ◌^◌, IfOk, IfSome, MatchOption, None, OnOk};
+ghost use Rattle.std.specs.Prelude.{length};
+ghost use Rattle.bson_text.specs.Writing.{WritesOut};
 ghost use Rattle.bson_elem.specs.{Spells, Tree};
-ghost use Rattle.bson_raw.specs.{PairsLeft, Shows, TreeValue, document_bytes, held_len, pairs_bound, walked_len};
+ghost use Rattle.bson_raw.specs.{PairsLeft, Shows, TreeValue, document_bytes, held_len};
+ghost use Rattle.bson_raw.specs.{pairs_bound, walked_len};
 ghost use Rattle.bson_text.specs.Dump.{document_text, element_line, element_lines};
 ghost use Rattle.bson_text.specs.TextWriter.{text_contents};
 ghost use Rattle.bson_text.specs.DumpValues.{IsHeld, StopsAt, held_tree, value_text};
@@ -21,10 +23,10 @@ use core::mem::replace_with;
 use std::io;
 use std::io::Write;
 
-/// Writes the word of the value's kind and the value, which stand behind an element's name.
+/// Writes the word of the value's kind, and the value, as they follow an element's name.
 fn write_value<W: Write>(value: RawBson<'_>, out: &mut TextWriter<W>) -> Result<(), Failed>
     ensures { (v : TreeValue) → Shows value.entry v → OnOk result
-        (Appends (text_contents W.contents out.old) (text_contents W.contents out.new) (value_text v)) }
+        (WritesOut (text_contents W.contents) out.old out.new (value_text v)) }
 {
     match value {
         RawBson::Double(bytes) => write_raw(b" double ", &bytes, out),
@@ -62,7 +64,7 @@ fn write_line<W: Write>(
     out: &mut TextWriter<W>,
 ) -> Result<(), Failed>
     ensures { (v : TreeValue) → Shows value.entry v → OnOk result
-        (Appends (text_contents W.contents out.old) (text_contents W.contents out.new)
+        (WritesOut (text_contents W.contents) out.old out.new
         (element_line deep name.now (value_text v))) }
 {
     write_indent(deep, out)?;
@@ -71,7 +73,7 @@ fn write_line<W: Write>(
     out.write_all(b"\n")
 }
 
-/// Returns the document of the elements that a value holds, if it holds any kind of document.
+/// Returns the document, array or scope that a value holds, if it holds one.
 fn held_document(value: RawBson<'_>) -> Option<RawDocument<'_>>
     ensures tree { (v : TreeValue) → Shows value.entry v → MatchOption result (held_tree v ≡ None)
         (λ d. IsHeld v (document_bytes d)) }
@@ -85,9 +87,9 @@ fn held_document(value: RawBson<'_>) -> Option<RawDocument<'_>>
     }
 }
 
-/// Writes the lines of the next elements, up to and with the first that holds a document. Returns
-/// that document, or `None` after the last element. It isn't inlined, so that a level of nesting
-/// takes little of the stack.
+/// Writes the lines of the next elements, up to the first that holds a document, and that one's
+/// too. Returns that document, or `None` after the last element. Not inlined, so that a level of
+/// nesting takes little of the stack.
 #[inline(never)]
 fn write_to_held<'a, W: Write>(
     pairs: &mut RawIter<'a>,
@@ -95,9 +97,9 @@ fn write_to_held<'a, W: Write>(
     out: &mut TextWriter<W>,
 ) -> Result<Option<RawDocument<'a>>, Failed>
     ensures lines { (t : Tree) → PairsLeft pairs.old t → IfOk result (λ held. MatchOption held
-        (Appends (text_contents W.contents out.old) (text_contents W.contents out.new) (element_lines deep t))
+        (WritesOut (text_contents W.contents) out.old out.new (element_lines deep t))
         (λ d. StopsAt deep t (document_bytes d) (PairsLeft pairs.new)
-        (Appends (text_contents W.contents out.old) (text_contents W.contents out.new)))) }
+        (WritesOut (text_contents W.contents) out.old out.new))) }
     ensures inside { IfOk result (λ held. IfSome held
         (λ d. length (document_bytes d) < walked_len pairs.old)) }
     ensures goes { IfOk result (λ held. IfSome held
@@ -122,7 +124,7 @@ fn write_lines<W: Write>(
 ) -> Result<(), Failed>
     requires { deep + length (document_bytes document) < 2 ^ 32 }
     ensures { (t : Tree) → Spells t (document_bytes document.entry) → OnOk result
-        (Appends (text_contents W.contents out.old) (text_contents W.contents out.new) (element_lines deep t)) }
+        (WritesOut (text_contents W.contents) out.old out.new (element_lines deep t)) }
 {
     let mut pairs = document.iter();
     while let Some(held) = write_to_held(&mut pairs, deep, out)? {
@@ -135,7 +137,7 @@ fn write_lines<W: Write>(
 fn lines_through<W: Write>(out: W, what: (RawDocument<'_>, u32)) -> (W, io::Result<()>)
     requires { what.1 ≤ 2 }
     ensures { (t : Tree) → Spells t (document_bytes what.entry.0) → OnOk result.1
-        (Appends (W.contents out) (W.contents result.0) (element_lines what.entry.1 t)) }
+        (WritesOut W.contents out result.0 (element_lines what.entry.1 t)) }
 {
     let (document, deep) = what;
     let mut text = TextWriter::new(out);
@@ -152,7 +154,7 @@ fn lines_through<W: Write>(out: W, what: (RawDocument<'_>, u32)) -> (W, io::Resu
 pub fn dump_elements<W: Write>(document: RawDocument<'_>, deep: u32, out: &mut W) -> io::Result<()>
     requires { (1 ≤ deep) × (deep ≤ 2) }
     ensures { (t : Tree) → Spells t (document_bytes document.entry) → OnOk result
-        (Appends (W.contents out.old) (W.contents out.new) (element_lines deep t)) }
+        (WritesOut W.contents out.old out.new (element_lines deep t)) }
 {
     replace_with(out, (document, deep), lines_through)
 }
@@ -160,7 +162,7 @@ pub fn dump_elements<W: Write>(document: RawDocument<'_>, deep: u32, out: &mut W
 /// Writes the line of a document's size, and its elements' lines.
 fn write_text<W: Write>(document: RawDocument<'_>, out: &mut TextWriter<W>) -> Result<(), Failed>
     ensures { (t : Tree) → Spells t (document_bytes document.entry) → OnOk result
-        (Appends (text_contents W.contents out.old) (text_contents W.contents out.new) (document_text t)) }
+        (WritesOut (text_contents W.contents) out.old out.new (document_text t)) }
 {
     out.write_all(b"document ")?;
     write_number(document.as_bytes().len(), out)?;
@@ -171,7 +173,7 @@ fn write_text<W: Write>(document: RawDocument<'_>, out: &mut TextWriter<W>) -> R
 /// Like `dump_to`, but takes the writer by value and returns it.
 fn document_through<W: Write>(out: W, document: RawDocument<'_>) -> (W, io::Result<()>)
     ensures { (t : Tree) → Spells t (document_bytes document.entry) → OnOk result.1
-        (Appends (W.contents out) (W.contents result.0) (document_text t)) }
+        (WritesOut W.contents out result.0 (document_text t)) }
 {
     let mut text = TextWriter::new(out);
     let written = write_text(document, &mut text);
@@ -185,7 +187,7 @@ fn document_through<W: Write>(out: W, document: RawDocument<'_>) -> (W, io::Resu
 /// Returns the error of the writer, which may have taken a part of the text.
 pub fn dump_to<W: Write>(document: RawDocument<'_>, out: &mut W) -> io::Result<()>
     ensures { (t : Tree) → Spells t (document_bytes document.entry) → OnOk result
-        (Appends (W.contents out.old) (W.contents out.new) (document_text t)) }
+        (WritesOut W.contents out.old out.new (document_text t)) }
 {
     replace_with(out, document, document_through)
 }

@@ -1,10 +1,12 @@
-//! The text of BSON documents.
+//! Writes the text of BSON documents.
 //!
-//! `dump::dump_to` writes the text of a borrowed document: a line with the count of its bytes, and a line for each
-//! element at all depths. `dump::dump_elements` writes the elements' lines alone. `to_writer` writes the parts that
-//! other texts share with it: numbers, quoted text and hexadecimal digits. No function of this crate takes memory.
+//! `dump::dump_to` writes the text of a borrowed document: a line with its size in bytes, and a
+//! line for each element at all depths. `dump::dump_elements` writes the elements' lines alone.
+//! `to_writer` writes the parts that other texts share with it: numbers, quoted text and
+//! hexadecimal digits. No function of this crate takes memory.
 //!
-//! Stands on bson_raw. bson_doc, wire_play, engines and test_server stand on it. Read first: `dump`.
+//! Uses bson_raw. Used by bson_doc, wire_text, wire_play, engines and test_server. Read first:
+//! `dump`.
 #![tactic(auto)]
 
 mod dump;

@@ -1,7 +1,9 @@
-//! Indentation, numbers, quoted text and hexadecimal digits: the parts of the text of documents.
+//! Writes the parts of the text of documents: indentation, numbers, quoted text and hexadecimal
+//! digits.
 
-ghost use Rattle.std.specs.Prelude.{◌≡◌, ◌+◌, ◌≤◌, MatchOption, OnOk, Some, flat_map, length, position};
-ghost use Rattle.std.specs.Io.KnownBytes.{Appends};
+ghost use Rattle.std.specs.Prelude.{◌≡◌, ◌+◌, ◌≤◌, MatchOption, OnOk, Some, flat_map, length};
+ghost use Rattle.std.specs.Prelude.{position};
+ghost use Rattle.bson_text.specs.Writing.{WritesOut};
 ghost use Rattle.hex.specs.Hex.{encode_lower};
 ghost use Rattle.bson_text.specs.TextWriter.{text_contents};
 ghost use Rattle.bson_text.specs.Text.{NeedsNoEscapeBefore, escaped, indent, needs_escape, quoted};
@@ -11,15 +13,15 @@ use itoa::{Buffer, Integer};
 use std::io::Write;
 use std::simd::prelude::*;
 
-/// The greatest count of bytes that are written as digits at a time.
+/// The most bytes that are written as digits at a time.
 const HEX_CHUNK: usize = 128;
 
-/// The greatest count of bytes of a number or an id.
+/// The most bytes that a number or an id has.
 const HEX_FEW: usize = 16;
 
 /// Writes two spaces `deep` times.
 pub(crate) fn write_indent<W: Write>(deep: u32, out: &mut TextWriter<W>) -> Result<(), Failed>
-    ensures { OnOk result (Appends (text_contents W.contents out.old) (text_contents W.contents out.new) (indent deep)) }
+    ensures { OnOk result (WritesOut (text_contents W.contents) out.old out.new (indent deep)) }
 {
     for _ in 0..deep {
         out.write_all(b"  ")?;
@@ -27,7 +29,7 @@ pub(crate) fn write_indent<W: Write>(deep: u32, out: &mut TextWriter<W>) -> Resu
     Ok(())
 }
 
-/// Returns true if quoted text has a backslash for the byte.
+/// Returns true if the byte is escaped in quoted text.
 #[inline(always)]
 fn is_escaped(b: u8) -> bool
     ensures { result ≡ needs_escape b }
@@ -35,7 +37,8 @@ fn is_escaped(b: u8) -> bool
     matches!(b, b'"' | b'\\' | 0..=31 | 127)
 }
 
-/// Returns the offset of the first byte to escape, if it is one of the 16 bytes at offset `at`.
+/// Returns the offset of the first byte to escape among the 16 bytes at offset `at`, if there is
+/// one.
 #[inline(always)]
 fn escaped_in_16(bytes: &[u8], at: usize) -> Option<usize>
     requires { (at + 16 ≤ length bytes.now) × NeedsNoEscapeBefore bytes.now at }
@@ -53,7 +56,8 @@ fn escaped_in_16(bytes: &[u8], at: usize) -> Option<usize>
     Some(at + mask.trailing_zeros() as usize)
 }
 
-/// Returns the offset of the first byte to escape, if it is one of the 4 bytes at offset `at`.
+/// Returns the offset of the first byte to escape among the 4 bytes at offset `at`, if there is
+/// one.
 #[inline(always)]
 fn escaped_in_4(bytes: &[u8], at: usize) -> Option<usize>
     requires { (at + 4 ≤ length bytes.now) × NeedsNoEscapeBefore bytes.now at }
@@ -71,7 +75,7 @@ fn escaped_in_4(bytes: &[u8], at: usize) -> Option<usize>
     Some(at + mask.trailing_zeros() as usize)
 }
 
-/// Like `first_escaped`, for fewer than 4 bytes.
+/// Does what `first_escaped` does, for fewer than 4 bytes.
 #[inline(always)]
 fn escaped_one_by_one(bytes: &[u8]) -> Option<usize>
     ensures { result ≡ position needs_escape bytes.now }
@@ -84,7 +88,7 @@ fn escaped_one_by_one(bytes: &[u8]) -> Option<usize>
     None
 }
 
-/// Like `first_escaped`, for fewer than 16 bytes.
+/// Does what `first_escaped` does, for fewer than 16 bytes.
 #[inline(always)]
 fn escaped_in_few(bytes: &[u8]) -> Option<usize>
     ensures { result ≡ position needs_escape bytes.now }
@@ -103,7 +107,7 @@ fn escaped_in_few(bytes: &[u8]) -> Option<usize>
     escaped_in_4(bytes, bytes.len() - 4)
 }
 
-/// Returns the offset of the first byte that quoted text has a backslash for.
+/// Returns the offset of the first byte to escape.
 fn first_escaped(bytes: &[u8]) -> Option<usize>
     ensures { result ≡ position needs_escape bytes.now }
 {
@@ -121,9 +125,9 @@ fn first_escaped(bytes: &[u8]) -> Option<usize>
     escaped_in_16(bytes, bytes.len() - 16)
 }
 
-/// Writes one byte as quoted text has it.
+/// Writes one byte as it appears in quoted text.
 fn write_escaped<W: Write>(b: u8, out: &mut TextWriter<W>) -> Result<(), Failed>
-    ensures { OnOk result (Appends (text_contents W.contents out.old) (text_contents W.contents out.new) (escaped b)) }
+    ensures { OnOk result (WritesOut (text_contents W.contents) out.old out.new (escaped b)) }
 {
     match b {
         b'"' => out.write_all(b"\\\""),
@@ -136,10 +140,10 @@ fn write_escaped<W: Write>(b: u8, out: &mut TextWriter<W>) -> Result<(), Failed>
     }
 }
 
-/// Writes bytes as quoted text has them, each run of bytes that need no escape by one call.
+/// Writes bytes as they appear in quoted text, each run of bytes that need no escape in one call.
 #[inline(never)]
 fn write_runs<W: Write>(bytes: &[u8], out: &mut TextWriter<W>) -> Result<(), Failed>
-    ensures { OnOk result (Appends (text_contents W.contents out.old) (text_contents W.contents out.new)
+    ensures { OnOk result (WritesOut (text_contents W.contents) out.old out.new
         (flat_map escaped bytes.now)) }
 {
     let mut rest = bytes;
@@ -154,7 +158,7 @@ fn write_runs<W: Write>(bytes: &[u8], out: &mut TextWriter<W>) -> Result<(), Fai
 
 /// Writes a text between quotes.
 pub(crate) fn write_quoted<W: Write>(text: &str, out: &mut TextWriter<W>) -> Result<(), Failed>
-    ensures { OnOk result (Appends (text_contents W.contents out.old) (text_contents W.contents out.new) (quoted text.now)) }
+    ensures { OnOk result (WritesOut (text_contents W.contents) out.old out.new (quoted text.now)) }
 {
     let bytes = text.as_bytes();
     out.write_all(b"\"")?;
@@ -171,7 +175,7 @@ pub(crate) fn write_number<I: Integer, W: Write>(
     number: I,
     out: &mut TextWriter<W>,
 ) -> Result<(), Failed>
-    ensures { OnOk result (Appends (text_contents W.contents out.old) (text_contents W.contents out.new) (I.text number)) }
+    ensures { OnOk result (WritesOut (text_contents W.contents) out.old out.new (I.text number)) }
 {
     let mut digits = Buffer::new();
     out.write_all(digits.format(number).as_bytes())
@@ -180,7 +184,7 @@ pub(crate) fn write_number<I: Integer, W: Write>(
 /// Writes at most 16 bytes as lower-case hexadecimal digits.
 fn write_hex_few<W: Write>(few: &[u8], out: &mut TextWriter<W>) -> Result<(), Failed>
     requires { length few.now ≤ HEX_FEW }
-    ensures { OnOk result (Appends (text_contents W.contents out.old) (text_contents W.contents out.new)
+    ensures { OnOk result (WritesOut (text_contents W.contents) out.old out.new
         (encode_lower few.now)) }
 {
     let mut buffer = [0u8; 2 * HEX_FEW];
@@ -193,7 +197,7 @@ fn write_hex_few<W: Write>(few: &[u8], out: &mut TextWriter<W>) -> Result<(), Fa
 /// Writes at most 128 bytes as lower-case hexadecimal digits.
 fn write_hex_chunk<W: Write>(chunk: &[u8], out: &mut TextWriter<W>) -> Result<(), Failed>
     requires { length chunk.now ≤ HEX_CHUNK }
-    ensures { OnOk result (Appends (text_contents W.contents out.old) (text_contents W.contents out.new)
+    ensures { OnOk result (WritesOut (text_contents W.contents) out.old out.new
         (encode_lower chunk.now)) }
 {
     let mut buffer = [0u8; 2 * HEX_CHUNK];
@@ -205,7 +209,7 @@ fn write_hex_chunk<W: Write>(chunk: &[u8], out: &mut TextWriter<W>) -> Result<()
 
 /// Writes any count of bytes as lower-case hexadecimal digits.
 pub(crate) fn write_hex<W: Write>(bytes: &[u8], out: &mut TextWriter<W>) -> Result<(), Failed>
-    ensures { OnOk result (Appends (text_contents W.contents out.old) (text_contents W.contents out.new)
+    ensures { OnOk result (WritesOut (text_contents W.contents) out.old out.new
         (encode_lower bytes.now)) }
 {
     if bytes.len() <= HEX_FEW {

@@ -1,24 +1,26 @@
-//! A writer behind a small buffer, which keeps the first error.
+//! Puts a small buffer in front of a writer, and keeps the first error.
 
 ghost use Rattle.std.specs.Prelude.{◌≡◌, [], Err, IfSome, IsSome, Ok, OnErr, OnOk};
-ghost use Rattle.std.specs.Io.KnownBytes.{Appends, Keeps};
+ghost use Rattle.std.specs.Io.KnownBytes.{Keeps};
+ghost use Rattle.bson_text.specs.Writing.{WritesOut};
 ghost use Rattle.bson_text.specs.TextWriter.{text_contents};
 
 use arrayvec::ArrayVec;
 use std::io;
 use std::io::{ErrorKind, Write};
 
-/// The greatest count of bytes that wait for the writer.
+/// The most bytes that wait for the writer.
 const BUFFER: usize = 512;
 
-/// Tells that the writer failed. The `TextWriter` keeps its error.
+/// The writer failed. Its error is in the `TextWriter`.
 #[derive(Clone, Copy, Debug, PartialEq, Eq)]
 pub(crate) struct Failed;
 
-/// Holds a writer, and a few bytes that wait for it.
+/// A writer, and a few bytes that wait for it.
 ///
-/// A line of text has about eight parts, and an `io::Result` has 96 bytes, which each part would clear and pass on.
-/// Here each part returns one byte, and the error of the writer is kept until `finish`.
+/// A line of text has about eight parts, and an `io::Result` has 96 bytes, which each part would
+/// clear and pass on. So each part returns one byte, and the error of the writer is kept until
+/// `finish`.
 pub(crate) struct TextWriter<W> {
     out: W,
     text: ArrayVec<u8, BUFFER>,
@@ -27,7 +29,7 @@ pub(crate) struct TextWriter<W> {
 
 #[tactic(auto, unfolding(crate::specs::TextWriter::text_contents))]
 impl<W: Write> TextWriter<W> {
-    /// Returns a `TextWriter` over `out` for which no bytes wait.
+    /// Makes a `TextWriter` over `out`, with nothing waiting.
     pub(crate) fn new(out: W) -> TextWriter<W>
         ensures { Keeps (W.contents out) (text_contents W.contents result) }
     {
@@ -41,8 +43,8 @@ impl<W: Write> TextWriter<W> {
     /// Writes all of `bytes`. If that fails, the writer's error is kept.
     #[inline(always)]
     pub(crate) fn write_all(&mut self, bytes: &[u8]) -> Result<(), Failed>
-        ensures bytes { OnOk result (Appends (text_contents W.contents self.old)
-            (text_contents W.contents self.new) bytes.now) }
+        ensures bytes { OnOk result
+            (WritesOut (text_contents W.contents) self.old self.new bytes.now) }
         ensures kept { OnErr result (IsSome self.new.error) }
     {
         match self.text.try_extend_from_slice(bytes) {
@@ -51,12 +53,13 @@ impl<W: Write> TextWriter<W> {
         }
     }
 
-    /// Writes bytes for which the buffer has no room left. It isn't inlined, so that the test for room can be.
+    /// Writes bytes for which the buffer has no room. Not inlined, so that the test for room can
+    /// be.
     #[cold]
     #[inline(never)]
     fn write_all_past(&mut self, bytes: &[u8]) -> Result<(), Failed>
-        ensures bytes { OnOk result (Appends (text_contents W.contents self.old)
-            (text_contents W.contents self.new) bytes.now) }
+        ensures bytes { OnOk result
+            (WritesOut (text_contents W.contents) self.old self.new bytes.now) }
         ensures kept { OnErr result (IsSome self.new.error) }
     {
         self.pass_on()?;
@@ -66,7 +69,7 @@ impl<W: Write> TextWriter<W> {
         }
     }
 
-    /// Passes the bytes that wait on to the writer.
+    /// Writes the waiting bytes to the writer.
     fn pass_on(&mut self) -> Result<(), Failed>
         ensures bytes { OnOk result (Keeps (text_contents W.contents self.old)
             (text_contents W.contents self.new)) }
@@ -85,11 +88,11 @@ impl<W: Write> TextWriter<W> {
         }
     }
 
-    /// Passes `bytes` on to the writer. No bytes may wait.
+    /// Writes `bytes` to the writer. No bytes may wait.
     fn write_through(&mut self, bytes: &[u8]) -> Result<(), Failed>
         requires { self.old.text.items ≡ [] }
-        ensures bytes { OnOk result (Appends (text_contents W.contents self.old)
-            (text_contents W.contents self.new) bytes.now) }
+        ensures bytes { OnOk result
+            (WritesOut (text_contents W.contents) self.old self.new bytes.now) }
         ensures kept { OnErr result (IsSome self.new.error) }
     {
         match self.out.write_all(bytes) {
@@ -101,10 +104,12 @@ impl<W: Write> TextWriter<W> {
         }
     }
 
-    /// Passes on what waits, if all writes before succeeded. Returns the writer, and its error if it failed.
+    /// Writes the waiting bytes, if all writes before succeeded. Returns the writer, and its error
+    /// if it failed.
     pub(crate) fn finish(mut self, written: Result<(), Failed>) -> (W, io::Result<()>)
         ensures whole { OnOk result.1 (written ≡ Ok tt) }
-        ensures bytes { OnOk result.1 (Keeps (text_contents W.contents self) (W.contents result.0)) }
+        ensures bytes { OnOk result.1
+            (Keeps (text_contents W.contents self) (W.contents result.0)) }
         ensures failed { OnErr written (IfSome self.error (λ e. result.1 ≡ Err e)) }
     {
         let ended = match written {
@@ -114,7 +119,7 @@ impl<W: Write> TextWriter<W> {
         self.into_writer(ended)
     }
 
-    /// Returns the writer, and the error that was kept if it failed.
+    /// Returns the writer, and the kept error if it failed.
     fn into_writer(self, ended: Result<(), Failed>) -> (W, io::Result<()>)
         ensures whole { OnOk result.1 (ended ≡ Ok tt) }
         ensures writer { result.0 ≡ self.out }

@@ -1,7 +1,7 @@
-//! Numbers, quoted text and hexadecimal digits, for texts that have documents in them.
+//! Writes numbers, quoted text and hexadecimal digits, for texts that contain documents.
 
 ghost use Rattle.std.specs.Prelude.{OnOk};
-ghost use Rattle.std.specs.Io.KnownBytes.{Appends};
+ghost use Rattle.bson_text.specs.Writing.{WritesOut};
 ghost use Rattle.hex.specs.Hex.{encode_lower};
 ghost use Rattle.bson_text.specs.Text.{quoted};
 
@@ -14,7 +14,7 @@ use std::io::Write;
 
 /// Writes a number in decimal, with `-` if it is negative.
 pub fn number_to<I: Integer, W: Write>(number: I, out: &mut W) -> io::Result<()>
-    ensures { OnOk result (Appends (W.contents out.old) (W.contents out.new) (I.text number)) }
+    ensures { OnOk result (WritesOut W.contents out.old out.new (I.text number)) }
 {
     let mut digits = Buffer::new();
     out.write_all(digits.format(number).as_bytes())
@@ -22,23 +22,24 @@ pub fn number_to<I: Integer, W: Write>(number: I, out: &mut W) -> io::Result<()>
 
 /// Like `quoted_to`, but takes the writer by value and returns it.
 fn quoted_through<W: Write>(out: W, text: &str) -> (W, io::Result<()>)
-    ensures { OnOk result.1 (Appends (W.contents out) (W.contents result.0) (quoted text.now)) }
+    ensures { OnOk result.1 (WritesOut W.contents out result.0 (quoted text.now)) }
 {
     let mut waiting = TextWriter::new(out);
     let written = write_quoted(text, &mut waiting);
     waiting.finish(written)
 }
 
-/// Writes a text between quotes: `"` and `\` behind a backslash, 00 to 1F and 7F as `\x` and two digits.
+/// Writes a text between quotes. In it `"` and `\` follow a backslash, and 00 to 1F and 7F are
+/// `\x` and two digits.
 pub fn quoted_to<W: Write>(text: &str, out: &mut W) -> io::Result<()>
-    ensures { OnOk result (Appends (W.contents out.old) (W.contents out.new) (quoted text.now)) }
+    ensures { OnOk result (WritesOut W.contents out.old out.new (quoted text.now)) }
 {
     replace_with(out, text, quoted_through)
 }
 
 /// Like `hex_to`, but takes the writer by value and returns it.
 fn hex_through<W: Write>(out: W, bytes: &[u8]) -> (W, io::Result<()>)
-    ensures { OnOk result.1 (Appends (W.contents out) (W.contents result.0) (encode_lower bytes.now)) }
+    ensures { OnOk result.1 (WritesOut W.contents out result.0 (encode_lower bytes.now)) }
 {
     let mut waiting = TextWriter::new(out);
     let written = write_hex(bytes, &mut waiting);
@@ -47,7 +48,7 @@ fn hex_through<W: Write>(out: W, bytes: &[u8]) -> (W, io::Result<()>)
 
 /// Writes bytes as lower-case hexadecimal digits.
 pub fn hex_to<W: Write>(bytes: &[u8], out: &mut W) -> io::Result<()>
-    ensures { OnOk result (Appends (W.contents out.old) (W.contents out.new) (encode_lower bytes.now)) }
+    ensures { OnOk result (WritesOut W.contents out.old out.new (encode_lower bytes.now)) }
 {
     replace_with(out, bytes, hex_through)
 }

@@ -1,13 +1,17 @@
-//! The text behind an element's name: a space, the word of the kind and the value, if the kind has one.
+//! Writes what follows an element's name: a space, the word of the kind, and the value if the kind
+//! has one.
 //!
-//! No function here writes the name or the line feed. A kind with no value is its word alone, as
-//! ` null`, and has no function here; those whose values are bytes as they stand share `write_raw`.
+//! No function here writes the name or the line feed. A kind without a value is its word alone, as
+//! ` null`, and has no function here. Kinds whose values are plain bytes share `write_raw`.
 
 ghost use Rattle.std.specs.Prelude.{◌++◌, OnOk};
-ghost use Rattle.std.specs.Io.KnownBytes.{Appends};
+ghost use Rattle.bson_text.specs.Writing.{WritesOut};
 ghost use Rattle.hex.specs.Hex.{encode_lower};
 ghost use Rattle.bson_text.specs.TextWriter.{text_contents};
-ghost use Rattle.bson_text.specs.ValueText.{array_text, binary_text, boolean_text, code_text, codescope_text, datetime_text, dbpointer_text, inner_document_text, int32_text, int64_text, regex_text, string_text, symbol_text, timestamp_text};
+ghost use Rattle.bson_text.specs.ValueText.{array_text, binary_text, boolean_text, code_text};
+ghost use Rattle.bson_text.specs.ValueText.{codescope_text, datetime_text, dbpointer_text};
+ghost use Rattle.bson_text.specs.ValueText.{inner_document_text, int32_text, int64_text};
+ghost use Rattle.bson_text.specs.ValueText.{regex_text, string_text, symbol_text, timestamp_text};
 
 use crate::text::{write_hex, write_number, write_quoted};
 use crate::text_writer::{Failed, TextWriter};
@@ -20,7 +24,7 @@ pub(crate) fn write_raw<W: Write>(
     bytes: &[u8],
     out: &mut TextWriter<W>,
 ) -> Result<(), Failed>
-    ensures { OnOk result (Appends (text_contents W.contents out.old) (text_contents W.contents out.new)
+    ensures { OnOk result (WritesOut (text_contents W.contents) out.old out.new
         (word.now ++ encode_lower bytes.now)) }
 {
     out.write_all(word)?;
@@ -29,41 +33,40 @@ pub(crate) fn write_raw<W: Write>(
 
 /// Writes ` string ` and the quoted text.
 pub(crate) fn write_string<W: Write>(text: &str, out: &mut TextWriter<W>) -> Result<(), Failed>
-    ensures { OnOk result (Appends (text_contents W.contents out.old) (text_contents W.contents out.new)
+    ensures { OnOk result (WritesOut (text_contents W.contents) out.old out.new
         (string_text text.now)) }
 {
     out.write_all(b" string ")?;
     write_quoted(text, out)
 }
 
-/// Writes ` document ` and the count of its bytes.
+/// Writes ` document ` and its size in bytes.
 pub(crate) fn write_inner_document<W: Write>(
     size: usize,
     out: &mut TextWriter<W>,
 ) -> Result<(), Failed>
-    ensures { OnOk result (Appends (text_contents W.contents out.old) (text_contents W.contents out.new)
+    ensures { OnOk result (WritesOut (text_contents W.contents) out.old out.new
         (inner_document_text size)) }
 {
     out.write_all(b" document ")?;
     write_number(size, out)
 }
 
-/// Writes ` array ` and the count of its bytes.
+/// Writes ` array ` and its size in bytes.
 pub(crate) fn write_array<W: Write>(size: usize, out: &mut TextWriter<W>) -> Result<(), Failed>
-    ensures { OnOk result (Appends (text_contents W.contents out.old) (text_contents W.contents out.new)
-        (array_text size)) }
+    ensures { OnOk result (WritesOut (text_contents W.contents) out.old out.new (array_text size)) }
 {
     out.write_all(b" array ")?;
     write_number(size, out)
 }
 
-/// Writes ` binary `, the subtype, the count of the data and, where there are any, the data.
+/// Writes ` binary `, the subtype, the number of data bytes and, if there are any, the data.
 pub(crate) fn write_binary<W: Write>(
     subtype: u8,
     bytes: &[u8],
     out: &mut TextWriter<W>,
 ) -> Result<(), Failed>
-    ensures { OnOk result (Appends (text_contents W.contents out.old) (text_contents W.contents out.new)
+    ensures { OnOk result (WritesOut (text_contents W.contents) out.old out.new
         (binary_text subtype bytes.now)) }
 {
     out.write_all(b" binary ")?;
@@ -79,7 +82,7 @@ pub(crate) fn write_binary<W: Write>(
 
 /// Writes ` boolean true` or ` boolean false`.
 pub(crate) fn write_boolean<W: Write>(value: bool, out: &mut TextWriter<W>) -> Result<(), Failed>
-    ensures { OnOk result (Appends (text_contents W.contents out.old) (text_contents W.contents out.new)
+    ensures { OnOk result (WritesOut (text_contents W.contents) out.old out.new
         (boolean_text value)) }
 {
     let text = if value {
@@ -95,7 +98,7 @@ pub(crate) fn write_datetime<W: Write>(
     milliseconds: i64,
     out: &mut TextWriter<W>,
 ) -> Result<(), Failed>
-    ensures { OnOk result (Appends (text_contents W.contents out.old) (text_contents W.contents out.new)
+    ensures { OnOk result (WritesOut (text_contents W.contents) out.old out.new
         (datetime_text milliseconds)) }
 {
     out.write_all(b" datetime ")?;
@@ -108,7 +111,7 @@ pub(crate) fn write_regex<W: Write>(
     options: &str,
     out: &mut TextWriter<W>,
 ) -> Result<(), Failed>
-    ensures { OnOk result (Appends (text_contents W.contents out.old) (text_contents W.contents out.new)
+    ensures { OnOk result (WritesOut (text_contents W.contents) out.old out.new
         (regex_text pattern.now options.now)) }
 {
     out.write_all(b" regex ")?;
@@ -123,7 +126,7 @@ pub(crate) fn write_dbpointer<W: Write>(
     id: &[u8; 12],
     out: &mut TextWriter<W>,
 ) -> Result<(), Failed>
-    ensures { OnOk result (Appends (text_contents W.contents out.old) (text_contents W.contents out.new)
+    ensures { OnOk result (WritesOut (text_contents W.contents) out.old out.new
         (dbpointer_text name.now id.now)) }
 {
     out.write_all(b" dbpointer ")?;
@@ -134,7 +137,7 @@ pub(crate) fn write_dbpointer<W: Write>(
 
 /// Writes ` code ` and the quoted code.
 pub(crate) fn write_code<W: Write>(text: &str, out: &mut TextWriter<W>) -> Result<(), Failed>
-    ensures { OnOk result (Appends (text_contents W.contents out.old) (text_contents W.contents out.new)
+    ensures { OnOk result (WritesOut (text_contents W.contents) out.old out.new
         (code_text text.now)) }
 {
     out.write_all(b" code ")?;
@@ -143,20 +146,20 @@ pub(crate) fn write_code<W: Write>(text: &str, out: &mut TextWriter<W>) -> Resul
 
 /// Writes ` symbol ` and the quoted text.
 pub(crate) fn write_symbol<W: Write>(text: &str, out: &mut TextWriter<W>) -> Result<(), Failed>
-    ensures { OnOk result (Appends (text_contents W.contents out.old) (text_contents W.contents out.new)
+    ensures { OnOk result (WritesOut (text_contents W.contents) out.old out.new
         (symbol_text text.now)) }
 {
     out.write_all(b" symbol ")?;
     write_quoted(text, out)
 }
 
-/// Writes ` codescope `, the quoted code and the count of the scope's bytes.
+/// Writes ` codescope `, the quoted code and the scope's size in bytes.
 pub(crate) fn write_codescope<W: Write>(
     code: &str,
     size: usize,
     out: &mut TextWriter<W>,
 ) -> Result<(), Failed>
-    ensures { OnOk result (Appends (text_contents W.contents out.old) (text_contents W.contents out.new)
+    ensures { OnOk result (WritesOut (text_contents W.contents) out.old out.new
         (codescope_text code.now size)) }
 {
     out.write_all(b" codescope ")?;
@@ -167,7 +170,7 @@ pub(crate) fn write_codescope<W: Write>(
 
 /// Writes ` int32 ` and the number.
 pub(crate) fn write_int32<W: Write>(value: i32, out: &mut TextWriter<W>) -> Result<(), Failed>
-    ensures { OnOk result (Appends (text_contents W.contents out.old) (text_contents W.contents out.new)
+    ensures { OnOk result (WritesOut (text_contents W.contents) out.old out.new
         (int32_text value)) }
 {
     out.write_all(b" int32 ")?;
@@ -180,7 +183,7 @@ pub(crate) fn write_timestamp<W: Write>(
     increment: u32,
     out: &mut TextWriter<W>,
 ) -> Result<(), Failed>
-    ensures { OnOk result (Appends (text_contents W.contents out.old) (text_contents W.contents out.new)
+    ensures { OnOk result (WritesOut (text_contents W.contents) out.old out.new
         (timestamp_text seconds increment)) }
 {
     out.write_all(b" timestamp ")?;
@@ -191,7 +194,7 @@ pub(crate) fn write_timestamp<W: Write>(
 
 /// Writes ` int64 ` and the number.
 pub(crate) fn write_int64<W: Write>(value: i64, out: &mut TextWriter<W>) -> Result<(), Failed>
-    ensures { OnOk result (Appends (text_contents W.contents out.old) (text_contents W.contents out.new)
+    ensures { OnOk result (WritesOut (text_contents W.contents) out.old out.new
         (int64_text value)) }
 {
     out.write_all(b" int64 ")?;

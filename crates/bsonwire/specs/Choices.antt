@@ -1,5 +1,6 @@
--- What a choice says of the matches that `clap` has of the words, and what it asks for.
-use Rattle.std.specs.Prelude.{◌≡◌, ◌⊎◌, ◌≤◌, ℕ, List, Bool, true, false, Option, Some, None, is_some, codes, if◌then◌else◌}
+-- What a choice takes from the matches that `clap` makes of the words, and what it asks for.
+use Rattle.std.specs.Prelude.{◌≡◌, ◌⊎◌, ◌≤◌, ℕ, List, Bool, true, false, Option, Some, None}
+use Rattle.std.specs.Prelude.{is_some, codes, if◌then◌else◌}
 use Rattle.std.specs.Str.Parse.{IsNumeral, digits_value, without_leading_plus}
 use Rattle.clap.specs.Words.{Row, Text, first_of, one_of, subcommand_of}
 use Rattle.bsonwire.specs.declared.choice.Choice.{Choice}
@@ -20,7 +21,7 @@ abbrev pub HoldsHex : Bool → List Row → Type 0
 HoldsHex hex rows =
     one_of (codes "hex") rows ≡ Some (if hex then codes "true" else codes "false")
 
--- the text is this number in decimal digits, which a plus may stand before
+-- the text is this number in decimal digits, maybe after a plus
 abbrev pub IsNumber : ℕ → Text → Type 0
 IsNumber n text =
     IsNumeral 10 (without_leading_plus text) × (digits_value 10 (without_leading_plus text) ≡ n)
@@ -35,7 +36,7 @@ HoldsCalls n rows = IsCount n (one_of (codes "calls") rows)
 
 -- ---- the choice
 
--- the command over an input is the subcommand of this name, and its `--hex` is the one that the matches hold
+-- the command is the subcommand with this name, and has the `--hex` that the matches hold
 abbrev pub IsCommand : Command → Text → List Row → Type 0
 IsCommand (Dump hex) name rows = (name ≡ codes "dump") × HoldsHex hex rows
 IsCommand (Check hex) name rows = (name ≡ codes "check") × HoldsHex hex rows
@@ -43,12 +44,12 @@ IsCommand (Canon hex) name rows = (name ≡ codes "canon") × HoldsHex hex rows
 IsCommand (Msg hex) name rows = (name ≡ codes "msg") × HoldsHex hex rows
 IsCommand Play name rows = name ≡ codes "play"
 
--- the choice is the subcommand of this name, with what its matches hold
+-- the choice is the subcommand with this name, and has what its matches hold
 abbrev pub IsSubcommand : Choice → Text → List Row → Type 0
 IsSubcommand (Over command file) name rows = IsCommand command name rows × HoldsFile file.now rows
 IsSubcommand (Loop calls) name rows = (name ≡ codes "loop") × HoldsCalls calls rows
 
--- a subcommand was met, and the choice is that one
+-- there is a subcommand, and the choice is that one
 abbrev pub IsMetSubcommand : Choice → Option (Text × List Row) → Type 0
 IsMetSubcommand c None = ⊥
 IsMetSubcommand c (Some met) = IsSubcommand c met.0 met.1
@@ -63,7 +64,7 @@ IsChosen c words = IsMetSubcommand c (subcommand_of command_line words)
 abbrev pub HasFile : List Row → Type 0
 HasFile rows = is_some (first_of (codes "file") rows) ≡ true
 
--- the subcommand of this name is a command over an input
+-- the subcommand with this name reads an input
 abbrev pub NamesCommand : Text → List Row → Type 0
 NamesCommand name rows = (c : Command) × IsCommand c name rows
 
@@ -71,12 +72,13 @@ NamesCommand name rows = (c : Command) × IsCommand c name rows
 abbrev pub HasCalls : List Row → Type 0
 HasCalls rows = (n : ℕ) × HoldsCalls n rows
 
--- the subcommand of this name is one over an input, whose matches name that, or it is `loop`, and they tell how many calls
+-- the subcommand with this name reads an input, which its matches hold, or it is `loop`, and they
+-- hold the number of calls
 abbrev pub NamesSubcommand : Text → List Row → Type 0
 NamesSubcommand name rows =
     (NamesCommand name rows × HasFile rows) ⊎ ((name ≡ codes "loop") × HasCalls rows)
 
--- a subcommand was met, and its matches make a choice
+-- there is a subcommand, and its matches make a choice
 abbrev pub NamesChoice : Option (Text × List Row) → Type 0
 NamesChoice None = ⊥
 NamesChoice (Some met) = NamesSubcommand met.0 met.1
@@ -91,7 +93,7 @@ CommandText (Canon hex) = IsOutput (CanonText 2147483647 hex) hex
 CommandText (Msg hex) = IsOutput MsgText hex
 CommandText Play = ScriptText
 
--- whether a command may want memory after its first byte was written
+-- whether a command may run out of memory after it wrote its first byte
 abbrev pub wants_memory : Command → Bool
 wants_memory (Canon hex) = true
 wants_memory Play = true

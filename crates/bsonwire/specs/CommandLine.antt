@@ -5,7 +5,7 @@ use Rattle.clap.specs.Simple.{on_top}
 use Rattle.clap.specs.declared.builder.action.ArgAction.TheVariants.{SetTrue}
 use Rattle.clap.specs.declared.builder.value_parser.ValueParser.TheVariants.{Signed}
 
--- an operand that has to be there
+-- a required operand
 abbrev pub operand_rule : Text → Rule
 operand_rule id = record (new_rule id) { value_names = 1; required = true }
 
@@ -29,7 +29,7 @@ play_app = with_rule (new_app (codes "play")) (operand_rule (codes "file"))
 abbrev pub loop_app : App
 loop_app = with_rule (new_app (codes "loop")) calls_rule
 
--- the program with no subcommand yet: it has a version, and wants a subcommand
+-- the program without subcommands: it has a version, and requires a subcommand
 abbrev pub top_app : App
 top_app = on_top (λ s. record s { subcommand_required = true; has_version = true })
     (new_app (codes "bsonwire"))
@@ -39,7 +39,8 @@ abbrev pub file_line : App
 file_line =
     with_subcommand
     (with_subcommand
-    (with_subcommand (with_subcommand top_app (file_app (codes "dump")).top) (file_app (codes "check")).top)
+    (with_subcommand (with_subcommand top_app (file_app (codes "dump")).top)
+    (file_app (codes "check")).top)
     (file_app (codes "canon")).top)
     (file_app (codes "msg")).top
 

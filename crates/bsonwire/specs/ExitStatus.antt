@@ -11,7 +11,7 @@ use Rattle.bsonwire.specs.declared.choice.Choice.TheVariants.{Loop, Over}
 use Rattle.bsonwire.specs.Choices.{IsChosen}
 use Rattle.bsonwire.specs.CommandLine.{command_line}
 
--- the exit status of each end; 2 is left for a fault in the command line
+-- the exit status of each end; 2 means a fault in the command line
 abbrev pub exit_status : RunEnd → ℕ
 exit_status Good = 0
 exit_status Fault = 1
@@ -28,7 +28,7 @@ tells_fault status = status == 1
 
 -- ---- words
 
--- the status of what was chosen: that of an end, and calls end with no fault
+-- the status of what was chosen: that of an end, and of calls, that of an end without a fault
 abbrev pub IsStatusFor : Choice → ℕ → Type 0
 IsStatusFor (Over command file) status = (end : RunEnd) × (status ≡ exit_status end)
 IsStatusFor (Loop calls) status = (end : RunEnd) × (end ≢ Fault) × (status ≡ exit_status end)
@@ -37,9 +37,11 @@ IsStatusFor (Loop calls) status = (end : RunEnd) × (end ≢ Fault) × (status �
 abbrev pub MayRefuse : ErrorKind → Kinds → Type 0
 MayRefuse k faults = (k ≡ kind.OutOfMemory) ⊎ IsAmong k faults
 
--- The status for the words of a command line: where they have no fault that of what they choose, and else that of the fault, by
--- whether its text could be printed.
+-- The status for the words of a command line: that of what they choose, if they have no fault, and
+-- otherwise that of the fault, by whether its text could be printed.
 abbrev pub IsStatusOf : List Text → ℕ → Type 0
 IsStatusOf words status =
-    ((choice : Choice) × IsChosen choice words × (fault_of command_line words ≡ []) × IsStatusFor choice status)
-    ⊎ ((k : ErrorKind) × (printed : Bool) × MayRefuse k (fault_of command_line words) × (status ≡ words_status k printed))
+    ((choice : Choice) × IsChosen choice words × (fault_of command_line words ≡ [])
+    × IsStatusFor choice status)
+    ⊎ ((k : ErrorKind) × (printed : Bool) × MayRefuse k (fault_of command_line words)
+    × (status ≡ words_status k printed))

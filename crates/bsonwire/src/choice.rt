@@ -1,20 +1,23 @@
-//! What the words of the command line ask for.
+//! Finds out what the words of the command line ask for.
 
-ghost use Rattle.std.specs.Prelude.{◌≡◌, IfOk, IsErrAnd, IsOkAnd, MatchResult, Some, is_some, map, true, Bool};
-ghost use Rattle.clap.specs.Words.{FailsBy, fault_of, first_of, found_of, rows_of, subcommand_rows_of};
+ghost use Rattle.std.specs.Prelude.{◌≡◌, IfOk, IsErrAnd, IsOkAnd, MatchResult, Some, is_some, map};
+ghost use Rattle.std.specs.Prelude.{true, Bool};
+ghost use Rattle.clap.specs.Words.{FailsBy, fault_of, first_of, found_of, rows_of};
+ghost use Rattle.clap.specs.Words.{subcommand_rows_of};
 ghost use Rattle.bsonwire.specs.CommandLine.{command_line};
-ghost use Rattle.bsonwire.specs.Choices.{HoldsCalls, HoldsHex, IsChosen, IsCommand, IsMetSubcommand, HasCalls, NamesChoice, NamesCommand};
+ghost use Rattle.bsonwire.specs.Choices.{HoldsCalls, HoldsHex, IsChosen, IsCommand};
+ghost use Rattle.bsonwire.specs.Choices.{IsMetSubcommand, HasCalls, NamesChoice, NamesCommand};
 
 use crate::command_line::program;
 use clap::{ArgMatches, Error};
 use std::alloc::Global;
 
-/// A command over an input.
+/// A command that reads an input.
 #[derive(Clone, Copy, Debug, PartialEq, Eq)]
 pub enum Command {
-    /// Writes the text of each document. Where `hex` is true, the input is hexadecimal text.
+    /// Writes the text of each document. If `hex` is true, the input is hexadecimal text.
     Dump { hex: bool },
-    /// Tells of each document whether it is in canonical form.
+    /// Says of each document whether it is in canonical form.
     Check { hex: bool },
     /// Writes the canonical form of each document.
     Canon { hex: bool },
@@ -27,13 +30,13 @@ pub enum Command {
 /// What the command line asks for.
 #[derive(Clone, Copy, Debug, PartialEq, Eq)]
 pub enum Choice<'a> {
-    /// Runs a command over the file of this path, or over standard input where it is `-`.
+    /// Runs a command over the file with this path, or over standard input if it is `-`.
     Over { command: Command, file: &'a str },
-    /// Makes so many calls over a connection of the program with itself.
+    /// Makes `calls` calls over a connection of the program with itself.
     Loop { calls: u8 },
 }
 
-/// Returns the operand of this id.
+/// Returns the operand with this id.
 fn operand_of<'a>(matches: &ArgMatches<'a>, id: &str) -> &'a str
     requires { is_some (first_of id.now (rows_of (found_of matches.now))) ≡ true }
     ensures { first_of id.now (rows_of (found_of matches.now)) ≡ Some result.now }
@@ -66,7 +69,7 @@ fn calls_of(matches: &ArgMatches<'_>) -> u8
     }
 }
 
-/// Returns the command over an input that a subcommand of this name is.
+/// Returns the command that the subcommand with this name is.
 fn command_of(name: &str, matches: &ArgMatches<'_>) -> Command
     requires { NamesCommand name.now (rows_of (found_of matches.now)) }
     ensures { IsCommand result name.now (rows_of (found_of matches.now)) }
@@ -101,7 +104,7 @@ fn choice_of<'a>(matches: &ArgMatches<'a>) -> Choice<'a>
     }
 }
 
-/// Returns the choice that the matches of a parse name, or the error of the parse as it is.
+/// Returns the choice that the matches of a parse name, or the error of the parse.
 fn chosen(parse: Result<ArgMatches<'_>, Error>) -> Result<Choice<'_>, Error>
     requires { IfOk parse (λ m. NamesChoice (subcommand_rows_of m)) }
     ensures { MatchResult parse.entry
@@ -112,12 +115,12 @@ fn chosen(parse: Result<ArgMatches<'_>, Error>) -> Result<Choice<'_>, Error>
     Ok(choice_of(&matches))
 }
 
-/// Returns what the words ask for, of which the first is the program's own name.
+/// Returns what the words ask for. The first is the program's own name.
 ///
 /// # Errors
 ///
-/// `clap`'s own error: a fault in the words, a request for help or the version, or want of memory. What
-/// `clap` lets through always names a choice.
+/// Returns `clap`'s own error: a fault in the words, a request for help or the version, or out of
+/// memory. The words that `clap` accepts always name a choice.
 pub fn choose<'a>(alloc: Global, words: &'a [&'a str]) -> Result<Choice<'a>, Error>
     ensures chosen { IfOk result (λ c. IsChosen c (map (λ w. w.now) words.now)) }
     ensures kinds { FailsBy (fault_of command_line (map (λ w. w.now) words.now)) result }

@@ -1,13 +1,14 @@
-//! The command line that `clap` reads: the subcommands, their operands and their flags.
+//! Describes the command line to `clap`: the subcommands, their operands and their flags.
 ghost use Rattle.std.specs.Prelude.{◌≡◌, IfOk, codes, false};
 ghost use Rattle.clap.specs.Words.{app_of, rule_of, with_subcommand};
 ghost use Rattle.clap.specs.declared.builder.command.Command.TheViews.{out-Command};
-ghost use Rattle.bsonwire.specs.CommandLine.{calls_rule, command_line, file_app, file_line, hex_rule, loop_app, operand_rule, play_app, top_app};
+ghost use Rattle.bsonwire.specs.CommandLine.{calls_rule, command_line, file_app, file_line};
+ghost use Rattle.bsonwire.specs.CommandLine.{hex_rule, loop_app, operand_rule, play_app, top_app};
 
 use clap::{Arg, ArgAction, Command, value_parser};
 use std::alloc::{AllocError, Global};
 
-/// Makes an operand that has to be there, which help shows as `shown`.
+/// Makes a required operand, which help shows as `shown`.
 fn operand<'a>(alloc: Global, id: &'a str, shown: &'a str, help: &'a str) -> Arg<'a>
     ensures rule { rule_of result ≡ operand_rule id.entry.now }
     ensures local { result.global ≡ false }
@@ -38,7 +39,7 @@ fn hex_flag<'a>(alloc: Global) -> Arg<'a>
         .action(ArgAction::SetTrue)
 }
 
-/// Makes a subcommand of this name that reads FILE. Errs if memory runs out.
+/// Makes a subcommand with this name that reads FILE.
 fn file_command<'a>(alloc: Global, name: &'a str, about: &'a str) -> Result<Command<'a>, AllocError>
     ensures app { IfOk result (λ c. app_of c ≡ file_app name.entry.now) }
     ensures local { IfOk result (λ c. (out-Command c).has_globals ≡ false) }
@@ -54,7 +55,7 @@ fn file_command<'a>(alloc: Global, name: &'a str, about: &'a str) -> Result<Comm
         .arg(hex_flag(alloc))
 }
 
-/// Makes the subcommand that runs a script. Errs if memory runs out.
+/// Makes the subcommand that runs a script.
 fn play_command<'a>(alloc: Global) -> Result<Command<'a>, AllocError>
     ensures app { IfOk result (λ c. app_of c ≡ play_app) }
     ensures local { IfOk result (λ c. (out-Command c).has_globals ≡ false) }
@@ -69,7 +70,7 @@ fn play_command<'a>(alloc: Global) -> Result<Command<'a>, AllocError>
         ))
 }
 
-/// Makes the subcommand that makes calls over a connection of its own. Errs if memory runs out.
+/// Makes the subcommand that makes calls over a connection of its own.
 fn loop_command<'a>(alloc: Global) -> Result<Command<'a>, AllocError>
     ensures app { IfOk result (λ c. app_of c ≡ loop_app) }
     ensures local { IfOk result (λ c. (out-Command c).has_globals ≡ false) }
@@ -79,7 +80,7 @@ fn loop_command<'a>(alloc: Global) -> Result<Command<'a>, AllocError>
         .arg(calls_operand(alloc))
 }
 
-/// Makes the command line with no subcommand yet.
+/// Makes the command line without subcommands.
 fn top<'a>(alloc: Global) -> Command<'a>
     ensures app { app_of result ≡ top_app }
     ensures local { (out-Command result).has_globals ≡ false }
@@ -90,7 +91,7 @@ fn top<'a>(alloc: Global) -> Command<'a>
         .subcommand_required(true)
 }
 
-/// Adds a subcommand of this name that reads FILE. Errs if memory runs out.
+/// Adds a subcommand with this name that reads FILE.
 fn with_file_command<'a>(
     line: Command<'a>,
     alloc: Global,
@@ -106,7 +107,7 @@ fn with_file_command<'a>(
     line.subcommand(sub)
 }
 
-/// Makes the command line with the subcommands that read FILE. Errs if memory runs out.
+/// Makes the command line with the subcommands that read FILE.
 fn file_commands<'a>(alloc: Global) -> Result<Command<'a>, AllocError>
     ensures app { IfOk result (λ c. app_of c ≡ file_line) }
     ensures local { IfOk result (λ c. (out-Command c).has_globals ≡ false) }
@@ -132,7 +133,7 @@ fn file_commands<'a>(alloc: Global) -> Result<Command<'a>, AllocError>
     with_file_command(line, alloc, "msg", "Writes the text of each message")
 }
 
-/// Makes the whole command line. Errs if memory runs out.
+/// Makes the whole command line.
 pub fn program<'a>(alloc: Global) -> Result<Command<'a>, AllocError>
     ensures app { IfOk result (λ c. app_of c ≡ command_line) }
     ensures local { IfOk result (λ c. (out-Command c).has_globals ≡ false) }

@@ -7,7 +7,8 @@ ghost use Rattle.core.specs.Char.{is_control};
 ghost use Rattle.std.specs.IoError.{error_kind, raw_os_error};
 ghost use Rattle.bsonwire.specs.Choices.{CommandText, wants_memory};
 ghost use Rattle.bsonwire.specs.ExitStatus.{IsStatusFor, exit_status, tells_done, tells_fault};
-ghost use Rattle.engines.specs.{AppendsText, AppendsUpTo, end_of_error, is_done, is_fault, loop_text};
+ghost use Rattle.engines.specs.{AppendsText, AppendsUpTo, end_of_error, is_done, is_fault};
+ghost use Rattle.engines.specs.{loop_text};
 
 use crate::choice::{Choice, Command};
 use command_words::{IN_OUT, MEMORY};
@@ -19,8 +20,8 @@ use std::net::Net;
 use std::rt::Files;
 use std::{fmt, fs, io};
 
-/// Returns the exit status of an end: 0 good, 1 a fault in the input, 3 reading or writing failed, 4
-/// memory ran out.
+/// Returns the exit status of an end: 0 if all was good, 1 for a fault in the input, 3 if reading
+/// or writing failed, and 4 if memory ran out.
 fn status_of(end: RunEnd) -> u8
     ensures { result ≡ exit_status end }
 {
@@ -32,17 +33,17 @@ fn status_of(end: RunEnd) -> u8
     }
 }
 
-/// The name of an input in a message.
+/// The name of an input, as a message has it.
 #[derive(Clone, Copy)]
 enum InputName<'a> {
     StandardInput,
     File(&'a str),
-    /// A file whose name is empty or has control characters. It stands in quotes, so that the message
-    /// stays one line and names something.
+    /// A file whose name is empty or has control characters. The name is put in quotes, so that
+    /// the message stays one line and names something.
     Quoted(&'a str),
 }
 
-/// Returns true if one of the characters of `text` is a control character.
+/// Returns true if `text` has a control character.
 fn has_control(text: &str) -> bool
     ensures { result ≡ list_any is_control (chars text.now) }
 {
@@ -52,7 +53,7 @@ fn has_control(text: &str) -> bool
 impl InputName<'_> {
     ghost use Rattle.bsonwire.specs.InputName.{NamesFile};
 
-    /// Returns the name of the input that `file`, an operand FILE, asks for.
+    /// Returns the name of the input that the operand `file` asks for.
     fn of(file: &str) -> InputName<'_>
         ensures { NamesFile result file.now }
     {
@@ -80,8 +81,8 @@ impl fmt::Display for InputName<'_> {
     }
 }
 
-/// Does what the command line asks for, says on standard error why it could not go on, and returns the
-/// exit status.
+/// Does what the command line asks for, and returns the exit status. If it can't go on, standard
+/// error says why.
 pub fn run<R: Files + Input + Print + Eprint + Net + AllocGlobal>(rt: &R, choice: Choice<'_>) -> u8
     ensures { IsStatusFor choice.entry result }
 {
@@ -117,7 +118,8 @@ fn run_file<R: Files + Input + Print + Eprint + AllocGlobal>(
     }
 }
 
-/// Opens a file to read. Errs for a directory too, which the system opens and then doesn't read.
+/// Opens a file to read. Returns an error for a directory too, which the system would open and
+/// then not read.
 fn open<R: Files>(rt: &R, file: &str) -> io::Result<R::File> {
     let opened = fs::open(rt, file)?;
     if opened.metadata()?.is_dir() {
@@ -126,8 +128,8 @@ fn open<R: Files>(rt: &R, file: &str) -> io::Result<R::File> {
     Ok(opened)
 }
 
-/// Runs a command over its input, and returns the exit status. If the run stopped short, standard error
-/// says why.
+/// Runs a command over its input, and returns the exit status. If the run stopped early, standard
+/// error says why.
 fn status_over<E: Eprint, R: Read, W: Write>(
     rt: &E,
     alloc: Global,
@@ -150,7 +152,7 @@ fn status_over<E: Eprint, R: Read, W: Write>(
     tell(rt, end, input)
 }
 
-/// Runs a command over its input. Returns how the run ended.
+/// Runs a command over its input, and returns how the run ended.
 fn run_over<R: Read, W: Write>(
     alloc: Global,
     command: Command,
@@ -175,8 +177,8 @@ fn run_over<R: Read, W: Write>(
     }
 }
 
-/// Makes so many calls over a connection of the program with itself, and returns the exit status. If they
-/// were cut short, standard error says why.
+/// Makes `calls` calls over a connection of the program with itself, and returns the exit status.
+/// If they were cut short, standard error says why.
 fn loop_status<R: Net + Eprint + AllocGlobal, W: Write>(rt: &R, calls: u8, writer: &mut W) -> u8
     ensures ends { (end : RunEnd) × (end ≢ RunEnd.Fault) × (result ≡ exit_status end) }
     ensures written { (left : List ℕ) × AppendsUpTo left (loop_text calls)
@@ -198,11 +200,11 @@ fn tell_loop(rt: &impl Eprint, end: RunEnd) -> u8
     status_of(end)
 }
 
-/// Says on standard error why a run stopped short, if it did. Returns its exit status.
+/// Says on standard error why a run stopped early, if it did. Returns its exit status.
 fn tell(rt: &impl Eprint, end: RunEnd, input: InputName<'_>) -> u8
     ensures { result ≡ exit_status end }
 {
-    // Where standard error takes no line, the status alone says it.
+    // If standard error takes no line, there is only the status.
     let _ = match end {
         RunEnd::InOut => {
             eprintln!(rt; "bsonwire: could not read {input} or write standard output")

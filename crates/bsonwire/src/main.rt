@@ -1,13 +1,13 @@
 //! `bsonwire` reads BSON documents and MongoDB wire messages from a file or standard input.
 //!
-//! The first word is the subcommand, and `bsonwire --help` lists them. What a subcommand has to say
-//! of its input goes to standard output, a fault in that input included. Only what kept it from
-//! reading or writing goes to standard error, in one line.
+//! The first word is the subcommand, and `bsonwire --help` lists them. What a subcommand finds out
+//! about its input goes to standard output, and so does a fault in the input. Only what kept it
+//! from reading or writing goes to standard error, in one line.
 //!
-//! The exit status is 0 where the input is good, 1 where it is at fault, 2 where the command line is,
-//! 3 where reading or writing failed, and 4 where memory ran out.
+//! The exit status is 0 if the input is good, 1 if it is at fault, 2 if the command line is, 3 if
+//! reading or writing failed, and 4 if memory ran out.
 //!
-//! Stands on engines. Read first: `commands`, and then `choice`.
+//! Uses engines. Read first: `commands`, and then `choice`.
 #![tactic(auto)]
 
 mod choice;

@@ -1,16 +1,17 @@
--- The exit status where the words of a command line can't be read, and where they ask for nothing.
+-- The exit status if the words of a command line can't be read or ask for nothing.
 use Rattle.std.specs.Prelude.{ℕ, Bool, if◌then◌else◌}
 use Rattle.clap.specs.declared.error.kind.ErrorKind as clap
 use Rattle.clap.specs.declared.error.kind.ErrorKind.TheVariants as kind
 use Rattle.std.specs.declared.io.ErrorKind as io
 use Rattle.std.specs.declared.io.ErrorKind.TheVariants as io_kind
 
--- the exit status where reading the words gives an error of this kind
+-- the exit status if reading the words gives an error of this kind
 abbrev pub unread_status : io.ErrorKind → ℕ
 unread_status io_kind.OutOfMemory = 4
 unread_status _ = 2
 
--- the exit status of words for which `clap` has an error of this kind, by whether its text could be printed
+-- the exit status of words for which `clap` has an error of this kind, by whether its text could
+-- be printed
 abbrev pub words_status : clap.ErrorKind → Bool → ℕ
 words_status kind.OutOfMemory printed = 4
 words_status kind.DisplayHelp printed = if printed then 0 else 3

@@ -1,7 +1,8 @@
-//! The words of a program's command line: reads them, and where they can't be read or ask for nothing says why, and returns the
-//! exit status for that.
+//! Reads the words of a program's command line. If they can't be read or ask for nothing, says
+//! why, and returns the exit status for that.
 //!
-//! A line on standard error begins with the program's name. Where standard error takes no line, the exit status alone tells.
+//! A line on standard error begins with the program's name. If standard error takes no line, there
+//! is only the exit status.
 #![tactic(auto)]
 
 mod program;

@@ -1,4 +1,4 @@
-//! A program, by its name, and how it ends where it doesn't begin.
+//! Names a program, and ends it before it begins.
 
 ghost use Rattle.std.specs.Prelude.{◌≡◌, ◌⊎◌, Bool, IfErr, IfOk, map, string_bytes};
 ghost use Rattle.std.specs.IoError.{error_kind};
@@ -16,7 +16,7 @@ pub const USAGE: u8 = 2;
 /// The exit status of a run that failed to read, to write or to connect.
 pub const IN_OUT: u8 = 3;
 
-/// The exit status of a run for which memory ran out.
+/// The exit status of a run that ran out of memory.
 pub const MEMORY: u8 = 4;
 
 /// A program, by the name that begins its lines on standard error.
@@ -27,11 +27,11 @@ pub struct Program<'a> {
 }
 
 impl Program<'_> {
-    /// Returns the words of the command line, of which the first is the program's own name.
+    /// Returns the words of the command line. The first is the program's own name.
     ///
     /// # Errors
     ///
-    /// Returns the exit status where they can't be read. Standard error says why.
+    /// Returns the exit status if the words can't be read. Standard error says why.
     pub fn read_words<R: Env + Eprint + AllocGlobal>(self, rt: &R) -> Result<Vec<String>, u8>
         ensures { IfErr result (λ status. (status ≡ 2) ⊎ (status ≡ 4)) }
     {
@@ -45,7 +45,8 @@ impl Program<'_> {
         }
     }
 
-    /// Says on standard error why the words can't be read: memory ran out, or one of them isn't text. Returns the exit status.
+    /// Says on standard error why the words can't be read: memory ran out, or one of them isn't
+    /// text. Returns the exit status.
     fn tell_unread(self, rt: &impl Eprint, error: &io::Error) -> u8
         ensures { result ≡ unread_status (error_kind error.now) }
     {
@@ -72,7 +73,7 @@ impl Program<'_> {
         status_of_words(error, printed)
     }
 
-    /// Prints what `clap` has to say. Returns true if that could be printed.
+    /// Prints the text of `clap`'s error. Returns true if that succeeded.
     fn print<R: Print + Eprint>(self, rt: &R, error: &clap::Error) -> bool {
         if error.kind() == ErrorKind::OutOfMemory {
             return eprintln!(rt; "{}: out of memory", self.name).is_ok();
@@ -85,7 +86,8 @@ impl Program<'_> {
     }
 }
 
-/// Returns the exit status of words that ask for nothing, by whether `clap`'s text was printed.
+/// Returns the exit status of words that ask for nothing. `printed` says whether `clap`'s text
+/// could be printed.
 fn status_of_words(error: &clap::Error, printed: bool) -> u8
     ensures { result ≡ words_status (kind_of error.now) printed }
 {
@@ -97,7 +99,7 @@ fn status_of_words(error: &clap::Error, printed: bool) -> u8
     }
 }
 
-/// Returns the words as text, in order. Errs if memory runs out.
+/// Returns the words as text, in order.
 pub fn texts<'a>(alloc: Global, words: &'a [String]) -> Result<Vec<&'a str>, AllocError>
     ensures { IfOk result (λ texts. map (λ t. t.now) texts.items ≡ map string_bytes words.now) }
 {

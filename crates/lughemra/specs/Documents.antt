@@ -11,8 +11,10 @@ use Rattle.lughemra.specs.Fault.{first_fault}
 
 -- The bytes are one document, and there is no fault; or this is their first fault.
 pub data IsDocumentCheck (bytes : List ℕ) : FirstFault → Type 0 where
-  is_document : {check : FirstFault} (t : Tree) → Spells t bytes → check ≡ first_fault None → IsDocumentCheck bytes check
-  has_fault : {check : FirstFault} (f : BsonFault) → WholeFault bytes f → check ≡ first_fault (Some f) → IsDocumentCheck bytes check
+  is_document : {check : FirstFault} (t : Tree) → Spells t bytes → check ≡ first_fault None
+      → IsDocumentCheck bytes check
+  has_fault : {check : FirstFault} (f : BsonFault) → WholeFault bytes f
+      → check ≡ first_fault (Some f) → IsDocumentCheck bytes check
 
 -- the bytes are one document, in which the names of each array are "0", "1" and so on
 abbrev pub IsCanonical : List ℕ → Type 0
@@ -23,14 +25,22 @@ IsCanonical bytes = (t : Tree) × Spells t bytes × (is_plain false 0 t ≡ true
 -- The rest, which begins at this offset, is nothing, or has a first fault.
 pub data EndsAs (offset : ℕ) (rest : List ℕ) : Option BsonFault → Type 0 where
   is_nothing : {last : Option BsonFault} → rest ≡ [] → last ≡ None → EndsAs offset rest last
-  is_bad : {last : Option BsonFault} (f : BsonFault) → rest ≢ [] → FrontFault rest f → last ≡ Some (fault (offset + f.at) f.cause) → EndsAs offset rest last
+  is_bad : {last : Option BsonFault} (f : BsonFault) → rest ≢ [] → FrontFault rest f
+      → last ≡ Some (fault (offset + f.at) f.cause) → EndsAs offset rest last
 
--- how many documents there are, how many bytes they take, and the first fault behind them
+-- the number of documents, the number of bytes that they take, and the first fault after them
 abbrev pub documents_check : List Tree → Option BsonFault → DocumentsCheck
-documents_check documents last = record { documents = length documents; bytes_read = length (documents_bytes documents); fault = first_fault last }
+documents_check documents last =
+    record {
+      documents = length documents;
+      bytes_read = length (documents_bytes documents);
+      fault = first_fault last;
+    }
 
--- the check tells of the documents that begin the bytes, and of the rest behind them
+-- the check is that of the documents at the front of the bytes, and of the rest after them
 abbrev pub IsDocumentsCheck : List ℕ → DocumentsCheck → Type 0
 IsDocumentsCheck bytes check =
-    (documents : List Tree) × (rest : List ℕ) × DocumentSplit bytes documents rest × (last : Option BsonFault)
-    × EndsAs (length (documents_bytes documents)) rest last × (check ≡ documents_check documents last)
+    (documents : List Tree) × (rest : List ℕ) × DocumentSplit bytes documents rest
+    × (last : Option BsonFault)
+    × EndsAs (length (documents_bytes documents)) rest last
+    × (check ≡ documents_check documents last)

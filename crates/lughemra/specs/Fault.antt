@@ -1,4 +1,4 @@
--- The first fault of some bytes, as a C program is told of it.
+-- The first fault of some bytes, as a C program gets it.
 use Rattle.std.specs.Prelude.{ℕ, Option, Some, None}
 use Rattle.bson_elem.specs.declared.fault.BsonFault.{BsonFault}
 use Rattle.bson_elem.specs.{cause_number}

@@ -1,4 +1,4 @@
--- What a C program is told of all that stands in documents.
+-- What a C program is told of all that documents hold.
 use Rattle.std.specs.Prelude.{◌≡◌, List, ℕ, length, Option}
 use Rattle.std.specs.List.{sum_by}
 use Rattle.bson_elem.specs.declared.fault.BsonFault.{BsonFault}
@@ -8,7 +8,8 @@ use Rattle.lughemra.specs.declared.walk.DocumentsWalk.{DocumentsWalk}
 use Rattle.lughemra.specs.Documents.{EndsAs}
 use Rattle.lughemra.specs.Fault.{first_fault}
 
--- how many documents there are, how many bytes they take, what stands in all of them, and the first fault behind them
+-- the number of documents, the number of bytes that they take, what all of them hold, and the
+-- first fault after them
 abbrev pub documents_walk : List Tree → Option BsonFault → DocumentsWalk
 documents_walk documents last = record {
   documents = length documents;
@@ -18,8 +19,9 @@ documents_walk documents last = record {
   fault = first_fault last;
 }
 
--- the walk tells of the documents that begin the bytes, and of the rest behind them
+-- the walk is that of the documents at the front of the bytes, and of the rest after them
 abbrev pub IsDocumentsWalk : List ℕ → DocumentsWalk → Type 0
 IsDocumentsWalk bytes walk =
-    (documents : List Tree) × (rest : List ℕ) × DocumentSplit bytes documents rest × (last : Option BsonFault)
+    (documents : List Tree) × (rest : List ℕ) × DocumentSplit bytes documents rest
+    × (last : Option BsonFault)
     × EndsAs (length (documents_bytes documents)) rest last × (walk ≡ documents_walk documents last)

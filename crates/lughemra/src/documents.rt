@@ -1,4 +1,4 @@
-//! The checks of a document, and of documents that stand back to back.
+//! Checks a document, and documents one after another.
 
 ghost use Rattle.std.specs.Prelude.{IsTrue, ◌↔◌};
 ghost use Rattle.lughemra.specs.Documents.{IsCanonical, IsDocumentCheck, IsDocumentsCheck};
@@ -30,11 +30,11 @@ pub extern "C" fn lughemra_is_canonical_nonnull(bytes: &[u8]) -> bool
     }
 }
 
-/// What the check of documents back to back came to.
+/// The result of checking documents one after another.
 #[derive(Clone, Copy)]
 #[repr(C)]
 pub struct DocumentsCheck {
-    /// The number of documents that stand whole before the end of the bytes or before the first fault.
+    /// The number of whole documents before the end of the bytes or before the first fault.
     pub documents: usize,
     /// The number of bytes that these documents take.
     pub bytes_read: usize,
@@ -42,7 +42,7 @@ pub struct DocumentsCheck {
     pub fault: FirstFault,
 }
 
-/// Checks the documents that stand back to back in `bytes`.
+/// Checks the documents that `bytes` hold one after another.
 #[unsafe(no_mangle)]
 pub extern "C" fn lughemra_check_documents_nonnull(bytes: &[u8]) -> DocumentsCheck
     ensures { IsDocumentsCheck bytes.now result }

@@ -1,4 +1,4 @@
-//! The first fault of some bytes, as a C program is told of it.
+//! Puts the first fault of some bytes into numbers for a C program.
 
 ghost use Rattle.std.specs.Prelude.{◌≡◌, ◌+◌, ◌<◌, ◌^◌, None, Some};
 ghost use Rattle.bson_elem.specs.{fault};
@@ -20,7 +20,7 @@ pub struct FirstFault {
 }
 
 impl FirstFault {
-    /// Returns the number 0 at offset 0, which stands for no fault.
+    /// Returns number 0 and offset 0, which mean that there is no fault.
     pub fn none() -> FirstFault
         ensures { result ≡ first_fault None }
     {
@@ -30,7 +30,7 @@ impl FirstFault {
         }
     }
 
-    /// Returns the fault `found` of a document that begins at offset `start`.
+    /// Returns the fault `found` in a document that begins at offset `start`.
     pub fn of_document(start: usize, found: BsonFault) -> FirstFault
         requires { start + found.at < 2 ^ 64 }
         ensures { result ≡ first_fault (Some (fault (start + found.at) found.cause)) }
@@ -70,7 +70,7 @@ impl FirstFault {
         FirstFault { number: 14, offset }
     }
 
-    /// Returns the fault of a call, whose limit on a message's length is too large.
+    /// Returns the fault of a call whose limit on the length of messages is too large.
     pub fn of_limit() -> FirstFault
         ensures { result ≡ limit_fault }
     {

@@ -1,5 +1,5 @@
-//! The laws of the definitions: of bytes, one answer at most is told. The contract of each function
-//! is the law; the function does nothing.
+//! Proves that for given bytes each definition allows only one result. The contract of each
+//! function is the law; the function does nothing.
 
 ghost use Rattle.std.specs.Prelude.{◌≡◌, ℕ, List};
 ghost use Rattle.bson_elem.specs.{IsBytes};
@@ -12,31 +12,31 @@ ghost use Rattle.lughemra.specs.Documents.{IsDocumentCheck, IsDocumentsCheck};
 ghost use Rattle.lughemra.specs.Walk.{IsDocumentsWalk};
 ghost use Rattle.lughemra.specs.Messages.{IsMessageCheck, IsMessagesCheck};
 
-/// Proves that bytes have one check as one document.
+/// Proves that the check of bytes as one document has one result.
 pub fn one_document_check()
     ensures { (bytes : List ℕ) (a b : FirstFault) → IsBytes bytes
         → IsDocumentCheck bytes a → IsDocumentCheck bytes b → a ≡ b }
 {}
 
-/// Proves that bytes have one check as documents.
+/// Proves that the check of bytes as documents has one result.
 pub fn one_documents_check()
     ensures { (bytes : List ℕ) (a b : DocumentsCheck) → IsBytes bytes
         → IsDocumentsCheck bytes a → IsDocumentsCheck bytes b → a ≡ b }
 {}
 
-/// Proves that bytes have one walk.
+/// Proves that the walk over bytes has one result.
 pub fn one_documents_walk()
     ensures { (bytes : List ℕ) (a b : DocumentsWalk) → IsBytes bytes
         → IsDocumentsWalk bytes a → IsDocumentsWalk bytes b → a ≡ b }
 {}
 
-/// Proves that bytes have one check as one message under a limit.
+/// Proves that the check of bytes as one message under a limit has one result.
 pub fn one_message_check()
     ensures { (limit : ℕ) (bytes : List ℕ) (a b : MessageCheck) → IsBytes bytes
         → IsMessageCheck limit bytes a → IsMessageCheck limit bytes b → a ≡ b }
 {}
 
-/// Proves that bytes have one check as messages under a limit.
+/// Proves that the check of bytes as messages under a limit has one result.
 pub fn one_messages_check()
     ensures { (limit : ℕ) (bytes : List ℕ) (a b : MessagesCheck) → IsBytes bytes
         → IsMessagesCheck limit bytes a → IsMessagesCheck limit bytes b → a ≡ b }

@@ -1,4 +1,4 @@
-//! The checks of a message, and of messages that stand back to back.
+//! Checks a message, and messages one after another.
 
 ghost use Rattle.std.specs.Prelude.{◌≡◌, ◌≤◌, ◌<◌};
 ghost use Rattle.lughemra.specs.Messages.{IsMessageCheck, limit_message_check};
@@ -8,14 +8,14 @@ use crate::fault::FirstFault;
 use std::alloc::Global;
 use wire_msg::{MAX_MESSAGE_LEN, MsgFront, RawMsg};
 
-/// What the check of one message came to.
+/// The result of checking one message.
 #[derive(Clone, Copy)]
 #[repr(C)]
 pub struct MessageCheck {
-    /// The first fault, by the number of its cause, from 1 to 13; 255 if the limit is too large, and
-    /// nothing was read.
+    /// The first fault, by the number of its cause, from 1 to 13. The number is 255 if the limit
+    /// is too large; then nothing was read.
     pub fault: FirstFault,
-    /// If the cause is 7, the fault of the document at that offset, with its own offset counted from
+    /// If the cause is 7, the fault of the document at that offset. Its own offset is counted from
     /// there.
     pub document_fault: FirstFault,
 }
@@ -49,23 +49,24 @@ pub extern "C" fn lughemra_check_message_nonnull(
     }
 }
 
-/// What the check of messages back to back came to.
+/// The result of checking messages one after another.
 #[derive(Clone, Copy)]
 #[repr(C)]
 pub struct MessagesCheck {
-    /// The number of messages that stand whole before the end of the bytes or before the first fault.
+    /// The number of whole messages before the end of the bytes or before the first fault.
     pub messages: usize,
     /// The number of bytes that these messages take.
     pub bytes_read: usize,
-    /// The first fault, by the number of its cause, from 1 to 13; 14 if the bytes end inside the
-    /// message that begins at the offset; 255 if the limit is too large, and nothing was read.
+    /// The first fault, by the number of its cause, from 1 to 13. The number is 14 if the bytes
+    /// end inside the message that begins at the offset, and 255 if the limit is too large; then
+    /// nothing was read.
     pub fault: FirstFault,
-    /// If the cause is 7, the fault of the document at that offset, with its own offset counted from
+    /// If the cause is 7, the fault of the document at that offset. Its own offset is counted from
     /// there.
     pub document_fault: FirstFault,
 }
 
-/// Checks the messages that stand back to back in `bytes`, each of at most `limit` bytes.
+/// Checks the messages that `bytes` hold one after another, each of at most `limit` bytes.
 #[unsafe(no_mangle)]
 pub extern "C" fn lughemra_check_messages_nonnull(
     alloc: Global,

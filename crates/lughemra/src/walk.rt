@@ -1,19 +1,19 @@
-//! The walk over all that stands in documents back to back, at all depths.
+//! Counts all that documents hold, at all depths.
 
 ghost use Rattle.lughemra.specs.Walk.{IsDocumentsWalk};
 
 use crate::fault::FirstFault;
 use bson_raw::RawDocument;
 
-/// What the walk over documents back to back came to.
+/// The result of walking over documents one after another.
 #[derive(Clone, Copy)]
 #[repr(C)]
 pub struct DocumentsWalk {
-    /// The number of documents that stand whole before the end of the bytes or before the first fault.
+    /// The number of whole documents before the end of the bytes or before the first fault.
     pub documents: usize,
     /// The number of bytes that these documents take.
     pub bytes_read: usize,
-    /// The number of elements in them, with those of the documents, arrays and scopes inside.
+    /// The number of elements in them, including those of the documents, arrays and scopes inside.
     pub elements: usize,
     /// The number of bytes of all names, texts and data in them.
     pub sizes: usize,
@@ -21,7 +21,7 @@ pub struct DocumentsWalk {
     pub fault: FirstFault,
 }
 
-/// Checks the documents that stand back to back in `bytes`, and counts all that stands in them.
+/// Checks the documents that `bytes` hold one after another, and counts all that they hold.
 #[unsafe(no_mangle)]
 pub extern "C" fn lughemra_walk_documents_nonnull(bytes: &[u8]) -> DocumentsWalk
     ensures { IsDocumentsWalk bytes.now result }

@@ -5,8 +5,8 @@ use Rattle.std.proofs.KnownBytes.{Appends-kept, Keeps-refl}
 use Rattle.wire_peer.specs.declared.serving.ServeEnd.{ServeEnd}
 use Rattle.wire_peer.specs.declared.serving.ServeEnd.TheVariants as ends
 use Rattle.wire_peer.specs.{LogEntry, Seen}
-use Rattle.test_server.specs.declared.connections.RunEnd.{RunEnd}
-use Rattle.test_server.specs.declared.connections.RunEnd.TheVariants as run
+use Rattle.test_server.specs.declared.connections.ServerEnd.{ServerEnd}
+use Rattle.test_server.specs.declared.connections.ServerEnd.TheVariants as run
 use Rattle.test_server.specs.declared.store.Store.{Store}
 use Rattle.test_server.specs.Held.{empty_store, store_of}
 use Rattle.test_server.specs.Serving.{AreServed, IsListened, IsRun, Kept, ServesAll, ServesFrom, ServesNext, ServesOne, Wire, kept, listening_line, served_line, settled}
@@ -16,12 +16,12 @@ abbrev wire_of : Seen Store → Wire
 wire_of s = record { received = s.received; sent = s.sent; turns = s.turns; failures = s.failures; ends = s.ends }
 
 -- a connection was served over what the ones before left
-pub served_from : (number : ℕ) (result : Result ServeEnd RunEnd) (old new : Seen Store) (before after : Option (List ℕ)) → ServesOne number result old new before after
+pub served_from : (number : ℕ) (result : Result ServeEnd ServerEnd) (old new : Seen Store) (before after : Option (List ℕ)) → ServesOne number result old new before after
     → ServesFrom number result (kept old.handler old.log) (kept new.handler new.log) before after
 served_from number result old new before after serves = record { from = wire_of old; to = wire_of new; serves = serves }
 
 -- what became of it couldn't be written
-pub next_failed : (number : ℕ) (why : RunEnd) (old new : Kept) (before after : Option (List ℕ)) → ServesFrom number (Err why) old new before after
+pub next_failed : (number : ℕ) (why : ServerEnd) (old new : Kept) (before after : Option (List ℕ)) → ServesFrom number (Err why) old new before after
     → ServesNext number (Err why) old new before after
 next_failed number run.InOut old new before after from = inr from
 next_failed number run.OutOfMemory old new before after from = let no : run.OutOfMemory ≡ run.InOut = from.serves.told in absurd cc
@@ -47,7 +47,7 @@ one_more_served n old mid new before text after are next =
     (mid, text, are, subst (λ (m : ℕ). ServesNext m (Ok tt) mid new text after) (add-one n) next)
 
 -- the server stopped at the next one
-pub stopped_at : (count n : ℕ) (why : RunEnd) (old mid new : Kept) (before text after : Option (List ℕ)) → n < count → AreServed n old mid before text
+pub stopped_at : (count n : ℕ) (why : ServerEnd) (old mid new : Kept) (before text after : Option (List ℕ)) → n < count → AreServed n old mid before text
     → ServesNext (n + 1) (Err why) mid new text after → ServesAll count why old new before after
 stopped_at count n (run.Served k) old mid new before text after less are next = absurd next
 stopped_at count n run.InOut old mid new before text after less are next =
@@ -56,7 +56,7 @@ stopped_at count n run.OutOfMemory old mid new before text after less are next =
     (n, less, mid, text, are, subst (λ (m : ℕ). ServesNext m (Err run.OutOfMemory) mid new text after) (add-one n) next)
 
 -- the first line was written, and then connections were served
-pub listened : (count : ℕ) (end : RunEnd) (old new : Kept) (local : List ℕ) (before line mid after : Option (List ℕ)) → Appends before line (listening_line local)
+pub listened : (count : ℕ) (end : ServerEnd) (old new : Kept) (local : List ℕ) (before line mid after : Option (List ℕ)) → Appends before line (listening_line local)
     → Keeps line mid → store_of old.store ≡ empty_store → old.log ≡ [] → ServesAll count end old new mid after → IsListened count end before after
 listened count (run.Served n) old new local before line mid after first keeps empty none serves = (
   local,
@@ -76,10 +76,10 @@ written_of (Ok x) is p = p
 written_of (Err e) is p = absurd (true≢false is)
 
 -- no connection was asked for, and the last line was written
-pub ran_none : (count : ℕ) (end : RunEnd) (before mid after : Option (List ℕ)) → count ≡ 0 → end ≡ run.Served 0 → mid ≡ before → Appends mid after (served_line count)
+pub ran_none : (count : ℕ) (end : ServerEnd) (before mid after : Option (List ℕ)) → count ≡ 0 → end ≡ run.Served 0 → mid ≡ before → Appends mid after (served_line count)
     → IsRun count end before after
 ran_none zero end before mid after is none same last =
-    subst (λ (e : RunEnd). IsRun zero e before after) (sym none)
+    subst (λ (e : ServerEnd). IsRun zero e before after) (sym none)
     (refl, before, Keeps-refl before, subst (λ (m : Option (List ℕ)). Appends m after (served_line zero)) same last)
 ran_none (suc k) end before mid after is none same last = absurd cc
 
@@ -90,9 +90,9 @@ served_all k n before mid after (local, store, new, text, first, empty, serves) 
     (serves.0, mid, (local, store, new, text, first, empty, (refl, serves.1)), last)
 
 -- connections were served, and the last line was written
-pub ran_some : (count n : ℕ) (end : RunEnd) (before mid after : Option (List ℕ)) → count ≢ 0 → IsListened count end before mid → end ≡ run.Served n
+pub ran_some : (count n : ℕ) (end : ServerEnd) (before mid after : Option (List ℕ)) → count ≢ 0 → IsListened count end before mid → end ≡ run.Served n
     → Appends mid after (served_line count) → IsRun count end before after
 ran_some zero n end before mid after some serves is last = absurd (some refl)
 ran_some (suc k) n end before mid after some serves is last =
-    subst (λ (e : RunEnd). IsRun (suc k) e before after) (sym is)
-    (served_all k n before mid after (subst (λ (e : RunEnd). IsListened (suc k) e before mid) is serves) last)
+    subst (λ (e : ServerEnd). IsRun (suc k) e before after) (sym is)
+    (served_all k n before mid after (subst (λ (e : ServerEnd). IsListened (suc k) e before mid) is serves) last)

@@ -1,4 +1,5 @@
--- Answers, as lists of a name and a value (MongoDB manual, Database Commands: each command's Output).
+-- Answers, as lists of a name and a value (MongoDB manual, Database Commands: each command's
+-- Output).
 use Rattle.std.specs.Prelude.{ℕ, ℤ, pos, List, [], ◌∷◌, Bool, true, false, codes, if◌then◌else◌}
 use Rattle.bson_elem.specs.declared.kinds.Kind.TheVariants as kinds
 use Rattle.bson_elem.specs.{boolean_value, no_code, number_value, raw_value, text_value}
@@ -47,9 +48,10 @@ ok_alone = (codes "ok", double_one) ∷ []
 -- an error by its words, its number and its name
 abbrev pub error_pairs : List ℕ → ℤ → List ℕ → List (List ℕ × TreeValue)
 error_pairs words code name =
-    (codes "ok", double_zero) ∷ (codes "errmsg", text words) ∷ (codes "code", int32 code) ∷ (codes "codeName", text name) ∷ []
+    (codes "ok", double_zero) ∷ (codes "errmsg", text words) ∷ (codes "code", int32 code)
+    ∷ (codes "codeName", text name) ∷ []
 
--- the answer to a command that errs
+-- the answer to a refused command
 abbrev pub refusal_pairs : CommandError → List (List ℕ × TreeValue)
 refusal_pairs e = error_pairs (words_of e) (code_of e) (code_name_of e)
 
@@ -61,7 +63,8 @@ primary_name legacy = if legacy then codes "ismaster" else codes "isWritablePrim
 abbrev pub hello_pairs : Bool → List (List ℕ × TreeValue)
 hello_pairs legacy =
     (codes "helloOk", truth true) ∷ (primary_name legacy, truth true)
-    ∷ (codes "maxBsonObjectSize", int32 (pos 16777216)) ∷ (codes "maxMessageSizeBytes", int32 (pos 48000000))
+    ∷ (codes "maxBsonObjectSize", int32 (pos 16777216))
+    ∷ (codes "maxMessageSizeBytes", int32 (pos 48000000))
     ∷ (codes "maxWriteBatchSize", int32 (pos 100000)) ∷ (codes "minWireVersion", int32 (pos 0))
     ∷ (codes "maxWireVersion", int32 (pos 13)) ∷ (codes "readOnly", truth false) ∷ ok_alone
 
@@ -76,16 +79,19 @@ abbrev pub batch_name : Batch → List ℕ
 batch_name First = codes "firstBatch"
 batch_name Next = codes "nextBatch"
 
--- a batch of documents, the id of the cursor that has more of them, or 0, and the namespace
+-- a batch of documents, the id of the cursor that has more of them (0 if none has), and the
+-- namespace
 abbrev pub cursor_pairs : Batch → List TreeValue → ℤ → List ℕ → List (List ℕ × TreeValue)
-cursor_pairs b vs id ns = (batch_name b, array vs) ∷ (codes "id", int64 id) ∷ (codes "ns", text ns) ∷ []
+cursor_pairs b vs id ns =
+    (batch_name b, array vs) ∷ (codes "id", int64 id) ∷ (codes "ns", text ns) ∷ []
 
--- an answer that has such a batch
+-- an answer with these fields in its field `cursor`
 abbrev pub cursor_answer : Batch → List TreeValue → ℤ → List ℕ → List (List ℕ × TreeValue)
 cursor_answer b vs id ns = (codes "cursor", inner (cursor_pairs b vs id ns)) ∷ ok_alone
 
--- what is told of a collection of this name
+-- the listing of the collection with this name
 abbrev pub listing : List ℕ → TreeValue
 listing name =
-    inner ((codes "name", text name) ∷ (codes "type", text (codes "collection")) ∷ (codes "options", inner [])
+    inner ((codes "name", text name) ∷ (codes "type", text (codes "collection"))
+    ∷ (codes "options", inner [])
     ∷ (codes "info", inner ((codes "readOnly", truth false) ∷ [])) ∷ [])

@@ -1,20 +1,22 @@
--- What a choice says of the matches that `clap` has of the words.
+-- What a choice takes from the matches that `clap` makes of the words.
 use Rattle.std.specs.Prelude.{◌≡◌, ℕ, List, IfSome, Option, Some, None, codes, is_some, true}
 use Rattle.std.specs.Str.Parse.{IsNumeral, digits_value, without_leading_plus}
 use Rattle.clap.specs.Words.{IsUnsignedIn, Row, Text, first_of, matches_of, one_of}
 use Rattle.test_server.specs.declared.choice.Choice.{Choice}
 use Rattle.test_server.specs.CommandLine.{command_line}
 
--- the number of connections is the text's, in decimal digits, which a plus may stand before; where there is no text, they are
--- as many as can be counted
+-- the number of connections is that of the text, in decimal digits, maybe after a plus; without a
+-- text it is the greatest number
 abbrev pub AsksFor : ℕ → Option Text → Type 0
 AsksFor n None = n ≡ 18446744073709551615
-AsksFor n (Some text) = IsNumeral 10 (without_leading_plus text) × (digits_value 10 (without_leading_plus text) ≡ n)
+AsksFor n (Some text) =
+    IsNumeral 10 (without_leading_plus text) × (digits_value 10 (without_leading_plus text) ≡ n)
 
 -- the matches hold the address and the number of connections
 abbrev pub IsHeld : Choice → List Row → Type 0
 IsHeld c rows =
-    (first_of (codes "address") rows ≡ Some c.address.now) × AsksFor c.connections (one_of (codes "connections") rows)
+    (first_of (codes "address") rows ≡ Some c.address.now)
+    × AsksFor c.connections (one_of (codes "connections") rows)
 
 -- the choice is what the command line makes of the words
 abbrev pub IsChosen : Choice → List Text → Type 0
@@ -26,7 +28,7 @@ IsChosen c words = IsHeld c (matches_of command_line words)
 abbrev pub HasAddress : List Row → Type 0
 HasAddress rows = is_some (first_of (codes "address") rows) ≡ true
 
--- where the matches hold an N it is a number of 64 bits
+-- if the matches hold an N, it is a number of 64 bits
 abbrev pub HasNumber : List Row → Type 0
 HasNumber rows = IfSome (one_of (codes "connections") rows) (IsUnsignedIn 0 18446744073709551615)
 

@@ -5,9 +5,10 @@ use Rattle.clap.specs.Words.{App, Rule, new_app, new_rule, with_rule}
 use Rattle.clap.specs.declared.builder.action.ArgAction.TheVariants.{Set}
 use Rattle.clap.specs.declared.builder.value_parser.ValueParser.TheVariants.{Unsigned}
 
--- the operand ADDRESS, which has to be there
+-- the required operand ADDRESS
 abbrev pub address_rule : Rule
-address_rule = record (new_rule (codes "address")) { action = Some Set; value_names = 1; required = true }
+address_rule =
+    record (new_rule (codes "address")) { action = Some Set; value_names = 1; required = true }
 
 -- the option `--connections N`, a number of 64 bits
 abbrev pub connections_rule : Rule

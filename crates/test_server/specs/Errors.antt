@@ -1,4 +1,4 @@
--- The errors that commands are answered by.
+-- The errors that commands are answered with.
 use Rattle.std.specs.Prelude.{◌≡◌, ℕ, ℤ, pos, List, Option, Some, None, Result, Ok, Err, codes}
 use Rattle.test_server.specs.declared.failure.CommandError.{CommandError}
 use Rattle.test_server.specs.declared.failure.CommandError.TheVariants as errors
@@ -22,7 +22,8 @@ words_of errors.Find = codes "the field 'find' must be a string"
 words_of errors.Drop = codes "the field 'drop' must be a string"
 words_of errors.GetMore = codes "the field 'getMore' must be an int64"
 words_of errors.Collection = codes "the field 'collection' must be a string"
-words_of errors.Documents = codes "the field 'documents' must be from 1 to 100000 documents, with no name twice in one"
+words_of errors.Documents =
+    codes "the field 'documents' must be from 1 to 100000 documents, with no name twice in one"
 words_of errors.Filter = codes "the field 'filter' must be a document with no name twice"
 words_of errors.Operator = codes "the field 'filter' must have no operator"
 words_of errors.FirstBatchSize = codes "the field 'batchSize' must be a whole number"
@@ -30,19 +31,20 @@ words_of errors.NextBatchSize = codes "the field 'batchSize' must be a whole num
 words_of errors.CursorNotFound = codes "no open cursor of this namespace has the id in 'getMore'"
 words_of errors.NamespaceNotFound = codes "ns not found"
 
--- ---- steps that may err
+-- ---- steps that may fail
 
--- what is there, or else this error
+-- the value, or this error if there is none
 abbrev pub or_error : {A : Type 0} → CommandError → Option A → Result A CommandError
 or_error e None = Err e
 or_error e (Some a) = Ok a
 
--- the next step with what the first gave, or the error of the first
-abbrev pub and_then : {A B : Type 0} → Result A CommandError → (A → Result B CommandError) → Result B CommandError
+-- the next step with the result of the first, or the error of the first
+abbrev pub and_then : {A B : Type 0} → Result A CommandError → (A → Result B CommandError)
+    → Result B CommandError
 and_then (Ok a) next = next a
 and_then (Err e) next = Err e
 
--- a step that errs so failed so, or memory was wanting
+-- a step with this error failed by it, or memory ran out
 abbrev pub IsFailure : {A : Type 0} → Result A CommandError → Failure → Type 0
 IsFailure step OutOfMemory = Unit {0}
 IsFailure step (Refused e) = step ≡ Err e

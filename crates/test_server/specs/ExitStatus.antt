@@ -5,30 +5,35 @@ use Rattle.clap.specs.declared.error.kind.ErrorKind.{ErrorKind}
 use Rattle.clap.specs.declared.error.kind.ErrorKind.TheVariants as kind
 use Rattle.command_words.specs.{words_status}
 use Rattle.test_server.specs.declared.choice.Choice.{Choice}
-use Rattle.test_server.specs.declared.connections.RunEnd.{RunEnd}
-use Rattle.test_server.specs.declared.connections.RunEnd.TheVariants.{Served, InOut, OutOfMemory}
+use Rattle.test_server.specs.declared.connections.ServerEnd.{ServerEnd}
+use Rattle.test_server.specs.declared.connections.ServerEnd.TheVariants.{Served, InOut, OutOfMemory}
 use Rattle.test_server.specs.Choices.{IsChosen}
 use Rattle.test_server.specs.CommandLine.{command_line}
 
--- the exit status of each end; 2 is left for a fault in the command line
-abbrev pub exit_status : RunEnd → ℕ
+-- the exit status of each end; 2 means a fault in the command line
+abbrev pub exit_status : ServerEnd → ℕ
 exit_status (Served n) = 0
 exit_status InOut = 3
 exit_status OutOfMemory = 4
 
 -- ---- words
 
--- the status of what was chosen: that of an end, which, if it is good, served as many connections as were asked for
+-- the status of what was chosen: that of an end; if it is good, as many connections were served as
+-- asked for
 abbrev pub IsStatusFor : Choice → ℕ → Type 0
-IsStatusFor choice status = (end : RunEnd) × ((n : ℕ) → end ≡ Served n → n ≡ choice.connections) × (status ≡ exit_status end)
+IsStatusFor choice status =
+    (end : ServerEnd) × ((n : ℕ) → end ≡ Served n → n ≡ choice.connections)
+    × (status ≡ exit_status end)
 
 -- memory ran out, or the words have a fault of this kind
 abbrev pub MayRefuse : ErrorKind → Kinds → Type 0
 MayRefuse k faults = (k ≡ kind.OutOfMemory) ⊎ IsAmong k faults
 
--- The status for the words of a command line: where they have no fault that of what they choose, and else that of the fault, by
--- whether its text could be printed.
+-- The status for the words of a command line: that of what they choose, if they have no fault, and
+-- otherwise that of the fault, by whether its text could be printed.
 abbrev pub IsStatusOf : List Text → ℕ → Type 0
 IsStatusOf words status =
-    ((choice : Choice) × IsChosen choice words × (fault_of command_line words ≡ []) × IsStatusFor choice status)
-    ⊎ ((k : ErrorKind) × (printed : Bool) × MayRefuse k (fault_of command_line words) × (status ≡ words_status k printed))
+    ((choice : Choice) × IsChosen choice words × (fault_of command_line words ≡ [])
+    × IsStatusFor choice status)
+    ⊎ ((k : ErrorKind) × (printed : Bool) × MayRefuse k (fault_of command_line words)
+    × (status ≡ words_status k printed))

@@ -1,5 +1,6 @@
 -- The fields of a command.
-use Rattle.std.specs.Prelude.{ℕ, ℤ, pos, List, Option, Some, None, Result, Ok, Err, codes, nat_le, if◌then◌else◌}
+use Rattle.std.specs.Prelude.{ℕ, ℤ, pos, List, Option, Some, None, Result, Ok, Err, codes, nat_le}
+use Rattle.std.specs.Prelude.{if◌then◌else◌}
 use Rattle.bson_elem.specs.declared.kinds.Kind.TheVariants as kinds
 use Rattle.bson_elem.specs.{Tree, number_value, text_value}
 use Rattle.bson_raw.specs.{TreeValue, first_named, leaf_value}
@@ -18,17 +19,17 @@ abbrev pub id_of : Option TreeValue → Option ℤ
 id_of (Some (leaf_value kinds.Int64 (number_value z))) = Some z
 id_of _ = None
 
--- the number of an int32 or an int64, from 0 on
+-- the number of an int32 or an int64, if it isn't negative
 abbrev pub count_of : TreeValue → Option ℕ
 count_of (leaf_value kinds.Int32 (number_value (pos k))) = Some k
 count_of (leaf_value kinds.Int64 (number_value (pos k))) = Some k
 count_of _ = None
 
--- the text of the field of this name
+-- the text of the field with this name
 abbrev pub text_field : List ℕ → CommandError → Tree → Result (List ℕ) CommandError
 text_field name error t = or_error error (text_of (first_named name t))
 
--- the namespace that a command names, whose collection is in the field of this name
+-- the namespace that a command names, whose collection is in the field with this name
 abbrev pub namespace_at : List ℕ → CommandError → Tree → Result NamespaceView CommandError
 namespace_at name error t =
     and_then (text_field (codes "$db") errors.Database t) (λ d.
@@ -38,16 +39,16 @@ namespace_at name error t =
 abbrev pub id_field : Tree → Result ℤ CommandError
 id_field t = or_error errors.GetMore (id_of (first_named (codes "getMore") t))
 
--- the number, if it isn't less than that
+-- the number, if it is at least this
 abbrev pub at_least : ℕ → CommandError → Option ℕ → Result ℕ CommandError
 at_least least error None = Err error
 at_least least error (Some k) = if nat_le least k then Ok k else Err error
 
--- the batch size that a field asks for, and 101 where there is no such field
+-- the batch size that a field asks for, or 101 if there is no such field
 abbrev pub asked_size : ℕ → CommandError → Option TreeValue → Result ℕ CommandError
 asked_size least error None = Ok 101
 asked_size least error (Some v) = at_least least error (count_of v)
 
--- the batch size that a command asks for, at least so many, and 101 where it asks for none
+-- the batch size that a command asks for, which must be at least this, or 101 if it asks for none
 abbrev pub batch_size : ℕ → CommandError → Tree → Result ℕ CommandError
 batch_size least error t = asked_size least error (first_named (codes "batchSize") t)

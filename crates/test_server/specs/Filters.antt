@@ -1,5 +1,6 @@
--- The filters of find: which they are, and which documents match them.
-use Rattle.std.specs.Prelude.{ℕ, List, [], ◌∷◌, Bool, true, false, ◌&&◌, ◌||◌, ◌==◌, Option, Some, None, Result, Ok, Err, codes, if◌then◌else◌}
+-- The filters of find: which ones are accepted, and which documents match them.
+use Rattle.std.specs.Prelude.{ℕ, List, [], ◌∷◌, Bool, true, false, ◌&&◌, ◌||◌, ◌==◌, Option, Some}
+use Rattle.std.specs.Prelude.{None, Result, Ok, Err, codes, if◌then◌else◌}
 use Rattle.bson_elem.specs.declared.kinds.Kind.TheVariants as kinds
 use Rattle.bson_elem.specs.{Tree, inner_pair, leaf_pair, no_pairs}
 use Rattle.bson_raw.specs.{TreeValue, document_value, first_named, leaf_value}
@@ -7,14 +8,14 @@ use Rattle.bson_doc.specs.{coded_value, plain, repeat_depth, same}
 use Rattle.test_server.specs.declared.failure.CommandError.{CommandError}
 use Rattle.test_server.specs.declared.failure.CommandError.TheVariants as errors
 
--- ---- which filters are taken
+-- ---- which filters are accepted
 
--- an operator's name begins with $
+-- the name of an operator begins with $
 abbrev pub is_operator : List ℕ → Bool
 is_operator [] = false
 is_operator (b ∷ bs) = b == 36
 
--- the first name of pairs is that of an operator
+-- the first of these names is that of an operator
 abbrev pub begins_with_operator : Tree → Bool
 begins_with_operator no_pairs = false
 begins_with_operator (leaf_pair n k v ps) = is_operator n
@@ -28,10 +29,12 @@ is_operators _ = false
 -- a filter has an operator in the place of a field or of a value
 abbrev pub has_operator : Tree → Bool
 has_operator no_pairs = false
-has_operator (leaf_pair n k v ps) = (is_operator n || is_operators (leaf_value k v)) || has_operator ps
-has_operator (inner_pair n k b inner ps) = (is_operator n || is_operators (document_value k b inner)) || has_operator ps
+has_operator (leaf_pair n k v ps) =
+    (is_operator n || is_operators (leaf_value k v)) || has_operator ps
+has_operator (inner_pair n k b inner ps) =
+    (is_operator n || is_operators (document_value k b inner)) || has_operator ps
 
--- a document in its canonical form, if no name stands twice in it or in a document or scope inside
+-- a document in its canonical form, if no name is repeated in it or in a document or scope inside
 abbrev pub if_no_repeat : {A : Type 0} → Option ℕ → A → Option A
 if_no_repeat None a = Some a
 if_no_repeat (Some depth) a = None
@@ -39,13 +42,13 @@ if_no_repeat (Some depth) a = None
 abbrev pub owned : Tree → Option Tree
 owned t = if_no_repeat (repeat_depth t) (plain t)
 
--- the filter that a document is
+-- the filter that is this document
 abbrev pub filter_in : Bool → Option Tree → Result Tree CommandError
 filter_in true f = Err errors.Operator
 filter_in false None = Err errors.Filter
 filter_in false (Some f) = Ok f
 
--- the filter that a field asks for, and the empty one where there is no such field
+-- the filter that a field asks for, or the empty one if there is no such field
 abbrev pub filter_of : Option TreeValue → Result Tree CommandError
 filter_of None = Ok no_pairs
 filter_of (Some (document_value kinds.Document b t)) = filter_in (has_operator t) (owned t)
@@ -66,7 +69,8 @@ has_value (Some own) v = same coded_value own v
 abbrev pub has_fields : Tree → Tree → Bool
 has_fields no_pairs t = true
 has_fields (leaf_pair n k v ps) t = has_value (first_named n t) (leaf_value k v) && has_fields ps t
-has_fields (inner_pair n k b inner ps) t = has_value (first_named n t) (document_value k b inner) && has_fields ps t
+has_fields (inner_pair n k b inner ps) t =
+    has_value (first_named n t) (document_value k b inner) && has_fields ps t
 
 abbrev pub matches : Tree → TreeValue → Bool
 matches f (document_value kinds.Document b t) = has_fields f t

@@ -1,5 +1,7 @@
 -- What the server holds, as its contracts see it: documents by namespace, and cursors.
-use Rattle.std.specs.Prelude.{ℕ, zero, suc, ℤ, pos, nat_lt, slice_get, ◌+◌, ◌&&◌, List, [], ◌∷◌, ◌++◌, Bool, Option, Some, None, codes, length, map, string_bytes, if◌then◌else◌, option_map}
+use Rattle.std.specs.Prelude.{ℕ, zero, suc, ℤ, pos, nat_lt, slice_get, ◌+◌, ◌&&◌, List, [], ◌∷◌}
+use Rattle.std.specs.Prelude.{◌++◌, Bool, Option, Some, None, codes, length, map, string_bytes}
+use Rattle.std.specs.Prelude.{if◌then◌else◌, option_map}
 use Rattle.std.specs.Str.{bytes_eq}
 use Rattle.bson_raw.specs.{TreeValue}
 use Rattle.bson_doc.specs.{value_of}
@@ -19,13 +21,13 @@ pub record CollectionView : Type 0 where
   pub namespace : NamespaceView
   pub documents : List TreeValue
 
--- what was found in a namespace and not given yet; a cursor that has nothing left is closed
+-- what was found in a namespace and not given yet; a cursor with nothing left is closed
 pub record CursorView : Type 0 where
   pub namespace : NamespaceView
   pub left : List TreeValue
 
--- The collections, in the order in which the first document of each was inserted, and the cursors, of which the first has
--- the id 1.
+-- The collections, in the order in which the first document of each was inserted, and the cursors.
+-- The first cursor has the id 1.
 pub record StoreView : Type 0 where
   pub collections : List CollectionView
   pub cursors : List CursorView
@@ -40,16 +42,22 @@ abbrev pub namespace_of : Namespace → NamespaceView
 namespace_of n = record { database = n.database.now; collection = n.collection.now }
 
 abbrev pub namespace_buf : NamespaceBuf → NamespaceView
-namespace_buf n = record { database = string_bytes n.database; collection = string_bytes n.collection }
+namespace_buf n =
+    record { database = string_bytes n.database; collection = string_bytes n.collection }
 
 abbrev pub collection_of : Collection → CollectionView
-collection_of c = record { namespace = namespace_buf c.namespace; documents = map value_of c.documents.items }
+collection_of c =
+    record { namespace = namespace_buf c.namespace; documents = map value_of c.documents.items }
 
 abbrev pub cursor_of : Cursor → CursorView
 cursor_of c = record { namespace = namespace_buf c.namespace; left = map value_of c.left.items }
 
 abbrev pub store_of : Store → StoreView
-store_of s = record { collections = map collection_of s.collections.items; cursors = map cursor_of s.cursors.items }
+store_of s =
+    record {
+      collections = map collection_of s.collections.items;
+      cursors = map cursor_of s.cursors.items;
+    }
 
 -- ---- namespaces
 
@@ -68,11 +76,13 @@ abbrev pub documents_in : NamespaceView → List CollectionView → List TreeVal
 documents_in n [] = []
 documents_in n (c ∷ cs) = if is_same_namespace n c.namespace then c.documents else documents_in n cs
 
--- the collections with these documents more in a namespace, behind those that are there
-abbrev pub with_documents : NamespaceView → List TreeValue → List CollectionView → List CollectionView
+-- the collections with these documents added to a namespace, after those that are there
+abbrev pub with_documents : NamespaceView → List TreeValue → List CollectionView
+    → List CollectionView
 with_documents n vs [] = record { namespace = n; documents = vs } ∷ []
 with_documents n vs (c ∷ cs) =
-    if is_same_namespace n c.namespace then record { namespace = c.namespace; documents = c.documents ++ vs } ∷ cs
+    if is_same_namespace n c.namespace
+    then record { namespace = c.namespace; documents = c.documents ++ vs } ∷ cs
     else c ∷ with_documents n vs cs
 
 -- the collections without that of a namespace, or nothing if there is none
@@ -85,21 +95,23 @@ without_collection n (c ∷ cs) =
 -- the index of the collection of a namespace
 abbrev pub collection_index : NamespaceView → List CollectionView → Option ℕ
 collection_index n [] = None
-collection_index n (c ∷ cs) = if is_same_namespace n c.namespace then Some 0 else option_map (λ i. suc i) (collection_index n cs)
+collection_index n (c ∷ cs) =
+    if is_same_namespace n c.namespace then Some 0
+    else option_map (λ i. suc i) (collection_index n cs)
 
 -- ---- cursors
 
--- the cursors with one more over what is left, if anything is
+-- the cursors with one more over what is left, if anything is left
 abbrev pub opened : NamespaceView → List TreeValue → List CursorView → List CursorView
 opened n [] cs = cs
 opened n (v ∷ vs) cs = cs ++ record { namespace = n; left = v ∷ vs } ∷ []
 
--- the id of that cursor, or 0
+-- the id of that cursor, or 0 if none was opened
 abbrev pub opened_id : List TreeValue → List CursorView → ℤ
 opened_id [] cs = pos 0
 opened_id (v ∷ vs) cs = pos (length cs + 1)
 
--- the index of the cursor of this id
+-- the index of the cursor with this id
 abbrev pub cursor_index : ℤ → Option ℕ
 cursor_index (pos (suc i)) = Some i
 cursor_index _ = None
@@ -107,21 +119,22 @@ cursor_index _ = None
 -- the cursor, if it is of this namespace and has something left
 abbrev pub if_open : NamespaceView → Option CursorView → Option CursorView
 if_open n None = None
-if_open n (Some c) = if (is_same_namespace n c.namespace && nat_lt 0 (length c.left)) then Some c else None
+if_open n (Some c) =
+    if (is_same_namespace n c.namespace && nat_lt 0 (length c.left)) then Some c else None
 
 -- the open cursor of this namespace at an index
 abbrev pub open_at : NamespaceView → Option ℕ → List CursorView → Option CursorView
 open_at n None cs = None
 open_at n (Some i) cs = if_open n (slice_get cs i)
 
--- the cursors, where the one at an index has this left
+-- the cursors, after the one at an index was left with this
 abbrev pub with_left : Option ℕ → List TreeValue → List CursorView → List CursorView
 with_left None vs cs = cs
 with_left (Some i) vs [] = []
 with_left (Some zero) vs (c ∷ cs) = record { namespace = c.namespace; left = vs } ∷ cs
 with_left (Some (suc i)) vs (c ∷ cs) = c ∷ with_left (Some i) vs cs
 
--- the id of a cursor that has this left, or 0 where it is nothing
+-- the id of a cursor that has this left, or 0 if it is nothing
 abbrev pub id_if_left : ℤ → List TreeValue → ℤ
 id_if_left id [] = pos 0
 id_if_left id (v ∷ vs) = id

@@ -1,5 +1,6 @@
--- The documents that an insert brings.
-use Rattle.std.specs.Prelude.{◌≡◌, ◌&&◌, List, [], ◌∷◌, ◌++◌, length, Option, Some, None, Result, Ok, Err, codes, nat_le, option_map, if◌then◌else◌}
+-- The documents of an insert.
+use Rattle.std.specs.Prelude.{◌≡◌, ◌&&◌, List, [], ◌∷◌, ◌++◌, length, Option, Some, None, Result}
+use Rattle.std.specs.Prelude.{Ok, Err, codes, nat_le, option_map, if◌then◌else◌}
 use Rattle.std.specs.Str.{bytes_eq}
 use Rattle.bson_elem.specs.declared.kinds.Kind.TheVariants as kinds
 use Rattle.bson_elem.specs.{Tree, inner_pair, leaf_pair, no_code, no_pairs}
@@ -11,72 +12,75 @@ use Rattle.test_server.specs.declared.failure.Failure.{Failure}
 use Rattle.test_server.specs.declared.failure.Failure.TheVariants.{OutOfMemory, Refused}
 use Rattle.test_server.specs.Filters.{owned}
 
--- a document as it is kept: in its canonical form, if no name stands twice in it
-abbrev pub kept : Tree → Option TreeValue
-kept t = option_map (document_value kinds.Document no_code) (owned t)
+-- a document as it is kept: in its canonical form, if no name is repeated in it
+abbrev pub kept_document : Tree → Option TreeValue
+kept_document t = option_map (document_value kinds.Document no_code) (owned t)
 
--- a document before others, where all of them are kept
-abbrev pub before : Option TreeValue → Option (List TreeValue) → Option (List TreeValue)
-before None others = None
-before (Some v) None = None
-before (Some v) (Some vs) = Some (v ∷ vs)
+-- a document and then others, if all of them are kept
+abbrev pub with_others : Option TreeValue → Option (List TreeValue) → Option (List TreeValue)
+with_others None others = None
+with_others (Some v) None = None
+with_others (Some v) (Some vs) = Some (v ∷ vs)
 
--- documents before others, where those are kept
-abbrev pub behind : List TreeValue → Option (List TreeValue) → Option (List TreeValue)
-behind vs None = None
-behind vs (Some ws) = Some (vs ++ ws)
+-- documents and then others, if those are kept
+abbrev pub followed_by : List TreeValue → Option (List TreeValue) → Option (List TreeValue)
+followed_by vs None = None
+followed_by vs (Some ws) = Some (vs ++ ws)
 
--- one that is kept, alone
+-- one document alone, if it is kept
 abbrev pub alone : Option TreeValue → Option (List TreeValue)
-alone v = before v (Some [])
+alone v = with_others v (Some [])
 
 -- a value as it is kept, if it is a document
 abbrev pub kept_value : TreeValue → Option TreeValue
-kept_value (document_value kinds.Document b t) = kept t
+kept_value (document_value kinds.Document b t) = kept_document t
 kept_value _ = None
 
--- the documents of an array, where each of its values is one
+-- the documents of an array, if all its values are documents
 abbrev pub in_array : Tree → Option (List TreeValue)
 in_array no_pairs = Some []
-in_array (leaf_pair n k v ps) = before (kept_value (leaf_value k v)) (in_array ps)
-in_array (inner_pair n k b t ps) = before (kept_value (document_value k b t)) (in_array ps)
+in_array (leaf_pair n k v ps) = with_others (kept_value (leaf_value k v)) (in_array ps)
+in_array (inner_pair n k b t ps) = with_others (kept_value (document_value k b t)) (in_array ps)
 
 abbrev pub in_sequence : List Tree → Option (List TreeValue)
 in_sequence [] = Some []
-in_sequence (t ∷ ts) = before (kept t) (in_sequence ts)
+in_sequence (t ∷ ts) = with_others (kept_document t) (in_sequence ts)
 
--- the first documents and then the others, where all of them are kept
+-- the first documents and then the others, if all of them are kept
 abbrev pub joined : Option (List TreeValue) → Option (List TreeValue) → Option (List TreeValue)
 joined None others = None
-joined (Some vs) others = behind vs others
+joined (Some vs) others = followed_by vs others
 
--- those that a sequence brings: one with another identifier brings none
-abbrev pub brought : Sequence → Option (List TreeValue)
-brought q = if bytes_eq q.identifier (codes "documents") then in_sequence q.documents else Some []
+-- those of a sequence; one with another identifier has none
+abbrev pub sequence_documents : Sequence → Option (List TreeValue)
+sequence_documents q =
+    if bytes_eq q.identifier (codes "documents") then in_sequence q.documents else Some []
 
 abbrev pub in_sequences : List Sequence → Option (List TreeValue)
 in_sequences [] = Some []
-in_sequences (q ∷ qs) = joined (brought q) (in_sequences qs)
+in_sequences (q ∷ qs) = joined (sequence_documents q) (in_sequences qs)
 
--- the documents of the array `documents` in the body, or of the sequences of this name
+-- the documents of the array `documents` in the body, or of the sequences with this identifier
 abbrev pub in_field : List Sequence → Option TreeValue → Option (List TreeValue)
 in_field qs None = in_sequences qs
 in_field qs (Some (document_value kinds.Array b t)) = in_array t
 in_field qs (Some _) = None
 
--- from 1 to 100,000 of them
-abbrev pub if_so_many : Option (List TreeValue) → Result (List TreeValue) CommandError
-if_so_many None = Err errors.Documents
-if_so_many (Some vs) = if (nat_le 1 (length vs) && nat_le (length vs) 100000) then Ok vs else Err errors.Documents
+-- the documents, if there are 1 to 100,000 of them
+abbrev pub if_count_allowed : Option (List TreeValue) → Result (List TreeValue) CommandError
+if_count_allowed None = Err errors.Documents
+if_count_allowed (Some vs) =
+    if (nat_le 1 (length vs) && nat_le (length vs) 100000) then Ok vs else Err errors.Documents
 
--- the documents that an insert brings
+-- the documents of an insert
 abbrev pub inserted : Content → Result (List TreeValue) CommandError
-inserted c = if_so_many (in_field c.sequences (first_named (codes "documents") c.body))
+inserted c = if_count_allowed (in_field c.sequences (first_named (codes "documents") c.body))
 
 -- ---- appending them
 
--- These documents, where they are kept, were appended; else they were refused, or memory was wanting.
-abbrev pub Appended : List TreeValue → Option (List TreeValue) → Result (Unit {0}) Failure → List TreeValue → Type 0
-Appended old given (Ok _) new = behind old given ≡ Some new
+-- These documents were appended, if they are kept; otherwise they were refused; or memory ran out.
+abbrev pub Appended : List TreeValue → Option (List TreeValue) → Result (Unit {0}) Failure
+    → List TreeValue → Type 0
+Appended old given (Ok _) new = followed_by old given ≡ Some new
 Appended old given (Err OutOfMemory) new = Unit {0}
 Appended old given (Err (Refused e)) new = (given ≡ None) × (e ≡ errors.Documents)

@@ -1,13 +1,14 @@
--- Serving one connection after another, and what is written of them.
-use Rattle.std.specs.Prelude.{◌≡◌, ◌≢◌, ◌⊎◌, ℕ, zero, suc, ◌<◌, List, [], ◌++◌, codes, Option, Result, Ok, Err}
+-- Serving one connection after another, and their transcripts.
+use Rattle.std.specs.Prelude.{◌≡◌, ◌≢◌, ◌⊎◌, ℕ, zero, suc, ◌<◌, List, [], ◌++◌, codes, Option}
+use Rattle.std.specs.Prelude.{Result, Ok, Err}
 use Rattle.std.specs.Fmt.{decimal}
 use Rattle.std.specs.Io.KnownBytes.{Appends, Keeps}
 use Rattle.wire_peer.specs.declared.serving.ServeEnd.{ServeEnd}
 use Rattle.wire_peer.specs.declared.serving.ServeEnd.TheVariants as ends
 use Rattle.wire_stream.specs.{Turn}
 use Rattle.wire_peer.specs.{LogEntry, Seen, Served}
-use Rattle.test_server.specs.declared.connections.RunEnd.{RunEnd}
-use Rattle.test_server.specs.declared.connections.RunEnd.TheVariants as run
+use Rattle.test_server.specs.declared.connections.ServerEnd.{ServerEnd}
+use Rattle.test_server.specs.declared.connections.ServerEnd.TheVariants as run
 use Rattle.test_server.specs.declared.store.Store.{Store}
 use Rattle.test_server.specs.Handling.{Answered, StopsAt}
 use Rattle.test_server.specs.Held.{empty_store, store_of}
@@ -15,25 +16,29 @@ use Rattle.test_server.specs.Transcript.{connection_text}
 
 -- ---- one connection
 
--- that end is told, and the text of the connection was written; or writing it failed
-abbrev pub Tells : ℕ → ServeEnd → List LogEntry → Result ServeEnd RunEnd → Option (List ℕ) → Option (List ℕ) → Type 0
-Tells number end made (Ok told) before after = (told ≡ end) × Appends before after (connection_text number made end)
+-- this end was returned, and the transcript of the connection was written; or writing it failed
+abbrev pub Tells : ℕ → ServeEnd → List LogEntry → Result ServeEnd ServerEnd → Option (List ℕ)
+    → Option (List ℕ) → Type 0
+Tells number end made (Ok told) before after =
+    (told ≡ end) × Appends before after (connection_text number made end)
 Tells number end made (Err why) before after = why ≡ run.InOut
 
--- A connection was served by what is held, with messages of at most 48,000,000 bytes, and ended so. Its entries were told.
-pub record ServesOne (number : ℕ) (result : Result ServeEnd RunEnd) (old new : Seen Store) (before after : Option (List ℕ)) : Type 0 where
+-- A connection was served with what is held, with messages of at most 48,000,000 bytes, and ended
+-- like this. Its entries were written.
+pub record ServesOne (number : ℕ) (result : Result ServeEnd ServerEnd) (old new : Seen Store)
+    (before after : Option (List ℕ)) : Type 0 where
   pub end : ServeEnd
   pub served : Served Answered StopsAt number 48000000 18446744073709551615 end old new
   pub told : Tells number end served.made result before after
 
--- the server stops after a connection that ended for want of memory, and after no other
-abbrev pub settled : ServeEnd → Result (Unit {0}) RunEnd
+-- the server stops after a connection that ran out of memory, and after no other
+abbrev pub settled : ServeEnd → Result (Unit {0}) ServerEnd
 settled ends.OutOfMemory = Err run.OutOfMemory
 settled _ = Ok tt
 
 -- ---- one after another
 
--- what outlasts a connection: the documents that are held, and the log
+-- what outlives a connection: the held documents, and the log
 pub record Kept : Type 0 where
   pub store : Store
   pub log : List LogEntry
@@ -60,34 +65,42 @@ seen_over k w = record {
   ends = w.ends;
 }
 
--- A connection of this number was served over what the ones before left, and ended so. What became of it was written, or that
--- failed, by the result.
-pub record ServesFrom (number : ℕ) (result : Result ServeEnd RunEnd) (old new : Kept) (before after : Option (List ℕ)) : Type 0 where
+-- A connection with this number was served with what the ones before left, and ended like this. By
+-- the result, its transcript was written, or writing it failed.
+pub record ServesFrom (number : ℕ) (result : Result ServeEnd ServerEnd) (old new : Kept)
+    (before after : Option (List ℕ)) : Type 0 where
   pub from : Wire
   pub to : Wire
   pub serves : ServesOne number result (seen_over old from) (seen_over new to) before after
 
--- The next connection, of this number, was served and written, and the server goes on or stops for want of memory. Or no connection
--- came, or what became of it couldn't be written.
-abbrev pub ServesNext : ℕ → Result (Unit {0}) RunEnd → Kept → Kept → Option (List ℕ) → Option (List ℕ) → Type 0
+-- The next connection, with this number, was served and its transcript written, and the server
+-- goes on, or stops because memory ran out. Or no connection came, or its transcript couldn't be
+-- written.
+abbrev pub ServesNext : ℕ → Result (Unit {0}) ServerEnd → Kept → Kept → Option (List ℕ)
+    → Option (List ℕ) → Type 0
 ServesNext number (Ok _) old new before after =
     (end : ServeEnd) × (end ≢ ends.OutOfMemory) × ServesFrom number (Ok end) old new before after
-ServesNext number (Err run.OutOfMemory) old new before after = ServesFrom number (Ok ends.OutOfMemory) old new before after
-ServesNext number (Err run.InOut) old new before after = (new ≡ old) ⊎ ServesFrom number (Err run.InOut) old new before after
+ServesNext number (Err run.OutOfMemory) old new before after =
+    ServesFrom number (Ok ends.OutOfMemory) old new before after
+ServesNext number (Err run.InOut) old new before after =
+    (new ≡ old) ⊎ ServesFrom number (Err run.InOut) old new before after
 ServesNext number (Err (run.Served n)) old new before after = ⊥
 
--- So many connections were served, one after another: the first has the number 1, and each was served over what the one before
--- left. None ended for want of memory.
+-- This many connections were served, one after another. The first has the number 1, and each was
+-- served with what the one before left. None ran out of memory.
 abbrev pub AreServed : ℕ → Kept → Kept → Option (List ℕ) → Option (List ℕ) → Type 0
 AreServed zero old new before after = (new ≡ old) × Keeps before after
 AreServed (suc n) old new before after =
-    (mid : Kept) × (text : Option (List ℕ)) × AreServed n old mid before text × ServesNext (suc n) (Ok tt) mid new text after
+    (mid : Kept) × (text : Option (List ℕ)) × AreServed n old mid before text
+    × ServesNext (suc n) (Ok tt) mid new text after
 
--- all of so many connections were served, or so many that there are fewer, and the server stopped at the next one
-abbrev pub ServesAll : ℕ → RunEnd → Kept → Kept → Option (List ℕ) → Option (List ℕ) → Type 0
-ServesAll count (run.Served n) old new before after = (n ≡ count) × AreServed count old new before after
+-- this many connections were served, or fewer, and the server stopped at the next one
+abbrev pub ServesAll : ℕ → ServerEnd → Kept → Kept → Option (List ℕ) → Option (List ℕ) → Type 0
+ServesAll count (run.Served n) old new before after =
+    (n ≡ count) × AreServed count old new before after
 ServesAll count why old new before after =
-    (n : ℕ) × (n < count) × (mid : Kept) × (text : Option (List ℕ)) × AreServed n old mid before text × ServesNext (suc n) (Err why) mid new text after
+    (n : ℕ) × (n < count) × (mid : Kept) × (text : Option (List ℕ))
+    × AreServed n old mid before text × ServesNext (suc n) (Err why) mid new text after
 
 -- ---- the whole text
 
@@ -98,19 +111,23 @@ listening_line local = codes "listening " ++ (local ++ codes "\n")
 abbrev pub served_line : ℕ → List ℕ
 served_line count = codes "served " ++ (decimal count ++ codes "\n")
 
--- the server listened somewhere, said where, and served all of so many connections out of no documents
-abbrev pub IsListened : ℕ → RunEnd → Option (List ℕ) → Option (List ℕ) → Type 0
+-- the server listened somewhere, wrote where, and served this many connections, starting with no
+-- documents
+abbrev pub IsListened : ℕ → ServerEnd → Option (List ℕ) → Option (List ℕ) → Type 0
 IsListened count (run.Served n) before after =
-    (local : List ℕ) × (store : Store) × (new : Kept) × (mid : Option (List ℕ)) × Appends before mid (listening_line local)
+    (local : List ℕ) × (store : Store) × (new : Kept) × (mid : Option (List ℕ))
+    × Appends before mid (listening_line local)
     × (store_of store ≡ empty_store) × ServesAll count (run.Served n) (kept store []) new mid after
 IsListened count why before after = Unit {0}
 
--- what stands before the last line: nothing where no connection is asked for
+-- what comes before the last line: nothing if no connection is asked for
 abbrev pub IsBegun : ℕ → Option (List ℕ) → Option (List ℕ) → Type 0
 IsBegun zero before after = Keeps before after
 IsBegun (suc n) before after = IsListened (suc n) (run.Served (suc n)) before after
 
--- all of so many connections were served, and the last line says so
-abbrev pub IsRun : ℕ → RunEnd → Option (List ℕ) → Option (List ℕ) → Type 0
-IsRun count (run.Served n) before after = (n ≡ count) × (mid : Option (List ℕ)) × IsBegun count before mid × Appends mid after (served_line count)
+-- this many connections were served, and the last line says so
+abbrev pub IsRun : ℕ → ServerEnd → Option (List ℕ) → Option (List ℕ) → Type 0
+IsRun count (run.Served n) before after =
+    (n ≡ count) × (mid : Option (List ℕ)) × IsBegun count before mid
+    × Appends mid after (served_line count)
 IsRun count why before after = Unit {0}

@@ -1,5 +1,6 @@
--- Taking batches off cursors.
-use Rattle.std.specs.Prelude.{◌≡◌, ℕ, ℤ, ◌<◌, List, Some, None, Result, Ok, Err, drop, length, map, slice_get, take}
+-- How batches are taken from cursors.
+use Rattle.std.specs.Prelude.{◌≡◌, ℕ, ℤ, ◌<◌, List, Some, None, Result, Ok, Err, drop, length, map}
+use Rattle.std.specs.Prelude.{slice_get, take}
 use Rattle.bson_raw.specs.{TreeValue}
 use Rattle.bson_doc.specs.declared.bson_values.Bson.{Bson}
 use Rattle.bson_doc.specs.{value_of}
@@ -9,23 +10,30 @@ use Rattle.test_server.specs.declared.failure.CommandError.TheVariants as errors
 use Rattle.test_server.specs.declared.failure.Failure.{Failure}
 use Rattle.test_server.specs.declared.failure.Failure.TheVariants.{OutOfMemory, Refused}
 use Rattle.test_server.specs.declared.store.Cursor.{Cursor}
-use Rattle.test_server.specs.Held.{CursorView, NamespaceView, cursor_index, cursor_of, id_if_left, open_at, with_left}
+use Rattle.test_server.specs.Held.{CursorView, NamespaceView, cursor_index, cursor_of, id_if_left}
+use Rattle.test_server.specs.Held.{open_at, with_left}
 
--- the cursor of this id is open, of this namespace, and stands at this index
+-- the cursor with this id is open, has this namespace, and is at this index
 abbrev pub IsOpenAt : NamespaceView → ℤ → List Cursor → ℕ → Type 0
-IsOpenAt n id cs i = (cursor_index id ≡ Some i) × (i < length cs) × (open_at n (cursor_index id) (map cursor_of cs) ≡ slice_get (map cursor_of cs) i)
+IsOpenAt n id cs i =
+    (cursor_index id ≡ Some i) × (i < length cs)
+    × (open_at n (cursor_index id) (map cursor_of cs) ≡ slice_get (map cursor_of cs) i)
 
--- The first documents that were left, at most so many, were taken off the cursor of this id and this namespace.
-pub record TakesFrom (n : NamespaceView) (id : ℤ) (count : ℕ) (old : List CursorView) (batch : List TreeValue) (after : ℤ) (new : List CursorView) : Type 0 where
+-- The first documents that were left, at most this many, were removed from the cursor with this id
+-- and this namespace.
+pub record TakesFrom (n : NamespaceView) (id : ℤ) (count : ℕ) (old : List CursorView)
+    (batch : List TreeValue) (after : ℤ) (new : List CursorView) : Type 0 where
   pub cursor : CursorView
   pub is_open : open_at n (cursor_index id) old ≡ Some cursor
   pub batch_is : batch ≡ take count cursor.left
   pub id_is : after ≡ id_if_left id (drop count cursor.left)
   pub left : new ≡ with_left (cursor_index id) (drop count cursor.left) old
 
--- The first documents that a cursor has left, at most so many, were taken off it; or there is no such open cursor, or memory
--- was wanting, and nothing changed.
-abbrev pub IsNextBatch : NamespaceView → ℤ → ℕ → List CursorView → Result (Vec Bson Global × ℤ) Failure → List CursorView → Type 0
+-- The first documents that a cursor has left, at most this many, were removed from it; or there is
+-- no such open cursor, or memory ran out, and nothing changed.
+abbrev pub IsNextBatch : NamespaceView → ℤ → ℕ → List CursorView
+    → Result (Vec Bson Global × ℤ) Failure → List CursorView → Type 0
 IsNextBatch n id count old (Ok x) new = TakesFrom n id count old (map value_of x.0.items) x.1 new
 IsNextBatch n id count old (Err OutOfMemory) new = new ≡ old
-IsNextBatch n id count old (Err (Refused e)) new = (e ≡ errors.CursorNotFound) × (open_at n (cursor_index id) old ≡ None) × (new ≡ old)
+IsNextBatch n id count old (Err (Refused e)) new =
+    (e ≡ errors.CursorNotFound) × (open_at n (cursor_index id) old ≡ None) × (new ≡ old)

@@ -1,4 +1,4 @@
--- The text of what became of a connection: its requests with their answers, and how it ended.
+-- The transcript of a connection: its requests with their answers, and how it ended.
 use Rattle.std.specs.Prelude.{ℕ, List, ◌++◌, codes, flat_map, Option, None, Some}
 use Rattle.std.specs.Fmt.{decimal}
 use Rattle.bson_text.specs.{document_text, quoted}
@@ -6,7 +6,9 @@ use Rattle.wire_msg.specs.{Content, fault_text}
 use Rattle.wire_text.specs.{text_of_sequence}
 use Rattle.wire_text.specs.declared.messages.Detail.TheVariants.{Line}
 use Rattle.wire_peer.specs.declared.serving.ServeEnd.{ServeEnd}
-use Rattle.wire_peer.specs.declared.serving.ServeEnd.TheVariants.{Ended, EndedInside, Fault, Link, Budget, ReplyTooLarge, OutOfMemory, HandlerFailed}
+use Rattle.wire_peer.specs.declared.serving.ServeEnd.TheVariants.{Ended, EndedInside, Fault, Link}
+use Rattle.wire_peer.specs.declared.serving.ServeEnd.TheVariants.{Budget, ReplyTooLarge}
+use Rattle.wire_peer.specs.declared.serving.ServeEnd.TheVariants.{OutOfMemory, HandlerFailed}
 use Rattle.wire_peer.specs.{LogEntry}
 use Rattle.test_server.specs.Commands.{first_name}
 
@@ -39,7 +41,8 @@ end_text ReplyTooLarge = codes "end ReplyTooLarge\n"
 end_text OutOfMemory = codes "end OutOfMemory\n"
 end_text HandlerFailed = codes "end HandlerFailed\n"
 
--- the text of a connection: its number, its entries, and how it ended
+-- the transcript of a connection: its number, its entries, and how it ended
 abbrev pub connection_text : ℕ → List LogEntry → ServeEnd → List ℕ
 connection_text number entries end =
-    codes "connection " ++ (decimal number ++ (codes "\n" ++ (flat_map entry_text entries ++ end_text end)))
+    codes "connection " ++ (decimal number
+    ++ (codes "\n" ++ (flat_map entry_text entries ++ end_text end)))

@@ -1,8 +1,9 @@
-//! The parts of answers.
+//! Makes the parts of answers.
 
 ghost use Rattle.std.specs.Prelude.{◌≡◌, IfOk, OnOk, OnSome, codes, map, string_bytes};
 ghost use Rattle.bson_doc.specs.{value_of, put};
-ghost use Rattle.test_server.specs.Answers.{batch_name, cursor_answer, cursor_pairs, double_one, error_pairs, inner, ok_alone, refusal_pairs, text};
+ghost use Rattle.test_server.specs.Answers.{batch_name, cursor_answer, cursor_pairs, double_one};
+ghost use Rattle.test_server.specs.Answers.{error_pairs, inner, ok_alone, refusal_pairs, text};
 
 use crate::failure::CommandError;
 use bson_doc::{Array, Bson, Document};
@@ -11,17 +12,17 @@ use std::alloc::{AllocError, Global};
 /// The number 1 as a double.
 const ONE: [u8; 8] = [0, 0, 0, 0, 0, 0, 0xf0, 0x3f];
 
-/// Which batch of a cursor an answer has.
+/// The batch of a cursor that an answer has.
 #[derive(Clone, Copy, Debug, PartialEq, Eq)]
 pub enum Batch {
     /// The first one.
     First,
-    /// One after the first.
+    /// A later one.
     Next,
 }
 
 impl Batch {
-    /// Returns the name of the field that has the batch.
+    /// Returns the name of the field for the batch.
     fn name(self) -> &'static str
         ensures { result.now ≡ batch_name self }
     {
@@ -32,7 +33,7 @@ impl Batch {
     }
 }
 
-/// Sets the field of this name of an answer.
+/// Sets the field with this name in an answer.
 fn put_field(answer: &mut Document, name: String, value: Bson) -> Option<()>
     ensures { OnSome result (answer.new ≡ put (string_bytes name) (value_of value) answer.old) }
 {
@@ -40,7 +41,7 @@ fn put_field(answer: &mut Document, name: String, value: Bson) -> Option<()>
     Some(())
 }
 
-/// Sets a field of an answer.
+/// Sets a field in an answer.
 pub fn set(alloc: Global, answer: &mut Document, name: &str, value: Bson) -> Result<(), AllocError>
     ensures { OnOk result (answer.new ≡ put name.now (value_of value) answer.old) }
 {
@@ -48,7 +49,7 @@ pub fn set(alloc: Global, answer: &mut Document, name: &str, value: Bson) -> Res
     put_field(answer, name, value).ok_or(AllocError)
 }
 
-/// Sets a field of an answer to a text.
+/// Sets a field in an answer to a text.
 pub fn set_text(
     alloc: Global,
     answer: &mut Document,
@@ -61,14 +62,14 @@ pub fn set_text(
     set(alloc, answer, name, Bson::String(words))
 }
 
-/// Sets the field `ok` of an answer to 1.
+/// Sets the field `ok` in an answer to 1.
 pub fn set_ok(alloc: Global, answer: &mut Document) -> Result<(), AllocError>
     ensures { OnOk result (answer.new ≡ put (codes "ok") double_one answer.old) }
 {
     set(alloc, answer, "ok", Bson::Double(ONE))
 }
 
-/// Returns the answer that a command was carried out, and no more.
+/// Makes the answer that says only that a command was carried out.
 pub fn ok_alone(alloc: Global) -> Result<Document, AllocError>
     ensures { IfOk result (λ d. d ≡ ok_alone) }
 {
@@ -77,7 +78,7 @@ pub fn ok_alone(alloc: Global) -> Result<Document, AllocError>
     Ok(answer)
 }
 
-/// Returns the answer of an error.
+/// Makes the answer for an error.
 pub fn error_answer(
     alloc: Global,
     words: &str,
@@ -94,15 +95,15 @@ pub fn error_answer(
     Ok(answer)
 }
 
-/// Returns the answer of a command that is refused.
+/// Makes the answer to a refused command.
 pub fn refusal_answer(alloc: Global, error: CommandError) -> Result<Document, AllocError>
     ensures { IfOk result (λ d. d ≡ refusal_pairs error) }
 {
     error_answer(alloc, error.words(), error.code(), error.code_name())
 }
 
-/// Returns the field `cursor` of an answer: a batch of documents, the id of the cursor that has more of them, or 0, and the
-/// namespace.
+/// Makes the field `cursor` of an answer: a batch of documents, the id of the cursor that has more
+/// of them (0 if none has), and the namespace.
 fn cursor_document(
     alloc: Global,
     which: Batch,
@@ -110,8 +111,8 @@ fn cursor_document(
     id: i64,
     namespace: String,
 ) -> Result<Document, AllocError>
-    ensures { IfOk result (λ d. d
-        ≡ cursor_pairs which (map value_of batch.items) id (string_bytes namespace)) }
+    ensures { IfOk result
+        (λ d. d ≡ cursor_pairs which (map value_of batch.items) id (string_bytes namespace)) }
 {
     let mut cursor = Document::new(alloc);
     let batch = Array::from_vec(batch);
@@ -121,7 +122,8 @@ fn cursor_document(
     Ok(cursor)
 }
 
-/// Returns the answer with a batch of documents, the id of the cursor that has more of them, or 0, and the namespace.
+/// Makes the answer with a batch of documents, the id of the cursor that has more of them (0 if
+/// none has), and the namespace.
 pub fn cursor_answer(
     alloc: Global,
     which: Batch,
@@ -129,8 +131,8 @@ pub fn cursor_answer(
     id: i64,
     namespace: String,
 ) -> Result<Document, AllocError>
-    ensures { IfOk result (λ d. d
-        ≡ cursor_answer which (map value_of batch.items) id (string_bytes namespace)) }
+    ensures { IfOk result
+        (λ d. d ≡ cursor_answer which (map value_of batch.items) id (string_bytes namespace)) }
 {
     let cursor = cursor_document(alloc, which, batch, id, namespace)?;
     let mut answer = Document::new(alloc);

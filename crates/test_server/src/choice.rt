@@ -1,8 +1,9 @@
-//! What the words of the command line ask for.
+//! Finds out what the words of the command line ask for.
 
 ghost use Rattle.std.specs.Prelude.{◌≡◌, IfOk, IsErrAnd, IsOkAnd, MatchResult, Some, codes, map};
 ghost use Rattle.clap.specs.Words.{FailsBy, fault_of, first_of, found_of, one_of, rows_of};
-ghost use Rattle.test_server.specs.Choices.{AsksFor, HasAddress, HasChoice, HasNumber, IsChosen, IsHeld};
+ghost use Rattle.test_server.specs.Choices.{AsksFor, HasAddress, HasChoice, HasNumber, IsChosen};
+ghost use Rattle.test_server.specs.Choices.{IsHeld};
 ghost use Rattle.test_server.specs.CommandLine.{command_line};
 
 use crate::command_line::program;
@@ -14,7 +15,7 @@ use std::alloc::Global;
 pub struct Choice<'a> {
     /// The address to listen at.
     pub address: &'a str,
-    /// How many connections are served.
+    /// The number of connections to serve.
     pub connections: u64,
 }
 
@@ -29,7 +30,8 @@ fn address_of<'a>(matches: &ArgMatches<'a>) -> &'a str
     }
 }
 
-/// Returns how many connections `--connections` asks for. Where it wasn't given they are as many as can be counted.
+/// Returns the number of connections that `--connections` asks for, or the greatest number if it
+/// wasn't given.
 fn connections_of(matches: &ArgMatches<'_>) -> u64
     requires { HasNumber (rows_of (found_of matches.now)) }
     ensures { AsksFor result (one_of (codes "connections") (rows_of (found_of matches.now))) }
@@ -40,7 +42,7 @@ fn connections_of(matches: &ArgMatches<'_>) -> u64
     }
 }
 
-/// Returns the choice that the matches of a parse hold, or the error of the parse as it is.
+/// Returns the choice that the matches of a parse hold, or the error of the parse.
 fn chosen(parse: Result<ArgMatches<'_>, Error>) -> Result<Choice<'_>, Error>
     requires { IfOk parse (λ m. HasChoice (rows_of (found_of m))) }
     ensures { MatchResult parse.entry
@@ -54,11 +56,12 @@ fn chosen(parse: Result<ArgMatches<'_>, Error>) -> Result<Choice<'_>, Error>
     })
 }
 
-/// Returns what the words ask for, of which the first is the program's own name.
+/// Returns what the words ask for. The first is the program's own name.
 ///
 /// # Errors
 ///
-/// `clap`'s own error: a fault in the words, a request for help or the version, or want of memory.
+/// Returns `clap`'s own error: a fault in the words, a request for help or the version, or out of
+/// memory.
 pub fn choose<'a>(alloc: Global, words: &'a [&'a str]) -> Result<Choice<'a>, Error>
     ensures chosen { IfOk result (λ c. IsChosen c (map (λ w. w.now) words.now)) }
     ensures kinds { FailsBy (fault_of command_line (map (λ w. w.now) words.now)) result }

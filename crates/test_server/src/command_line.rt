@@ -1,8 +1,9 @@
-//! The command line that `clap` reads: the address, and how many connections are served.
+//! Describes the command line to `clap`: the address, and the number of connections to serve.
 
 ghost use Rattle.std.specs.Prelude.{◌≡◌, IfOk, false};
 ghost use Rattle.clap.specs.Words.{app_of, rule_of};
-ghost use Rattle.test_server.specs.CommandLine.{address_rule, command_line, connections_rule, top_app};
+ghost use Rattle.test_server.specs.CommandLine.{address_rule, command_line, connections_rule};
+ghost use Rattle.test_server.specs.CommandLine.{top_app};
 
 use clap::{Arg, ArgAction, Command, value_parser};
 use std::alloc::{AllocError, Global};
@@ -32,7 +33,7 @@ fn connections_option<'a>(alloc: Global) -> Arg<'a>
         .value_parser(value_parser!(u64))
 }
 
-/// Makes the command line without operand and option.
+/// Makes the command line without its operand and its option.
 fn top<'a>(alloc: Global) -> Command<'a>
     ensures { app_of result ≡ top_app }
 {
@@ -41,7 +42,7 @@ fn top<'a>(alloc: Global) -> Command<'a>
         .version("0.1.0")
 }
 
-/// Makes the whole command line. Errs if memory runs out.
+/// Makes the whole command line.
 pub fn program<'a>(alloc: Global) -> Result<Command<'a>, AllocError>
     ensures { IfOk result (λ c. app_of c ≡ command_line) }
 {

@@ -1,4 +1,4 @@
-//! The commands that the server knows, one in each module, and which of them a request asks for.
+//! Carries out the commands that the server knows. Each has a module of its own.
 
 mod drop_collection;
 mod find;
@@ -11,7 +11,8 @@ ghost use Rattle.std.specs.Prelude.{◌≡◌, ◌≢◌, IfOk, OnErr};
 ghost use Rattle.bson_elem.specs.{Spells, Tree};
 ghost use Rattle.bson_raw.specs.{document_bytes};
 ghost use Rattle.wire_msg.specs.{Carries, Content};
-ghost use Rattle.test_server.specs.Commands.{IsCarriedOut, command_of, first_name, reply_to, run, unknown_pairs};
+ghost use Rattle.test_server.specs.Commands.{IsCarriedOut, command_of, first_name, reply_to, run};
+ghost use Rattle.test_server.specs.Commands.{unknown_pairs};
 ghost use Rattle.test_server.specs.Held.{store_of};
 
 use crate::answer::{error_answer, ok_alone, refusal_answer};
@@ -43,7 +44,7 @@ pub enum Command {
     Unknown,
 }
 
-/// Returns the command of this name.
+/// Returns the command with this name.
 fn command_of(name: &str) -> Command
     ensures { result ≡ command_of name.now }
 {
@@ -61,7 +62,7 @@ fn command_of(name: &str) -> Command
     }
 }
 
-/// Returns the name of the command that a body asks for: that of its first field.
+/// Returns the name of the command that a body asks for, which is the name of its first field.
 pub fn name_of(body: RawDocument<'_>) -> &str
     ensures { (t : Tree) → Spells t (document_bytes body.entry) → result.now ≡ first_name t }
 {
@@ -71,7 +72,7 @@ pub fn name_of(body: RawDocument<'_>) -> &str
     }
 }
 
-/// Returns the answer that no command has this name.
+/// Makes the answer that says that no command has this name.
 fn unknown_command(alloc: Global, name: &str) -> Result<Document, AllocError>
     ensures { IfOk result (λ d. d ≡ unknown_pairs name.now) }
 {
@@ -84,8 +85,10 @@ fn unknown_command(alloc: Global, name: &str) -> Result<Document, AllocError>
 /// Carries out a command, and returns its answer.
 fn run(command: Command, store: &mut Store, payload: Payload<'_>) -> Result<Document, Failure>
     ensures carried { (c : Content) → Carries payload.entry c
-        → IsCarriedOut (run command (store_of store.old) c) (store_of store.old) result (store_of store.new) }
-    ensures kept { OnErr result ((store_of store.new).collections ≡ (store_of store.old).collections) }
+        → IsCarriedOut (run command (store_of store.old) c) (store_of store.old) result
+        (store_of store.new) }
+    ensures kept { OnErr result
+        ((store_of store.new).collections ≡ (store_of store.old).collections) }
     ensures steady { command ≢ Command.Insert → command ≢ Command.Drop
         → (store_of store.new).collections ≡ (store_of store.old).collections }
 {
@@ -108,14 +111,16 @@ fn run(command: Command, store: &mut Store, payload: Payload<'_>) -> Result<Docu
 ///
 /// # Errors
 ///
-/// Want of memory. The documents held are as they were then.
+/// Returns `AllocError` if memory runs out. Then the held documents are unchanged.
 pub fn answer_to(store: &mut Store, payload: Payload<'_>) -> Result<Document, AllocError>
     ensures answered { (c : Content) → Carries payload.entry c
         → IfOk result (λ d. reply_to (store_of store.old) c
         ≡ record { answer = d; held = store_of store.new }) }
-    ensures kept { OnErr result ((store_of store.new).collections ≡ (store_of store.old).collections) }
+    ensures kept { OnErr result
+        ((store_of store.new).collections ≡ (store_of store.old).collections) }
     ensures steady { (c : Content) → Carries payload.entry c
-        → command_of (first_name c.body) ≢ Command.Insert → command_of (first_name c.body) ≢ Command.Drop
+        → command_of (first_name c.body) ≢ Command.Insert
+        → command_of (first_name c.body) ≢ Command.Drop
         → (store_of store.new).collections ≡ (store_of store.old).collections }
 {
     let command = command_of(name_of(payload.body()));

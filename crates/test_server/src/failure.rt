@@ -1,4 +1,4 @@
-//! Why a command isn't carried out.
+//! Says why a command isn't carried out.
 
 ghost use Rattle.std.specs.Prelude.{◌≡◌};
 
@@ -19,15 +19,15 @@ pub enum CommandError {
     GetMore,
     /// The field `collection` isn't a string.
     Collection,
-    /// The documents to insert aren't from 1 to 100,000 documents, or a name stands twice in one.
+    /// The documents to insert aren't 1 to 100,000 documents, or a name is repeated in one.
     Documents,
-    /// The filter isn't a document, or a name stands twice in it.
+    /// The filter isn't a document, or a name is repeated in it.
     Filter,
     /// The filter has an operator.
     Operator,
     /// The number of documents in the first batch isn't a whole number.
     FirstBatchSize,
-    /// The number of documents in a later batch isn't a whole number from 1 on.
+    /// The number of documents in a later batch isn't a whole number that is at least 1.
     NextBatchSize,
     /// No open cursor has this id and this namespace.
     CursorNotFound,
@@ -49,7 +49,7 @@ impl CommandError {
         }
     }
 
-    /// Returns the name of that number.
+    /// Returns the name that belongs to that number.
     pub fn code_name(self) -> &'static str
         ensures { result.now ≡ code_name_of self }
     {
@@ -88,9 +88,9 @@ impl CommandError {
 /// Why a command has no answer of its own.
 #[derive(Clone, Copy, Debug, PartialEq, Eq)]
 pub enum Failure {
-    /// It is answered by this error.
+    /// The answer is this error.
     Refused(CommandError),
-    /// The allocator refused memory.
+    /// Memory ran out.
     OutOfMemory,
 }
 

@@ -1,16 +1,17 @@
-//! The fields of a command, read out of its body.
+//! Reads the fields of a command out of its body.
 
 ghost use Rattle.std.specs.Prelude.{◌≡◌, Err, MatchOption, MatchResult, None, Ok, Option, Some};
 ghost use Rattle.bson_elem.specs.{Spells, Tree};
 ghost use Rattle.bson_raw.specs.{Shows, ShowsFound, TreeValue, document_bytes, first_named};
-ghost use Rattle.test_server.specs.Fields.{batch_size, count_of, id_field, id_of, namespace_at, text_field, text_of};
+ghost use Rattle.test_server.specs.Fields.{batch_size, count_of, id_field, id_of, namespace_at};
+ghost use Rattle.test_server.specs.Fields.{text_field, text_of};
 ghost use Rattle.test_server.specs.Held.{namespace_of};
 
 use crate::failure::CommandError;
 use crate::namespace::Namespace;
 use bson_raw::{RawBson, RawDocument};
 
-/// How many documents a batch has at most where the command doesn't say it.
+/// The most documents in a batch, if the command doesn't say.
 const DEFAULT_BATCH_SIZE: usize = 101;
 
 /// Returns the text of a value, if it is a string.
@@ -25,7 +26,7 @@ fn text_of(value: Option<RawBson<'_>>) -> Option<&str>
     }
 }
 
-/// Returns the number that a value is, if it is an int64.
+/// Returns the number, if the value is an int64.
 fn id_of(value: Option<RawBson<'_>>) -> Option<i64>
     ensures { (found : Option TreeValue)
         → MatchOption value.entry (found ≡ None) (λ v. ShowsFound v found)
@@ -37,7 +38,7 @@ fn id_of(value: Option<RawBson<'_>>) -> Option<i64>
     }
 }
 
-/// Returns the number that a value is, if it is an int32 or an int64 from 0 on.
+/// Returns the number, if the value is an int32 or an int64 that isn't negative.
 fn count_of(value: RawBson<'_>) -> Option<usize>
     ensures { (v : TreeValue) → Shows value.entry v → result ≡ count_of v }
 {
@@ -68,11 +69,13 @@ pub fn text_field<'a>(
     }
 }
 
-/// Returns the namespace that a command names: its database, and its collection in the field `name`.
+/// Returns the namespace that a command names: its database, and its collection in the field
+/// `name`.
 ///
 /// # Errors
 ///
-/// Returns `Database` if the field `$db` isn't a string, and else `error` if the field `name` isn't.
+/// Returns `Database` if the field `$db` isn't a string, and otherwise `error` if the field `name`
+/// isn't.
 pub fn namespace_field<'a>(
     body: RawDocument<'a>,
     name: &str,
@@ -104,7 +107,8 @@ pub fn id_field(body: RawDocument<'_>) -> Result<i64, CommandError>
     }
 }
 
-/// Returns how many documents a batch may have: the field `batchSize`, or 101 if there is none.
+/// Returns the most documents that a batch may have: the field `batchSize`, or 101 if there is
+/// none.
 ///
 /// # Errors
 ///

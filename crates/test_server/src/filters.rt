@@ -1,10 +1,12 @@
-//! The filters of find: documents match where they have each field of the filter, with the same value.
+//! Applies the filters of find: a document matches if it has each field of the filter, with the
+//! same value.
 
 ghost use Rattle.std.specs.Prelude.{◌≡◌, IfErr, IfOk, MatchOption, None, Ok, Option, map};
 ghost use Rattle.bson_elem.specs.{Spells, Tree};
 ghost use Rattle.bson_raw.specs.{ShowsFound, TreeValue, Shows, document_bytes, first_named};
 ghost use Rattle.bson_doc.specs.{value_of, tree_of};
-ghost use Rattle.test_server.specs.Filters.{filter_field, filter_of, found, has_fields, has_operator, is_operator, is_operators, matches};
+ghost use Rattle.test_server.specs.Filters.{filter_field, filter_of, found, has_fields};
+ghost use Rattle.test_server.specs.Filters.{has_operator, is_operator, is_operators, matches};
 ghost use Rattle.test_server.specs.Errors.{IsFailure};
 
 use crate::failure::{CommandError, Failure};
@@ -12,14 +14,15 @@ use bson_doc::{Bson, DocRefusal, Document};
 use bson_raw::{RawBson, RawDocument};
 use std::alloc::{AllocError, Global};
 
-/// Returns true if `name` is that of an operator, which begins with `$`.
+/// Returns true if `name` is that of an operator: if it begins with `$`.
 fn is_operator(name: &str) -> bool
     ensures { result ≡ is_operator name.now }
 {
     name.as_bytes().first() == Some(&b'$')
 }
 
-/// Returns true if a value is an operator with its operands: a document whose first name is that of an operator.
+/// Returns true if a value is an operator with its operands: a document whose first name is that
+/// of an operator.
 fn is_operators(value: RawBson<'_>) -> bool
     ensures { (v : TreeValue) → Shows value.entry v → result ≡ is_operators v }
 {
@@ -44,7 +47,7 @@ fn has_operator(filter: RawDocument<'_>) -> bool
     false
 }
 
-/// Returns the filter that a value is.
+/// Reads the filter out of a value.
 fn filter_of(alloc: Global, value: Option<RawBson<'_>>) -> Result<Document, Failure>
     ensures ok { (found : Option TreeValue)
         → MatchOption value.entry (found ≡ None) (λ v. ShowsFound v found)
@@ -67,11 +70,13 @@ fn filter_of(alloc: Global, value: Option<RawBson<'_>>) -> Result<Document, Fail
     }
 }
 
-/// Returns the filter in the field `filter`: the empty one, which every document matches, where there is no such field.
+/// Reads the filter in the field `filter`. If there is no such field, it is the empty one, which
+/// every document matches.
 ///
 /// # Errors
 ///
-/// Returns `Filter` if it isn't a document, else `Operator` if it has an operator, else `Filter` if a name stands twice in it.
+/// Returns `Filter` if it isn't a document, else `Operator` if it has an operator, else `Filter`
+/// if a name is repeated in it.
 pub fn filter_field(alloc: Global, body: RawDocument<'_>) -> Result<Document, Failure>
     ensures ok { (t : Tree) → Spells t (document_bytes body.entry)
         → IfOk result (λ d. filter_field t ≡ Ok (tree_of d)) }
@@ -108,7 +113,7 @@ fn is_match(filter: &Document, value: &Bson) -> bool
 ///
 /// # Errors
 ///
-/// Want of memory.
+/// Returns `AllocError` if memory runs out.
 pub fn matching(
     alloc: Global,
     filter: &Document,

@@ -1,4 +1,4 @@
-//! The server's handler.
+//! Answers requests: this is the server's handler.
 
 ghost use Rattle.std.specs.Prelude.{◌≡◌, ◌++◌, ◌∷◌, [], IfErr, OnErr, OnOk};
 ghost use Rattle.bson_doc.specs.{tree_of};
@@ -14,9 +14,10 @@ use wire_peer::{Answers, Handler, HandlerStop, Request};
 
 /// Appends an answer.
 fn put_answer(answer: &Document, answers: &mut Answers) -> Result<(), HandlerStop>
-    ensures put { OnOk result (answers_of answers.new
-        ≡ answers_of answers.old ++ body_alone (tree_of answer.now) ∷ []) }
-    ensures failed { IfErr result (λ stop. stop ≡ HandlerStop.Failed → IsUnanswerable (tree_of answer.now)) }
+    ensures put { OnOk result
+        (answers_of answers.new ≡ answers_of answers.old ++ body_alone (tree_of answer.now) ∷ []) }
+    ensures failed { IfErr result
+        (λ stop. stop ≡ HandlerStop.Failed → IsUnanswerable (tree_of answer.now)) }
 {
     let body = match answer.to_raw() {
         Ok(body) => body,

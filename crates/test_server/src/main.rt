@@ -1,13 +1,17 @@
-//! `test_server` is a server for trying drivers: it keeps documents in memory, answers hello, ping, insert, find, getMore,
-//! listCollections, drop and endSessions, and writes down each request with its answer.
+//! `test_server` is a server for trying out drivers. It keeps documents in memory, answers hello,
+//! ping, insert, find, getMore, listCollections, drop and endSessions, and writes down each
+//! request with its answer.
 //!
-//! It serves one connection after another. What a connection sends that is no message, or is asked for in vain, ends that
-//! connection at most: the server goes on with the next, unless memory ran out.
+//! It serves one connection after another. Bytes that are not a message, or a request that can't
+//! be answered, end at most that connection. The server goes on with the next, unless memory ran
+//! out.
 //!
-//! The exit status is 0 where as many connections were served as the command line says, 2 where the command line is at fault,
-//! 3 where listening, accepting a connection or writing the output failed, and 4 where memory ran out.
+//! The exit status is 0 if as many connections were served as the command line says, 2 if the
+//! command line is at fault, 3 if listening, accepting a connection or writing the output failed,
+//! and 4 if memory ran out.
 //!
-//! Stands on bson_doc and wire_peer. Read first: `store`, then `commands`, and then `connections`.
+//! Uses bson_doc, wire_peer and wire_text. Read first: `store`, then `commands`, and then
+//! `connections`.
 #![tactic(auto)]
 
 mod answer;
@@ -29,7 +33,7 @@ ghost use Rattle.test_server.specs.ExitStatus.{IsStatusFor, IsStatusOf, exit_sta
 
 use choice::{Choice, choose};
 use command_words::{IN_OUT, MEMORY, Program, texts};
-use connections::{RunEnd, run};
+use connections::{ServerEnd, run};
 use std::io;
 use std::process::ExitCode;
 
@@ -64,7 +68,8 @@ fn status_of_words(rt: &HostRuntime, words: &[&str]) -> u8
     }
 }
 
-/// Serves what the words ask for, and returns the exit status. If it stopped short, standard error says why.
+/// Serves what the words ask for, and returns the exit status. If it stopped early, standard error
+/// says why.
 fn run_choice(rt: &HostRuntime, choice: Choice<'_>) -> u8
     ensures { IsStatusFor choice.entry result }
 {
@@ -78,26 +83,26 @@ fn run_choice(rt: &HostRuntime, choice: Choice<'_>) -> u8
     tell(rt, end, choice.address)
 }
 
-/// Says on standard error why serving stopped short, if it did. Returns the exit status.
-fn tell(rt: &impl Eprint, end: RunEnd, address: &str) -> u8
+/// Says on standard error why serving stopped early, if it did. Returns the exit status.
+fn tell(rt: &impl Eprint, end: ServerEnd, address: &str) -> u8
     ensures { result ≡ exit_status end }
 {
-    // Where standard error takes no line, the status alone says it.
+    // If standard error takes no line, there is only the status.
     let _ = match end {
-        RunEnd::InOut => eprintln!(rt; "test_server: could not serve at {address:?}"),
-        RunEnd::OutOfMemory => eprintln!(rt; "test_server: out of memory"),
-        RunEnd::Served(_) => Ok(()),
+        ServerEnd::InOut => eprintln!(rt; "test_server: could not serve at {address:?}"),
+        ServerEnd::OutOfMemory => eprintln!(rt; "test_server: out of memory"),
+        ServerEnd::Served(_) => Ok(()),
     };
     status_of(end)
 }
 
 /// Returns the exit status of an end.
-fn status_of(end: RunEnd) -> u8
+fn status_of(end: ServerEnd) -> u8
     ensures { result ≡ exit_status end }
 {
     match end {
-        RunEnd::Served(_) => 0,
-        RunEnd::InOut => IN_OUT,
-        RunEnd::OutOfMemory => MEMORY,
+        ServerEnd::Served(_) => 0,
+        ServerEnd::InOut => IN_OUT,
+        ServerEnd::OutOfMemory => MEMORY,
     }
 }

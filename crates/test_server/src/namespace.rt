@@ -1,7 +1,8 @@
-//! Namespaces: the name of a database and that of a collection in it.
+//! Names a database and a collection in it: a namespace.
 
 ghost use Rattle.std.specs.Prelude.{◌≡◌, ◌++◌, codes, IfOk, string_bytes};
-ghost use Rattle.test_server.specs.Held.{is_same_namespace, namespace_buf, namespace_of, namespace_text};
+ghost use Rattle.test_server.specs.Held.{is_same_namespace, namespace_buf, namespace_of};
+ghost use Rattle.test_server.specs.Held.{namespace_text};
 
 use std::alloc::{AllocError, Global};
 
@@ -28,7 +29,7 @@ impl Namespace<'_> {
     ///
     /// # Errors
     ///
-    /// Want of memory.
+    /// Returns `AllocError` if memory runs out.
     pub fn to_buf(self, alloc: Global) -> Result<NamespaceBuf, AllocError>
         ensures { IfOk result (λ b. namespace_buf b ≡ namespace_of self.entry) }
     {
@@ -44,7 +45,7 @@ impl Namespace<'_> {
     ///
     /// # Errors
     ///
-    /// Want of memory.
+    /// Returns `AllocError` if memory runs out.
     pub fn to_text(self, alloc: Global) -> Result<String, AllocError>
         ensures { IfOk result (λ s. string_bytes s ≡ namespace_text (namespace_of self.entry)) }
     {
@@ -58,7 +59,8 @@ impl Namespace<'_> {
 impl NamespaceBuf {
     /// Returns true if the names are those of `namespace`.
     pub fn is(&self, namespace: Namespace<'_>) -> bool
-        ensures { result ≡ is_same_namespace (namespace_of namespace.entry) (namespace_buf self.now) }
+        ensures { result ≡ is_same_namespace (namespace_of namespace.entry)
+            (namespace_buf self.now) }
     {
         self.database.as_str() == namespace.database
             && self.collection.as_str() == namespace.collection

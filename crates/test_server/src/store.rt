@@ -1,8 +1,12 @@
-//! What the server holds: documents by namespace, and the cursors over what was found.
+//! Holds documents by namespace, and the cursors over what was found.
 
-ghost use Rattle.std.specs.Prelude.{◌≡◌, ◌≤◌, ◌<◌, IfErr, IfOk, MatchOption, None, OnErr, OnOk, Some, drop, length, map, take};
+ghost use Rattle.std.specs.Prelude.{◌≡◌, ◌≤◌, ◌<◌, IfErr, IfOk, MatchOption, None, OnErr, OnOk};
+ghost use Rattle.std.specs.Prelude.{Some, drop, length, map, take};
 ghost use Rattle.bson_doc.specs.{value_of};
-ghost use Rattle.test_server.specs.Held.{collection_index, collection_of, cursor_index, cursor_of, documents_in, empty_store, id_if_left, namespace_of, open_at, opened, opened_id, store_of, with_documents, with_left, without_collection};
+ghost use Rattle.test_server.specs.Held.{collection_index, collection_of, cursor_index, cursor_of};
+ghost use Rattle.test_server.specs.Held.{documents_in, empty_store, id_if_left, namespace_of};
+ghost use Rattle.test_server.specs.Held.{open_at, opened, opened_id, store_of, with_documents};
+ghost use Rattle.test_server.specs.Held.{with_left, without_collection};
 ghost use Rattle.test_server.specs.Taking.{IsNextBatch, IsOpenAt};
 
 use crate::failure::{CommandError, Failure};
@@ -20,7 +24,7 @@ pub struct Collection {
     pub documents: Vec<Bson>,
 }
 
-/// The documents that were found and not yet given. Where there are none it is closed.
+/// The documents that were found and not yet given. The cursor is closed if there are none.
 #[derive(Debug, Drop)]
 pub struct Cursor {
     /// The namespace that they were found in.
@@ -38,9 +42,10 @@ pub struct Store {
     pub cursors: Vec<Cursor>,
 }
 
-/// Returns the index of the first collection of this namespace.
+/// Returns the index of the first collection with this namespace.
 fn index_of(collections: &[Collection], namespace: Namespace<'_>) -> Option<usize>
-    ensures { result ≡ collection_index (namespace_of namespace.entry) (map collection_of collections.now) }
+    ensures { result ≡ collection_index (namespace_of namespace.entry)
+        (map collection_of collections.now) }
 {
     for (i, collection) in collections.iter().enumerate() {
         if collection.namespace.is(namespace) {
@@ -51,7 +56,7 @@ fn index_of(collections: &[Collection], namespace: Namespace<'_>) -> Option<usiz
 }
 
 impl Store {
-    /// Returns a store without documents. It takes no memory.
+    /// Makes a store without documents. Takes no memory.
     pub fn new(alloc: Global) -> Store
         ensures { store_of result ≡ empty_store }
     {
@@ -77,19 +82,21 @@ impl Store {
         }
     }
 
-    /// Inserts documents into a namespace, behind those that are there.
+    /// Inserts documents into a namespace, after those that are there.
     ///
     /// # Errors
     ///
-    /// Want of memory. The documents held are as they were then.
+    /// Returns `AllocError` if memory runs out. Then the held documents are unchanged.
     pub fn insert(
         &mut self,
         namespace: Namespace<'_>,
         mut documents: Vec<Bson>,
     ) -> Result<(), AllocError>
         ensures inserted { OnOk result ((store_of self.new).collections
-            ≡ with_documents (namespace_of namespace.entry) (map value_of documents.items) (store_of self.old).collections) }
-        ensures unchanged { OnErr result ((store_of self.new).collections ≡ (store_of self.old).collections) }
+            ≡ with_documents (namespace_of namespace.entry) (map value_of documents.items)
+            (store_of self.old).collections) }
+        ensures unchanged { OnErr result
+            ((store_of self.new).collections ≡ (store_of self.old).collections) }
         ensures cursors { (store_of self.new).cursors ≡ (store_of self.old).cursors }
     {
         match index_of(&self.collections, namespace) {
@@ -112,11 +119,14 @@ impl Store {
     ///
     /// Returns `NamespaceNotFound` if it has none.
     pub fn drop_collection(&mut self, namespace: Namespace<'_>) -> Result<(), CommandError>
-        ensures dropped { OnOk result (without_collection (namespace_of namespace.entry) (store_of self.old).collections
+        ensures dropped { OnOk result
+            (without_collection (namespace_of namespace.entry) (store_of self.old).collections
             ≡ Some (store_of self.new).collections) }
         ensures none { IfErr result (λ e. (e ≡ CommandError.NamespaceNotFound)
-            × (without_collection (namespace_of namespace.entry) (store_of self.old).collections ≡ None)) }
-        ensures unchanged { OnErr result ((store_of self.new).collections ≡ (store_of self.old).collections) }
+            × (without_collection (namespace_of namespace.entry) (store_of self.old).collections
+            ≡ None)) }
+        ensures unchanged { OnErr result
+            ((store_of self.new).collections ≡ (store_of self.old).collections) }
         ensures cursors { (store_of self.new).cursors ≡ (store_of self.old).cursors }
     {
         match index_of(&self.collections, namespace) {
@@ -128,20 +138,24 @@ impl Store {
         }
     }
 
-    /// Opens a cursor over documents that were found, unless there are none. Returns its id, or 0 if none was opened.
+    /// Opens a cursor over the documents that were found, unless there are none. Returns its id,
+    /// or 0 if none was opened.
     ///
     /// # Errors
     ///
-    /// Want of memory. The cursors are as they were then.
+    /// Returns `AllocError` if memory runs out. Then the cursors are unchanged.
     pub fn open_cursor(
         &mut self,
         namespace: Namespace<'_>,
         left: Vec<Bson>,
     ) -> Result<i64, AllocError>
-        ensures id { IfOk result (λ id. id ≡ opened_id (map value_of left.items) (store_of self.old).cursors) }
+        ensures id { IfOk result
+            (λ id. id ≡ opened_id (map value_of left.items) (store_of self.old).cursors) }
         ensures opened { OnOk result ((store_of self.new).cursors
-            ≡ opened (namespace_of namespace.entry) (map value_of left.items) (store_of self.old).cursors) }
-        ensures unchanged { OnErr result ((store_of self.new).cursors ≡ (store_of self.old).cursors) }
+            ≡ opened (namespace_of namespace.entry) (map value_of left.items)
+            (store_of self.old).cursors) }
+        ensures unchanged { OnErr result
+            ((store_of self.new).cursors ≡ (store_of self.old).cursors) }
         ensures collections { (store_of self.new).collections ≡ (store_of self.old).collections }
     {
         if left.is_empty() {
@@ -153,10 +167,11 @@ impl Store {
         Ok(self.cursors.len() as i64)
     }
 
-    /// Returns the index of the open cursor of this id and this namespace.
+    /// Returns the index of the open cursor with this id and this namespace.
     fn open_cursor_index(&self, id: i64, namespace: Namespace<'_>) -> Option<usize>
         ensures { MatchOption result
-            (open_at (namespace_of namespace.entry) (cursor_index id) (store_of self.now).cursors ≡ None)
+            (open_at (namespace_of namespace.entry) (cursor_index id) (store_of self.now).cursors
+            ≡ None)
             (λ i. IsOpenAt (namespace_of namespace.entry) id self.now.cursors.items i) }
     {
         let index = index_of_id(id)?;
@@ -169,7 +184,7 @@ impl Store {
     }
 }
 
-/// Returns the index of the cursor of this id.
+/// Returns the index of the cursor with this id.
 fn index_of_id(id: i64) -> Option<usize>
     ensures { result ≡ cursor_index id }
 {
@@ -180,11 +195,11 @@ fn index_of_id(id: i64) -> Option<usize>
     }
 }
 
-/// Takes the first documents off, at most `count`.
+/// Removes the first documents, at most `count`, and returns them.
 ///
 /// # Errors
 ///
-/// Want of memory. The documents are as they were then.
+/// Returns `AllocError` if memory runs out. Then the documents are unchanged.
 pub fn take_batch(documents: &mut Vec<Bson>, count: usize) -> Result<Vec<Bson>, AllocError>
     ensures taken { IfOk result (λ batch. batch.items ≡ take count documents.old.items) }
     ensures left { OnOk result (documents.new.items ≡ drop count documents.old.items) }
@@ -195,7 +210,7 @@ pub fn take_batch(documents: &mut Vec<Bson>, count: usize) -> Result<Vec<Bson>, 
     Ok(mem::replace(documents, rest))
 }
 
-/// Returns the id of a cursor that has these documents left: 0 if there are none.
+/// Returns the id of a cursor that has these documents left, or 0 if there are none.
 fn id_if_left(id: i64, left: &[Bson]) -> i64
     ensures { result ≡ id_if_left id (map value_of left.now) }
 {
@@ -203,19 +218,21 @@ fn id_if_left(id: i64, left: &[Bson]) -> i64
 }
 
 impl Store {
-    /// Takes the next documents off the cursor of this id and this namespace, at most `count`. Returns them, and the id of the
-    /// cursor, or 0 if it has no more.
+    /// Removes the next documents, at most `count`, from the cursor with this id and this
+    /// namespace. Returns them, and the id of the cursor, or 0 if it has no more.
     ///
     /// # Errors
     ///
-    /// Returns `CursorNotFound` if there is no such open cursor, or want of memory. The cursors are as they were then.
+    /// Returns `CursorNotFound` if there is no such open cursor, and otherwise `OutOfMemory` if
+    /// memory runs out. Then the cursors are unchanged.
     pub fn next_batch(
         &mut self,
         id: i64,
         namespace: Namespace<'_>,
         count: usize,
     ) -> Result<(Vec<Bson>, i64), Failure>
-        ensures cursors { IsNextBatch (namespace_of namespace.entry) id count (store_of self.old).cursors result
+        ensures cursors { IsNextBatch (namespace_of namespace.entry) id count
+            (store_of self.old).cursors result
             (store_of self.new).cursors }
         ensures collections { (store_of self.new).collections ≡ (store_of self.old).collections }
     {

@@ -1,10 +1,11 @@
-//! The text of what became of a connection: each request with its answer, and how it ended.
+//! Writes the transcript of a connection: each request with its answer, and how it ended.
 
 ghost use Rattle.std.specs.Prelude.{◌≡◌, OnOk, codes, flat_map, map};
-ghost use Rattle.std.specs.Io.KnownBytes.{Appends};
+ghost use Rattle.bson_text.specs.{WritesOut};
 ghost use Rattle.wire_msg.specs.{Carries, Content};
 ghost use Rattle.wire_peer.specs.{buf_content, entry_of, log_of, outcome_of};
-ghost use Rattle.test_server.specs.Transcript.{answer_text, connection_text, end_text, entry_text, outcome_text, payload_text, request_text};
+ghost use Rattle.test_server.specs.Transcript.{answer_text, connection_text, end_text, entry_text};
+ghost use Rattle.test_server.specs.Transcript.{outcome_text, payload_text, request_text};
 
 use crate::commands::name_of;
 use bson_text::{dump_to, quoted_to};
@@ -17,7 +18,7 @@ use wire_text::{Detail, write_sequences};
 /// Writes the text of a body, and the line of each sequence.
 fn write_payload<W: Write>(payload: Payload<'_>, out: &mut W) -> io::Result<()>
     ensures { (c : Content) → Carries payload.entry c → OnOk result
-        (Appends (W.contents out.old) (W.contents out.new) (payload_text c)) }
+        (WritesOut W.contents out.old out.new (payload_text c)) }
 {
     dump_to(payload.body(), out)?;
     write_sequences(payload, Detail::Line, out)
@@ -26,7 +27,7 @@ fn write_payload<W: Write>(payload: Payload<'_>, out: &mut W) -> io::Result<()>
 /// Writes the line of the command's name, and the payload.
 fn write_named<W: Write>(payload: Payload<'_>, out: &mut W) -> io::Result<()>
     ensures { (c : Content) → Carries payload.entry c → OnOk result
-        (Appends (W.contents out.old) (W.contents out.new) (request_text c)) }
+        (WritesOut W.contents out.old out.new (request_text c)) }
 {
     out.write_all(b"request ")?;
     quoted_to(name_of(payload.body()), out)?;
@@ -36,15 +37,15 @@ fn write_named<W: Write>(payload: Payload<'_>, out: &mut W) -> io::Result<()>
 
 /// Writes a request.
 fn write_request<W: Write>(request: &PayloadBuf, out: &mut W) -> io::Result<()>
-    ensures { OnOk result (Appends (W.contents out.old) (W.contents out.new)
+    ensures { OnOk result (WritesOut W.contents out.old out.new
         (request_text (buf_content request.now))) }
 {
     write_named(request.as_payload(), out)
 }
 
-/// Writes an answer, behind a line `answer`.
+/// Writes an answer, after a line `answer`.
 fn write_answer<W: Write>(answer: &PayloadBuf, out: &mut W) -> io::Result<()>
-    ensures { OnOk result (Appends (W.contents out.old) (W.contents out.new)
+    ensures { OnOk result (WritesOut W.contents out.old out.new
         (answer_text (buf_content answer.now))) }
 {
     out.write_all(b"answer\n")?;
@@ -53,7 +54,7 @@ fn write_answer<W: Write>(answer: &PayloadBuf, out: &mut W) -> io::Result<()>
 
 /// Writes answers, in order.
 fn write_answers<W: Write>(answers: &[PayloadBuf], out: &mut W) -> io::Result<()>
-    ensures { OnOk result (Appends (W.contents out.old) (W.contents out.new)
+    ensures { OnOk result (WritesOut W.contents out.old out.new
         (flat_map answer_text (map buf_content answers.now))) }
 {
     for answer in answers {
@@ -62,9 +63,9 @@ fn write_answers<W: Write>(answers: &[PayloadBuf], out: &mut W) -> io::Result<()
     Ok(())
 }
 
-/// Writes what became of a request.
+/// Writes the outcome of a request.
 fn write_outcome<W: Write>(outcome: &Outcome, out: &mut W) -> io::Result<()>
-    ensures { OnOk result (Appends (W.contents out.old) (W.contents out.new)
+    ensures { OnOk result (WritesOut W.contents out.old out.new
         (outcome_text (outcome_of outcome.now))) }
 {
     match outcome {
@@ -73,18 +74,17 @@ fn write_outcome<W: Write>(outcome: &Outcome, out: &mut W) -> io::Result<()>
     }
 }
 
-/// Writes a request, and what became of it.
+/// Writes a request, and its outcome.
 fn write_entry<W: Write>(entry: &Entry, out: &mut W) -> io::Result<()>
-    ensures { OnOk result (Appends (W.contents out.old) (W.contents out.new)
-        (entry_text (entry_of entry.now))) }
+    ensures { OnOk result (WritesOut W.contents out.old out.new (entry_text (entry_of entry.now))) }
 {
     write_request(&entry.payload, out)?;
     write_outcome(&entry.outcome, out)
 }
 
-/// Writes the requests of a connection, and what became of each, in order.
+/// Writes the requests of a connection, and the outcome of each, in order.
 fn write_entries<W: Write>(entries: &[Entry], out: &mut W) -> io::Result<()>
-    ensures { OnOk result (Appends (W.contents out.old) (W.contents out.new)
+    ensures { OnOk result (WritesOut W.contents out.old out.new
         (flat_map entry_text (log_of entries.now))) }
 {
     for entry in entries {
@@ -95,7 +95,7 @@ fn write_entries<W: Write>(entries: &[Entry], out: &mut W) -> io::Result<()>
 
 /// Writes the line of how serving a connection ended.
 fn write_end<W: Write>(end: ServeEnd, out: &mut W) -> io::Result<()>
-    ensures { OnOk result (Appends (W.contents out.old) (W.contents out.new) (end_text end)) }
+    ensures { OnOk result (WritesOut W.contents out.old out.new (end_text end)) }
 {
     match end {
         ServeEnd::Fault(fault) => writeln!(out, "{fault}"),
@@ -109,7 +109,8 @@ fn write_end<W: Write>(end: ServeEnd, out: &mut W) -> io::Result<()>
     }
 }
 
-/// Writes what became of a connection: the line of its number, its requests with their answers, and how it ended.
+/// Writes the transcript of a connection: the line of its number, its requests with their answers,
+/// and how it ended.
 ///
 /// # Errors
 ///
@@ -120,7 +121,7 @@ pub fn write_connection<W: Write>(
     end: ServeEnd,
     out: &mut W,
 ) -> io::Result<()>
-    ensures { OnOk result (Appends (W.contents out.old) (W.contents out.new)
+    ensures { OnOk result (WritesOut W.contents out.old out.new
         (connection_text number (log_of entries.now) end)) }
 {
     writeln!(out, "connection {number}")?;

@@ -163,7 +163,7 @@ settles_with : (k new : ClientSeen) (o : List ℕ) → Settles k new
 settles_with k new o (is_open a e) = is_open a (ap (λ (z : ClientSeen). with_client_output z o) e)
 settles_with k new o (is_message m s le e) =
     is_message m s le (ap (λ (z : ClientSeen). with_client_output z o) e
-    ∙ received_with k o m (allowed m.flags.more (owner k.requests.outstanding m.response_to)))
+    ∙ received_with k o m (allowed m.flags.more_to_come (owner k.requests.outstanding m.response_to)))
 settles_with k new o (is_bad f b e) =
     is_bad f b (ap (λ (z : ClientSeen). with_client_output z o) e)
 
@@ -171,7 +171,7 @@ settles_output : (k new : ClientSeen) → Settles k new → new.requests.output 
 settles_output k new (is_open a e) = ap (λ (z : ClientSeen). z.requests.output) e
 settles_output k new (is_message m s le e) =
     ap (λ (z : ClientSeen). z.requests.output) e
-    ∙ received_output k m (allowed m.flags.more (owner k.requests.outstanding m.response_to))
+    ∙ received_output k m (allowed m.flags.more_to_come (owner k.requests.outstanding m.response_to))
 settles_output k new (is_bad f b e) = ap (λ (z : ClientSeen). z.requests.output) e
 
 pub took_output : (k : ClientSeen) (piece : List ℕ) (n : ℕ) (new : ClientSeen)
@@ -184,7 +184,7 @@ settles_spelled : (k new : ClientSeen) (reply : ReadyReply) → k.reply ≡ None
 settles_spelled k new reply none (is_open a e) is =
     absurd (none-some reply (sym (ap (λ (z : ClientSeen). z.reply) e ∙ none) ∙ is))
 settles_spelled k new reply none (is_message m s le e) is =
-    (m, subst (SpellsMsg m) (sym (ap (λ (z : ClientSeen). z.held) e ∙ received_held k m (allowed m.flags.more (owner k.requests.outstanding m.response_to)))) s)
+    (m, subst (SpellsMsg m) (sym (ap (λ (z : ClientSeen). z.held) e ∙ received_held k m (allowed m.flags.more_to_come (owner k.requests.outstanding m.response_to)))) s)
 settles_spelled k new reply none (is_bad f b e) is =
     absurd (none-some reply (sym (ap (λ (z : ClientSeen). z.reply) e ∙ none) ∙ is))
 

@@ -214,15 +214,15 @@ module _ (H : Type 0) (does : Does H) (stops : Stops H) (limit : ℕ) (short : l
       sym p.5 ∙ ap (rank h.m.calls) call ∙ q.5
 
   silent_empty : (s : System H) (h : Holds s) (i : ℕ) (x : Record) → slice_get s.calls i ≡ Some x
-      → x.asked.silent ≡ true → (x.state ≡ Sent) × (x.parts ≡ [])
+      → x.asked.more_to_come ≡ true → (x.state ≡ Sent) × (x.parts ≡ [])
   silent_empty s h i x at is = let o = h.kept.agree i x at in by o.0 o.1 o.2
     where
-      none : (y : Record) → slice_get h.ys i ≡ Some y → y.asked.silent ≡ true → (y.state ≡ Sent)
+      none : (y : Record) → slice_get h.ys i ≡ Some y → y.asked.more_to_come ≡ true → (y.state ≡ Sent)
           × (y.parts ≡ [])
       none y at_y quiet =
           let p = shows-get_back h.m.calls i y (ap (λ cs. slice_get cs i) h.stands.calls ∙ at_y) in
           let w =
-          silent_none h.m h.stands.ways.ok p.0 p.1 p.2 p.4 (ap (λ (z : Record). z.asked.silent) p.3 ∙ quiet) in (
+          silent_none h.m h.stands.ways.ok p.0 p.1 p.2 p.4 (ap (λ (z : Record). z.asked.more_to_come) p.3 ∙ quiet) in (
             ap (λ (z : Record). z.state) (sym p.3) ∙ w.0,
             ap (λ (z : Record). z.parts) (sym p.3)
                 ∙ w.1,
@@ -235,17 +235,17 @@ module _ (H : Type 0) (does : Does H) (stops : Stops H) (limit : ℕ) (short : l
       by : (y : Record) → slice_get h.ys i ≡ Some y → Agree s.pairs i x y → (x.state ≡ Sent)
           × (x.parts ≡ [])
       by y at_y (inl e) =
-          let w = none y at_y (ap (λ (z : Record). z.asked.silent) e.0 ∙ is) in (
+          let w = none y at_y (ap (λ (z : Record). z.asked.more_to_come) e.0 ∙ is) in (
             ap (λ (z : Record). z.state) (sym e.0) ∙ w.0,
             ap (λ (z : Record). z.parts) (sym e.0)
                 ∙ w.1,
           )
       by y at_y (inr a) =
-          let w = none y at_y (ap (λ (z : Record). z.asked.silent) a.given ∙ is) in
+          let w = none y at_y (ap (λ (z : Record). z.asked.more_to_come) a.given ∙ is) in
           absurd (some x.parts a.m.content (ap (λ (z : Record). z.parts) (sym a.given) ∙ w.1))
 
   quiet_done : (s : System H) (h : Holds s) (c : ℕ) → IsQuietPair s.pairs c → (i : ℕ) (x : Record)
-      → slice_get s.calls i ≡ Some x → x.connection ≡ c → x.asked.silent ≡ false → x.state ≡ Done
+      → slice_get s.calls i ≡ Some x → x.connection ≡ c → x.asked.more_to_come ≡ false → x.state ≡ Done
   quiet_done s h c q i x at conn loud = let o = h.kept.agree i x at in by o.0 o.1 o.2
     where
       up : q.p.up.bytes ++ q.p.client.requests.output ≡ []
@@ -270,7 +270,7 @@ module _ (H : Type 0) (does : Does H) (stops : Stops H) (limit : ℕ) (short : l
       by y at_y (inl e) =
           ap (λ (z : Record). z.state) (sym e.0)
           ∙ quiet_of limit nothing nothing (world_of s h.ys) h.m short h.stands c seen i y at_y
-          (ap (λ (z : Record). z.connection) e.0 ∙ conn) (ap (λ (z : Record). z.asked.silent) e.0
+          (ap (λ (z : Record). z.connection) e.0 ∙ conn) (ap (λ (z : Record). z.asked.more_to_come) e.0
           ∙ loud)
       by y at_y (inr a) =
           let is_p : a.is.p ≡ q.p = same_Some a.is.p q.p (sym a.is.at ∙ ap (pair_at s.pairs) conn

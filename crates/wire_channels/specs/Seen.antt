@@ -90,7 +90,7 @@ pub record Channelled {H : Type 0} (does : Does H) (stops : Stops H) (first : H)
   pub apart : (i j : ℕ) (x y : Record) (at_i : slice_get s.calls i ≡ Some x)
       (at_j : slice_get s.calls j ≡ Some y) (done_i : x.state ≡ Done) (done_j : y.state ≡ Done)
       → (whole i x at_i done_i).0 ≡ (whole j y at_j done_j).0 → i ≡ j
-  pub silent : (i : ℕ) (x : Record) → slice_get s.calls i ≡ Some x → x.asked.silent ≡ true
+  pub silent : (i : ℕ) (x : Record) → slice_get s.calls i ≡ Some x → x.asked.more_to_come ≡ true
       → (x.state ≡ Sent) × (x.parts ≡ [])
   pub quiet : (c : ℕ) → IsQuietPair s.pairs c → (i : ℕ) (x : Record)
-      → slice_get s.calls i ≡ Some x → x.connection ≡ c → x.asked.silent ≡ false → x.state ≡ Done
+      → slice_get s.calls i ≡ Some x → x.connection ≡ c → x.asked.more_to_come ≡ false → x.state ≡ Done

@@ -105,13 +105,13 @@ module _ {H : Type 0} (limit c : ℕ) (k : Conn) (m : Machine H) (r : Route) (f 
         (exact_set (DueAt c) m.calls (due_calls r.due) t.call x (placed x (Mute (length m.log))) at (λ q. absurd (not_answered q.2.0 q.2.1)) (λ q. let e : Mute (length m.log) ≡ Answered q.2.0 = q.2.1 in cc) (f.down l).are)
         (due_logged m t.call x (Mute (length m.log)) en h at not_answered) (f.down l));
     onway_ids = f.onway_ids;
-    waiting_ids = λ a b. Each-remove (λ a. a.asked.silent ≡ false → Bears k.client.requests.outstanding k.calls a None) r.waiting i (f.waiting_ids a b);
+    waiting_ids = λ a b. Each-remove (λ a. a.asked.more_to_come ≡ false → Bears k.client.requests.outstanding k.calls a None) r.waiting i (f.waiting_ids a b);
     up_uncut = uncut;
     down_uncut = f.down_uncut;
   }
 
   -- the replies are the last ones on the way down
-  module _ (answers : List Content) (said : en.answers ≡ Some answers) (fair : Fair t.asked.allows answers) (fit : AllFit limit (chain k.server.next_id t.id answers))
+  module _ (answers : List Content) (said : en.answers ≡ Some answers) (fair : Fair t.asked.exhaust_allowed answers) (fit : AllFit limit (chain k.server.next_id t.id answers))
       (pending : m.client_lives c ≡ true → x.state ≡ Pending) (bears : m.client_lives c ≡ true → Bears k.client.requests.outstanding k.calls t None)
       (put_out : s.output ≡ k.server.output ++ written (chain k.server.next_id t.id answers)) where
     abbrev d : Due
@@ -152,7 +152,7 @@ module _ {H : Type 0} (limit c : ℕ) (k : Conn) (m : Machine H) (r : Route) (f 
       up = λ l raw. logged_up (Answered (length m.log)) (λ q. cc) (f.up l raw);
       down = λ l. rw put_out (loud_down l (f.down l) tag);
       onway_ids = f.onway_ids;
-      waiting_ids = λ a b. Each-remove (λ a. a.asked.silent ≡ false → Bears k.client.requests.outstanding k.calls a None) r.waiting i (f.waiting_ids a b);
+      waiting_ids = λ a b. Each-remove (λ a. a.asked.more_to_come ≡ false → Bears k.client.requests.outstanding k.calls a None) r.waiting i (f.waiting_ids a b);
       up_uncut = uncut;
       down_uncut = f.down_uncut;
     }

@@ -105,7 +105,7 @@ module _ {H : Type 0} (limit : ℕ) (short : limit < 2 ^ 31) (c : ℕ) (k : Conn
         d;
     onway_ids = λ a b. let all = f.onway_ids a b in (rw way at all).1;
     waiting_ids = λ a b. let all = f.onway_ids a b in
-        Each-push (λ a. a.asked.silent ≡ false → Bears k.client.requests.outstanding k.calls a None) r.waiting t (f.waiting_ids a b) (rw way at all).0;
+        Each-push (λ a. a.asked.more_to_come ≡ false → Bears k.client.requests.outstanding k.calls a None) r.waiting t (f.waiting_ids a b) (rw way at all).0;
     up_uncut = f.up_uncut;
     down_uncut = f.down_uncut;
   }

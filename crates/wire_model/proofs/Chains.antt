@@ -37,7 +37,7 @@ reply_id_after n (a ∷ answers) r = reply_id_after (id_after_one n) answers (re
 
 -- after the replies to a request too, which may want none
 pub reply_id_behind : (n : ℕ) (a : Asked) (answers : List Content) → IsReplyId n → IsReplyId (next_id n a answers)
-reply_id_behind n a answers r = elim a.silent as (λ b. IsReplyId (if b then n else id_after n answers)) [
+reply_id_behind n a answers r = elim a.more_to_come as (λ b. IsReplyId (if b then n else id_after n answers)) [
   | true ↦ r
   | false ↦ reply_id_after n answers r
 ]

@@ -85,7 +85,7 @@ module _ (H : Type 0) (does : Does H) (stops : Stops H) (limit : ℕ) (short : l
             raw = λ is. absurd (let no : true ≡ false = sym alive ∙ a.ways.ok.raws c (sym h.fits.raw_is ∙ is) in cc);
           });
           others = λ d o. same_new d m (new_call c (asked_as kind (content_of payload))) (λ e. o (sym e));
-          calls_are = shows-push_ours m.calls (new_call c (asked_as kind (content_of payload))) (is_ours_new (asked_as kind (content_of payload)).silent) ∙ ap (λ cs. cs ++ new_record c (asked_as kind (content_of payload)) ∷ []) a.calls;
+          calls_are = shows-push_ours m.calls (new_call c (asked_as kind (content_of payload))) (is_ours_new (asked_as kind (content_of payload)).more_to_come) ∙ ap (λ cs. cs ++ new_record c (asked_as kind (content_of payload)) ∷ []) a.calls;
           log_is = a.log;
           handler_is = a.handler;
         }) refl)

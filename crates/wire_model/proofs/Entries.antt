@@ -14,14 +14,14 @@ use Rattle.wire_model.proofs.Machines.{Early, CallOk, Ok, Later, ok_later, ok_wr
 pub new_ok : {H : Type 0} (m : Machine H) (c : ℕ) (a : Asked) → m.raw c ≡ false → m.client_lives c ≡ true → CallOk m (new_call c a)
 new_ok m c a ours l = record {
   entry = λ e is. absurd (not_onway (new_call c a) e refl is);
-  holds = (refl, not_done a.silent);
+  holds = (refl, not_done a.more_to_come);
   quiet = λ s o. ap (λ b. if b then Sent else Pending) s;
   loud = λ s d. let p : Pending ≡ Sent = sym (ap (λ b. if b then Sent else Pending) s) ∙ d in cc;
   answered = λ e p. let q : OnWay ≡ Answered e = p in cc;
   mute = λ s is. elim is [ inl p ↦ absurd (let q : OnWay ≡ Never = p in cc) | inr p ↦ absurd (let q : OnWay ≡ Mute p.0 = p.1 in cc) ];
   pending = λ s. l;
-  lost = λ s. absurd (not_lost a.silent s);
-  foreign = λ s. absurd (not_foreign a.silent s);
+  lost = λ s. absurd (not_lost a.more_to_come s);
+  foreign = λ s. absurd (not_foreign a.more_to_come s);
   owned = λ o. ours;
 }
   where
@@ -167,7 +167,7 @@ module _ {H : Type 0} (m : Machine H) (i : ℕ) (x : Call) (h : H) (waits : x.pl
   early : Early x
   early = holds_as m x Waiting ok waits
 
-  answered_ok : (answers : List Content) → IsCount x.asked (length answers) → x.asked.silent ≡ false → CallOk (logged m i (placed x (Answered (length m.log))) (entry_for x (Some answers)) h) (placed x (Answered (length m.log)))
+  answered_ok : (answers : List Content) → IsCount x.asked (length answers) → x.asked.more_to_come ≡ false → CallOk (logged m i (placed x (Answered (length m.log))) (entry_for x (Some answers)) h) (placed x (Answered (length m.log)))
   answered_ok answers good loud = record {
     entry = λ e is. (entry_for x (Some answers), rw (only e is) (get-push_new m.log (entry_for x (Some answers))), refl, refl);
     holds = (entry_for x (Some answers), get-push_new m.log (entry_for x (Some answers)), inr (early.1, rw early.0 (owes_all x.asked answers good)));
@@ -186,7 +186,7 @@ module _ {H : Type 0} (m : Machine H) (i : ℕ) (x : Call) (h : H) (waits : x.pl
       only e (inr q) = absurd (let r : Answered (length m.log) ≡ Mute e = q in cc)
 
   -- without an answer: a silent one, or the server half is lost
-  pub mute_ok : (answers : Option (List Content)) → (x.asked.silent ≡ true) ⊎ (m.server_lives x.connection ≡ false) → CallOk (logged m i (placed x (Mute (length m.log))) (entry_for x answers) h) (placed x (Mute (length m.log)))
+  pub mute_ok : (answers : Option (List Content)) → (x.asked.more_to_come ≡ true) ⊎ (m.server_lives x.connection ≡ false) → CallOk (logged m i (placed x (Mute (length m.log))) (entry_for x answers) h) (placed x (Mute (length m.log)))
   mute_ok answers why = record {
     entry = λ e is. (entry_for x answers, rw (only e is) (get-push_new m.log (entry_for x answers)), refl, refl);
     holds = early;
@@ -206,9 +206,9 @@ module _ {H : Type 0} (m : Machine H) (i : ℕ) (x : Call) (h : H) (waits : x.pl
 
 pub ok_answered : {H : Type 0} (m : Machine H) (i : ℕ) (x : Call) (answers : List Content) (h : H) → CallIs m.calls i x → x.place ≡ Waiting → IsCount x.asked (length answers) → Ok m
     → Ok (logged m i (placed x (logged_place x (length m.log))) (entry_for x (Some answers)) h)
-ok_answered m i x answers h at waits good ok = by x.asked.silent refl
+ok_answered m i x answers h at waits good ok = by x.asked.more_to_come refl
   where
-    by : (b : Bool) → x.asked.silent ≡ b → Ok (logged m i (placed x (logged_place x (length m.log))) (entry_for x (Some answers)) h)
+    by : (b : Bool) → x.asked.more_to_come ≡ b → Ok (logged m i (placed x (logged_place x (length m.log))) (entry_for x (Some answers)) h)
     by true s = subst (λ p. Ok (logged m i (placed x p) (entry_for x (Some answers)) h)) (sym (ap (λ b. if b then Mute (length m.log) else Answered (length m.log)) s))
         (ok_logged m i x (Mute (length m.log)) (entry_for x (Some answers)) h at waits (inr refl) (inr (owes_all x.asked answers good)) (mute_ok m i x h waits (ok.each i x at) (Some answers) (inl s)) ok)
     by false s = subst (λ p. Ok (logged m i (placed x p) (entry_for x (Some answers)) h)) (sym (ap (λ b. if b then Mute (length m.log) else Answered (length m.log)) s))

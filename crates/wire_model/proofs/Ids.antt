@@ -35,7 +35,7 @@ Apart t = IsDistinct int_eq (ids t)
 -- ---- clients
 
 distinct_received : (k : ClientSeen) (m : Message) (r : Result (ℤ × Outstanding) ClientCause) → Apart k.requests.outstanding → Apart (received k m r).requests.outstanding
-distinct_received k m (Ok o) d = distinct-reply k.requests.outstanding o m.id m.flags.more d
+distinct_received k m (Ok o) d = distinct-reply k.requests.outstanding o m.id m.flags.more_to_come d
 distinct_received k m (Err cause) d = d
 
 distinct_released : (k : ClientSeen) (reply : Option ReadyReply) → Apart k.requests.outstanding → Apart (after_release reply k).requests.outstanding
@@ -50,7 +50,7 @@ distinct_takes old new p t d = by t.takes.settles
 
     by : Settles held new → Apart new.requests.outstanding
     by (is_open o e) = rw e d
-    by (is_message m s le e) = subst (λ (z : ClientSeen). Apart z.requests.outstanding) (sym e) (distinct_received held m (allowed m.flags.more (owner held.requests.outstanding m.response_to)) d)
+    by (is_message m s le e) = subst (λ (z : ClientSeen). Apart z.requests.outstanding) (sym e) (distinct_received held m (allowed m.flags.more_to_come (owner held.requests.outstanding m.response_to)) d)
     by (is_bad f b e) = rw e d
 
 distinct_pieces : (indexes : List ℕ) (pieces : List (List ℕ)) (old new : ClientSeen) (calls calls' : List Record) → ClientTakesAll indexes old calls pieces new calls' → Apart old.requests.outstanding → Apart new.requests.outstanding

@@ -47,7 +47,7 @@ kept_bears : (os : Table) (o : ℤ × Outstanding) (awaits : Bool) (indexes : Li
 kept_bears os o awaits indexes index t last b = record {
   bearer_is = kept_id os o awaits t.id (as_outstanding t last) b.bearer_is;
   at = get-push_old indexes t.number t.index index b.at;
-  allows = b.allows;
+  exhaust_allowed = b.exhaust_allowed;
 }
 
 idle_more : (l : Option ℤ) (id : ℤ) (os : Table) (o : ℤ × Outstanding) (a : Outstanding) → bearer id os ≡ Some a → o.1.last ≡ None → IdleBut l id os → IdleBut l id (os ++ o ∷ [])
@@ -134,14 +134,14 @@ module _ {H : Type 0} (limit c : ℕ) (k : Conn) (m : Machine H) (r : Route) (ki
   }
 
   ids_kept : (ts : List Tag) → IdsFit os k.calls ts → IdsFit os' indexes' ts
-  ids_kept ts e = Each-weaker (λ b. b.asked.silent ≡ false → Bears os k.calls b None) (λ b. b.asked.silent ≡ false → Bears os' indexes' b None) ts
+  ids_kept ts e = Each-weaker (λ b. b.asked.more_to_come ≡ false → Bears os k.calls b None) (λ b. b.asked.more_to_come ≡ false → Bears os' indexes' b None) ts
       (λ b e loud. kept_bears os (call.id, o) (awaits_reply kind) k.calls (length (shown_calls m.calls)) b None (e loud)) e
 
-  new_bears : a.silent ≡ false → Bears os' indexes' t None
+  new_bears : a.more_to_come ≡ false → Bears os' indexes' t None
   new_bears loud = record {
     bearer_is = new_id os call.id o (awaits_reply kind) free loud;
     at = rw is_count (get-push_new k.calls (length (shown_calls m.calls)));
-    allows = refl;
+    exhaust_allowed = refl;
   }
 
   pub issue_fits : Fits limit c (conn_issued m k kind payload call) (with_new m (new_call c (asked_as kind payload))) (route_issued m r kind payload call)
@@ -161,7 +161,7 @@ module _ {H : Type 0} (limit c : ℕ) (k : Conn) (m : Machine H) (r : Route) (ki
         (exact_push_other (WaitingAt c) m.calls (tag_calls r.waiting) (new_call c a) (λ q. let e : OnWay ≡ Waiting = q.1 in cc) w.are) (kept_push m.calls (new_call c a)) w;
     up = λ lives raw. issue_up (f.up lives raw);
     down = λ lives. issue_down (f.down lives);
-    onway_ids = λ x y. Each-push (λ b. b.asked.silent ≡ false → Bears os' indexes' b None) r.onway t (ids_kept r.onway (f.onway_ids x y)) new_bears;
+    onway_ids = λ x y. Each-push (λ b. b.asked.more_to_come ≡ false → Bears os' indexes' b None) r.onway t (ids_kept r.onway (f.onway_ids x y)) new_bears;
     waiting_ids = λ x y. ids_kept r.waiting (f.waiting_ids x y);
     up_uncut = f.up_uncut;
     down_uncut = f.down_uncut;

@@ -190,7 +190,7 @@ mute_is a e (inl q) = cc
 mute_is a e (inr q) = cc
 
 logged_last : (x : Call) (n e : ℕ) → EntryOf (placed x (logged_place x n)) e → n ≤ e
-logged_last x n e is = by x.asked.silent is
+logged_last x n e is = by x.asked.more_to_come is
   where
     by : (b : Bool) → ((if b then Mute n else Answered n) ≡ Answered e) ⊎ ((if b then Mute n else Answered n) ≡ Mute e) → n ≤ e
     by true q = let same = mute_is n e q in omega arith

@@ -157,7 +157,7 @@ ok_never m c dead ok = ok_kept m (never_all m c) refl ok.raws
     answered_from true p e q = is_answered p e q
     answered_from false p e q = q
 
-    here : (x : Call) (b : Bool) → eqb x.connection c ≡ b → x.asked.silent ≡ false → CallOk m x
+    here : (x : Call) (b : Bool) → eqb x.connection c ≡ b → x.asked.more_to_come ≡ false → CallOk m x
         → (((if b then never_place x.place else x.place) ≡ Never) ⊎ ((e : ℕ) × ((if b then never_place x.place else x.place) ≡ Mute e))) → m.server_lives x.connection ≡ false
     here x true eq s o is = let same : x.connection ≡ c = grind (arith, nat_tests) in rw same dead
     here x false eq s o is = o.mute s is

@@ -28,10 +28,10 @@ HoldsAt log x Never = Early x
 pub record CallOk {H : Type 0} (m : Machine H) (x : Call) : Type 0 where
   pub entry : (e : ℕ) → EntryOf x e → (en : LogEntry) × (slice_get m.log e ≡ Some en) × (en.connection ≡ x.connection) × (en.payload ≡ x.asked.payload)
   pub holds : HoldsAt m.log x x.place
-  pub quiet : x.asked.silent ≡ true → ours x ≡ true → x.state ≡ Sent
-  pub loud : x.asked.silent ≡ false → x.state ≡ Sent → ⊥
-  pub answered : (e : ℕ) → x.place ≡ Answered e → x.asked.silent ≡ false
-  pub mute : x.asked.silent ≡ false → ((x.place ≡ Never) ⊎ ((e : ℕ) × (x.place ≡ Mute e))) → m.server_lives x.connection ≡ false
+  pub quiet : x.asked.more_to_come ≡ true → ours x ≡ true → x.state ≡ Sent
+  pub loud : x.asked.more_to_come ≡ false → x.state ≡ Sent → ⊥
+  pub answered : (e : ℕ) → x.place ≡ Answered e → x.asked.more_to_come ≡ false
+  pub mute : x.asked.more_to_come ≡ false → ((x.place ≡ Never) ⊎ ((e : ℕ) × (x.place ≡ Mute e))) → m.server_lives x.connection ≡ false
   pub pending : x.state ≡ Pending → m.client_lives x.connection ≡ true
   pub lost : x.state ≡ Lost → m.client_lives x.connection ≡ false
   pub foreign : x.state ≡ Foreign → m.raw x.connection ≡ true
@@ -127,7 +127,7 @@ holds_as m x p ok e = subst (λ q. HoldsAt m.log x q) e ok.holds
 -- ---- what follows of one call
 
 -- a call of ours that waits and is acknowledged is pending while its client lives
-pub still_pending : {H : Type 0} (m : Machine H) (x : Call) → Ok m → CallOk m x → x.asked.silent ≡ false → m.client_lives x.connection ≡ true → (x.state ≡ Done → ⊥) → x.state ≡ Pending
+pub still_pending : {H : Type 0} (m : Machine H) (x : Call) → Ok m → CallOk m x → x.asked.more_to_come ≡ false → m.client_lives x.connection ≡ true → (x.state ≡ Done → ⊥) → x.state ≡ Pending
 still_pending m x all ok loud l undone = by x.state refl
   where
     by : (s : State) → x.state ≡ s → x.state ≡ Pending

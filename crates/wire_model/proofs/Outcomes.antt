@@ -49,8 +49,8 @@ pub record AskedAt {H : Type 0} (c i : ℕ) (k : Conn) (m : Machine H) (r : Rout
   pub same : asked_by msg ≡ t.asked
   pub asked : x.asked ≡ asked_by msg
   pub no_parts : x.parts ≡ []
-  pub pending : msg.flags.more ≡ false → m.client_lives c ≡ true → x.state ≡ Pending
-  pub bears : msg.flags.more ≡ false → m.client_lives c ≡ true → Bears k.client.requests.outstanding k.calls t None
+  pub pending : msg.flags.more_to_come ≡ false → m.client_lives c ≡ true → x.state ≡ Pending
+  pub bears : msg.flags.more_to_come ≡ false → m.client_lives c ≡ true → Bears k.client.requests.outstanding k.calls t None
 
 pub asked_at : {H : Type 0} (limit c i : ℕ) (k : Conn) (m : Machine H) (r : Route) (msg : Message) → IsOk m → Fits limit c k m r → m.server_lives c ≡ true → WaitsAt k.server i msg → AskedAt c i k m r msg
 asked_at {H} limit c i k m r msg ok f alive waits = with_t (waits_is k.server.waiting r.waiting i waits.bytes (f.wait alive).same waits.at)
@@ -74,23 +74,23 @@ asked_at {H} limit c i k m r msg ok f alive waits = with_t (waits_is k.server.wa
           same = asks.1;
           asked = asked;
           no_parts = early.0;
-          pending = λ loud lives. still_pending m x ok (ok.each t.call x at) (ap (λ (z : Asked). z.silent) asked ∙ loud) (ap m.client_lives is.0 ∙ lives) early.1;
-          bears = λ loud lives. Each-at (λ a. a.asked.silent ≡ false → Bears k.client.requests.outstanding k.calls a None) r.waiting i t (f.waiting_ids lives alive) there (ap (λ (z : Asked). z.silent) (sym asks.1) ∙ loud);
+          pending = λ loud lives. still_pending m x ok (ok.each t.call x at) (ap (λ (z : Asked). z.more_to_come) asked ∙ loud) (ap m.client_lives is.0 ∙ lives) early.1;
+          bears = λ loud lives. Each-at (λ a. a.asked.more_to_come ≡ false → Bears k.client.requests.outstanding k.calls a None) r.waiting i t (f.waiting_ids lives alive) there (ap (λ (z : Asked). z.more_to_come) (sym asks.1) ∙ loud);
         }
 
     with_t : ((t : Tag) × (slice_get r.waiting i ≡ Some t) × IsRequest waits.bytes t) → AskedAt c i k m r msg
     with_t (t, there, request) = with_x t there request ((f.wait alive).are.each t.call (Has-at (tag_calls r.waiting) i t.call (get-map (λ (a : Tag). a.call) r.waiting i t there)))
 
 -- as many answers as the request takes
-pub fair_of : (a : Asked) (answers : List Content) → a.silent ≡ false → IsCount a (length answers) → Fair a.allows answers
+pub fair_of : (a : Asked) (answers : List Content) → a.more_to_come ≡ false → IsCount a (length answers) → Fair a.exhaust_allowed answers
 fair_of a [] loud count = absurd (omega (arith, count.0))
-fair_of a (b ∷ answers) loud count = by a.allows refl answers (count.1)
+fair_of a (b ∷ answers) loud count = by a.exhaust_allowed refl answers (count.1)
   where
-    by : (v : Bool) → a.allows ≡ v → (answers : List Content) → (takes_more a ≡ false → length (b ∷ answers) ≡ 1) → are_left answers ≡ true → v ≡ true
+    by : (v : Bool) → a.exhaust_allowed ≡ v → (answers : List Content) → (takes_more a ≡ false → length (b ∷ answers) ≡ 1) → are_left answers ≡ true → v ≡ true
     by true e answers one left = refl
     by false e [] one left = left
     by false e (d ∷ answers) one left =
-        let few : length (b ∷ d ∷ answers) ≡ 1 = one (ap (may_get_more a.allows) loud ∙ e) in absurd (omega (arith, few))
+        let few : length (b ∷ d ∷ answers) ≡ 1 = one (ap (may_get_more a.exhaust_allowed) loud ∙ e) in absurd (omega (arith, few))
 
 -- ---- what an answer leaves
 
@@ -151,35 +151,35 @@ module _ {H : Type 0} (does : Does H) (stops : Stops H) (limit c i : ℕ) (k : C
     }
 
     -- where the entry puts the request
-    placed_by : (silent : Bool) → msg.flags.more ≡ silent → (if silent then Mute (length m.log) else Answered (length m.log)) ≡ logged_place a.x (length m.log)
-    placed_by silent e = ap (λ b. if b then Mute (length m.log) else Answered (length m.log)) (sym e ∙ ap (λ (z : Asked). z.silent) (sym a.asked))
+    placed_by : (silent : Bool) → msg.flags.more_to_come ≡ silent → (if silent then Mute (length m.log) else Answered (length m.log)) ≡ logged_place a.x (length m.log)
+    placed_by silent e = ap (λ b. if b then Mute (length m.log) else Answered (length m.log)) (sym e ∙ ap (λ (z : Asked). z.more_to_come) (sym a.asked))
 
     contents_are : All (λ (z : Content). ∥ IsContent z ∥₁) answers
     contents_are = last_contents m.log (entered k.server.connection (asked_by msg) (Some answers)) answers (subst AreContents log_is contents) refl
 
-    fits_all : msg.flags.more ≡ false → AllFit limit (chain k.server.next_id a.t.id answers)
+    fits_all : msg.flags.more_to_come ≡ false → AllFit limit (chain k.server.next_id a.t.id answers)
     fits_all loud = chain_fits limit k.server.next_id a.t.id answers
         (ap (λ z. is_longer limit (chain k.server.next_id z answers)) (sym a.id) ∙ ap (λ z. is_longer z (chain k.server.next_id msg.id answers)) (sym f.made.limit_up)
         ∙ ap (λ b. is_longer k.server.limit (if b then [] else chain k.server.next_id msg.id answers)) (sym loud) ∙ short) f.made.reply_id a.id_fits contents_are
 
     pub gives : Leaves does stops limit c i k after m r msg log h
-    gives = by msg.flags.more refl
+    gives = by msg.flags.more_to_come refl
       where
-        by : (silent : Bool) → msg.flags.more ≡ silent → Leaves does stops limit c i k after m r msg log h
+        by : (silent : Bool) → msg.flags.more_to_come ≡ silent → Leaves does stops limit c i k after m r msg log h
         by true silent =
             let none : after.output ≡ k.server.output = ap (λ b. k.server.output ++ written (if b then [] else chain k.server.next_id msg.id answers)) silent ∙ append-nil k.server.output in
             leaves (Mute (length m.log)) (record { onway = r.onway; waiting = remove r.waiting i; due = r.due }) (placed_by true silent) refl
             (Answering.mute_fits limit c k m r f i a.t a.there a.x a.at a.is a.no_parts after same_server next_is (entry_for a.x (Some answers)) h none)
-            (λ taken given. raw_silent limit c k (record k { server = after }) m r.waiting taken given i a.t a.x answers h alive is_open a.there a.at a.is.0 a.is.1 (ap (λ (z : Asked). z.silent) a.asked ∙ silent) refl none
+            (λ taken given. raw_silent limit c k (record k { server = after }) m r.waiting taken given i a.t a.x answers h alive is_open a.there a.at a.is.0 a.is.1 (ap (λ (z : Asked). z.more_to_come) a.asked ∙ silent) refl none
             (ap (λ b. if b then k.server.next_id else id_after k.server.next_id answers) silent))
         by false loud =
             let all : after.output ≡ k.server.output ++ written (chain k.server.next_id a.t.id answers) =
             ap (λ b. k.server.output ++ written (if b then [] else chain k.server.next_id msg.id answers)) loud ∙ ap (λ z. k.server.output ++ written (chain k.server.next_id z answers)) a.id in
             leaves (Answered (length m.log)) (record { onway = r.onway; waiting = remove r.waiting i; due = r.due ++ record { tag = a.t; last = None; next = k.server.next_id; left = answers; entry = length m.log } ∷ [] }) (placed_by false loud) refl
             (Answering.loud_fits limit c k m r f i a.t a.there a.x a.at a.is a.no_parts after same_server next_is (entry_for a.x (Some answers)) h
-            answers refl (fair_of a.t.asked answers (ap (λ (z : Asked). z.silent) (sym a.same) ∙ loud) (subst (λ z. IsCount z (length answers)) a.same d.1)) (fits_all loud) (a.pending loud) (a.bears loud)
+            answers refl (fair_of a.t.asked answers (ap (λ (z : Asked). z.more_to_come) (sym a.same) ∙ loud) (subst (λ z. IsCount z (length answers)) a.same d.1)) (fits_all loud) (a.pending loud) (a.bears loud)
             all a.tag)
-            (λ taken given. raw_gives limit c k (record k { server = after }) m r.waiting taken given i a.t a.x answers h alive is_open a.there a.at a.is.0 a.is.1 (ap (λ (z : Asked). z.silent) a.asked ∙ loud) refl all
+            (λ taken given. raw_gives limit c k (record k { server = after }) m r.waiting taken given i a.t a.x answers h alive is_open a.there a.at a.is.0 a.is.1 (ap (λ (z : Asked). z.more_to_come) a.asked ∙ loud) refl all
             (ap (λ b. if b then k.server.next_id else id_after k.server.next_id answers) loud) refl)
 
   -- ---- the server closes: nothing is put out, the entry stands
@@ -230,11 +230,11 @@ module _ {H : Type 0} (does : Does H) (stops : Stops H) (limit c i : ℕ) (k : C
       (msg, waits, rw (s_is, put_is) (gives does stops limit c i k m r msg f (alive is_open) is_open (asked_at limit c i k m r msg ok f (alive is_open) waits) answers h log (is.answered, is.count) is.entry short contents))
 
   module _ (is_open : k.server.state ≡ Open) (msg : Message) (a : AskedAt c i k m r msg) where
-    loud_of : msg.flags.more ≡ false → a.x.asked.silent ≡ false
-    loud_of loud = ap (λ (z : Asked). z.silent) a.asked ∙ loud
+    loud_of : msg.flags.more_to_come ≡ false → a.x.asked.more_to_come ≡ false
+    loud_of loud = ap (λ (z : Asked). z.more_to_come) a.asked ∙ loud
 
     -- the answers are lost with the server
-    lose : (cause : ServerCause) → IsStopped (Closed cause) → (answers : List Content) (h : H) (log : List LogEntry) → msg.flags.more ≡ false → LogStep does stops m.handler (asked_by msg) (Some answers) h
+    lose : (cause : ServerCause) → IsStopped (Closed cause) → (answers : List Content) (h : H) (log : List LogEntry) → msg.flags.more_to_come ≡ false → LogStep does stops m.handler (asked_by msg) (Some answers) h
         → log ≡ m.log ++ entered k.server.connection (asked_by msg) (Some answers) ∷ [] → Leaves does stops limit c i k (closed_at k.server i cause) m r msg log h
     lose cause good answers h log loud d is = closes does stops limit c i k m r msg f (alive is_open) is_open a cause good (Some answers) h log is
         (λ n e. log_lost a.t.call a.x answers h a.at a.is.1 (loud_of loud) (subst (λ z. LogStep does stops m.handler z (Some answers) h) (sym a.asked) d) e)
@@ -246,10 +246,10 @@ module _ {H : Type 0} (does : Does H) (stops : Stops H) (limit c i : ℕ) (k : C
         (λ n e. stop a.t.call a.x why h a.at a.is.1 (subst (λ z. stops m.handler z why h) (sym a.asked) d) e)
 
     -- replies that are too large aren't those of a silent request
-    loud_long : (answers : List Content) → is_longer k.server.limit (replies k.server.next_id msg.id (asked_by msg) answers) ≡ true → msg.flags.more ≡ false
-    loud_long answers long = by msg.flags.more refl
+    loud_long : (answers : List Content) → is_longer k.server.limit (replies k.server.next_id msg.id (asked_by msg) answers) ≡ true → msg.flags.more_to_come ≡ false
+    loud_long answers long = by msg.flags.more_to_come refl
       where
-        by : (silent : Bool) → msg.flags.more ≡ silent → msg.flags.more ≡ false
+        by : (silent : Bool) → msg.flags.more_to_come ≡ silent → msg.flags.more_to_come ≡ false
         by true e = absurd (true≢false (sym long ∙ ap (λ b. is_longer k.server.limit (if b then [] else chain k.server.next_id msg.id answers)) e))
         by false e = e
 

@@ -48,7 +48,7 @@ none_waiting i (t ∷ ts) requests same o h = rw o at same
 
 -- ---- quiet connections
 
-quiet_done : {H : Type 0} (limit : ℕ) (t g : ℕ → List ℕ) (w : World H) (m : Machine H) → limit < 2 ^ 31 → Agrees limit t g w m → (c : ℕ) → IsQuiet w c → (i : ℕ) (x : Call) → CallIs m.calls i x → ours x ≡ true → x.connection ≡ c → x.asked.silent ≡ false → x.state ≡ Done
+quiet_done : {H : Type 0} (limit : ℕ) (t g : ℕ → List ℕ) (w : World H) (m : Machine H) → limit < 2 ^ 31 → Agrees limit t g w m → (c : ℕ) → IsQuiet w c → (i : ℕ) (x : Call) → CallIs m.calls i x → ours x ≡ true → x.connection ≡ c → x.asked.more_to_come ≡ false → x.state ≡ Done
 quiet_done limit t g w m short a c q i x at mine conn loud = by x.place refl
   where
     here : Here limit c q.k m (t c) (g c)
@@ -87,7 +87,7 @@ quiet_done limit t g w m short a c q i x at mine conn loud = by x.place refl
 pub quiet_of : {H : Type 0} (limit : ℕ) (t g : ℕ → List ℕ) (w : World H) (m : Machine H) → limit < 2 ^ 31 → Agrees limit t g w m → QuietIsDone w
 quiet_of limit t g w m short a c q i x at conn loud =
     let p = shows-get_back m.calls i x (ap (λ cs. slice_get cs i) a.calls ∙ at) in
-    ap (λ (z : Record). z.state) (sym p.3) ∙ quiet_done limit t g w m short a c q p.0 p.1 p.2 p.4 (ap (λ (z : Record). z.connection) p.3 ∙ conn) (ap (λ (z : Record). z.asked.silent) p.3 ∙ loud)
+    ap (λ (z : Record). z.state) (sym p.3) ∙ quiet_done limit t g w m short a c q p.0 p.1 p.2 p.4 (ap (λ (z : Record). z.connection) p.3 ∙ conn) (ap (λ (z : Record). z.asked.more_to_come) p.3 ∙ loud)
 
 -- ---- uncut connections, and raw ones
 

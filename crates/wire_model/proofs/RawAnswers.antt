@@ -24,7 +24,7 @@ asked_set (a ∷ xs) zero x y g e = ap (λ w. w ∷ map (λ (z : Call). z.asked)
 asked_set (a ∷ xs) (suc i) x y g e = ap (λ ws. a.asked ∷ ws) (asked_set xs i x y g e)
 
 place_names : (x : Call) (e : ℕ) → EntryOf (placed x (logged_place x e)) e
-place_names x e = elim x.asked.silent as (λ b. ((if b then Mute e else Answered e) ≡ Answered e) ⊎ ((if b then Mute e else Answered e) ≡ Mute e)) [ true ↦ inr refl | false ↦ inl refl ]
+place_names x e = elim x.asked.more_to_come as (λ b. ((if b then Mute e else Answered e) ≡ Answered e) ⊎ ((if b then Mute e else Answered e) ≡ Mute e)) [ true ↦ inr refl | false ↦ inl refl ]
 
 -- one more entry
 module _ {H : Type 0} (limit c : ℕ) (k k' : Conn) (m : Machine H) (waiting : List Tag) (taken given : List ℕ) (r : RawFits limit c k m waiting taken given)
@@ -115,7 +115,7 @@ module _ {H : Type 0} (limit c : ℕ) (k k' : Conn) (m : Machine H) (waiting : L
   pub raw_entry_fits : k'.server.held ≡ k.server.held
       → k'.server.output ≡ k.server.output ++ written (if gives then chain k.server.next_id t.id (all_of answers) else [])
       → k'.server.next_id ≡ (if gives then id_after k.server.next_id (all_of answers) else k.server.next_id)
-      → ((many i : ℕ) (u : RawEntry) → u.gives ≡ gives → u.answers ≡ answers → u.message.flags.more ≡ x.asked.silent → suc i ≡ many → GivesReplies k'.server.state many i u)
+      → ((many i : ℕ) (u : RawEntry) → u.gives ≡ gives → u.answers ≡ answers → u.message.flags.more_to_come ≡ x.asked.more_to_come → suc i ≡ many → GivesReplies k'.server.state many i u)
       → RawFits limit c k' (logged m t.call (placed x p) (entry_for x answers) h) (remove waiting place) taken given
   raw_entry_fits held output next last = record {
     messages = r.messages;
@@ -132,7 +132,7 @@ module _ {H : Type 0} (limit c : ℕ) (k k' : Conn) (m : Machine H) (waiting : L
     once = once;
     right = λ i u g. subst (λ n. GivesReplies k'.server.state n i u) (sym (raw_entries-longer r.raw_entries new_raw_entry)) (elim (get-push_cases r.raw_entries i u new_raw_entry g) [
       | inl old ↦ was_right k.server.state k'.server.state (length r.raw_entries) (suc (length r.raw_entries)) i u was (let inside = slice_get_within r.raw_entries i u old in λ last. omega (arith, inside, last)) (r.right i u old)
-      | inr new ↦ last (suc (length r.raw_entries)) i u (ap (λ (v : RawEntry). v.gives) (sym new.1)) (ap (λ (v : RawEntry). v.answers) (sym new.1)) (ap (λ (v : RawEntry). v.message.flags.more) (sym new.1) ∙ ap (λ (a : Asked). a.silent) (sym asks)) (ap suc new.0)
+      | inr new ↦ last (suc (length r.raw_entries)) i u (ap (λ (v : RawEntry). v.gives) (sym new.1)) (ap (λ (v : RawEntry). v.answers) (sym new.1)) (ap (λ (v : RawEntry). v.message.flags.more_to_come) (sym new.1) ∙ ap (λ (a : Asked). a.more_to_come) (sym asks)) (ap suc new.0)
     ]);
     given_is = ap (λ b. given ++ b) output ∙ sym (append_assoc given k.server.output put) ∙ ap (λ b. b ++ put) r.given_is
         ∙ ap (λ ms. written (raw_replies 1 r.raw_entries) ++ written ms) put_is
@@ -152,7 +152,7 @@ module _ {H : Type 0} (limit c : ℕ) (k k' : Conn) (m : Machine H) (waiting : L
 
 -- it gives its replies
 pub raw_gives : {H : Type 0} (limit c : ℕ) (k k' : Conn) (m : Machine H) (waiting : List Tag) (taken given : List ℕ) (place : ℕ) (t : Tag) (x : Call) (answers : List Content) (h : H)
-    → m.server_lives c ≡ true → k.server.state ≡ Open → slice_get waiting place ≡ Some t → CallIs m.calls t.call x → x.connection ≡ c → x.place ≡ Waiting → x.asked.silent ≡ false
+    → m.server_lives c ≡ true → k.server.state ≡ Open → slice_get waiting place ≡ Some t → CallIs m.calls t.call x → x.connection ≡ c → x.place ≡ Waiting → x.asked.more_to_come ≡ false
     → k'.server.held ≡ k.server.held → k'.server.output ≡ k.server.output ++ written (chain k.server.next_id t.id answers) → k'.server.next_id ≡ id_after k.server.next_id answers → k'.server.state ≡ k.server.state
     → RawFits limit c k m waiting taken given
     → RawFits limit c k' (logged m t.call (placed x (logged_place x (length m.log))) (entry_for x (Some answers)) h) (remove waiting place) taken given
@@ -162,7 +162,7 @@ raw_gives limit c k k' m waiting taken given place t x answers h lives was waits
 
 -- a silent request gets none
 pub raw_silent : {H : Type 0} (limit c : ℕ) (k k' : Conn) (m : Machine H) (waiting : List Tag) (taken given : List ℕ) (place : ℕ) (t : Tag) (x : Call) (answers : List Content) (h : H)
-    → m.server_lives c ≡ true → k.server.state ≡ Open → slice_get waiting place ≡ Some t → CallIs m.calls t.call x → x.connection ≡ c → x.place ≡ Waiting → x.asked.silent ≡ true
+    → m.server_lives c ≡ true → k.server.state ≡ Open → slice_get waiting place ≡ Some t → CallIs m.calls t.call x → x.connection ≡ c → x.place ≡ Waiting → x.asked.more_to_come ≡ true
     → k'.server.held ≡ k.server.held → k'.server.output ≡ k.server.output → k'.server.next_id ≡ k.server.next_id
     → RawFits limit c k m waiting taken given
     → RawFits limit c k' (logged m t.call (placed x (logged_place x (length m.log))) (entry_for x (Some answers)) h) (remove waiting place) taken given

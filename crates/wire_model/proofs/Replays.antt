@@ -83,7 +83,7 @@ module _ (H : Type 0) (does : Does H) (stops : Stops H) where
   run_step first m n r (machine.arrive i x l at on f e) =
       rw e (run_kept first m (machine.with_call m i (placed x Waiting)) refl refl (named_set m.calls i x (placed x Waiting) at (λ d is. absurd (not_waiting (placed x Waiting) d refl is)) refl) r)
   run_step first m n r (machine.answer i x answers h at waits d e) =
-      rw e (run_logged first m i x (logged_place x (length m.log)) (Some answers) h at waits (answered_only x x.asked.silent (length m.log)) d r)
+      rw e (run_logged first m i x (logged_place x (length m.log)) (Some answers) h at waits (answered_only x x.asked.more_to_come (length m.log)) d r)
   run_step first m n r (machine.log_lost i x answers h at waits loud d e) = rw e (run_mute first m i x (Some answers) h at waits d r)
   run_step first m n r (machine.stop i x why h at waits s e) = rw e (run_mute first m i x None h at waits (why, s) r)
   run_step first m n r (machine.give_back i e' x due l at f e) =

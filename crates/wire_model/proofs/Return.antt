@@ -161,7 +161,7 @@ module _ {H : Type 0} (limit : ℕ) (short : limit < 2 ^ 31) (c : ℕ) (k : Conn
       ]
 
   -- more come only to a call that allows them
-  allowed_is : (tag : Tag) (last : Option ℤ) (more : Bool) → (more ≡ true → tag.asked.allows ≡ true) → allows_more tag.kind ≡ tag.asked.allows → allowed more (of_tag tag last) ≡ of_tag tag last
+  allowed_is : (tag : Tag) (last : Option ℤ) (more : Bool) → (more ≡ true → tag.asked.exhaust_allowed ≡ true) → allows_more tag.kind ≡ tag.asked.exhaust_allowed → allowed more (of_tag tag last) ≡ of_tag tag last
   allowed_is tag last true fair same = ap (λ b. if true && not b then Err MoreNotAllowed else of_tag tag last) (same ∙ fair refl)
   allowed_is tag last false fair same = refl
 
@@ -171,7 +171,7 @@ module _ {H : Type 0} (limit : ℕ) (short : limit < 2 ^ 31) (c : ℕ) (k : Conn
   ready_is msg tag last next a bs entry ds is d =
       ap (after_message (holding k.client (k.client.held ++ p))) is
       ∙ ap (λ o. received (holding k.client (k.client.held ++ p)) (reply next (to_of last tag.id) (are_left bs) a) (allowed (are_left bs) o)) (owner_is tag last next a bs entry ds d)
-      ∙ ap (received (holding k.client (k.client.held ++ p)) (reply next (to_of last tag.id) (are_left bs) a)) (allowed_is tag last (are_left bs) d.tags.0.fair d.ids.0.allows)
+      ∙ ap (received (holding k.client (k.client.held ++ p)) (reply next (to_of last tag.id) (are_left bs) a)) (allowed_is tag last (are_left bs) d.tags.0.fair d.ids.0.exhaust_allowed)
 
   module _ (all_ours : (i : ℕ) (x : Call) → CallIs m.calls i x → x.connection ≡ c → ours x ≡ true) (tag : Tag) (last : Option ℤ) (next : ℕ) (a : Content) (entry : ℕ) (ds : List Due) (x : Call) (at : CallIs m.calls tag.call x) (is : DueAt c x) where
     head_ours : ours x ≡ true
@@ -193,7 +193,7 @@ module _ {H : Type 0} (limit : ℕ) (short : limit < 2 ^ 31) (c : ℕ) (k : Conn
 
     -- a request keeps its bearer in the other table
     bears_in : (os' : Table) (t : Tag) (l : Option ℤ) → bearer t.id os' ≡ bearer t.id os → Bears os k.calls t l → Bears os' k.calls t l
-    bears_in os' t l same b = record { bearer_is = same ∙ b.bearer_is; at = b.at; allows = b.allows }
+    bears_in os' t l same b = record { bearer_is = same ∙ b.bearer_is; at = b.at; exhaust_allowed = b.exhaust_allowed }
 
     -- others keep their ids, whether the call has had a part or is complete
     others_due : (os' : Table) → ((i : ℤ) → (i ≡ tag.id → ⊥) → bearer i os' ≡ bearer i os) → (bs : List Content) → Down (due_of tag last next a bs entry ∷ ds)
@@ -208,12 +208,12 @@ module _ {H : Type 0} (limit : ℕ) (short : limit < 2 ^ 31) (c : ℕ) (k : Conn
 
     others_tags : (Q : Call → Type 0) (ts : List Tag) (os' : Table) → ((y : Call) → Q y → y.connection ≡ c) → (Q x → ⊥) → ((i : ℤ) → (i ≡ tag.id → ⊥) → bearer i os' ≡ bearer i os) → TagIs m.calls tag → Bears os k.calls tag last
         → Exact Q m.calls (tag_calls ts) → Each (TagIs m.calls) ts → IdsFit os k.calls ts → IdsFit os' k.calls ts
-    others_tags Q ts os' here n other head eh are tags ids = each_has (λ t. TagIs m.calls t × (t.asked.silent ≡ false → Bears os k.calls t None)) (λ t. t.asked.silent ≡ false → Bears os' k.calls t None) (λ t. t.call) ts
+    others_tags Q ts os' here n other head eh are tags ids = each_has (λ t. TagIs m.calls t × (t.asked.more_to_come ≡ false → Bears os k.calls t None)) (λ t. t.asked.more_to_come ≡ false → Bears os' k.calls t None) (λ t. t.call) ts
         (λ t has both loud. bears_in os' t None (other t.id (other_id t None head both.0 (connection_in Q (tag_calls ts) here are t.call has)
         (λ s. let q = are.each t.call has in n (let same : q.0 ≡ x = same_Some q.0 x (sym q.1 ∙ ap (slice_get m.calls) s ∙ at) in rw same at q.2)) eh (both.1 loud))) (both.1 loud))
         (both ts tags ids)
       where
-        both : (xs : List Tag) → Each (TagIs m.calls) xs → IdsFit os k.calls xs → Each (λ t. TagIs m.calls t × (t.asked.silent ≡ false → Bears os k.calls t None)) xs
+        both : (xs : List Tag) → Each (TagIs m.calls) xs → IdsFit os k.calls xs → Each (λ t. TagIs m.calls t × (t.asked.more_to_come ≡ false → Bears os k.calls t None)) xs
         both [] p q = tt
         both (b ∷ xs) p q = ((p.0, q.0), both xs p.1 q.1)
 
@@ -266,7 +266,7 @@ module _ {H : Type 0} (limit : ℕ) (short : limit < 2 ^ 31) (c : ℕ) (k : Conn
       tags = (head, due_kept (with_part x a true) refl old.are.apart.0 old.tags.1);
       rising = old.rising;
       ids = (
-        record { bearer_is = bearer-noted tag.id (as_outstanding tag (Some (pos next))) os (as_outstanding tag last) old.ids.0.bearer_is; at = old.ids.0.at; allows = old.ids.0.allows },
+        record { bearer_is = bearer-noted tag.id (as_outstanding tag (Some (pos next))) os (as_outstanding tag last) old.ids.0.bearer_is; at = old.ids.0.at; exhaust_allowed = old.ids.0.exhaust_allowed },
         others_due begun (λ i n. bearer-noted_other tag.id i (as_outstanding tag (Some (pos next))) os n) (b ∷ bs) old,
       );
       streams = (rw (without-noted tag.id (as_outstanding tag (Some (pos next))) os) (idle_rest last old.streams.0), old.streams.1);

@@ -53,7 +53,7 @@ pub record Route : Type 0 where
   pub due : List Due
 
 abbrev pub request_message : ℤ → Asked → Message
-request_message id a = record { id = id; response_to = pos 0; flags = record { more = a.silent; allows = a.allows }; content = a.payload }
+request_message id a = record { id = id; response_to = pos 0; flags = record { more_to_come = a.more_to_come; exhaust_allowed = a.exhaust_allowed }; content = a.payload }
 
 abbrev pub tag_message : Tag → Message
 tag_message t = request_message t.id t.asked
@@ -111,8 +111,8 @@ pub record TagIs (calls : List Call) (t : Tag) : Type 0 where
 
 -- at least one is to come; more than one only where that is allowed
 abbrev pub Fair : Bool → List Content → Type 0
-Fair allows [] = ⊥
-Fair allows (a ∷ rest) = are_left rest ≡ true → allows ≡ true
+Fair exhaust_allowed [] = ⊥
+Fair exhaust_allowed (a ∷ rest) = are_left rest ≡ true → exhaust_allowed ≡ true
 
 pub record DueIs {H : Type 0} (m : Machine H) (d : Due) : Type 0 where
   pub tag : TagIs m.calls d.tag
@@ -120,7 +120,7 @@ pub record DueIs {H : Type 0} (m : Machine H) (d : Due) : Type 0 where
   pub entry : LogEntry
   pub in_log : slice_get m.log d.entry ≡ Some entry
   pub answers : entry.answers ≡ Some (tag.x.parts ++ d.left)
-  pub fair : Fair d.tag.asked.allows d.left
+  pub fair : Fair d.tag.asked.exhaust_allowed d.left
 
 -- the first is the least, and so on
 abbrev pub Rising : List ℕ → Type 0
@@ -145,7 +145,7 @@ pub record UpFits {H : Type 0} (limit c : ℕ) (held output : List ℕ) (m : Mac
 pub record Bears (os : Table) (indexes : List ℕ) (t : Tag) (last : Option ℤ) : Type 0 where
   pub bearer_is : bearer t.id os ≡ Some (as_outstanding t last)
   pub at : slice_get indexes t.number ≡ Some t.index
-  pub allows : allows_more t.kind ≡ t.asked.allows
+  pub exhaust_allowed : allows_more t.kind ≡ t.asked.exhaust_allowed
 
 -- only the first of the replies that are due may be of a stream that has begun
 abbrev pub IdleBut : Option ℤ → ℤ → Table → Type 0
@@ -169,7 +169,7 @@ pub record DownFits {H : Type 0} (limit c : ℕ) (held output : List ℕ) (reply
 
 -- each acknowledged one is outstanding under its id
 abbrev pub IdsFit : Table → List ℕ → List Tag → Type 0
-IdsFit os indexes ts = Each (λ t. t.asked.silent ≡ false → Bears os indexes t None) ts
+IdsFit os indexes ts = Each (λ t. t.asked.more_to_come ≡ false → Bears os indexes t None) ts
 
 -- what the two ends of connection c are made with, and where their ids stand
 pub record IsMade (limit c : ℕ) (k : Conn) : Type 0 where

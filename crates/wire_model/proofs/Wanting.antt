@@ -38,7 +38,7 @@ keeps_takes k new p t = by t.takes.settles
 
     by : Settles held new → KeepsRequests k new
     by (is_open o e) = rw e (record { limit = refl; next_id = refl; next_number = refl })
-    by (is_message m s le e) = let kept = keeps_received held m (allowed m.flags.more (owner held.requests.outstanding m.response_to)) in
+    by (is_message m s le e) = let kept = keeps_received held m (allowed m.flags.more_to_come (owner held.requests.outstanding m.response_to)) in
         record {
           limit = ap (λ (z : ClientSeen). z.requests.limit) e ∙ kept.limit;
           next_id = ap (λ (z : ClientSeen). z.requests.next_id) e ∙ kept.next_id;

@@ -32,11 +32,11 @@ abbrev Parts : Type 0
 Parts = (ℤ × ℤ) × ((Bool × Bool) × Content)
 
 abbrev flags_of : Bool → Bool → MsgFlags
-flags_of more allows = record { more = more; allows = allows }
+flags_of more exhaust_allowed = record { more_to_come = more; exhaust_allowed = exhaust_allowed }
 
 coded_message : Coded Message
 coded_message = code_by Parts (coded× (coded× coded_ℤ coded_ℤ) (coded× (coded× coded_bool coded_bool) coded_content))
-    (λ m. ((m.id, m.response_to), ((m.flags.more, m.flags.allows), m.content)))
+    (λ m. ((m.id, m.response_to), ((m.flags.more_to_come, m.flags.exhaust_allowed), m.content)))
     (λ p. record { id = p.0.0; response_to = p.0.1; flags = flags_of p.1.0.0 p.1.0.1; content = p.1.1 }) (λ _. refl)
 
 message_set : (m n : Message) → IsProp (m ≡ n)

@@ -82,7 +82,7 @@ new_raw_conn l c = record {
 
 -- a call that was made; an unacknowledged one is sent, and that is all
 abbrev pub new_record : ℕ → Asked → Record
-new_record c a = record { connection = c; asked = a; parts = []; state = if a.silent then Sent else Pending }
+new_record c a = record { connection = c; asked = a; parts = []; state = if a.more_to_come then Sent else Pending }
 
 -- one more part; with the last one the call is done
 abbrev pub given_record : Record → Content → Bool → Record

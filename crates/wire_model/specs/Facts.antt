@@ -22,7 +22,7 @@ EntryHasOneCall m = ((i j e : ℕ) (x y : Call) → CallIs m.calls i x → CallI
 
 -- an unacknowledged call holds none
 abbrev pub SilentHoldsNone : {H : Type 0} → Machine H → Type 0
-SilentHoldsNone m = (i : ℕ) (x : Call) → CallIs m.calls i x → is_ours x.state ≡ true → x.asked.silent ≡ true → (x.state ≡ Sent) × (x.parts ≡ [])
+SilentHoldsNone m = (i : ℕ) (x : Call) → CallIs m.calls i x → is_ours x.state ≡ true → x.asked.more_to_come ≡ true → (x.state ≡ Sent) × (x.parts ≡ [])
 
 -- a beginning of its entry's answers and not all of them; nothing where it has no entry or a failed one
 abbrev pub HoldsBeginning : {H : Type 0} → Machine H → Call → Type 0

@@ -79,8 +79,8 @@ raw_replies id (t ∷ ts) = if t.gives then chain id t.message.id (all_of t.answ
 -- closed in it.
 abbrev pub GivesReplies : ServerState → ℕ → ℕ → RawEntry → Type 0
 GivesReplies s many i t =
-    ((t.gives ≡ true) × (t.message.flags.more ≡ false) × (t.answers ≢ None) × (suc i ≡ many → IsStopped s → ⊥))
-    ⊎ (((t.gives ≡ false) × (t.message.flags.more ≡ true)) ⊎ ((t.gives ≡ false) × (suc i ≡ many) × IsStopped s))
+    ((t.gives ≡ true) × (t.message.flags.more_to_come ≡ false) × (t.answers ≢ None) × (suc i ≡ many → IsStopped s → ⊥))
+    ⊎ (((t.gives ≡ false) × (t.message.flags.more_to_come ≡ true)) ⊎ ((t.gives ≡ false) × (suc i ≡ many) × IsStopped s))
 
 -- The stranger that the entry's message is, the one with as many of the connection before it, names the log's entry: the one
 -- with as many of the connection before it.

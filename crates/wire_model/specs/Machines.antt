@@ -7,7 +7,7 @@ use Rattle.wire_peer.specs.declared.handlers.HandlerStop.{HandlerStop}
 
 -- what a call of this kind asks
 abbrev pub asked_as : CallKind → Content → Asked
-asked_as kind payload = record { payload = payload; allows = allows_more kind; silent = if awaits_reply kind then false else true }
+asked_as kind payload = record { payload = payload; exhaust_allowed = allows_more kind; more_to_come = if awaits_reply kind then false else true }
 
 -- where a request is: on its way, waiting at the server, answered or not by an entry, or never to come
 pub data Place : Type 0 where
@@ -51,7 +51,7 @@ is_ours Lost = true
 is_ours Foreign = false
 
 abbrev pub new_call : ℕ → Asked → Call
-new_call c a = record { connection = c; asked = a; place = OnWay; parts = []; state = if a.silent then Sent else Pending }
+new_call c a = record { connection = c; asked = a; place = OnWay; parts = []; state = if a.more_to_come then Sent else Pending }
 
 abbrev pub stranger : ℕ → Asked → Call
 stranger c a = record { connection = c; asked = a; place = Waiting; parts = []; state = Foreign }
@@ -112,7 +112,7 @@ entry_for x answers = record { connection = x.connection; payload = x.asked.payl
 
 -- where a request is once entry e answers it
 abbrev pub logged_place : Call → ℕ → Place
-logged_place x e = if x.asked.silent then Mute e else Answered e
+logged_place x e = if x.asked.more_to_come then Mute e else Answered e
 
 -- request i is x
 abbrev pub CallIs : List Call → ℕ → Call → Type 0
@@ -143,7 +143,7 @@ module _ (H : Type 0) (does : Does H) (stops : Stops H) where
         → n ≡ with_call m i (placed x Waiting) → Step m n
     answer : (i : ℕ) (x : Call) (answers : List Content) (h : H) → CallIs m.calls i x → x.place ≡ Waiting → LogStep does stops m.handler x.asked (Some answers) h
         → n ≡ logged m i (placed x (logged_place x (length m.log))) (entry_for x (Some answers)) h → Step m n
-    log_lost : (i : ℕ) (x : Call) (answers : List Content) (h : H) → CallIs m.calls i x → x.place ≡ Waiting → x.asked.silent ≡ false → LogStep does stops m.handler x.asked (Some answers) h
+    log_lost : (i : ℕ) (x : Call) (answers : List Content) (h : H) → CallIs m.calls i x → x.place ≡ Waiting → x.asked.more_to_come ≡ false → LogStep does stops m.handler x.asked (Some answers) h
         → n ≡ server_gone (logged m i (placed x (Mute (length m.log))) (entry_for x (Some answers)) h) x.connection → Step m n
     stop : (i : ℕ) (x : Call) (why : HandlerStop) (h : H) → CallIs m.calls i x → x.place ≡ Waiting → stops m.handler x.asked why h
         → n ≡ server_gone (logged m i (placed x (Mute (length m.log))) (entry_for x None) h) x.connection → Step m n

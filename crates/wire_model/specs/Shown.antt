@@ -58,7 +58,7 @@ pub record IsQuiet {H : Type 0} (w : World H) (c : ℕ) : Type 0 where
 
 -- on a quiet connection every acknowledged call is done
 abbrev pub QuietIsDone : {H : Type 0} → World H → Type 0
-QuietIsDone w = (c : ℕ) → IsQuiet w c → (i : ℕ) (x : Record) → slice_get w.calls i ≡ Some x → x.connection ≡ c → x.asked.silent ≡ false → x.state ≡ Done
+QuietIsDone w = (c : ℕ) → IsQuiet w c → (i : ℕ) (x : Record) → slice_get w.calls i ≡ Some x → x.connection ≡ c → x.asked.more_to_come ≡ false → x.state ≡ Done
 
 -- no two outstanding calls of one client bear one id
 abbrev pub IdsApart : {H : Type 0} → World H → Type 0

@@ -23,7 +23,7 @@ one_bit (suc zero) n lt e = rw e refl
 one_bit (suc (suc b)) n lt e = absurd (omega (arith, lt))
 
 abbrev flags_of : Bool → Bool → MsgFlags
-flags_of more allows = record { more = more; allows = allows }
+flags_of more exhaust_allowed = record { more_to_come = more; exhaust_allowed = exhaust_allowed }
 
 pub flags_are : (word : ℕ) → word < 2 ^ 32 → bit_and word 65535 ≤ 3 → bit_and (bit_and word 65535) 1 ≡ 0 → FlagsAre word (flags_of (not (eqb (bit_and (bit_and word 65535) 2) 0)) (not (eqb (bit_and word 65536) 0)))
 flags_are word four le even = record {
@@ -46,7 +46,7 @@ small true = omega arith
 small false = omega arith
 
 pub flags_are_sound : (word : ℕ) (flags : MsgFlags) → FlagsAre word flags → flags_fault word ≡ None
-flags_are_sound word flags f = rw (no_unknown word (from_bool flags.more * 2) f.required (small flags.more), no_checksum word flags.more f.required) refl
+flags_are_sound word flags f = rw (no_unknown word (from_bool flags.more_to_come * 2) f.required (small flags.more_to_come), no_checksum word flags.more_to_come f.required) refl
 
 same_bool : (a b : Bool) → from_bool a ≡ from_bool b → a ≡ b
 same_bool true true e = refl
@@ -60,16 +60,16 @@ same_twice false false e = refl
 same_twice true false e = absurd (omega (arith, e))
 same_twice false true e = absurd (omega (arith, e))
 
-same_flags_of : (more more' allows allows' : Bool) → more ≡ more' → allows ≡ allows' → flags_of more allows ≡ flags_of more' allows'
-same_flags_of more more' allows allows' e f = rw (e, f) refl
+same_flags_of : (more more' exhaust_allowed exhaust_allowed' : Bool) → more ≡ more' → exhaust_allowed ≡ exhaust_allowed' → flags_of more exhaust_allowed ≡ flags_of more' exhaust_allowed'
+same_flags_of more more' exhaust_allowed exhaust_allowed' e f = rw (e, f) refl
 
 -- a word has one reading
 pub same_flags : (word : ℕ) (a b : MsgFlags) → FlagsAre word a → FlagsAre word b → a ≡ b
-same_flags word a b f g = same_flags_of a.more b.more a.allows b.allows (same_twice a.more b.more (sym f.required ∙ g.required)) (same_bool a.allows b.allows (sym f.optional ∙ g.optional))
+same_flags word a b f g = same_flags_of a.more_to_come b.more_to_come a.exhaust_allowed b.exhaust_allowed (same_twice a.more_to_come b.more_to_come (sym f.required ∙ g.required)) (same_bool a.exhaust_allowed b.exhaust_allowed (sym f.optional ∙ g.optional))
 
 -- ---- the flags as they are written
 
-flag_word_of : (more allows : Bool) → FlagsAre (flag_word (flags_of more allows)) (flags_of more allows)
+flag_word_of : (more exhaust_allowed : Bool) → FlagsAre (flag_word (flags_of more exhaust_allowed)) (flags_of more exhaust_allowed)
 flag_word_of true true = record { four_bytes = omega arith; required = refl; optional = refl }
 flag_word_of true false = record { four_bytes = omega arith; required = refl; optional = refl }
 flag_word_of false true = record { four_bytes = omega arith; required = refl; optional = refl }
@@ -77,4 +77,4 @@ flag_word_of false false = record { four_bytes = omega arith; required = refl; o
 
 -- the word of flags is read as those
 pub flag_word_is : (flags : MsgFlags) → FlagsAre (flag_word flags) flags
-flag_word_is flags = flag_word_of flags.more flags.allows
+flag_word_is flags = flag_word_of flags.more_to_come flags.exhaust_allowed

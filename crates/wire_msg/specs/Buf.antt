@@ -1,10 +1,13 @@
--- What an owned payload carries, what is added to it, and why none is made or nothing is added.
-use Rattle.std.specs.Prelude.{◌≡◌, ◌≢◌, ℕ, ◌^◌, ◌<◌, ◌≤◌, List, [], ◌∷◌, ◌++◌, true, false, None, Contains}
+-- What an owned payload carries, what is added to it, and why one isn't made or nothing is added.
+use Rattle.std.specs.Prelude.{◌≡◌, ◌≢◌, ℕ, ◌^◌, ◌<◌, ◌≤◌, List, [], ◌∷◌, ◌++◌, true, false, None}
+use Rattle.std.specs.Prelude.{Contains}
 use Rattle.bson_elem.specs.{HasNoZero, Tree}
 use Rattle.bson_raw.specs.{first_repeated}
 use Rattle.wire_msg.specs.declared.payload_buf.PayloadBuf.{PayloadBuf}
 use Rattle.wire_msg.specs.declared.refusal.MsgRefusal.{MsgRefusal}
-use Rattle.wire_msg.specs.declared.refusal.MsgRefusal.TheVariants.{TooLarge, RepeatedField, SequenceInBody, ZeroInName, NoSequence, OutOfMemory}
+use Rattle.wire_msg.specs.declared.refusal.MsgRefusal.TheVariants.{TooLarge, RepeatedField}
+use Rattle.wire_msg.specs.declared.refusal.MsgRefusal.TheVariants.{SequenceInBody, ZeroInName}
+use Rattle.wire_msg.specs.declared.refusal.MsgRefusal.TheVariants.{NoSequence, OutOfMemory}
 use Rattle.wire_msg.specs.Messages.{Sequence, Content, is_field}
 use Rattle.wire_msg.specs.Spelling.{message_len}
 use Rattle.wire_msg.specs.Payload.{AreParts}
@@ -17,7 +20,7 @@ BufCarries b c = AreParts [] b.body.items b.sequences.items c
 abbrev pub body_alone : Tree → Content
 body_alone t = record { body = t; sequences = [] }
 
--- why there is no payload of this body alone
+-- why no payload is made of this body
 abbrev pub IsBodyRefusal : Tree → MsgRefusal → Type 0
 IsBodyRefusal t RepeatedField = first_repeated [] t ≢ None
 IsBodyRefusal t TooLarge = (first_repeated [] t ≡ None) × (2 ^ 31 ≤ message_len (body_alone t))
@@ -30,19 +33,19 @@ HasSameBytes b new = (new.body.items ≡ b.body.items) × (new.sequences.items �
 
 -- ---- a sequence more
 
--- a document sequence without documents
+-- a document sequence with no documents
 abbrev pub empty_sequence : List ℕ → Sequence
 empty_sequence name = record { identifier = name; documents = [] }
 
--- the content with an empty sequence of this identifier, the last
+-- the content with one more sequence at its end, an empty one with this identifier
 abbrev pub with_sequence : Content → List ℕ → Content
 with_sequence c name = record { body = c.body; sequences = c.sequences ++ empty_sequence name ∷ [] }
 
--- the identifier is no top-level name of the body, and has no 00
+-- the identifier isn't a top-level name of the body, and has no 00
 abbrev pub IsFree : Content → List ℕ → Type 0
 IsFree c name = (is_field name c.body ≡ false) × HasNoZero name
 
--- why no sequence of this identifier is added to the content
+-- why no sequence with this identifier is added to the content
 abbrev pub IsSequenceRefusal : Content → List ℕ → MsgRefusal → Type 0
 IsSequenceRefusal c name SequenceInBody = is_field name c.body ≡ true
 IsSequenceRefusal c name ZeroInName = Contains name 0
@@ -52,17 +55,17 @@ IsSequenceRefusal c name _ = ⊥
 
 -- ---- a document more
 
--- the sequence with a document more, the last
+-- the sequence with this document at its end
 abbrev pub longer : Sequence → Tree → Sequence
 longer q t = record { identifier = q.identifier; documents = q.documents ++ t ∷ [] }
 
--- the sequences with a document more, the last of the last sequence
+-- the sequences with this document at the end of the last one
 abbrev pub with_last_document : List Sequence → Tree → List Sequence
 with_last_document [] t = []
 with_last_document (q ∷ []) t = longer q t ∷ []
 with_last_document (q ∷ r ∷ qs) t = q ∷ with_last_document (r ∷ qs) t
 
--- the content with a document more, the last of its last sequence
+-- the content with this document at the end of its last sequence
 abbrev pub with_document : Content → Tree → Content
 with_document c t = record { body = c.body; sequences = with_last_document c.sequences t }
 

@@ -1,7 +1,11 @@
 -- The causes of a fault as fault lines give them, and the offset of each.
 use Rattle.std.specs.Prelude.{ℕ, List, codes}
 use Rattle.wire_msg.specs.declared.fault.MsgCause.{MsgCause}
-use Rattle.wire_msg.specs.declared.fault.MsgCause.TheVariants.{Length, Opcode, Flags, Checksum, SectionKind, SectionSize, Document, NoBody, TwoBodies, RepeatedField, SequenceName, SequenceInBody, Truncated}
+use Rattle.wire_msg.specs.declared.fault.MsgCause.TheVariants.{Length, Opcode, Flags, Checksum}
+use Rattle.wire_msg.specs.declared.fault.MsgCause.TheVariants.{SectionKind, SectionSize, Document}
+use Rattle.wire_msg.specs.declared.fault.MsgCause.TheVariants.{NoBody, TwoBodies, RepeatedField}
+use Rattle.wire_msg.specs.declared.fault.MsgCause.TheVariants.{SequenceName, SequenceInBody}
+use Rattle.wire_msg.specs.declared.fault.MsgCause.TheVariants.{Truncated}
 use Rattle.wire_msg.specs.declared.fault.MsgFault.{MsgFault}
 
 abbrev pub cause_number : MsgCause → ℕ

@@ -1,4 +1,4 @@
--- What the parts of the check tell.
+-- What the parts of the check find.
 use Rattle.std.specs.Prelude.{◌≡◌, ◌≢◌, ℕ, ◌+◌, ◌≤◌, None, List, [], ◌∷◌, ◌++◌, length, take, drop}
 use Rattle.bson_elem.specs.{Spells, Tree}
 use Rattle.wire_msg.specs.declared.fault.MsgFault.{MsgFault}
@@ -9,7 +9,7 @@ use Rattle.wire_msg.specs.Spelling.{sequence_section, sequences_bytes, sections_
 use Rattle.wire_msg.specs.Header.{number_at}
 use Rattle.wire_msg.specs.Faults.{SequenceFault, flags_fault}
 
--- the bytes are documents back to back
+-- the bytes are documents one after another
 abbrev pub HasDocuments : List ℕ → Type 0
 HasDocuments bytes = (ts : List Tree) × AreDocuments ts × (bytes ≡ documents_bytes ts)
 
@@ -17,19 +17,19 @@ HasDocuments bytes = (ts : List Tree) × AreDocuments ts × (bytes ≡ documents
 abbrev pub HasSequences : List ℕ → Type 0
 HasSequences bytes = (qs : List Sequence) × AreSequences qs × (bytes ≡ sequences_bytes qs)
 
--- A document sequence, without its kind byte, is as many of the bytes.
+-- The bytes begin with a document sequence of this size, without its kind byte.
 pub record IsSequenceAt (bytes : List ℕ) (size : ℕ) : Type 0 where
   pub sequence : Sequence
   pub fits : IsSequence sequence
   pub within : size ≤ length bytes
   pub parts : sequence_section sequence ≡ 1 ∷ take size bytes
 
--- no document sequence begins
+-- the bytes don't begin with a document sequence
 abbrev pub IsNoSequence : List ℕ → Type 0
 IsNoSequence [] = Unit {0}
 IsNoSequence (kind ∷ rest) = kind ≢ 1
 
--- Document sequences stand from one offset up to another, where none begins.
+-- From one offset to another there are document sequences, and then none begins.
 pub record IsRun (bytes : List ℕ) (start end : ℕ) : Type 0 where
   pub sequences : List Sequence
   pub fits : AreSequences sequences
@@ -38,7 +38,7 @@ pub record IsRun (bytes : List ℕ) (start end : ℕ) : Type 0 where
   pub parts : drop start bytes ≡ sequences_bytes sequences ++ drop end bytes
   pub stops : IsNoSequence (drop end bytes)
 
--- Document sequences stand from an offset on, and then one that has a fault.
+-- From an offset on there are document sequences, and then one that has a fault.
 pub record IsBadRun (bytes : List ℕ) (start : ℕ) (f : MsgFault) : Type 0 where
   pub sequences : List Sequence
   pub fits : AreSequences sequences
@@ -46,8 +46,9 @@ pub record IsBadRun (bytes : List ℕ) (start : ℕ) (f : MsgFault) : Type 0 whe
   pub parts : drop start bytes ≡ sequences_bytes sequences ++ 1 ∷ rest
   pub fault : SequenceFault (start + length (sequences_bytes sequences)) rest f
 
--- The sections, which begin at offset 20, are a body and sequences before it and behind it. The kind byte of the body
--- stands at one offset, its document is these bytes, and the sequences behind it begin at the next offset.
+-- The sections, which begin at offset 20, are a body, and sequences before it and after it. The
+-- kind byte of the body is at one offset, its document is these bytes, and the sequences after it
+-- begin at the next offset.
 pub record HasSections (bytes : List ℕ) (at : ℕ) (document : List ℕ) (next : ℕ) : Type 0 where
   pub before : List Sequence
   pub body : Tree

@@ -1,4 +1,4 @@
--- What the walk over documents back to back gives.
+-- What the walk over documents returns.
 use Rattle.std.specs.Prelude.{◌≡◌, ℕ, List, [], ◌∷◌, length, Option, Some, None}
 use Rattle.bson_elem.specs.{Spells, Tree}
 use Rattle.bson_raw.specs.declared.document.RawDocument.{RawDocument}
@@ -26,7 +26,8 @@ pub record GivesDocument (ts : List Tree) (d : RawDocument) (after : DocumentsIt
   pub spelled : Spells tree (document_bytes d)
   pub left : DocumentsLeft after others
 
--- Of all documents left the first was given, or there is none, and none is left.
+-- Whatever documents are left, the first of them is returned; or there is none, and none is left.
 abbrev pub DocumentStepsTo : DocumentsIter → Option RawDocument → DocumentsIter → Type 0
-DocumentStepsTo s None after = (ts : List Tree) → DocumentsLeft s ts → (ts ≡ []) × DocumentsLeft after []
+DocumentStepsTo s None after =
+    (ts : List Tree) → DocumentsLeft s ts → (ts ≡ []) × DocumentsLeft after []
 DocumentStepsTo s (Some d) after = (ts : List Tree) → DocumentsLeft s ts → GivesDocument ts d after

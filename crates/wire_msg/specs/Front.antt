@@ -1,4 +1,4 @@
--- What is told of the bytes that a message may begin.
+-- What reading the front of bytes returns.
 use Rattle.std.specs.Prelude.{◌≡◌, ℕ, ◌≤◌, List, ◌++◌, length}
 use Rattle.wire_msg.specs.declared.front.Frame.{Frame}
 use Rattle.wire_msg.specs.declared.front.Frame.TheVariants as frames
@@ -10,19 +10,22 @@ use Rattle.wire_msg.specs.Spelling.{IsMessage}
 use Rattle.wire_msg.specs.Faults.{IsFramedMsg}
 use Rattle.wire_msg.specs.Standing.{IsOpen, IsBad}
 
--- the bytes that a good header announces and a rest, too few bytes, or a header's fault
+-- the bytes that a good header announces and the rest, too few bytes, or a header's fault
 abbrev pub IsFrame : ℕ → List ℕ → Frame → Type 0
-IsFrame limit bytes (frames.Whole message rest) = (bytes ≡ message.now ++ rest.now) × IsFramedMsg limit message.now
+IsFrame limit bytes (frames.Whole message rest) =
+    (bytes ≡ message.now ++ rest.now) × IsFramedMsg limit message.now
 IsFrame limit bytes frames.Open = IsOpen limit bytes
 IsFrame limit bytes (frames.Bad f) = (16 ≤ length bytes) × HeaderFault limit (header_of bytes) f
 
--- a message within the limit and the rest behind it, too few bytes, or a fault that stands in the bytes
+-- a message within the limit and the rest after it, too few bytes, or a fault at an offset in the
+-- bytes
 abbrev pub IsFront : ℕ → List ℕ → MsgFront → Type 0
-IsFront limit bytes (Whole message rest) = (bytes ≡ msg_bytes message ++ rest.now) × IsMessage limit (msg_bytes message)
+IsFront limit bytes (Whole message rest) =
+    (bytes ≡ msg_bytes message ++ rest.now) × IsMessage limit (msg_bytes message)
 IsFront limit bytes Open = IsOpen limit bytes
 IsFront limit bytes (Bad f) = IsBad limit bytes f × (f.at ≤ length bytes)
 
--- a message of these bytes is told, and this rest behind it
+-- a message of these bytes is returned, and this rest after it
 abbrev pub HasWhole : List ℕ → List ℕ → MsgFront → Type 0
 HasWhole front after (Whole message rest) = (msg_bytes message ≡ front) × (rest.now ≡ after)
 HasWhole front after Open = ⊥

@@ -1,7 +1,8 @@
 -- A message as a value (MongoDB Wire Protocol manual: OP_MSG).
 use Rattle.std.specs.Prelude.{◌≡◌, ℕ, ℤ, ◌+◌, ◌^◌, ◌<◌, List, [], ◌∷◌, length, Bool, false, None}
 use Rattle.bson_elem.specs.{IsName, Tree, cstring}
-use Rattle.bson_raw.specs.{AreDocuments, IsDocument, documents_bytes, first_repeated, is_among, names_of}
+use Rattle.bson_raw.specs.{AreDocuments, IsDocument, documents_bytes, first_repeated, is_among}
+use Rattle.bson_raw.specs.{names_of}
 use Rattle.wire_msg.specs.declared.flags.MsgFlags.{MsgFlags}
 
 -- a document sequence: its identifier, and its documents in order
@@ -23,7 +24,8 @@ pub record Message : Type 0 where
 
 -- ---- which of them have a spelling
 
--- the size of a document sequence, which counts itself, the identifier with its 00, and the documents
+-- the size of a document sequence, which counts itself, the identifier with its 00, and the
+-- documents
 abbrev pub sequence_size : Sequence → ℕ
 sequence_size q = 4 + length (cstring q.identifier) + length (documents_bytes q.documents)
 

@@ -4,7 +4,8 @@ use Rattle.bson_elem.specs.{Spells}
 use Rattle.wire_msg.specs.Messages.{Sequence, Content, IsContent}
 use Rattle.wire_msg.specs.Spelling.{sequences_bytes, message_len}
 
--- These are the bytes of the sequences before a body, of the body's document, and of the sequences behind it.
+-- These are the bytes of the sequences before a body, of the body's document, and of the sequences
+-- after it.
 pub record AreParts (before body after : List ℕ) (c : Content) : Type 0 where
   pub first : List Sequence
   pub last : List Sequence

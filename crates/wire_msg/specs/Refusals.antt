@@ -1,9 +1,11 @@
 -- Why a message isn't made.
 use Rattle.std.specs.Prelude.{ℕ, List, codes, Option, Some}
 use Rattle.wire_msg.specs.declared.refusal.MsgRefusal.{MsgRefusal}
-use Rattle.wire_msg.specs.declared.refusal.MsgRefusal.TheVariants.{TooLarge, RepeatedField, SequenceInBody, ZeroInName, NoSequence, OutOfMemory}
+use Rattle.wire_msg.specs.declared.refusal.MsgRefusal.TheVariants.{TooLarge, RepeatedField}
+use Rattle.wire_msg.specs.declared.refusal.MsgRefusal.TheVariants.{SequenceInBody, ZeroInName}
+use Rattle.wire_msg.specs.declared.refusal.MsgRefusal.TheVariants.{NoSequence, OutOfMemory}
 
--- what a refusal displays as
+-- the text that displays a refusal
 abbrev pub refusal_text : MsgRefusal → List ℕ
 refusal_text TooLarge = codes "the message is too large"
 refusal_text RepeatedField = codes "a top-level name of the body is repeated"

@@ -1,4 +1,5 @@
--- What is known of bytes of which more may come: they are too few to tell, have a message in front, or are at fault.
+-- What is known of bytes that more may follow: they are too few, begin with a message, or are at
+-- fault.
 use Rattle.std.specs.Prelude.{◌≡◌, ℕ, ◌<◌, ◌≤◌, List, ◌++◌, length, take}
 use Rattle.wire_msg.specs.declared.fault.MsgFault.{MsgFault}
 use Rattle.wire_msg.specs.Messages.{Message}
@@ -9,19 +10,23 @@ use Rattle.wire_msg.specs.Faults.{FaultMsg}
 -- There are fewer bytes than a header has, or than a good header announces.
 pub data IsOpen : ℕ → List ℕ → Type 0 where
   in_header : {limit : ℕ} {bytes : List ℕ} → length bytes < 16 → IsOpen limit bytes
-  in_message : {limit : ℕ} {bytes : List ℕ} → 16 ≤ length bytes → IsGoodHeader limit (header_of bytes) → length bytes < number_at bytes 0 → IsOpen limit bytes
+  in_message : {limit : ℕ} {bytes : List ℕ} → 16 ≤ length bytes
+      → IsGoodHeader limit (header_of bytes) → length bytes < number_at bytes 0 → IsOpen limit bytes
 
--- A message within the limit stands in front, and the rest behind it.
+-- The bytes are a message within the limit, and the rest after it.
 pub record IsWhole (limit : ℕ) (bytes : List ℕ) (m : Message) (rest : List ℕ) : Type 0 where
   pub front : List ℕ
   pub parts : bytes ≡ front ++ rest
   pub spelled : SpellsMsg m front
   pub within : length front ≤ limit
 
--- The header has this fault, or as many bytes as a good header announces have it.
+-- The header has this fault, or the bytes that a good header announces have it.
 pub data IsBad : ℕ → List ℕ → MsgFault → Type 0 where
-  bad_header : {limit : ℕ} {bytes : List ℕ} {f : MsgFault} → 16 ≤ length bytes → HeaderFault limit (header_of bytes) f → IsBad limit bytes f
-  bad_message : {limit : ℕ} {bytes : List ℕ} {f : MsgFault} → 16 ≤ length bytes → IsGoodHeader limit (header_of bytes) → number_at bytes 0 ≤ length bytes → FaultMsg (take (number_at bytes 0) bytes) limit f → IsBad limit bytes f
+  bad_header : {limit : ℕ} {bytes : List ℕ} {f : MsgFault} → 16 ≤ length bytes
+      → HeaderFault limit (header_of bytes) f → IsBad limit bytes f
+  bad_message : {limit : ℕ} {bytes : List ℕ} {f : MsgFault} → 16 ≤ length bytes
+      → IsGoodHeader limit (header_of bytes) → number_at bytes 0 ≤ length bytes
+      → FaultMsg (take (number_at bytes 0) bytes) limit f → IsBad limit bytes f
 
 -- the bytes are one of the three
 pub data Stands (limit : ℕ) (bytes : List ℕ) : Type 0 where

@@ -3,7 +3,7 @@ use Rattle.std.specs.Prelude.{ℕ, ◌<◌, ◌≤◌}
 use Rattle.wire_msg.specs.declared.refusal.MsgRefusal.{MsgRefusal}
 use Rattle.wire_msg.specs.declared.refusal.MsgRefusal.TheVariants.{TooLarge, OutOfMemory}
 
--- why a message of so many bytes isn't written under a limit
+-- why a message of this length isn't written under a limit
 abbrev pub IsWriteRefusal : ℕ → ℕ → MsgRefusal → Type 0
 IsWriteRefusal limit len TooLarge = limit < len
 IsWriteRefusal limit len OutOfMemory = len ≤ limit

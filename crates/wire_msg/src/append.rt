@@ -1,6 +1,8 @@
-//! Appends a document sequence behind others, and a document to the last of them (MongoDB Wire Protocol manual: OP_MSG, sections of kind 1).
+//! Appends a document sequence after others, and a document to the last of them (MongoDB Wire
+//! Protocol manual: OP_MSG, sections of kind 1).
 
-ghost use Rattle.std.specs.Prelude.{◌≡◌, ◌+◌, ◌-◌, ◌≤◌, ◌<◌, ◌^◌, ◌++◌, [], length, take, drop, vec_len, OnOk, OnErr};
+ghost use Rattle.std.specs.Prelude.{◌≡◌, ◌+◌, ◌-◌, ◌≤◌, ◌<◌, ◌^◌, ◌++◌, [], length, take, drop};
+ghost use Rattle.std.specs.Prelude.{vec_len, OnOk, OnErr};
 ghost use Rattle.bson_elem.specs.{little};
 ghost use Rattle.wire_msg.specs.Spelling.{sequence_section};
 ghost use Rattle.wire_msg.specs.Buf.{empty_sequence};
@@ -20,7 +22,7 @@ fn put_size(last: usize, sequences: &mut Vec<u8>)
     LittleEndian::write_u32(&mut sequences[last + 1..last + 5], size as u32);
 }
 
-/// Appends an empty document sequence. Leaves `sequences` as they were where memory is refused.
+/// Appends an empty document sequence. If memory runs out, `sequences` doesn't change.
 pub(crate) fn append_sequence(identifier: &str, sequences: &mut Vec<u8>) -> Result<(), AllocError>
     requires { vec_len sequences.old + length identifier.now + 6 < 2 ^ 32 }
     ensures added { OnOk result (sequences.new.items
@@ -29,7 +31,7 @@ pub(crate) fn append_sequence(identifier: &str, sequences: &mut Vec<u8>) -> Resu
 {
     let last = sequences.len();
     sequences.try_reserve(6 + identifier.len())?;
-    // there is room, so none of these is refused
+    // there is room, so none of these fails
     sequences.extend_from_slice(&[SEQUENCE, 0, 0, 0, 0])?;
     sequences.extend_from_slice(identifier.as_bytes())?;
     sequences.push(0)?;
@@ -37,8 +39,8 @@ pub(crate) fn append_sequence(identifier: &str, sequences: &mut Vec<u8>) -> Resu
     Ok(())
 }
 
-/// Appends a document to the last document sequence, which begins at offset `last`. Leaves
-/// `sequences` as they were where memory is refused.
+/// Appends a document to the last document sequence, which begins at offset `last`. If memory runs
+/// out, `sequences` doesn't change.
 pub(crate) fn append_document(
     document: &[u8],
     last: usize,

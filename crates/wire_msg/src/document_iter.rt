@@ -1,4 +1,4 @@
-//! The documents of a document sequence, borrowed from its bytes.
+//! Walks over the documents of a document sequence, borrowed from its bytes.
 
 ghost use Rattle.std.specs.Prelude.{◌≡◌, ◌≢◌, ◌<◌, List, ◌∷◌, length};
 ghost use Rattle.std.specs.Iterator.{at_most};
@@ -9,7 +9,7 @@ ghost use Rattle.wire_msg.specs.Checks.{HasDocuments};
 use bson_elem::little_u32;
 use bson_raw::RawDocument;
 
-/// Splits documents back to back into the first of them and the others.
+/// Splits documents, one after another, into the first of them and the others.
 fn split_document(bytes: &[u8]) -> (&[u8], &[u8])
     requires some { length bytes.now ≢ 0 }
     requires known { ∥ HasDocuments bytes.now ∥₁ }
@@ -23,7 +23,7 @@ fn split_document(bytes: &[u8]) -> (&[u8], &[u8])
     bytes.split_at(little_u32(bytes) as usize)
 }
 
-/// Documents back to back, each of them checked.
+/// Documents one after another, each of them checked.
 #[derive(Clone, Copy, Debug, PartialEq, Eq)]
 pub struct Documents<'a> {
     bytes: &'a [u8],
@@ -33,7 +33,7 @@ pub struct Documents<'a> {
 impl<'a> Documents<'a> {
     ghost use Rattle.wire_msg.specs.Documents.{DocumentsAre, DocumentsLeft};
 
-    /// Makes the documents of bytes that are known to be documents back to back.
+    /// Makes the documents of bytes that are known to be documents one after another.
     pub(crate) fn of_known(bytes: &'a [u8]) -> Documents<'a>
         requires { ∥ HasDocuments bytes.now ∥₁ }
         ensures { (ts : List Tree) → AreDocuments ts → bytes.now ≡ documents_bytes ts
@@ -79,7 +79,7 @@ impl<'a> IntoIterator for Documents<'a> {
     }
 }
 
-/// An iterator over documents back to back. After the last of them it gives nothing more.
+/// Iterates over documents. After the last one it returns `None` for ever.
 #[derive(Debug, Drop)]
 pub struct DocumentsIter<'a> {
     bytes: &'a [u8],

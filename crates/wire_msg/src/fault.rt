@@ -1,4 +1,4 @@
-//! Why bytes are no message, and at which offset.
+//! Says why bytes are not a message, and at which offset.
 
 ghost use Rattle.std.specs.Prelude.{◌≡◌};
 ghost use Rattle.wire_msg.specs.Causes.{cause_name, cause_number};
@@ -6,12 +6,12 @@ ghost use Rattle.wire_msg.specs.Causes.{cause_name, cause_number};
 use bson_elem::BsonFault;
 use std::fmt;
 
-/// What is wrong with the bytes. A cause displays as its name, and `Opcode` with the opcode behind
-/// it.
+/// What is wrong with the bytes. A cause is displayed as its name, and `Opcode` as its name and
+/// the opcode.
 #[derive(Clone, Copy, Debug, PartialEq, Eq)]
 pub enum MsgCause {
-    /// A messageLength that is below 16, above the limit, or not the number of bytes given; or fewer
-    /// bytes than a header has.
+    /// The messageLength is below 16, above the limit, or not the number of bytes given; or there
+    /// are fewer bytes than a header has.
     Length,
     /// The opCode isn't that of OP_MSG.
     Opcode(i32),
@@ -21,16 +21,16 @@ pub enum MsgCause {
     Checksum,
     /// The kind byte of a section is neither 0 nor 1.
     SectionKind,
-    /// A document sequence has fewer than four bytes of size, or its size is below 5 or goes past
-    /// the end of the message.
+    /// A document sequence has fewer than four bytes for its size, or the size is below 5 or goes
+    /// past the end of the message.
     SectionSize,
-    /// A document has this fault, whose offset is counted from the document's first byte.
+    /// A document has this fault. The fault's offset is counted from the document's first byte.
     Document(BsonFault),
     /// No section is a body.
     NoBody,
     /// A second section is a body.
     TwoBodies,
-    /// A top-level name of the body stands twice.
+    /// A top-level name of the body is repeated.
     RepeatedField,
     /// The identifier of a document sequence has no 00 in the section, or isn't UTF-8.
     SequenceName,
@@ -100,12 +100,12 @@ impl fmt::Display for MsgCause {
 
 impl std::error::Error for MsgCause {}
 
-/// The first fault of some bytes, in the order of the checks. It displays as its fault line.
+/// The first fault of some bytes, in the order of the checks. It is displayed as its fault line.
 #[derive(Clone, Copy, Debug, PartialEq, Eq)]
 pub struct MsgFault {
-    /// The offset of the fault: 0 for the length, 12 for the opcode, 16 for the flags; the
-    /// message's length if there is no body; that of the first byte of a document at fault; else
-    /// that of the kind byte of the section at fault.
+    /// The offset of the fault: 0 for the length, 12 for the opcode, 16 for the flags, the
+    /// message's length if there is no body, the first byte of a document at fault, and otherwise
+    /// the kind byte of the section at fault.
     pub at: usize,
     /// What is wrong there.
     pub cause: MsgCause,

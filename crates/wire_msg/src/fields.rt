@@ -1,4 +1,4 @@
-//! The top-level names of a body, to look identifiers up in.
+//! Looks identifiers up among the top-level names of a body.
 
 ghost use Rattle.std.specs.Prelude.{◌≡◌, [], IfOk, is_some};
 ghost use Rattle.bson_elem.specs.{Spells, Tree};
@@ -13,7 +13,7 @@ use std::alloc::{AllocError, Global};
 ///
 /// # Errors
 ///
-/// Want of memory.
+/// Returns `AllocError` if memory runs out.
 fn sorted_names<'a>(alloc: Global, body: RawDocument<'a>) -> Result<Vec<&'a str>, AllocError>
     ensures { (t : Tree) → Spells t (document_bytes body.entry)
         → IfOk result (λ names. AreSorted names.items t) }
@@ -29,14 +29,15 @@ fn sorted_names<'a>(alloc: Global, body: RawDocument<'a>) -> Result<Vec<&'a str>
 /// The top-level names of a body, looked up in its pairs or in a sorted list.
 #[derive(Drop)]
 pub(crate) enum Fields<'a> {
-    /// The body, whose pairs are gone through for each name.
+    /// The body. All its pairs are compared for each name.
     Pairs(RawDocument<'a>),
     /// The names in ascending order.
     Sorted(Vec<&'a str>),
 }
 
 impl<'a> Fields<'a> {
-    /// Returns the names of `body`: sorted where there is memory for that, else in its pairs.
+    /// Returns the names of `body`: sorted if there is memory for that, and otherwise in its
+    /// pairs.
     pub(crate) fn of(memory: Option<Global>, body: RawDocument<'a>) -> Fields<'a>
         ensures { (t : Tree) → Spells t (document_bytes body.entry) → AreFields result t }
     {
@@ -49,7 +50,7 @@ impl<'a> Fields<'a> {
         }
     }
 
-    /// Returns true if one of the names stands twice.
+    /// Returns true if a name is repeated.
     pub(crate) fn has_repeated(&self) -> bool
         ensures { (t : Tree) → AreFields self.now t → result ≡ is_some (first_repeated [] t) }
     {

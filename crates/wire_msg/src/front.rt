@@ -1,4 +1,4 @@
-//! The message that stands in front of bytes, where messages stand one after another.
+//! Reads the first of the messages that bytes hold one after another.
 
 ghost use Rattle.std.specs.Prelude.{◌≡◌, ◌≤◌, ℕ, List};
 ghost use Rattle.wire_msg.specs.declared.fault.MsgFault.{MsgFault};
@@ -11,25 +11,25 @@ use crate::header::MsgHeader;
 use crate::msg::{RawMsg, check_parts};
 use std::alloc::Global;
 
-/// What stands in front of bytes, as `RawMsg::front` tells it.
+/// What bytes begin with, as `RawMsg::front` returns it.
 #[derive(Clone, Copy, Debug, PartialEq, Eq)]
 pub enum MsgFront<'a> {
-    /// A message, and the bytes behind it.
+    /// A message, and the bytes after it.
     Whole {
         /// The message.
         message: RawMsg<'a>,
-        /// The bytes behind it.
+        /// The bytes after it.
         rest: &'a [u8],
     },
     /// Fewer bytes than a header has, or than a good header announces.
     Open,
-    /// Bytes that begin no message. The fault's offset is counted from the first of them.
+    /// Bytes that no message begins with. The fault's offset is counted from the first of them.
     Bad(MsgFault),
 }
 
-/// What the header of a message says of the bytes that it begins.
+/// The bytes of a message, cut by what its header says.
 enum Frame<'a> {
-    /// The bytes that a good header announces, and those behind them.
+    /// The bytes that a good header announces, and those after them.
     Whole(&'a [u8], &'a [u8]),
     /// Fewer bytes than a header has, or than a good header announces.
     Open,
@@ -37,7 +37,7 @@ enum Frame<'a> {
     Bad(MsgFault),
 }
 
-/// Reads the header that begins `bytes`, and cuts them where it says that the message ends.
+/// Reads the header at the front of `bytes`, and cuts them where it says that the message ends.
 fn read_frame(bytes: &[u8], limit: u32) -> Frame<'_>
     requires { limit ≤ 48_000_000 }
     ensures { IsFrame limit bytes.now result }
@@ -58,7 +58,8 @@ fn read_frame(bytes: &[u8], limit: u32) -> Frame<'_>
 }
 
 impl<'a> RawMsg<'a> {
-    /// Tells what `front` does. Names are looked up as `Fields::of` tells.
+    /// Reads the message at the front, as `front` does. Looks names up in
+    /// `Fields::of(memory, body)`.
     fn read_front(memory: Option<Global>, bytes: &'a [u8], limit: u32) -> MsgFront<'a>
         requires { limit ≤ 48_000_000 }
         ensures { IsFront limit bytes.now result }
@@ -76,12 +77,13 @@ impl<'a> RawMsg<'a> {
         }
     }
 
-    /// Returns the message of at most `limit` bytes that begins `bytes`, with the bytes behind it;
-    /// `Open` where `bytes` end before that message does; or else the first fault and its offset.
+    /// Returns the message of at most `limit` bytes at the front of `bytes`, and the bytes after
+    /// it. Returns `Open` if `bytes` end before that message does, and otherwise `Bad` with the
+    /// first fault and its offset.
     ///
-    /// The header is enough to tell its own faults. All other faults are told once as many bytes
-    /// are there as the header announces. The faults are those that `RawMsg::parse` tells of the
-    /// announced bytes, in as much time and without memory.
+    /// A fault in the header is found as soon as the header is there, and all other faults once
+    /// all announced bytes are there. They are the faults that `RawMsg::parse` returns for those
+    /// bytes. This takes as much time as `RawMsg::parse`, and no memory.
     pub fn front(bytes: &'a [u8], limit: u32) -> MsgFront<'a>
         requires { limit ≤ 48_000_000 }
         ensures front { IsFront limit bytes.now result }
@@ -93,8 +95,8 @@ impl<'a> RawMsg<'a> {
         RawMsg::read_front(None, bytes, limit)
     }
 
-    /// Returns what `front` does, but sorts the body's names as `RawMsg::parse_with` does, in the
-    /// time that it takes, and compares them as `front` does where memory is refused.
+    /// Returns what `front` does, but sorts the body's names as `RawMsg::parse_with` does, in as
+    /// much time. If memory runs out, it compares them as `front` does.
     pub fn front_with(alloc: Global, bytes: &'a [u8], limit: u32) -> MsgFront<'a>
         requires { limit ≤ 48_000_000 }
         ensures front { IsFront limit bytes.now result }

@@ -1,4 +1,5 @@
-//! The header of a message (MongoDB Wire Protocol manual: Standard Message Header).
+//! Reads and checks the header of a message (MongoDB Wire Protocol manual: Standard Message
+//! Header).
 
 ghost use Rattle.std.specs.Prelude.{◌≡◌, ◌≤◌, MatchResult};
 ghost use Rattle.wire_msg.specs.Header.{HeaderFault, header_of, IsGoodHeader};
@@ -9,8 +10,8 @@ use byteorder::{ByteOrder, LittleEndian};
 /// The length of a header, in bytes.
 pub const HEADER_LEN: u32 = 16;
 
-/// The greatest limit that a connection may have (maxMessageSizeBytes): the length of the longest
-/// message, in bytes.
+/// The greatest limit that a connection may have (maxMessageSizeBytes), which is the length of the
+/// longest message, in bytes.
 pub const MAX_MESSAGE_LEN: u32 = 48_000_000;
 
 /// The opCode of OP_MSG.
@@ -19,8 +20,8 @@ pub const OP_MSG: i32 = 2013;
 /// The four numbers of a header.
 #[derive(Clone, Copy, Debug, PartialEq, Eq)]
 pub struct MsgHeader {
-    /// messageLength, how many bytes the whole message has. It is an int32 that is read as an
-    /// unsigned number, so a negative one is greater than every limit.
+    /// messageLength, the number of bytes of the whole message. This int32 is read as an unsigned
+    /// number, so a negative one is above every limit.
     pub length: u32,
     /// requestID.
     pub id: i32,
@@ -47,8 +48,8 @@ impl MsgHeader {
     ///
     /// # Errors
     ///
-    /// `Length` at 0 where the length is below 16 or above the limit, and else `Opcode` at 12 where
-    /// the opcode isn't that of OP_MSG.
+    /// Returns `Length` at 0 if the length is below 16 or above the limit, and otherwise `Opcode`
+    /// at 12 if the opcode isn't that of OP_MSG.
     pub fn check(&self, limit: u32) -> Result<(), MsgFault>
         requires { limit ≤ MAX_MESSAGE_LEN }
         ensures { MatchResult result

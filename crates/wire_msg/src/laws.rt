@@ -1,7 +1,8 @@
-//! The laws of the format, on which whatever cuts bytes into messages rests. The contract of each
-//! function is the law.
+//! Proves the laws of the format, which everything that cuts bytes into messages needs. The
+//! contract of each function is the law.
 
-ghost use Rattle.std.specs.Prelude.{◌≡◌, ◌≢◌, ◌<◌, ◌≤◌, ◌^◌, ◌++◌, ◌∷◌, ◌⊎◌, [], ℕ, FitsSigned, List, length, take};
+ghost use Rattle.std.specs.Prelude.{◌≡◌, ◌≢◌, ◌<◌, ◌≤◌, ◌^◌, ◌++◌, ◌∷◌, ◌⊎◌, [], ℕ, FitsSigned};
+ghost use Rattle.std.specs.Prelude.{List, length, take};
 ghost use Rattle.std.specs.Int.{w32};
 ghost use Rattle.bson_elem.specs.{IsBytes};
 ghost use Rattle.wire_msg.specs.declared.fault.MsgFault.{MsgFault};
@@ -32,20 +33,21 @@ pub fn canonical_spells()
         → IsContent m.content → message_len m.content < 2 ^ 31 → SpellsMsg m (canonical m) }
 {}
 
-/// Proves that where two spellings stand at the front of the same bytes, they are one spelling of one message.
+/// Proves that if two spellings are at the front of the same bytes, they are the same spelling of
+/// the same message.
 pub fn one_front()
     ensures { (m n : Message) (a b rest after : List ℕ) → IsBytes a
         → SpellsMsg m a → SpellsMsg n b → a ++ rest ≡ b ++ after
         → (m ≡ n) × (a ≡ b) × (rest ≡ after) }
 {}
 
-/// Proves that no spelling begins another one.
+/// Proves that no spelling is a proper beginning of another one.
 pub fn no_spelling_begins_another()
     ensures { (m n : Message) (a rest : List ℕ) → SpellsMsg m a → SpellsMsg n (a ++ rest)
         → rest ≡ [] }
 {}
 
-/// Proves that at most one fault belongs to a byte list under a limit.
+/// Proves that bytes have at most one fault under a limit.
 pub fn one_fault()
     ensures { (limit : ℕ) (bytes : List ℕ) (f g : MsgFault) → IsBytes bytes
         → FaultMsg bytes limit f → FaultMsg bytes limit g → f ≡ g }
@@ -75,7 +77,7 @@ pub fn bad_is_not_whole()
         → IsBad limit bytes f → IsWhole limit bytes m rest → ⊥ }
 {}
 
-/// Proves that bytes are bad with one fault at most.
+/// Proves that bytes are bad with at most one fault.
 pub fn bad_once()
     ensures { (limit : ℕ) (bytes : List ℕ) (f g : MsgFault) → IsBytes bytes
         → IsBad limit bytes f → IsBad limit bytes g → f ≡ g }
@@ -91,24 +93,25 @@ pub fn nothing_is_no_message()
     ensures { (m : Message) → SpellsMsg m [] → ⊥ }
 {}
 
-/// Proves that where a header is bad, its 16 bytes are bad with that fault, whatever follows them.
+/// Proves that if a header is bad, its 16 bytes are bad with that fault, whatever follows them.
 pub fn bad_after_16_bytes()
     ensures { (limit : ℕ) (header more : List ℕ) (f : MsgFault) → length header ≡ 16
         → HeaderFault limit (header_of header) f → IsBad limit (header ++ more) f }
 {}
 
-/// Proves that a header is that of the first 16 bytes.
+/// Proves that a header depends on the first 16 bytes alone.
 pub fn header_of_16_bytes()
     ensures { (bytes : List ℕ) → header_of bytes ≡ header_of (take 16 bytes) }
 {}
 
-/// Proves that a header's fault stands at offset 12 at most.
+/// Proves that a header's fault is at offset 12 or before.
 pub fn header_fault_offset()
     ensures { (limit : ℕ) (header : MsgHeader) (f : MsgFault) → HeaderFault limit header f
         → f.at ≤ 12 }
 {}
 
-/// Proves that a message within the limit has a good header in front, which announces the message's length.
+/// Proves that a message within the limit begins with a good header, which announces the message's
+/// length.
 pub fn whole_has_good_header()
     ensures { (limit : ℕ) (bytes rest : List ℕ) (m : Message) (w : IsWhole limit bytes m rest)
         → IsGoodHeader limit (header_of bytes) × (number_at bytes 0 ≡ length w.front) }
@@ -137,13 +140,13 @@ pub fn spelled_bytes_are_bytes()
         → AreSpelled limit messages bytes → IsBytes bytes }
 {}
 
-/// Proves that a payload carries one content, lent or owned.
+/// Proves that a payload, borrowed or owned, carries one content.
 pub fn one_content()
     ensures lent { (p : Payload) (c d : Content) → Carries p c → Carries p d → c ≡ d }
     ensures owned { (p : PayloadBuf) (c d : Content) → BufCarries p c → BufCarries p d → c ≡ d }
 {}
 
-/// Proves that more bytes leave bad bytes bad, with the same fault.
+/// Proves that bad bytes stay bad, with the same fault, when more bytes follow.
 pub fn bad_stays_bad()
     ensures { (limit : ℕ) (bytes more : List ℕ) (f : MsgFault) → IsBad limit bytes f
         → IsBad limit (bytes ++ more) f }
@@ -161,7 +164,8 @@ pub fn beginning_of_a_message_is_open()
         → length (front ++ rest) ≤ limit → rest ≢ [] → IsOpen limit front }
 {}
 
-/// Proves that a message within the limit is spelled alone, and messages joined to others are spelled too.
+/// Proves that a message within the limit is a list of one message, and that lists of messages can
+/// be joined.
 pub fn joined_are_spelled()
     ensures one { (limit : ℕ) (m : Message) (bytes : List ℕ) → SpellsMsg m bytes
         → length bytes ≤ limit → AreSpelled limit (m ∷ []) bytes }
@@ -170,56 +174,56 @@ pub fn joined_are_spelled()
         → AreSpelled limit (messages ++ others) (front ++ after) }
 {}
 
-/// Proves that bytes are split into messages and a rest in one way at most.
+/// Proves that bytes split into messages and a rest in at most one way.
 pub fn one_split()
     ensures { (limit : ℕ) (bytes : List ℕ) (messages others : List Message) (rest after : List ℕ)
         → IsBytes bytes → Split limit bytes messages rest → Split limit bytes others after
         → (messages ≡ others) × (rest ≡ after) }
 {}
 
-/// Proves that messages with open bytes behind them are split before those.
+/// Proves that bytes split into messages and the open bytes that follow them.
 pub fn split_before_open()
     ensures { (limit : ℕ) (messages : List Message) (joined rest : List ℕ)
         → AreSpelled limit messages joined → IsOpen limit rest
         → Split limit (joined ++ rest) messages rest }
 {}
 
-/// Proves that messages with bad bytes behind them are split before those.
+/// Proves that bytes split into messages and the bad bytes that follow them.
 pub fn split_before_bad()
     ensures { (limit : ℕ) (messages : List Message) (joined rest : List ℕ) (f : MsgFault)
         → IsBytes rest → AreSpelled limit messages joined → IsBad limit rest f
         → Split limit (joined ++ rest) messages rest }
 {}
 
-/// Proves that a message in front of split bytes becomes the first of their messages.
+/// Proves that a message before split bytes becomes the first of their messages.
 pub fn split_after_a_message()
     ensures { (limit : ℕ) (bytes after rest : List ℕ) (m : Message) (messages : List Message)
         → IsWhole limit bytes m after → Split limit after messages rest
         → Split limit bytes (m ∷ messages) rest }
 {}
 
-/// Proves that messages in front of split bytes become the first of their messages.
+/// Proves that messages before split bytes become the first of their messages.
 pub fn split_after_messages()
     ensures { (limit : ℕ) (joined after rest : List ℕ) (messages others : List Message)
         → AreSpelled limit messages joined → Split limit after others rest
         → Split limit (joined ++ after) (messages ++ others) rest }
 {}
 
-/// Proves that bytes that come after split bytes are split with the rest of those.
+/// Proves that when more bytes follow split bytes, they are split together with the rest.
 pub fn split_goes_on()
     ensures { (limit : ℕ) (bytes more rest after : List ℕ) (messages others : List Message)
         → Split limit bytes messages rest → Split limit (rest ++ more) others after
         → Split limit (bytes ++ more) (messages ++ others) after }
 {}
 
-/// Proves that bytes that come after a bad rest belong to it.
+/// Proves that when more bytes follow split bytes with a bad rest, they belong to the rest.
 pub fn split_stays_bad()
     ensures { (limit : ℕ) (bytes more rest : List ℕ) (messages : List Message) (f : MsgFault)
         → IsBytes (rest ++ more) → Split limit bytes messages rest → IsBad limit rest f
         → Split limit (bytes ++ more) messages (rest ++ more) }
 {}
 
-/// Proves that bytes are open, have a message in front, or are bad. Reads `bytes` to find out which.
+/// Proves that bytes are open, begin with a message, or are bad. Reads `bytes` to find out which.
 pub fn open_whole_or_bad(bytes: &[u8], limit: u32)
     requires { limit ≤ 48_000_000 }
     ensures { Stands limit bytes.now }

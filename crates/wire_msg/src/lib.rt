@@ -1,18 +1,18 @@
-//! Messages of the MongoDB Wire Protocol's OP_MSG: read, checked and written.
+//! Reads, checks and writes messages of the MongoDB Wire Protocol's OP_MSG.
 //!
 //! A message is a header of 16 bytes (`MsgHeader`), four bytes of flags, and sections: one body,
-//! and any number of document sequences. `RawMsg::parse` runs through every check, and returns the
-//! first fault and its offset if there is one. From then on the type carries the fact that its
-//! bytes are a message, so a walk over it has no errors. Its `Payload` is borrowed from the same
-//! bytes. Nothing of this takes memory. `RawMsg::parse_with` takes some, to sort the names of the body,
-//! so that no names make it slow, and returns the same. `PayloadBuf` is a payload in bytes of its own, to which document sequences
-//! and their documents are appended, and `write_msg` appends the canonical spelling of a message to
-//! bytes.
+//! and any number of document sequences. `RawMsg::parse` runs every check, and returns the first
+//! fault and its offset if there is one. From then on the type carries the fact that its bytes are
+//! a message, so a walk over it has no errors. Its `Payload` is borrowed from the same bytes. None
+//! of this takes memory. `RawMsg::parse_with` returns the same, but takes memory to sort the names
+//! of the body, so that no message is slow to read. `PayloadBuf` is a payload in bytes of its own,
+//! to which document sequences and their documents are appended. `write_msg` appends the canonical
+//! spelling of a message to bytes.
 //!
 //! Checksums aren't verified: a message with one is refused by a cause of its own. Other opcodes
 //! and compression are left out.
 //!
-//! Stands on bson_raw. wire_stream, wire_peer and lughemra stand on it. Read first:
+//! Uses bson_raw. Used by wire_stream, wire_peer, wire_query, wire_text and lughemra. Read first:
 //! `specs/Spelling.antt`, and then `msg` and `front`.
 #![tactic(auto)]
 

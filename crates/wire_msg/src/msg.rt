@@ -1,6 +1,7 @@
-//! A message, borrowed from its bytes (MongoDB Wire Protocol manual: OP_MSG).
+//! Reads a message, borrowed from its bytes (MongoDB Wire Protocol manual: OP_MSG).
 
-ghost use Rattle.std.specs.Prelude.{◌≡◌, ◌+◌, ◌<◌, ◌≤◌, ◌^◌, ℕ, length, MatchResult, IfOk, IfErr, IsOk, IsErrOf};
+ghost use Rattle.std.specs.Prelude.{◌≡◌, ◌+◌, ◌<◌, ◌≤◌, ◌^◌, ℕ, length, MatchResult, IfOk, IfErr};
+ghost use Rattle.std.specs.Prelude.{IsOk, IsErrOf};
 ghost use Rattle.bson_elem.specs.{document, elements};
 ghost use Rattle.bson_raw.specs.{document_bytes};
 ghost use Rattle.wire_msg.specs.declared.fault.MsgFault.{MsgFault};
@@ -23,7 +24,7 @@ use bson_raw::RawDocument;
 use std::alloc::Global;
 use std::convert::AsSlice;
 
-/// Checks the header, and that there are as many bytes as it says.
+/// Checks the header, and that the length in it is the number of bytes.
 fn check_framed(bytes: &[u8], limit: u32) -> Result<(), MsgFault>
     requires { limit ≤ MAX_MESSAGE_LEN }
     ensures { MatchResult result
@@ -41,9 +42,8 @@ fn check_framed(bytes: &[u8], limit: u32) -> Result<(), MsgFault>
     Ok(())
 }
 
-/// Checks the flags and the sections of bytes whose header is good and announces as many bytes,
-/// but for their names. Returns the offset of the body's kind byte, the body, and the offset after
-/// it.
+/// Checks the flags and the sections, but not their names. The header of `bytes` is good and has
+/// their length. Returns the offset of the body's kind byte, the body, and the offset after it.
 fn split_message(bytes: &[u8]) -> Result<(usize, RawDocument<'_>, usize), MsgFault>
     requires { length bytes.now < 2 ^ 31 }
     ensures { MatchResult result
@@ -57,8 +57,8 @@ fn split_message(bytes: &[u8]) -> Result<(usize, RawDocument<'_>, usize), MsgFau
     split_sections(bytes)
 }
 
-/// Checks the flags and the sections of bytes whose header is good and announces as many bytes.
-/// Names are looked up as `Fields::of` tells.
+/// Checks the flags, the sections and their names. The header of `bytes` is good and has their
+/// length. Looks names up in `Fields::of(memory, body)`.
 pub(crate) fn check_parts(memory: Option<Global>, bytes: &[u8]) -> Result<(), MsgFault>
     requires { length bytes.now < 2 ^ 31 }
     ensures { MatchResult result
@@ -69,7 +69,7 @@ pub(crate) fn check_parts(memory: Option<Global>, bytes: &[u8]) -> Result<(), Ms
     check_names(memory, &bytes[SECTIONS..at], body, &bytes[next..])
 }
 
-/// Checks a whole message. Names are looked up as `Fields::of` tells.
+/// Checks a whole message. Looks names up in `Fields::of(memory, body)`.
 fn check_message(memory: Option<Global>, bytes: &[u8], limit: u32) -> Result<(), MsgFault>
     requires { limit ≤ MAX_MESSAGE_LEN }
     ensures { MatchResult result
@@ -80,7 +80,7 @@ fn check_message(memory: Option<Global>, bytes: &[u8], limit: u32) -> Result<(),
     check_parts(memory, bytes)
 }
 
-/// Returns the offset of the body's kind byte, in a message.
+/// Returns the offset of the body's kind byte in a message.
 fn body_offset(bytes: &[u8]) -> usize
     requires { ∥ IsSpelledMsg bytes.now ∥₁ }
     ensures inside { (20 ≤ result) × (result + 6 ≤ length bytes.now) }
@@ -94,7 +94,7 @@ fn body_offset(bytes: &[u8]) -> usize
     at
 }
 
-/// Returns the offset behind the body of a message, whose kind byte stands at offset `at`.
+/// Returns the offset after the body of a message, whose kind byte is at offset `at`.
 fn body_end(bytes: &[u8], at: usize) -> usize
     requires known { ∥ IsSpelledMsg bytes.now ∥₁ }
     requires inside { at + 6 ≤ length bytes.now }
@@ -107,7 +107,7 @@ fn body_end(bytes: &[u8], at: usize) -> usize
     at + 1 + little_u32(&bytes[at + 1..]) as usize
 }
 
-/// A whole message, borrowed from its bytes, which were checked when it was made.
+/// A whole message, borrowed from its bytes. They were checked when it was made.
 #[derive(Clone, Copy, Debug, PartialEq, Eq)]
 pub struct RawMsg<'a> {
     bytes: &'a [u8],
@@ -128,7 +128,7 @@ impl<'a> RawMsg<'a> {
     ghost use Rattle.wire_msg.specs.Carrying.{Carries};
     ghost use Rattle.wire_msg.specs.RawMsg.{msg_bytes};
 
-    /// Reads `bytes` as `parse` does. Names are looked up as `Fields::of` tells.
+    /// Reads `bytes` as `parse` does. Looks names up in `Fields::of(memory, body)`.
     fn read(memory: Option<Global>, bytes: &'a [u8], limit: u32) -> Result<RawMsg<'a>, MsgFault>
         requires { limit ≤ MAX_MESSAGE_LEN }
         ensures { MatchResult result
@@ -139,13 +139,13 @@ impl<'a> RawMsg<'a> {
         Ok(RawMsg { bytes })
     }
 
-    /// Reads `bytes` as one message of at most `limit` bytes. It takes no memory. The body's names
-    /// are compared in pairs, and each identifier with all of them, so the time grows as the square
-    /// of the length: bytes that anyone may send are better read by `parse_with`.
+    /// Reads `bytes` as one message of at most `limit` bytes. Takes no memory. The body's names
+    /// are compared in pairs, and each identifier with all of them, so the time grows with the
+    /// square of the length. Use `parse_with` for bytes from someone you don't trust.
     ///
     /// # Errors
     ///
-    /// The first fault of the bytes and its offset, in the order of the checks.
+    /// Returns the first fault of the bytes and its offset, in the order of the checks.
     pub fn parse(bytes: &'a [u8], limit: u32) -> Result<RawMsg<'a>, MsgFault>
         requires { limit ≤ MAX_MESSAGE_LEN }
         ensures found { IfOk result (λ m.
@@ -158,13 +158,13 @@ impl<'a> RawMsg<'a> {
         RawMsg::read(None, bytes, limit)
     }
 
-    /// Reads `bytes` as `parse` does, but sorts the body's names, which takes memory. Whatever the
-    /// names, the time grows as the length times its logarithm. Where memory is refused, names are
-    /// compared as `parse` compares them, in the time that it takes.
+    /// Reads `bytes` as `parse` does, but sorts the body's names, which takes memory. The time
+    /// grows with the length times its logarithm, whatever the names are. If memory runs out,
+    /// names are compared as `parse` compares them, in as much time.
     ///
     /// # Errors
     ///
-    /// Those of `parse`. Want of memory is none of them.
+    /// Returns the same fault as `parse`. Running out of memory is not an error.
     pub fn parse_with(alloc: Global, bytes: &'a [u8], limit: u32) -> Result<RawMsg<'a>, MsgFault>
         requires { limit ≤ MAX_MESSAGE_LEN }
         ensures found { IfOk result (λ m.
@@ -177,7 +177,7 @@ impl<'a> RawMsg<'a> {
         RawMsg::read(Some(alloc), bytes, limit)
     }
 
-    /// Makes the message of bytes that are known to spell one.
+    /// Makes the message that the bytes are known to spell, without checking them.
     pub fn from_spelled(bytes: &'a [u8]) -> RawMsg<'a>
         requires { ∥ IsSpelledMsg bytes.now ∥₁ }
         ensures { msg_bytes result ≡ bytes.now }
@@ -224,17 +224,19 @@ impl<'a> RawMsg<'a> {
     }
 
     /// Returns moreToCome: on a request, no reply is wanted; on a reply, another one follows.
-    pub fn more(self) -> bool
-        ensures { (m : Message) → SpellsMsg m (msg_bytes self.entry) → result ≡ m.flags.more }
+    pub fn more_to_come(self) -> bool
+        ensures { (m : Message) → SpellsMsg m (msg_bytes self.entry)
+            → result ≡ m.flags.more_to_come }
     {
-        self.flags().more
+        self.flags().more_to_come
     }
 
     /// Returns exhaustAllowed: more than one reply may be sent to this request.
-    pub fn allows_more(self) -> bool
-        ensures { (m : Message) → SpellsMsg m (msg_bytes self.entry) → result ≡ m.flags.allows }
+    pub fn exhaust_allowed(self) -> bool
+        ensures { (m : Message) → SpellsMsg m (msg_bytes self.entry)
+            → result ≡ m.flags.exhaust_allowed }
     {
-        self.flags().allows
+        self.flags().exhaust_allowed
     }
 
     /// Returns the payload: the body and the document sequences.

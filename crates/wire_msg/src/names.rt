@@ -1,4 +1,4 @@
-//! Checks the names of a message: each top-level name of the body stands once, and no identifier is
+//! Checks the names of a message: no top-level name of the body is repeated, and no identifier is
 //! one of them.
 
 ghost use Rattle.std.specs.Prelude.{◌≡◌, ◌+◌, ◌<◌, ◌^◌, length, [], List, MatchResult, Some, None};
@@ -18,8 +18,8 @@ use crate::sequence_iter::split_sequence;
 use bson_raw::RawDocument;
 use std::alloc::Global;
 
-/// Returns the offset of the first of `sequences` whose identifier is one of `fields`. The first
-/// of them stands at offset `start`.
+/// Returns the offset of the first sequence whose identifier is one of `fields`. `sequences` begin
+/// at offset `start`.
 fn offset_in_body(fields: &Fields<'_>, sequences: &[u8], start: usize) -> Option<usize>
     requires known { ∥ HasSequences sequences.now ∥₁ }
     requires room { start + length sequences.now < 2 ^ 64 }
@@ -38,8 +38,8 @@ fn offset_in_body(fields: &Fields<'_>, sequences: &[u8], start: usize) -> Option
     None
 }
 
-/// Checks that no identifier of the sequences `before` and `after` the body is one of `fields`, of
-/// which each stands once.
+/// Checks that no identifier of the sequences `before` and `after` the body is one of `fields`,
+/// none of which is repeated.
 fn check_identifiers(
     fields: &Fields<'_>,
     before: &[u8],
@@ -68,7 +68,8 @@ fn check_identifiers(
     }
 }
 
-/// Checks the names of a message whose sections are known, looked up as `Fields::of` tells.
+/// Checks the names of a message whose sections are known. Looks them up in
+/// `Fields::of(memory, body)`.
 pub(crate) fn check_names(
     memory: Option<Global>,
     before: &[u8],

@@ -1,4 +1,4 @@
-//! The payload of a message, in bytes of its own.
+//! Holds the payload of a message in bytes of its own.
 
 ghost use Rattle.std.specs.Prelude.{◌≡◌, ◌≢◌, ◌+◌, ◌^◌, [], IfOk, OnOk, OnErr, IfErr};
 ghost use Rattle.bson_elem.specs.{Spells, Tree};
@@ -26,7 +26,7 @@ pub struct PayloadBuf {
     body: Vec<u8>,
     /// The sections of the document sequences.
     sequences: Vec<u8>,
-    /// The offset of the last of them; 0 if there is none.
+    /// The offset of the last of them, or 0 if there is none.
     last: usize,
     pub ghost valid: { ∥ IsPayload [] body.items sequences.items ∥₁ },
     pub ghost last_is: { IsLastOffset sequences.items last },
@@ -38,13 +38,13 @@ impl PayloadBuf {
     ghost use Rattle.wire_msg.specs.Buf.{IsBodyRefusal, IsSequenceRefusal, IsDocumentRefusal};
     ghost use Rattle.wire_msg.specs.Carrying.{Carries};
 
-    /// Makes the payload of a body and no document sequence.
+    /// Makes a payload of this body and no document sequence. Names are looked up as by
+    /// `RawMsg::parse_with`.
     ///
     /// # Errors
     ///
-    /// `RepeatedField` if a top-level name of the body stands twice; else `TooLarge` if its message
-    /// would have more than 2,147,483,647 bytes; else `OutOfMemory`. Names are looked up as
-    /// `RawMsg::parse_with` looks them up.
+    /// Returns `RepeatedField` if a top-level name of the body is repeated; else `TooLarge` if the
+    /// message would have more than 2,147,483,647 bytes; else `OutOfMemory`.
     pub fn new(alloc: Global, body: RawDocument<'_>) -> Result<PayloadBuf, MsgRefusal>
         ensures made { (t : Tree) → Spells t (document_bytes body.entry)
             → IfOk result (λ b. BufCarries b (body_alone t)) }
@@ -64,7 +64,7 @@ impl PayloadBuf {
         Ok(PayloadBuf::of_parts(body, Vec::new(alloc)))
     }
 
-    /// Makes a payload of parts that are known to be those of one.
+    /// Makes a payload of parts that are known to be those of a payload.
     pub(crate) fn of_parts(body: Vec<u8>, sequences: Vec<u8>) -> PayloadBuf
         requires { ∥ IsPayload [] body.items sequences.items ∥₁ }
         ensures { (c : Content) → AreParts [] body.items sequences.items c → BufCarries result c }
@@ -81,7 +81,7 @@ impl PayloadBuf {
     ///
     /// # Errors
     ///
-    /// Want of memory.
+    /// Returns `AllocError` if memory runs out.
     pub fn try_clone(&self) -> Result<PayloadBuf, AllocError>
         ensures { IfOk result (HasSameBytes self.now) }
     {
@@ -95,7 +95,7 @@ impl PayloadBuf {
         })
     }
 
-    /// Returns the payload, borrowed.
+    /// Borrows the payload.
     pub fn as_payload(&self) -> Payload<'_>
         ensures { (c : Content) → BufCarries self.now c → Carries result c }
     {
@@ -103,21 +103,21 @@ impl PayloadBuf {
         Payload::of_parts(&[], body, &self.sequences)
     }
 
-    /// Returns how many bytes more the message may have.
+    /// Returns the number of bytes that may be added to the message.
     fn room(&self) -> u64
         ensures { (c : Content) → BufCarries self.now c → result + message_len c + 1 ≡ 2 ^ 31 }
     {
         MAX_LEN - self.as_payload().msg_len()
     }
 
-    /// Appends an empty document sequence with this identifier. The identifier may be empty, and
-    /// may be that of another sequence. After an error the payload is as it was.
+    /// Appends an empty document sequence with this identifier, which may be empty, and may be
+    /// that of another sequence. After an error the payload is unchanged.
     ///
     /// # Errors
     ///
-    /// `SequenceInBody` if the identifier is a top-level name of the body, or `ZeroInName` if it
-    /// has a 00 in it; else `TooLarge` if the message would have more than 2,147,483,647 bytes;
-    /// else `OutOfMemory`.
+    /// Returns `SequenceInBody` if the identifier is a top-level name of the body, or `ZeroInName`
+    /// if it has a 00 in it; else `TooLarge` if the message would have more than 2,147,483,647
+    /// bytes; else `OutOfMemory`.
     pub fn begin_sequence(&mut self, identifier: &str) -> Result<(), MsgRefusal>
         ensures added { (c : Content) → BufCarries self.old c
             → OnOk result (BufCarries self.new (with_sequence c identifier.now)) }
@@ -142,12 +142,12 @@ impl PayloadBuf {
         Ok(())
     }
 
-    /// Appends a document to the last document sequence. After an error the payload is as it was.
+    /// Appends a document to the last document sequence. After an error the payload is unchanged.
     ///
     /// # Errors
     ///
-    /// `NoSequence` if the payload has no document sequence; else `TooLarge` if the message would
-    /// have more than 2,147,483,647 bytes; else `OutOfMemory`.
+    /// Returns `NoSequence` if the payload has no document sequence; else `TooLarge` if the
+    /// message would have more than 2,147,483,647 bytes; else `OutOfMemory`.
     pub fn push_document(&mut self, document: RawDocument<'_>) -> Result<(), MsgRefusal>
         ensures begun { (c : Content) → BufCarries self.old c → OnOk result (c.sequences ≢ []) }
         ensures added { (c : Content) (t : Tree) → BufCarries self.old c

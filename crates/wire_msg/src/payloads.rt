@@ -1,4 +1,4 @@
-//! The payload of a message, borrowed from its bytes: a body and document sequences.
+//! Borrows the payload of a message, a body and document sequences, from its bytes.
 
 ghost use Rattle.std.specs.Prelude.{◌≡◌, ◌++◌, [], IfOk, OnOk, OnErr};
 ghost use Rattle.std.specs.Io.{StartsWith};
@@ -21,7 +21,7 @@ pub struct Payload<'a> {
     /// The sections before the body.
     before: &'a [u8],
     body: RawDocument<'a>,
-    /// The sections behind the body.
+    /// The sections after the body.
     after: &'a [u8],
     pub ghost valid: { ∥ IsPayload before.now (document_bytes body) after.now ∥₁ },
 }
@@ -31,7 +31,7 @@ impl<'a> Payload<'a> {
     ghost use Rattle.wire_msg.specs.Carrying.{Carries};
     ghost use Rattle.wire_msg.specs.Sequences.{SequencesLeft};
 
-    /// Makes a payload of parts that are known to be those of one.
+    /// Makes a payload of parts that are known to be those of a payload.
     pub(crate) fn of_parts(before: &'a [u8], body: RawDocument<'a>, after: &'a [u8]) -> Payload<'a>
         requires { ∥ IsPayload before.now (document_bytes body) after.now ∥₁ }
         ensures { (c : Content) → AreParts before.now (document_bytes body.entry) after.now c
@@ -66,8 +66,8 @@ impl<'a> Payload<'a> {
         (SECTIONS + sections) as u64
     }
 
-    /// Appends the sections of a message, the body first. Where memory is refused, some of their
-    /// bytes may stand in `out`.
+    /// Appends the sections of a message, the body first. If memory runs out, `out` may end with
+    /// some of their bytes.
     pub(crate) fn write_sections(self, out: &mut Vec<u8>) -> Result<(), AllocError>
         ensures added { (c : Content) → Carries self.entry c
             → OnOk result (out.new.items
@@ -84,7 +84,7 @@ impl<'a> Payload<'a> {
     ///
     /// # Errors
     ///
-    /// Want of memory.
+    /// Returns `AllocError` if memory runs out.
     pub fn to_buf(self, alloc: Global) -> Result<PayloadBuf, AllocError>
         ensures { (c : Content) → Carries self.entry c → IfOk result (λ b. BufCarries b c) }
     {

@@ -10,22 +10,22 @@ use std::fmt;
 /// Why a message or a payload is refused.
 #[derive(Clone, Copy, Debug, PartialEq, Eq)]
 pub enum MsgRefusal {
-    /// The message would have more bytes than the limit. For a payload, more than 2,147,483,647.
+    /// The message would have more bytes than the limit, or a payload more than 2,147,483,647.
     TooLarge,
-    /// A top-level name of the body stands twice.
+    /// A top-level name of the body is repeated.
     RepeatedField,
     /// The identifier of a document sequence is a top-level name of the body.
     SequenceInBody,
     /// An identifier has a 00 in it.
     ZeroInName,
-    /// A document was pushed before a sequence was begun.
+    /// A document was pushed before any sequence was begun.
     NoSequence,
-    /// The allocator refused memory.
+    /// Memory ran out.
     OutOfMemory,
 }
 
 impl MsgRefusal {
-    /// Returns what the refusal displays as.
+    /// Returns the text that displays the refusal.
     fn text(self) -> &'static str
         ensures { result.now ≡ refusal_text self }
     {

@@ -12,11 +12,11 @@ use bson_raw::RawDocument;
 /// The kind byte of a body.
 const BODY: u8 = 0;
 
-/// The offset of the sections: behind the header and the flags.
+/// The offset of the sections, after the header and the flags.
 pub(crate) const SECTIONS: usize = 20;
 
 /// Checks the sections of a message, which are one body and any number of document sequences, but
-/// for their names. Returns the offset of the body's kind byte, the body, and the offset behind it.
+/// not their names. Returns the offset of the body's kind byte, the body, and the offset after it.
 pub(crate) fn split_sections(bytes: &[u8]) -> Result<(usize, RawDocument<'_>, usize), MsgFault>
     requires short { length bytes.now < 2 ^ 31 }
     requires inside { 20 ≤ length bytes.now }

@@ -1,6 +1,7 @@
 //! Checks document sequences (MongoDB Wire Protocol manual: OP_MSG, sections of kind 1).
 
-ghost use Rattle.std.specs.Prelude.{◌≡◌, ◌+◌, ◌<◌, ◌≤◌, ◌^◌, length, drop, MatchOption, MatchResult, IfErr};
+ghost use Rattle.std.specs.Prelude.{◌≡◌, ◌+◌, ◌<◌, ◌≤◌, ◌^◌, length, drop, MatchOption};
+ghost use Rattle.std.specs.Prelude.{MatchResult, IfErr};
 ghost use Rattle.wire_msg.specs.Header.{number_at};
 ghost use Rattle.wire_msg.specs.Causes.{msg_fault};
 ghost use Rattle.wire_msg.specs.Faults.{DocumentsFault, IsSized, SequenceFault};
@@ -20,7 +21,7 @@ pub(crate) fn fault_at(at: usize, cause: MsgCause) -> MsgFault
     MsgFault { at, cause }
 }
 
-/// Checks documents back to back, which begin at offset `start` of the message.
+/// Checks documents one after another, which begin at offset `start` of the message.
 fn check_documents(bytes: &[u8], start: usize) -> Result<(), MsgFault>
     requires { start + length bytes.now < 2 ^ 64 }
     ensures { MatchResult result
@@ -40,7 +41,8 @@ fn check_documents(bytes: &[u8], start: usize) -> Result<(), MsgFault>
     Ok(())
 }
 
-/// Reads the size that begins `bytes`, if it is that of a sequence which they can hold.
+/// Reads the size at the front of `bytes`. Returns `None` if no document sequence of that size
+/// fits in them.
 fn size_of(bytes: &[u8]) -> Option<usize>
     ensures { MatchOption result
         (IsSized bytes.now → ⊥)
@@ -56,8 +58,8 @@ fn size_of(bytes: &[u8]) -> Option<usize>
     Some(size)
 }
 
-/// Checks the document sequence whose kind byte stands at offset `at`, and which `bytes`, those
-/// behind that byte, begin with. Returns its size.
+/// Checks the document sequence at the front of `bytes`, which follow its kind byte, at offset
+/// `at`. Returns its size.
 fn check_sequence(bytes: &[u8], at: usize) -> Result<usize, MsgFault>
     requires short { length bytes.now < 2 ^ 31 }
     requires room { at + length bytes.now + 1 < 2 ^ 64 }
@@ -77,7 +79,7 @@ fn check_sequence(bytes: &[u8], at: usize) -> Result<usize, MsgFault>
     }
 }
 
-/// Checks the document sequences from offset `start` on. Returns the offset behind the last.
+/// Checks the document sequences from offset `start` on. Returns the offset after the last one.
 pub(crate) fn check_sequences(bytes: &[u8], start: usize) -> Result<usize, MsgFault>
     requires short { length bytes.now < 2 ^ 31 }
     requires inside { start ≤ length bytes.now }

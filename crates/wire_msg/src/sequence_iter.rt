@@ -1,4 +1,4 @@
-//! The document sequences of a payload, borrowed from its bytes.
+//! Walks over the document sequences of a payload, borrowed from its bytes.
 
 ghost use Rattle.std.specs.Prelude.{◌≡◌, ◌≢◌, ◌+◌, ◌<◌, ◌≤◌, ◌++◌, ◌∷◌, List, ℕ, length};
 ghost use Rattle.std.specs.Iterator.{at_most};
@@ -10,7 +10,7 @@ ghost use Rattle.wire_msg.specs.Known.{ArePartsOf, AreRuns, BeginsSequence, IsLa
 use crate::document_iter::Documents;
 use bson_elem::{little_u32, read_cstring};
 
-/// Reads the size of the sequence that is known to begin `bytes`.
+/// Reads the size of the sequence that `bytes` are known to begin with.
 pub(crate) fn known_size(bytes: &[u8]) -> usize
     requires { ∥ BeginsSequence bytes.now ∥₁ }
     ensures within { (5 ≤ result) × (1 + result ≤ length bytes.now) }
@@ -20,7 +20,7 @@ pub(crate) fn known_size(bytes: &[u8]) -> usize
     little_u32(&bytes[1..]) as usize
 }
 
-/// Splits sequences into the identifier and the documents of the first of them, and the others.
+/// Splits sequences into the identifier of the first, its documents, and the others.
 pub(crate) fn split_sequence(bytes: &[u8]) -> (&str, &[u8], &[u8])
     requires some { length bytes.now ≢ 0 }
     requires known { ∥ HasSequences bytes.now ∥₁ }
@@ -50,7 +50,7 @@ pub(crate) fn last_offset(bytes: &[u8]) -> usize
     last
 }
 
-/// Returns two runs of sequences, but the second and none if the first is used up.
+/// Returns the two runs of sequences, or the second run and an empty one if the first is used up.
 fn next_run<'a>(bytes: &'a [u8], then: &'a [u8]) -> (&'a [u8], &'a [u8])
     requires first { ∥ HasSequences bytes.now ∥₁ }
     requires last { ∥ HasSequences then.now ∥₁ }
@@ -68,8 +68,8 @@ fn next_run<'a>(bytes: &'a [u8], then: &'a [u8]) -> (&'a [u8], &'a [u8])
     }
 }
 
-/// An iterator over document sequences, each as its identifier and its documents. After the last of
-/// them it gives nothing more.
+/// Iterates over document sequences, each as its identifier and its documents. After the last one
+/// it returns `None` for ever.
 #[derive(Debug, Drop)]
 pub struct SequencesIter<'a> {
     bytes: &'a [u8],
@@ -79,8 +79,8 @@ pub struct SequencesIter<'a> {
 }
 
 impl<'a> SequencesIter<'a> {
-    /// Makes an iterator over the sequences of `bytes` and then those of `then`, which are known to be
-    /// sequences.
+    /// Makes an iterator over the sequences of `bytes` and then those of `then`. Both are known to
+    /// be sequences.
     pub(crate) fn of_known(bytes: &'a [u8], then: &'a [u8]) -> SequencesIter<'a>
         requires first { ∥ HasSequences bytes.now ∥₁ }
         requires last { ∥ HasSequences then.now ∥₁ }

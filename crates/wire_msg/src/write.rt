@@ -1,5 +1,5 @@
-//! Writes messages, each in its canonical spelling (MongoDB Wire Protocol manual: OP_MSG): the body
-//! before the document sequences, and no flag bit set that means nothing.
+//! Writes messages in their canonical spelling (MongoDB Wire Protocol manual: OP_MSG): the body
+//! comes before the document sequences, and no meaningless flag bit is set.
 
 ghost use Rattle.std.specs.Prelude.{◌≡◌, ◌≤◌, ◌++◌, OnOk, OnErr, IfErr};
 ghost use Rattle.std.specs.Io.{StartsWith};
@@ -16,7 +16,7 @@ use crate::refusal::MsgRefusal;
 use byteorder::{ByteOrder, LittleEndian};
 use std::alloc::AllocError;
 
-/// Appends a number of four bytes, the lowest first.
+/// Appends a number as four bytes, lowest byte first.
 fn write_u32(n: u32, out: &mut Vec<u8>) -> Result<(), AllocError>
     ensures added { OnOk result (out.new.items ≡ out.old.items ++ little n) }
     ensures kept { OnErr result (StartsWith out.new.items out.old.items) }
@@ -38,8 +38,8 @@ fn write_i32(n: i32, out: &mut Vec<u8>) -> Result<(), AllocError>
 
 /// Appends the header of a message of `len` bytes.
 fn write_header(len: u32, id: i32, response_to: i32, out: &mut Vec<u8>) -> Result<(), AllocError>
-    ensures added { OnOk result (out.new.items
-        ≡ out.old.items ++ header_bytes len id response_to) }
+    ensures added { OnOk result
+        (out.new.items ≡ out.old.items ++ header_bytes len id response_to) }
     ensures kept { OnErr result (StartsWith out.new.items out.old.items) }
 {
     write_u32(len, out)?;
@@ -48,7 +48,7 @@ fn write_header(len: u32, id: i32, response_to: i32, out: &mut Vec<u8>) -> Resul
     write_i32(OP_MSG, out)
 }
 
-/// Appends a message of `len` bytes. Where memory is refused, some of them may stand in `out`.
+/// Appends a message of `len` bytes. If memory runs out, `out` may end with some of them.
 fn write_parts(
     out: &mut Vec<u8>,
     len: u32,
@@ -76,8 +76,8 @@ fn write_parts(
 ///
 /// # Errors
 ///
-/// `TooLarge` if the message has more than `limit` bytes, and else `OutOfMemory`. Then `out` is as it
-/// was.
+/// Returns `TooLarge` if the message has more than `limit` bytes, and otherwise `OutOfMemory`.
+/// Then `out` is unchanged.
 pub fn write_msg(
     out: &mut Vec<u8>,
     id: i32,

@@ -72,8 +72,8 @@ fn a_fault_displays_as_its_line(rt: HostRuntime) {
 fn is_ping(msg: RawMsg<'_>, bytes: &[u8]) -> bool {
     msg.id() == 1
         && msg.response_to() == 0
-        && !msg.more()
-        && !msg.allows_more()
+        && !msg.more_to_come()
+        && !msg.exhaust_allowed()
         && msg.as_bytes() == bytes
 }
 
@@ -414,7 +414,9 @@ fn the_first_of_two_faults_is_told(rt: HostRuntime) {
 fn bytes_have_flag(bytes: &[u8], bit: u32) -> bool {
     match RawMsg::parse(bytes, LIMIT) {
         Ok(msg) => {
-            (bit == 1 || bit >= 16) && msg.more() == (bit == 1) && msg.allows_more() == (bit == 16)
+            (bit == 1 || bit >= 16)
+                && msg.more_to_come() == (bit == 1)
+                && msg.exhaust_allowed() == (bit == 16)
         }
         Err(fault) => {
             let cause = if bit == 0 {

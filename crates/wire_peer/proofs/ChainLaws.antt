@@ -24,7 +24,7 @@ same_longer limit id id' to to' (c ∷ cs) = ap (λ (b : Bool). if nat_lt limit 
 
 -- a reply whose id is given as an int32
 abbrev pub reply_with : ℤ → ℤ → Bool → Content → Message
-reply_with id to more answer = record { id = id; response_to = to; flags = record { more = more; allows = false }; content = answer }
+reply_with id to more answer = record { id = id; response_to = to; flags = record { more_to_come = more; exhaust_allowed = false }; content = answer }
 
 -- a chain within the limit has a first reply within it, and others
 pub first_within : (limit id : ℕ) (to : ℤ) (c : Content) (cs : List Content) → is_longer limit (chain id to (c ∷ cs)) ≡ false

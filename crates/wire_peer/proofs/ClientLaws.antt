@@ -108,35 +108,35 @@ ErrIs (Err d) e = d ≡ e
 
 -- a message that is a reply
 pub settles_reply : (k : ClientSeen) (reply : ReadyReply) (new : RequestState) → IsMessage k.requests.limit k.held
-    → ((m : Message) → SpellsMsg m k.held → IsReceived k.requests.outstanding m.id m.flags.more (allowed m.flags.more (owner k.requests.outstanding m.response_to)) (Ok reply) new.outstanding)
+    → ((m : Message) → SpellsMsg m k.held → IsReceived k.requests.outstanding m.id m.flags.more_to_come (allowed m.flags.more_to_come (owner k.requests.outstanding m.response_to)) (Ok reply) new.outstanding)
     → new ≡ record (k.requests) { outstanding = new.outstanding }
     → Settles k (record k { requests = new; reply = Some reply })
 settles_reply k reply new whole told others =
     let m : Message = whole.1.0 in
-    is_message m whole.1.1 whole.0 (by (allowed m.flags.more (owner k.requests.outstanding m.response_to)) (told m whole.1.1))
+    is_message m whole.1.1 whole.0 (by (allowed m.flags.more_to_come (owner k.requests.outstanding m.response_to)) (told m whole.1.1))
   where
-    by : (o : Result (ℤ × Outstanding) ClientCause) → IsReceived k.requests.outstanding whole.1.0.id whole.1.0.flags.more o (Ok reply) new.outstanding
+    by : (o : Result (ℤ × Outstanding) ClientCause) → IsReceived k.requests.outstanding whole.1.0.id whole.1.0.flags.more_to_come o (Ok reply) new.outstanding
         → record k { requests = new; reply = Some reply } ≡ received k whole.1.0 o
     by (Ok o) r =
-        let table : new ≡ record (k.requests) { outstanding = after_reply k.requests.outstanding o whole.1.0.id whole.1.0.flags.more } =
+        let table : new ≡ record (k.requests) { outstanding = after_reply k.requests.outstanding o whole.1.0.id whole.1.0.flags.more_to_come } =
         others ∙ ap (λ (t : Table). record (k.requests) { outstanding = t }) r.1 in
-        let same : reply ≡ reply_to o whole.1.0.flags.more = subst (λ (x : Result ReadyReply ClientCause). OkIs x (reply_to o whole.1.0.flags.more)) (sym r.0) refl in
+        let same : reply ≡ reply_to o whole.1.0.flags.more_to_come = subst (λ (x : Result ReadyReply ClientCause). OkIs x (reply_to o whole.1.0.flags.more_to_come)) (sym r.0) refl in
         ap (λ (x : RequestState). record k { requests = x; reply = Some reply }) table
-        ∙ ap (λ (x : ReadyReply). record k { requests = record (k.requests) { outstanding = after_reply k.requests.outstanding o whole.1.0.id whole.1.0.flags.more }; reply = Some x }) same
+        ∙ ap (λ (x : ReadyReply). record k { requests = record (k.requests) { outstanding = after_reply k.requests.outstanding o whole.1.0.id whole.1.0.flags.more_to_come }; reply = Some x }) same
     by (Err cause) r = absurd (subst (λ (x : Result ReadyReply ClientCause). ErrIs x cause) (sym r.0) refl)
 
 -- a message that belongs to no call
 pub settles_refused : (k : ClientSeen) (cause : ClientCause) (new : RequestState) → k.state ≡ Open → IsMessage k.requests.limit k.held
-    → ((m : Message) → SpellsMsg m k.held → IsReceived k.requests.outstanding m.id m.flags.more (allowed m.flags.more (owner k.requests.outstanding m.response_to)) (Err cause) new.outstanding)
+    → ((m : Message) → SpellsMsg m k.held → IsReceived k.requests.outstanding m.id m.flags.more_to_come (allowed m.flags.more_to_come (owner k.requests.outstanding m.response_to)) (Err cause) new.outstanding)
     → new ≡ record (k.requests) { outstanding = new.outstanding }
     → Settles k (record k { requests = new; state = Closed cause })
 settles_refused k cause new live whole told others =
     let m : Message = whole.1.0 in
-    is_message m whole.1.1 whole.0 (by (allowed m.flags.more (owner k.requests.outstanding m.response_to)) (told m whole.1.1))
+    is_message m whole.1.1 whole.0 (by (allowed m.flags.more_to_come (owner k.requests.outstanding m.response_to)) (told m whole.1.1))
   where
-    by : (o : Result (ℤ × Outstanding) ClientCause) → IsReceived k.requests.outstanding whole.1.0.id whole.1.0.flags.more o (Err cause) new.outstanding
+    by : (o : Result (ℤ × Outstanding) ClientCause) → IsReceived k.requests.outstanding whole.1.0.id whole.1.0.flags.more_to_come o (Err cause) new.outstanding
         → record k { requests = new; state = Closed cause } ≡ received k whole.1.0 o
-    by (Ok o) r = absurd (subst (λ (x : Result ReadyReply ClientCause). OkIs x (reply_to o whole.1.0.flags.more)) (sym r.0) refl)
+    by (Ok o) r = absurd (subst (λ (x : Result ReadyReply ClientCause). OkIs x (reply_to o whole.1.0.flags.more_to_come)) (sym r.0) refl)
     by (Err other) r =
         let table : new ≡ k.requests = others ∙ ap (λ (t : Table). record (k.requests) { outstanding = t }) r.1 in
         let same : cause ≡ other = subst (λ (x : Result ReadyReply ClientCause). ErrIs x other) (sym r.0) refl in

@@ -21,9 +21,9 @@ allows_more Unacknowledged = false
 
 -- a plain request has no flag, an exhaust one exhaustAllowed, and an unacknowledged one moreToCome
 abbrev pub request_flags : CallKind → MsgFlags
-request_flags Plain = record { more = false; allows = false }
-request_flags Exhaust = record { more = false; allows = true }
-request_flags Unacknowledged = record { more = true; allows = false }
+request_flags Plain = record { more_to_come = false; exhaust_allowed = false }
+request_flags Exhaust = record { more_to_come = false; exhaust_allowed = true }
+request_flags Unacknowledged = record { more_to_come = true; exhaust_allowed = false }
 
 -- the request of a call under an id
 abbrev pub request : ℤ → CallKind → Content → Message

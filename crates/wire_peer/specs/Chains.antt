@@ -13,7 +13,7 @@ are_left (a ∷ answers) = true
 
 -- a reply with this id to this id: whether another one follows it, and the answer
 abbrev pub reply : ℕ → ℤ → Bool → Content → Message
-reply id to more answer = record { id = pos id; response_to = to; flags = record { more = more; allows = false }; content = answer }
+reply id to more answer = record { id = pos id; response_to = to; flags = record { more_to_come = more; exhaust_allowed = false }; content = answer }
 
 -- The replies with these answers, with ids from one on: the first to this id, each later one to the reply before it.
 abbrev pub chain : ℕ → ℤ → List Content → List Message
@@ -27,10 +27,10 @@ id_after id (a ∷ answers) = id_after (id_after_one id) answers
 
 -- the replies to a request of this id: none where none is wanted
 abbrev pub replies : ℕ → ℤ → Asked → List Content → List Message
-replies id to a answers = if a.silent then [] else chain id to answers
+replies id to a answers = if a.more_to_come then [] else chain id to answers
 
 abbrev pub next_id : ℕ → Asked → List Content → ℕ
-next_id id a answers = if a.silent then id else id_after id answers
+next_id id a answers = if a.more_to_come then id else id_after id answers
 
 -- the messages, each in its canonical spelling, joined
 abbrev pub written : List Message → List ℕ

@@ -69,14 +69,14 @@ closed k cause = record k { state = state_after k.state cause }
 -- the message belongs to this call, or to none
 abbrev pub received : ClientSeen → Message → Result (ℤ × Outstanding) ClientCause → ClientSeen
 received k m (Ok o) = record k {
-  requests = record (k.requests) { outstanding = after_reply k.requests.outstanding o m.id m.flags.more };
-  reply = Some (reply_to o m.flags.more);
+  requests = record (k.requests) { outstanding = after_reply k.requests.outstanding o m.id m.flags.more_to_come };
+  reply = Some (reply_to o m.flags.more_to_come);
 }
 received k m (Err cause) = closed k cause
 
 -- the message is the next reply to the call that it belongs to
 abbrev pub after_message : ClientSeen → Message → ClientSeen
-after_message k m = received k m (allowed m.flags.more (owner k.requests.outstanding m.response_to))
+after_message k m = received k m (allowed m.flags.more_to_come (owner k.requests.outstanding m.response_to))
 
 -- what the bytes that the client holds make of it: they are open, a message, or bad
 pub data Settles (k new : ClientSeen) : Type 0 where

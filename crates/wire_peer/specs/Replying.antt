@@ -23,7 +23,7 @@ PushStep to answers (Err refusals.OutOfMemory) s s' = (is_longer s.limit (chain 
 abbrev pub PutStep : ℤ → Asked → List Content → Result (Unit {0}) ReplyRefusal → ReplyState → ReplyState → Type 0
 PutStep to a answers (Ok _) s s' = (is_longer s.limit (replies s.next to a answers) ≡ false) × (s' ≡ put s (replies s.next to a answers) (next_id s.next a answers))
 PutStep to a answers (Err refusals.TooLarge) s s' = (is_longer s.limit (replies s.next to a answers) ≡ true) × (s' ≡ s)
-PutStep to a answers (Err refusals.OutOfMemory) s s' = (a.silent ≡ false) × (is_longer s.limit (replies s.next to a answers) ≡ false) × (s' ≡ s)
+PutStep to a answers (Err refusals.OutOfMemory) s s' = (a.more_to_come ≡ false) × (is_longer s.limit (replies s.next to a answers) ≡ false) × (s' ≡ s)
 
 -- From a state and a log into a state and a log the handler gave these answers to a request over a connection.
 pub record IsAnswered {H : Type 0} (does : Does H) (connection : ℕ) (a : Asked) (answers : List Content) (h : H) (log : List LogEntry) (h' : H) (log' : List LogEntry) : Type 0 where
@@ -44,4 +44,4 @@ ReplyStep does stops connection id a (Err TooLarge) h log s h' log' s' =
     (answers : List Content) × IsAnswered does connection a answers h log h' log' × (is_longer s.limit (replies s.next id a answers) ≡ true) × (s' ≡ s)
 ReplyStep does stops connection id a (Err NoMemory) h log s h' log' s' =
     (answers : List Content) × IsAnswered does connection a answers h log h' log'
-    × (a.silent ≡ false) × (is_longer s.limit (replies s.next id a answers) ≡ false) × (s' ≡ s)
+    × (a.more_to_come ≡ false) × (is_longer s.limit (replies s.next id a answers) ≡ false) × (s' ≡ s)

@@ -124,7 +124,7 @@ last_replies l = replies_to (last_id 1 l.early l.past) l.message l.entry.answers
 -- replies, none of which is longer than the limit.
 abbrev pub WantedMemory : {H : Type 0} → Stops H → ℕ → H → Message → List Message → Option (List Content) → H → Type 0
 WantedMemory stops limit h m rs None h' = stops h (asked_by m) stop.OutOfMemory h'
-WantedMemory stops limit h m rs (Some answers) h' = (m.flags.more ≡ false) × (is_longer limit rs ≡ false)
+WantedMemory stops limit h m rs (Some answers) h' = (m.flags.more_to_come ≡ false) × (is_longer limit rs ≡ false)
 
 -- What each end of serving says of the log and the link before and now, of the messages that have entries, those entries, what
 -- was sent, and what was received behind those messages.

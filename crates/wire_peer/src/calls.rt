@@ -25,12 +25,12 @@ impl CallKind {
         match self {
             CallKind::Plain => MsgFlags::NONE,
             CallKind::Exhaust => MsgFlags {
-                more: false,
-                allows: true,
+                more_to_come: false,
+                exhaust_allowed: true,
             },
             CallKind::Unacknowledged => MsgFlags {
-                more: true,
-                allows: false,
+                more_to_come: true,
+                exhaust_allowed: false,
             },
         }
     }

@@ -65,14 +65,14 @@ impl Model for Client {
 fn receive(reader: &MsgReader, requests: &mut RequestBuf) -> Result<ReadyReply, ClientCause>
     requires { IsMessage reader.now.limit reader.now.held }
     ensures received { (m : Message) → SpellsMsg m reader.now.held
-        → IsReceived requests.old.outstanding m.id m.flags.more
-        (allowed m.flags.more (owner requests.old.outstanding m.response_to)) result requests.new.outstanding }
+        → IsReceived requests.old.outstanding m.id m.flags.more_to_come
+        (allowed m.flags.more_to_come (owner requests.old.outstanding m.response_to)) result requests.new.outstanding }
     ensures others { requests.new ≡ record (requests.old) { outstanding = requests.new.outstanding } }
 {
     let Some(message) = reader.message() else {
         unreachable!()
     };
-    requests.receive(message.id(), message.response_to(), message.more())
+    requests.receive(message.id(), message.response_to(), message.more_to_come())
 }
 
 impl Client {

@@ -155,7 +155,7 @@ fn put_replies(
 ) -> Result<(), ReplyRefusal>
     ensures { PutStep id (asked request.now) (answers_of answers.now) result replies.old replies.new }
 {
-    if request.silent {
+    if request.more_to_come {
         Ok(())
     } else {
         replies.push(id, answers)

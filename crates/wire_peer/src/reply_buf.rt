@@ -154,8 +154,8 @@ fn write_reply(
     ensures unchanged { result ≡ false → out.new ≡ out.old }
 {
     let flags = MsgFlags {
-        more,
-        allows: false,
+        more_to_come: more,
+        exhaust_allowed: false,
     };
     out.push_msg(id as i32, to, flags, answer.as_payload(), limit)
         .is_ok()

@@ -12,9 +12,9 @@ pub struct Request<'a> {
     /// The body and the document sequences.
     pub payload: Payload<'a>,
     /// exhaustAllowed: more than one reply may be sent.
-    pub allows: bool,
+    pub exhaust_allowed: bool,
     /// moreToCome: no reply is wanted.
-    pub silent: bool,
+    pub more_to_come: bool,
 }
 
 impl Request<'_> {
@@ -22,7 +22,7 @@ impl Request<'_> {
     pub fn takes_more(&self) -> bool
         ensures { result ≡ takes_more (asked self.now) }
     {
-        self.allows && !self.silent
+        self.exhaust_allowed && !self.more_to_come
     }
 }
 
@@ -32,7 +32,7 @@ pub(crate) fn request_of(message: RawMsg<'_>) -> Request<'_>
 {
     Request {
         payload: message.payload(),
-        allows: message.allows_more(),
-        silent: message.more(),
+        exhaust_allowed: message.exhaust_allowed(),
+        more_to_come: message.more_to_come(),
     }
 }

@@ -91,10 +91,12 @@ fn takes_requests(server: &mut Server) -> bool {
 }
 
 /// Returns true if the first request that waits has this body, allows more so, and isn't silent.
-fn is_first(server: &Server, body: &[u8], allows: bool) -> bool {
+fn is_first(server: &Server, body: &[u8], exhaust_allowed: bool) -> bool {
     match server.request(0) {
         Some(request) => {
-            request.payload.body().as_bytes() == body && request.allows == allows && !request.silent
+            request.payload.body().as_bytes() == body
+                && request.exhaust_allowed == exhaust_allowed
+                && !request.more_to_come
         }
         None => false,
     }

@@ -57,29 +57,41 @@ fn count_to(answers: &[PayloadBuf], number: u8) -> bool {
 }
 
 /// Returns true if a request of this payload is counted up to this number.
-fn is_counted(alloc: Global, payload: &PayloadBuf, allows: bool, silent: bool, number: u8) -> bool {
+fn is_counted(
+    alloc: Global,
+    payload: &PayloadBuf,
+    exhaust_allowed: bool,
+    more_to_come: bool,
+    number: u8,
+) -> bool {
     let request = Request {
         payload: payload.as_payload(),
-        allows,
-        silent,
+        exhaust_allowed,
+        more_to_come,
     };
     let mut answers = Answers::new(alloc);
     Count.respond(&request, &mut answers) == Ok(()) && count_to(answers.as_slice(), number)
 }
 
 /// Like `is_counted`, with the payload made of the body.
-fn counts(alloc: Global, body: &[u8], allows: bool, silent: bool, number: u8) -> bool {
+fn counts(
+    alloc: Global,
+    body: &[u8],
+    exhaust_allowed: bool,
+    more_to_come: bool,
+    number: u8,
+) -> bool {
     match payload_of(alloc, body) {
-        Some(payload) => is_counted(alloc, &payload, allows, silent, number),
+        Some(payload) => is_counted(alloc, &payload, exhaust_allowed, more_to_come, number),
         None => false,
     }
 }
 
 #[test]
 fn the_field_s_is_counted(rt: HostRuntime) {
-    for (body, allows, silent, number) in &COUNTED {
+    for (body, exhaust_allowed, more_to_come, number) in &COUNTED {
         assert!(rt;
-            counts(rt.alloc(), body, *allows, *silent, *number),
+            counts(rt.alloc(), body, *exhaust_allowed, *more_to_come, *number),
             "{body:?}"
         );
     }
@@ -97,8 +109,8 @@ fn is_alone(answers: &[PayloadBuf], payload: &PayloadBuf) -> bool {
 fn echoes<H: Handler>(alloc: Global, handler: &mut H, payload: &PayloadBuf) -> bool {
     let request = Request {
         payload: payload.as_payload(),
-        allows: false,
-        silent: false,
+        exhaust_allowed: false,
+        more_to_come: false,
     };
     let mut answers = Answers::new(alloc);
     handler.respond(&request, &mut answers) == Ok(()) && is_alone(answers.as_slice(), payload)
@@ -113,8 +125,8 @@ fn stops<H: Handler>(
 ) -> bool {
     let request = Request {
         payload: payload.as_payload(),
-        allows: false,
-        silent: false,
+        exhaust_allowed: false,
+        more_to_come: false,
     };
     let mut answers = Answers::new(alloc);
     handler.respond(&request, &mut answers) == Err(stop)

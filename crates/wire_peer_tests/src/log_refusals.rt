@@ -52,8 +52,8 @@ fn three(alloc: Global) -> Option<PayloadBuf> {
 fn asking(payload: &PayloadBuf) -> Request<'_> {
     Request {
         payload: payload.as_payload(),
-        allows: true,
-        silent: false,
+        exhaust_allowed: true,
+        more_to_come: false,
     }
 }
 

@@ -25,11 +25,11 @@ fn three(alloc: Global) -> Option<PayloadBuf> {
 }
 
 /// Returns the request of this payload that allows more.
-fn asking(payload: &PayloadBuf, silent: bool) -> Request<'_> {
+fn asking(payload: &PayloadBuf, more_to_come: bool) -> Request<'_> {
     Request {
         payload: payload.as_payload(),
-        allows: true,
-        silent,
+        exhaust_allowed: true,
+        more_to_come,
     }
 }
 

@@ -59,7 +59,9 @@ fn a_refused_server_is_not_made(rt: HostRuntime) {
 fn is_request(server: &Server, k: usize, body: &[u8]) -> bool {
     match server.request(k) {
         Some(request) => {
-            !request.allows && !request.silent && request.payload.body().as_bytes() == body
+            !request.exhaust_allowed
+                && !request.more_to_come
+                && request.payload.body().as_bytes() == body
         }
         None => false,
     }

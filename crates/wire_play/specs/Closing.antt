@@ -1,5 +1,6 @@
 -- What a script's run writes at its end: the calls with their parts, and the entries of the log.
-use Rattle.std.specs.Prelude.{ℕ, ◌+◌, Bool, true, false, Option, None, Some, List, [], ◌∷◌, ◌++◌, codes, flat_map, length}
+use Rattle.std.specs.Prelude.{ℕ, ◌+◌, Bool, true, false, Option, None, Some, List, [], ◌∷◌, ◌++◌}
+use Rattle.std.specs.Prelude.{codes, flat_map, length}
 use Rattle.std.specs.Fmt.{decimal}
 use Rattle.hex.specs.Hex.{encode_lower}
 use Rattle.bson_elem.specs.{document, elements}
@@ -11,7 +12,7 @@ use Rattle.wire_model.specs.{Done, Foreign, Lost, Pending, Record, Sent, State, 
 abbrev pub body_hex : Content → List ℕ
 body_hex c = encode_lower (document (elements c.body))
 
--- the texts of things, one after another, that are counted from this number on
+-- the texts of the elements of a list, one after another, which are counted from this number on
 abbrev pub numbered : {A : Type 0} → (ℕ → A → List ℕ) → ℕ → List A → List ℕ
 numbered text n [] = []
 numbered text n (x ∷ xs) = text n x ++ numbered text (n + 1) xs
@@ -19,12 +20,12 @@ numbered text n (x ∷ xs) = text n x ++ numbered text (n + 1) xs
 -- ---- calls
 
 -- what a call asks for: just one reply, one or more, or none
-abbrev pub kind_word : (allows silent : Bool) → List ℕ
-kind_word allows true = codes "unacknowledged"
+abbrev pub kind_word : (exhaust_allowed more_to_come : Bool) → List ℕ
+kind_word exhaust_allowed true = codes "unacknowledged"
 kind_word true false = codes "exhaust"
 kind_word false false = codes "plain"
 
--- how a call stands; a world's calls are its own, and none is foreign
+-- the state of a call; no call of a world is foreign
 abbrev pub state_word : State → List ℕ
 state_word Pending = codes "pending"
 state_word Done = codes "done"
@@ -32,21 +33,26 @@ state_word Sent = codes "sent"
 state_word Lost = codes "lost"
 state_word Foreign = codes "foreign"
 
--- the line of a call: its number, its connection, what it asks for, how it stands, and how many parts it has
+-- the line of a call: its number, its connection, what it asks for, its state, and the number of
+-- its parts
 abbrev pub call_line : ℕ → Record → List ℕ
 call_line k r =
-    codes "call " ++ (decimal k ++ (codes " connection " ++ (decimal r.connection ++ (codes " " ++ (kind_word r.asked.allows r.asked.silent ++ (codes " " ++ (state_word r.state ++ (codes " " ++ (decimal (length r.parts) ++ codes "\n")))))))))
+    codes "call " ++ (decimal k ++ (codes " connection "
+    ++ (decimal r.connection ++ (codes " "
+    ++ (kind_word r.asked.exhaust_allowed r.asked.more_to_come
+    ++ (codes " " ++ (state_word r.state
+    ++ (codes " " ++ (decimal (length r.parts) ++ codes "\n")))))))))
 
 abbrev pub part_line : Content → List ℕ
 part_line c = codes "part " ++ (body_hex c ++ codes "\n")
 
--- a call's line, and then one for each of its parts
+-- a call's line, and a line for each of its parts
 abbrev pub call_text : ℕ → Record → List ℕ
 call_text k r = call_line k r ++ flat_map part_line r.parts
 
 -- ---- entries
 
--- how many answers the handler gave, or that it failed
+-- the number of answers that the handler gave, or that it failed
 abbrev pub outcome_text : Option (List Content) → List ℕ
 outcome_text (Some answers) = codes " answers " ++ decimal (length answers)
 outcome_text None = codes " failed"
@@ -54,15 +60,18 @@ outcome_text None = codes " failed"
 abbrev pub body_text : Content → List ℕ
 body_text c = codes " body " ++ (body_hex c ++ codes "\n")
 
--- the line of an entry: its number, its connection, what became of it, and the request's body
+-- the line of an entry: its number, its connection, its outcome, and the request's body
 abbrev pub entry_line : ℕ → LogEntry → List ℕ
 entry_line e entry =
-    codes "entry " ++ (decimal e ++ (codes " connection " ++ (decimal entry.connection ++ (outcome_text entry.answers ++ body_text entry.payload))))
+    codes "entry " ++ (decimal e
+    ++ (codes " connection " ++ (decimal entry.connection
+    ++ (outcome_text entry.answers ++ body_text entry.payload))))
 
 -- ---- both
 
--- how many calls there are, and each of them; then the entries so
+-- the number of calls, and each of them; then the number of entries, and each of them
 abbrev pub closing_text : {H : Type 0} → World H → List ℕ
 closing_text w =
     codes "calls " ++ (decimal (length w.calls) ++ (codes "\n" ++ (numbered call_text 0 w.calls
-    ++ (codes "entries " ++ (decimal (length w.log) ++ (codes "\n" ++ numbered entry_line 0 w.log))))))
+    ++ (codes "entries " ++ (decimal (length w.log)
+    ++ (codes "\n" ++ numbered entry_line 0 w.log))))))

@@ -1,5 +1,6 @@
 -- What a script's run writes for an event: a line for what it has done, or for why it is refused.
-use Rattle.std.specs.Prelude.{ℕ, true, false, List, [], ◌∷◌, ◌++◌, codes, None, Some, Result, Ok, Err}
+use Rattle.std.specs.Prelude.{ℕ, true, false, List, [], ◌∷◌, ◌++◌, codes, None, Some, Result, Ok}
+use Rattle.std.specs.Prelude.{Err}
 use Rattle.std.specs.Fmt.{decimal, signed_decimal}
 use Rattle.hex.specs.Hex.{encode_lower}
 use Rattle.wire_peer.specs.declared.calls.CallRefusal.TheVariants as calls
@@ -7,7 +8,9 @@ use Rattle.wire_peer.specs.declared.server_state.AnswerRefusal.TheVariants as an
 use Rattle.wire_peer.specs.declared.server_state.ServerCause.{ServerCause}
 use Rattle.wire_peer.specs.declared.server_state.ServerCause.TheVariants as causes
 use Rattle.wire_model.specs.declared.refusals.WorldRefusal.{WorldRefusal}
-use Rattle.wire_model.specs.declared.refusals.WorldRefusal.TheVariants.{NoConnection, Cut, NotLent, Full, Call, Answer, OutOfMemory, Raw, NotRaw}
+use Rattle.wire_model.specs.declared.refusals.WorldRefusal.TheVariants.{NoConnection, Cut, NotLent}
+use Rattle.wire_model.specs.declared.refusals.WorldRefusal.TheVariants.{Full, Call, Answer}
+use Rattle.wire_model.specs.declared.refusals.WorldRefusal.TheVariants.{OutOfMemory, Raw, NotRaw}
 use Rattle.wire_model.specs.declared.reports.Report.{Report}
 use Rattle.wire_model.specs.declared.reports.Report.TheVariants as reports
 
@@ -22,8 +25,9 @@ cause_text causes.HandlerFailed = codes "6 HandlerFailed"
 
 -- ---- refusals
 
--- Why an event is refused. Some of a core's reasons are never the world's: want of memory is its own, and a server that closes in
--- its answer has answered.
+-- Why an event is refused. A client or server has two more reasons, which an event of a world
+-- never has: running out of memory, which the world reports itself, and closing in an answer,
+-- where the server has answered.
 abbrev pub refusal_text : WorldRefusal → List ℕ
 refusal_text NoConnection = codes "1 NoConnection"
 refusal_text Cut = codes "2 Cut"
@@ -42,13 +46,13 @@ refusal_text OutOfMemory = codes "7 OutOfMemory"
 refusal_text Raw = codes "8 Raw"
 refusal_text NotRaw = codes "9 NotRaw"
 
--- the line of an event that is refused
+-- the line of a refused event
 abbrev pub refusal_line : WorldRefusal → List ℕ
 refusal_line refusal = codes "refused " ++ (refusal_text refusal ++ codes "\n")
 
 -- ---- reports
 
--- bytes in hexadecimal, or `-` for none
+-- bytes in hexadecimal, or `-` if there are none
 abbrev pub hex_or_dash : List ℕ → List ℕ
 hex_or_dash [] = codes "-"
 hex_or_dash (b ∷ bs) = encode_lower (b ∷ bs)
@@ -59,14 +63,16 @@ report_line (reports.Opened c true) = codes "connection " ++ (decimal c ++ codes
 report_line (reports.Opened c false) = codes "connection " ++ (decimal c ++ codes " used\n")
 report_line reports.Kept = codes "kept\n"
 report_line reports.Dropped = codes "dropped\n"
-report_line (reports.Called k id) = codes "call " ++ (decimal k ++ (codes " id " ++ (signed_decimal id ++ codes "\n")))
+report_line (reports.Called k id) =
+    codes "call " ++ (decimal k ++ (codes " id " ++ (signed_decimal id ++ codes "\n")))
 report_line (reports.Moved n) = codes "moved " ++ (decimal n ++ codes "\n")
 report_line (reports.Entry e) = codes "entry " ++ (decimal e ++ codes "\n")
 report_line (reports.ClosedBy cause) = codes "closed " ++ (cause_text cause ++ codes "\n")
 report_line reports.Done = codes "ok\n"
 report_line (reports.RawOpened c) = codes "connection " ++ (decimal c ++ codes " raw\n")
 report_line (reports.RawMoved n None) = codes "moved " ++ (decimal n ++ codes "\n")
-report_line (reports.RawMoved n (Some cause)) = codes "moved " ++ (decimal n ++ (codes " closed " ++ (cause_text cause ++ codes "\n")))
+report_line (reports.RawMoved n (Some cause)) =
+    codes "moved " ++ (decimal n ++ (codes " closed " ++ (cause_text cause ++ codes "\n")))
 report_line (reports.Bytes v) = codes "bytes " ++ (hex_or_dash v.items ++ codes "\n")
 
 -- the line of an event's result

@@ -1,11 +1,14 @@
-//! The lists that end a run: the calls with their parts, and the entries of the log. No function here takes memory.
+//! Writes the lists that end a run: the calls with their parts, and the entries of the log. No
+//! function here takes memory.
 
 ghost use Rattle.std.specs.Prelude.{◌≡◌, OnOk, false, flat_map, if◌then◌else◌, map, true};
-ghost use Rattle.std.specs.Io.KnownBytes.{Appends};
+ghost use Rattle.bson_text.specs.{WritesOut};
 ghost use Rattle.bson_elem.specs.{document, elements};
 ghost use Rattle.wire_peer.specs.{allows_more, awaits_reply, buf_content, entry_of, outcome_of};
 ghost use Rattle.wire_world.specs.{contents_of, record_of, state_of};
-ghost use Rattle.wire_play.specs.Closing.{body_text, call_line, call_text, closing_text, entry_line, kind_word, numbered, outcome_text, part_line, state_word};
+ghost use Rattle.wire_play.specs.Closing.{body_text, call_line, call_text, closing_text};
+ghost use Rattle.wire_play.specs.Closing.{entry_line, kind_word, numbered, outcome_text, part_line};
+ghost use Rattle.wire_play.specs.Closing.{state_word};
 
 use bson_text::hex_to;
 use std::io;
@@ -23,7 +26,8 @@ fn body_of(payload: &PayloadBuf) -> &[u8]
 
 /// Returns the word for what a call asks for.
 fn kind_word(kind: CallKind) -> &'static str
-    ensures { result.now ≡ kind_word (allows_more kind) (if awaits_reply kind then false else true) }
+    ensures { result.now ≡ kind_word (allows_more kind)
+        (if awaits_reply kind then false else true) }
 {
     match kind {
         CallKind::Plain => "plain",
@@ -32,7 +36,7 @@ fn kind_word(kind: CallKind) -> &'static str
     }
 }
 
-/// Returns the word for how a call stands.
+/// Returns the word for the state of a call.
 fn state_word(state: CallState) -> &'static str
     ensures { result.now ≡ state_word (state_of state) }
 {
@@ -46,7 +50,8 @@ fn state_word(state: CallState) -> &'static str
 
 /// Writes the line of a call.
 fn write_call_line<W: Write>(k: usize, call: &CallRecord, out: &mut W) -> io::Result<()>
-    ensures { OnOk result (Appends (W.contents out.old) (W.contents out.new) (call_line k (record_of call.now))) }
+    ensures { OnOk result (WritesOut W.contents out.old out.new
+        (call_line k (record_of call.now))) }
 {
     let connection = call.connection;
     let kind = kind_word(call.kind);
@@ -58,9 +63,10 @@ fn write_call_line<W: Write>(k: usize, call: &CallRecord, out: &mut W) -> io::Re
     )
 }
 
-/// Writes the body of a request behind the word for it, and the end of the line.
+/// Writes the word `body`, the body in hexadecimal, and the end of the line.
 fn write_body<W: Write>(payload: &PayloadBuf, out: &mut W) -> io::Result<()>
-    ensures { OnOk result (Appends (W.contents out.old) (W.contents out.new) (body_text (buf_content payload.now))) }
+    ensures { OnOk result (WritesOut W.contents out.old out.new
+        (body_text (buf_content payload.now))) }
 {
     out.write_all(b" body ")?;
     hex_to(body_of(payload), out)?;
@@ -69,7 +75,8 @@ fn write_body<W: Write>(payload: &PayloadBuf, out: &mut W) -> io::Result<()>
 
 /// Writes the line of a part.
 fn write_part<W: Write>(part: &PayloadBuf, out: &mut W) -> io::Result<()>
-    ensures { OnOk result (Appends (W.contents out.old) (W.contents out.new) (part_line (buf_content part.now))) }
+    ensures { OnOk result (WritesOut W.contents out.old out.new
+        (part_line (buf_content part.now))) }
 {
     out.write_all(b"part ")?;
     hex_to(body_of(part), out)?;
@@ -78,7 +85,8 @@ fn write_part<W: Write>(part: &PayloadBuf, out: &mut W) -> io::Result<()>
 
 /// Writes a line for each part.
 fn write_parts<W: Write>(parts: &[PayloadBuf], out: &mut W) -> io::Result<()>
-    ensures { OnOk result (Appends (W.contents out.old) (W.contents out.new) (flat_map part_line (contents_of parts.now))) }
+    ensures { OnOk result (WritesOut W.contents out.old out.new
+        (flat_map part_line (contents_of parts.now))) }
 {
     for part in parts {
         write_part(part, out)?;
@@ -86,9 +94,10 @@ fn write_parts<W: Write>(parts: &[PayloadBuf], out: &mut W) -> io::Result<()>
     Ok(())
 }
 
-/// Writes the line of a call, and then one for each of its parts.
+/// Writes the line of a call, and a line for each of its parts.
 fn write_call<W: Write>(k: usize, call: &CallRecord, out: &mut W) -> io::Result<()>
-    ensures { OnOk result (Appends (W.contents out.old) (W.contents out.new) (call_text k (record_of call.now))) }
+    ensures { OnOk result (WritesOut W.contents out.old out.new
+        (call_text k (record_of call.now))) }
 {
     write_call_line(k, call, out)?;
     write_parts(&call.parts, out)
@@ -96,7 +105,8 @@ fn write_call<W: Write>(k: usize, call: &CallRecord, out: &mut W) -> io::Result<
 
 /// Writes the calls, in order.
 fn write_calls<W: Write>(calls: &[CallRecord], out: &mut W) -> io::Result<()>
-    ensures { OnOk result (Appends (W.contents out.old) (W.contents out.new) (numbered call_text 0 (map record_of calls.now))) }
+    ensures { OnOk result (WritesOut W.contents out.old out.new
+        (numbered call_text 0 (map record_of calls.now))) }
 {
     for (k, call) in calls.iter().enumerate() {
         write_call(k, call, out)?;
@@ -104,9 +114,10 @@ fn write_calls<W: Write>(calls: &[CallRecord], out: &mut W) -> io::Result<()>
     Ok(())
 }
 
-/// Writes what became of a request.
+/// Writes the outcome of a request.
 fn write_outcome<W: Write>(outcome: &Outcome, out: &mut W) -> io::Result<()>
-    ensures { OnOk result (Appends (W.contents out.old) (W.contents out.new) (outcome_text (outcome_of outcome.now))) }
+    ensures { OnOk result (WritesOut W.contents out.old out.new
+        (outcome_text (outcome_of outcome.now))) }
 {
     match outcome {
         Outcome::Answered(answers) => {
@@ -119,7 +130,8 @@ fn write_outcome<W: Write>(outcome: &Outcome, out: &mut W) -> io::Result<()>
 
 /// Writes the line of an entry.
 fn write_entry<W: Write>(e: usize, entry: &Entry, out: &mut W) -> io::Result<()>
-    ensures { OnOk result (Appends (W.contents out.old) (W.contents out.new) (entry_line e (entry_of entry.now))) }
+    ensures { OnOk result (WritesOut W.contents out.old out.new
+        (entry_line e (entry_of entry.now))) }
 {
     let connection = entry.connection;
     write!(out, "entry {e} connection {connection}")?;
@@ -129,7 +141,8 @@ fn write_entry<W: Write>(e: usize, entry: &Entry, out: &mut W) -> io::Result<()>
 
 /// Writes the entries, in order.
 fn write_entries<W: Write>(entries: &[Entry], out: &mut W) -> io::Result<()>
-    ensures { OnOk result (Appends (W.contents out.old) (W.contents out.new) (numbered entry_line 0 (map entry_of entries.now))) }
+    ensures { OnOk result (WritesOut W.contents out.old out.new
+        (numbered entry_line 0 (map entry_of entries.now))) }
 {
     for (e, entry) in entries.iter().enumerate() {
         write_entry(e, entry, out)?;
@@ -137,9 +150,10 @@ fn write_entries<W: Write>(entries: &[Entry], out: &mut W) -> io::Result<()>
     Ok(())
 }
 
-/// Writes how many calls a world has, and each of them; and then the entries of its log so.
+/// Writes the number of calls of a world, and each of them; and then the number of entries of its
+/// log, and each of them.
 pub fn write_closing<H, W: Write>(world: &World<H>, out: &mut W) -> io::Result<()>
-    ensures { OnOk result (Appends (W.contents out.old) (W.contents out.new) (closing_text world.now.state)) }
+    ensures { OnOk result (WritesOut W.contents out.old out.new (closing_text world.now.state)) }
 {
     let calls = world.calls();
     let count = calls.len();

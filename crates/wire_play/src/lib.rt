@@ -1,9 +1,11 @@
-//! Scripts of events, played: what is written for each line, and at the end the calls and the log of the world.
+//! Plays scripts of events: writes a line for each event, and at the end the calls and the log of
+//! the world.
 //!
-//! `play` reads a script line by line. Its first line makes a world, and each of the others names an event in it, for whose
-//! result one line is written. A line that names none ends the text, and its number is returned.
+//! `play` reads a script line by line. The first line makes a world, and each of the others names
+//! an event in it. For the result of an event one line is written. A line that names no event ends
+//! the text, and its number is returned.
 //!
-//! Stands on wire_script and wire_world. engines stands on it. Read first: `specs/Scripts.antt`, and then
+//! Uses wire_script and wire_world. Used by engines. Read first: `specs/Scripts.antt`, and then
 //! `playing`.
 #![tactic(auto)]
 

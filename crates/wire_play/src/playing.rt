@@ -1,4 +1,4 @@
-//! Scripts that are played: their lines name the events of a world, one after the other.
+//! Plays scripts: makes the events that their lines name happen in a world, one after another.
 
 ghost use Rattle.std.specs.Prelude.{◌≡◌, IfOk, OnOk};
 ghost use Rattle.wire_script.specs.{lines_left};
@@ -19,7 +19,7 @@ use wire_world::{Event, SetupRefusal, World, WorldLimits, WorldRefusal};
 pub enum PlayStop {
     /// The writer failed.
     Failed,
-    /// Memory is wanting.
+    /// Memory ran out.
     OutOfMemory,
 }
 
@@ -33,15 +33,16 @@ impl From<io::Error> for PlayStop {
     }
 }
 
-/// Has an event happen, and writes the line of its result. For want of memory it passes on what was written, that line as
-/// the last one, and errs.
+/// Makes an event happen, and writes the line of its result. If memory runs out, flushes the
+/// output, which ends with that line, and returns the error.
 fn play_event<H: Handler, W: Write>(
     world: &mut World<H>,
     event: &Event<'_>,
     out: &mut W,
 ) -> Result<(), PlayStop>
     ensures limits { world.new.limits ≡ world.old.limits }
-    ensures played { OnOk result (EventPlayed H.does H.stops world.old.limits world.old.state event.now world.new.state
+    ensures played { OnOk result
+        (EventPlayed H.does H.stops world.old.limits world.old.state event.now world.new.state
         (W.contents out.old) (W.contents out.new)) }
 {
     let ended = world.step(event);
@@ -53,7 +54,8 @@ fn play_event<H: Handler, W: Write>(
     Ok(())
 }
 
-/// Has the event happen that a line names, and writes the line of its result. Returns false if the line names none.
+/// Makes the event of a line happen, and writes the line of its result. Returns false if the line
+/// names no event.
 fn play_line<H: Handler, W: Write>(
     alloc: Global,
     world: &mut World<H>,
@@ -61,7 +63,8 @@ fn play_line<H: Handler, W: Write>(
     out: &mut W,
 ) -> Result<bool, PlayStop>
     ensures limits { world.new.limits ≡ world.old.limits }
-    ensures played { IfOk result (LinePlayed H.does H.stops world.old.limits world.old.state line.now world.new.state
+    ensures played { IfOk result
+        (LinePlayed H.does H.stops world.old.limits world.old.state line.now world.new.state
         (W.contents out.old) (W.contents out.new)) }
 {
     match parse_line(alloc, line) {
@@ -75,7 +78,7 @@ fn play_line<H: Handler, W: Write>(
     }
 }
 
-/// Plays lines, up to the first one that names no event. Returns the number of that one.
+/// Plays lines, up to the first one that names no event. Returns the number of that line.
 fn play_lines<H: Handler, W: Write>(
     alloc: Global,
     world: &mut World<H>,
@@ -83,7 +86,9 @@ fn play_lines<H: Handler, W: Write>(
     out: &mut W,
 ) -> Result<Option<usize>, PlayStop>
     ensures limits { world.new.limits ≡ world.old.limits }
-    ensures played { IfOk result (λ fault. LinesPlayed H.does H.stops world.old.limits world.old.state (lines_left lines.entry)
+    ensures played { IfOk result
+        (λ fault. LinesPlayed H.does H.stops world.old.limits world.old.state
+        (lines_left lines.entry)
         world.new.state fault (W.contents out.old) (W.contents out.new)) }
 {
     for line in lines {
@@ -94,14 +99,17 @@ fn play_lines<H: Handler, W: Write>(
     Ok(None)
 }
 
-/// Plays lines in a world, and writes its calls and its log at their end. Returns the number of the line at fault.
+/// Plays lines in a world, and writes its calls and its log after them. Returns the number of the
+/// line at fault.
 fn play_world<H: Handler, W: Write>(
     alloc: Global,
     world: &mut World<H>,
     lines: Lines<'_>,
     out: &mut W,
 ) -> Result<Option<usize>, PlayStop>
-    ensures { IfOk result (λ fault. Writes (λ text. PlaysIn H.does H.stops world.old.limits world.old.state (lines_left lines.entry) text fault)
+    ensures { IfOk result (λ fault. Writes
+        (λ text. PlaysIn H.does H.stops world.old.limits world.old.state
+        (lines_left lines.entry) text fault)
         (W.contents out.old) (W.contents out.new)) }
 {
     out.write_all(b"world\n")?;
@@ -114,8 +122,8 @@ fn play_world<H: Handler, W: Write>(
     }
 }
 
-/// Plays lines in a new world over `handler`. Returns the number of the line at fault: if a limit is out of range, that is
-/// `number`, that of the world's own line.
+/// Plays lines in a new world over `handler`. Returns the number of the line at fault, which is
+/// `number`, that of the world's own line, if a limit is out of range.
 fn play_over<H: Handler + Drop, W: Write>(
     alloc: Global,
     handler: H,
@@ -124,7 +132,8 @@ fn play_over<H: Handler + Drop, W: Write>(
     lines: Lines<'_>,
     out: &mut W,
 ) -> Result<Option<usize>, PlayStop>
-    ensures { IfOk result (λ fault. Writes (λ text. OverText H.does H.stops handler limits number (lines_left lines.entry) text fault)
+    ensures { IfOk result (λ fault. Writes
+        (λ text. OverText H.does H.stops handler limits number (lines_left lines.entry) text fault)
         (W.contents out.old) (W.contents out.new)) }
 {
     match World::new(alloc, handler, limits) {
@@ -134,7 +143,8 @@ fn play_over<H: Handler + Drop, W: Write>(
     }
 }
 
-/// Plays lines in the world that the line before them makes. Returns the number of the line at fault.
+/// Plays lines in the world that the line before them makes. Returns the number of the line at
+/// fault.
 fn play_setup<W: Write>(
     alloc: Global,
     setup: Setup,
@@ -142,7 +152,8 @@ fn play_setup<W: Write>(
     lines: Lines<'_>,
     out: &mut W,
 ) -> Result<Option<usize>, PlayStop>
-    ensures { IfOk result (λ fault. Writes (λ text. SetupText setup number (lines_left lines.entry) text fault)
+    ensures { IfOk result (λ fault. Writes
+        (λ text. SetupText setup number (lines_left lines.entry) text fault)
         (W.contents out.old) (W.contents out.new)) }
 {
     match setup.handler {
@@ -151,14 +162,17 @@ fn play_setup<W: Write>(
     }
 }
 
-/// Plays a script: writes a line for each of its lines that names a world or an event, and then the calls and the log. Returns
-/// the number of the line at fault, if there is one; then nothing is written for that line, and nothing behind it.
+/// Plays a script: writes a line for the world, a line for each event, and then the calls and the
+/// log. Returns the number of the line at fault, if there is one. Nothing is written for that
+/// line, or after it.
 ///
 /// # Errors
 ///
-/// The writer fails, or memory is wanting. Where it is wanting in an event, the line of that was written, and passed on.
+/// Returns `Failed` if the writer fails, and `OutOfMemory` if memory runs out. If it runs out in
+/// an event, the output is flushed up to the line of that event.
 pub fn play<W: Write>(alloc: Global, script: &[u8], out: &mut W) -> Result<Option<usize>, PlayStop>
-    ensures { IfOk result (λ fault. Writes (λ text. TextUpTo script.now text fault) (W.contents out.old) (W.contents out.new)) }
+    ensures { IfOk result (λ fault. Writes (λ text. TextUpTo script.now text fault)
+        (W.contents out.old) (W.contents out.new)) }
 {
     let mut lines = Lines::new(script);
     let Some(line) = lines.next() else {
@@ -167,7 +181,7 @@ pub fn play<W: Write>(alloc: Global, script: &[u8], out: &mut W) -> Result<Optio
     match parse_line(alloc, line.text) {
         Ok(Line::World(setup)) => play_setup(alloc, setup, line.number, lines, out),
         Ok(Line::Event(event)) => {
-            // It names an event, and so no world.
+            // The line names an event, and so no world.
             let _ = event.as_event();
             Ok(Some(line.number))
         }

@@ -1,8 +1,10 @@
-//! The line that is written for an event: what it has done, or why it is refused. No function here takes memory.
+//! Writes the line of an event's result: what it has done, or why it is refused. No function here
+//! takes memory.
 
 ghost use Rattle.std.specs.Prelude.{◌≡◌, ◌++◌, OnOk, codes};
-ghost use Rattle.std.specs.Io.KnownBytes.{Appends};
-ghost use Rattle.wire_play.specs.Reports.{cause_text, hex_or_dash, refusal_line, refusal_text, report_line, result_line};
+ghost use Rattle.bson_text.specs.{WritesOut};
+ghost use Rattle.wire_play.specs.Reports.{cause_text, hex_or_dash, refusal_line, refusal_text};
+ghost use Rattle.wire_play.specs.Reports.{report_line, result_line};
 
 use bson_text::hex_to;
 use std::io;
@@ -24,7 +26,8 @@ fn cause_text(cause: ServerCause) -> &'static str
     }
 }
 
-/// Returns the number and the name of a refusal, and of the client's or server's own reason behind it.
+/// Returns the number and the name of a refusal, and of the client's or server's own reason for
+/// it.
 fn refusal_text(refusal: WorldRefusal) -> &'static str
     ensures { result.now ≡ refusal_text refusal }
 {
@@ -48,17 +51,17 @@ fn refusal_text(refusal: WorldRefusal) -> &'static str
     }
 }
 
-/// Writes the line of an event that is refused.
+/// Writes the line of a refused event.
 fn write_refusal<W: Write>(refusal: WorldRefusal, out: &mut W) -> io::Result<()>
-    ensures { OnOk result (Appends (W.contents out.old) (W.contents out.new) (refusal_line refusal)) }
+    ensures { OnOk result (WritesOut W.contents out.old out.new (refusal_line refusal)) }
 {
     let why = refusal_text(refusal);
     writeln!(out, "refused {why}")
 }
 
-/// Writes the line of bytes that were taken away: in hexadecimal, or `-` where there are none.
+/// Writes the line of bytes that were taken away: in hexadecimal, or `-` if there are none.
 fn write_bytes<W: Write>(bytes: &[u8], out: &mut W) -> io::Result<()>
-    ensures { OnOk result (Appends (W.contents out.old) (W.contents out.new)
+    ensures { OnOk result (WritesOut W.contents out.old out.new
         (codes "bytes " ++ (hex_or_dash bytes.now ++ codes "\n"))) }
 {
     if bytes.is_empty() {
@@ -71,7 +74,7 @@ fn write_bytes<W: Write>(bytes: &[u8], out: &mut W) -> io::Result<()>
 
 /// Writes the line of what an event has done.
 fn write_report<W: Write>(report: &Report, out: &mut W) -> io::Result<()>
-    ensures { OnOk result (Appends (W.contents out.old) (W.contents out.new) (report_line report.now)) }
+    ensures { OnOk result (WritesOut W.contents out.old out.new (report_line report.now)) }
 {
     match report {
         Report::Opened {
@@ -110,7 +113,7 @@ fn write_report<W: Write>(report: &Report, out: &mut W) -> io::Result<()>
 
 /// Writes the line of an event's result.
 pub fn write_result<W: Write>(ended: &Result<Report, WorldRefusal>, out: &mut W) -> io::Result<()>
-    ensures { OnOk result (Appends (W.contents out.old) (W.contents out.new) (result_line ended.now)) }
+    ensures { OnOk result (WritesOut W.contents out.old out.new (result_line ended.now)) }
 {
     match ended {
         Ok(report) => write_report(report, out),

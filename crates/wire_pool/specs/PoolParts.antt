@@ -10,11 +10,13 @@ use Rattle.wire_pool.specs.Pools.{IsGiven, PoolSeen}
 
 -- what a caller sees of these parts
 abbrev pub view_of : ℕ → VecDeque ℕ Global → Vec Loan Global → Option ℕ → Bool → PoolSeen
-view_of max idle lent next closed = record { max = max; idle = idle.items; lent = lent.items; next = next; closed = closed }
+view_of max idle lent next closed =
+    record { max = max; idle = idle.items; lent = lent.items; next = next; closed = closed }
 
--- The parts belong together: the pool has no more connections than it may have, each list has room for exactly as many, and
--- all their ids were given.
-pub record AreParts (max : ℕ) (idle : VecDeque ℕ Global) (lent : Vec Loan Global) (next : Option ℕ) (closed : Bool) : Type 0 where
+-- The parts belong together: the pool has no more connections than allowed, each list has room for
+-- exactly that many, and all ids were given.
+pub record AreParts (max : ℕ) (idle : VecDeque ℕ Global) (lent : Vec Loan Global) (next : Option ℕ)
+    (closed : Bool) : Type 0 where
   pub within : length idle.items + length lent.items ≤ max
   pub idle_room : deque_capacity idle ≡ max
   pub lent_room : vec_capacity lent ≡ max

@@ -1,9 +1,11 @@
 -- What a pool gives over many calls.
-use Rattle.std.specs.Prelude.{ℕ, ◌+◌, ◌<◌, ◌==◌, ⊤, All, Bool, if◌then◌else◌, List, [], ◌∷◌, ◌++◌, Option, Some, None}
+use Rattle.std.specs.Prelude.{ℕ, ◌+◌, ◌<◌, ◌==◌, ⊤, All, Bool, if◌then◌else◌, List, [], ◌∷◌, ◌++◌}
+use Rattle.std.specs.Prelude.{Option, Some, None}
 use Rattle.wire_pool.specs.declared.loans.Loan.{Loan}
 use Rattle.wire_pool.specs.declared.pool_answers.CheckOut.{CheckOut}
 use Rattle.wire_pool.specs.declared.pool_answers.CheckOut.TheVariants.{Use, Open, Full, PoolClosed}
-use Rattle.wire_pool.specs.Pools.{PoolSeen, checked_in, checked_out, cleared_pool, closed_pool, drawn, reset_pool}
+use Rattle.wire_pool.specs.Pools.{PoolSeen, checked_in, checked_out, cleared_pool, closed_pool}
+use Rattle.wire_pool.specs.Pools.{drawn, reset_pool}
 
 -- a call of a pool
 pub data PoolCall : Type 0 where
@@ -59,7 +61,7 @@ abbrev pub after_calls : PoolSeen → List PoolCall → PoolSeen
 after_calls p [] = p
 after_calls p (call ∷ calls) = after_calls (after_call p call) calls
 
--- how often the connection of this id stands among the idle ones, and among the lent ones
+-- how often the connection with this id is among the idle ones, and among the lent ones
 abbrev pub times_idle : ℕ → List ℕ → ℕ
 times_idle id [] = 0
 times_idle id (known ∷ idle) = (if known == id then 1 else 0) + times_idle id idle
@@ -68,6 +70,6 @@ abbrev pub times_lent : ℕ → List Loan → ℕ
 times_lent id [] = 0
 times_lent id (loan ∷ lent) = (if loan.id == id then 1 else 0) + times_lent id lent
 
--- how often the connection of this id stands among the idle and the lent ones
+-- how often the connection with this id is idle or lent
 abbrev pub times_known : ℕ → PoolSeen → ℕ
 times_known id p = times_idle id p.idle + times_lent id p.lent

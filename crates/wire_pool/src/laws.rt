@@ -1,25 +1,26 @@
-//! The laws of pools. The contract of each function is the law.
+//! Proves the laws of pools. The contract of each function is the law.
 
 ghost use Rattle.std.specs.Prelude.{◌≡◌, ◌≤◌, ◌-◌, ◌^◌, ℕ, List, [], None, Some, false};
 ghost use Rattle.wire_pool.specs.declared.pool_answers.CheckOut.TheVariants.{Full};
 ghost use Rattle.wire_pool.specs.PoolRuns.{PoolCall, IsRising, after_calls, given_by, times_known};
 ghost use Rattle.wire_pool.specs.Pools.{PoolSeen, checked_out, new_pool, next_after};
 
-/// Proves that each id that a pool gives as new, lent or drawn, is greater than all that it gave before.
+/// Proves that each new id that a pool gives, with a connection or drawn, is greater than all that
+/// it gave before.
 pub fn new_ids_rise()
     ensures { (max : ℕ) (calls : List PoolCall) → IsRising (given_by (new_pool max) calls) }
 {}
 
-/// Proves that behind the greatest id there is none. A pool that is open then lends what is idle, and is full where
-/// nothing is.
+/// Proves that no id comes after the greatest. An open pool then lends an idle connection, or is
+/// full if there is none.
 pub fn no_id_follows_the_greatest()
     ensures last { next_after (Some (2 ^ 64 - 1)) ≡ None }
     ensures full { (p : PoolSeen) → p.closed ≡ false → p.idle ≡ [] → p.next ≡ None
         → checked_out p ≡ (Full, p) }
 {}
 
-/// Proves that over any calls, each connection is idle or lent once at most: none is lent twice at a time, or idle while
-/// it is lent.
+/// Proves that after any calls, each connection is idle or lent at most once: none is lent twice
+/// at a time, or idle while it is lent.
 pub fn none_is_lent_twice()
     ensures { (max : ℕ) (calls : List PoolCall) (id : ℕ)
         → times_known id (after_calls (new_pool max) calls) ≤ 1 }

@@ -1,9 +1,10 @@
-//! The pool that lends connections.
+//! Lends connections from a pool.
 //!
-//! A `Pool` hands connections out by their ids, the most recently returned one first, and takes them back. It knows nothing of
-//! what a connection is: its caller opens one where the pool says so, and lets go of one that the pool drops.
+//! A `Pool` lends connections by their ids, the most recently returned one first, and takes them
+//! back. It doesn't know what a connection is: the caller opens one when the pool says so, and
+//! closes one that the pool drops.
 //!
-//! Stands on the kit alone. wire_model and wire_world stand on it. Read first: `specs/Pools.antt`.
+//! Uses the kit alone. Used by wire_model and wire_world. Read first: `specs/Pools.antt`.
 #![tactic(auto)]
 
 pub mod laws;

@@ -1,20 +1,21 @@
-//! The connections that a pool has lent.
+//! Keeps the connections that a pool has lent.
 
 ghost use Rattle.std.specs.Prelude.{◌≡◌, ◌&&◌, map, not};
 ghost use Rattle.std.specs.Vec.{vec_capacity};
 ghost use Rattle.wire_pool.specs.Loans.{loan_of, cleared, without};
 
-/// A connection that is lent.
+/// A lent connection.
 #[derive(Clone, Copy, Debug, PartialEq, Eq)]
 pub struct Loan {
     /// The connection's id.
     pub id: u64,
-    /// The pool was cleared since it was lent.
+    /// Whether the pool was cleared since it was lent.
     pub cleared: bool,
 }
 
 impl Loan {
-    /// Returns true if the connection is kept when it comes back, `healthy` or not, to a pool that is `closed` or not.
+    /// Returns true if the connection is kept when it is returned, `healthy` or not, to a pool
+    /// that is `closed` or not.
     pub(crate) fn is_kept(self, healthy: bool, closed: bool) -> bool
         ensures { result ≡ (healthy && (not closed && not self.cleared)) }
     {
@@ -22,14 +23,14 @@ impl Loan {
     }
 }
 
-/// Returns the loan of the connection of this id, or `None` where it isn't lent.
+/// Returns the loan of the connection with this id, if it is lent.
 pub(crate) fn loan_of(lent: &[Loan], id: u64) -> Option<Loan>
     ensures { result ≡ loan_of id lent.now }
 {
     lent.iter().find(|loan| loan.id == id).copied()
 }
 
-/// Takes the connection of this id out of those that are lent.
+/// Removes the connection with this id from the lent ones.
 pub(crate) fn take_out(lent: &mut Vec<Loan>, id: u64)
     ensures others { lent.new.items ≡ without id lent.old.items }
     ensures room { vec_capacity lent.new ≡ vec_capacity lent.old }
@@ -37,7 +38,7 @@ pub(crate) fn take_out(lent: &mut Vec<Loan>, id: u64)
     lent.retain(|loan| loan.id != id);
 }
 
-/// Notes of each loan that the pool was cleared.
+/// Notes in each loan that the pool was cleared.
 pub(crate) fn clear_all(lent: &mut [Loan])
     ensures { lent.new ≡ map cleared lent.old }
 {

@@ -1,34 +1,34 @@
-//! What a pool answers, and why none is made.
+//! Names the answers of a pool.
 
-/// What became of asking for a connection.
+/// The answer to `check_out`.
 #[derive(Clone, Copy, Debug, PartialEq, Eq)]
 pub enum CheckOut {
-    /// The connection of this id, which was idle, is lent.
+    /// The connection with this id, which was idle, is lent.
     Use(u64),
-    /// The connection of this id is lent, and has yet to be opened: the id is new.
+    /// The connection with this id is lent. The id is new, so the caller has to open it.
     Open(u64),
-    /// None is idle, and as many are lent as may be, or no id is left. Nothing changed.
+    /// None is idle, and as many are lent as allowed, or no id is left. Nothing changed.
     Full,
     /// The pool is closed. Nothing changed.
     PoolClosed,
 }
 
-/// What became of a connection that is given back.
+/// The answer to `check_in`.
 #[derive(Clone, Copy, Debug, PartialEq, Eq)]
 pub enum CheckIn {
-    /// It is idle now.
+    /// The connection is idle now.
     Kept,
-    /// The pool has forgotten it.
+    /// The pool has dropped the connection.
     Dropped,
-    /// It wasn't lent. Nothing changed.
+    /// The connection wasn't lent. Nothing changed.
     NotLent,
 }
 
-/// Why no pool is made.
+/// Why a pool isn't made.
 #[derive(Clone, Copy, Debug, PartialEq, Eq)]
 pub enum PoolRefusal {
     /// The greatest number of connections isn't 1 to 1,024.
     BadMax,
-    /// Memory for the lists was wanting.
+    /// There was no memory for the lists.
     OutOfMemory,
 }

@@ -1,9 +1,10 @@
-//! A pool: which connections are idle, and which are lent.
+//! Keeps a pool: which connections are idle, and which are lent.
 
 ghost use Rattle.std.specs.Prelude.{◌≡◌, ◌<◌, ℕ, All, IfSome, Some, is_some};
 ghost use Rattle.wire_pool.specs.declared.pool_answers.CheckOut.TheVariants.{Open};
 ghost use Rattle.wire_pool.specs.Loans.{loan_of};
-ghost use Rattle.wire_pool.specs.Pools.{IsNewPool, checked_in, checked_out, cleared_pool, closed_pool, drawn, known_ids, reset_pool};
+ghost use Rattle.wire_pool.specs.Pools.{IsNewPool, checked_in, checked_out, cleared_pool};
+ghost use Rattle.wire_pool.specs.Pools.{closed_pool, drawn, known_ids, reset_pool};
 
 use crate::loans::{Loan, clear_all, loan_of, take_out};
 use crate::pool_answers::{CheckIn, CheckOut, PoolRefusal};
@@ -14,14 +15,14 @@ use std::marker::Model;
 /// The most connections that a pool may have.
 const MAX_CONNECTIONS: usize = 1024;
 
-/// Lends connections, and takes them back. It gives each new one an id, from 1 upwards, and never gives one twice. After
-/// `new` no call takes memory.
+/// A pool that lends connections, and takes them back. It gives each new one an id, from 1
+/// upwards, and never gives an id twice. No call after `new` takes memory.
 ///
-/// A contract sees it as the record `PoolSeen`.
+/// Contracts see it as the record `PoolSeen`.
 #[derive(Drop)]
 pub struct Pool {
     max: usize,
-    /// The most recently returned one is the first.
+    /// The ids of the idle connections, the most recently returned one first.
     idle: VecDeque<u64>,
     lent: Vec<Loan>,
     /// The next new id, unless the greatest was given.
@@ -41,12 +42,12 @@ impl Model for Pool {
 }
 
 impl Pool {
-    /// Returns a pool of at most `max` connections, 1 to 1,024. It takes the memory of all that it will hold: each of
-    /// its lists has room for exactly `max`.
+    /// Makes a pool of at most `max` connections, 1 to 1,024. Takes all memory that it will need:
+    /// each of its lists has room for exactly `max`.
     ///
     /// # Errors
     ///
-    /// `BadMax`, else `OutOfMemory` where memory is wanting.
+    /// Returns `BadMax` if `max` is out of range, and otherwise `OutOfMemory` if memory runs out.
     pub fn new(alloc: Global, max: usize) -> Result<Pool, PoolRefusal>
         ensures { IsNewPool max result }
     {
@@ -68,12 +69,13 @@ impl Pool {
         }
     }
 
-    /// Lends a connection: the most recently returned idle one, else a new one, whose id is greater than all that were
-    /// given before. Returns `Full` where none is idle and `max` are lent, or the greatest id was given, and `PoolClosed` where
-    /// the pool is closed. It takes no memory.
+    /// Lends a connection: the most recently returned idle one, or else a new one, with an id
+    /// greater than all given before. Returns `Full` if none is idle and `max` are lent or the
+    /// greatest id was given, and `PoolClosed` if the pool is closed. Takes no memory.
     pub fn check_out(&mut self) -> CheckOut
         ensures step { (result, self.new) ≡ checked_out self.old }
-        ensures newer { (id : ℕ) → result ≡ Open id → All (λ known. known < id) (known_ids self.old) }
+        ensures newer { (id : ℕ) → result ≡ Open id
+            → All (λ known. known < id) (known_ids self.old) }
     {
         if self.closed {
             return CheckOut::PoolClosed;
@@ -109,14 +111,14 @@ impl Pool {
         }
     }
 
-    /// Returns the next new id, or `None` where the greatest was given.
+    /// Returns the next new id, or `None` if the greatest was given.
     pub fn next_id(&self) -> Option<u64>
         ensures { result ≡ self.now.next }
     {
         self.next
     }
 
-    /// Returns true if the connection of this id is lent.
+    /// Returns true if the connection with this id is lent.
     pub fn is_lent(&self, id: u64) -> bool
         ensures { result ≡ is_some (loan_of id self.now.lent) }
     {
@@ -130,8 +132,9 @@ impl Pool {
         &self.idle
     }
 
-    /// Takes the connection of this id back. It is kept, and idle, where it is `healthy`, the pool is open, and the pool wasn't
-    /// cleared since the connection was lent; else it is dropped. Returns `NotLent` where it wasn't lent. It takes no memory.
+    /// Takes back the connection with this id. It becomes idle if it is `healthy`, the pool is
+    /// open, and the pool wasn't cleared since the connection was lent; otherwise it is dropped.
+    /// Returns `NotLent` if it wasn't lent. Takes no memory.
     pub fn check_in(&mut self, id: u64, healthy: bool) -> CheckIn
         ensures { (result, self.new) ≡ checked_in self.old id healthy }
     {
@@ -147,7 +150,7 @@ impl Pool {
         }
     }
 
-    /// Drops the idle connections; one that is lent now is dropped when it comes back. It takes no memory.
+    /// Drops the idle connections, and each lent one when it is returned. Takes no memory.
     pub fn clear(&mut self)
         ensures { self.new ≡ cleared_pool self.old }
     {
@@ -155,8 +158,8 @@ impl Pool {
         clear_all(&mut self.lent);
     }
 
-    /// Closes the pool for good, and drops the idle connections; one that is lent is dropped when it comes back. It takes
-    /// no memory.
+    /// Closes the pool for good. Drops the idle connections, and each lent one when it is
+    /// returned. Takes no memory.
     pub fn close(&mut self)
         ensures { self.new ≡ closed_pool self.old }
     {
@@ -164,7 +167,8 @@ impl Pool {
         self.closed = true;
     }
 
-    /// Forgets the connections that are idle or lent. The next new id stays, and a closed pool stays closed. It takes no memory.
+    /// Forgets all idle and lent connections. The next new id stays the same, and a closed pool
+    /// stays closed. Takes no memory.
     pub fn reset(&mut self)
         ensures { self.new ≡ reset_pool self.old }
     {
@@ -172,8 +176,8 @@ impl Pool {
         self.lent.clear();
     }
 
-    /// Gives the next new id, and lends nothing. Returns `None` where the greatest id was given. How many are lent, and whether
-    /// the pool is closed, doesn't matter. It takes no memory.
+    /// Gives the next new id without lending anything, or `None` if the greatest was given. Works
+    /// however many are lent, and on a closed pool. Takes no memory.
     pub fn draw(&mut self) -> Option<u64>
         ensures given { result ≡ self.old.next }
         ensures step { self.new ≡ drawn self.old }

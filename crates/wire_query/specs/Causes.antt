@@ -1,7 +1,10 @@
 -- The causes of a fault as fault lines give them, and the offset of each.
 use Rattle.std.specs.Prelude.{ℕ, List, codes}
 use Rattle.wire_query.specs.declared.fault.QueryCause.{QueryCause}
-use Rattle.wire_query.specs.declared.fault.QueryCause.TheVariants.{Length, Opcode, Truncated, Flags, Name, Collection, Skip, Count, Document, TrailingBytes, RepeatedField}
+use Rattle.wire_query.specs.declared.fault.QueryCause.TheVariants.{Length, Opcode, Truncated, Flags}
+use Rattle.wire_query.specs.declared.fault.QueryCause.TheVariants.{Name, Collection, Skip, Count}
+use Rattle.wire_query.specs.declared.fault.QueryCause.TheVariants.{Document, TrailingBytes}
+use Rattle.wire_query.specs.declared.fault.QueryCause.TheVariants.{RepeatedField}
 use Rattle.wire_query.specs.declared.fault.QueryFault.{QueryFault}
 
 abbrev pub cause_number : QueryCause → ℕ

@@ -1,4 +1,4 @@
--- What the parts of the check tell.
+-- What the parts of the check find.
 use Rattle.std.specs.Prelude.{◌≡◌, ℕ, pos, List, length, drop, Ok, ◌≤◌}
 use Rattle.bson_elem.specs.{cstring_at, document, elements, Tree}
 use Rattle.wire_msg.specs.{number_at}
@@ -6,7 +6,7 @@ use Rattle.wire_query.specs.Queries.{Query, command_name, IsDatabase, IsCommand}
 use Rattle.wire_query.specs.Spelling.{IsOneDocument, SpellsQuery}
 use Rattle.wire_query.specs.Faults.{IsWholeLength, opcode_of}
 
--- the header is that of a query of so many bytes
+-- the header is that of a query of this length
 abbrev pub HasHeader : ℕ → List ℕ → Type 0
 HasHeader limit bytes = IsWholeLength limit bytes × (opcode_of bytes ≡ pos 2004)
 
@@ -24,7 +24,8 @@ pub record HasNumbers (bytes command : List ℕ) : Type 0 where
   pub behind : command ≡ drop 8 bytes
   pub inner : HasCommand command
 
--- The bytes are the name of the collection by which this database is sent commands, the two numbers and the command.
+-- The bytes are the name of the collection to which this database's commands are sent, the two
+-- numbers, and the command.
 pub record HasName (bytes database command : List ℕ) : Type 0 where
   pub is : IsDatabase database
   pub rest : List ℕ
@@ -39,6 +40,8 @@ pub record HasParts (limit : ℕ) (bytes database command : List ℕ) : Type 0 w
   pub database_is : query.database ≡ database
   pub command_is : document (elements query.body) ≡ command
 
--- whatever query the bytes spell, it is to this database, and its command is these bytes
+-- whatever query the bytes spell, it is sent to this database, and its command is these bytes
 abbrev pub ArePartsOf : List ℕ → List ℕ → List ℕ → Type 0
-ArePartsOf bytes database command = (q : Query) → SpellsQuery q bytes → (q.database ≡ database) × (document (elements q.body) ≡ command)
+ArePartsOf bytes database command =
+    (q : Query) → SpellsQuery q bytes
+    → (q.database ≡ database) × (document (elements q.body) ≡ command)

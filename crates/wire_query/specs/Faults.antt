@@ -1,5 +1,6 @@
--- The first fault of bytes that are no query, in the order of the checks.
-use Rattle.std.specs.Prelude.{◌≡◌, ℕ, ℤ, pos, ◌+◌, ◌≤◌, List, [], ◌++◌, length, drop, None, Ok, Err, Bool}
+-- The first fault of bytes that are not a query, in the order of the checks.
+use Rattle.std.specs.Prelude.{◌≡◌, ℕ, ℤ, pos, ◌+◌, ◌≤◌, List, [], ◌++◌, length, drop, None, Ok, Err}
+use Rattle.std.specs.Prelude.{Bool}
 use Rattle.bson_elem.specs.declared.fault.BsonCause.{BsonCause}
 use Rattle.bson_elem.specs.declared.fault.BsonFault.{BsonFault}
 use Rattle.bson_elem.specs.{FrontFault, Tree, cstring_at, document, elements}
@@ -19,9 +20,12 @@ pub data Check (Holds : Type 0) (own first : QueryFault) (Later : Type 0) : Type
 -- ---- the command, which begins at p: the bytes are all that follows
 
 pub data CommandFault (p : ℕ) (bytes : List ℕ) (f : QueryFault) : Type 0 where
-  of_document : (inner : BsonFault) → FrontFault bytes inner → f ≡ query_fault p (causes.Document inner) → CommandFault p bytes f
-  behind_document : (body : Tree) (rest : List ℕ) → IsDocument body → bytes ≡ document (elements body) ++ rest
-      → Check (rest ≡ []) (query_fault (p + length (document (elements body))) causes.TrailingBytes) f
+  of_document : (inner : BsonFault) → FrontFault bytes inner
+      → f ≡ query_fault p (causes.Document inner) → CommandFault p bytes f
+  behind_document : (body : Tree) (rest : List ℕ) → IsDocument body
+      → bytes ≡ document (elements body) ++ rest
+      → Check (rest ≡ []) (query_fault
+      (p + length (document (elements body))) causes.TrailingBytes) f
       (Check (first_repeated [] body ≡ None) (query_fault p causes.RepeatedField) f ⊥)
       → CommandFault p bytes f
 
@@ -36,14 +40,16 @@ NumbersFault p bytes f =
 
 -- ---- fullCollectionName, which begins at offset 20, and what follows it
 
--- the full name is that by which some database is sent commands
+-- the full name is that of a collection to which some database's commands are sent
 abbrev pub IsOfCommands : List ℕ → Type 0
 IsOfCommands name = (database : List ℕ) × IsDatabase database × (name ≡ command_name database)
 
 pub data NameFault (bytes : List ℕ) (f : QueryFault) : Type 0 where
-  of_name : (c : BsonCause) → cstring_at bytes ≡ Err c → f ≡ query_fault 20 causes.Name → NameFault bytes f
+  of_name : (c : BsonCause) → cstring_at bytes ≡ Err c → f ≡ query_fault 20 causes.Name
+      → NameFault bytes f
   behind_name : (name rest : List ℕ) → cstring_at bytes ≡ Ok (name, rest)
-      → Check (IsOfCommands name) (query_fault 20 causes.Collection) f (NumbersFault (21 + length name) rest f)
+      → Check (IsOfCommands name) (query_fault 20 causes.Collection) f
+      (NumbersFault (21 + length name) rest f)
       → NameFault bytes f
 
 -- ---- queries
@@ -57,11 +63,11 @@ pub record IsWholeLength (limit : ℕ) (bytes : List ℕ) : Type 0 where
 abbrev pub opcode_of : List ℕ → ℤ
 opcode_of bytes = (header_of bytes).opcode
 
--- no unknown flag is set
+-- no flag is set that is unknown
 abbrev pub IsFlagWord : ℕ → Type 0
 IsFlagWord word = (secondary_ok : Bool) × (word ≡ flag_word secondary_ok)
 
--- The first fault of bytes that are no query within the limit.
+-- The first fault of bytes that are not a query within the limit.
 abbrev pub FaultQuery : List ℕ → ℕ → QueryFault → Type 0
 FaultQuery bytes limit f =
     Check (IsWholeLength limit bytes) (query_fault 0 causes.Length) f

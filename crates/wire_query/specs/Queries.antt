@@ -1,5 +1,7 @@
--- The query of a command as a value, and the message that asks the same (MongoDB Wire Protocol manual: OP_QUERY).
-use Rattle.std.specs.Prelude.{◌≡◌, ◌≢◌, ℕ, ℤ, ◌<◌, List, [], ◌++◌, length, slice_index, codes, Bool, false, None}
+-- The query of a command as a value, and the message that asks the same (MongoDB Wire Protocol
+-- manual: OP_QUERY).
+use Rattle.std.specs.Prelude.{◌≡◌, ◌≢◌, ℕ, ℤ, ◌<◌, List, [], ◌++◌, length, slice_index, codes, Bool}
+use Rattle.std.specs.Prelude.{false, None}
 use Rattle.bson_elem.specs.{IsName, Tree}
 use Rattle.bson_raw.specs.{IsDocument, first_repeated}
 use Rattle.wire_msg.specs.{Message, body_alone}
@@ -12,12 +14,12 @@ pub record Query : Type 0 where
   pub database : List ℕ
   pub body : Tree
 
--- the full name of the collection by which a database is sent commands
+-- the full name of the collection to which a database's commands are sent
 abbrev pub command_name : List ℕ → List ℕ
 command_name database = database ++ codes ".$cmd"
 
--- The database's name is what stands before the first dot of the collection's full name. It isn't empty, and the full
--- name is UTF-8 without 00.
+-- The database's name is the part of the collection's full name before the first dot. It isn't
+-- empty, and the full name is UTF-8 without 00.
 pub record IsDatabase (database : List ℕ) : Type 0 where
   pub some : 0 < length database
   pub no_dot : (i : ℕ) → i < length database → slice_index database i ≢ 46
@@ -30,4 +32,10 @@ pub record IsCommand (body : Tree) : Type 0 where
 
 -- the message of the same id and body
 abbrev pub message_of : Query → Message
-message_of q = record { id = q.id; response_to = q.response_to; flags = record { more = false; allows = false }; content = body_alone q.body }
+message_of q =
+    record {
+      id = q.id;
+      response_to = q.response_to;
+      flags = record { more_to_come = false; exhaust_allowed = false };
+      content = body_alone q.body;
+    }

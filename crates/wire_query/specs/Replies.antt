@@ -10,7 +10,7 @@ use Rattle.wire_query.specs.Spelling.{signed, header_bytes}
 abbrev pub long : ℤ → List ℕ
 long z = to_le_bytes w64 (cast_unsigned w64 z)
 
--- how many bytes the reply of this document has
+-- the number of bytes of the reply with this document
 abbrev pub reply_len : Tree → ℕ
 reply_len t = 36 + length (document (elements t))
 
@@ -20,11 +20,19 @@ numbers_bytes h = little h.flags ++ (long h.cursor_id ++ (signed h.starting_from
 
 -- a header with the opCode of OP_REPLY, 1, the numbers, and the document
 unfoldable pub reply_bytes : ReplyHead → Tree → List ℕ
-reply_bytes h t = header_bytes (reply_len t) h.id h.response_to 1 ++ (numbers_bytes h ++ document (elements t))
+reply_bytes h t =
+    header_bytes (reply_len t) h.id h.response_to 1 ++ (numbers_bytes h ++ document (elements t))
 
 -- the numbers of a reply to a command
 abbrev pub command_head : ℤ → ℤ → ReplyHead
-command_head id response_to = record { id = id; response_to = response_to; flags = 0; cursor_id = pos 0; starting_from = pos 0 }
+command_head id response_to =
+    record {
+      id = id;
+      response_to = response_to;
+      flags = 0;
+      cursor_id = pos 0;
+      starting_from = pos 0;
+    }
 
 -- the numbers are those of a reply, and the tree is that of a document
 pub record IsReply (h : ReplyHead) (t : Tree) : Type 0 where

@@ -1,5 +1,6 @@
 -- The bytes of a query (MongoDB Wire Protocol manual: Standard Message Header, OP_QUERY).
-use Rattle.std.specs.Prelude.{◌≡◌, ◌⊎◌, ℕ, ℤ, ◌+◌, ◌-◌, ◌*◌, ◌^◌, ◌<◌, ◌≤◌, FitsSigned, Bool, List, ◌++◌, length}
+use Rattle.std.specs.Prelude.{◌≡◌, ◌⊎◌, ℕ, ℤ, ◌+◌, ◌-◌, ◌*◌, ◌^◌, ◌<◌, ◌≤◌, FitsSigned, Bool, List}
+use Rattle.std.specs.Prelude.{◌++◌, length}
 use Rattle.std.specs.Int.{w32, cast_unsigned, from_bool}
 use Rattle.bson_elem.specs.{Tree, cstring, document, elements, little}
 use Rattle.wire_query.specs.Queries.{Query, command_name, IsDatabase, IsCommand}
@@ -10,28 +11,33 @@ signed z = little (cast_unsigned w32 z)
 
 -- messageLength, requestID, responseTo and opCode
 unfoldable pub header_bytes : ℕ → ℤ → ℤ → ℕ → List ℕ
-header_bytes len id response_to opcode = little len ++ (signed id ++ (signed response_to ++ little opcode))
+header_bytes len id response_to opcode =
+    little len ++ (signed id ++ (signed response_to ++ little opcode))
 
--- flags: of its bits only SlaveOk may be set, which is bit 2
+-- flags: only SlaveOk may be set, which is bit 2
 abbrev pub flag_word : Bool → ℕ
 flag_word secondary_ok = from_bool secondary_ok * 4
 
--- numberToReturn is 1 or -1: one document, which for a command are the same
+-- numberToReturn is 1 or -1, which mean the same for a command: one document
 abbrev pub IsOneDocument : ℕ → Type 0
 IsOneDocument count = (count ≡ 1) ⊎ (count ≡ 2 ^ 32 - 1)
 
--- fullCollectionName, numberToSkip, which is 0, numberToReturn, and the command; there is no returnFieldsSelector
+-- fullCollectionName, numberToSkip, which is 0, numberToReturn, and the command; there is no
+-- returnFieldsSelector
 unfoldable pub command_bytes : List ℕ → ℕ → Tree → List ℕ
-command_bytes database count body = cstring (command_name database) ++ (little 0 ++ (little count ++ document (elements body)))
+command_bytes database count body =
+    cstring (command_name database) ++ (little 0 ++ (little count ++ document (elements body)))
 
 -- a header with the opCode of OP_QUERY, 2004, the flags, and what follows them
 unfoldable pub framed_bytes : ℤ → ℤ → ℕ → List ℕ → List ℕ
-framed_bytes id response_to word rest = header_bytes (length rest + 20) id response_to 2004 ++ (little word ++ rest)
+framed_bytes id response_to word rest =
+    header_bytes (length rest + 20) id response_to 2004 ++ (little word ++ rest)
 
 -- The bytes spell the query.
 pub record SpellsQuery (q : Query) (bytes : List ℕ) : Type 0 where
   pub count : ℕ
-  pub parts : bytes ≡ framed_bytes q.id q.response_to (flag_word q.secondary_ok) (command_bytes q.database count q.body)
+  pub parts : bytes ≡ framed_bytes q.id q.response_to (flag_word q.secondary_ok)
+      (command_bytes q.database count q.body)
   pub short : length bytes < 2 ^ 31
   pub id : FitsSigned w32 q.id
   pub response_to : FitsSigned w32 q.response_to

@@ -1,11 +1,12 @@
-//! Checks the parts of a query (MongoDB Wire Protocol manual: OP_QUERY), each in the order in which
-//! they stand.
+//! Checks the parts of a query (MongoDB Wire Protocol manual: OP_QUERY), in their order.
 
-ghost use Rattle.std.specs.Prelude.{◌≡◌, ◌+◌, ◌<◌, ◌≤◌, ◌^◌, length, drop, MatchOption, MatchResult};
+ghost use Rattle.std.specs.Prelude.{◌≡◌, ◌+◌, ◌<◌, ◌≤◌, ◌^◌, length, drop, MatchOption};
+ghost use Rattle.std.specs.Prelude.{MatchResult};
 ghost use Rattle.bson_elem.specs.{IsName};
 ghost use Rattle.bson_raw.specs.{document_bytes};
 ghost use Rattle.wire_query.specs.Queries.{command_name, IsDatabase};
-ghost use Rattle.wire_query.specs.Faults.{CommandFault, FaultQuery, IsOfCommands, NameFault, NumbersFault};
+ghost use Rattle.wire_query.specs.Faults.{CommandFault, FaultQuery, IsOfCommands, NameFault};
+ghost use Rattle.wire_query.specs.Faults.{NumbersFault};
 ghost use Rattle.wire_query.specs.Checks.{HasCommand, HasHeader, HasName, HasNumbers, HasParts};
 
 use crate::fault::{QueryCause, QueryFault, fault_at};
@@ -17,13 +18,13 @@ use wire_msg::{MAX_MESSAGE_LEN, MsgHeader};
 /// SlaveOk, bit 2 of the flags: a secondary may answer.
 const SECONDARY_OK: u32 = 4;
 
-/// The offset of the collection's full name: behind the header and the flags.
+/// The offset of the collection's full name, after the header and the flags.
 const NAME: usize = 20;
 
-/// How many bytes numberToSkip and numberToReturn have.
+/// The number of bytes of numberToSkip and numberToReturn.
 const NUMBERS_LEN: usize = 8;
 
-/// Checks the header, and that there are as many bytes as it says.
+/// Checks the header, and that the length in it is the number of bytes.
 fn check_header(bytes: &[u8], limit: u32) -> Result<(), QueryFault>
     ensures { MatchResult result
         (λ _. HasHeader limit bytes.now)
@@ -85,7 +86,8 @@ fn check_numbers(bytes: &[u8], at: usize) -> Result<RawDocument<'_>, QueryFault>
     check_command(&bytes[NUMBERS_LEN..], at + NUMBERS_LEN)
 }
 
-/// Returns the database that is sent commands by the collection of this full name, if there is one.
+/// Returns the database whose commands are sent to the collection with this full name, if it is
+/// such a collection.
 fn database_of(name: &str) -> Option<&str>
     requires { IsName name.now }
     ensures { MatchOption result
@@ -99,7 +101,7 @@ fn database_of(name: &str) -> Option<&str>
     Some(database)
 }
 
-/// Checks what stands behind the flags. Returns the database's name and the command.
+/// Checks what follows the flags. Returns the database's name and the command.
 fn check_name(bytes: &[u8]) -> Result<(&str, RawDocument<'_>), QueryFault>
     requires { length bytes.now < 2 ^ 32 }
     ensures { MatchResult result

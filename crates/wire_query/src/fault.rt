@@ -1,4 +1,4 @@
-//! Why bytes are no query of a command, and at which offset.
+//! Says why bytes are not a query of a command, and at which offset.
 
 ghost use Rattle.std.specs.Prelude.{◌≡◌};
 ghost use Rattle.wire_query.specs.Causes.{cause_name, cause_number, query_fault};
@@ -9,28 +9,29 @@ use std::fmt;
 /// What is wrong with the bytes.
 #[derive(Clone, Copy, Debug, PartialEq, Eq)]
 pub enum QueryCause {
-    /// A messageLength that is not the number of bytes given, or above the limit; or fewer bytes
-    /// than a header has.
+    /// The messageLength is not the number of bytes given, or is above the limit; or there are
+    /// fewer bytes than a header has.
     Length,
     /// The opCode isn't that of OP_QUERY.
     Opcode(i32),
-    /// There are fewer than four bytes of flags, or than eight of numberToSkip and numberToReturn.
+    /// There are fewer than four bytes of flags, or fewer than eight bytes of numberToSkip and
+    /// numberToReturn.
     Truncated,
-    /// A flag is set that isn't SlaveOk.
+    /// A flag other than SlaveOk is set.
     Flags,
     /// The collection's full name has no 00, or isn't UTF-8.
     Name,
-    /// The collection's full name isn't the name of a database and `.$cmd`.
+    /// The collection's full name isn't the name of a database followed by `.$cmd`.
     Collection,
     /// numberToSkip isn't 0.
     Skip,
     /// numberToReturn is neither 1 nor -1.
     Count,
-    /// The command has this fault, whose offset is counted from the command's first byte.
+    /// The command has this fault. The fault's offset is counted from the command's first byte.
     Document(BsonFault),
-    /// Bytes stand behind the command. They may be a returnFieldsSelector, which no command has.
+    /// Bytes follow the command. They may be a returnFieldsSelector, which no command has.
     TrailingBytes,
-    /// A top-level name of the command stands twice.
+    /// A top-level name of the command is repeated.
     RepeatedField,
 }
 
@@ -74,11 +75,11 @@ impl QueryCause {
     }
 }
 
-/// The first fault of some bytes, in the order of the checks. It displays as its fault line.
+/// The first fault of some bytes, in the order of the checks. It is displayed as its fault line.
 #[derive(Clone, Copy, Debug, PartialEq, Eq)]
 pub struct QueryFault {
     /// The offset of the fault: 0 for the length, 12 for the opcode, 16 for the flags, 20 for the
-    /// name; else that of the number, of the command or of the bytes behind it.
+    /// name, and otherwise that of the number, of the command, or of the bytes after it.
     pub at: usize,
     /// What is wrong there.
     pub cause: QueryCause,

@@ -1,5 +1,5 @@
-//! The laws of the older spelling, on which whoever takes it for messages rests. The contract of
-//! each function is the law.
+//! Proves the laws of the older spelling, which everything that turns it into messages needs. The
+//! contract of each function is the law.
 
 ghost use Rattle.std.specs.Prelude.{◌≡◌, ◌<◌, ◌≤◌, ℕ, List, length};
 ghost use Rattle.bson_elem.specs.{IsBytes, Tree};
@@ -16,13 +16,13 @@ pub fn one_query()
     ensures { (q r : Query) (bytes : List ℕ) → SpellsQuery q bytes → SpellsQuery r bytes → q ≡ r }
 {}
 
-/// Proves that no byte list spells a query and a message.
+/// Proves that no byte list spells both a query and a message.
 pub fn no_query_is_a_message()
     ensures { (q : Query) (m : Message) (bytes : List ℕ) → SpellsQuery q bytes
         → SpellsMsg m bytes → ⊥ }
 {}
 
-/// Proves that at most one fault belongs to a byte list under a limit.
+/// Proves that bytes have at most one fault under a limit.
 pub fn one_fault()
     ensures { (limit : ℕ) (bytes : List ℕ) (f g : QueryFault) → IsBytes bytes
         → FaultQuery bytes limit f → FaultQuery bytes limit g → f ≡ g }

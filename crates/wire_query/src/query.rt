@@ -1,6 +1,7 @@
-//! The query of a command, borrowed from its bytes (MongoDB Wire Protocol manual: OP_QUERY).
+//! Reads the query of a command, borrowed from its bytes (MongoDB Wire Protocol manual: OP_QUERY).
 
-ghost use Rattle.std.specs.Prelude.{◌≡◌, ◌+◌, ◌<◌, ◌≤◌, ◌^◌, ◌++◌, length, IfOk, IfErr, IsOk, IsErrOf, OnOk, OnErr};
+ghost use Rattle.std.specs.Prelude.{◌≡◌, ◌+◌, ◌<◌, ◌≤◌, ◌^◌, ◌++◌, length, IfOk, IfErr, IsOk};
+ghost use Rattle.std.specs.Prelude.{IsErrOf, OnOk, OnErr};
 ghost use Rattle.std.specs.Io.{StartsWith};
 ghost use Rattle.bson_elem.specs.{Spells, Tree};
 ghost use Rattle.bson_raw.specs.{document_bytes};
@@ -23,10 +24,10 @@ use wire_msg::{MAX_MESSAGE_LEN, MsgHeader, OP_MSG};
 /// The opCode of OP_QUERY.
 pub const OP_QUERY: i32 = 2004;
 
-/// How many bytes stand in front of the body in a message of a body alone.
+/// The number of bytes before the body in a message with no document sequence.
 const BODY: usize = 21;
 
-/// The query of a command, borrowed from its bytes, which were checked when it was made.
+/// The query of a command, borrowed from its bytes. They were checked when it was made.
 #[derive(Clone, Copy, Debug)]
 pub struct RawQuery<'a> {
     bytes: &'a [u8],
@@ -49,12 +50,12 @@ impl<'a> AsSlice<u8> for RawQuery<'a> {
 impl<'a> RawQuery<'a> {
     ghost use Rattle.wire_query.specs.RawQuery.{raw_query_bytes};
 
-    /// Reads `bytes` as the query of a command, of at most `limit` bytes. It takes no memory; the
-    /// time to find repeated names grows as the square of their number.
+    /// Reads `bytes` as the query of a command, of at most `limit` bytes. Takes no memory. The
+    /// time to find repeated names grows with the square of their number.
     ///
     /// # Errors
     ///
-    /// The first fault of the bytes and its offset, in the order of the checks.
+    /// Returns the first fault of the bytes and its offset, in the order of the checks.
     pub fn parse(bytes: &'a [u8], limit: u32) -> Result<RawQuery<'a>, QueryFault>
         requires { limit ≤ MAX_MESSAGE_LEN }
         ensures found { IfOk result (λ q.
@@ -130,7 +131,7 @@ impl<'a> RawQuery<'a> {
         self.command
     }
 
-    /// Appends the message. Where memory is refused, some of its bytes may stand in `out`.
+    /// Appends the message. If memory runs out, `out` may end with some of its bytes.
     fn write_parts(self, out: &mut Vec<u8>) -> Result<(), AllocError>
         ensures added { (q : Query) → SpellsQuery q (raw_query_bytes self.entry)
             → OnOk result (out.new.items ≡ out.old.items ++ canonical (message_of q)) }
@@ -144,11 +145,11 @@ impl<'a> RawQuery<'a> {
         out.extend_from_slice(body)
     }
 
-    /// Appends the OP_MSG of the same ids and body, which is shorter than the query.
+    /// Appends the OP_MSG with the same ids and body, which is shorter than the query.
     ///
     /// # Errors
     ///
-    /// Want of memory. Then `out` is as it was.
+    /// Returns `AllocError` if memory runs out. Then `out` is unchanged.
     pub fn write_msg(self, out: &mut Vec<u8>) -> Result<(), AllocError>
         ensures written { (q : Query) → SpellsQuery q (raw_query_bytes self.entry)
             → OnOk result (out.new.items ≡ out.old.items ++ canonical (message_of q)) }

@@ -15,10 +15,10 @@ use wire_msg::MsgRefusal;
 /// The opCode of OP_REPLY.
 pub const OP_REPLY: i32 = 1;
 
-/// How many bytes stand in front of the documents of a reply.
+/// The number of bytes before the documents of a reply.
 const REPLY_FRONT: u64 = 36;
 
-/// The numbers of a reply that its documents don't tell.
+/// The numbers of a reply that don't follow from its documents.
 #[derive(Clone, Copy, Debug, PartialEq, Eq)]
 pub struct ReplyHead {
     /// requestID.
@@ -48,7 +48,7 @@ impl ReplyHead {
     }
 }
 
-/// Appends the numbers that stand behind the header of a reply of one document.
+/// Appends the numbers that follow the header of a reply with one document.
 fn write_numbers(head: ReplyHead, out: &mut Vec<u8>) -> Result<(), AllocError>
     ensures added { OnOk result (out.new.items ≡ out.old.items ++ numbers_bytes head) }
     ensures kept { OnErr result (StartsWith out.new.items out.old.items) }
@@ -59,7 +59,7 @@ fn write_numbers(head: ReplyHead, out: &mut Vec<u8>) -> Result<(), AllocError>
     write_u32(1, out)
 }
 
-/// Appends a reply of `len` bytes. Where memory is refused, some of them may stand in `out`.
+/// Appends a reply of `len` bytes. If memory runs out, `out` may end with some of them.
 fn write_parts(
     out: &mut Vec<u8>,
     len: u32,
@@ -80,8 +80,8 @@ fn write_parts(
 ///
 /// # Errors
 ///
-/// `TooLarge` if the reply has more than `limit` bytes, and else `OutOfMemory`. Then `out` is as it
-/// was.
+/// Returns `TooLarge` if the reply has more than `limit` bytes, and otherwise `OutOfMemory`. Then
+/// `out` is unchanged.
 pub fn write_reply(
     out: &mut Vec<u8>,
     head: ReplyHead,

@@ -10,7 +10,7 @@ ghost use Rattle.wire_query.specs.Replies.{long};
 use byteorder::{ByteOrder, LittleEndian};
 use std::alloc::AllocError;
 
-/// Appends a number of four bytes, the lowest first.
+/// Appends a number as four bytes, lowest byte first.
 pub(crate) fn write_u32(n: u32, out: &mut Vec<u8>) -> Result<(), AllocError>
     ensures added { OnOk result (out.new.items ≡ out.old.items ++ little n) }
     ensures kept { OnErr result (StartsWith out.new.items out.old.items) }
@@ -48,8 +48,8 @@ pub(crate) fn write_header(
     opcode: u32,
     out: &mut Vec<u8>,
 ) -> Result<(), AllocError>
-    ensures added { OnOk result (out.new.items
-        ≡ out.old.items ++ header_bytes len id response_to opcode) }
+    ensures added { OnOk result
+        (out.new.items ≡ out.old.items ++ header_bytes len id response_to opcode) }
     ensures kept { OnErr result (StartsWith out.new.items out.old.items) }
 {
     write_u32(len, out)?;

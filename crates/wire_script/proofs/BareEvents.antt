@@ -5,7 +5,7 @@ use Rattle.wire_model.specs.declared.events.Event.{Event}
 use Rattle.wire_model.specs.declared.events.Event.TheVariants as events
 use Rattle.wire_script.specs.declared.keyword.Keyword.{Keyword}
 use Rattle.wire_script.specs.declared.keyword.Keyword.TheVariants as keywords
-use Rattle.wire_script.specs.Naming.{AreEventOperands, AreTwo, IsOne, event_kind}
+use Rattle.wire_script.specs.Naming.{AreEventOperands, AreTwoNumbers, IsOneNumber, event_kind}
 use Rattle.wire_script.specs.Reading.{IsBare}
 
 -- the value of the first operand, and of the second
@@ -32,10 +32,10 @@ bare keywords.RawOpen c n = events.RawOpen
 bare keywords.RawTake c n = events.RawTake c n
 bare k c n = events.Open
 
-one_value : (operands : List (List ℕ)) (c : ℕ) → IsOne operands c → c ≡ first_value operands
+one_value : (operands : List (List ℕ)) (c : ℕ) → IsOneNumber operands c → c ≡ first_value operands
 one_value operands c is = is.connection_is.value ∙ sym (ap first_value is.words)
 
-two_values : (operands : List (List ℕ)) (c n : ℕ) → AreTwo operands c n → (c ≡ first_value operands) × (n ≡ second_value operands)
+two_values : (operands : List (List ℕ)) (c n : ℕ) → AreTwoNumbers operands c n → (c ≡ first_value operands) × (n ≡ second_value operands)
 two_values operands c n are = (are.connection_is.value ∙ sym (ap first_value are.words), are.count_is.value ∙ sym (ap second_value are.words))
 
 -- the operands say which event it is

@@ -12,7 +12,7 @@ lines_left s = lines_from (s.last + 1) s.rest.now
 abbrev pub lines_bound : Lines → ℕ
 lines_bound s = length s.rest.now
 
--- a line is the first that was left, or none was
+-- the first line that was left is returned, or none was left
 abbrev pub GivesLine : Lines → Option NumberedLine → Lines → Type 0
 GivesLine s None after = (lines_left s ≡ []) × (lines_left after ≡ [])
 GivesLine s (Some line) after = lines_left s ≡ (line.number, line.text.now) ∷ lines_left after

@@ -1,4 +1,4 @@
--- What a line that was read shows.
+-- What the result of reading a line shows.
 use Rattle.std.specs.Prelude.{◌≡◌, ℕ, List}
 use Rattle.std.specs.Borrow.{Bor}
 use Rattle.wire_model.specs.declared.events.Event.{Event}
@@ -11,11 +11,15 @@ use Rattle.wire_script.specs.declared.named.ScriptEvent.{ScriptEvent}
 use Rattle.wire_script.specs.declared.named.ScriptEvent.TheVariants.{Bare, Call, Raw}
 use Rattle.wire_script.specs.Naming.{Names, event, setup}
 
--- the event borrows what this one owns: the same payload, the same bytes
+-- the event borrows from the one that owns its bytes: they have the same payload, or the same
+-- bytes
 abbrev pub Lends : ScriptEvent → Event → Type 0
 Lends (Bare e) lent = lent ≡ e
-Lends (Call c kind owned) lent = (payload : Payload) × (lent ≡ events.Call c kind payload) × ((content : Content) → BufCarries owned content → Carries payload content)
-Lends (Raw c owned) lent = (bytes : Bor (List ℕ)) × (lent ≡ events.Raw c bytes) × (bytes.now ≡ owned.items)
+Lends (Call c kind owned) lent =
+    (payload : Payload) × (lent ≡ events.Call c kind payload)
+    × ((content : Content) → BufCarries owned content → Carries payload content)
+Lends (Raw c owned) lent =
+    (bytes : Bor (List ℕ)) × (lent ≡ events.Raw c bytes) × (bytes.now ≡ owned.items)
 
 -- the line names what was read
 abbrev pub IsLine : List ℕ → Line → Type 0

@@ -1,5 +1,6 @@
 -- The lines of a script, and which of them are read.
-use Rattle.std.specs.Prelude.{ℕ, ◌+◌, ◌-◌, ◌==◌, Bool, true, not, if◌then◌else◌, List, [], ◌∷◌, length, slice_index, take}
+use Rattle.std.specs.Prelude.{ℕ, ◌+◌, ◌-◌, ◌==◌, Bool, true, not, if◌then◌else◌, List, [], ◌∷◌}
+use Rattle.std.specs.Prelude.{length, slice_index, take}
 use Rattle.std.specs.List.{filter, slice_split}
 
 -- ---- lines
@@ -7,16 +8,17 @@ use Rattle.std.specs.List.{filter, slice_split}
 abbrev pub is_lf : ℕ → Bool
 is_lf b = b == 10
 
--- what stands before an LF, without the CR right before that, if there is one
+-- a line as it is before its LF, without the CR at its end, if there is one
 abbrev pub without_cr : List ℕ → List ℕ
-without_cr line = if slice_index line (length line - 1) == 13 then take (length line - 1) line else line
+without_cr line =
+    if slice_index line (length line - 1) == 13 then take (length line - 1) line else line
 
--- the last line lacks its LF, and is none if it is empty
+-- the last line, which has no LF; there is none if it is empty
 abbrev pub last_line : List ℕ → List (List ℕ)
 last_line [] = []
 last_line (b ∷ bs) = (b ∷ bs) ∷ []
 
--- the lines that these parts of a text are, between which its LFs stand
+-- the lines of a text that its LFs cut into these parts
 abbrev pub lines_in : List (List ℕ) → List (List ℕ)
 lines_in [] = []
 lines_in (part ∷ []) = last_line part
@@ -38,7 +40,8 @@ abbrev pub numbered : ℕ → List (List ℕ) → List (ℕ × List ℕ)
 numbered n [] = []
 numbered n (line ∷ lines) = (n, line) ∷ numbered (n + 1) lines
 
--- the lines of a text that aren't passed over, each with its number, where the first line of all has this number
+-- the lines of a text that aren't passed over, each with its number, where the first line of all
+-- has this number
 abbrev pub lines_from : ℕ → List ℕ → List (ℕ × List ℕ)
 lines_from n text = filter (λ x. not (is_passed_over x.1)) (numbered n (lines_of text))
 

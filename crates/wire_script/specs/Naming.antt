@@ -2,7 +2,9 @@
 use Rattle.std.specs.Prelude.{◌≡◌, ◌≢◌, ◌⊎◌, ℕ, ◌^◌, pos, List, [], ◌∷◌, codes}
 use Rattle.bson_elem.specs.{Tree}
 use Rattle.wire_model.specs.declared.events.Event.{Event}
-use Rattle.wire_model.specs.declared.events.Event.TheVariants.{Open, Return, Call, Up, Down, Answer, CutUp, CutDown, Clear, Restart, RawOpen, Raw, RawTake}
+use Rattle.wire_model.specs.declared.events.Event.TheVariants.{Open, Return, Call, Up, Down, Answer}
+use Rattle.wire_model.specs.declared.events.Event.TheVariants.{CutUp, CutDown, Clear, Restart}
+use Rattle.wire_model.specs.declared.events.Event.TheVariants.{RawOpen, Raw, RawTake}
 use Rattle.wire_msg.specs.{Carries, body_alone}
 use Rattle.wire_msg.specs.declared.payloads.Payload.{Payload}
 use Rattle.wire_peer.specs.declared.calls.CallKind.{CallKind}
@@ -14,7 +16,7 @@ use Rattle.wire_script.specs.declared.named.HandlerName.TheVariants.{Echo, Count
 use Rattle.wire_script.specs.declared.named.Setup.{Setup}
 use Rattle.wire_script.specs.Words.{IsDocumentHex, IsHex, IsNumber, words_of}
 
--- with what a world is made, or what happens in it
+-- the handler and the limits of a world, or an event in it
 pub data Named : Type 0 where
   setup : Setup → Named
   event : Event → Named
@@ -71,7 +73,8 @@ abbrev pub handler_word : HandlerName → List ℕ
 handler_word Echo = codes "echo"
 handler_word Count = codes "count"
 
--- HANDLER FIRST WINDOW MAX LIMIT: the name of the handler, and four numbers that fit the limits' types
+-- HANDLER FIRST WINDOW MAX LIMIT: the name of the handler, and four numbers that fit the limits'
+-- types
 pub record IsSetup (operands : List (List ℕ)) (s : Setup) : Type 0 where
   pub first : List ℕ
   pub window : List ℕ
@@ -86,13 +89,13 @@ pub record IsSetup (operands : List (List ℕ)) (s : Setup) : Type 0 where
   pub limit_is : IsNumber (2 ^ 32) limit s.limits.limit
 
 -- C: a number
-pub record IsOne (operands : List (List ℕ)) (c : ℕ) : Type 0 where
+pub record IsOneNumber (operands : List (List ℕ)) (c : ℕ) : Type 0 where
   pub connection : List ℕ
   pub words : operands ≡ connection ∷ []
   pub connection_is : IsNumber (2 ^ 64) connection c
 
 -- C N: two numbers
-pub record AreTwo (operands : List (List ℕ)) (c n : ℕ) : Type 0 where
+pub record AreTwoNumbers (operands : List (List ℕ)) (c n : ℕ) : Type 0 where
   pub connection : List ℕ
   pub count : List ℕ
   pub words : operands ≡ connection ∷ count ∷ []
@@ -122,18 +125,18 @@ pub record IsRaw (operands : List (List ℕ)) (c : ℕ) (bytes : List ℕ) : Typ
 
 abbrev pub AreEventOperands : List (List ℕ) → Event → Type 0
 AreEventOperands operands Open = operands ≡ []
-AreEventOperands operands (Return c) = IsOne operands c
+AreEventOperands operands (Return c) = IsOneNumber operands c
 AreEventOperands operands (Call c kind payload) = IsCall operands c payload
-AreEventOperands operands (Up c n) = AreTwo operands c n
-AreEventOperands operands (Down c n) = AreTwo operands c n
-AreEventOperands operands (Answer c i) = AreTwo operands c i
-AreEventOperands operands (CutUp c) = IsOne operands c
-AreEventOperands operands (CutDown c) = IsOne operands c
+AreEventOperands operands (Up c n) = AreTwoNumbers operands c n
+AreEventOperands operands (Down c n) = AreTwoNumbers operands c n
+AreEventOperands operands (Answer c i) = AreTwoNumbers operands c i
+AreEventOperands operands (CutUp c) = IsOneNumber operands c
+AreEventOperands operands (CutDown c) = IsOneNumber operands c
 AreEventOperands operands Clear = operands ≡ []
 AreEventOperands operands Restart = operands ≡ []
 AreEventOperands operands RawOpen = operands ≡ []
 AreEventOperands operands (Raw c bytes) = IsRaw operands c bytes.now
-AreEventOperands operands (RawTake c n) = AreTwo operands c n
+AreEventOperands operands (RawTake c n) = AreTwoNumbers operands c n
 
 abbrev pub AreOperands : List (List ℕ) → Named → Type 0
 AreOperands operands (setup s) = IsSetup operands s
@@ -143,13 +146,15 @@ AreOperands operands (event e) = AreEventOperands operands e
 
 -- the line names this: its first word is the keyword, and the others are the operands
 abbrev pub Names : List ℕ → Named → Type 0
-Names line named = (operands : List (List ℕ)) × (words_of line ≡ keyword_of named ∷ operands) × AreOperands operands named
+Names line named =
+    (operands : List (List ℕ)) × (words_of line ≡ keyword_of named ∷ operands)
+    × AreOperands operands named
 
 -- the keyword of a call or of raw bytes
 abbrev pub IsBytesKeyword : List ℕ → Type 0
 IsBytesKeyword word = (word ≡ codes "raw") ⊎ ((kind : CallKind) × (word ≡ call_keyword kind))
 
--- such a keyword stands first, and behind it a number and one word more
+-- the first word is such a keyword, and after it come a number and one more word
 pub record NamesBytes (line : List ℕ) : Type 0 where
   pub keyword : List ℕ
   pub operands : List (List ℕ)

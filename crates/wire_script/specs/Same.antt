@@ -6,8 +6,12 @@ use Rattle.wire_msg.specs.{Carries, Content}
 use Rattle.wire_msg.specs.declared.payloads.Payload.{Payload}
 use Rattle.wire_script.specs.Naming.{Named, event}
 
--- They are the same but for where payloads and bytes are borrowed from: the payloads carry the same, and the bytes are the same.
+-- Two readings are the same, except for where payloads and bytes are borrowed from: the payloads
+-- carry the same, and the bytes are the same.
 abbrev pub IsSame : Named → Named → Type 0
-IsSame (event (Call c kind payload)) n = (other : Payload) × (n ≡ event (Call c kind other)) × ((content : Content) → Carries payload content → Carries other content)
-IsSame (event (Raw c bytes)) n = (other : Bor (List ℕ)) × (n ≡ event (Raw c other)) × (other.now ≡ bytes.now)
+IsSame (event (Call c kind payload)) n =
+    (other : Payload) × (n ≡ event (Call c kind other))
+    × ((content : Content) → Carries payload content → Carries other content)
+IsSame (event (Raw c bytes)) n =
+    (other : Bor (List ℕ)) × (n ≡ event (Raw c other)) × (other.now ≡ bytes.now)
 IsSame m n = n ≡ m

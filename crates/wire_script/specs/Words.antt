@@ -9,7 +9,7 @@ use Rattle.bson_raw.specs.{first_repeated}
 abbrev pub is_blank : ℕ → Bool
 is_blank b = b == 32
 
--- the words of a line stand one space apart
+-- the words of a line, which have one space between them
 abbrev pub words_of : List ℕ → List (List ℕ)
 words_of line = slice_split is_blank line
 

@@ -1,4 +1,4 @@
-//! Bytes in hexadecimal digits, and documents.
+//! Reads bytes in hexadecimal digits, and documents.
 
 ghost use Rattle.std.specs.Prelude.{◌≡◌, ℕ, Err, IfOk, List};
 ghost use Rattle.bson_elem.specs.{Tree};
@@ -15,7 +15,8 @@ use wire_msg::{MsgRefusal, PayloadBuf};
 /// Returns the bytes that the word spells.
 pub(crate) fn bytes_of(alloc: Global, word: &[u8]) -> Result<Vec<u8>, LineError>
     ensures spelled { IfOk result (λ v. IsHex word.now v.items) }
-    ensures nothing { result ≡ Err LineError.Malformed → (bytes : List ℕ) → IsHex word.now bytes → ⊥ }
+    ensures nothing { result ≡ Err LineError.Malformed → (bytes : List ℕ) → IsHex word.now bytes
+        → ⊥ }
 {
     match hex::decode(alloc, word) {
         Ok(bytes) => Ok(bytes),
@@ -26,8 +27,8 @@ pub(crate) fn bytes_of(alloc: Global, word: &[u8]) -> Result<Vec<u8>, LineError>
 
 /// Returns the payload whose body is the document that the word spells.
 pub(crate) fn payload_of(alloc: Global, word: &[u8]) -> Result<PayloadBuf, LineError>
-    ensures carried { IfOk result (λ payload. (t : Tree) × IsDocumentHex word.now t
-        × BufCarries payload (body_alone t)) }
+    ensures carried { IfOk result
+        (λ payload. (t : Tree) × IsDocumentHex word.now t × BufCarries payload (body_alone t)) }
     ensures nothing { result ≡ Err LineError.Malformed → (t : Tree) (payload : Payload)
         → IsDocumentHex word.now t → Carries payload (body_alone t) → ⊥ }
 {

@@ -1,4 +1,4 @@
-//! The words of a line, cut off one at a time.
+//! Cuts a line into its words, one at a time.
 
 ghost use Rattle.std.specs.Prelude.{◌≡◌, ◌∷◌, [], MatchOption};
 ghost use Rattle.wire_script.specs.Reading.{words_behind};
@@ -6,7 +6,7 @@ ghost use Rattle.wire_script.specs.Words.{words_of};
 
 use memchr::memchr;
 
-/// Cuts off the first word. Returns it, and what stands behind the space that follows it, if one does.
+/// Cuts off the first word. Returns it, and what follows the space after it, if there is one.
 pub(crate) fn cut_word(line: &[u8]) -> (&[u8], Option<&[u8]>)
     ensures { words_of line.now ≡ result.0.now ∷ words_behind result.1 }
 {

@@ -1,4 +1,4 @@
-//! The first words of lines.
+//! Reads the first word of a line.
 
 ghost use Rattle.std.specs.Prelude.{◌≡◌, IfSome, Some};
 ghost use Rattle.wire_script.specs.Naming.{keyword_text};
@@ -24,7 +24,7 @@ pub(crate) enum Keyword {
     RawTake,
 }
 
-/// Returns the keyword that the word is, if it is one.
+/// Returns the keyword that the word spells, if it spells one.
 pub(crate) fn read_keyword(word: &[u8]) -> Option<Keyword>
     ensures known { IfSome result (λ k. word.now ≡ keyword_text k) }
     ensures only { (k : Keyword) → word.now ≡ keyword_text k → result ≡ Some k }

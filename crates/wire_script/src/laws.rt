@@ -1,4 +1,4 @@
-//! The laws of lines. The contract of each function is the law.
+//! Proves the laws of lines. The contract of each function is the law.
 
 ghost use Rattle.std.specs.Prelude.{◌≡◌, ◌≢◌, ◌∷◌, ◌++◌, [], All, ℕ, List, Result};
 ghost use Rattle.std.specs.List.{join_with_byte};
@@ -14,7 +14,8 @@ ghost use Rattle.wire_script.specs.Words.{words_of};
 
 use wire_peer::Handler;
 
-/// Proves that an LF ends a line, a CR right before it is dropped, and the last line may lack it.
+/// Proves that an LF ends a line, that a CR right before it is dropped, and that the last line may
+/// have none.
 pub fn an_lf_ends_a_line()
     ensures ended { (line rest : List ℕ) → All (λ b. b ≢ 10) line
         → lines_of (line ++ 10 ∷ rest) ≡ without_cr line ∷ lines_of rest }
@@ -23,7 +24,7 @@ pub fn an_lf_ends_a_line()
     ensures none { lines_of [] ≡ [] }
 {}
 
-/// Proves that a space ends a word, and a line is its words with one space between each two.
+/// Proves that a space ends a word, and that a line is its words with one space between them.
 pub fn a_space_ends_a_word()
     ensures ended { (word rest : List ℕ) → All (λ b. b ≢ 32) word
         → words_of (word ++ 32 ∷ rest) ≡ word ∷ words_of rest }
@@ -31,12 +32,12 @@ pub fn a_space_ends_a_word()
     ensures joined { (line : List ℕ) → join_with_byte 32 (words_of line) ≡ line }
 {}
 
-/// Proves that a line names one thing at most.
+/// Proves that a line names at most one thing.
 pub fn one_reading()
     ensures { (line : List ℕ) (m n : Named) → Names line m → Names line n → IsSame m n }
 {}
 
-/// Proves that whichever event a line is read as, the same happens in a world.
+/// Proves that all events that a line can be read as do the same in a world.
 pub fn readings_do_the_same<H: Handler>()
     ensures { (l : Limits) (old new : World H) (line : List ℕ) (e f : Happening)
         (r : Result Done Refusal) → Names line (event e) → Names line (event f)

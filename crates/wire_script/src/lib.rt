@@ -1,9 +1,10 @@
-//! The lines of a script of events.
+//! Reads the lines of a script of events.
 //!
-//! `Lines` cuts a script into its lines, and passes over empty ones and those that begin with `#`. `parse_line` reads one of
-//! them: it names with what a world is made, or an event in it. What happens in the world is no concern of this crate.
+//! `Lines` cuts a script into its lines, and skips empty ones and those that begin with `#`.
+//! `parse_line` reads one of them: it names the limits and the handler of a world, or an event in
+//! it. What then happens in the world is no part of this crate.
 //!
-//! Stands on wire_model. wire_play stands on it. Read first: docs/SCRIPTS.md, and then `parse`.
+//! Uses wire_model. Used by wire_play. Read first: docs/SCRIPTS.md, and then `parse`.
 #![tactic(auto)]
 
 mod body;

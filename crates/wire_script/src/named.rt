@@ -1,4 +1,4 @@
-//! What a line of a script names.
+//! Names what a line of a script can say.
 
 ghost use Rattle.wire_script.specs.Lent.{Lends};
 
@@ -15,7 +15,7 @@ pub enum HandlerName {
     Count,
 }
 
-/// With what a script's world is made. The numbers may be out of range.
+/// The handler and the limits of a script's world. The numbers may be out of range.
 #[derive(Clone, Copy, Debug, PartialEq, Eq)]
 pub struct Setup {
     /// The handler of its requests.
@@ -24,19 +24,19 @@ pub struct Setup {
     pub limits: WorldLimits,
 }
 
-/// An event that owns the bytes that it names.
+/// An event that owns its bytes.
 #[derive(Drop)]
 pub enum ScriptEvent {
-    /// An event that names no bytes.
+    /// An event without bytes.
     Bare(Event<'static>),
-    /// A call of this kind with this payload over the connection.
+    /// A call of this kind with this payload, over this connection.
     Call(u64, CallKind, PayloadBuf),
-    /// These bytes are fed to the server of a raw connection.
+    /// Bytes that are fed to the server of this raw connection.
     Raw(u64, Vec<u8>),
 }
 
 impl ScriptEvent {
-    /// Returns the event, which borrows the bytes.
+    /// Borrows the event.
     pub fn as_event(&self) -> Event<'_>
         ensures { Lends self.now result }
     {
@@ -50,20 +50,20 @@ impl ScriptEvent {
     }
 }
 
-/// What a line of a script names.
+/// What a line of a script says.
 #[derive(Drop)]
 pub enum Line {
-    /// With what the world is made.
+    /// The world, by its handler and limits.
     World(Setup),
-    /// What happens in it.
+    /// An event in the world.
     Event(ScriptEvent),
 }
 
-/// Why a line isn't read.
+/// Why a line can't be read.
 #[derive(Clone, Copy, Debug, PartialEq, Eq)]
 pub enum LineError {
     /// The line names nothing.
     Malformed,
-    /// Memory is wanting.
+    /// Memory ran out.
     OutOfMemory,
 }

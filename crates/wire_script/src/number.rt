@@ -1,4 +1,4 @@
-//! Numbers.
+//! Reads numbers.
 
 ghost use Rattle.std.specs.Prelude.{◌≡◌, ◌^◌, ℕ, IfSome, Some, pos};
 ghost use Rattle.wire_script.specs.Words.{IsNumber};
@@ -6,7 +6,7 @@ ghost use Rattle.wire_script.specs.Words.{IsNumber};
 /// The most digits that a number has.
 const MAX_DIGITS: usize = 20;
 
-/// Returns the number that the word spells, if it is one that fits.
+/// Returns the number that the word spells, if it spells one that fits.
 pub(crate) fn number(word: &[u8]) -> Option<u64>
     ensures found { IfSome result (λ n. IsNumber (2 ^ 64) word.now n) }
     ensures only { (n : ℕ) → IsNumber (2 ^ 64) word.now n → result ≡ Some n }
@@ -18,7 +18,7 @@ pub(crate) fn number(word: &[u8]) -> Option<u64>
     text.parse().ok()
 }
 
-/// Returns the number that the word spells, if it is one that fits.
+/// Returns the number that the word spells, if it spells one that fits.
 pub(crate) fn number_u32(word: &[u8]) -> Option<u32>
     ensures found { IfSome result (λ n. IsNumber (2 ^ 32) word.now n) }
     ensures only { (n : ℕ) → IsNumber (2 ^ 32) word.now n → result ≡ Some n }
@@ -26,7 +26,7 @@ pub(crate) fn number_u32(word: &[u8]) -> Option<u32>
     u32::try_from(number(word)?).ok()
 }
 
-/// Returns the number that the word spells, if it is one that fits.
+/// Returns the number that the word spells, if it spells one that fits.
 pub(crate) fn number_i32(word: &[u8]) -> Option<i32>
     ensures found { IfSome result (λ i. (n : ℕ) × (i ≡ pos n) × IsNumber (2 ^ 31) word.now n) }
     ensures only { (n : ℕ) → IsNumber (2 ^ 31) word.now n → result ≡ Some (pos n) }

@@ -1,10 +1,12 @@
-//! The operands of a line.
+//! Parses the operands of a line.
 
-ghost use Rattle.std.specs.Prelude.{◌≡◌, ◌↔◌, ◌∷◌, [], ℕ, Err, IfOk, IfSome, IsSomeAnd, IsTrue, List, Some};
+ghost use Rattle.std.specs.Prelude.{◌≡◌, ◌↔◌, ◌∷◌, [], ℕ, Err, IfOk, IfSome, IsSomeAnd, IsTrue};
+ghost use Rattle.std.specs.Prelude.{List, Some};
 ghost use Rattle.wire_msg.specs.{BufCarries, Carries, Content};
 ghost use Rattle.wire_msg.specs.declared.payloads.Payload.{Payload};
-ghost use Rattle.wire_script.specs.Naming.{AreTwo, HasHex, IsCall, IsOne, IsRaw, IsSetup, handler_word};
-ghost use Rattle.wire_script.specs.Reading.{five, words_behind};
+ghost use Rattle.wire_script.specs.Naming.{AreTwoNumbers, HasHex, IsCall, IsOneNumber, IsRaw};
+ghost use Rattle.wire_script.specs.Naming.{IsSetup, handler_word};
+ghost use Rattle.wire_script.specs.Reading.{setup_words, words_behind};
 
 use crate::body::{bytes_of, payload_of};
 use crate::cut::next_word;
@@ -14,10 +16,11 @@ use std::alloc::Global;
 use wire_model::WorldLimits;
 use wire_msg::PayloadBuf;
 
-/// Returns the word behind a keyword, if there is just one.
+/// Returns the word after a keyword, if there is exactly one.
 fn one_word(rest: Option<&[u8]>) -> Option<&[u8]>
     ensures found { IfSome result (λ w. words_behind rest.entry ≡ w.now ∷ []) }
-    ensures only { (w : List ℕ) → words_behind rest.entry ≡ w ∷ [] → IsSomeAnd result (λ x. x.now ≡ w) }
+    ensures only { (w : List ℕ) → words_behind rest.entry ≡ w ∷ []
+        → IsSomeAnd result (λ x. x.now ≡ w) }
 {
     let (word, rest) = next_word(rest)?;
     if rest.is_some() {
@@ -26,7 +29,7 @@ fn one_word(rest: Option<&[u8]>) -> Option<&[u8]>
     Some(word)
 }
 
-/// Returns the words behind a keyword, if there are just two.
+/// Returns the words after a keyword, if there are exactly two.
 fn two_words(rest: Option<&[u8]>) -> Option<(&[u8], &[u8])>
     ensures found { IfSome result (λ x. words_behind rest.entry ≡ x.0.now ∷ x.1.now ∷ []) }
     ensures only { (v w : List ℕ) → words_behind rest.entry ≡ v ∷ w ∷ []
@@ -37,7 +40,7 @@ fn two_words(rest: Option<&[u8]>) -> Option<(&[u8], &[u8])>
     Some((first, second))
 }
 
-/// The five operands of a setup, as words.
+/// The five operands of `world`, as words.
 #[derive(Clone, Copy)]
 struct SetupWords<'a> {
     handler: &'a [u8],
@@ -47,11 +50,11 @@ struct SetupWords<'a> {
     limit: &'a [u8],
 }
 
-/// Returns the words behind a keyword, if there are just five.
+/// Returns the words after a keyword, if there are exactly five.
 fn five_words(rest: Option<&[u8]>) -> Option<SetupWords<'_>>
-    ensures found { IfSome result (λ x. words_behind rest.entry ≡ five x) }
+    ensures found { IfSome result (λ x. words_behind rest.entry ≡ setup_words x) }
     ensures only { (a b c d e : List ℕ) → words_behind rest.entry ≡ a ∷ b ∷ c ∷ d ∷ e ∷ []
-        → IsSomeAnd result (λ x. five x ≡ a ∷ b ∷ c ∷ d ∷ e ∷ []) }
+        → IsSomeAnd result (λ x. setup_words x ≡ a ∷ b ∷ c ∷ d ∷ e ∷ []) }
 {
     let (handler, rest) = next_word(rest)?;
     let (first, rest) = next_word(rest)?;
@@ -66,25 +69,25 @@ fn five_words(rest: Option<&[u8]>) -> Option<SetupWords<'_>>
     })
 }
 
-/// Returns true if there is no word.
+/// Returns true if there are no words.
 pub(crate) fn has_no_words(rest: Option<&[u8]>) -> bool
     ensures { IsTrue result ↔ (words_behind rest.entry ≡ []) }
 {
     rest.is_none()
 }
 
-/// Returns the number that is the only operand, if it is one.
-pub(crate) fn one(rest: Option<&[u8]>) -> Option<u64>
-    ensures found { IfSome result (λ c. IsOne (words_behind rest.entry) c) }
-    ensures only { (c : ℕ) → IsOne (words_behind rest.entry) c → result ≡ Some c }
+/// Parses the operand C: a number.
+pub(crate) fn one_number(rest: Option<&[u8]>) -> Option<u64>
+    ensures found { IfSome result (λ c. IsOneNumber (words_behind rest.entry) c) }
+    ensures only { (c : ℕ) → IsOneNumber (words_behind rest.entry) c → result ≡ Some c }
 {
     number(one_word(rest)?)
 }
 
-/// Returns the two numbers that are the operands, if they are.
-pub(crate) fn two(rest: Option<&[u8]>) -> Option<(u64, usize)>
-    ensures found { IfSome result (λ x. AreTwo (words_behind rest.entry) x.0 x.1) }
-    ensures only { (c n : ℕ) → AreTwo (words_behind rest.entry) c n → result ≡ Some (c, n) }
+/// Parses the operands C and N: two numbers.
+pub(crate) fn two_numbers(rest: Option<&[u8]>) -> Option<(u64, usize)>
+    ensures found { IfSome result (λ x. AreTwoNumbers (words_behind rest.entry) x.0 x.1) }
+    ensures only { (c n : ℕ) → AreTwoNumbers (words_behind rest.entry) c n → result ≡ Some (c, n) }
 {
     let (connection, count) = two_words(rest)?;
     let connection = number(connection)?;
@@ -92,7 +95,7 @@ pub(crate) fn two(rest: Option<&[u8]>) -> Option<(u64, usize)>
     Some((connection, count as usize))
 }
 
-/// Returns the number and the word that are the operands, if they are such.
+/// Parses the operands C and HEX: a number, and a word that isn't looked at.
 fn number_and_hex(rest: Option<&[u8]>) -> Option<(u64, &[u8])>
     ensures found { IfSome result (λ x. HasHex (words_behind rest.entry) x.0 x.1.now) }
     ensures only { (c : ℕ) (hex : List ℕ) → HasHex (words_behind rest.entry) c hex
@@ -103,7 +106,8 @@ fn number_and_hex(rest: Option<&[u8]>) -> Option<(u64, &[u8])>
     Some((connection, hex))
 }
 
-/// Returns the connection and the payload that are the operands of a call.
+/// Parses the operands of a call: a connection, and a document, which becomes the body of a
+/// payload.
 pub(crate) fn call(alloc: Global, rest: Option<&[u8]>) -> Result<(u64, PayloadBuf), LineError>
     ensures found { IfOk result (λ x. (payload : Payload)
         → ((content : Content) → BufCarries x.1 content → Carries payload content)
@@ -120,7 +124,7 @@ pub(crate) fn call(alloc: Global, rest: Option<&[u8]>) -> Result<(u64, PayloadBu
     Ok((connection, payload))
 }
 
-/// Returns the connection and the bytes that are the operands of raw bytes.
+/// Parses the operands of raw bytes: a connection, and at least one byte.
 pub(crate) fn raw(alloc: Global, rest: Option<&[u8]>) -> Result<(u64, Vec<u8>), LineError>
     ensures found { IfOk result (λ x. IsRaw (words_behind rest.entry) x.0 x.1.items) }
     ensures nothing { result ≡ Err LineError.Malformed → (c : ℕ) (bytes : List ℕ)
@@ -138,7 +142,7 @@ pub(crate) fn raw(alloc: Global, rest: Option<&[u8]>) -> Result<(u64, Vec<u8>), 
     Ok((connection, bytes))
 }
 
-/// Returns the handler that the word names, if it names one.
+/// Returns the handler with this name, if there is one.
 fn handler(word: &[u8]) -> Option<HandlerName>
     ensures known { IfSome result (λ h. word.now ≡ handler_word h) }
     ensures only { (h : HandlerName) → word.now ≡ handler_word h → result ≡ Some h }
@@ -150,7 +154,7 @@ fn handler(word: &[u8]) -> Option<HandlerName>
     }
 }
 
-/// Returns with what a world is made by these operands, if they say so.
+/// Parses the operands of `world`: handler, first id, window, connections, limit.
 pub(crate) fn setup(rest: Option<&[u8]>) -> Option<Setup>
     ensures found { IfSome result (λ s. IsSetup (words_behind rest.entry) s) }
     ensures only { (s : Setup) → IsSetup (words_behind rest.entry) s → result ≡ Some s }

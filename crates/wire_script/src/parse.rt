@@ -1,22 +1,23 @@
-//! A line of a script, read.
+//! Parses a line of a script.
 
 ghost use Rattle.std.specs.Prelude.{◌≡◌, Err, IfOk, IfSome, List, ℕ};
 ghost use Rattle.wire_model.specs.declared.events.Event.{Event as Happening};
 ghost use Rattle.wire_script.specs.Lent.{IsLine, Lends};
-ghost use Rattle.wire_script.specs.Naming.{AreEventOperands, HasHex, IsBytesKeyword, Named, Names, NamesBytes, event_kind, keyword_text};
+ghost use Rattle.wire_script.specs.Naming.{AreEventOperands, HasHex, IsBytesKeyword, Named, Names};
+ghost use Rattle.wire_script.specs.Naming.{NamesBytes, event_kind, keyword_text};
 ghost use Rattle.wire_script.specs.Reading.{IsBare, words_behind};
 
 use crate::cut::cut_word;
 use crate::keyword::{Keyword, read_keyword};
 use crate::named::{Line, LineError, ScriptEvent};
-use crate::operands::{call, has_no_words, one, raw, setup, two};
+use crate::operands::{call, has_no_words, one_number, raw, setup, two_numbers};
 use std::alloc::Global;
 use wire_model::Event;
 
-/// Returns the event that the keyword and its operands name, if it is one that names no bytes.
+/// Parses an event without bytes, by its keyword and its operands.
 fn bare_event(keyword: Keyword, rest: Option<&[u8]>) -> Option<Event<'static>>
-    ensures found { IfSome result (λ e. (event_kind e ≡ keyword)
-        × AreEventOperands (words_behind rest.entry) e) }
+    ensures found { IfSome result
+        (λ e. (event_kind e ≡ keyword) × AreEventOperands (words_behind rest.entry) e) }
     ensures nothing { result ≡ None → (e : Happening) → event_kind e ≡ keyword → IsBare e
         → AreEventOperands (words_behind rest.entry) e → ⊥ }
 {
@@ -25,30 +26,30 @@ fn bare_event(keyword: Keyword, rest: Option<&[u8]>) -> Option<Event<'static>>
         Keyword::Clear if has_no_words(rest) => Some(Event::Clear),
         Keyword::Restart if has_no_words(rest) => Some(Event::Restart),
         Keyword::RawOpen if has_no_words(rest) => Some(Event::RawOpen),
-        Keyword::Return => Some(Event::Return(one(rest)?)),
-        Keyword::CutUp => Some(Event::CutUp(one(rest)?)),
-        Keyword::CutDown => Some(Event::CutDown(one(rest)?)),
+        Keyword::Return => Some(Event::Return(one_number(rest)?)),
+        Keyword::CutUp => Some(Event::CutUp(one_number(rest)?)),
+        Keyword::CutDown => Some(Event::CutDown(one_number(rest)?)),
         Keyword::Up => {
-            let (connection, count) = two(rest)?;
+            let (connection, count) = two_numbers(rest)?;
             Some(Event::Up(connection, count))
         }
         Keyword::Down => {
-            let (connection, count) = two(rest)?;
+            let (connection, count) = two_numbers(rest)?;
             Some(Event::Down(connection, count))
         }
         Keyword::Answer => {
-            let (connection, index) = two(rest)?;
+            let (connection, index) = two_numbers(rest)?;
             Some(Event::Answer(connection, index))
         }
         Keyword::RawTake => {
-            let (connection, count) = two(rest)?;
+            let (connection, count) = two_numbers(rest)?;
             Some(Event::RawTake(connection, count))
         }
         _ => None,
     }
 }
 
-/// Returns the event that the keyword and its operands name.
+/// Parses an event, by its keyword and its operands.
 fn script_event(
     alloc: Global,
     keyword: Keyword,
@@ -77,15 +78,17 @@ fn script_event(
     }
 }
 
-/// Reads a line of a script, without its end.
+/// Parses a line of a script, without its end.
 ///
 /// # Errors
 ///
-/// `Malformed` if the line names nothing. `OutOfMemory` for want of memory, which only a line with a document or bytes takes;
-/// whether it names anything isn't told then.
+/// Returns `Malformed` if the line names nothing, and `OutOfMemory` if memory runs out. Only a
+/// line with a document or bytes takes memory; if there is none for it, the line may still be one
+/// that names nothing.
 pub fn parse_line(alloc: Global, line: &[u8]) -> Result<Line, LineError>
     ensures named { IfOk result (λ read. IsLine line.now read) }
-    ensures nothing { result ≡ Err LineError.Malformed → (named : Named) → Names line.now named → ⊥ }
+    ensures nothing { result ≡ Err LineError.Malformed → (named : Named) → Names line.now named
+        → ⊥ }
     ensures memory { result ≡ Err LineError.OutOfMemory → NamesBytes line.now }
 {
     let (word, rest) = cut_word(line);

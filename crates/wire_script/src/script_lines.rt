@@ -1,4 +1,4 @@
-//! The lines of a script, cut off one at a time.
+//! Cuts a script into its lines, one at a time.
 
 ghost use Rattle.std.specs.Prelude.{◌≡◌, ◌≢◌, ◌+◌, ◌<◌, ◌^◌, ◌∷◌, length};
 ghost use Rattle.std.specs.Iterator.{at_most};
@@ -9,7 +9,7 @@ use memchr::memchr;
 /// A line of a script, without its end.
 #[derive(Clone, Copy, Debug, PartialEq, Eq)]
 pub struct NumberedLine<'a> {
-    /// Its number among all lines of the script, which count from 1.
+    /// Its number among all lines of the script, counted from 1.
     pub number: usize,
     /// Its bytes.
     pub text: &'a [u8],
@@ -25,7 +25,7 @@ fn without_cr(line: &[u8]) -> &[u8]
     }
 }
 
-/// Cuts off the first line. Returns it without its end, and what stands behind its end.
+/// Cuts off the first line. Returns it without its end, and what follows its end.
 fn cut_line(text: &[u8]) -> (&[u8], &[u8])
     requires { 0 < length text.now }
     ensures lines { lines_of text.now ≡ result.0.now ∷ lines_of result.1.now }
@@ -47,8 +47,8 @@ fn is_passed_over(line: &[u8]) -> bool
     }
 }
 
-/// An iterator over the lines of a script. It passes over empty lines and those that begin with `#`. After its end it stays at
-/// the end.
+/// Iterates over the lines of a script. Skips empty lines and those that begin with `#`. After the
+/// last line it returns `None` for ever.
 #[derive(Debug, Drop)]
 pub struct Lines<'a> {
     /// The number of the last line that was cut off, or 0.

@@ -1,7 +1,8 @@
--- All messages of some bytes, and what a reader holds behind them.
+-- All messages of some bytes, and what a reader holds after them.
 use Rattle.std.specs.Prelude.{◌≡◌, ℕ, ◌≤◌, List, [], ◌∷◌, ◌++◌, length}
 use Rattle.wire_msg.specs.declared.fault.MsgFault.{MsgFault}
-use Rattle.wire_msg.specs.{AreSpelled, IsBad, IsGoodHeader, IsOpen, Message, SpellsMsg, Split, header_of}
+use Rattle.wire_msg.specs.{AreSpelled, IsBad, IsGoodHeader, IsOpen, Message, SpellsMsg, Split}
+use Rattle.wire_msg.specs.{header_of}
 use Rattle.wire_stream.specs.Readers.{HoldsNoMore}
 
 -- the lists of bytes, one after another
@@ -9,30 +10,33 @@ abbrev pub joined : List (List ℕ) → List ℕ
 joined [] = []
 joined (b ∷ bs) = b ++ joined bs
 
--- each list of bytes spells the message in its place, within the limit, and there are as many of these as of those
+-- the lists of bytes spell the messages, one each, within the limit
 abbrev pub SpellEach : ℕ → List Message → List (List ℕ) → Type 0
 SpellEach limit [] [] = Unit {0}
 SpellEach limit (m ∷ ms) (b ∷ bs) = SpellsMsg m b × (length b ≤ limit) × SpellEach limit ms bs
 SpellEach limit messages found = ⊥
 
--- What is held of a rest: all of it where it is open, and else the first bytes that have the fault, a bad header's or as
--- many as a good one announces.
+-- What is held of a rest: all of it if it is open; otherwise the 16 bytes of a bad header, or the
+-- bytes that a good header announces.
 pub data IsHeldOf : ℕ → List ℕ → List ℕ → Type 0 where
-  all : {limit : ℕ} {rest held : List ℕ} → IsOpen limit rest → held ≡ rest → IsHeldOf limit rest held
-  bad : {limit : ℕ} {rest held : List ℕ} (f : MsgFault) (untaken : List ℕ) → IsBad limit held f → HoldsNoMore limit held → rest ≡ held ++ untaken → IsHeldOf limit rest held
+  all : {limit : ℕ} {rest held : List ℕ} → IsOpen limit rest → held ≡ rest
+      → IsHeldOf limit rest held
+  bad : {limit : ℕ} {rest held : List ℕ} (f : MsgFault) (untaken : List ℕ) → IsBad limit held f
+      → HoldsNoMore limit held → rest ≡ held ++ untaken → IsHeldOf limit rest held
 
--- The bytes are split into messages and a rest, in no other way. The messages were found as the bytes that they have
--- there, and this is held of the rest.
+-- The bytes split into messages and a rest, in one way. The messages were found, in the spellings
+-- that they have there, and this is held of the rest.
 pub record Cuts (limit : ℕ) (bytes : List ℕ) (found : List (List ℕ)) (held : List ℕ) : Type 0 where
   pub messages : List Message
   pub rest : List ℕ
   pub split : Split limit bytes messages rest
-  pub only : (others : List Message) (after : List ℕ) → Split limit bytes others after → (messages ≡ others) × (rest ≡ after)
+  pub only : (others : List Message) (after : List ℕ) → Split limit bytes others after
+      → (messages ≡ others) × (rest ≡ after)
   pub spelled : SpellEach limit messages found
   pub parts : bytes ≡ joined found ++ rest
   pub of_rest : IsHeldOf limit rest held
 
--- Messages stand in front, and behind them a good header, which announces one more.
+-- The bytes begin with messages, and after them comes a good header, which announces one more.
 pub record AnnouncesMore (limit : ℕ) (bytes : List ℕ) : Type 0 where
   pub messages : List Message
   pub front : List ℕ

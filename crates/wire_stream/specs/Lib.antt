@@ -9,4 +9,5 @@ pub mod Gathering
 pub use Rattle.wire_stream.specs.Cutting.{AnnouncesMore, Cuts, IsHeldOf, SpellEach}
 pub use Rattle.wire_stream.specs.Links.{AddsTurns, Rose, TellsEnd, Turn}
 pub use Rattle.wire_stream.specs.Pulls.{IsPulled}
-pub use Rattle.wire_stream.specs.Readers.{CompletesHeader, Feeds, HoldsNoMore, IsRoom, Reading, StandsAt}
+pub use Rattle.wire_stream.specs.Readers.{CompletesHeader, Feeds, HoldsNoMore, IsRoom, Reading}
+pub use Rattle.wire_stream.specs.Readers.{StandsAt}

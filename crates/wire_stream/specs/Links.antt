@@ -1,23 +1,24 @@
--- What the calls of a link tell of it.
-use Rattle.std.specs.Prelude.{◌≡◌, ℕ, zero, suc, ◌+◌, ◌-◌, ◌^◌, min, List, ◌++◌, Option, Some, None, Result, Ok}
+-- What the calls of a link do to what it shows.
+use Rattle.std.specs.Prelude.{◌≡◌, ℕ, zero, suc, ◌+◌, ◌-◌, ◌^◌, min, List, ◌++◌, Option, Some, None}
+use Rattle.std.specs.Prelude.{Result, Ok}
 use Rattle.wire_stream.specs.declared.link.LinkFault.{LinkFault}
 
--- the count rose by one, or stood at its greatest value
+-- the count rose by one, or was at its greatest value already
 abbrev pub Rose : ℕ → ℕ → Type 0
 Rose old new = new ≡ min (old + 1) (2 ^ 64 - 1)
 
--- A `recv` into room for so many bytes came to this result, and told the link's end where it gave none of the bytes that
--- it had room for, and at no other time.
+-- A `recv` with room for this many bytes had this result. The count of ends rose if it gave none of
+-- the bytes that it had room for, and otherwise stayed the same.
 abbrev pub TellsEnd : ℕ → Result ℕ LinkFault → ℕ → ℕ → Type 0
 TellsEnd (suc room) (Ok zero) old new = Rose old new
 TellsEnd room result old new = new ≡ old
 
--- what had been received and sent before a call of `recv`, where the link tells these
+-- what had been received and sent before a call of `recv`, if the link shows it
 pub record Turn : Type 0 where
   pub received : Option (List ℕ)
   pub sent : Option (List ℕ)
 
--- The turns that a link tells stay, and these come behind them.
+-- The turns that a link showed stay, and these follow them.
 abbrev pub AddsTurns : Option (List Turn) → Option (List Turn) → List Turn → Type 0
 AddsTurns None new more = Unit {0}
 AddsTurns (Some old) None more = ⊥

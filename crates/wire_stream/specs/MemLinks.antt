@@ -1,9 +1,10 @@
 -- A link in memory.
 use Rattle.std.specs.Prelude.{ℕ, zero, suc, List, min, Option, Some, None, Bool, true, false}
 
--- What a caller sees of a link in memory: the bytes that were received and those that are left to receive, the bytes that
--- were sent and how many more there is room for, how many bytes a call moves at most, how many calls come before the one
--- that fails, if one does, and how often a call failed and told the end.
+-- What a caller sees of a link in memory: the bytes that were received, those that are left to
+-- receive, the bytes that were sent, how many more there is room for, how many bytes a call moves
+-- at most, how many calls come before the one that fails, if one does, and how many calls failed
+-- and returned the end.
 pub record Memory : Type 0 where
   pub received : List ℕ
   pub left : List ℕ
@@ -14,7 +15,7 @@ pub record Memory : Type 0 where
   pub failures : ℕ
   pub ends : ℕ
 
--- how many bytes a call moves, where so many are wanted and so many are there
+-- the number of bytes that a call moves, by the most that it may, those asked for, and those there
 abbrev pub moved : ℕ → ℕ → ℕ → ℕ
 moved most wanted there = min (min wanted there) most
 

@@ -1,6 +1,7 @@
-//! The bytes of the current message, as a reader takes them.
+//! Collects the bytes of the current message for a reader.
 
-ghost use Rattle.std.specs.Prelude.{◌≡◌, ◌<◌, ◌≤◌, ◌+◌, ◌-◌, ◌++◌, IfOk, List, length, min, take, vec_capacity, ℕ};
+ghost use Rattle.std.specs.Prelude.{◌≡◌, ◌<◌, ◌≤◌, ◌+◌, ◌-◌, ◌++◌, IfOk, List, length, min, take};
+ghost use Rattle.std.specs.Prelude.{vec_capacity, ℕ};
 ghost use Rattle.wire_msg.specs.{IsGoodHeader, header_of, number_at};
 ghost use Rattle.wire_stream.specs.Holding.{IsBegun};
 ghost use Rattle.wire_stream.specs.Readers.{Feeds, StandsAt};
@@ -10,7 +11,8 @@ use bson_elem::little_u32;
 use std::alloc::Global;
 use wire_msg::{HEADER_LEN, RawMsg};
 
-/// Copies as many first bytes of `piece` into `header`, behind its first `len`, as it lacks. Returns how many.
+/// Copies bytes from the front of `piece` into `header`, which has `len` already, until it is full
+/// or the piece is used up. Returns how many were copied.
 pub(crate) fn fill_header(header: &mut [u8; 16], len: usize, piece: &[u8]) -> usize
     requires { len ≤ 16 }
     ensures count { result ≡ min (length piece.now) (16 - len) }
@@ -22,11 +24,11 @@ pub(crate) fn fill_header(header: &mut [u8; 16], len: usize, piece: &[u8]) -> us
     n
 }
 
-/// Takes memory for the message that a good `header` announces, and puts the header in front.
+/// Takes memory for the message that a good `header` announces, and begins it with the header.
 ///
 /// # Errors
 ///
-/// `OutOfMemory` where memory is wanting.
+/// Returns `OutOfMemory` if memory runs out.
 pub(crate) fn begin_message(
     alloc: Global,
     header: &[u8; 16],
@@ -47,7 +49,7 @@ pub(crate) fn begin_message(
     Ok(message)
 }
 
-/// Returns where a reader stands that holds these bytes of a message whose header is good and announces so many.
+/// Returns the reader's state. `message` is the first part of a message of `announced` bytes.
 fn state_of(alloc: Global, message: &[u8], announced: usize, limit: u32) -> ReaderState
     requires limit { limit ≤ 48_000_000 }
     requires header { 16 ≤ length message.now }
@@ -66,8 +68,8 @@ fn state_of(alloc: Global, message: &[u8], announced: usize, limit: u32) -> Read
     }
 }
 
-/// Appends as many first bytes of `piece` as the message lacks.
-pub(crate) fn go_on(alloc: Global, message: &mut Vec<u8>, limit: u32, piece: &[u8]) -> Fed
+/// Appends bytes from the front of `piece`, until the message is whole or the piece is used up.
+pub(crate) fn append_piece(alloc: Global, message: &mut Vec<u8>, limit: u32, piece: &[u8]) -> Fed
     requires limit { limit ≤ 48_000_000 }
     requires begun { IsBegun limit message.old }
     ensures fed { Feeds limit message.old.items piece.now message.new.items result }

@@ -1,6 +1,7 @@
-//! The piece of bytes that a link gave last.
+//! Holds the piece of bytes that a link gave last.
 
-ghost use Rattle.std.specs.Prelude.{◌≡◌, ◌≢◌, ◌≤◌, ◌<◌, ◌++◌, ◌∷◌, [], Ok, OnErr, OnOk, IfOk, List, drop, length, ℕ};
+ghost use Rattle.std.specs.Prelude.{◌≡◌, ◌≢◌, ◌≤◌, ◌<◌, ◌++◌, ◌∷◌, [], Ok, OnErr, OnOk, IfOk, List};
+ghost use Rattle.std.specs.Prelude.{drop, length, ℕ};
 ghost use Rattle.std.specs.Io.KnownBytes.{Appends, Keeps};
 ghost use Rattle.wire_stream.specs.Links.{AddsTurns, Rose};
 ghost use Rattle.wire_stream.specs.Pulls.{IsPulled};
@@ -9,20 +10,20 @@ use crate::link::{Link, LinkFault};
 use std::alloc::{AllocError, Global};
 use std::marker::Model;
 
-/// How many bytes a piece has at most.
+/// The most bytes that a piece has.
 const PIECE: usize = 4096;
 
-/// What `pull` found.
+/// The outcome of `pull`.
 #[derive(Clone, Copy, Debug, PartialEq, Eq)]
 pub enum Pulled {
     /// Bytes are held.
     Bytes,
-    /// The link has ended, and no byte is held.
+    /// The link has ended, and no bytes are held.
     End,
 }
 
-/// Holds one piece of at most 4,096 received bytes, of which the first may have been used. A contract sees it as the
-/// bytes that it holds.
+/// One piece of at most 4,096 received bytes, of which the first ones may have been used.
+/// Contracts see the bytes that are still held.
 #[derive(Drop)]
 pub struct Inlet {
     piece: Vec<u8>,
@@ -45,11 +46,11 @@ impl Model for Inlet {
 }
 
 impl Inlet {
-    /// Returns an inlet that holds nothing. It takes the memory for a piece, and no call of it takes more.
+    /// Makes an inlet that holds nothing. Takes memory for a piece; no other call takes any.
     ///
     /// # Errors
     ///
-    /// `AllocError` where memory is wanting.
+    /// Returns `AllocError` if memory runs out.
     pub fn new(alloc: Global) -> Result<Inlet, AllocError>
         ensures { IfOk result (λ inlet. inlet ≡ []) }
     {
@@ -61,7 +62,7 @@ impl Inlet {
         })
     }
 
-    /// Returns the bytes that are held, at most 4,096.
+    /// Returns the held bytes, at most 4,096.
     pub fn bytes(&self) -> &[u8]
         ensures bytes { result.now ≡ self.now }
         ensures within { length self.now ≤ 4096 }
@@ -69,7 +70,7 @@ impl Inlet {
         &self.piece[self.start..self.end]
     }
 
-    /// Takes the first `n` of the bytes that are held off.
+    /// Drops the first `n` of the held bytes.
     pub fn used(&mut self, n: usize)
         requires { n ≤ length self.old }
         ensures { self.new ≡ drop n self.old }
@@ -77,14 +78,17 @@ impl Inlet {
         self.start += n;
     }
 
-    /// Receives a piece from `link` where no byte is held. Where some are, it receives nothing and returns `Bytes`.
+    /// Receives a piece from `link` if no bytes are held. If some are, receives nothing and
+    /// returns `Bytes`.
     ///
     /// # Errors
     ///
-    /// `LinkFault` where the link failed. What is held is then as before.
+    /// Returns `LinkFault` if the link failed. The held bytes are unchanged then.
     pub fn pull<L: Link>(&mut self, link: &mut L) -> Result<Pulled, LinkFault>
-        ensures held { self.old ≢ [] → (result ≡ Ok Pulled.Bytes) × (self.new ≡ self.old) × (link.new ≡ link.old) }
-        ensures received { (more : List ℕ) × Appends (L.received link.old) (L.received link.new) more
+        ensures held { self.old ≢ []
+            → (result ≡ Ok Pulled.Bytes) × (self.new ≡ self.old) × (link.new ≡ link.old) }
+        ensures received { (more : List ℕ)
+            × Appends (L.received link.old) (L.received link.new) more
             × (self.new ≡ self.old ++ more) }
         ensures turn { self.old ≡ [] → AddsTurns (L.turns link.old) (L.turns link.new)
             (record { received = L.received link.old; sent = L.sent link.old } ∷ []) }

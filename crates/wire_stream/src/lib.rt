@@ -1,10 +1,11 @@
-//! Streams of messages: bytes that come and go over a link.
+//! Reads and writes streams of messages: bytes that come and go over a link.
 //!
-//! A `MsgReader` makes messages of bytes that come in pieces. A `Link` moves bytes both ways and may fail. An `Inlet` holds
-//! the piece that a link gave last, and `flush` sends what an `Outlet`, such as an `OutBuf`, has waiting. Nothing here looks
-//! into a message, but at its length, except by the contract of wire_msg.
+//! A `MsgReader` makes messages of bytes that come in pieces. A `Link` moves bytes both ways and
+//! may fail. An `Inlet` holds the piece that a link gave last, and `flush` sends what an `Outlet`,
+//! such as an `OutBuf`, has waiting. All that this crate reads of a message is its length; the
+//! rest is left to wire_msg.
 //!
-//! Stands on wire_msg. wire_peer stands on it. Read first: `reader`, and then `link`.
+//! Uses wire_msg. Used by wire_peer. Read first: `reader`, and then `link`.
 #![tactic(auto)]
 
 mod held;

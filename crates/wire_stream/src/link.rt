@@ -1,32 +1,33 @@
-//! Links, which move bytes both ways.
+//! Names what a link is: something that moves bytes both ways.
 
-ghost use Rattle.std.specs.Prelude.{◌≡◌, ◌<◌, ◌≤◌, ◌∷◌, [], ℕ, List, Option, IfOk, OnErr, OnOk, length, take};
+ghost use Rattle.std.specs.Prelude.{◌≡◌, ◌<◌, ◌≤◌, ◌∷◌, [], ℕ, List, Option, IfOk, OnErr, OnOk};
+ghost use Rattle.std.specs.Prelude.{length, take};
 ghost use Rattle.std.specs.Io.KnownBytes.{Appends, Keeps};
 ghost use Rattle.wire_stream.specs.Links.{AddsTurns, Rose, TellsEnd, Turn};
 
-/// A link failed to move bytes.
+/// The link failed to move bytes.
 #[derive(Clone, Copy, Debug, PartialEq, Eq)]
 pub struct LinkFault;
 
 /// Moves bytes both ways, in the order in which they were put in.
 pub trait Link {
-    // The bytes received since the link was made, where the link tells them.
+    // The bytes received since the link was made, if the link shows them.
     ghost received: { Self → Option (List ℕ) };
-    // The bytes sent since the link was made, where the link tells them.
+    // The bytes sent since the link was made, if the link shows them.
     ghost sent: { Self → Option (List ℕ) };
-    // What had been received and sent before each call of `recv`, where the link tells it.
+    // What had been received and sent before each call of `recv`, if the link shows it.
     ghost turns: { Self → Option (List Turn) };
-    // How often a call failed, counted up to 2 ^ 64 - 1.
+    // The number of calls that failed, counted up to 2 ^ 64 - 1.
     ghost failures: { Self → ℕ };
-    // How often `recv` told the end of the link, counted up to 2 ^ 64 - 1.
+    // The number of calls of `recv` that returned the end of the link, counted up to 2 ^ 64 - 1.
     ghost ends: { Self → ℕ };
 
-    /// Receives at most as many bytes as `buffer` has, writes them to its front and returns how many there are. Where
-    /// `buffer` isn't empty, 0 tells that the link has ended.
+    /// Receives bytes into the front of `buffer`, and returns how many. 0 means that the link has
+    /// ended, unless `buffer` is empty.
     ///
     /// # Errors
     ///
-    /// `LinkFault` where the link failed; no byte was received then.
+    /// Returns `LinkFault` if the link failed. No bytes were received then.
     fn recv(&mut self, buffer: &mut [u8]) -> Result<usize, LinkFault>
         ensures within { IfOk result (λ n. n ≤ length buffer.old) }
         ensures received { IfOk result (λ n.
@@ -39,11 +40,12 @@ pub trait Link {
         ensures works { OnOk result (failures self.new ≡ failures self.old) }
         ensures fails { OnErr result (Rose (failures self.old) (failures self.new)) };
 
-    /// Sends some of the first bytes of `bytes` and returns how many; at least one, where there is any.
+    /// Sends bytes from the front of `bytes`, and returns how many: at least one, unless `bytes`
+    /// is empty.
     ///
     /// # Errors
     ///
-    /// `LinkFault` where the link failed; no byte was sent then.
+    /// Returns `LinkFault` if the link failed. No bytes were sent then.
     fn send(&mut self, bytes: &[u8]) -> Result<usize, LinkFault>
         ensures within { IfOk result (λ n. n ≤ length bytes.now) }
         ensures some { 0 < length bytes.now → IfOk result (λ n. 0 < n) }

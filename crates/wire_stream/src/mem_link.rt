@@ -1,6 +1,7 @@
-//! A link in memory.
+//! Makes a link of bytes in memory.
 
-ghost use Rattle.std.specs.Prelude.{◌≡◌, ◌≢◌, ◌<◌, ◌≤◌, ◌-◌, ◌^◌, ◌++◌, [], Ok, IfOk, IsErr, OnErr, OnOk, None, Some, drop, false, length, take, true};
+ghost use Rattle.std.specs.Prelude.{◌≡◌, ◌≢◌, ◌<◌, ◌≤◌, ◌-◌, ◌^◌, ◌++◌, [], Ok, IfOk, IsErr, OnErr};
+ghost use Rattle.std.specs.Prelude.{OnOk, None, Some, drop, false, length, take, true};
 ghost use Rattle.std.specs.Io.KnownBytes.{Appends, Keeps};
 ghost use Rattle.wire_stream.specs.Links.{Rose, TellsEnd};
 ghost use Rattle.wire_stream.specs.MemLinks.{is_due, moved, one_less};
@@ -9,16 +10,17 @@ use crate::link::{Link, LinkFault};
 use std::alloc::{AllocError, Global};
 use std::marker::Model;
 
-/// A link that gives the bytes of a vector and keeps what is sent, as far as there is room. It tells its bytes.
+/// A link that gives the bytes of a vector, and keeps what is sent as long as there is room.
+/// Contracts see all its bytes.
 #[derive(Drop)]
 pub struct MemLink {
     input: Vec<u8>,
-    /// How many bytes of the input were received.
+    /// The number of input bytes that were received.
     start: usize,
     output: Vec<u8>,
-    /// How many bytes may be sent in all.
+    /// The number of bytes that may be sent in all.
     room: usize,
-    /// How many bytes a call moves at most.
+    /// The most bytes that a call moves.
     most: usize,
     fails_after: Option<u64>,
     failures: u64,
@@ -51,12 +53,12 @@ impl Model for MemLink {
 }
 
 impl MemLink {
-    /// Returns a link that gives the bytes of `input` and has room for `room` bytes. It takes the memory for these, and no
-    /// call of it takes more.
+    /// Makes a link that gives the bytes of `input` and has room for `room` bytes. Takes memory
+    /// for these; no other call takes any.
     ///
     /// # Errors
     ///
-    /// `AllocError` where memory is wanting.
+    /// Returns `AllocError` if memory runs out.
     pub fn new(alloc: Global, input: Vec<u8>, room: usize) -> Result<MemLink, AllocError>
         ensures { IfOk result (λ link. link ≡ record {
           received = [];
@@ -82,7 +84,7 @@ impl MemLink {
         })
     }
 
-    /// Returns the link with at most `most` bytes moved in a call.
+    /// Makes each call move at most `most` bytes.
     pub fn moving_at_most(self, most: usize) -> MemLink
         requires { 0 < most }
         ensures { result ≡ record self { most = most } }
@@ -92,7 +94,7 @@ impl MemLink {
         link
     }
 
-    /// Returns the link with one call that fails, after `calls` others.
+    /// Makes one call fail, after `calls` others.
     pub fn failing_after(self, calls: u64) -> MemLink
         ensures { result ≡ record self { fails_after = Some calls } }
     {
@@ -101,16 +103,17 @@ impl MemLink {
         link
     }
 
-    /// Returns the bytes that were sent.
+    /// Returns the sent bytes.
     pub fn sent_bytes(&self) -> &[u8]
         ensures { result.now ≡ self.now.sent }
     {
         &self.output
     }
 
-    /// Tells whether this call is the one that fails, and counts the call.
+    /// Counts the call. Returns true if it is the one that fails.
     fn is_failing(&mut self) -> bool
-        ensures { (result ≡ is_due self.old.fails_after) × (self.new ≡ record self.old { fails_after = one_less self.old.fails_after }) }
+        ensures { (result ≡ is_due self.old.fails_after)
+            × (self.new ≡ record self.old { fails_after = one_less self.old.fails_after }) }
     {
         match self.fails_after {
             None => false,
@@ -125,12 +128,13 @@ impl MemLink {
         }
     }
 
-    /// Moves bytes of the input to the front of `buffer`, as many as a call may, and returns how many.
+    /// Moves input bytes to the front of `buffer`, as many as one call may. Returns how many.
     fn give(&mut self, buffer: &mut [u8]) -> usize
         ensures count { result ≡ moved self.old.most (length buffer.old) (length self.old.left) }
         ensures received { self.new.received ≡ self.old.received ++ take result buffer.new }
         ensures left { self.old.received ++ self.old.left ≡ self.new.received ++ self.new.left }
-        ensures others { self.new ≡ record self.old { received = self.new.received; left = self.new.left } }
+        ensures others { self.new ≡ record self.old
+            { received = self.new.received; left = self.new.left } }
     {
         let n = buffer
             .len()
@@ -185,17 +189,21 @@ impl Link for MemLink {
         ensures some { 0 < length bytes.now → IfOk result (λ n. 0 < n) }
         ensures sent { IfOk result (λ n. self.new.sent ≡ self.old.sent ++ take n bytes.now) }
         ensures none_sent { OnErr result (self.new.sent ≡ self.old.sent) }
-        ensures received { (self.new.received ≡ self.old.received) × (self.new.left ≡ self.old.left) }
+        ensures received { (self.new.received ≡ self.old.received)
+            × (self.new.left ≡ self.old.left) }
         ensures end { self.new.ends ≡ self.old.ends }
         ensures works { OnOk result (self.new.failures ≡ self.old.failures) }
         ensures fails { OnErr result (Rose self.old.failures self.new.failures) }
         ensures fault { is_due self.old.fails_after ≡ true → IsErr result }
         ensures full { self.old.room ≡ 0 → bytes.now ≢ [] → IsErr result }
         ensures empty { is_due self.old.fails_after ≡ false → bytes.now ≡ [] → result ≡ Ok 0 }
-        ensures moved { is_due self.old.fails_after ≡ false → 0 < moved self.old.most (length bytes.now) self.old.room
+        ensures moved { is_due self.old.fails_after ≡ false
+            → 0 < moved self.old.most (length bytes.now) self.old.room
             → result ≡ Ok (moved self.old.most (length bytes.now) self.old.room) }
         ensures counted { self.new.fails_after ≡ one_less self.old.fails_after }
-        ensures limits { (self.new.room ≡ self.old.room - (length self.new.sent - length self.old.sent)) × (self.new.most ≡ self.old.most) }
+        ensures limits { (self.new.room
+            ≡ self.old.room - (length self.new.sent - length self.old.sent))
+            × (self.new.most ≡ self.old.most) }
     {
         if self.is_failing() {
             self.failures = self.failures.saturating_add(1);

@@ -1,4 +1,4 @@
-//! A whole message that owns its bytes.
+//! Holds a whole message in bytes of its own.
 
 ghost use Rattle.std.specs.Prelude.{◌≡◌};
 ghost use Rattle.wire_msg.specs.{msg_bytes, IsSpelledMsg};
@@ -6,7 +6,7 @@ ghost use Rattle.wire_msg.specs.{msg_bytes, IsSpelledMsg};
 use std::marker::Model;
 use wire_msg::RawMsg;
 
-/// A whole message that was moved out of a reader. A contract sees it as its bytes.
+/// A whole message that was moved out of a reader. Contracts see its bytes.
 #[derive(Drop)]
 pub struct MsgBuf {
     bytes: Vec<u8>,
@@ -24,7 +24,7 @@ impl Model for MsgBuf {
 }
 
 impl MsgBuf {
-    /// Keeps bytes that are known to spell a message.
+    /// Makes the message that the bytes are known to spell, without checking them.
     pub(crate) fn from_spelled(bytes: Vec<u8>) -> MsgBuf
         requires { ∥ IsSpelledMsg bytes.items ∥₁ }
         ensures { result ≡ bytes.items }
@@ -32,7 +32,7 @@ impl MsgBuf {
         MsgBuf { bytes }
     }
 
-    /// Lends the message. It takes no memory and checks nothing again.
+    /// Borrows the message. Takes no memory, and checks nothing again.
     pub fn as_msg(&self) -> RawMsg<'_>
         ensures { msg_bytes result ≡ self.now }
     {

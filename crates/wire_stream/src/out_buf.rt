@@ -1,6 +1,7 @@
-//! Messages that wait to be sent.
+//! Holds messages until they are sent.
 
-ghost use Rattle.std.specs.Prelude.{◌≡◌, ◌≤◌, ◌++◌, [], IfErr, List, OnErr, OnOk, drop, length, refl, take, ℕ};
+ghost use Rattle.std.specs.Prelude.{◌≡◌, ◌≤◌, ◌++◌, [], IfErr, List, OnErr, OnOk, drop, length};
+ghost use Rattle.std.specs.Prelude.{refl, take, ℕ};
 ghost use Rattle.wire_msg.specs.{Carries, Content, IsWriteRefusal, Message, canonical, message_len};
 
 use crate::outlet::Outlet;
@@ -8,17 +9,17 @@ use std::alloc::Global;
 use std::marker::Model;
 use wire_msg::{MsgFlags, MsgRefusal, Payload, write_msg};
 
-/// Sent bytes are kept up to so many before the others are moved to the front.
+/// The number of sent bytes that are kept before the others are moved to the front.
 const KEPT: usize = 4096;
 
-/// Room for more bytes than this is given back when all were sent.
+/// The most room that is kept once all bytes were sent.
 const ROOM: usize = 64 * 1024;
 
-/// Holds bytes until they are sent. A contract sees it as the bytes that weren't sent yet.
+/// Bytes that wait to be sent. Contracts see those that weren't sent yet.
 #[derive(Drop)]
 pub struct OutBuf {
     bytes: Vec<u8>,
-    /// How many of them were sent.
+    /// The number of them that were sent.
     start: usize,
 }
 
@@ -33,7 +34,7 @@ impl Model for OutBuf {
 }
 
 impl OutBuf {
-    /// Returns a buffer without bytes. It takes no memory.
+    /// Makes an empty buffer. Takes no memory.
     pub fn new(alloc: Global) -> OutBuf
         ensures { result ≡ [] }
     {
@@ -47,7 +48,8 @@ impl OutBuf {
     ///
     /// # Errors
     ///
-    /// `TooLarge` where the message has more than `limit` bytes, and else `OutOfMemory`. Nothing is appended then.
+    /// Returns `TooLarge` if the message has more than `limit` bytes, and otherwise `OutOfMemory`.
+    /// Nothing is appended then.
     pub fn push_msg(
         &mut self,
         id: i32,
@@ -79,10 +81,10 @@ impl OutBuf {
         &self.bytes[self.start..]
     }
 
-    /// Takes the first `n` bytes off, since they were sent.
+    /// Drops the first `n` bytes, which were sent.
     ///
-    /// Bytes are moved only where at least as many were sent since the last move, so that taking off a byte costs the
-    /// same however many wait.
+    /// Bytes are moved only if at least as many were sent since the last move, so the cost of each
+    /// byte is constant, however many wait.
     pub fn sent(&mut self, n: usize)
         requires { n ≤ length self.old }
         ensures { self.new ≡ drop n self.old }
@@ -95,7 +97,7 @@ impl OutBuf {
         }
     }
 
-    /// Keeps the first `n` of the bytes that weren't sent, and drops the others.
+    /// Keeps the first `n` of the waiting bytes, and drops the others.
     pub fn keep(&mut self, n: usize)
         requires { n ≤ length self.old }
         ensures { self.new ≡ take n self.old }
@@ -103,7 +105,7 @@ impl OutBuf {
         self.bytes.truncate(self.start + n);
     }
 
-    /// Drops the sent bytes where all were sent, and gives much room back.
+    /// Drops the bytes, all of which were sent, and gives the room back if there is much.
     fn empty(&mut self)
         requires { self.old ≡ [] }
         ensures { self.new ≡ [] }
@@ -117,7 +119,7 @@ impl OutBuf {
         self.start = 0;
     }
 
-    /// Moves the bytes that weren't sent to the front.
+    /// Moves the waiting bytes to the front.
     fn close_up(&mut self)
         ensures { self.new ≡ self.old }
     {

@@ -1,4 +1,4 @@
-//! Bytes that wait to be sent, and sending them.
+//! Sends bytes that wait.
 
 ghost use Rattle.std.specs.Prelude.{◌≡◌, ◌≤◌, ◌++◌, [], ℕ, List, OnErr, OnOk, drop, length};
 ghost use Rattle.std.specs.Io.KnownBytes.{Appends, Keeps};
@@ -6,37 +6,39 @@ ghost use Rattle.wire_stream.specs.Links.{AddsTurns, Rose};
 
 use crate::link::{Link, LinkFault};
 
-/// What has bytes that wait to be sent.
+/// A thing that has bytes waiting to be sent.
 pub trait Outlet {
-    // The bytes that wait, in order.
+    // The waiting bytes, in order.
     ghost waiting: { Self → List ℕ };
-    // The outlet with these bytes in place of those that wait. All else of it stays.
+    // The outlet with these waiting bytes instead of its own. Nothing else of it differs.
     ghost with_waiting: { Self → List ℕ → Self };
 
-    /// Returns the bytes that wait.
+    /// Returns the waiting bytes.
     fn output(&self) -> &[u8]
         ensures { result.now ≡ waiting self.now };
 
-    /// Takes the first `n` of the bytes that wait off, since they were sent. Nothing else of the outlet changes.
+    /// Drops the first `n` of the waiting bytes, which were sent. Nothing else of the outlet
+    /// changes.
     fn sent(&mut self, n: usize)
         requires { n ≤ length (waiting self.old) }
         ensures { self.new ≡ with_waiting self.old (drop n (waiting self.old)) };
 
-    // What was put in waits.
+    // Bytes that were put in are waiting.
     ghost waits: { (o : Self) (bytes : List ℕ) → waiting (with_waiting o bytes) ≡ bytes };
 
-    // What waits, put in again, changes nothing.
+    // Putting in the waiting bytes again changes nothing.
     ghost unchanged: { (o : Self) → with_waiting o (waiting o) ≡ o };
 
-    // What is put in last counts alone.
-    ghost last: { (o : Self) (first then : List ℕ) → with_waiting (with_waiting o first) then ≡ with_waiting o then };
+    // Only what was put in last counts.
+    ghost last: { (o : Self) (first then : List ℕ)
+        → with_waiting (with_waiting o first) then ≡ with_waiting o then };
 }
 
-/// Sends over `link` all bytes that wait in `outlet`. Nothing else of the outlet changes.
+/// Sends all bytes that wait in `outlet` over `link`. Nothing else of the outlet changes.
 ///
 /// # Errors
 ///
-/// `LinkFault` where the link failed. What was sent by then no longer waits.
+/// Returns `LinkFault` if the link failed. The bytes sent until then no longer wait.
 pub fn flush<L: Link, O: Outlet>(link: &mut L, outlet: &mut O) -> Result<(), LinkFault>
     ensures sent { (gone : List ℕ) × Appends (L.sent link.old) (L.sent link.new) gone
         × (O.waiting outlet.old ≡ gone ++ O.waiting outlet.new) }

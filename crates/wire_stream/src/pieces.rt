@@ -1,4 +1,4 @@
-//! All messages of bytes that come in pieces.
+//! Reads all messages of bytes that come in pieces.
 
 ghost use Rattle.std.specs.Prelude.{◌≡◌, ◌≤◌, ◌++◌, IfOk, List, OnErr, flat_map, ℕ};
 ghost use Rattle.wire_msg.specs.{IsOpen};
@@ -10,28 +10,31 @@ use crate::reader::MsgReader;
 use crate::reader_state::{Fed, ReadRefusal, ReaderState};
 use std::alloc::Global;
 
-/// The messages of some bytes, and the reader that holds what stands behind them.
+/// The messages of some bytes, and the reader that holds what follows them.
 #[derive(Drop)]
 pub struct PiecesRead {
     /// The messages, in order.
     pub messages: Vec<MsgBuf>,
-    /// The reader, which wants more bytes or stands at bad ones.
+    /// The reader, which needs more bytes or has met bad ones.
     pub reader: MsgReader,
 }
 
-/// Returns the messages of at most `limit` bytes that stand in the bytes of `pieces`, however these are cut, and a reader
-/// that holds the rest. Of a rest that is bad it holds the 16 bytes of a bad header, or as many as a good one announces; those
-/// behind them aren't taken.
+/// Reads all messages of at most `limit` bytes in the bytes of `pieces`, however these are cut.
+/// Returns them, and a reader that holds the rest. Of a bad rest it holds the 16 bytes of a bad
+/// header, or the bytes that a good header announces, and takes none of those after them.
 ///
 /// # Errors
 ///
-/// `OutOfMemory` where memory is wanting, for a message that a good header announces or for the list of them.
+/// Returns `OutOfMemory` if memory runs out, for a message that a good header announces or for the
+/// list of them.
 pub fn read_pieces(alloc: Global, limit: u32, pieces: &[&[u8]]) -> Result<PiecesRead, ReadRefusal>
     requires { limit ≤ 48_000_000 }
     ensures limit { IfOk result (λ read. read.reader.limit ≡ limit) }
     ensures cuts { IfOk result (λ read.
-        Cuts limit (flat_map (λ piece. piece.now) pieces.now) read.messages.items read.reader.held) }
-    ensures refused { OnErr result (AnnouncesMore limit (flat_map (λ piece. piece.now) pieces.now)) }
+        Cuts limit (flat_map
+        (λ piece. piece.now) pieces.now) read.messages.items read.reader.held) }
+    ensures refused { OnErr result
+        (AnnouncesMore limit (flat_map (λ piece. piece.now) pieces.now)) }
 {
     let mut reader = MsgReader::new(alloc, limit);
     let mut messages = Vec::new(alloc);
@@ -44,12 +47,13 @@ pub fn read_pieces(alloc: Global, limit: u32, pieces: &[&[u8]]) -> Result<Pieces
     Ok(PiecesRead { messages, reader })
 }
 
-/// Feeds the piece to a reader that wants more, and moves each message that becomes whole out of it, to the end of
-/// `messages`. Tells how many bytes of the piece were taken, and where the reader stands then.
+/// Feeds the piece to a reader that needs more, and moves each message that becomes whole out of
+/// it, to the end of `messages`. Returns how many bytes of the piece were taken, and the reader's
+/// state after them.
 ///
 /// # Errors
 ///
-/// `OutOfMemory` where memory is wanting.
+/// Returns `OutOfMemory` if memory runs out.
 fn read_piece(
     reader: &mut MsgReader,
     messages: &mut Vec<MsgBuf>,
@@ -57,9 +61,11 @@ fn read_piece(
 ) -> Result<Fed, ReadRefusal>
     requires { IsOpen reader.old.limit reader.old.held }
     ensures limit { reader.new.limit ≡ reader.old.limit }
-    ensures gathers { IfOk result (λ fed. Gathers reader.old.limit messages.old.items reader.old.held piece.now
+    ensures gathers { IfOk result
+        (λ fed. Gathers reader.old.limit messages.old.items reader.old.held piece.now
         messages.new.items reader.new.held fed) }
-    ensures refused { OnErr result ((bytes : List ℕ) → Gathered reader.old.limit bytes messages.old.items reader.old.held
+    ensures refused { OnErr result
+        ((bytes : List ℕ) → Gathered reader.old.limit bytes messages.old.items reader.old.held
         → AnnouncesMore reader.old.limit (bytes ++ piece.now)) }
 {
     let mut taken = 0;

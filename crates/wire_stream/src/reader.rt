@@ -1,11 +1,12 @@
-//! Messages out of bytes that come in pieces.
+//! Reads messages from bytes that come in pieces.
 
-ghost use Rattle.std.specs.Prelude.{◌≡◌, ◌≢◌, ◌≤◌, ◌<◌, ◌+◌, ◌++◌, [], IfOk, IfNone, IfSome, IsOkAnd, IsSome, List, OnErr, length, max, take, ℕ};
+ghost use Rattle.std.specs.Prelude.{◌≡◌, ◌≢◌, ◌≤◌, ◌<◌, ◌+◌, ◌++◌, [], IfOk, IfNone, IfSome};
+ghost use Rattle.std.specs.Prelude.{IsOkAnd, IsSome, List, OnErr, length, max, take, ℕ};
 ghost use Rattle.wire_msg.specs.{IsBad, IsMessage, IsOpen, msg_bytes};
 ghost use Rattle.wire_msg.specs.declared.fault.MsgFault.{MsgFault};
 ghost use Rattle.wire_stream.specs.Readers.{CompletesHeader, Feeds, IsRoom, Reading, StandsAt};
 
-use crate::held::{begin_message, fill_header, go_on};
+use crate::held::{append_piece, begin_message, fill_header};
 use crate::msg_buf::MsgBuf;
 use crate::reader_state::{Fed, ReadEnd, ReadRefusal, ReaderState};
 use bson_elem::little_u32;
@@ -13,18 +14,19 @@ use std::alloc::Global;
 use std::marker::Model;
 use wire_msg::{HEADER_LEN, MsgHeader, RawMsg};
 
-/// Reads messages of at most `limit` bytes, one at a time, out of bytes that come in pieces.
+/// Reads messages of at most `limit` bytes, one at a time, from bytes that come in pieces.
 ///
-/// Fewer bytes than a header has are held without memory. Once a good header is there, memory is taken for as many bytes as
-/// it announces, once a message. A contract sees a reader as its limit and the bytes of the current message so far.
+/// The bytes of a header are held without taking memory. Once a good header is there, memory is
+/// taken for all bytes that it announces, one time for each message. Contracts see the limit, and
+/// the bytes of the current message so far.
 #[derive(Drop)]
 pub struct MsgReader {
     alloc: Global,
     limit: u32,
     header: [u8; 16],
-    /// How many bytes of the header are there, while there is no message.
+    /// The number of header bytes that are there, while there is no message.
     len: usize,
-    /// The bytes from the header on, once it is known to be good.
+    /// The bytes of the message from its header on, once that is known to be good.
     message: Option<Vec<u8>>,
     state: ReaderState,
 }
@@ -47,7 +49,8 @@ impl Model for MsgReader {
 }
 
 impl MsgReader {
-    /// Returns a reader of messages of at most `limit` bytes that holds no byte. It takes no memory.
+    /// Makes a reader of messages of at most `limit` bytes. It holds no bytes, and takes no
+    /// memory.
     pub fn new(alloc: Global, limit: u32) -> MsgReader
         requires { limit ≤ 48_000_000 }
         ensures { result ≡ record { limit = limit; held = [] } }
@@ -62,20 +65,21 @@ impl MsgReader {
         }
     }
 
-    /// Returns where the reader stands.
+    /// Returns the reader's state.
     pub fn state(&self) -> ReaderState
         ensures { StandsAt self.now.limit self.now.held result }
     {
         self.state
     }
 
-    /// Takes the first bytes of `piece`, up to the end of the current message or the 16th byte of a bad header, and tells
-    /// where the reader stands then. It takes none where a message is ready or the bytes that are held are bad.
+    /// Takes bytes from the front of `piece`, up to the end of the current message or the 16th
+    /// byte of a bad header. Returns how many, and the reader's state after them. Takes none if a
+    /// message is ready or the held bytes are bad.
     ///
     /// # Errors
     ///
-    /// `OutOfMemory` where the piece completes a good header and memory for the announced message is wanting. Nothing is
-    /// taken then, and the piece may be fed again.
+    /// Returns `OutOfMemory` if the piece completes a good header and there is no memory for the
+    /// announced message. Nothing is taken then, and the piece may be fed again.
     pub fn feed(&mut self, piece: &[u8]) -> Result<Fed, ReadRefusal>
         ensures limit { self.new.limit ≡ self.old.limit }
         ensures fed { IsOpen self.old.limit self.old.held
@@ -94,7 +98,7 @@ impl MsgReader {
         };
         match &mut self.message {
             Some(message) => {
-                let fed = go_on(self.alloc, message, self.limit, piece);
+                let fed = append_piece(self.alloc, message, self.limit, piece);
                 self.state = fed.state;
                 Ok(fed)
             }
@@ -102,11 +106,12 @@ impl MsgReader {
         }
     }
 
-    /// Takes first bytes of `piece` where the header isn't complete.
+    /// Takes bytes from the front of `piece` while the header isn't complete.
     fn feed_header(&mut self, piece: &[u8]) -> Result<Fed, ReadRefusal>
         requires { length self.old.held < 16 }
         ensures limit { self.new.limit ≡ self.old.limit }
-        ensures fed { IfOk result (λ fed. Feeds self.old.limit self.old.held piece.now self.new.held fed) }
+        ensures fed { IfOk result
+            (λ fed. Feeds self.old.limit self.old.held piece.now self.new.held fed) }
         ensures refused { OnErr result (CompletesHeader self.old.limit self.old.held piece.now) }
         ensures unchanged { OnErr result (self.new ≡ self.old) }
     {
@@ -127,7 +132,7 @@ impl MsgReader {
             });
         }
         let mut message = begin_message(self.alloc, &self.header, self.limit)?;
-        let fed = go_on(self.alloc, &mut message, self.limit, &piece[n..]);
+        let fed = append_piece(self.alloc, &mut message, self.limit, &piece[n..]);
         self.message = Some(message);
         self.state = fed.state;
         Ok(Fed {
@@ -136,9 +141,10 @@ impl MsgReader {
         })
     }
 
-    /// Lends the message that is ready, and `None` where none is. Nothing is checked again.
+    /// Borrows the message that is ready, if one is. Checks nothing again.
     pub fn message(&self) -> Option<RawMsg<'_>>
-        ensures some { IfSome result (λ m. (msg_bytes m ≡ self.now.held) × IsMessage self.now.limit self.now.held) }
+        ensures some { IfSome result
+            (λ m. (msg_bytes m ≡ self.now.held) × IsMessage self.now.limit self.now.held) }
         ensures ready { IsMessage self.now.limit self.now.held → IsSome result }
     {
         let ReaderState::Ready = self.state else {
@@ -150,8 +156,8 @@ impl MsgReader {
         }
     }
 
-    /// Lets go of the message that is ready, and of its memory, so that the next one is read. Where none is ready, nothing
-    /// changes.
+    /// Drops the message that is ready, and its memory, so that the next one can be read. If none
+    /// is ready, nothing changes.
     pub fn release(&mut self)
         ensures ready { IsMessage self.old.limit self.old.held
             → self.new ≡ record { limit = self.old.limit; held = [] } }
@@ -161,8 +167,8 @@ impl MsgReader {
         let _ = self.take();
     }
 
-    /// Moves the message that is ready out, so that the next one is read. Returns `None` where none is ready, and changes
-    /// nothing then. It takes no memory.
+    /// Moves the message that is ready out, so that the next one can be read. If none is ready,
+    /// returns `None` and changes nothing. Takes no memory.
     pub fn take(&mut self) -> Option<MsgBuf>
         ensures some { IfSome result (λ m. (m ≡ self.old.held) × IsMessage self.old.limit m
             × (self.new ≡ record { limit = self.old.limit; held = [] })) }
@@ -180,12 +186,14 @@ impl MsgReader {
         Some(MsgBuf::from_spelled(message))
     }
 
-    /// Returns how the bytes end, where no more come: inside a message where some are held and more are wanted.
+    /// Returns whether the bytes, if no more come, end between messages or inside one.
     pub fn end(&self) -> ReadEnd
-        ensures inside { IsOpen self.now.limit self.now.held → self.now.held ≢ [] → result ≡ ReadEnd.EndedInside }
+        ensures inside { IsOpen self.now.limit self.now.held → self.now.held ≢ []
+            → result ≡ ReadEnd.EndedInside }
         ensures between { self.now.held ≡ [] → result ≡ ReadEnd.Ended }
         ensures ready { IsMessage self.now.limit self.now.held → result ≡ ReadEnd.Ended }
-        ensures bad { (f : MsgFault) → IsBad self.now.limit self.now.held f → result ≡ ReadEnd.Ended }
+        ensures bad { (f : MsgFault) → IsBad self.now.limit self.now.held f
+            → result ≡ ReadEnd.Ended }
     {
         let ReaderState::Need = self.state else {
             return ReadEnd::Ended;
@@ -197,7 +205,7 @@ impl MsgReader {
         }
     }
 
-    /// Returns how many bytes are held.
+    /// Returns the number of held bytes.
     pub fn held(&self) -> usize
         ensures { result ≡ length self.now.held }
     {
@@ -207,8 +215,9 @@ impl MsgReader {
         }
     }
 
-    /// Returns how many bytes of the current message there is room for: as many as a good header announces, and 0 without
-    /// one. At most that many bytes are held, or 16 where that is more.
+    /// Returns the number of bytes of the current message for which memory was taken: those that a
+    /// good header announces, or 0 if there is none. The reader holds at most that many bytes, or
+    /// 16 if that is more.
     pub fn room(&self) -> usize
         ensures room { IsRoom self.now.limit self.now.held result }
         ensures held { length self.now.held ≤ max 16 result }

@@ -1,35 +1,36 @@
-//! What a reader tells of what it was fed.
+//! Names the states of a reader, and what it did with a piece.
 
 use wire_msg::MsgFault;
 
-/// Where a reader of messages stands.
+/// The state of a reader.
 #[derive(Clone, Copy, Debug, PartialEq, Eq)]
 pub enum ReaderState {
-    /// The bytes that are held begin a message, and more of it are wanted.
+    /// The held bytes are the beginning of a message, and more of it is needed.
     Need,
-    /// The bytes that are held are a message.
+    /// The held bytes are a message.
     Ready,
-    /// The bytes that are held begin no message. The fault's offset is counted from the first of them.
+    /// No message begins with the held bytes. The fault's offset is counted from the first of
+    /// them.
     Bad(MsgFault),
 }
 
-/// What a reader took of a piece of bytes, and where it stands then.
+/// What a reader took of a piece, and its state after that.
 #[derive(Clone, Copy, Debug, PartialEq, Eq)]
 pub struct Fed {
-    /// How many of the first bytes of the piece were taken.
+    /// The number of bytes that were taken from the front of the piece.
     pub taken: usize,
-    /// Where the reader stands with them.
+    /// The state after them.
     pub state: ReaderState,
 }
 
 /// Why a reader took nothing.
 #[derive(Clone, Copy, Debug, PartialEq, Eq)]
 pub enum ReadRefusal {
-    /// Memory for the announced message was wanting.
+    /// There was no memory for the announced message.
     OutOfMemory,
 }
 
-/// How the bytes of a reader end, where no more come.
+/// Where the bytes end, if no more come.
 #[derive(Clone, Copy, Debug, PartialEq, Eq)]
 pub enum ReadEnd {
     /// Between messages.

@@ -1,4 +1,4 @@
-//! A link over a stream, such as a TCP connection.
+//! Makes a link of a stream, such as a TCP connection.
 
 ghost use Rattle.std.specs.Prelude.{◌≡◌, ◌≤◌, ◌<◌, None, IfOk, OnErr, OnOk, length};
 ghost use Rattle.std.specs.Io.KnownBytes.{ReadConsumes, WriteAppends};
@@ -7,9 +7,9 @@ ghost use Rattle.wire_stream.specs.Links.{Rose, TellsEnd};
 use crate::link::{Link, LinkFault};
 use std::io::{Read, Write};
 
-/// A link over a stream such as `TcpStream`. It leaves its bytes untold, since no contract can say what a socket carries;
-/// of a stream that tells its own, it gives the bytes that were read, and writes those that it counts. A call that sends
-/// nothing of some bytes counts as a failure.
+/// A link over a stream such as `TcpStream`. It doesn't show its bytes, since no contract can say
+/// what a socket carries. Over a stream that shows its own, it gives the bytes that were read, and
+/// what it counts as sent was written. A call that sends none of some bytes counts as a failure.
 #[derive(Drop)]
 pub struct TcpLink<S: Read + Write + Drop> {
     stream: S,
@@ -18,7 +18,7 @@ pub struct TcpLink<S: Read + Write + Drop> {
 }
 
 impl<S: Read + Write + Drop> TcpLink<S> {
-    /// Returns the link over `stream`.
+    /// Makes the link over `stream`.
     pub fn new(stream: S) -> TcpLink<S>
         ensures stream { result.stream ≡ stream }
         ensures failures { result.failures ≡ 0 }
@@ -55,7 +55,8 @@ impl<S: Read + Write + Drop> Link for TcpLink<S> {
 
     fn recv(&mut self, buffer: &mut [u8]) -> Result<usize, LinkFault>
         ensures within { IfOk result (λ n. n ≤ length buffer.old) }
-        ensures read { ReadConsumes (S.remaining self.old.stream) (S.remaining self.new.stream) result buffer.new }
+        ensures read { ReadConsumes (S.remaining self.old.stream)
+            (S.remaining self.new.stream) result buffer.new }
         ensures end { TellsEnd (length buffer.old) result self.old.ends self.new.ends }
         ensures works { OnOk result (self.new.failures ≡ self.old.failures) }
         ensures fails { OnErr result (Rose self.old.failures self.new.failures) }
@@ -76,7 +77,8 @@ impl<S: Read + Write + Drop> Link for TcpLink<S> {
     fn send(&mut self, bytes: &[u8]) -> Result<usize, LinkFault>
         ensures within { IfOk result (λ n. n ≤ length bytes.now) }
         ensures some { 0 < length bytes.now → IfOk result (λ n. 0 < n) }
-        ensures written { WriteAppends (S.contents self.old.stream) (S.contents self.new.stream) result bytes.now }
+        ensures written { WriteAppends (S.contents self.old.stream)
+            (S.contents self.new.stream) result bytes.now }
         ensures end { self.new.ends ≡ self.old.ends }
         ensures works { OnOk result (self.new.failures ≡ self.old.failures) }
         ensures fails { OnErr result (Rose self.old.failures self.new.failures) }

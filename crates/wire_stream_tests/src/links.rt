@@ -19,8 +19,8 @@ pub(crate) const REPLY: &[u8; 33] =
 /// As `push_msg`.
 pub(crate) fn push_payload(out: &mut OutBuf, payload: &PayloadBuf) -> Result<(), MsgRefusal> {
     let flags = MsgFlags {
-        more: true,
-        allows: false,
+        more_to_come: true,
+        exhaust_allowed: false,
     };
     out.push_msg(3, 7, flags, payload.as_payload(), 33)
 }

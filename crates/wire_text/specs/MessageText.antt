@@ -17,12 +17,15 @@ flag_names true true = codes "more+exhaust"
 
 -- the flags in one word
 abbrev pub flags_text : MsgFlags → List ℕ
-flags_text flags = flag_names flags.more flags.allows
+flags_text flags = flag_names flags.more_to_come flags.exhaust_allowed
 
 -- the first line of a message
 abbrev pub message_line : Message → List ℕ
 message_line m =
-    codes "message " ++ (decimal (message_len m.content) ++ (codes " id " ++ (signed_decimal m.id ++ (codes " to " ++ (signed_decimal m.response_to ++ (codes " flags " ++ (flags_text m.flags ++ codes "\n")))))))
+    codes "message " ++ (decimal (message_len m.content)
+    ++ (codes " id " ++ (signed_decimal m.id
+    ++ (codes " to " ++ (signed_decimal m.response_to
+    ++ (codes " flags " ++ (flags_text m.flags ++ codes "\n")))))))
 
 -- the body: the line of its size, and those of its elements
 abbrev pub body_text : Tree → List ℕ
@@ -30,17 +33,22 @@ body_text t = codes "body " ++ (decimal (document_size t) ++ (codes "\n" ++ elem
 
 -- a document of a sequence, one deeper
 abbrev pub member_text : Tree → List ℕ
-member_text t = codes "  document " ++ (decimal (document_size t) ++ (codes "\n" ++ element_lines 2 t))
+member_text t =
+    codes "  document " ++ (decimal (document_size t) ++ (codes "\n" ++ element_lines 2 t))
 
--- the line of a document sequence: its identifier, and the count of its documents
+-- the line of a document sequence: its identifier, and the number of its documents
 abbrev pub sequence_line : Sequence → List ℕ
-sequence_line q = codes "sequence " ++ (quoted q.identifier ++ (codes " " ++ (decimal (length q.documents) ++ codes "\n")))
+sequence_line q =
+    codes "sequence " ++ (quoted q.identifier
+    ++ (codes " " ++ (decimal (length q.documents) ++ codes "\n")))
 
--- what is written of a document sequence: its line, and, where they are wanted, its documents
+-- what is written of a document sequence: its line, and its documents if they are asked for
 abbrev pub text_of_sequence : Detail → Sequence → List ℕ
 text_of_sequence Line q = sequence_line q
 text_of_sequence Documents q = sequence_line q ++ flat_map member_text q.documents
 
 -- the text of a message: its first line, the body, and the document sequences in order
 abbrev pub message_text : Message → List ℕ
-message_text m = message_line m ++ (body_text m.content.body ++ flat_map (text_of_sequence Documents) m.content.sequences)
+message_text m =
+    message_line m ++ (body_text m.content.body
+    ++ flat_map (text_of_sequence Documents) m.content.sequences)

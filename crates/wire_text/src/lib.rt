@@ -1,4 +1,4 @@
-//! The text of a message, over any writer. No function takes memory.
+//! Writes the text of a message to any writer. No function takes memory.
 #![tactic(auto)]
 
 mod messages;

@@ -1,11 +1,13 @@
-//! The text of a message. No function here takes memory.
+//! Writes the text of a message. No function here takes memory.
 
 ghost use Rattle.std.specs.Prelude.{◌≡◌, List, OnOk, flat_map};
-ghost use Rattle.std.specs.Io.KnownBytes.{Appends};
+ghost use Rattle.bson_text.specs.{WritesOut};
 ghost use Rattle.bson_elem.specs.{Spells, Tree};
 ghost use Rattle.bson_raw.specs.{document_bytes};
-ghost use Rattle.wire_msg.specs.{Carries, Content, DocumentsAre, Message, Sequence, SpellsMsg, msg_bytes};
-ghost use Rattle.wire_text.specs.MessageText.{body_text, flags_text, member_text, message_line, message_text, sequence_line, text_of_sequence};
+ghost use Rattle.wire_msg.specs.{Carries, Content, DocumentsAre, Message, Sequence, SpellsMsg};
+ghost use Rattle.wire_msg.specs.{msg_bytes};
+ghost use Rattle.wire_text.specs.MessageText.{body_text, flags_text, member_text, message_line};
+ghost use Rattle.wire_text.specs.MessageText.{message_text, sequence_line, text_of_sequence};
 
 use bson_raw::RawDocument;
 use bson_text::{dump_elements, quoted_to};
@@ -13,10 +15,10 @@ use std::io;
 use std::io::Write;
 use wire_msg::{Documents, MsgFlags, Payload, RawMsg};
 
-/// How much is written of a document sequence.
+/// How much of a document sequence is written.
 #[derive(Clone, Copy, Debug, PartialEq, Eq)]
 pub enum Detail {
-    /// The line of its identifier and the count of its documents.
+    /// Its line: the identifier, and the number of documents.
     Line,
     /// That line, and the documents.
     Documents,
@@ -26,7 +28,7 @@ pub enum Detail {
 fn flags_word(flags: MsgFlags) -> &'static str
     ensures { result.now ≡ flags_text flags }
 {
-    match (flags.more, flags.allows) {
+    match (flags.more_to_come, flags.exhaust_allowed) {
         (false, false) => "-",
         (true, false) => "more",
         (false, true) => "exhaust",
@@ -37,8 +39,7 @@ fn flags_word(flags: MsgFlags) -> &'static str
 /// Writes the first line of a message.
 fn write_message_line<W: Write>(message: RawMsg<'_>, out: &mut W) -> io::Result<()>
     ensures { (m : Message) → SpellsMsg m (msg_bytes message.entry) → OnOk result
-        (Appends (W.contents out.old) (W.contents out.new)
-        (message_line m)) }
+        (WritesOut W.contents out.old out.new (message_line m)) }
 {
     let size = message.as_bytes().len();
     let id = message.id();
@@ -50,7 +51,7 @@ fn write_message_line<W: Write>(message: RawMsg<'_>, out: &mut W) -> io::Result<
 /// Writes the line of the body's size, and those of its elements.
 fn write_body<W: Write>(body: RawDocument<'_>, out: &mut W) -> io::Result<()>
     ensures { (t : Tree) → Spells t (document_bytes body.entry) → OnOk result
-        (Appends (W.contents out.old) (W.contents out.new) (body_text t)) }
+        (WritesOut W.contents out.old out.new (body_text t)) }
 {
     let size = body.as_bytes().len();
     writeln!(out, "body {size}")?;
@@ -60,7 +61,7 @@ fn write_body<W: Write>(body: RawDocument<'_>, out: &mut W) -> io::Result<()>
 /// Writes a document of a sequence, one deeper than the body.
 fn write_member<W: Write>(document: RawDocument<'_>, out: &mut W) -> io::Result<()>
     ensures { (t : Tree) → Spells t (document_bytes document.entry) → OnOk result
-        (Appends (W.contents out.old) (W.contents out.new) (member_text t)) }
+        (WritesOut W.contents out.old out.new (member_text t)) }
 {
     let size = document.as_bytes().len();
     writeln!(out, "  document {size}")?;
@@ -70,7 +71,7 @@ fn write_member<W: Write>(document: RawDocument<'_>, out: &mut W) -> io::Result<
 /// Writes the documents of a sequence.
 fn write_documents<W: Write>(documents: Documents<'_>, out: &mut W) -> io::Result<()>
     ensures { (ts : List Tree) → DocumentsAre documents.entry ts → OnOk result
-        (Appends (W.contents out.old) (W.contents out.new) (flat_map member_text ts)) }
+        (WritesOut W.contents out.old out.new (flat_map member_text ts)) }
 {
     for document in documents.iter() {
         write_member(document, out)?;
@@ -78,7 +79,7 @@ fn write_documents<W: Write>(documents: Documents<'_>, out: &mut W) -> io::Resul
     Ok(())
 }
 
-/// Writes the line of a document sequence: its identifier, and the count of its documents.
+/// Writes the line of a document sequence: its identifier, and the number of its documents.
 fn write_sequence_line<W: Write>(
     identifier: &str,
     documents: Documents<'_>,
@@ -86,7 +87,7 @@ fn write_sequence_line<W: Write>(
 ) -> io::Result<()>
     ensures { (q : Sequence) → identifier.now ≡ q.identifier
         → DocumentsAre documents.entry q.documents → OnOk result
-        (Appends (W.contents out.old) (W.contents out.new) (sequence_line q)) }
+        (WritesOut W.contents out.old out.new (sequence_line q)) }
 {
     let count = documents.count();
     out.write_all(b"sequence ")?;
@@ -94,7 +95,7 @@ fn write_sequence_line<W: Write>(
     writeln!(out, " {count}")
 }
 
-/// Writes a document sequence: its line, and as `detail` says its documents.
+/// Writes a document sequence: its line, and its documents if `detail` says so.
 fn write_sequence<W: Write>(
     identifier: &str,
     documents: Documents<'_>,
@@ -103,7 +104,7 @@ fn write_sequence<W: Write>(
 ) -> io::Result<()>
     ensures { (q : Sequence) → identifier.now ≡ q.identifier
         → DocumentsAre documents.entry q.documents → OnOk result
-        (Appends (W.contents out.old) (W.contents out.new) (text_of_sequence detail q)) }
+        (WritesOut W.contents out.old out.new (text_of_sequence detail q)) }
 {
     write_sequence_line(identifier, documents, out)?;
     match detail {
@@ -123,8 +124,7 @@ pub fn write_sequences<W: Write>(
     out: &mut W,
 ) -> io::Result<()>
     ensures { (c : Content) → Carries payload.entry c → OnOk result
-        (Appends (W.contents out.old) (W.contents out.new)
-        (flat_map (text_of_sequence detail) c.sequences)) }
+        (WritesOut W.contents out.old out.new (flat_map (text_of_sequence detail) c.sequences)) }
 {
     for (identifier, documents) in payload.sequences() {
         write_sequence(identifier, documents, detail, out)?;
@@ -139,8 +139,7 @@ pub fn write_sequences<W: Write>(
 /// Returns the error of the writer, which may have taken a part of the text.
 pub fn write_message<W: Write>(message: RawMsg<'_>, out: &mut W) -> io::Result<()>
     ensures { (m : Message) → SpellsMsg m (msg_bytes message.entry) → OnOk result
-        (Appends (W.contents out.old) (W.contents out.new)
-        (message_text m)) }
+        (WritesOut W.contents out.old out.new (message_text m)) }
 {
     let payload = message.payload();
     write_message_line(message, out)?;

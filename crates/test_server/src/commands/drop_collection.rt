@@ -1,4 +1,4 @@
-//! The command drop.
+//! Carries out the command drop.
 
 ghost use Rattle.std.specs.Prelude.{OnErr, ◌≡◌, IfOk};
 ghost use Rattle.bson_elem.specs.{Spells, Tree};
@@ -16,7 +16,7 @@ use bson_doc::{Bson, Document};
 use bson_raw::RawDocument;
 use std::alloc::{AllocError, Global};
 
-/// Returns the answer that a collection was dropped.
+/// Makes the answer that says that a collection was dropped.
 fn dropped_answer(alloc: Global, namespace: Namespace<'_>) -> Result<Document, AllocError>
     ensures { IfOk result (λ d. d ≡ dropped_pairs (namespace_text (namespace_of namespace.entry))) }
 {
@@ -35,8 +35,10 @@ pub fn drop_collection(
     body: RawDocument<'_>,
 ) -> Result<Document, Failure>
     ensures carried { (t : Tree) → Spells t (document_bytes body.entry)
-        → IsCarriedOut (drop_collection (store_of store.old) t) (store_of store.old) result (store_of store.new) }
-    ensures kept { OnErr result ((store_of store.new).collections ≡ (store_of store.old).collections) }
+        → IsCarriedOut (drop_collection (store_of store.old) t) (store_of store.old) result
+        (store_of store.new) }
+    ensures kept { OnErr result
+        ((store_of store.new).collections ≡ (store_of store.old).collections) }
 {
     let namespace = namespace_field(body, "drop", CommandError::Drop)?;
     let answer = dropped_answer(alloc, namespace)?;

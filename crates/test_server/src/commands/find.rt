@@ -1,4 +1,4 @@
-//! The command find.
+//! Carries out the command find.
 
 ghost use Rattle.std.specs.Prelude.{◌≡◌, IfErr, IfOk, Ok};
 ghost use Rattle.bson_elem.specs.{Spells, Tree};
@@ -23,9 +23,9 @@ use std::alloc::{AllocError, Global};
 struct Query<'a> {
     /// The namespace whose documents are searched.
     namespace: Namespace<'a>,
-    /// The filter that they have to match.
+    /// The filter that they must match.
     filter: Document,
-    /// How many documents the first batch has at most.
+    /// The most documents in the first batch.
     count: usize,
 }
 
@@ -46,7 +46,7 @@ fn query_in(alloc: Global, body: RawDocument<'_>) -> Result<Query<'_>, Failure>
     })
 }
 
-/// Answers the first documents that a query finds, and opens a cursor over the others.
+/// Answers with the first documents that a query finds, and opens a cursor over the others.
 fn answer_query(alloc: Global, store: &mut Store, query: &Query<'_>) -> Result<Document, AllocError>
     ensures answered { IfOk result (λ d. find_reply_to (store_of store.old) (query_of query.now)
         ≡ record { answer = d; held = store_of store.new }) }
@@ -59,10 +59,12 @@ fn answer_query(alloc: Global, store: &mut Store, query: &Query<'_>) -> Result<D
     cursor_answer(alloc, Batch::First, batch, id, text)
 }
 
-/// Finds the documents of a collection that match a filter. Answers the first of them, and opens a cursor over the others.
+/// Finds the documents of a collection that match a filter. Answers with the first of them, and
+/// opens a cursor over the others.
 pub fn find(alloc: Global, store: &mut Store, body: RawDocument<'_>) -> Result<Document, Failure>
     ensures carried { (t : Tree) → Spells t (document_bytes body.entry)
-        → IsCarriedOut (find (store_of store.old) t) (store_of store.old) result (store_of store.new) }
+        → IsCarriedOut (find (store_of store.old) t) (store_of store.old) result
+        (store_of store.new) }
     ensures steady { (store_of store.new).collections ≡ (store_of store.old).collections }
 {
     let query = query_in(alloc, body)?;

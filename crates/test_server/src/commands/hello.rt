@@ -1,4 +1,4 @@
-//! The command hello, and its older forms isMaster and ismaster.
+//! Answers the command hello, and its older forms isMaster and ismaster.
 
 ghost use Rattle.std.specs.Prelude.{◌≡◌, IfOk, OnOk, codes, pos, true};
 ghost use Rattle.bson_doc.specs.{put};
@@ -19,10 +19,10 @@ fn set_primary(alloc: Global, answer: &mut Document, legacy: bool) -> Result<(),
     }
 }
 
-/// Sets the limits of what the server takes.
+/// Sets the limits on what the server takes.
 fn set_limits(alloc: Global, answer: &mut Document) -> Result<(), AllocError>
-    ensures { OnOk result (answer.new
-        ≡ put (codes "maxWriteBatchSize") (int32 (pos 100000))
+    ensures { OnOk result
+        (answer.new ≡ put (codes "maxWriteBatchSize") (int32 (pos 100000))
         (put (codes "maxMessageSizeBytes") (int32 (pos 48000000))
         (put (codes "maxBsonObjectSize") (int32 (pos 16777216)) answer.old))) }
 {
@@ -38,15 +38,15 @@ fn set_limits(alloc: Global, answer: &mut Document) -> Result<(), AllocError>
 
 /// Sets the versions of the wire protocol that the server speaks.
 fn set_versions(alloc: Global, answer: &mut Document) -> Result<(), AllocError>
-    ensures { OnOk result (answer.new
-        ≡ put (codes "maxWireVersion") (int32 (pos 13))
+    ensures { OnOk result
+        (answer.new ≡ put (codes "maxWireVersion") (int32 (pos 13))
         (put (codes "minWireVersion") (int32 (pos 0)) answer.old)) }
 {
     set(alloc, answer, "minWireVersion", Bson::Int32(0))?;
     set(alloc, answer, "maxWireVersion", Bson::Int32(13))
 }
 
-/// Returns what a standalone server says of itself, as an older form of hello wants it if `legacy`.
+/// Makes the answer of a standalone server, in an older form of hello if `legacy`.
 pub fn hello(alloc: Global, legacy: bool) -> Result<Document, AllocError>
     ensures { IfOk result (λ d. d ≡ hello_pairs legacy) }
 {

@@ -1,4 +1,4 @@
-//! The command insert.
+//! Carries out the command insert.
 
 ghost use Rattle.std.specs.Prelude.{OnErr, ◌≡◌, IfOk, ℤ};
 ghost use Rattle.wire_msg.specs.{Carries, Content};
@@ -15,7 +15,7 @@ use bson_doc::{Bson, Document};
 use std::alloc::{AllocError, Global};
 use wire_msg::Payload;
 
-/// Returns the answer that so many documents were inserted.
+/// Makes the answer that says that `count` documents were inserted.
 fn inserted_answer(alloc: Global, count: i32) -> Result<Document, AllocError>
     ensures { IfOk result (λ d. d ≡ inserted_pairs count) }
 {
@@ -25,11 +25,14 @@ fn inserted_answer(alloc: Global, count: i32) -> Result<Document, AllocError>
     Ok(answer)
 }
 
-/// Inserts the documents of the array `documents` in the body, or of the sequences of this name.
+/// Inserts the documents of the array `documents` in the body, or of the sequences with this
+/// identifier.
 pub fn insert(alloc: Global, store: &mut Store, payload: Payload<'_>) -> Result<Document, Failure>
     ensures carried { (c : Content) → Carries payload.entry c
-        → IsCarriedOut (insert (store_of store.old) c) (store_of store.old) result (store_of store.new) }
-    ensures kept { OnErr result ((store_of store.new).collections ≡ (store_of store.old).collections) }
+        → IsCarriedOut (insert (store_of store.old) c) (store_of store.old) result
+        (store_of store.new) }
+    ensures kept { OnErr result
+        ((store_of store.new).collections ≡ (store_of store.old).collections) }
 {
     let namespace = namespace_field(payload.body(), "insert", CommandError::Insert)?;
     let documents = inserted_documents(alloc, payload)?;

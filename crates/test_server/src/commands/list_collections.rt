@@ -1,4 +1,4 @@
-//! The command listCollections.
+//! Carries out the command listCollections.
 
 ghost use Rattle.std.specs.Prelude.{◌≡◌, IfOk, map, codes, false, ◌∷◌, []};
 ghost use Rattle.bson_elem.specs.{Spells, Tree};
@@ -18,7 +18,7 @@ use bson_doc::{Bson, Document};
 use bson_raw::RawDocument;
 use std::alloc::{AllocError, Global};
 
-/// Returns what is told of a collection beside its name and its type.
+/// Makes what a listing says of a collection beside its name and its type.
 fn info(alloc: Global) -> Result<Document, AllocError>
     ensures { IfOk result (λ d. d ≡ (codes "readOnly", truth false) ∷ []) }
 {
@@ -27,7 +27,7 @@ fn info(alloc: Global) -> Result<Document, AllocError>
     Ok(info)
 }
 
-/// Returns what is told of a collection of this name.
+/// Makes the listing of the collection with this name.
 fn listing(alloc: Global, name: &str) -> Result<Document, AllocError>
     ensures { IfOk result (λ d. inner d ≡ listing name.now) }
 {
@@ -45,14 +45,14 @@ fn listing(alloc: Global, name: &str) -> Result<Document, AllocError>
     Ok(listing)
 }
 
-/// Returns what is told of each collection of a database, in order.
+/// Makes the listings of the collections of a database, in order.
 fn listings(
     alloc: Global,
     collections: &[Collection],
     database: &str,
 ) -> Result<Vec<Bson>, AllocError>
-    ensures { IfOk result (λ vs. map value_of vs.items
-        ≡ listings database.now (map collection_of collections.now)) }
+    ensures { IfOk result
+        (λ vs. map value_of vs.items ≡ listings database.now (map collection_of collections.now)) }
 {
     let mut found = Vec::new(alloc);
     for collection in collections {
@@ -64,14 +64,15 @@ fn listings(
     Ok(found)
 }
 
-/// Answers what is told of each collection of a database that matches a filter.
+/// Answers with the listings of the collections of a database that match a filter.
 fn answer_list(
     alloc: Global,
     store: &Store,
     database: &str,
     filter: &Document,
 ) -> Result<Document, AllocError>
-    ensures { IfOk result (λ d. d ≡ list_answer (store_of store.now) database.now (tree_of filter.now)) }
+    ensures { IfOk result
+        (λ d. d ≡ list_answer (store_of store.now) database.now (tree_of filter.now)) }
 {
     let all = listings(alloc, &store.collections, database)?;
     let found = matching(alloc, filter, &all)?;
@@ -83,14 +84,15 @@ fn answer_list(
     cursor_answer(alloc, Batch::First, found, 0, text)
 }
 
-/// Answers what is told of each collection of a database that matches a filter.
+/// Answers with the listings of the collections of a database that match a filter.
 pub fn list_collections(
     alloc: Global,
     store: &mut Store,
     body: RawDocument<'_>,
 ) -> Result<Document, Failure>
     ensures carried { (t : Tree) → Spells t (document_bytes body.entry)
-        → IsCarriedOut (list_collections (store_of store.old) t) (store_of store.old) result (store_of store.new) }
+        → IsCarriedOut (list_collections (store_of store.old) t) (store_of store.old) result
+        (store_of store.new) }
     ensures steady { (store_of store.new).collections ≡ (store_of store.old).collections }
 {
     let database = text_field(body, "$db", CommandError::Database)?;

@@ -2,7 +2,7 @@ use Rattle.std.proofs.Common.{List, map, refl, ap, ◌∙◌}
 use Rattle.std.proofs.lemmas.Result.{err_from_is_err_and}
 use Rattle.wire_msg.specs.{Sequence}
 use Rattle.bson_doc.specs.Bson.{value_of}
-use Rattle.test_server.specs.Inserted.{behind, brought, in_sequences}
+use Rattle.test_server.specs.Inserted.{followed_by, sequence_documents, in_sequences}
 use Rattle.test_server.proofs.Inserting.{all_appended, more_joined, stops_joined}
 use Rattle.test_server.proofs.inserted.push_sequences.Goals as goal
 
@@ -18,8 +18,8 @@ loop-identifier-preserved c = (
       let step = c.in-Some.ensures.steps left.0 left.1 in (
         step.others,
         step.left,
-        left.2 ∙ ap (λ (qs : List Sequence). behind (map value_of c.loop-identifier.documents.items) (in_sequences qs)) step.is_first
-            ∙ more_joined (map value_of c.loop-identifier.documents.items) (map value_of c.push_brought.new.documents.items) (brought step.sequence) (in_sequences step.others)
+        left.2 ∙ ap (λ (qs : List Sequence). followed_by (map value_of c.loop-identifier.documents.items) (in_sequences qs)) step.is_first
+            ∙ more_joined (map value_of c.loop-identifier.documents.items) (map value_of c.push_brought.new.documents.items) (sequence_documents step.sequence) (in_sequences step.others)
             (c.in_ok-push_brought.ensures step.sequence step.identifier_is step.documents_are),
       ),
 )
@@ -31,8 +31,8 @@ returns-in_err-push_brought c = λ k carries.
     let told = err_from_is_err_and c.from_residual.result c.from_residual.ensures.1 in
     rw (told.1, told.2)
     (stops_joined (map value_of c.args.documents.now.items) (map value_of c.loop-identifier.documents.items) (map value_of c.push_brought.new.documents.items) (map value_of c.push_brought.new.documents.items)
-    (in_sequences k.sequences) (brought step.sequence) (in_sequences step.others) c.in_err-push_brought.field-0.0
-    (left.2 ∙ ap (λ (qs : List Sequence). behind (map value_of c.loop-identifier.documents.items) (in_sequences qs)) step.is_first)
+    (in_sequences k.sequences) (sequence_documents step.sequence) (in_sequences step.others) c.in_err-push_brought.field-0.0
+    (left.2 ∙ ap (λ (qs : List Sequence). followed_by (map value_of c.loop-identifier.documents.items) (in_sequences qs)) step.is_first)
     (c.in_err-push_brought.ensures step.sequence step.identifier_is step.documents_are))
 
 pub returns : goal.returns
@@ -40,4 +40,4 @@ returns c = λ k carries.
     let left = c.loop-identifier.invariant.2 k carries in
     let none = (c.in-None.ensures.steps left.0 left.1).0 in
     all_appended (map value_of c.args.documents.now.items) (map value_of c.loop-identifier.documents.items) (in_sequences k.sequences)
-    (left.2 ∙ ap (λ (qs : List Sequence). behind (map value_of c.loop-identifier.documents.items) (in_sequences qs)) none)
+    (left.2 ∙ ap (λ (qs : List Sequence). followed_by (map value_of c.loop-identifier.documents.items) (in_sequences qs)) none)

@@ -8,4 +8,4 @@ returns-clause-received c = λ m spelled.
     let id_fits : FitsSigned w32 c.id.result = search rules in
     let to_fits : FitsSigned w32 c.response_to.result = search rules in
     let told = simp to_z-of_z at c.receive.ensures.received in
-    rw (← c.id.ensures m s, ← c.response_to.ensures m s, ← c.more.ensures m s) told
+    rw (← c.id.ensures m s, ← c.response_to.ensures m s, ← c.more_to_come.ensures m s) told

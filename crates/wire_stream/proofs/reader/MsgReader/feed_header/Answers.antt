@@ -40,4 +40,4 @@ pub returns-in_err-message-clause-unchanged : goal.returns-in_err-message-clause
 returns-in_err-message-clause-unchanged c = on_err c.from_residual.result _ (rw (refused c).same c.self.view_is)
 
 pub returns-clause-fed : goal.returns-clause-fed
-returns-clause-fed c = rw (← c.self.view_is) (good_fed _ _ _ _ _ _ _ _ _ c.self.invariant.kept (rw (← c.self.view_is) at c.requires) c.fill_header-n.ensures.whole c.if-self-n.false c.fill_header-n.ensures.count c.fill_header-n.ensures.filled (rw c.in_ok-message.ensures.items at c.go_on-fed.ensures.fed))
+returns-clause-fed c = rw (← c.self.view_is) (good_fed _ _ _ _ _ _ _ _ _ c.self.invariant.kept (rw (← c.self.view_is) at c.requires) c.fill_header-n.ensures.whole c.if-self-n.false c.fill_header-n.ensures.count c.fill_header-n.ensures.filled (rw c.in_ok-message.ensures.items at c.append_piece-fed.ensures.fed))

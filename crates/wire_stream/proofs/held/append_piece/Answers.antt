@@ -4,8 +4,8 @@ use Rattle.wire_msg.specs.{IsGoodHeader, header_of, number_at}
 use Rattle.wire_stream.specs.declared.reader_state.ReaderState.TheVariants.{Need}
 use Rattle.wire_stream.specs.Readers.{StandsAt}
 use Rattle.wire_stream.proofs.Readings.{begun_on, goes_on, good_front}
-use Rattle.wire_stream.proofs.held.go_on.Goals as goal
-use Rattle.wire_stream.proofs.held.go_on.Goals.{After-deref-2}
+use Rattle.wire_stream.proofs.held.append_piece.Goals as goal
+use Rattle.wire_stream.proofs.held.append_piece.Goals.{After-deref-2}
 
 announced : (c : After-deref-2) → c.little_u32-announced.result ≡ number_at c.args.message.now.items 0
 announced c = c.little_u32-announced.ensures ∙ ap (λ x. from_le_bytes w32 (take 4 x)) c.deref.ensures.value

@@ -1,6 +1,0 @@
-use Rattle.std.proofs.Common.{ap}
-use Rattle.wire_msg.specs.declared.flags.MsgFlags.{MsgFlags}
-use Rattle.wire_msg.proofs.msg.RawMsg.allows_more.Goals as goal
-
-pub returns : goal.returns
-returns c = λ m s. ap (λ (flags : MsgFlags). flags.allows) (c.flags.ensures m s)
