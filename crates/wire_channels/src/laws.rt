@@ -5,6 +5,7 @@ ghost use Rattle.wire_peer.specs.{IsLimit};
 ghost use Rattle.wire_channels.specs.Channels.{System, Trace, no_pairs};
 ghost use Rattle.wire_channels.specs.Deeds.{Arrive, Common, Deed, ServersRun, acts_at};
 ghost use Rattle.wire_channels.specs.Owners.{AreMade, ClientAct, ClientEnd, ClientRun, Made, ServerEnds, bytes_sent, bytes_taken, first_end, first_servers_of};
+ghost use Rattle.wire_channels.specs.Knowing.{OwnersKnow};
 ghost use Rattle.wire_channels.specs.Seen.{Channelled};
 
 use wire_peer::Handler;
@@ -27,6 +28,18 @@ pub fn halves_meet<H: Handler>()
         → ServersRun H.does H.stops (first_servers_of limit made k first) deeds servers
         → Arrive (λ _. []) (λ _. []) deeds
         → Common H.does H.stops limit k first ends servers }
+{}
+
+/// Proves that after what all owners did the records that the owners of the clients have keep the headline, over the
+/// log of the servers, and that on a connection whose ends are quiet every acknowledged call is done.
+pub fn owners_know<H: Handler>()
+    ensures { (limit k : ℕ) (first : H) (made : ℕ → Made) (deeds : List Deed)
+        (ends : ℕ → ClientEnd) (servers : ServerEnds H)
+        → IsLimit limit → AreMade made
+        → ((c : ℕ) → ClientRun c (first_end limit made c) (acts_at c deeds) (ends c))
+        → ServersRun H.does H.stops (first_servers_of limit made k first) deeds servers
+        → Arrive (λ _. []) (λ _. []) deeds
+        → OwnersKnow H.does H.stops k first deeds ends servers }
 {}
 
 /// Proves that what the owner of a client did, and then did from there on, is one run, and so are the bytes.
