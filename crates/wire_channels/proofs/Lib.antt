@@ -12,3 +12,4 @@ pub mod Meets
 pub mod Starts
 pub mod Knows
 pub mod GoingOn
+pub mod Alone

@@ -1,7 +1,9 @@
 //! The laws of pairs. The contract of a function is the law.
 
-ghost use Rattle.std.specs.Prelude.{◌≡◌, [], ◌++◌, ℕ, List};
-ghost use Rattle.wire_peer.specs.{IsLimit};
+ghost use Rattle.std.specs.Prelude.{◌≡◌, [], ◌++◌, ℕ, ℤ, List};
+ghost use Rattle.bson_elem.specs.{IsBytes};
+ghost use Rattle.wire_peer.specs.{IsLimit, new_client};
+ghost use Rattle.wire_channels.specs.Alone.{HoldsAlone};
 ghost use Rattle.wire_channels.specs.Channels.{System, Trace, no_pairs};
 ghost use Rattle.wire_channels.specs.Deeds.{Arrive, Common, Deed, ServersRun, acts_at};
 ghost use Rattle.wire_channels.specs.Owners.{AreMade, ClientAct, ClientEnd, ClientRun, Made, ServerEnds, bytes_sent, bytes_taken, first_end, first_servers_of};
@@ -56,4 +58,14 @@ pub fn servers_go_on<H: Handler>()
     ensures { (deeds more : List Deed) (old mid new : ServerEnds H)
         → ServersRun H.does H.stops old deeds mid → ServersRun H.does H.stops mid more new
         → ServersRun H.does H.stops old (deeds ++ more) new }
+{}
+
+/// Proves what holds of a client, whoever answers it, over any calls and any pieces of any bytes: the replies that it
+/// handed out are messages of the one split of what it received, in order, each once, each to the call that owns it; and
+/// it is closed by the first message that is bad or nobody's, with that cause.
+pub fn a_client_holds_alone()
+    ensures { (c limit window : ℕ) (first_id : ℤ) (acts : List ClientAct) (new : ClientEnd)
+        → IsBytes (bytes_taken acts)
+        → ClientRun c (record { client = new_client first_id window limit; records = [] }) acts new
+        → HoldsAlone limit acts new }
 {}
