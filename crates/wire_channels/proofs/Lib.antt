@@ -2,9 +2,14 @@ pub mod Pairs
 pub mod Ends
 pub mod Goes
 pub mod Records
-pub mod Main
 pub mod Fits
+pub mod Owns
+pub mod Main
+pub mod Sound
 pub mod Deeds
+pub mod Flights
 pub mod Meets
 pub mod Starts
+pub mod Knows
 pub mod GoingOn
+pub mod Alone

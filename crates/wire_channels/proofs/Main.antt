@@ -1,24 +1,25 @@
 -- The law.
-use Rattle.std.proofs.Common.{true, length, ◌≡◌, ℕ, zero, suc, ◌<◌, ◌^◌, Bool, false, List, [], ◌∷◌, ◌++◌, map, refl, sym, ◌∙◌, ap, subst, arith, Option, Some, None, inl, inr, Result, Ok, Err}
+use Rattle.std.proofs.Common.{length, ◌≡◌, ℕ, zero, suc, ◌<◌, ◌^◌, Bool, false, List, [], ◌∷◌, ◌++◌, map, refl, sym, ◌∙◌, ap, subst, arith, Option, Some, None, inl, inr, Result, Ok, Err}
 use Rattle.std.specs.Prelude.{pos, slice_get, slice_set}
 use Rattle.std.proofs.lemmas.Option.{none-some, same_Some}
-use Rattle.wire_msg.specs.{Content}
 use Rattle.wire_peer.specs.{IsLimit, AnswerStep, Does, LogEntry, ServerView, Stops, content_of}
 use Rattle.wire_peer.specs.declared.call_table.ReadyReply.{ReadyReply}
 use Rattle.wire_peer.specs.declared.server_state.AnswerRefusal.{AnswerRefusal}
 use Rattle.wire_peer.specs.declared.server_state.AnswerRefusal.TheVariants as refusals
 use Rattle.wire_model.specs.declared.limits.WorldLimits.{WorldLimits}
-use Rattle.wire_model.specs.{AreContents, Conn, CopiesReply, Done, Headline, IsQuiet, Lost, Machine, Pending, Record, Sent, asked_as, conn_at, given_record, new_record}
-use Rattle.wire_model.specs.Machines.{Answered, Call, CallIs, empty}
+use Rattle.wire_model.specs.{AreContents, Conn, CopiesReply, Done, Headline, IsQuiet, Lost, Machine, Pending, Record, asked_as, conn_at, given_record, new_record}
+use Rattle.wire_model.specs.Machines.{empty}
 use Rattle.wire_model.specs.Machines as machine
 use Rattle.wire_model.specs.Shown.{is_raw, raws}
-use Rattle.wire_model.proofs.Lemmas.{Agrees, agrees_opening, done_whole, headline_of, one_call, quiet_of, rank, raw_steps, shows-get_back, silent_none, steps_then}
+use Rattle.wire_model.proofs.Lemmas.{Agrees, agrees_opening, headline_of, ok_empty, ok_steps, quiet_of, raw_steps, steps_then}
 use Rattle.wire_channels.specs.Channels.{Pair, Step, Steps, System, Trace, Way, client_sent, collected, given_up, issued, no_pairs, pair_at, pair_set, paired, new_pair, server_ended, server_sent, with_pair}
 use Rattle.wire_channels.specs.Channels as channels
+use Rattle.wire_channels.specs.Knowing.{Owned}
 use Rattle.wire_channels.specs.Seen.{Agree, Channelled, IsQuietPair, seen_as, world_of}
 use Rattle.wire_channels.proofs.Ends.{let_go, sent_down, sent_up, took_spelled}
 use Rattle.wire_channels.proofs.Goes
 use Rattle.wire_channels.proofs.Goes.{nothing}
+use Rattle.wire_channels.proofs.Owns.{owned_calls}
 use Rattle.wire_channels.proofs.Pairs.{seen_at, seen_raw}
 use Rattle.wire_channels.proofs.Records.{Kept, kept_alike, kept_calls, kept_collected, kept_ended, kept_fed, kept_pairs, kept_ready, put_is}
 
@@ -145,7 +146,7 @@ module _ (H : Type 0) (does : Does H) (stops : Stops H) (limit : ℕ) (short : l
 
   -- ---- what it comes to
 
-  raws_are : (s : System H) (ys : List Record) (c : ℕ) → raws (world_of s ys) c ≡ false
+  pub raws_are : (s : System H) (ys : List Record) (c : ℕ) → raws (world_of s ys) c ≡ false
   raws_are s ys c = by (conn_at (map seen_as s.pairs) c) refl
     where
       by : (o : Option Conn) → conn_at (map seen_as s.pairs) c ≡ o → raws (world_of s ys) c ≡ false
@@ -173,76 +174,16 @@ module _ (H : Type 0) (does : Does H) (stops : Stops H) (limit : ℕ) (short : l
         | inr q ↦ (let no_ : Done ≡ Lost = sym done ∙ q in cc)
       ])
 
-  done_answers : (s : System H) (h : Holds s) (i : ℕ) (x : Record) → slice_get s.calls i ≡ Some x
-      → x.state ≡ Done
-      → (e : ℕ) × (en : LogEntry) × (slice_get s.log e ≡ Some en) × (en.connection ≡ x.connection)
-      × (en.payload ≡ x.asked.payload) × (en.answers ≡ Some x.parts)
-  done_answers s h i x at done =
-      let p =
-      shows-get_back h.m.calls i x (ap (λ cs. slice_get cs i) h.stands.calls
-      ∙ done_same s h i x at done) in
-      let w =
-      done_whole h.m h.stands.ways.ok p.0 p.1 p.2 (ap (λ (z : Record). z.state) p.3 ∙ done) in (
-        w.0,
-        w.1,
-        ap (λ log. slice_get log w.0) (sym h.stands.log) ∙ w.3,
-        w.4
-            ∙ ap (λ (z : Record). z.connection) p.3,
-        w.5
-            ∙ ap (λ (z : Record). z.asked.payload) p.3,
-        w.6 ∙ ap (λ (z : Record). Some z.parts) p.3,
-      )
-
-  -- a done call's entry is the one that its place in the machine names
-  done_apart : (s : System H) (h : Holds s) (i j : ℕ) (x y : Record) (at_i : slice_get s.calls i ≡ Some x) (at_j : slice_get s.calls j ≡ Some y) (done_i : x.state ≡ Done) (done_j : y.state ≡ Done)
-      → (done_answers s h i x at_i done_i).0 ≡ (done_answers s h j y at_j done_j).0 → i ≡ j
-  unfolding done_answers
-  done_apart s h i j x y at_i at_j done_i done_j same =
-      let p =
-      shows-get_back h.m.calls i x (ap (λ cs. slice_get cs i) h.stands.calls
-      ∙ done_same s h i x at_i done_i) in
-      let q =
-      shows-get_back h.m.calls j y (ap (λ cs. slice_get cs j) h.stands.calls
-      ∙ done_same s h j y at_j done_j) in
-      let v =
-      done_whole h.m h.stands.ways.ok p.0 p.1 p.2 (ap (λ (z : Record). z.state) p.3
-      ∙ done_i) in
-      let w =
-      done_whole h.m h.stands.ways.ok q.0 q.1 q.2 (ap (λ (z : Record). z.state) q.3
-      ∙ done_j) in
-      let call : p.0 ≡ q.0 = (one_call h.m h.stands.ways.ok).0 p.0 q.0 v.0 p.1 q.1 p.2 q.2 (inl v.2) (inl (w.2 ∙ ap (λ e. Answered e) (sym same))) in
-      sym p.5 ∙ ap (rank h.m.calls) call ∙ q.5
-
-  silent_empty : (s : System H) (h : Holds s) (i : ℕ) (x : Record) → slice_get s.calls i ≡ Some x
-      → x.asked.more_to_come ≡ true → (x.state ≡ Sent) × (x.parts ≡ [])
-  silent_empty s h i x at is = let o = h.kept.agree i x at in by o.0 o.1 o.2
-    where
-      none : (y : Record) → slice_get h.ys i ≡ Some y → y.asked.more_to_come ≡ true → (y.state ≡ Sent)
-          × (y.parts ≡ [])
-      none y at_y quiet =
-          let p = shows-get_back h.m.calls i y (ap (λ cs. slice_get cs i) h.stands.calls ∙ at_y) in
-          let w =
-          silent_none h.m h.stands.ways.ok p.0 p.1 p.2 p.4 (ap (λ (z : Record). z.asked.more_to_come) p.3 ∙ quiet) in (
-            ap (λ (z : Record). z.state) (sym p.3) ∙ w.0,
-            ap (λ (z : Record). z.parts) (sym p.3)
-                ∙ w.1,
-          )
-
-      some : (xs : List Content) (part : Content) → xs ++ part ∷ [] ≡ [] → ⊥
-      some [] part e = cc
-      some (a ∷ xs) part e = cc
-
-      by : (y : Record) → slice_get h.ys i ≡ Some y → Agree s.pairs i x y → (x.state ≡ Sent)
-          × (x.parts ≡ [])
-      by y at_y (inl e) =
-          let w = none y at_y (ap (λ (z : Record). z.asked.more_to_come) e.0 ∙ is) in (
-            ap (λ (z : Record). z.state) (sym e.0) ∙ w.0,
-            ap (λ (z : Record). z.parts) (sym e.0)
-                ∙ w.1,
-          )
-      by y at_y (inr a) =
-          let w = none y at_y (ap (λ (z : Record). z.asked.more_to_come) a.given ∙ is) in
-          absurd (some x.parts a.m.content (ap (λ (z : Record). z.parts) (sym a.given) ∙ w.1))
+  -- the owners' records keep the headline, as calls of the machine that the world shows
+  world_owned : (s : System H) (h : Holds s)
+      → Owned (world_headline s h).m (λ (i : ℕ) (x : Record). slice_get s.calls i ≡ Some x)
+  world_owned s h =
+      let w = world_headline s h in
+      owned_calls w.m
+      (ok_steps H does stops (empty first (raws (world_of s h.ys))) w.m (ok_empty first (raws (world_of s h.ys))) w.reached)
+      (λ c. raw_steps does stops no_limits (empty first (raws (world_of s h.ys))) w.m w.reached c
+      ∙ raws_are s h.ys c)
+      s.pairs s.calls h.ys h.kept.as_many (sym w.shows.calls) h.kept.agree
 
   quiet_done : (s : System H) (h : Holds s) (c : ℕ) → IsQuietPair s.pairs c → (i : ℕ) (x : Record)
       → slice_get s.calls i ≡ Some x → x.connection ≡ c → x.asked.more_to_come ≡ false → x.state ≡ Done
@@ -285,8 +226,6 @@ module _ (H : Type 0) (does : Does H) (stops : Stops H) (limit : ℕ) (short : l
     as_many = h.kept.as_many;
     agree = h.kept.agree;
     done = done_same s h;
-    whole = done_answers s h;
-    apart = done_apart s h;
-    silent = silent_empty s h;
+    owned = world_owned s h;
     quiet = quiet_done s h;
   }

@@ -4,14 +4,16 @@ use Rattle.std.specs.Prelude.{slice_get}
 use Rattle.std.proofs.lemmas.Option.{none-some, same_Some, slice_get_within}
 use Rattle.wire_peer.specs.{Does, ServerView, Stops, new_server}
 use Rattle.wire_model.specs.{Record}
-use Rattle.wire_model.proofs.Lemmas.{get-push_cases, get-push_new, get-push_old, length-push, same_or_not}
-use Rattle.wire_channels.specs.Channels.{Comes, Pair, Step, Steps, System, Way, client_ended, client_sent, collected, fewer, given_up, issued, lost_at, new_pair, no_pairs, pair_at, pair_set, paired, server_ended, server_sent, with_pair}
+use Rattle.wire_model.proofs.Lemmas.{get-push_cases, get-push_new, get-push_old, length-push, length-slice_set, same_or_not}
+use Rattle.wire_channels.specs.Channels.{Pair, Steps, System, new_pair, no_pairs, pair_at, paired}
 use Rattle.wire_channels.specs.Channels as channels
-use Rattle.wire_channels.specs.Owners.{AreMade, ClientEnd, ClientRun, Made, ServerEnds, first_end, first_servers, first_servers_of, server_at}
-use Rattle.wire_channels.specs.Deeds.{Arrive, Common, Deed, ServersRun, acts_at}
+use Rattle.wire_channels.specs.Owners.{AreMade, ClientEnd, ClientRun, Made, ServerEnds, first_end, first_servers, first_servers_of, server_at, server_set}
+use Rattle.wire_channels.specs.Deeds.{AreOf, Arrive, AtClient, AtServer, Common, Deed, ServersRun, acts_at}
 use Rattle.wire_channels.proofs.Pairs.{pair_push-old}
 use Rattle.wire_channels.proofs.Fits.{Fit, PairFits, get_within}
-use Rattle.wire_channels.proofs.Meets.{meet}
+use Rattle.wire_channels.proofs.Flights.{Balanced}
+use Rattle.wire_channels.proofs.Meets.{Met, meet}
+use Rattle.wire_channels.proofs.Sound.{all_sound}
 
 module _ (H : Type 0) (does : Does H) (stops : Stops H) (limit : ℕ) where
   abbrev pairs_of : (ℕ → Made) → ℕ → List Pair
@@ -109,33 +111,76 @@ module _ (H : Type 0) (does : Does H) (stops : Stops H) (limit : ℕ) where
       handler = refl;
     }
 
+    -- what is common to the owners, and how what was sent stands to what was taken
+    pub met : (k : ℕ) (deeds : List Deed) (ends : ℕ → ClientEnd) (servers : ServerEnds H)
+        → ((c : ℕ) → ClientRun c (first_end limit made c) (acts_at c deeds) (ends c))
+        → ServersRun does stops (first_servers_of limit made k first) deeds servers
+        → Arrive (λ _. []) (λ _. []) deeds
+        → (r : Met H does stops limit k first ends servers)
+        × Balanced (λ _. []) (λ _. []) r.up r.down deeds
+    met k deeds ends servers runs served arrive =
+        meet H does stops limit k first ends servers deeds (begun k) (first_end limit made)
+        (first_servers_of limit made k first) (λ c. []) (λ c. []) (record {
+          steps = begun_steps k;
+          fits = begun_fits k;
+          all = λ c least most. (_, begun_at k c least most);
+        }) runs served arrive
+
+    -- servers stay as many
+    as_many : (deeds : List Deed) (old new : ServerEnds H) → ServersRun does stops old deeds new
+        → length new.servers ≡ length old.servers
+    as_many [] old new same = ap (λ (z : ServerEnds H). length z.servers) same
+    as_many (AtClient c act ∷ deeds) old new run = as_many deeds old new run
+    as_many (AtServer c act ∷ deeds) old new (mid, a, run) =
+        as_many deeds mid new run ∙ ap length a.after ∙ set_length old.servers c a.s'
+      where
+        set_length : (ss : List ServerView) (d : ℕ) (t : ServerView)
+            → length (server_set ss d t) ≡ length ss
+        set_length ss zero t = refl
+        set_length ss (suc d) t = length-slice_set ss d t
+
+    pub are_of : (k : ℕ) (deeds : List Deed) (ends : ℕ → ClientEnd) (servers : ServerEnds H)
+        → ServersRun does stops (first_servers_of limit made k first) deeds servers
+        → (r : Met H does stops limit k first ends servers) → AreOf k ends servers r.final
+    are_of k deeds ends servers served r = record {
+      pair = r.all;
+      client = λ c p at. let f = r.fits.pairs c p at in (f.client, f.server_is);
+      records = λ c p at n x g.
+          let f = r.fits.pairs c p at in
+          let lt = slice_get_within (ends c).records n x g in
+          let same = f.many in
+          let i = get_within p.calls n (omega (arith, lt, same)) in
+          let w = f.own n i.0 i.1 in
+          let is : w.0 ≡ x = same_Some w.0 x (sym w.3 ∙ g) in (
+            i.0,
+            i.1,
+            w.1 ∙ ap (λ z. Some z) is,
+            ap (λ (z : Record). z.connection) (sym is)
+                ∙ w.2,
+          );
+      once = λ c p at. (r.fits.pairs c p at).once;
+      no_other = λ i x g.
+          let v = (all_sound H does stops limit first r.final r.steps).covered i x g in
+          let f = r.fits.pairs x.connection v.0 v.1 in
+          let w = f.own v.2 i v.3 in
+          let within = within_servers servers.servers x.connection v.0.server f.server_is in
+          let many = as_many deeds (first_servers_of limit made k first) servers served
+          ∙ many_servers made k in (
+            v.0,
+            v.2,
+            within.0,
+            omega (arith, within.1, many),
+            v.1,
+            v.3,
+            w.3 ∙ ap (λ z. Some z) (same_Some w.0 x (sym w.1 ∙ g)),
+          );
+      log = r.fits.log;
+    }
+
     pub common : (k : ℕ) (deeds : List Deed) (ends : ℕ → ClientEnd) (servers : ServerEnds H)
         → ((c : ℕ) → ClientRun c (first_end limit made c) (acts_at c deeds) (ends c))
         → ServersRun does stops (first_servers_of limit made k first) deeds servers
         → Arrive (λ _. []) (λ _. []) deeds → Common does stops limit k first ends servers
     common k deeds ends servers runs served arrive =
-        let r =
-        meet H does stops limit k first ends servers deeds (begun k) (first_end limit made) (first_servers_of limit made k first) (λ c. []) (λ c. [])
-        (record { steps = begun_steps k; fits = begun_fits k; all = λ c least most. (_, begun_at k c least most) }) runs served arrive in
-        record {
-          s = r.final;
-          trace = r.steps;
-          of = record {
-            pair = r.all;
-            client = λ c p at. let f = r.fits.pairs c p at in (f.client, f.server_is);
-            records = λ c p at n x g.
-                let f = r.fits.pairs c p at in
-                let lt = slice_get_within (ends c).records n x g in
-                let same = f.many in
-                let i = get_within p.calls n (omega (arith, lt, same)) in
-                let w = f.own n i.0 i.1 in
-                let is : w.0 ≡ x = same_Some w.0 x (sym w.3 ∙ g) in (
-                  i.0,
-                  i.1,
-                  w.1 ∙ ap (λ z. Some z) is,
-                  ap (λ (z : Record). z.connection) (sym is)
-                      ∙ w.2,
-                );
-            log = r.fits.log;
-          };
-        }
+        let r = met k deeds ends servers runs served arrive in
+        record { s = r.0.final; trace = r.0.steps; of = are_of k deeds ends servers served r.0 }

@@ -26,6 +26,13 @@ acts_at c [] = []
 acts_at c (AtClient d act ∷ deeds) = if d == c then act ∷ acts_at c deeds else acts_at c deeds
 acts_at c (AtServer d act ∷ deeds) = acts_at c deeds
 
+-- what was done with the server of a connection
+abbrev pub server_acts_at : ℕ → List Deed → List ServerAct
+server_acts_at c [] = []
+server_acts_at c (AtClient d act ∷ deeds) = server_acts_at c deeds
+server_acts_at c (AtServer d act ∷ deeds) =
+    if d == c then act ∷ server_acts_at c deeds else server_acts_at c deeds
+
 -- these bytes at one connection, and what was at the others
 abbrev pub at_one : (ℕ → List ℕ) → ℕ → List ℕ → ℕ → List ℕ
 at_one f c bytes d = if d == c then bytes else f d
@@ -50,7 +57,8 @@ Arrive up down (AtServer c EndsUp ∷ deeds) = Arrive up down deeds
 
 -- ---- what comes of it
 
--- Each record that the owner of a client has is the system's, under its own index, and so is the log.
+-- Each record that the owner of a client has is the system's, under its own index, and the system has no
+-- other one. So is the log.
 pub record AreOf {H : Type 0} (k : ℕ) (ends : ℕ → ClientEnd) (servers : ServerEnds H) (s : System H)
     : Type 0 where
   pub pair : (c : ℕ) → 1 ≤ c → c ≤ k → (p : Pair) × (pair_at s.pairs c ≡ Some p)
@@ -60,6 +68,11 @@ pub record AreOf {H : Type 0} (k : ℕ) (ends : ℕ → ClientEnd) (servers : Se
       → slice_get (ends c).records n ≡ Some x
       → (i : ℕ) × (slice_get p.calls n ≡ Some i) × (slice_get s.calls i ≡ Some x)
       × (x.connection ≡ c)
+  pub once : (c : ℕ) (p : Pair) → pair_at s.pairs c ≡ Some p → (n n' i : ℕ)
+      → slice_get p.calls n ≡ Some i → slice_get p.calls n' ≡ Some i → n ≡ n'
+  pub no_other : (i : ℕ) (x : Record) → slice_get s.calls i ≡ Some x → (p : Pair) × (n : ℕ)
+      × (1 ≤ x.connection) × (x.connection ≤ k) × (pair_at s.pairs x.connection ≡ Some p)
+      × (slice_get p.calls n ≡ Some i) × (slice_get (ends x.connection).records n ≡ Some x)
   pub log : s.log ≡ servers.log
 
 -- the owners of the ends have a run in common

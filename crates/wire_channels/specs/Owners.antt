@@ -95,6 +95,28 @@ pub data ServerAct : Type 0 where
   SendsDown : (bytes : List ℕ) → ServerAct
   EndsUp : ServerAct
 
+-- what an act of a server's owner sends, and what it takes
+abbrev pub sent_down_by : ServerAct → List ℕ
+sent_down_by (TakesUp bytes) = []
+sent_down_by (Answers i result) = []
+sent_down_by (SendsDown bytes) = bytes
+sent_down_by EndsUp = []
+
+abbrev pub taken_up_by : ServerAct → List ℕ
+taken_up_by (TakesUp bytes) = bytes
+taken_up_by (Answers i result) = []
+taken_up_by (SendsDown bytes) = []
+taken_up_by EndsUp = []
+
+-- the bytes that the acts with one server sent, joined, and those that they took
+abbrev pub bytes_sent_down : List ServerAct → List ℕ
+bytes_sent_down [] = []
+bytes_sent_down (act ∷ acts) = sent_down_by act ++ bytes_sent_down acts
+
+abbrev pub bytes_taken_up : List ServerAct → List ℕ
+bytes_taken_up [] = []
+bytes_taken_up (act ∷ acts) = taken_up_by act ++ bytes_taken_up acts
+
 -- the server of a connection
 abbrev pub server_at : List ServerView → ℕ → Option ServerView
 server_at ss zero = None

@@ -1,11 +1,12 @@
 -- The world that a system shows, and what holds of every trace.
-use Rattle.std.specs.Prelude.{◌≡◌, ℕ, ◌⊎◌, true, false, None, Some, List, [], ◌++◌, length, map, slice_get}
+use Rattle.std.specs.Prelude.{◌≡◌, ℕ, ◌⊎◌, false, None, Some, List, [], ◌++◌, length, map, slice_get}
 use Rattle.wire_msg.specs.{Message, SpellsMsg}
 use Rattle.wire_pool.specs.{new_pool}
-use Rattle.wire_peer.specs.{ClientSeen, Does, LogEntry, ServerView, Stops, released}
+use Rattle.wire_peer.specs.{ClientSeen, Does, ServerView, Stops, released}
 use Rattle.wire_peer.specs.declared.call_table.ReadyReply.{ReadyReply}
-use Rattle.wire_model.specs.{Conn, Done, Headline, IsStopped, Lost, Pending, Record, Sent, World, given_record, with_client_output, with_server_output}
+use Rattle.wire_model.specs.{Conn, Done, Headline, IsStopped, Lost, Pending, Record, World, given_record, with_client_output, with_server_output}
 use Rattle.wire_channels.specs.Channels.{Pair, System, pair_at}
+use Rattle.wire_channels.specs.Knowing.{Owned}
 
 -- What is in flight is as if its sender had it yet, and a reply that is ready as if it had been let go of.
 abbrev pub seen_client : Pair → ClientSeen
@@ -72,9 +73,8 @@ pub record IsQuietPair (ps : List Pair) (c : ℕ) : Type 0 where
   pub none_ready : p.client.reply ≡ None
 
 -- The world that the system shows keeps the headline, where its records are the owners' ones but for
--- replies that are ready. So a call that is done with its owner holds exactly the answers of its own
--- entry, no two of them share one, an unacknowledged call holds none, and on a quiet pair each
--- acknowledged call is done.
+-- replies that are ready; and so do the owners' records themselves. On a quiet pair each acknowledged call
+-- is done with its owner.
 pub record Channelled {H : Type 0} (does : Does H) (stops : Stops H) (first : H) (s : System H)
     : Type 0 where
   pub calls : List Record
@@ -84,13 +84,6 @@ pub record Channelled {H : Type 0} (does : Does H) (stops : Stops H) (first : H)
       × (slice_get calls i ≡ Some y) × Agree s.pairs i x y
   pub done : (i : ℕ) (x : Record) → slice_get s.calls i ≡ Some x → x.state ≡ Done
       → slice_get calls i ≡ Some x
-  pub whole : (i : ℕ) (x : Record) → slice_get s.calls i ≡ Some x → x.state ≡ Done
-      → (e : ℕ) × (en : LogEntry) × (slice_get s.log e ≡ Some en) × (en.connection ≡ x.connection)
-      × (en.payload ≡ x.asked.payload) × (en.answers ≡ Some x.parts)
-  pub apart : (i j : ℕ) (x y : Record) (at_i : slice_get s.calls i ≡ Some x)
-      (at_j : slice_get s.calls j ≡ Some y) (done_i : x.state ≡ Done) (done_j : y.state ≡ Done)
-      → (whole i x at_i done_i).0 ≡ (whole j y at_j done_j).0 → i ≡ j
-  pub silent : (i : ℕ) (x : Record) → slice_get s.calls i ≡ Some x → x.asked.more_to_come ≡ true
-      → (x.state ≡ Sent) × (x.parts ≡ [])
+  pub owned : Owned headline.m (λ (i : ℕ) (x : Record). slice_get s.calls i ≡ Some x)
   pub quiet : (c : ℕ) → IsQuietPair s.pairs c → (i : ℕ) (x : Record)
       → slice_get s.calls i ≡ Some x → x.connection ≡ c → x.asked.more_to_come ≡ false → x.state ≡ Done

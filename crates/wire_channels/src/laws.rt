@@ -1,10 +1,13 @@
 //! The laws of pairs. The contract of a function is the law.
 
-ghost use Rattle.std.specs.Prelude.{◌≡◌, [], ◌++◌, ℕ, List};
-ghost use Rattle.wire_peer.specs.{IsLimit};
+ghost use Rattle.std.specs.Prelude.{◌≡◌, [], ◌++◌, ℕ, ℤ, List};
+ghost use Rattle.bson_elem.specs.{IsBytes};
+ghost use Rattle.wire_peer.specs.{IsLimit, new_client};
+ghost use Rattle.wire_channels.specs.Alone.{HoldsAlone};
 ghost use Rattle.wire_channels.specs.Channels.{System, Trace, no_pairs};
 ghost use Rattle.wire_channels.specs.Deeds.{Arrive, Common, Deed, ServersRun, acts_at};
 ghost use Rattle.wire_channels.specs.Owners.{AreMade, ClientAct, ClientEnd, ClientRun, Made, ServerEnds, bytes_sent, bytes_taken, first_end, first_servers_of};
+ghost use Rattle.wire_channels.specs.Knowing.{OwnersKnow};
 ghost use Rattle.wire_channels.specs.Seen.{Channelled};
 
 use wire_peer::Handler;
@@ -29,6 +32,18 @@ pub fn halves_meet<H: Handler>()
         → Common H.does H.stops limit k first ends servers }
 {}
 
+/// Proves that after what all owners did the records that the owners of the clients have keep the headline, over the
+/// log of the servers, and that on a connection whose ends are quiet every acknowledged call is done.
+pub fn owners_know<H: Handler>()
+    ensures { (limit k : ℕ) (first : H) (made : ℕ → Made) (deeds : List Deed)
+        (ends : ℕ → ClientEnd) (servers : ServerEnds H)
+        → IsLimit limit → AreMade made
+        → ((c : ℕ) → ClientRun c (first_end limit made c) (acts_at c deeds) (ends c))
+        → ServersRun H.does H.stops (first_servers_of limit made k first) deeds servers
+        → Arrive (λ _. []) (λ _. []) deeds
+        → OwnersKnow H.does H.stops k first deeds ends servers }
+{}
+
 /// Proves that what the owner of a client did, and then did from there on, is one run, and so are the bytes.
 pub fn runs_go_on()
     ensures { (c : ℕ) (acts more : List ClientAct) (old mid new : ClientEnd)
@@ -43,4 +58,14 @@ pub fn servers_go_on<H: Handler>()
     ensures { (deeds more : List Deed) (old mid new : ServerEnds H)
         → ServersRun H.does H.stops old deeds mid → ServersRun H.does H.stops mid more new
         → ServersRun H.does H.stops old (deeds ++ more) new }
+{}
+
+/// Proves what holds of a client, whoever answers it, over any calls and any pieces of any bytes: the replies that it
+/// handed out are messages of the one split of what it received, in order, each once, each to the call that owns it; and
+/// it is closed by the first message that is bad or nobody's, with that cause.
+pub fn a_client_holds_alone()
+    ensures { (c limit window : ℕ) (first_id : ℤ) (acts : List ClientAct) (new : ClientEnd)
+        → IsBytes (bytes_taken acts)
+        → ClientRun c (record { client = new_client first_id window limit; records = [] }) acts new
+        → HoldsAlone limit acts new }
 {}

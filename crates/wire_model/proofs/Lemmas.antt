@@ -28,6 +28,6 @@ pub use Rattle.wire_model.proofs.Answered.{answered_reaches, closed_reaches}
 pub use Rattle.wire_model.proofs.Readies.{ReadyTo, ready_to}
 -- what the machine shows, and what holds of it
 pub use Rattle.wire_model.proofs.Main.{headline_of}
-pub use Rattle.wire_model.proofs.Promises.{done_whole, one_call, silent_none}
+pub use Rattle.wire_model.proofs.Promises.{CallOk, Early, Ok, beginnings, done_whole, holds_as, ok_empty, ok_steps, one_call, silent_none}
 pub use Rattle.wire_model.proofs.Quiet.{quiet_of}
 pub use Rattle.wire_model.proofs.Ranks.{lost_at, ours-lost, rank, shows-get_back, shows-map, shows_never}

@@ -1,0 +1,123 @@
+-- A client by itself, whoever answers it: over any calls, and any pieces of any bytes.
+use Rattle.std.specs.Prelude.{◌≡◌, ℕ, ◌≤◌, ℤ, ◌⊎◌, Option, None, Some, List, [], ◌∷◌, ◌++◌, length, Result, Ok, Err}
+use Rattle.wire_msg.specs.{IsBad, IsOpen, Message, SpellsMsg, Split}
+use Rattle.wire_peer.specs.{Table, after_reply, allowed, awaiting, owner, reply_to}
+use Rattle.wire_peer.specs.declared.call_table.Outstanding.{Outstanding}
+use Rattle.wire_peer.specs.declared.call_table.ReadyReply.{ReadyReply}
+use Rattle.wire_peer.specs.declared.calls.CallKind.{CallKind}
+use Rattle.wire_peer.specs.declared.calls.CallNo.{CallNo}
+use Rattle.wire_peer.specs.declared.client_state.ClientCause.{ClientCause}
+use Rattle.wire_peer.specs.declared.client_state.ClientCause.TheVariants as causes
+use Rattle.wire_peer.specs.declared.client_state.ClientState.{ClientState}
+use Rattle.wire_peer.specs.declared.client_state.ClientState.TheVariants.{Open, Closed}
+use Rattle.wire_channels.specs.Owners.{Calls, ClientAct, ClientEnd, Collects, EndsDown, SendsUp, TakesDown, bytes_taken}
+
+-- ---- what a client hears
+
+-- that a call is made, or a whole message
+pub data Heard : Type 0 where
+  Made : (kind : CallKind) → (call : CallNo) → Heard
+  Got : (m : Message) → Heard
+
+-- the messages among what is heard
+abbrev pub got : List Heard → List Message
+got [] = []
+got (Made kind call ∷ hs) = got hs
+got (Got m ∷ hs) = m ∷ got hs
+
+-- the bytes are a message within the limit
+abbrev pub IsMessageOf : ℕ → List ℕ → Message → Type 0
+IsMessageOf limit bytes m = SpellsMsg m bytes × (length bytes ≤ limit)
+
+-- What a client hears by its acts, where it holds these bytes of a message: a call when it makes it, and a
+-- message when it takes the last of its bytes.
+abbrev pub Hears : ℕ → List ℕ → List ClientAct → List Heard → Type 0
+Hears limit held [] hs = hs ≡ []
+Hears limit held (Calls kind payload number ∷ acts) hs =
+    (more : List Heard) × (hs ≡ Made kind number ∷ more) × Hears limit held acts more
+Hears limit held (SendsUp bytes ∷ acts) hs = Hears limit held acts hs
+Hears limit held (TakesDown bytes ∷ acts) hs =
+    ((m : Message) × (more : List Heard) × IsMessageOf limit (held ++ bytes) m
+    × (hs ≡ Got m ∷ more) × Hears limit [] acts more)
+    ⊎ (((m : Message) → IsMessageOf limit (held ++ bytes) m → ⊥)
+    × Hears limit (held ++ bytes) acts hs)
+Hears limit held (Collects reply m ∷ acts) hs = Hears limit held acts hs
+Hears limit held (EndsDown ∷ acts) hs = Hears limit held acts hs
+
+-- ---- what comes of it
+
+-- the calls that are outstanding; the replies so far, each with its message; and the cause of the message that
+-- was nobody's, if one was
+pub record Hearing : Type 0 where
+  pub table : Table
+  pub replies : List (ReadyReply × Message)
+  pub cause : Option ClientCause
+
+-- nothing was heard
+abbrev pub silence : Hearing
+silence = record { table = []; replies = []; cause = None }
+
+-- the message is a reply to this call, or is nobody's
+abbrev pub replied : Hearing → Message → Result (ℤ × Outstanding) ClientCause → Hearing
+replied h m (Ok o) = record {
+  table = after_reply h.table o m.id m.flags.more_to_come;
+  replies = h.replies ++ (reply_to o m.flags.more_to_come, m) ∷ [];
+  cause = h.cause;
+}
+replied h m (Err cause) = record { table = h.table; replies = h.replies; cause = Some cause }
+
+-- A call is outstanding where it awaits a reply, and a message is a reply to the call that owns it by its
+-- responseTo.
+abbrev pub hear : Hearing → Heard → Hearing
+hear h (Made kind call) =
+    record { table = awaiting h.table kind call; replies = h.replies; cause = h.cause }
+hear h (Got m) = replied h m (allowed m.flags.more_to_come (owner h.table m.response_to))
+
+-- one after the other
+abbrev pub hear_all : Hearing → List Heard → Hearing
+hear_all h [] = h
+hear_all h (x ∷ xs) = hear_all (hear h x) xs
+
+-- ---- what the owner of the client sees
+
+-- the replies that were handed out, each with its message
+abbrev pub handed : List ClientAct → List (ReadyReply × Message)
+handed [] = []
+handed (Calls kind payload number ∷ acts) = handed acts
+handed (SendsUp bytes ∷ acts) = handed acts
+handed (TakesDown bytes ∷ acts) = handed acts
+handed (Collects reply m ∷ acts) = (reply, m) ∷ handed acts
+handed (EndsDown ∷ acts) = handed acts
+
+-- the reply that is ready, if one is, with its message
+abbrev pub IsReadyWith : Option ReadyReply → List ℕ → List (ReadyReply × Message) → Type 0
+IsReadyWith None held out = out ≡ []
+IsReadyWith (Some reply) held out = (m : Message) × SpellsMsg m held × (out ≡ (reply, m) ∷ [])
+
+-- Where no message was nobody's, the client is open or was told the end, and more of the rest may come; or it
+-- was closed by the rest, which is bad. Else it was closed by that message, the last one that it took.
+abbrev pub ClosesBy : ℕ → List ℕ → Option ClientCause → ClientState → Type 0
+ClosesBy limit rest None Open = IsOpen limit rest
+ClosesBy limit rest None (Closed causes.Ended) = IsOpen limit rest
+ClosesBy limit rest None (Closed causes.EndedInside) = IsOpen limit rest
+ClosesBy limit rest None (Closed (causes.Message f)) = IsBad limit rest f
+ClosesBy limit rest None (Closed (causes.UnknownReply to)) = ⊥
+ClosesBy limit rest None (Closed causes.MoreNotAllowed) = ⊥
+ClosesBy limit rest None (Closed causes.StreamBroken) = ⊥
+ClosesBy limit rest (Some cause) state = (state ≡ Closed cause) × (rest ≡ [])
+
+-- What a client heard are its calls and the messages of the one split of what it received. The replies that
+-- it handed out, and the one that is ready, are those messages, in order, each once, each to the call that
+-- owns it; and the client is closed by the first message that is bad or nobody's, with that cause.
+pub record HoldsAlone (limit : ℕ) (acts : List ClientAct) (new : ClientEnd) : Type 0 where
+  pub heard : List Heard
+  pub hears : Hears limit [] acts heard
+  pub rest : List ℕ
+  pub split : Split limit (bytes_taken acts) (got heard) rest
+  pub only : (others : List Message) (after : List ℕ) → Split limit (bytes_taken acts) others after
+      → (got heard ≡ others) × (rest ≡ after)
+  pub ready : List (ReadyReply × Message)
+  pub ready_is : IsReadyWith new.client.reply new.client.held ready
+  pub replies : (hear_all silence heard).replies ≡ handed acts ++ ready
+  pub table : (hear_all silence heard).table ≡ new.client.requests.outstanding
+  pub closes : ClosesBy limit rest (hear_all silence heard).cause new.client.state
