@@ -232,7 +232,7 @@ module _ {H : Type 0} (m : Machine H) (ok : Ok m) (unraw : (c : ℕ) → m.raw c
       b = behind i x at
 
       w : (b.z.state ≡ Sent) × (b.z.parts ≡ [])
-      w = silent_none m ok (nth_of m.calls i) b.z b.at (all_ours (nth_of m.calls i) b.z b.at) (ap (λ z. z.silent) ((of_call i x b).1)
+      w = silent_none m ok (nth_of m.calls i) b.z b.at (all_ours (nth_of m.calls i) b.z b.at) (ap (λ z. z.more_to_come) ((of_call i x b).1)
           ∙ is)
 
       by : Agree ps i x b.y → (x.state ≡ Sent) × (x.parts ≡ [])
