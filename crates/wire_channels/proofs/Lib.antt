@@ -12,4 +12,5 @@ pub mod Meets
 pub mod Starts
 pub mod Knows
 pub mod GoingOn
+pub mod Numbers
 pub mod Alone

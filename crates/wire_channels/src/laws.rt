@@ -61,8 +61,8 @@ pub fn servers_go_on<H: Handler>()
 {}
 
 /// Proves what holds of a client, whoever answers it, over any calls and any pieces of any bytes: the replies that it
-/// handed out are messages of the one split of what it received, in order, each once, each to the call that owns it; and
-/// it is closed by the first message that is bad or nobody's, with that cause.
+/// handed out are messages of the one split of what it received, in order, each once, each to the call that owns it, and
+/// none behind a call's last; and it is closed by the first message that is bad or nobody's, with that cause.
 pub fn a_client_holds_alone()
     ensures { (c limit window : ℕ) (first_id : ℤ) (acts : List ClientAct) (new : ClientEnd)
         → IsBytes (bytes_taken acts)
