@@ -14,3 +14,4 @@ pub mod Knows
 pub mod GoingOn
 pub mod Numbers
 pub mod Alone
+pub mod Grows
