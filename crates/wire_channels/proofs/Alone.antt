@@ -1,5 +1,5 @@
 -- What holds of a client, whoever answers it: act after act.
-use Rattle.std.proofs.Common.{◌≡◌, ℕ, ◌≤◌, ℤ, List, [], ◌∷◌, ◌++◌, length, take, refl, sym, ◌∙◌, ap, subst, append_assoc, arith, Option, Some, None, inl, inr, Result, Ok, Err}
+use Rattle.std.proofs.Common.{Contains, ◌≡◌, ℕ, ◌≤◌, ℤ, List, [], ◌∷◌, ◌++◌, length, take, refl, sym, ◌∙◌, ap, subst, append_assoc, arith, Option, Some, None, inl, inr, Result, Ok, Err}
 use Rattle.std.proofs.Math.Seq.{drop-append_seam, take-length}
 use Rattle.std.proofs.lemmas.List.{append-nil}
 use Rattle.std.proofs.lemmas.Option.{none-some}
@@ -9,7 +9,7 @@ use Rattle.wire_msg.specs.{AreSpelled, IsBad, IsOpen, Message, SpellsMsg, Split}
 use Rattle.wire_msg.specs.Standing.{in_header}
 use Rattle.wire_msg.specs.declared.fault.MsgFault.{MsgFault}
 use Rattle.wire_msg.proofs.Lemmas.{IsBytes-front, bad_ends, bad_not_whole, bytes_append, one_split, open_ends, open_not_whole}
-use Rattle.wire_peer.specs.{ClientSeen, Settles, allowed, called, closed, content_of, ended, holding, new_client, owner, released, reply_to}
+use Rattle.wire_peer.specs.{ClientSeen, Settles, allowed, called, closed, content_of, ended, ids, number_after, holding, new_client, owner, released, reply_to}
 use Rattle.wire_peer.specs.ClientSteps.{after_release, end_cause, is_bad, is_message, is_open, received, state_after}
 use Rattle.wire_peer.specs.declared.call_table.Outstanding.{Outstanding}
 use Rattle.wire_peer.specs.declared.call_table.ReadyReply.{ReadyReply}
@@ -19,11 +19,13 @@ use Rattle.wire_peer.specs.declared.client_state.ClientState.{ClientState}
 use Rattle.wire_peer.specs.declared.client_state.ClientState.TheVariants.{Open, Closed}
 use Rattle.wire_model.proofs.Lemmas.{same_request}
 use Rattle.wire_channels.specs.Owners.{Calls, ClientAct, ClientEnd, ClientRun, Collects, EndsDown, SendsUp, TakesDown, bytes_taken}
-use Rattle.wire_channels.specs.Alone.{ClosesBy, Got, Heard, Hearing, Hears, HoldsAlone, IsMessageOf, IsReadyWith, Made, got, handed, hear, hear_all, replied, silence}
+use Rattle.wire_channels.proofs.Numbers.{AreCalls, none_behind_last}
+use Rattle.wire_channels.specs.Alone.{ClosesBy, Got, Heard, Hearing, Hears, HoldsAlone, IsMessageOf, IsReadyWith, Made, NoneBehind, got, handed, hear, hear_all, replied, silence}
 
 -- how a client stands with what it heard, where these replies were handed out
-record Past (limit : ℕ) (k : ClientSeen) (h : Hearing) (out : List (ReadyReply × Message)) : Type 0 where
+record Past (limit : ℕ) (next : Option ℕ) (k : ClientSeen) (h : Hearing) (out : List (ReadyReply × Message)) : Type 0 where
   limit_is : k.requests.limit ≡ limit
+  next_is : k.requests.next_number ≡ next
   table : h.table ≡ k.requests.outstanding
   ready : List (ReadyReply × Message)
   ready_is : IsReadyWith k.reply k.held ready
@@ -63,8 +65,8 @@ none_ready (Some reply) held ready none is = absurd (none-some reply (sym none))
 
 -- ---- a message is taken
 
-module _ (limit : ℕ) (k : ClientSeen) (h : Hearing) (out : List (ReadyReply × Message))
-    (p : Past limit k h out) (none : k.reply ≡ None) (live : k.state ≡ Open) (b : List ℕ) where
+module _ (limit : ℕ) (next : Option ℕ) (k : ClientSeen) (h : Hearing)
+    (out : List (ReadyReply × Message)) (p : Past limit next k h out) (none : k.reply ≡ None) (live : k.state ≡ Open) (b : List ℕ) where
   cause_is : h.cause ≡ None
   cause_is = no_cause limit p.rest h.cause k.state live p.closes
 
@@ -73,11 +75,12 @@ module _ (limit : ℕ) (k : ClientSeen) (h : Hearing) (out : List (ReadyReply ×
 
   past_message : (m : Message) (r : Result (ℤ × Outstanding) ClientCause) (new : ClientSeen)
       → SpellsMsg m b → new ≡ received (holding k b) m r
-      → (q : Past limit new (replied h m r) out) × (q.rest ≡ [])
+      → (q : Past limit next new (replied h m r) out) × (q.rest ≡ [])
   past_message m (Ok o) new s same =
-      subst (λ z. (q : Past limit z (replied h m (Ok o)) out) × (q.rest ≡ [])) (sym same) (
+      subst (λ z. (q : Past limit next z (replied h m (Ok o)) out) × (q.rest ≡ [])) (sym same) (
         record {
           limit_is = p.limit_is;
+          next_is = p.next_is;
           table = ap (λ t. (replied (record { table = t; replies = []; cause = None }) m (Ok o)).table) p.table;
           ready = (reply_to o m.flags.more_to_come, m) ∷ [];
           ready_is = (m, s, refl);
@@ -90,9 +93,10 @@ module _ (limit : ℕ) (k : ClientSeen) (h : Hearing) (out : List (ReadyReply ×
         refl,
       )
   past_message m (Err cause) new s same =
-      subst (λ z. (q : Past limit z (replied h m (Err cause)) out) × (q.rest ≡ [])) (sym same) (
+      subst (λ z. (q : Past limit next z (replied h m (Err cause)) out) × (q.rest ≡ [])) (sym same) (
         record {
           limit_is = p.limit_is;
+          next_is = p.next_is;
           table = p.table;
           ready = [];
           ready_is = rw none refl;
@@ -107,10 +111,11 @@ module _ (limit : ℕ) (k : ClientSeen) (h : Hearing) (out : List (ReadyReply ×
 
   -- more of it may come
   past_open : (new : ClientSeen) → IsOpen limit b → new ≡ holding k b
-      → (q : Past limit new h out) × (q.rest ≡ b)
-  past_open new o same = subst (λ z. (q : Past limit z h out) × (q.rest ≡ b)) (sym same) (
+      → (q : Past limit next new h out) × (q.rest ≡ b)
+  past_open new o same = subst (λ z. (q : Past limit next z h out) × (q.rest ≡ b)) (sym same) (
     record {
       limit_is = p.limit_is;
+      next_is = p.next_is;
       table = p.table;
       ready = [];
       ready_is = rw none refl;
@@ -125,10 +130,11 @@ module _ (limit : ℕ) (k : ClientSeen) (h : Hearing) (out : List (ReadyReply ×
 
   past_bad : (f : MsgFault) (new : ClientSeen) → IsBad limit b f
       → new ≡ closed (holding k b) (causes.Message f)
-      → (q : Past limit new h out) × (q.rest ≡ b)
-  past_bad f new bad same = subst (λ z. (q : Past limit z h out) × (q.rest ≡ b)) (sym same) (
+      → (q : Past limit next new h out) × (q.rest ≡ b)
+  past_bad f new bad same = subst (λ z. (q : Past limit next z h out) × (q.rest ≡ b)) (sym same) (
     record {
       limit_is = p.limit_is;
+      next_is = p.next_is;
       table = p.table;
       ready = [];
       ready_is = rw none refl;
@@ -143,14 +149,15 @@ module _ (limit : ℕ) (k : ClientSeen) (h : Hearing) (out : List (ReadyReply ×
 
 -- ---- the reply is let go of
 
-past_released : (limit : ℕ) (k : ClientSeen) (h : Hearing) (out : List (ReadyReply × Message))
-    (reply : ReadyReply) (m : Message) (p : Past limit k h out) → k.reply ≡ Some reply
+past_released : (limit : ℕ) (next : Option ℕ) (k : ClientSeen) (h : Hearing) (out : List (ReadyReply × Message))
+    (reply : ReadyReply) (m : Message) (p : Past limit next k h out) → k.reply ≡ Some reply
     → SpellsMsg m k.held
-    → (q : Past limit (released k) h (out ++ (reply, m) ∷ [])) × (q.rest ≡ p.rest)
-past_released limit k h out reply m p is spells =
-    subst (λ o. (q : Past limit (after_release o k) h (out ++ (reply, m) ∷ [])) × (q.rest ≡ p.rest)) (sym is) (
+    → (q : Past limit next (released k) h (out ++ (reply, m) ∷ [])) × (q.rest ≡ p.rest)
+past_released limit next k h out reply m p is spells =
+    subst (λ o. (q : Past limit next (after_release o k) h (out ++ (reply, m) ∷ [])) × (q.rest ≡ p.rest)) (sym is) (
       record {
         limit_is = p.limit_is;
+        next_is = p.next_is;
         table = p.table;
         ready = [];
         ready_is = refl;
@@ -172,20 +179,22 @@ past_released limit k h out reply m p is spells =
 
 module _ (limit c : ℕ) where
   -- what a run comes to
-  record Come (rest : List ℕ) (h : Hearing) (all : List (ReadyReply × Message))
+  record Come (rest : List ℕ) (next : Option ℕ) (h : Hearing) (all : List (ReadyReply × Message))
       (acts : List ClientAct) (new : ClientSeen) : Type 0 where
     heard : List Heard
     hears : Hears limit rest acts heard
-    past : Past limit new (hear_all h heard) all
+    calls : AreCalls h next heard
+    left : Option ℕ
+    past : Past limit left new (hear_all h heard) all
     joined : List ℕ
     spelled : AreSpelled limit (got heard) joined
     parts : rest ++ bytes_taken acts ≡ joined ++ past.rest
 
   -- the rest of a run, from this client on
-  abbrev On : ClientSeen → ClientSeen → List (ReadyReply × Message) → List ClientAct → Type 0
-  On client new out acts =
-      (g : Hearing) (q : Past limit client g out) → IsBytes q.rest
-      → Come q.rest g (out ++ handed acts) acts new
+  abbrev On : Option ℕ → ClientSeen → ClientSeen → List (ReadyReply × Message) → List ClientAct → Type 0
+  On next client new out acts =
+      (g : Hearing) (q : Past limit next client g out) → IsBytes q.rest
+      → Come q.rest next g (out ++ handed acts) acts new
 
   not_open : (b : List ℕ) → IsOpen limit b → (m : Message) → IsMessageOf limit b m → ⊥
   not_open b o m is =
@@ -196,21 +205,24 @@ module _ (limit c : ℕ) where
   not_bad b f are bad m is =
       bad_not_whole limit b [] m f are bad (record { front = b; parts = sym (append-nil b); spelled = is.0; within = is.1 })
 
-  comes : (acts : List ClientAct) (old new : ClientEnd) (h : Hearing)
-      (out : List (ReadyReply × Message)) (p : Past limit old.client h out) → IsBytes p.rest
+  comes : (acts : List ClientAct) (old new : ClientEnd) (next : Option ℕ) (h : Hearing)
+      (out : List (ReadyReply × Message)) (p : Past limit next old.client h out) → IsBytes p.rest
       → IsBytes (bytes_taken acts) → ClientRun c old acts new
-      → Come p.rest h (out ++ handed acts) acts new.client
-  comes [] old new h out p are all same = rw same (subst (λ z. Come p.rest h z [] old.client) (sym (append-nil out)) (record {
+      → Come p.rest next h (out ++ handed acts) acts new.client
+  comes [] old new next h out p are all same = rw same (subst (λ z. Come p.rest next h z [] old.client) (sym (append-nil out)) (record {
     heard = [];
     hears = refl;
+    calls = tt;
+    left = next;
     past = p;
     joined = [];
     spelled = refl;
     parts = append-nil p.rest;
   }))
-  comes (Calls kind payload number ∷ acts) old new h out p are all (mid, (is, e), run) =
-      let q : Past limit (called old.client kind (content_of payload) number) (hear h (Made kind number)) out = record {
+  comes (Calls kind payload number ∷ acts) old new next h out p are all (mid, (is, e), run) =
+      let q : Past limit (number_after number.number) (called old.client kind (content_of payload) number) (hear h (Made kind number)) out = record {
         limit_is = p.limit_is;
+        next_is = refl;
         table = ap (λ t. (hear (record { table = t; replies = []; cause = None }) (Made kind number)).table) p.table;
         ready = p.ready;
         ready_is = p.ready_is;
@@ -220,18 +232,21 @@ module _ (limit c : ℕ) where
         emptied = p.emptied;
         closes = p.closes;
       } in
-      let r = comes acts _ new (hear h (Made kind number)) out q are all (subst (λ z. ClientRun c z acts new) e run) in
+      let r = comes acts _ new (number_after number.number) (hear h (Made kind number)) out q are all (subst (λ z. ClientRun c z acts new) e run) in
       record {
         heard = Made kind number ∷ r.heard;
         hears = (r.heard, refl, r.hears);
+        calls = (sym p.next_is ∙ is.1.next.number, subst (λ t. Contains (ids t) number.id → ⊥) (sym p.table) is.1.next.id.free, r.calls);
+        left = r.left;
         past = r.past;
         joined = r.joined;
         spelled = r.spelled;
         parts = r.parts;
       }
-  comes (SendsUp bytes ∷ acts) old new h out p are all (mid, (rest, output, e), run) =
-      let q : Past limit _ h out = record {
+  comes (SendsUp bytes ∷ acts) old new next h out p are all (mid, (rest, output, e), run) =
+      let q : Past limit next _ h out = record {
         limit_is = p.limit_is;
+        next_is = p.next_is;
         table = p.table;
         ready = p.ready;
         ready_is = p.ready_is;
@@ -241,18 +256,21 @@ module _ (limit c : ℕ) where
         emptied = p.emptied;
         closes = p.closes;
       } in
-      let r = comes acts _ new h out q are all (subst (λ z. ClientRun c z acts new) e run) in
+      let r = comes acts _ new next h out q are all (subst (λ z. ClientRun c z acts new) e run) in
       record {
         heard = r.heard;
         hears = r.hears;
+        calls = r.calls;
+        left = r.left;
         past = r.past;
         joined = r.joined;
         spelled = r.spelled;
         parts = r.parts;
       }
-  comes (EndsDown ∷ acts) old new h out p are all (mid, e, run) =
-      let q : Past limit (ended old.client) h out = record {
+  comes (EndsDown ∷ acts) old new next h out p are all (mid, e, run) =
+      let q : Past limit next (ended old.client) h out = record {
         limit_is = p.limit_is;
+        next_is = p.next_is;
         table = p.table;
         ready = p.ready;
         ready_is = p.ready_is;
@@ -263,30 +281,34 @@ module _ (limit c : ℕ) where
         closes =
             ended_closes limit p.rest old.client.reply old.client.held h.cause old.client.state p.closes;
       } in
-      let r = comes acts _ new h out q are all (subst (λ z. ClientRun c z acts new) e run) in
+      let r = comes acts _ new next h out q are all (subst (λ z. ClientRun c z acts new) e run) in
       record {
         heard = r.heard;
         hears = r.hears;
+        calls = r.calls;
+        left = r.left;
         past = r.past;
         joined = r.joined;
         spelled = r.spelled;
         parts = r.parts;
       }
-  comes (Collects reply m ∷ acts) old new h out p are all (mid, (ready, spells, e), run) =
-      let q = past_released limit old.client h out reply m p ready spells in
-      let r0 = comes acts _ new h (out ++ (reply, m) ∷ []) q.0 (subst IsBytes (sym q.1) are) all (subst (λ z. ClientRun c z acts new) e run) in
-      let r1 : Come p.rest h ((out ++ (reply, m) ∷ []) ++ handed acts) acts new.client = subst (λ z. Come z h ((out ++ (reply, m) ∷ []) ++ handed acts) acts new.client) q.1 r0 in
-      let r : Come p.rest h (out ++ (reply, m) ∷ handed acts) acts new.client = subst (λ z. Come p.rest h z acts new.client) (append_assoc out ((reply, m) ∷ []) (handed acts)) r1 in
+  comes (Collects reply m ∷ acts) old new next h out p are all (mid, (ready, spells, e), run) =
+      let q = past_released limit next old.client h out reply m p ready spells in
+      let r0 = comes acts _ new next h (out ++ (reply, m) ∷ []) q.0 (subst IsBytes (sym q.1) are) all (subst (λ z. ClientRun c z acts new) e run) in
+      let r1 : Come p.rest next h ((out ++ (reply, m) ∷ []) ++ handed acts) acts new.client = subst (λ z. Come z next h ((out ++ (reply, m) ∷ []) ++ handed acts) acts new.client) q.1 r0 in
+      let r : Come p.rest next h (out ++ (reply, m) ∷ handed acts) acts new.client = subst (λ z. Come p.rest next h z acts new.client) (append_assoc out ((reply, m) ∷ []) (handed acts)) r1 in
       record {
         heard = r.heard;
         hears = r.hears;
+        calls = r.calls;
+        left = r.left;
         past = r.past;
         joined = r.joined;
         spelled = r.spelled;
         parts = r.parts;
       }
-  comes (TakesDown bytes ∷ acts) old new h out p are all (mid, (client, takes, e), run) =
-      by (λ g q q_are. comes acts _ new g out q q_are more_are (subst (λ z. ClientRun c z acts new) e run)) takes.takes.settles
+  comes (TakesDown bytes ∷ acts) old new next h out p are all (mid, (client, takes, e), run) =
+      by (λ g q q_are. comes acts _ new next g out q q_are more_are (subst (λ z. ClientRun c z acts new) e run)) takes.takes.settles
     where
       k : ClientSeen
       k = old.client
@@ -307,14 +329,16 @@ module _ (limit c : ℕ) where
       b_are = subst IsBytes (sym b_is) (bytes_append p.rest bytes are (IsBytes-front (bytes ++ bytes_taken acts) bytes (bytes_taken acts) all refl))
 
       -- no message is whole
-      further : On client new.client out acts → (q : Past limit client h out) → q.rest ≡ b
+      further : On next client new.client out acts → (q : Past limit next client h out) → q.rest ≡ b
           → ((m : Message) → IsMessageOf limit b m → ⊥)
-          → Come p.rest h (out ++ handed acts) (TakesDown bytes ∷ acts) new.client
+          → Come p.rest next h (out ++ handed acts) (TakesDown bytes ∷ acts) new.client
       further on q is none =
           let r = on h q (subst IsBytes (sym is) b_are) in
           record {
             heard = r.heard;
             hears = inr (subst (λ z. (m : Message) → IsMessageOf limit z m → ⊥) b_is none, subst (λ z. Hears limit z acts r.heard) (is ∙ b_is) r.hears);
+            calls = r.calls;
+            left = r.left;
             past = r.past;
             joined = r.joined;
             spelled = r.spelled;
@@ -323,14 +347,16 @@ module _ (limit c : ℕ) where
                 ∙ ap (λ z. z ++ bytes_taken acts) (sym (is ∙ b_is)) ∙ r.parts;
           }
 
-      whole : On client new.client out acts → (m : Message) → SpellsMsg m b → length b ≤ limit
-          → (q : Past limit client (hear h (Got m)) out) → q.rest ≡ []
-          → Come p.rest h (out ++ handed acts) (TakesDown bytes ∷ acts) new.client
+      whole : On next client new.client out acts → (m : Message) → SpellsMsg m b → length b ≤ limit
+          → (q : Past limit next client (hear h (Got m)) out) → q.rest ≡ []
+          → Come p.rest next h (out ++ handed acts) (TakesDown bytes ∷ acts) new.client
       whole on m spells within q none =
           let r = on (hear h (Got m)) q (subst IsBytes (sym none) (λ i. omega arith)) in
           record {
             heard = Got m ∷ r.heard;
             hears = inl (m, r.heard, subst (λ z. IsMessageOf limit z m) b_is (spells, within), refl, subst (λ z. Hears limit z acts r.heard) none r.hears);
+            calls = r.calls;
+            left = r.left;
             past = r.past;
             joined = b ++ r.joined;
             spelled = (b, r.joined, spells, within, r.spelled, refl);
@@ -341,21 +367,21 @@ module _ (limit c : ℕ) where
                 ∙ sym (append_assoc b r.joined r.past.rest);
           }
 
-      by : On client new.client out acts → Settles (holding k b) client
-          → Come p.rest h (out ++ handed acts) (TakesDown bytes ∷ acts) new.client
+      by : On next client new.client out acts → Settles (holding k b) client
+          → Come p.rest next h (out ++ handed acts) (TakesDown bytes ∷ acts) new.client
       by on (is_open o same) =
           let o' = subst (λ l. IsOpen l b) p.limit_is o in
-          let q = past_open limit k h out p takes.may.0 takes.may.1 b client o' same in
+          let q = past_open limit next k h out p takes.may.0 takes.may.1 b client o' same in
           further on q.0 q.1 (not_open b o')
       by on (is_message m spells within same) =
           let same' = same
           ∙ ap (λ t. received (holding k b) m (allowed m.flags.more_to_come (owner t m.response_to))) (sym p.table) in
           let q =
-          past_message limit k h out p takes.may.0 takes.may.1 b m (allowed m.flags.more_to_come (owner h.table m.response_to)) client spells same' in
+          past_message limit next k h out p takes.may.0 takes.may.1 b m (allowed m.flags.more_to_come (owner h.table m.response_to)) client spells same' in
           whole on m spells (subst (λ l. length b ≤ l) p.limit_is within) q.0 q.1
       by on (is_bad f bad same) =
           let bad' = subst (λ l. IsBad l b f) p.limit_is bad in
-          let q = past_bad limit k h out p takes.may.0 takes.may.1 b f client bad' same in
+          let q = past_bad limit next k h out p takes.may.0 takes.may.1 b f client bad' same in
           further on q.0 q.1 (not_bad b f b_are bad')
 
   -- ---- from the first act on
@@ -386,14 +412,16 @@ module _ (limit c : ℕ) where
     ready = r.past.ready;
     ready_is = r.past.ready_is;
     replies = r.past.replies;
+    none_behind = subst NoneBehind r.past.replies (none_behind_last r.heard r.calls);
     table = r.past.table;
     closes = r.past.closes;
   }
     where
-      start : (q : Past limit (new_client first_id window limit) silence []) × (q.rest ≡ [])
+      start : (q : Past limit (Some 0) (new_client first_id window limit) silence []) × (q.rest ≡ [])
       start = (
         record {
           limit_is = refl;
+          next_is = refl;
           table = refl;
           ready = [];
           ready_is = refl;
@@ -406,10 +434,10 @@ module _ (limit c : ℕ) where
         refl,
       )
 
-      r : Come [] silence (handed acts) acts new.client
+      r : Come [] (Some 0) silence (handed acts) acts new.client
       r =
-          subst (λ z. Come z silence (handed acts) acts new.client) start.1
-          (comes acts _ new silence [] start.0 (subst IsBytes (sym start.1) (λ i. omega arith)) are run)
+          subst (λ z. Come z (Some 0) silence (handed acts) acts new.client) start.1
+          (comes acts _ new (Some 0) silence [] start.0 (subst IsBytes (sym start.1) (λ i. omega arith)) are run)
 
       rest_are : IsBytes r.past.rest
       rest_are =

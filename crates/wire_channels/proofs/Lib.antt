@@ -12,4 +12,6 @@ pub mod Meets
 pub mod Starts
 pub mod Knows
 pub mod GoingOn
+pub mod Numbers
 pub mod Alone
+pub mod Grows

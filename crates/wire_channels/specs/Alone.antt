@@ -1,5 +1,5 @@
 -- A client by itself, whoever answers it: over any calls, and any pieces of any bytes.
-use Rattle.std.specs.Prelude.{◌≡◌, ℕ, ◌≤◌, ℤ, ◌⊎◌, Option, None, Some, List, [], ◌∷◌, ◌++◌, length, Result, Ok, Err}
+use Rattle.std.specs.Prelude.{◌≡◌, ℕ, ◌≤◌, ℤ, ◌⊎◌, true, Option, None, Some, List, [], ◌∷◌, ◌++◌, length, Result, Ok, Err}
 use Rattle.wire_msg.specs.{IsBad, IsOpen, Message, SpellsMsg, Split}
 use Rattle.wire_peer.specs.{Table, after_reply, allowed, awaiting, owner, reply_to}
 use Rattle.wire_peer.specs.declared.call_table.Outstanding.{Outstanding}
@@ -94,6 +94,16 @@ abbrev pub IsReadyWith : Option ReadyReply → List ℕ → List (ReadyReply × 
 IsReadyWith None held out = out ≡ []
 IsReadyWith (Some reply) held out = (m : Message) × SpellsMsg m held × (out ≡ (reply, m) ∷ [])
 
+-- none of the replies is to this call
+abbrev pub NoneTo : ℕ → List (ReadyReply × Message) → Type 0
+NoneTo call [] = Unit {0}
+NoneTo call (r ∷ rs) = (r.0.call ≡ call → ⊥) × NoneTo call rs
+
+-- no reply to a call stands behind its last one
+abbrev pub NoneBehind : List (ReadyReply × Message) → Type 0
+NoneBehind [] = Unit {0}
+NoneBehind (r ∷ rs) = (r.0.last ≡ true → NoneTo r.0.call rs) × NoneBehind rs
+
 -- Where no message was nobody's, the client is open or was told the end, and more of the rest may come; or it
 -- was closed by the rest, which is bad. Else it was closed by that message, the last one that it took.
 abbrev pub ClosesBy : ℕ → List ℕ → Option ClientCause → ClientState → Type 0
@@ -108,7 +118,8 @@ ClosesBy limit rest (Some cause) state = (state ≡ Closed cause) × (rest ≡ [
 
 -- What a client heard are its calls and the messages of the one split of what it received. The replies that
 -- it handed out, and the one that is ready, are those messages, in order, each once, each to the call that
--- owns it; and the client is closed by the first message that is bad or nobody's, with that cause.
+-- owns it, and none behind a call's last; and the client is closed by the first message that is bad or
+-- nobody's, with that cause.
 pub record HoldsAlone (limit : ℕ) (acts : List ClientAct) (new : ClientEnd) : Type 0 where
   pub heard : List Heard
   pub hears : Hears limit [] acts heard
@@ -119,5 +130,6 @@ pub record HoldsAlone (limit : ℕ) (acts : List ClientAct) (new : ClientEnd) : 
   pub ready : List (ReadyReply × Message)
   pub ready_is : IsReadyWith new.client.reply new.client.held ready
   pub replies : (hear_all silence heard).replies ≡ handed acts ++ ready
+  pub none_behind : NoneBehind (handed acts ++ ready)
   pub table : (hear_all silence heard).table ≡ new.client.requests.outstanding
   pub closes : ClosesBy limit rest (hear_all silence heard).cause new.client.state

@@ -1,9 +1,9 @@
 -- What happened at both ends, in one order, and the run that the owners have in common.
-use Rattle.std.specs.Prelude.{◌≡◌, ℕ, ◌≤◌, ◌==◌, if◌then◌else◌, Some, List, [], ◌∷◌, ◌++◌, slice_get}
-use Rattle.wire_peer.specs.{Does, Stops}
+use Rattle.std.specs.Prelude.{◌≡◌, ℕ, suc, ◌≤◌, ◌==◌, if◌then◌else◌, Some, List, [], ◌∷◌, ◌++◌, length, slice_get}
+use Rattle.wire_peer.specs.{Does, Stops, new_server}
 use Rattle.wire_model.specs.{Record}
 use Rattle.wire_channels.specs.Channels.{Pair, System, Trace, no_pairs, pair_at}
-use Rattle.wire_channels.specs.Owners.{ClientAct, ClientEnd, ServerAct, ServerEnds, ServersDo, server_at, Calls, Collects, EndsDown, SendsUp, TakesDown, Answers, EndsUp, SendsDown, TakesUp}
+use Rattle.wire_channels.specs.Owners.{ClientAct, ClientEnd, Made, ServerAct, ServerEnds, ServersDo, server_at, Calls, Collects, EndsDown, SendsUp, TakesDown, Answers, EndsUp, SendsDown, TakesUp}
 
 -- ---- both
 
@@ -19,6 +19,47 @@ ServersRun does stops old [] new = new ≡ old
 ServersRun does stops old (AtClient c act ∷ deeds) new = ServersRun does stops old deeds new
 ServersRun {H} does stops old (AtServer c act ∷ deeds) new = (mid : ServerEnds H)
     × ServersDo does stops c act old mid × ServersRun does stops mid deeds new
+
+-- ---- servers that are made as connections come
+
+-- the next server is made, or a deed is done
+pub data Turn : Type 0 where
+  Opens : Turn
+  Is : (deed : Deed) → Turn
+
+-- the deeds among the turns
+abbrev pub deeds_of : List Turn → List Deed
+deeds_of [] = []
+deeds_of (Opens ∷ turns) = deeds_of turns
+deeds_of (Is deed ∷ turns) = deed ∷ deeds_of turns
+
+-- how many servers are made
+abbrev pub opened_in : List Turn → ℕ
+opened_in [] = 0
+opened_in (Opens ∷ turns) = suc (opened_in turns)
+opened_in (Is deed ∷ turns) = opened_in turns
+
+-- the servers, and the next one before its first request
+abbrev pub opened : {H : Type 0} → (limit : ℕ) → (ℕ → Made) → ServerEnds H → ServerEnds H
+opened limit made old = record {
+  servers = old.servers ++ new_server (suc (length old.servers)) (made (suc (length old.servers))).server_window limit ∷ [];
+  log = old.log;
+  handler = old.handler;
+}
+
+-- what the owner of the servers does, who makes them one after the other
+abbrev pub ServersGrow : {H : Type 0} → Does H → Stops H → (limit : ℕ) → (ℕ → Made) → ServerEnds H
+    → List Turn → ServerEnds H → Type 0
+ServersGrow does stops limit made old [] new = new ≡ old
+ServersGrow does stops limit made old (Opens ∷ turns) new =
+    ServersGrow does stops limit made (opened limit made old) turns new
+ServersGrow does stops limit made old (Is (AtClient c act) ∷ turns) new =
+    ServersGrow does stops limit made old turns new
+ServersGrow {H} does stops limit made old (Is (AtServer c act) ∷ turns) new =
+    (mid : ServerEnds H) × ServersDo does stops c act old mid
+    × ServersGrow does stops limit made mid turns new
+
+-- ---- what was done at each end
 
 -- what the client of a connection did
 abbrev pub acts_at : ℕ → List Deed → List ClientAct

@@ -7,7 +7,7 @@ pub mod Alone
 -- the words that clauses of other crates cite
 pub use Rattle.wire_channels.specs.Channels.{Pair, System, Trace, Way, no_pairs, pair_at}
 pub use Rattle.wire_channels.specs.Owners.{AreMade, ClientAct, ClientDoes, ClientEnd, ClientRun, Made, ServerAct, ServerDoes, ServerEnds, ServersDo, bytes_sent, bytes_sent_down, bytes_taken, bytes_taken_up, first_end, first_servers_of}
-pub use Rattle.wire_channels.specs.Deeds.{AreOf, Arrive, Common, Deed, ServersRun, acts_at, server_acts_at}
+pub use Rattle.wire_channels.specs.Deeds.{AreOf, Arrive, Common, Deed, ServersGrow, ServersRun, Turn, acts_at, deeds_of, opened_in, server_acts_at}
 pub use Rattle.wire_channels.specs.Knowing.{AreQuiet, IsCallOf, NoneInFlight, Owned, OwnersKnow}
 pub use Rattle.wire_channels.specs.Seen.{Agree, Channelled, IsQuietPair}
 pub use Rattle.wire_channels.specs.Alone.{Heard, Hearing, Hears, HoldsAlone, got, handed, hear_all, silence}

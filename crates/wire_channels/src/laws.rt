@@ -5,7 +5,7 @@ ghost use Rattle.bson_elem.specs.{IsBytes};
 ghost use Rattle.wire_peer.specs.{IsLimit, new_client};
 ghost use Rattle.wire_channels.specs.Alone.{HoldsAlone};
 ghost use Rattle.wire_channels.specs.Channels.{System, Trace, no_pairs};
-ghost use Rattle.wire_channels.specs.Deeds.{Arrive, Common, Deed, ServersRun, acts_at};
+ghost use Rattle.wire_channels.specs.Deeds.{Arrive, Common, Deed, ServersGrow, ServersRun, Turn, acts_at, deeds_of, opened_in};
 ghost use Rattle.wire_channels.specs.Owners.{AreMade, ClientAct, ClientEnd, ClientRun, Made, ServerEnds, bytes_sent, bytes_taken, first_end, first_servers_of};
 ghost use Rattle.wire_channels.specs.Knowing.{OwnersKnow};
 ghost use Rattle.wire_channels.specs.Seen.{Channelled};
@@ -60,9 +60,18 @@ pub fn servers_go_on<H: Handler>()
         → ServersRun H.does H.stops old (deeds ++ more) new }
 {}
 
+/// Proves that where the owner of the servers makes them one after the other, as connections come, what it did is a run
+/// with all of them there from the start.
+pub fn servers_may_come<H: Handler>()
+    ensures { (limit : ℕ) (first : H) (made : ℕ → Made) (turns : List Turn) (new : ServerEnds H)
+        → ServersGrow H.does H.stops limit made (first_servers_of limit made 0 first) turns new
+        → ServersRun H.does H.stops (first_servers_of limit made (opened_in turns) first)
+        (deeds_of turns) new }
+{}
+
 /// Proves what holds of a client, whoever answers it, over any calls and any pieces of any bytes: the replies that it
-/// handed out are messages of the one split of what it received, in order, each once, each to the call that owns it; and
-/// it is closed by the first message that is bad or nobody's, with that cause.
+/// handed out are messages of the one split of what it received, in order, each once, each to the call that owns it, and
+/// none behind a call's last; and it is closed by the first message that is bad or nobody's, with that cause.
 pub fn a_client_holds_alone()
     ensures { (c limit window : ℕ) (first_id : ℤ) (acts : List ClientAct) (new : ClientEnd)
         → IsBytes (bytes_taken acts)
