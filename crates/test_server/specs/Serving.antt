@@ -48,6 +48,7 @@ pub record Wire : Type 0 where
   pub turns : Option (List Turn)
   pub failures : ℕ
   pub ends : ℕ
+  pub waits : ℕ
 
 abbrev pub seen_over : Kept → Wire → Seen Store
 seen_over k w = record {
@@ -58,6 +59,7 @@ seen_over k w = record {
   turns = w.turns;
   failures = w.failures;
   ends = w.ends;
+  waits = w.waits;
 }
 
 -- A connection of this number was served over what the ones before left, and ended so. What became of it was written, or that

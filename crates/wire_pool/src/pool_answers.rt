@@ -1,5 +1,7 @@
 //! What a pool answers, and why none is made.
 
+use thiserror::Error;
+
 /// What became of asking for a connection.
 #[derive(Clone, Copy, Debug, PartialEq, Eq)]
 pub enum CheckOut {
@@ -25,10 +27,12 @@ pub enum CheckIn {
 }
 
 /// Why no pool is made.
-#[derive(Clone, Copy, Debug, PartialEq, Eq)]
+#[derive(Clone, Copy, Debug, PartialEq, Eq, Error)]
 pub enum PoolRefusal {
     /// The greatest number of connections isn't 1 to 1,024.
+    #[error("the greatest number isn't from 1 to 1,024")]
     BadMax,
     /// Memory for the lists was wanting.
+    #[error("out of memory")]
     OutOfMemory,
 }

@@ -1,5 +1,6 @@
 //! What a reader tells of what it was fed.
 
+use thiserror::Error;
 use wire_msg::MsgFault;
 
 /// Where a reader of messages stands.
@@ -23,9 +24,10 @@ pub struct Fed {
 }
 
 /// Why a reader took nothing.
-#[derive(Clone, Copy, Debug, PartialEq, Eq)]
+#[derive(Clone, Copy, Debug, PartialEq, Eq, Error)]
 pub enum ReadRefusal {
     /// Memory for the announced message was wanting.
+    #[error("out of memory")]
     OutOfMemory,
 }
 
