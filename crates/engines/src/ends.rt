@@ -18,7 +18,7 @@ use wire_peer::{
     AnswerRefusal, CallNo, CallRefusal, Client, ClientState, Echo, Logged, Server, ServerCause,
     ServerState,
 };
-use wire_stream::{Inlet, Link, Pulled, flush};
+use wire_stream::{Flushed, Inlet, Link, Pulled, flush};
 
 /// A client or a server, the link to the other end, and the piece of bytes that came over it last.
 #[derive(Drop)]
@@ -47,7 +47,7 @@ impl<P: Drop, L: Link + Drop> End<P, L> {
     {
         match self.inlet.pull(&mut self.link) {
             Ok(Pulled::Bytes) => Ok(()),
-            Ok(Pulled::End) | Err(_) => Err(RunEnd::InOut),
+            Ok(Pulled::End | Pulled::Later) | Err(_) => Err(RunEnd::InOut),
         }
     }
 }
@@ -87,8 +87,8 @@ impl<L: Link + Drop> End<Client, L> {
         ensures stopped { IfErr result (λ end. is_done end ≡ false) }
     {
         match flush(&mut self.link, &mut self.peer) {
-            Ok(()) => Ok(()),
-            Err(_) => Err(RunEnd::InOut),
+            Ok(Flushed::All) => Ok(()),
+            Ok(Flushed::Later) | Err(_) => Err(RunEnd::InOut),
         }
     }
 
@@ -206,8 +206,8 @@ impl<L: Link + Drop> End<Server, L> {
             Err(_) => return Err(RunEnd::InOut),
         }
         match flush(&mut self.link, &mut self.peer) {
-            Ok(()) => Ok(()),
-            Err(_) => Err(RunEnd::InOut),
+            Ok(Flushed::All) => Ok(()),
+            Ok(Flushed::Later) | Err(_) => Err(RunEnd::InOut),
         }
     }
 }

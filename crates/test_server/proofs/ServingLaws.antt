@@ -13,7 +13,7 @@ use Rattle.test_server.specs.Serving.{AreServed, IsListened, IsRun, Kept, Serves
 
 -- what is seen of the link of it
 abbrev wire_of : Seen Store → Wire
-wire_of s = record { received = s.received; sent = s.sent; turns = s.turns; failures = s.failures; ends = s.ends }
+wire_of s = record { received = s.received; sent = s.sent; turns = s.turns; failures = s.failures; ends = s.ends; waits = s.waits }
 
 -- a connection was served over what the ones before left
 pub served_from : (number : ℕ) (result : Result ServeEnd ServerEnd) (old new : Seen Store) (before after : Option (List ℕ)) → ServesOne number result old new before after
@@ -35,6 +35,7 @@ next_settled number (ends.Fault f) old new before after from = (ends.Fault f, (�
 next_settled number ends.Ended old new before after from = (ends.Ended, (λ (e : ends.Ended ≡ ends.OutOfMemory). absurd cc), from)
 next_settled number ends.EndedInside old new before after from = (ends.EndedInside, (λ (e : ends.EndedInside ≡ ends.OutOfMemory). absurd cc), from)
 next_settled number ends.Link old new before after from = (ends.Link, (λ (e : ends.Link ≡ ends.OutOfMemory). absurd cc), from)
+next_settled number ends.Later old new before after from = (ends.Later, (λ (e : ends.Later ≡ ends.OutOfMemory). absurd cc), from)
 next_settled number ends.Budget old new before after from = (ends.Budget, (λ (e : ends.Budget ≡ ends.OutOfMemory). absurd cc), from)
 next_settled number ends.ReplyTooLarge old new before after from = (ends.ReplyTooLarge, (λ (e : ends.ReplyTooLarge ≡ ends.OutOfMemory). absurd cc), from)
 next_settled number ends.HandlerFailed old new before after from = (ends.HandlerFailed, (λ (e : ends.HandlerFailed ≡ ends.OutOfMemory). absurd cc), from)

@@ -53,6 +53,7 @@ pub record Wire : Type 0 where
   pub turns : Option (List Turn)
   pub failures : ℕ
   pub ends : ℕ
+  pub waits : ℕ
 
 abbrev pub seen_over : Kept → Wire → Seen Store
 seen_over k w = record {
@@ -63,6 +64,7 @@ seen_over k w = record {
   turns = w.turns;
   failures = w.failures;
   ends = w.ends;
+  waits = w.waits;
 }
 
 -- A connection with this number was served with what the ones before left, and ended like this. By

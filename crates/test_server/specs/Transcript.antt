@@ -6,9 +6,7 @@ use Rattle.wire_msg.specs.{Content, fault_text}
 use Rattle.wire_text.specs.{text_of_sequence}
 use Rattle.wire_text.specs.declared.messages.Detail.TheVariants.{Line}
 use Rattle.wire_peer.specs.declared.serving.ServeEnd.{ServeEnd}
-use Rattle.wire_peer.specs.declared.serving.ServeEnd.TheVariants.{Ended, EndedInside, Fault, Link}
-use Rattle.wire_peer.specs.declared.serving.ServeEnd.TheVariants.{Budget, ReplyTooLarge}
-use Rattle.wire_peer.specs.declared.serving.ServeEnd.TheVariants.{OutOfMemory, HandlerFailed}
+use Rattle.wire_peer.specs.declared.serving.ServeEnd.TheVariants.{Ended, EndedInside, Fault, Link, Later, Budget, ReplyTooLarge, OutOfMemory, HandlerFailed}
 use Rattle.wire_peer.specs.{LogEntry}
 use Rattle.test_server.specs.Commands.{first_name}
 
@@ -36,6 +34,7 @@ end_text (Fault f) = fault_text f.at f.cause ++ codes "\n"
 end_text Ended = codes "end Ended\n"
 end_text EndedInside = codes "end EndedInside\n"
 end_text Link = codes "end Link\n"
+end_text Later = codes "end Later\n"
 end_text Budget = codes "end Budget\n"
 end_text ReplyTooLarge = codes "end ReplyTooLarge\n"
 end_text OutOfMemory = codes "end OutOfMemory\n"

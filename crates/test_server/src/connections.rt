@@ -36,8 +36,8 @@ fn serve_one<L: Link, W: Write>(
     out: &mut W,
 ) -> Result<ServeEnd, ServerEnd>
     ensures { ServesOne number result
-        (seen L.received L.sent L.turns L.failures L.ends logged.old link.old)
-        (seen L.received L.sent L.turns L.failures L.ends logged.new link.new)
+        (seen L.received L.sent L.turns L.failures L.ends L.waits logged.old link.old)
+        (seen L.received L.sent L.turns L.failures L.ends L.waits logged.new link.new)
         (W.contents out.old) (W.contents out.new) }
 {
     let before = logged.entries().len();

@@ -102,6 +102,7 @@ fn write_end<W: Write>(end: ServeEnd, out: &mut W) -> io::Result<()>
         ServeEnd::Ended => out.write_all(b"end Ended\n"),
         ServeEnd::EndedInside => out.write_all(b"end EndedInside\n"),
         ServeEnd::Link => out.write_all(b"end Link\n"),
+        ServeEnd::Later => out.write_all(b"end Later\n"),
         ServeEnd::Budget => out.write_all(b"end Budget\n"),
         ServeEnd::ReplyTooLarge => out.write_all(b"end ReplyTooLarge\n"),
         ServeEnd::OutOfMemory => out.write_all(b"end OutOfMemory\n"),

@@ -6,20 +6,22 @@ ghost use Rattle.wire_model.specs.{Record};
 ghost use Rattle.wire_channels.specs.Owners.{ClientDoes, SendsUp};
 
 use wire_peer::Client;
-use wire_stream::{Link, LinkFault};
+use wire_stream::{Link, LinkFault, Moved};
 
-/// Sends the first bytes that wait in `client` over `link`, as many as it takes at once.
+/// Sends the first bytes that wait in `client` over `link`, as many as it takes at once. Returns how many.
 ///
 /// # Errors
 ///
 /// `LinkFault` where the link failed; none were sent then.
-pub fn send_some<L: Link>(link: &mut L, client: &mut Client) -> Result<(), LinkFault>
+pub fn send_some<L: Link>(link: &mut L, client: &mut Client) -> Result<Moved, LinkFault>
     ensures { (bytes : List ℕ) × Appends (L.sent link.old) (L.sent link.new) bytes
         × ((c : ℕ) (records : List Record) → ClientDoes c (SendsUp bytes)
         (record { client = client.old; records = records })
         (record { client = client.new; records = records })) }
 {
-    let n = link.send(client.output())?;
-    client.sent(n);
-    Ok(())
+    let moved = link.send(client.output())?;
+    if let Moved::Bytes(n) = moved {
+        client.sent(n);
+    }
+    Ok(moved)
 }

@@ -1,5 +1,5 @@
 -- What was received so far, and what a reader holds of it.
-use Rattle.std.proofs.Common.{◌≡◌, ◌≢◌, ℕ, ◌≤◌, List, [], ◌∷◌, ◌++◌, length, length-append, take, drop, Option, refl, ap, arith, subst, sym, ◌∙◌, append_assoc, take-append-drop}
+use Rattle.std.proofs.Common.{◌≡◌, ℕ, ◌≤◌, List, [], ◌∷◌, ◌++◌, length, length-append, take, drop, Option, refl, ap, arith, subst, sym, ◌∙◌, append_assoc, take-append-drop}
 use Rattle.std.specs.Io.KnownBytes.{Appends}
 use Rattle.std.proofs.KnownBytes.{Appends-trans}
 use Rattle.bson_elem.specs.{IsBytes}
@@ -10,11 +10,10 @@ use Rattle.wire_msg.specs.Standing.{in_header}
 use Rattle.wire_msg.specs.declared.fault.MsgFault.{MsgFault}
 use Rattle.std.proofs.lemmas.Grind.{common_steps}
 use Rattle.wire_stream.specs.{CompletesHeader, StandsAt}
-use Rattle.wire_peer.specs.Coming.{HasGoodHeader}
+use Rattle.wire_peer.specs.Coming.{HasGoodHeader, IsFree, front_by, front_of}
+use Rattle.wire_peer.specs.Servers.{ServerView, holding, new_server}
 use Rattle.wire_stream.specs.declared.reader_state.ReaderState.{ReaderState}
 use Rattle.wire_stream.specs.declared.reader_state.ReaderState.TheVariants.{Need, Bad}
-use Rattle.wire_stream.specs.declared.reader_state.ReadEnd.{ReadEnd}
-use Rattle.wire_stream.specs.declared.reader_state.ReadEnd.TheVariants.{Ended, EndedInside}
 
 -- a pull and a feed behind what came before, in the clauses of the calls
 pub came_on : (a b c : Option (List ℕ)) (held piece s more got piece' out held2 piece2 : List ℕ) (n : ℕ)
@@ -35,10 +34,27 @@ pub pulled_on : (a b c : Option (List ℕ)) (held piece s more got piece2 : List
 pulled_on a b c held piece s more got piece2 k e l f =
     (more ++ got, Appends-trans a b c more got k l, rw f (sym (append_assoc held piece got) ∙ ap (λ q. q ++ got) e ∙ append_assoc s more got))
 
--- where a reader ends between messages, and what it holds could be more of one, it holds nothing
-pub ended_empty : (held : List ℕ) (r : ReadEnd) → (held ≢ [] → r ≡ EndedInside) → r ≡ Ended → held ≡ []
-ended_empty [] r inside is = refl
-ended_empty (x ∷ held) r inside is = absurd (let e : EndedInside ≡ Ended = sym (inside (λ n. cc)) ∙ is in cc)
+-- where nothing waits, what a server has of a message are the bytes that it holds
+pub front_held : (s : ServerView) → s.waiting ≡ [] → front_of s ≡ s.held
+front_held s none = ap (λ (q : List (List ℕ)). front_by q s.held) none
+
+-- what a server was fed wants more
+pub need_is : (s s' : ServerView) (bytes : List ℕ) (state : ReaderState) → s' ≡ holding s bytes state → state ≡ Need → s' ≡ record s { held = bytes }
+need_is s s' bytes state is need = is ∙ ap (holding s bytes) need
+
+-- a new server, but for its next id
+pub fresh : (connection limit : ℕ) (s : ServerView) → s ≡ new_server connection 1 limit → s ≡ record (new_server connection 1 limit) { next_id = s.next_id }
+fresh connection limit s is = is ∙ ap (λ (id : ℕ). record (new_server connection 1 limit) { next_id = id }) (sym (ap (λ (q : ServerView). q.next_id) is))
+
+-- one in which this request waits, after its answer
+pub fresh_again : (connection limit : ℕ) (s s' s2 : ServerView) (request : List ℕ) → s ≡ record (new_server connection 1 limit) { next_id = s.next_id }
+    → s' ≡ record s { waiting = request ∷ [] } → s2 ≡ record s' { waiting = []; output = []; next_id = s2.next_id } → s2 ≡ record (new_server connection 1 limit) { next_id = s2.next_id }
+fresh_again connection limit s s' s2 request was waits after =
+    after ∙ ap (λ (q : ServerView). record q { waiting = []; output = []; next_id = s2.next_id }) (waits ∙ ap (λ (q : ServerView). record q { waiting = request ∷ [] }) was)
+
+-- it may take more then
+pub stays_free : (s : ServerView) (bytes : List ℕ) → IsFree s → IsFree (record s { held = bytes })
+stays_free s bytes f = record { state = f.state; none = f.none; window = f.window }
 
 -- what a reader holds, and what is held behind it, are bytes after a piece was fed
 pub held_bytes : (held held2 out : List ℕ) (n : ℕ) → IsBytes held → held2 ≡ held ++ take n out → IsBytes out → IsBytes held2

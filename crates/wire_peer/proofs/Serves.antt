@@ -1,5 +1,5 @@
 -- How serving goes on from message to message, and what it says at its end.
-use Rattle.std.proofs.Common.{◌≡◌, ◌≢◌, ℕ, ◌+◌, ◌<◌, ◌≤◌, ◌⊎◌, inl, inr, List, [], ◌∷◌, ◌++◌, length, None, Ok, Err, refl, ap, sym, subst, ◌∙◌, arith, append_assoc, append-nil, length-append}
+use Rattle.std.proofs.Common.{◌≡◌, ◌≢◌, ℕ, ◌+◌, ◌<◌, ◌≤◌, ◌⊎◌, inl, inr, List, [], ◌∷◌, ◌++◌, length, None, Result, Ok, Err, refl, ap, sym, subst, ◌∙◌, arith, append_assoc, append-nil, length-append}
 use Rattle.std.specs.Io.KnownBytes.{Appends, Keeps}
 use Rattle.std.proofs.KnownBytes.{Appends-nil, Appends-trans, Appends-kept}
 use Rattle.wire_msg.specs.{AreSpelled, Message, SpellsMsg}
@@ -10,7 +10,7 @@ use Rattle.wire_peer.specs.Chains.{written}
 use Rattle.wire_peer.specs.Logs.{Does, LogEntry, LogStep, RunOf, Stops}
 use Rattle.wire_peer.specs.declared.serving.ServeEnd.{ServeEnd}
 use Rattle.wire_peer.specs.declared.serving.ServeEnd.TheVariants as end
-use Rattle.wire_peer.specs.Coming.{AreBetween, Came, HasGoodHeader, Worked}
+use Rattle.wire_peer.specs.Coming.{AreBetween, Came, HasGoodHeader, Waited, Worked}
 use Rattle.wire_peer.specs.Requests.{asked_by}
 use Rattle.wire_peer.specs.Serving.{AllSent, AreAnswered, AreInTurn, AreOf, EndsAs, LastSent, Seen, Served, WantedMemory, id_behind, last_id, replies_to, requests_of, serve_out}
 use Rattle.wire_peer.specs.Answering.{AnswersAs, GotEntry}
@@ -205,35 +205,47 @@ module _ {H : Type 0} (does : Does H) (stops : Stops H) where
       served_by c limit budget end.OutOfMemory old new k id rest p (omega arith) (works, told, inl (all_sent c limit old new k id rest p, inr (count, header)))
 
   -- no next message came
-  pub ends_coming : (c limit budget : ℕ) (e : ServeEnd) (old new : Seen H) (k id : ℕ) (held piece : List ℕ) (failures ends : ℕ) → Progress c limit old new k id (held ++ piece)
-      → k < budget → failures ≡ old.failures → ends ≡ old.ends → Came (Err e) limit held piece ends new.ends → Worked (Err e) failures new.failures
+  pub ends_coming : (c limit budget : ℕ) (e : ServeEnd) (old new : Seen H) (k id : ℕ) (held piece : List ℕ) (failures ends waits : ℕ) → Progress c limit old new k id (held ++ piece)
+      → k < budget → failures ≡ old.failures → ends ≡ old.ends → waits ≡ old.waits → Came (Err e) limit held piece ends new.ends → Worked (Err e) failures new.failures → Waited (Err e) waits new.waits
       → Served does stops c limit budget e old new
-  ends_coming c limit budget end.Ended old new k id held piece failures ends p lt works told came w =
+  ends_coming c limit budget end.Ended old new k id held piece failures ends waits p lt works told idle came w l =
       let none : held ++ piece ≡ [] = (rw (came.0, came.1) refl) in
       let q : Progress c limit old new k id [] = subst (Progress c limit old new k id) none p in
       let count : length q.made < budget = (let n = q.counted in omega arith) in
       served_by c limit budget end.Ended old new k id [] q (omega arith)
       (w ∙ works, rose_from old.ends ends new.ends told came.2, count, all_sent c limit old new k id [] q, open_ends limit q.ms q.joined [] q.spelled (begun_open limit [] refl), refl)
-  ends_coming c limit budget end.EndedInside old new k id held piece failures ends p lt works told came w =
+  ends_coming c limit budget end.EndedInside old new k id held piece failures ends waits p lt works told idle came w l =
       let none : held ++ piece ≡ held = rw came.2 (append-nil held) in
       let q : Progress c limit old new k id held = subst (Progress c limit old new k id) none p in
       let count : length q.made < budget = (let n = q.counted in omega arith) in
       served_by c limit budget end.EndedInside old new k id held q (omega arith)
       (w ∙ works, rose_from old.ends ends new.ends told came.3, count, all_sent c limit old new k id held q, open_ends limit q.ms q.joined held q.spelled came.1, came.0, came.1)
-  ends_coming c limit budget (end.Fault f) old new k id held piece failures ends p lt works told came w =
+  ends_coming c limit budget (end.Fault f) old new k id held piece failures ends waits p lt works told idle came w l =
       let bad = bad_longer limit held piece f came.0 in
       let count : length p.made < budget = (let n = p.counted in omega arith) in
       served_by c limit budget (end.Fault f) old new k id (held ++ piece) p (omega arith)
       (w ∙ works, came.2 ∙ told, count, all_sent c limit old new k id (held ++ piece) p, bad_ends limit p.ms p.joined (held ++ piece) f came.1 p.spelled bad, bad)
-  ends_coming c limit budget end.Link old new k id held piece failures ends p lt works told came w =
+  ends_coming c limit budget end.Link old new k id held piece failures ends waits p lt works told idle came w l =
       let count : length p.made < budget = (let n = p.counted in omega arith) in
       served_by c limit budget end.Link old new k id (held ++ piece) p (omega arith)
-      (rose_from old.failures failures new.failures works w, came ∙ told, p.answered, inl (count, all_sent c limit old new k id (held ++ piece) p))
-  ends_coming c limit budget end.OutOfMemory old new k id held piece failures ends p lt works told came w =
+      (rose_from old.failures failures new.failures works w, came ∙ told, (p.answered, inl (count, all_sent c limit old new k id (held ++ piece) p)))
+  ends_coming c limit budget end.Later old new k id held piece failures ends waits p lt works told idle came w l =
+      let count : length p.made < budget = (let n = p.counted in omega arith) in
+      served_by c limit budget end.Later old new k id (held ++ piece) p (omega arith)
+      (w ∙ works, came ∙ told, rose_from old.waits waits new.waits idle l, (p.answered, inl (count, all_sent c limit old new k id (held ++ piece) p)))
+  ends_coming c limit budget end.OutOfMemory old new k id held piece failures ends waits p lt works told idle came w l =
       ends_memory c limit budget old new k id (held ++ piece) p lt (w ∙ works) (came.1 ∙ told) came.0
-  ends_coming c limit budget end.Budget old new k id held piece failures ends p lt works told came w = absurd came
-  ends_coming c limit budget end.ReplyTooLarge old new k id held piece failures ends p lt works told came w = absurd came
-  ends_coming c limit budget end.HandlerFailed old new k id held piece failures ends p lt works told came w = absurd came
+  ends_coming c limit budget end.Budget old new k id held piece failures ends waits p lt works told idle came w l = absurd came
+  ends_coming c limit budget end.ReplyTooLarge old new k id held piece failures ends waits p lt works told idle came w l = absurd came
+  ends_coming c limit budget end.HandlerFailed old new k id held piece failures ends waits p lt works told idle came w l = absurd came
+
+  -- by equal numbers
+  pub answers_as : (c c' limit limit' id id0 id' : ℕ) (m : Message) (r : Result (Unit {0}) ServeEnd) (old new : Seen H) → c ≡ c' → limit ≡ limit' → id ≡ id0
+      → AnswersAs does stops c limit m r id id' old new → AnswersAs does stops c' limit' m r id0 id' old new
+  answers_as c c' limit limit' id id0 id' m r old new same_c same_limit same_id x =
+      subst (λ (n : ℕ). AnswersAs does stops n limit' m r id0 id' old new) same_c
+      (subst (λ (n : ℕ). AnswersAs does stops c n m r id0 id' old new) same_limit
+      (subst (λ (n : ℕ). AnswersAs does stops c limit m r n id' old new) same_id x))
 
   -- ---- the ends at a message
 
@@ -280,21 +292,27 @@ module _ {H : Type 0} (does : Does H) (stops : Stops H) where
 
   ends_by_answer : (c limit budget : ℕ) (e : ServeEnd) (old a b : Seen H) (k id id' : ℕ) (m : Message) (front piece : List ℕ) → Progress c limit old a k id (front ++ piece)
       → SpellsMsg m front → length front ≤ limit → Keeps a.received b.received → AddsTurns a.turns b.turns [] → k < budget → a.failures ≡ old.failures → b.ends ≡ old.ends
-      → AnswersAs does stops c limit m (Err e) id id' a b → Served does stops c limit budget e old b
-  ends_by_answer c limit budget end.Link old a b k id id' m front piece p spells within keeps none lt works told x =
-      served_with c limit budget end.Link old a b k id m front piece x.3 p spells within keeps none lt x.1 x.5 (
+      → a.waits ≡ old.waits → Waited (Err e) a.waits b.waits → AnswersAs does stops c limit m (Err e) id id' a b → Served does stops c limit budget e old b
+  ends_by_answer c limit budget end.Link old a b k id id' m front piece p spells within keeps none lt works told idle l x =
+      served_with c limit budget end.Link old a b k id m front piece x.1.2 p spells within keeps none lt x.1.0 x.1.4 (
         rose_from old.failures a.failures b.failures works x.0,
         told,
-        answered_push p.made x.1.entry p.answered x.2,
-        inr (x.3, x.4, last_of c limit old a b k id m (front ++ piece) x.3 p x.1, rw (sym p.next) x.6),
+        (answered_push p.made x.1.0.entry p.answered x.1.1, inr (x.1.2, x.1.3, last_of c limit old a b k id m (front ++ piece) x.1.2 p x.1.0, rw (sym p.next) x.1.5)),
       )
-  ends_by_answer c limit budget end.ReplyTooLarge old a b k id id' m front piece p spells within keeps none lt works told x =
+  ends_by_answer c limit budget end.Later old a b k id id' m front piece p spells within keeps none lt works told idle l x =
+      served_with c limit budget end.Later old a b k id m front piece x.1.2 p spells within keeps none lt x.1.0 x.1.4 (
+        x.0 ∙ works,
+        told,
+        rose_from old.waits a.waits b.waits idle l,
+        (answered_push p.made x.1.0.entry p.answered x.1.1, inr (x.1.2, x.1.3, last_of c limit old a b k id m (front ++ piece) x.1.2 p x.1.0, rw (sym p.next) x.1.5)),
+      )
+  ends_by_answer c limit budget end.ReplyTooLarge old a b k id id' m front piece p spells within keeps none lt works told idle l x =
       served_with c limit budget end.ReplyTooLarge old a b k id m front piece [] p spells within keeps none lt x.2 x.1
       (x.0 ∙ works, told, last_of c limit old a b k id m (front ++ piece) [] p x.2, rw (sym p.next) x.3)
-  ends_by_answer c limit budget end.HandlerFailed old a b k id id' m front piece p spells within keeps none lt works told x =
+  ends_by_answer c limit budget end.HandlerFailed old a b k id id' m front piece p spells within keeps none lt works told idle l x =
       served_with c limit budget end.HandlerFailed old a b k id m front piece [] p spells within keeps none lt x.2 x.1
       (x.0 ∙ works, told, last_of c limit old a b k id m (front ++ piece) [] p x.2, x.3, x.4)
-  ends_by_answer c limit budget end.OutOfMemory old a b k id id' m front piece p spells within keeps none lt works told x =
+  ends_by_answer c limit budget end.OutOfMemory old a b k id id' m front piece p spells within keeps none lt works told idle l x =
       memory c limit budget old a b k id m front piece p spells within keeps none lt (x.0 ∙ works) told x.1 x.2
     where
       memory : (c limit budget : ℕ) (old a b : Seen H) (k id : ℕ) (m : Message) (front piece : List ℕ) → Progress c limit old a k id (front ++ piece)
@@ -323,14 +341,14 @@ module _ {H : Type 0} (does : Does H) (stops : Stops H) where
       memory c limit budget old a b k id m front piece p spells within keeps none lt works told sent (inr x) =
           served_with c limit budget end.OutOfMemory old a b k id m front piece [] p spells within keeps none lt x.0 sent
           (works, told, inr (last_of c limit old a b k id m (front ++ piece) [] p x.0, rw (sym p.next) x.1))
-  ends_by_answer c limit budget end.Ended old a b k id id' m front piece p spells within keeps none lt works told x = absurd x
-  ends_by_answer c limit budget end.EndedInside old a b k id id' m front piece p spells within keeps none lt works told x = absurd x
-  ends_by_answer c limit budget (end.Fault f) old a b k id id' m front piece p spells within keeps none lt works told x = absurd x
-  ends_by_answer c limit budget end.Budget old a b k id id' m front piece p spells within keeps none lt works told x = absurd x
+  ends_by_answer c limit budget end.Ended old a b k id id' m front piece p spells within keeps none lt works told idle l x = absurd x
+  ends_by_answer c limit budget end.EndedInside old a b k id id' m front piece p spells within keeps none lt works told idle l x = absurd x
+  ends_by_answer c limit budget (end.Fault f) old a b k id id' m front piece p spells within keeps none lt works told idle l x = absurd x
+  ends_by_answer c limit budget end.Budget old a b k id id' m front piece p spells within keeps none lt works told idle l x = absurd x
 
   -- a message was not answered, or not all its replies were sent
-  pub ends_answer : (c limit budget n : ℕ) (e : ServeEnd) (old a b : Seen H) (k id id' : ℕ) (m : Message) (front piece : List ℕ) → Progress c limit old a k id (front ++ piece)
+  pub ends_answer : (c limit budget : ℕ) (e : ServeEnd) (old a b : Seen H) (k id id' : ℕ) (m : Message) (front piece : List ℕ) → Progress c limit old a k id (front ++ piece)
       → SpellsMsg m front → length front ≤ limit → Keeps a.received b.received → AddsTurns a.turns b.turns [] → k < budget → a.failures ≡ old.failures → b.ends ≡ old.ends
-      → n ≡ limit → AnswersAs does stops c n m (Err e) id id' a b → Served does stops c limit budget e old b
-  ends_answer c limit budget n e old a b k id id' m front piece p spells within keeps none lt works told same x =
-      ends_by_answer c limit budget e old a b k id id' m front piece p spells within keeps none lt works told (subst (λ l. AnswersAs does stops c l m (Err e) id id' a b) same x)
+      → a.waits ≡ old.waits → Waited (Err e) a.waits b.waits → AnswersAs does stops c limit m (Err e) id id' a b → Served does stops c limit budget e old b
+  ends_answer c limit budget e old a b k id id' m front piece p spells within keeps none lt works told idle l x =
+      ends_by_answer c limit budget e old a b k id id' m front piece p spells within keeps none lt works told idle l x

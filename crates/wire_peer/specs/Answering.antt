@@ -8,10 +8,11 @@ use Rattle.wire_peer.specs.Logs.{Does, LogEntry, LogStep, Stops}
 use Rattle.wire_peer.specs.Requests.{asked_by}
 use Rattle.wire_peer.specs.Serving.{Seen, WantedMemory, id_behind, replies_to}
 use Rattle.wire_peer.specs.declared.handlers.HandlerStop.TheVariants as stop
-use Rattle.wire_peer.specs.declared.log.NoReplies.{NoReplies}
-use Rattle.wire_peer.specs.declared.log.NoReplies.TheVariants.{NotAsked, Stopped, TooLarge, NoMemory}
+use Rattle.wire_peer.specs.declared.server_state.AnswerRefusal.{AnswerRefusal}
+use Rattle.wire_peer.specs.declared.server_state.AnswerRefusal.TheVariants.{NowClosed}
+use Rattle.wire_peer.specs.declared.server_state.ServerCause.TheVariants as causes
 use Rattle.wire_peer.specs.declared.serving.ServeEnd.{ServeEnd}
-use Rattle.wire_peer.specs.declared.serving.ServeEnd.TheVariants.{Link, ReplyTooLarge, OutOfMemory, HandlerFailed}
+use Rattle.wire_peer.specs.declared.serving.ServeEnd.TheVariants.{Link, Later, ReplyTooLarge, OutOfMemory, HandlerFailed}
 
 -- The handler was asked a message of a connection, and its entry was added to the log.
 pub record GotEntry {H : Type 0} (does : Does H) (stops : Stops H) (connection : ℕ) (m : Message) (old new : Seen H) : Type 0 where
@@ -21,17 +22,23 @@ pub record GotEntry {H : Type 0} (does : Does H) (stops : Stops H) (connection :
   pub payload : entry.payload ≡ m.content
   pub step : LogStep does stops old.handler (asked_by m) entry.answers new.handler
 
+-- a message has its entry, and a beginning of its replies was sent
+abbrev pub SentPart : {H : Type 0} → Does H → Stops H → (connection : ℕ) → Message → (id : ℕ) → Seen H → Seen H → Type 0
+SentPart does stops connection m id old new =
+    (g : GotEntry does stops connection m old new) × (g.entry.answers ≢ None)
+    × (part : List ℕ) × (lost : List ℕ) × Appends old.sent new.sent part × (written (replies_to id m g.entry.answers) ≡ part ++ lost)
+
 -- A message was answered with this result: all replies were sent, from this reply id up to another one, or a part of them if
--- the link failed, or none.
+-- the link failed or took no more, or none.
 abbrev pub AnswersAs : {H : Type 0} → Does H → Stops H → (connection limit : ℕ) → Message → Result (Unit {0}) ServeEnd → (id id' : ℕ) → Seen H → Seen H → Type 0
 AnswersAs does stops connection limit m (Ok _) id id' old new =
     (new.failures ≡ old.failures)
     × (g : GotEntry does stops connection m old new) × (g.entry.answers ≢ None)
     × Appends old.sent new.sent (written (replies_to id m g.entry.answers)) × (id' ≡ id_behind id m g.entry.answers)
 AnswersAs does stops connection limit m (Err Link) id id' old new =
-    Rose old.failures new.failures
-    × (g : GotEntry does stops connection m old new) × (g.entry.answers ≢ None)
-    × (part : List ℕ) × (lost : List ℕ) × Appends old.sent new.sent part × (written (replies_to id m g.entry.answers) ≡ part ++ lost)
+    Rose old.failures new.failures × SentPart does stops connection m id old new
+AnswersAs does stops connection limit m (Err Later) id id' old new =
+    (new.failures ≡ old.failures) × SentPart does stops connection m id old new
 AnswersAs does stops connection limit m (Err ReplyTooLarge) id id' old new =
     (new.failures ≡ old.failures) × Appends old.sent new.sent []
     × (g : GotEntry does stops connection m old new) × (is_longer limit (replies_to id m g.entry.answers) ≡ true)
@@ -45,9 +52,7 @@ AnswersAs does stops connection limit m (Err OutOfMemory) id id' old new =
 AnswersAs does stops connection limit m (Err _) id id' old new = ⊥
 
 -- how serving ends where a request got no replies
-abbrev pub end_of : NoReplies → ServeEnd
-end_of NotAsked = OutOfMemory
-end_of (Stopped stop.Failed) = HandlerFailed
-end_of (Stopped stop.OutOfMemory) = OutOfMemory
-end_of TooLarge = ReplyTooLarge
-end_of NoMemory = OutOfMemory
+abbrev pub end_of : AnswerRefusal → ServeEnd
+end_of (NowClosed causes.HandlerFailed) = HandlerFailed
+end_of (NowClosed causes.ReplyTooLarge) = ReplyTooLarge
+end_of refusal = OutOfMemory

@@ -11,7 +11,7 @@ use Rattle.wire_peer.specs.declared.server_state.ServerCause.TheVariants.{Messag
 use Rattle.wire_peer.specs.declared.server_state.ServerState.{ServerState}
 use Rattle.wire_peer.specs.declared.server_state.ServerState.TheVariants.{Open, Closed}
 use Rattle.wire_peer.specs.Chains.{ReplyState}
-use Rattle.wire_peer.specs.Limits.{IsLimit, IsWindow}
+use Rattle.wire_peer.specs.Limits.{IsWindow}
 use Rattle.wire_peer.specs.Servers.{ServerView}
 
 -- what a caller sees of these parts
@@ -31,7 +31,7 @@ view_of connection window limit reader waiting replies state = record {
 -- inside one.
 pub record AreParts (window limit : ℕ) (reader : Reading) (waiting : VecDeque (List ℕ) Global) (replies : ReplyState) (state : ServerState) : Type 0 where
   pub window_is : IsWindow window
-  pub limit_is : IsLimit limit
+  pub limit_is : limit ≤ 48_000_000
   pub read_limit : reader.limit ≡ limit
   pub reply_limit : replies.limit ≡ limit
   pub between : state ≡ Open → IsOpen limit reader.held

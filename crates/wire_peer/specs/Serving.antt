@@ -10,7 +10,7 @@ use Rattle.wire_peer.specs.Requests.{Asked, asked_by}
 use Rattle.wire_peer.specs.declared.handlers.HandlerStop.TheVariants as stop
 use Rattle.wire_peer.specs.declared.log.Logged.{Logged}
 use Rattle.wire_peer.specs.declared.serving.ServeEnd.{ServeEnd}
-use Rattle.wire_peer.specs.declared.serving.ServeEnd.TheVariants.{Ended, EndedInside, Fault, Link, Budget, ReplyTooLarge, OutOfMemory, HandlerFailed}
+use Rattle.wire_peer.specs.declared.serving.ServeEnd.TheVariants.{Ended, EndedInside, Fault, Link, Later, Budget, ReplyTooLarge, OutOfMemory, HandlerFailed}
 
 -- ---- what is sent
 
@@ -61,10 +61,11 @@ pub record Seen (H : Type 0) : Type 0 where
   pub turns : Option (List Turn)
   pub failures : ℕ
   pub ends : ℕ
+  pub waits : ℕ
 
 -- what is seen of these, by what a link's kind tells of its links
-abbrev pub seen : {H L : Type 0} → (received sent : L → Option (List ℕ)) → (turns : L → Option (List Turn)) → (failures ends : L → ℕ) → Logged H → L → Seen H
-seen received sent turns failures ends logged link = record {
+abbrev pub seen : {H L : Type 0} → (received sent : L → Option (List ℕ)) → (turns : L → Option (List Turn)) → (failures ends waits : L → ℕ) → Logged H → L → Seen H
+seen received sent turns failures ends waits logged link = record {
   handler = logged.handler;
   log = log_of logged.entries.items;
   received = received link;
@@ -72,6 +73,7 @@ seen received sent turns failures ends logged link = record {
   turns = turns link;
   failures = failures link;
   ends = ends link;
+  waits = waits link;
 }
 
 -- all these messages were answered, and all their replies were sent
@@ -126,6 +128,12 @@ abbrev pub WantedMemory : {H : Type 0} → Stops H → ℕ → H → Message →
 WantedMemory stops limit h m rs None h' = stops h (asked_by m) stop.OutOfMemory h'
 WantedMemory stops limit h m rs (Some answers) h' = (m.flags.more_to_come ≡ false) × (is_longer limit rs ≡ false)
 
+-- The link cut serving short: between two messages, or before all replies to the last one were sent.
+abbrev pub IsCut : {H : Type 0} → Does H → Stops H → (budget : ℕ) → Seen H → Seen H → List Message → List LogEntry → (gave : List ℕ) → Type 0
+IsCut does stops budget old new ms made gave =
+    AreAnswered made
+    × (((length made < budget) × AllSent ms made gave) ⊎ ((part : List ℕ) × (lost : List ℕ) × (l : LastSent does stops old.handler new.handler ms made gave part) × (written (last_replies l) ≡ part ++ lost)))
+
 -- What each end of serving says of the log and the link before and now, of the messages that have entries, those entries, what
 -- was sent, and what was received behind those messages.
 abbrev pub EndsAs : {H : Type 0} → Does H → Stops H → (limit budget : ℕ) → ServeEnd → Seen H → Seen H → List Message → List LogEntry → (got gave rest : List ℕ) → Type 0
@@ -138,8 +146,9 @@ EndsAs does stops limit budget (Fault f) old new ms made got gave rest =
 EndsAs does stops limit budget Budget old new ms made got gave rest =
     (new.failures ≡ old.failures) × (new.ends ≡ old.ends) × (length made ≡ budget) × AllSent ms made gave
 EndsAs does stops limit budget Link old new ms made got gave rest =
-    Rose old.failures new.failures × (new.ends ≡ old.ends) × AreAnswered made
-    × (((length made < budget) × AllSent ms made gave) ⊎ ((part : List ℕ) × (lost : List ℕ) × (l : LastSent does stops old.handler new.handler ms made gave part) × (written (last_replies l) ≡ part ++ lost)))
+    Rose old.failures new.failures × (new.ends ≡ old.ends) × IsCut does stops budget old new ms made gave
+EndsAs does stops limit budget Later old new ms made got gave rest =
+    (new.failures ≡ old.failures) × (new.ends ≡ old.ends) × Rose old.waits new.waits × IsCut does stops budget old new ms made gave
 EndsAs does stops limit budget ReplyTooLarge old new ms made got gave rest =
     (new.failures ≡ old.failures) × (new.ends ≡ old.ends)
     × (l : LastSent does stops old.handler new.handler ms made gave []) × (is_longer limit (last_replies l) ≡ true)

@@ -1,69 +1,99 @@
-//! The next message of a link.
+//! The next request of a link.
 
-ghost use Rattle.std.specs.Prelude.{◌≡◌, ◌++◌, [], IfErr, IfOk, List, OnErr, ℕ};
+ghost use Rattle.std.specs.Prelude.{◌≡◌, ◌≢◌, ◌∷◌, ◌++◌, [], IfErr, IfOk, List, OnErr, OnOk, ℕ};
 ghost use Rattle.std.specs.Io.KnownBytes.{Appends, Keeps};
 ghost use Rattle.bson_elem.specs.{IsBytes};
 ghost use Rattle.wire_msg.specs.{IsOpen};
 ghost use Rattle.wire_stream.specs.{AddsTurns, CompletesHeader, Feeds, Turn};
-ghost use Rattle.wire_peer.specs.Coming.{AreBetween, Came, Worked};
+ghost use Rattle.wire_peer.specs.declared.server_state.ServerState.TheVariants.{Closed, Open};
+ghost use Rattle.wire_peer.specs.Coming.{AreBetween, Came, IsFree, Waited, Worked, front_of, standing_by};
+ghost use Rattle.wire_peer.specs.Servers.{end_cause, holding};
 
+use crate::server_state::{ServerCause, ServerState};
+use crate::servers::Server;
 use crate::serving::ServeEnd;
-use wire_stream::{Fed, Inlet, Link, MsgReader, Pulled, ReadEnd, ReaderState};
+use wire_stream::{Fed, Inlet, Link, Pulled, ReaderState};
 
-/// Feeds `piece` to a reader that wants more.
+/// Returns where a server stands with the bytes of one message.
+fn standing(server: &Server) -> ReaderState
+    ensures { result ≡ standing_by server.now.state server.now.waiting }
+{
+    match server.state() {
+        ServerState::Closed(ServerCause::Message(fault)) => ReaderState::Bad(fault),
+        ServerState::Open if server.waiting() > 0 => ReaderState::Ready,
+        ServerState::Open | ServerState::Closed(_) => ReaderState::Need,
+    }
+}
+
+/// Feeds `piece` to a server in which no request waits.
 ///
 /// # Errors
 ///
 /// `OutOfMemory` where the piece completes a good header and memory for its message is wanting. Nothing is taken then.
-fn feed_piece(reader: &mut MsgReader, piece: &[u8]) -> Result<Fed, ServeEnd>
-    requires { IsOpen reader.old.limit reader.old.held }
+fn feed_piece(server: &mut Server, piece: &[u8]) -> Result<Fed, ServeEnd>
+    requires { IsFree server.old }
     ensures bytes { IsBytes piece.now }
-    ensures limit { reader.new.limit ≡ reader.old.limit }
     ensures fed { IfOk result (λ fed.
-        Feeds reader.old.limit reader.old.held piece.now reader.new.held fed) }
+        Feeds server.old.limit server.old.held piece.now (front_of server.new) fed) }
+    ensures is { IfOk result (λ fed. server.new ≡ holding server.old (front_of server.new) fed.state) }
     ensures refused { IfErr result (λ end. (end ≡ ServeEnd.OutOfMemory)
-        × CompletesHeader reader.old.limit reader.old.held piece.now) }
-    ensures unchanged { OnErr result (reader.new ≡ reader.old) }
+        × CompletesHeader server.old.limit server.old.held piece.now) }
+    ensures unchanged { OnErr result (server.new ≡ server.old) }
 {
-    match reader.feed(piece) {
-        Ok(fed) => Ok(fed),
+    match server.feed(piece) {
+        Ok(taken) => Ok(Fed {
+            taken,
+            state: standing(server),
+        }),
         Err(_) => Err(ServeEnd::OutOfMemory),
     }
 }
 
-/// Receives over `link` until `reader` has a message, and takes no byte behind it out of `inlet`.
+/// Tells an open server that no more bytes come. Returns how serving ends.
+fn end_bytes(server: &mut Server) -> ServeEnd
+    requires { server.old.state ≡ Open }
+    ensures closed { server.new ≡ record server.old { state = Closed (end_cause server.old.held) } }
+    ensures between { server.old.held ≡ [] → result ≡ ServeEnd.Ended }
+    ensures inside { server.old.held ≢ [] → result ≡ ServeEnd.EndedInside }
+{
+    server.end();
+    match server.state() {
+        ServerState::Closed(ServerCause::Ended) => ServeEnd::Ended,
+        _ => ServeEnd::EndedInside,
+    }
+}
+
+/// Receives over `link` until a request waits in `server`, and takes no byte behind it out of `inlet`.
 ///
 /// # Errors
 ///
-/// Why no message comes: the link ended or failed, what came is at fault, or memory for a message was wanting.
-pub(crate) fn next_message<L: Link>(
+/// Why no request comes: the link ended, failed or has none now, what came is at fault, or memory for a message was wanting.
+pub(crate) fn next_request<L: Link>(
     link: &mut L,
     inlet: &mut Inlet,
-    reader: &mut MsgReader,
+    server: &mut Server,
 ) -> Result<(), ServeEnd>
-    requires { reader.old.held ≡ [] }
-    ensures limit { reader.new.limit ≡ reader.old.limit }
+    requires free { IsFree server.old }
+    requires between { server.old.held ≡ [] }
+    ensures waits { OnOk result (server.new ≡ record server.old { waiting = front_of server.new ∷ [] }) }
     ensures received { (more : List ℕ) × Appends (L.received link.old) (L.received link.new) more
-        × (reader.new.held ++ inlet.new ≡ inlet.old ++ more) }
-    ensures came { Came result reader.new.limit reader.new.held inlet.new
+        × (front_of server.new ++ inlet.new ≡ inlet.old ++ more) }
+    ensures came { Came result server.old.limit (front_of server.new) inlet.new
         (L.ends link.old) (L.ends link.new) }
     ensures sent { Keeps (L.sent link.old) (L.sent link.new) }
     ensures turns { (ts : List Turn) × AddsTurns (L.turns link.old) (L.turns link.new) ts
-        × AreBetween reader.old.limit (L.received link.old) (L.sent link.old) inlet.old ts }
+        × AreBetween server.old.limit (L.received link.old) (L.sent link.old) inlet.old ts }
     ensures works { Worked result (L.failures link.old) (L.failures link.new) }
+    ensures later { Waited result (L.waits link.old) (L.waits link.new) }
 {
     loop {
         match inlet.pull(link) {
             Err(_) => return Err(ServeEnd::Link),
-            Ok(Pulled::End) => {
-                return Err(match reader.end() {
-                    ReadEnd::Ended => ServeEnd::Ended,
-                    ReadEnd::EndedInside => ServeEnd::EndedInside,
-                });
-            }
+            Ok(Pulled::End) => return Err(end_bytes(server)),
+            Ok(Pulled::Later) => return Err(ServeEnd::Later),
             Ok(Pulled::Bytes) => {}
         }
-        let fed = feed_piece(reader, inlet.bytes())?;
+        let fed = feed_piece(server, inlet.bytes())?;
         inlet.used(fed.taken);
         match fed.state {
             ReaderState::Need => {}

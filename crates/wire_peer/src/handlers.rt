@@ -7,13 +7,16 @@ ghost use Rattle.wire_peer.specs.Requests.{Asked, IsCount, asked};
 
 use crate::answer_list::Answers;
 use crate::requests::Request;
+use thiserror::Error;
 
 /// Why a handler stopped.
-#[derive(Clone, Copy, Debug, PartialEq, Eq)]
+#[derive(Clone, Copy, Debug, PartialEq, Eq, Error)]
 pub enum HandlerStop {
     /// It can't answer.
+    #[error("the handler failed")]
     Failed,
     /// The allocator refused memory.
+    #[error("the handler is out of memory")]
     OutOfMemory,
 }
 

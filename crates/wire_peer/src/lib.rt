@@ -6,7 +6,7 @@
 //! of each request with what became of it; it takes the room for the entry before it asks. A `ReplyBuf` holds the replies
 //! of one connection until they are sent. `Echo`, `Count` and `StopAt` are handlers. A `Server` is the whole end without a
 //! link: bytes are fed to it, requests wait in it and are answered in any order, and its output is taken off as it is sent.
-//! `serve` answers the messages of a link in order.
+//! `serve` runs a server over a link, and answers its messages in order.
 //!
 //! Stands on wire_stream. wire_model, wire_world, engines and test_server stand on it. Read first:
 //! `handlers` and `log`, then `servers` and `clients`, and then `serving`.

@@ -14,6 +14,7 @@ use crate::handlers::{Handler, HandlerStop};
 use crate::reply_buf::{ReplyBuf, ReplyRefusal};
 use crate::requests::Request;
 use std::alloc::{AllocError, Global};
+use thiserror::Error;
 use wire_msg::PayloadBuf;
 
 /// What became of a request.
@@ -37,24 +38,30 @@ pub struct Entry {
 }
 
 /// Why a handler gave no answers.
-#[derive(Clone, Copy, Debug, PartialEq, Eq)]
+#[derive(Clone, Copy, Debug, PartialEq, Eq, Error)]
 pub enum AskRefusal {
     /// The allocator refused the memory for an entry, so the handler wasn't asked.
+    #[error("out of memory")]
     NotAsked,
     /// The handler stopped. Its entry stands.
+    #[error("{0}")]
     Stopped(HandlerStop),
 }
 
 /// Why a request got no replies.
-#[derive(Clone, Copy, Debug, PartialEq, Eq)]
+#[derive(Clone, Copy, Debug, PartialEq, Eq, Error)]
 pub enum NoReplies {
     /// The allocator refused the memory for an entry, so the handler wasn't asked.
+    #[error("out of memory")]
     NotAsked,
     /// The handler stopped. Its entry stands.
+    #[error("{0}")]
     Stopped(HandlerStop),
     /// One of the replies has more bytes than the limit. The entry stands with the answers.
+    #[error("a reply is too large")]
     TooLarge,
     /// The allocator refused the memory for the replies. The entry stands with the answers.
+    #[error("out of memory")]
     NoMemory,
 }
 

@@ -12,15 +12,18 @@ use crate::answer_list::Answers;
 use crate::limits::MAX_ID;
 use std::alloc::Global;
 use std::marker::Model;
+use thiserror::Error;
 use wire_msg::{MsgFlags, PayloadBuf};
 use wire_stream::{OutBuf, Outlet};
 
 /// Why replies aren't appended.
-#[derive(Clone, Copy, Debug, PartialEq, Eq)]
+#[derive(Clone, Copy, Debug, PartialEq, Eq, Error)]
 pub enum ReplyRefusal {
     /// One of them has more bytes than the limit.
+    #[error("a reply is too large")]
     TooLarge,
     /// The allocator refused memory.
+    #[error("out of memory")]
     OutOfMemory,
 }
 

@@ -8,7 +8,8 @@ ghost use Rattle.wire_peer.specs.ServerAnswers.{AnswerStep, WaitsAt, cause_of};
 ghost use Rattle.wire_peer.specs.Logs.{log_of};
 ghost use Rattle.wire_peer.specs.Replying.{ReplyStep};
 ghost use Rattle.wire_peer.specs.Requests.{asked, asked_by};
-ghost use Rattle.wire_peer.specs.Servers.{IsNewServer, TakesBytes, closed_for, end_cause};
+ghost use Rattle.wire_peer.specs.Servers.{IsNewServer, TakesBytes, closed_for, end_cause, new_server};
+ghost use Rattle.wire_peer.specs.Limits.{IsWindow};
 ghost use Rattle.wire_peer.specs.ServerParts.{IsAccepted, IsSettled, IsTakenOut};
 
 use crate::handlers::{Handler, HandlerStop};
@@ -17,7 +18,7 @@ use crate::log::{Logged, NoReplies};
 use crate::reply_buf::ReplyBuf;
 use crate::requests::{Request, request_of};
 use crate::server_state::{AnswerRefusal, ServerCause, ServerRefusal, ServerState};
-use std::alloc::Global;
+use std::alloc::{AllocError, Global};
 use std::collections::VecDeque;
 use std::marker::Model;
 use wire_msg::{MAX_MESSAGE_LEN, RawMsg};
@@ -126,6 +127,33 @@ fn cause_of(reason: NoReplies) -> Option<ServerCause>
 }
 
 impl Server {
+    /// Like `new`, of numbers that are known to be good, but for the least limit, which isn't asked for.
+    ///
+    /// # Errors
+    ///
+    /// `AllocError` where memory is wanting.
+    pub(crate) fn of(
+        alloc: Global,
+        connection: u64,
+        window: usize,
+        limit: u32,
+    ) -> Result<Server, AllocError>
+        requires window { IsWindow window }
+        requires limit { limit ≤ 48_000_000 }
+        ensures { IfOk result (λ server. server ≡ new_server connection window limit) }
+    {
+        let waiting = VecDeque::with_capacity(alloc, window)?;
+        Ok(Server {
+            connection,
+            window,
+            limit,
+            reader: MsgReader::new(alloc, limit),
+            waiting,
+            replies: ReplyBuf::new(alloc, limit),
+            state: ServerState::Open,
+        })
+    }
+
     /// Returns a server of the connection of this number, in which at most `window` requests wait, 1 to 1,024, of
     /// messages of at most `limit` bytes, 26 to 48,000,000. It takes the memory of its waiting list.
     ///
@@ -146,16 +174,8 @@ impl Server {
         if limit < MIN_LIMIT || limit > MAX_MESSAGE_LEN {
             return Err(ServerRefusal::BadLimit);
         }
-        match VecDeque::with_capacity(alloc, window) {
-            Ok(waiting) => Ok(Server {
-                connection,
-                window,
-                limit,
-                reader: MsgReader::new(alloc, limit),
-                waiting,
-                replies: ReplyBuf::new(alloc, limit),
-                state: ServerState::Open,
-            }),
+        match Server::of(alloc, connection, window, limit) {
+            Ok(server) => Ok(server),
             Err(_) => Err(ServerRefusal::OutOfMemory),
         }
     }

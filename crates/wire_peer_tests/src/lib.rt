@@ -30,3 +30,5 @@ mod servers;
 mod serving;
 #[cfg(test)]
 mod serving_refusals;
+#[cfg(test)]
+mod texts;

@@ -1,5 +1,7 @@
 //! Names the answers of a pool.
 
+use thiserror::Error;
+
 /// The answer to `check_out`.
 #[derive(Clone, Copy, Debug, PartialEq, Eq)]
 pub enum CheckOut {
@@ -25,10 +27,12 @@ pub enum CheckIn {
 }
 
 /// Why a pool isn't made.
-#[derive(Clone, Copy, Debug, PartialEq, Eq)]
+#[derive(Clone, Copy, Debug, PartialEq, Eq, Error)]
 pub enum PoolRefusal {
     /// The greatest number of connections isn't 1 to 1,024.
+    #[error("the greatest number isn't from 1 to 1,024")]
     BadMax,
     /// There was no memory for the lists.
+    #[error("out of memory")]
     OutOfMemory,
 }

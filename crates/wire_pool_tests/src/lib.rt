@@ -8,3 +8,5 @@
 mod pool_refusals;
 #[cfg(test)]
 mod pools;
+#[cfg(test)]
+mod texts;

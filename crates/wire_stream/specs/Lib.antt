@@ -1,5 +1,6 @@
 pub mod Links
 pub mod Pulls
+pub mod Flushes
 pub mod MemLinks
 pub mod Readers
 pub mod Holding
@@ -7,7 +8,7 @@ pub mod Cutting
 pub mod Gathering
 -- the words that clauses of other crates cite
 pub use Rattle.wire_stream.specs.Cutting.{AnnouncesMore, Cuts, IsHeldOf, SpellEach}
-pub use Rattle.wire_stream.specs.Links.{AddsTurns, Rose, TellsEnd, Turn}
-pub use Rattle.wire_stream.specs.Pulls.{IsPulled}
-pub use Rattle.wire_stream.specs.Readers.{CompletesHeader, Feeds, HoldsNoMore, IsRoom, Reading}
-pub use Rattle.wire_stream.specs.Readers.{StandsAt}
+pub use Rattle.wire_stream.specs.Flushes.{FlushesLater}
+pub use Rattle.wire_stream.specs.Links.{AddsTurns, Rose, TellsEnd, TellsLater, Turn, bytes_moved, count_of}
+pub use Rattle.wire_stream.specs.Pulls.{IsPulled, PullsLater}
+pub use Rattle.wire_stream.specs.Readers.{CompletesHeader, Feeds, HoldsNoMore, IsRoom, Reading, StandsAt}

@@ -1,7 +1,19 @@
 -- What the calls of a link do to what it shows.
-use Rattle.std.specs.Prelude.{◌≡◌, ℕ, zero, suc, ◌+◌, ◌-◌, ◌^◌, min, List, ◌++◌, Option, Some, None}
-use Rattle.std.specs.Prelude.{Result, Ok}
+use Rattle.std.specs.Prelude.{◌≡◌, ℕ, zero, suc, ◌+◌, ◌-◌, ◌^◌, min, List, ◌++◌, Option, Some, None, Result, Ok, Err}
 use Rattle.wire_stream.specs.declared.link.LinkFault.{LinkFault}
+use Rattle.wire_stream.specs.declared.link.Moved.{Moved}
+use Rattle.wire_stream.specs.declared.link.Moved.TheVariants.{Bytes, Later}
+
+-- how many bytes were moved: none if none can be moved now
+abbrev pub bytes_moved : Moved → ℕ
+bytes_moved (Bytes n) = n
+bytes_moved Later = 0
+
+-- the count of bytes that the call moved, or nothing if it failed or none can be moved now
+abbrev pub count_of : Result Moved LinkFault → Result ℕ (Unit {0})
+count_of (Ok (Bytes n)) = Ok n
+count_of (Ok Later) = Err tt
+count_of (Err fault) = Err tt
 
 -- the count rose by one, or was at its greatest value already
 abbrev pub Rose : ℕ → ℕ → Type 0
@@ -9,9 +21,15 @@ Rose old new = new ≡ min (old + 1) (2 ^ 64 - 1)
 
 -- A `recv` with room for this many bytes had this result. The count of ends rose if it gave none of
 -- the bytes that it had room for, and otherwise stayed the same.
-abbrev pub TellsEnd : ℕ → Result ℕ LinkFault → ℕ → ℕ → Type 0
-TellsEnd (suc room) (Ok zero) old new = Rose old new
+abbrev pub TellsEnd : ℕ → Result Moved LinkFault → ℕ → ℕ → Type 0
+TellsEnd (suc room) (Ok (Bytes zero)) old new = Rose old new
 TellsEnd room result old new = new ≡ old
+
+-- The count of waits rose if the call returned that no byte can be moved now, and otherwise stayed
+-- the same.
+abbrev pub TellsLater : Result Moved LinkFault → ℕ → ℕ → Type 0
+TellsLater (Ok Later) old new = Rose old new
+TellsLater result old new = new ≡ old
 
 -- what had been received and sent before a call of `recv`, if the link shows it
 pub record Turn : Type 0 where

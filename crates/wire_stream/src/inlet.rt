@@ -4,9 +4,9 @@ ghost use Rattle.std.specs.Prelude.{◌≡◌, ◌≢◌, ◌≤◌, ◌<◌, �
 ghost use Rattle.std.specs.Prelude.{drop, length, ℕ};
 ghost use Rattle.std.specs.Io.KnownBytes.{Appends, Keeps};
 ghost use Rattle.wire_stream.specs.Links.{AddsTurns, Rose};
-ghost use Rattle.wire_stream.specs.Pulls.{IsPulled};
+ghost use Rattle.wire_stream.specs.Pulls.{IsPulled, PullsLater};
 
-use crate::link::{Link, LinkFault};
+use crate::link::{Link, LinkFault, Moved};
 use std::alloc::{AllocError, Global};
 use std::marker::Model;
 
@@ -20,6 +20,8 @@ pub enum Pulled {
     Bytes,
     /// The link has ended, and no bytes are held.
     End,
+    /// No byte has come yet, and none is held.
+    Later,
 }
 
 /// One piece of at most 4,096 received bytes, of which the first ones may have been used.
@@ -94,6 +96,7 @@ impl Inlet {
             (record { received = L.received link.old; sent = L.sent link.old } ∷ []) }
         ensures within { length self.new ≤ 4096 }
         ensures found { IsPulled result (self.new) (L.ends link.old) (L.ends link.new) }
+        ensures later { PullsLater result (L.waits link.old) (L.waits link.new) }
         ensures sent { Keeps (L.sent link.old) (L.sent link.new) }
         ensures works { OnOk result (L.failures link.new ≡ L.failures link.old) }
         ensures fails { OnErr result (Rose (L.failures link.old) (L.failures link.new)) }
@@ -102,7 +105,9 @@ impl Inlet {
         if self.start < self.end {
             return Ok(Pulled::Bytes);
         }
-        let n = link.recv(&mut self.piece)?;
+        let Moved::Bytes(n) = link.recv(&mut self.piece)? else {
+            return Ok(Pulled::Later);
+        };
         self.start = 0;
         self.end = n;
         if n == 0 {

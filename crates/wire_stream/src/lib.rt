@@ -1,9 +1,8 @@
 //! Reads and writes streams of messages: bytes that come and go over a link.
 //!
-//! A `MsgReader` makes messages of bytes that come in pieces. A `Link` moves bytes both ways and
-//! may fail. An `Inlet` holds the piece that a link gave last, and `flush` sends what an `Outlet`,
-//! such as an `OutBuf`, has waiting. All that this crate reads of a message is its length; the
-//! rest is left to wire_msg.
+//! A `MsgReader` makes messages of bytes that come in pieces. A `Link` moves bytes both ways, may fail, and may have none to
+//! move yet. An `Inlet` holds the piece that a link gave last, and `flush` sends what an `Outlet`, such as an `OutBuf`, has
+//! waiting. Nothing here looks into a message, but at its length, except by the contract of wire_msg.
 //!
 //! Uses wire_msg. Used by wire_peer. Read first: `reader`, and then `link`.
 #![tactic(auto)]
@@ -21,11 +20,11 @@ mod reader_state;
 mod tcp_link;
 
 pub use inlet::{Inlet, Pulled};
-pub use link::{Link, LinkFault};
+pub use link::{Link, LinkFault, Moved};
 pub use mem_link::MemLink;
 pub use msg_buf::MsgBuf;
 pub use out_buf::OutBuf;
-pub use outlet::{Outlet, flush};
+pub use outlet::{Flushed, Outlet, flush};
 pub use pieces::{PiecesRead, read_pieces};
 pub use reader::MsgReader;
 pub use reader_state::{Fed, ReadEnd, ReadRefusal, ReaderState};

@@ -3,11 +3,12 @@
 ghost use Rattle.std.specs.Prelude.{◌≡◌, ◌≢◌, ◌<◌, ◌≤◌, ◌-◌, ◌^◌, ◌++◌, [], Ok, IfOk, IsErr, OnErr};
 ghost use Rattle.std.specs.Prelude.{OnOk, None, Some, drop, false, length, take, true};
 ghost use Rattle.std.specs.Io.KnownBytes.{Appends, Keeps};
-ghost use Rattle.wire_stream.specs.Links.{Rose, TellsEnd};
+ghost use Rattle.wire_stream.specs.Links.{Rose, TellsEnd, bytes_moved};
 ghost use Rattle.wire_stream.specs.MemLinks.{is_due, moved, one_less};
 
-use crate::link::{Link, LinkFault};
+use crate::link::{Link, LinkFault, Moved};
 use std::alloc::{AllocError, Global};
+use std::io::ErrorKind;
 use std::marker::Model;
 
 /// A link that gives the bytes of a vector, and keeps what is sent as long as there is room.
@@ -128,7 +129,17 @@ impl MemLink {
         }
     }
 
-    /// Moves input bytes to the front of `buffer`, as many as one call may. Returns how many.
+    /// Counts a failure of this sort.
+    fn fail(&mut self, kind: ErrorKind) -> LinkFault
+        ensures fault { result ≡ record { kind = kind } }
+        ensures counted { Rose self.old.failures self.new.failures }
+        ensures others { self.new ≡ record self.old { failures = self.new.failures } }
+    {
+        self.failures = self.failures.saturating_add(1);
+        LinkFault { kind }
+    }
+
+    /// Moves bytes of the input to the front of `buffer`, as many as a call may, and returns how many.
     fn give(&mut self, buffer: &mut [u8]) -> usize
         ensures count { result ≡ moved self.old.most (length buffer.old) (length self.old.left) }
         ensures received { self.new.received ≡ self.old.received ++ take result buffer.new }
@@ -157,68 +168,72 @@ impl Link for MemLink {
 
     ghost ends = { λ s. s.ends };
 
-    fn recv(&mut self, buffer: &mut [u8]) -> Result<usize, LinkFault>
-        ensures within { IfOk result (λ n. n ≤ length buffer.old) }
-        ensures received { IfOk result (λ n.
-            self.new.received ≡ self.old.received ++ take n buffer.new) }
+    ghost waits = { λ _. 0 };
+
+    fn recv(&mut self, buffer: &mut [u8]) -> Result<Moved, LinkFault>
+        ensures within { IfOk result (λ moved. bytes_moved moved ≤ length buffer.old) }
+        ensures received { IfOk result (λ moved.
+            self.new.received ≡ self.old.received ++ take (bytes_moved moved) buffer.new) }
         ensures none_received { OnErr result (self.new.received ≡ self.old.received) }
         ensures sent { self.new.sent ≡ self.old.sent }
         ensures end { TellsEnd (length buffer.old) result self.old.ends self.new.ends }
+        ensures later { result ≢ Ok Moved.Later }
         ensures works { OnOk result (self.new.failures ≡ self.old.failures) }
         ensures fails { OnErr result (Rose self.old.failures self.new.failures) }
         ensures given { self.old.received ++ self.old.left ≡ self.new.received ++ self.new.left }
         ensures fault { is_due self.old.fails_after ≡ true → IsErr result }
         ensures moved { is_due self.old.fails_after ≡ false
-            → result ≡ Ok (moved self.old.most (length buffer.old) (length self.old.left)) }
+            → result ≡ Ok (Moved.Bytes (moved self.old.most (length buffer.old)
+            (length self.old.left))) }
         ensures counted { self.new.fails_after ≡ one_less self.old.fails_after }
         ensures limits { (self.new.room ≡ self.old.room) × (self.new.most ≡ self.old.most) }
     {
         if self.is_failing() {
-            self.failures = self.failures.saturating_add(1);
-            return Err(LinkFault);
+            return Err(self.fail(ErrorKind::ConnectionReset));
         }
         let n = self.give(buffer);
         if n == 0 && !buffer.is_empty() {
             self.ends = self.ends.saturating_add(1);
         }
-        Ok(n)
+        Ok(Moved::Bytes(n))
     }
 
-    fn send(&mut self, bytes: &[u8]) -> Result<usize, LinkFault>
-        ensures within { IfOk result (λ n. n ≤ length bytes.now) }
-        ensures some { 0 < length bytes.now → IfOk result (λ n. 0 < n) }
-        ensures sent { IfOk result (λ n. self.new.sent ≡ self.old.sent ++ take n bytes.now) }
+    fn send(&mut self, bytes: &[u8]) -> Result<Moved, LinkFault>
+        ensures within { IfOk result (λ moved. bytes_moved moved ≤ length bytes.now) }
+        ensures some { 0 < length bytes.now → IfOk result (λ moved. moved ≢ Moved.Bytes 0) }
+        ensures sent { IfOk result (λ moved.
+            self.new.sent ≡ self.old.sent ++ take (bytes_moved moved) bytes.now) }
         ensures none_sent { OnErr result (self.new.sent ≡ self.old.sent) }
         ensures received { (self.new.received ≡ self.old.received)
             × (self.new.left ≡ self.old.left) }
         ensures end { self.new.ends ≡ self.old.ends }
+        ensures later { result ≢ Ok Moved.Later }
         ensures works { OnOk result (self.new.failures ≡ self.old.failures) }
         ensures fails { OnErr result (Rose self.old.failures self.new.failures) }
         ensures fault { is_due self.old.fails_after ≡ true → IsErr result }
         ensures full { self.old.room ≡ 0 → bytes.now ≢ [] → IsErr result }
-        ensures empty { is_due self.old.fails_after ≡ false → bytes.now ≡ [] → result ≡ Ok 0 }
+        ensures empty { is_due self.old.fails_after ≡ false → bytes.now ≡ []
+            → result ≡ Ok (Moved.Bytes 0) }
         ensures moved { is_due self.old.fails_after ≡ false
             → 0 < moved self.old.most (length bytes.now) self.old.room
-            → result ≡ Ok (moved self.old.most (length bytes.now) self.old.room) }
+            → result ≡ Ok (Moved.Bytes (moved self.old.most (length bytes.now) self.old.room)) }
         ensures counted { self.new.fails_after ≡ one_less self.old.fails_after }
         ensures limits { (self.new.room
             ≡ self.old.room - (length self.new.sent - length self.old.sent))
             × (self.new.most ≡ self.old.most) }
     {
         if self.is_failing() {
-            self.failures = self.failures.saturating_add(1);
-            return Err(LinkFault);
+            return Err(self.fail(ErrorKind::ConnectionReset));
         }
         let n = bytes
             .len()
             .min(self.room - self.output.len())
             .min(self.most);
         if n == 0 && !bytes.is_empty() {
-            self.failures = self.failures.saturating_add(1);
-            return Err(LinkFault);
+            return Err(self.fail(ErrorKind::WriteZero));
         }
         match self.output.extend_from_slice(&bytes[..n]) {
-            Ok(()) => Ok(n),
+            Ok(()) => Ok(Moved::Bytes(n)),
             Err(_) => unreachable!(),
         }
     }

@@ -1,10 +1,11 @@
 //! Sends bytes that wait.
 
-ghost use Rattle.std.specs.Prelude.{◌≡◌, ◌≤◌, ◌++◌, [], ℕ, List, OnErr, OnOk, drop, length};
+ghost use Rattle.std.specs.Prelude.{◌≡◌, ◌≢◌, ◌≤◌, ◌++◌, [], ℕ, List, Ok, OnErr, OnOk, drop, length};
 ghost use Rattle.std.specs.Io.KnownBytes.{Appends, Keeps};
 ghost use Rattle.wire_stream.specs.Links.{AddsTurns, Rose};
+ghost use Rattle.wire_stream.specs.Flushes.{FlushesLater};
 
-use crate::link::{Link, LinkFault};
+use crate::link::{Link, LinkFault, Moved};
 
 /// A thing that has bytes waiting to be sent.
 pub trait Outlet {
@@ -34,16 +35,28 @@ pub trait Outlet {
         → with_waiting (with_waiting o first) then ≡ with_waiting o then };
 }
 
-/// Sends all bytes that wait in `outlet` over `link`. Nothing else of the outlet changes.
+/// What `flush` came to.
+#[derive(Clone, Copy, Debug, PartialEq, Eq)]
+pub enum Flushed {
+    /// All bytes were sent.
+    All,
+    /// The link takes no more bytes now. Those that weren't sent still wait.
+    Later,
+}
+
+/// Sends over `link` the bytes that wait in `outlet`: all of them, or as many as the link takes now. Nothing else of the
+/// outlet changes.
 ///
 /// # Errors
 ///
-/// Returns `LinkFault` if the link failed. The bytes sent until then no longer wait.
-pub fn flush<L: Link, O: Outlet>(link: &mut L, outlet: &mut O) -> Result<(), LinkFault>
+/// Returns `LinkFault` if the link failed. What was sent by then no longer waits.
+pub fn flush<L: Link, O: Outlet>(link: &mut L, outlet: &mut O) -> Result<Flushed, LinkFault>
     ensures sent { (gone : List ℕ) × Appends (L.sent link.old) (L.sent link.new) gone
         × (O.waiting outlet.old ≡ gone ++ O.waiting outlet.new) }
     ensures others { outlet.new ≡ O.with_waiting outlet.old (O.waiting outlet.new) }
-    ensures all { OnOk result (O.waiting outlet.new ≡ []) }
+    ensures all { result ≡ Ok Flushed.All → O.waiting outlet.new ≡ [] }
+    ensures later { result ≡ Ok Flushed.Later → O.waiting outlet.new ≢ [] }
+    ensures waits { FlushesLater result (L.waits link.old) (L.waits link.new) }
     ensures received { Keeps (L.received link.old) (L.received link.new) }
     ensures turns { AddsTurns (L.turns link.old) (L.turns link.new) [] }
     ensures end { L.ends link.new ≡ L.ends link.old }
@@ -51,8 +64,10 @@ pub fn flush<L: Link, O: Outlet>(link: &mut L, outlet: &mut O) -> Result<(), Lin
     ensures fails { OnErr result (Rose (L.failures link.old) (L.failures link.new)) }
 {
     while !outlet.output().is_empty() {
-        let n = link.send(outlet.output())?;
+        let Moved::Bytes(n) = link.send(outlet.output())? else {
+            return Ok(Flushed::Later);
+        };
         outlet.sent(n);
     }
-    Ok(())
+    Ok(Flushed::All)
 }

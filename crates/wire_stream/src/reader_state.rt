@@ -1,5 +1,6 @@
 //! Names the states of a reader, and what it did with a piece.
 
+use thiserror::Error;
 use wire_msg::MsgFault;
 
 /// The state of a reader.
@@ -24,9 +25,10 @@ pub struct Fed {
 }
 
 /// Why a reader took nothing.
-#[derive(Clone, Copy, Debug, PartialEq, Eq)]
+#[derive(Clone, Copy, Debug, PartialEq, Eq, Error)]
 pub enum ReadRefusal {
     /// There was no memory for the announced message.
+    #[error("out of memory")]
     OutOfMemory,
 }
 

@@ -1,20 +1,22 @@
 //! Makes a link of a stream, such as a TCP connection.
 
-ghost use Rattle.std.specs.Prelude.{◌≡◌, ◌≤◌, ◌<◌, None, IfOk, OnErr, OnOk, length};
+ghost use Rattle.std.specs.Prelude.{◌≡◌, ◌≢◌, ◌≤◌, ◌<◌, None, IfErr, IfOk, OnErr, OnOk, length};
 ghost use Rattle.std.specs.Io.KnownBytes.{ReadConsumes, WriteAppends};
-ghost use Rattle.wire_stream.specs.Links.{Rose, TellsEnd};
+ghost use Rattle.wire_stream.specs.Links.{Rose, TellsEnd, TellsLater, bytes_moved, count_of};
 
-use crate::link::{Link, LinkFault};
-use std::io::{Read, Write};
+use crate::link::{Link, LinkFault, Moved};
+use std::io::{ErrorKind, Read, Write};
 
-/// A link over a stream such as `TcpStream`. It doesn't show its bytes, since no contract can say
-/// what a socket carries. Over a stream that shows its own, it gives the bytes that were read, and
-/// what it counts as sent was written. A call that sends none of some bytes counts as a failure.
+/// A link over a stream such as `TcpStream`. It leaves its bytes untold, since no contract can say what a socket carries;
+/// of a stream that tells its own, it gives the bytes that were read, and writes those that it counts. A call that was
+/// interrupted is made again, and one that would block moves no byte and is no failure. A call that sends nothing of some
+/// bytes counts as a failure.
 #[derive(Drop)]
 pub struct TcpLink<S: Read + Write + Drop> {
     stream: S,
     failures: u64,
     ends: u64,
+    waits: u64,
 }
 
 impl<S: Read + Write + Drop> TcpLink<S> {
@@ -23,22 +25,32 @@ impl<S: Read + Write + Drop> TcpLink<S> {
         ensures stream { result.stream ≡ stream }
         ensures failures { result.failures ≡ 0 }
         ensures ends { result.ends ≡ 0 }
+        ensures waits { result.waits ≡ 0 }
     {
         TcpLink {
             stream,
             failures: 0,
             ends: 0,
+            waits: 0,
         }
     }
 
-    /// Counts a failure.
-    fn fail(&mut self) -> LinkFault
-        ensures failures { Rose self.old.failures self.new.failures }
+    /// Returns what a call comes to that the stream failed for this reason. A call that would block is no failure.
+    fn failed(&mut self, kind: ErrorKind) -> Result<Moved, LinkFault>
+        ensures later { IfOk result (λ moved. moved ≡ Moved.Later) }
+        ensures never { IfErr result (λ fault. fault.kind ≢ ErrorKind.WouldBlock) }
+        ensures works { OnOk result (self.new.failures ≡ self.old.failures) }
+        ensures fails { OnErr result (Rose self.old.failures self.new.failures) }
         ensures ends { self.new.ends ≡ self.old.ends }
+        ensures waits { TellsLater result self.old.waits self.new.waits }
         ensures stream { self.new.stream ≡ self.old.stream }
     {
+        if kind == ErrorKind::WouldBlock {
+            self.waits = self.waits.saturating_add(1);
+            return Ok(Moved::Later);
+        }
         self.failures = self.failures.saturating_add(1);
-        LinkFault
+        Err(LinkFault { kind })
     }
 }
 
@@ -53,43 +65,59 @@ impl<S: Read + Write + Drop> Link for TcpLink<S> {
 
     ghost ends = { λ s. s.ends };
 
-    fn recv(&mut self, buffer: &mut [u8]) -> Result<usize, LinkFault>
-        ensures within { IfOk result (λ n. n ≤ length buffer.old) }
-        ensures read { ReadConsumes (S.remaining self.old.stream)
-            (S.remaining self.new.stream) result buffer.new }
+    ghost waits = { λ s. s.waits };
+
+    fn recv(&mut self, buffer: &mut [u8]) -> Result<Moved, LinkFault>
+        ensures within { IfOk result (λ moved. bytes_moved moved ≤ length buffer.old) }
+        ensures read { ReadConsumes (S.remaining self.old.stream) (S.remaining self.new.stream)
+            (count_of result)
+            buffer.new }
         ensures end { TellsEnd (length buffer.old) result self.old.ends self.new.ends }
+        ensures later { TellsLater result self.old.waits self.new.waits }
+        ensures never { IfErr result (λ fault. fault.kind ≢ ErrorKind.WouldBlock) }
         ensures works { OnOk result (self.new.failures ≡ self.old.failures) }
         ensures fails { OnErr result (Rose self.old.failures self.new.failures) }
     {
         if buffer.is_empty() {
-            return Ok(0);
+            return Ok(Moved::Bytes(0));
         }
-        match self.stream.read(buffer) {
-            Ok(0) => {
-                self.ends = self.ends.saturating_add(1);
-                Ok(0)
+        for _ in 0..u64::MAX {
+            match self.stream.read(buffer) {
+                Ok(0) => {
+                    self.ends = self.ends.saturating_add(1);
+                    return Ok(Moved::Bytes(0));
+                }
+                Ok(n) => return Ok(Moved::Bytes(n)),
+                Err(error) if error.kind() == ErrorKind::Interrupted => {}
+                Err(error) => return self.failed(error.kind()),
             }
-            Ok(n) => Ok(n),
-            Err(_) => Err(self.fail()),
         }
+        self.failed(ErrorKind::Interrupted)
     }
 
-    fn send(&mut self, bytes: &[u8]) -> Result<usize, LinkFault>
-        ensures within { IfOk result (λ n. n ≤ length bytes.now) }
-        ensures some { 0 < length bytes.now → IfOk result (λ n. 0 < n) }
-        ensures written { WriteAppends (S.contents self.old.stream)
-            (S.contents self.new.stream) result bytes.now }
+    fn send(&mut self, bytes: &[u8]) -> Result<Moved, LinkFault>
+        ensures within { IfOk result (λ moved. bytes_moved moved ≤ length bytes.now) }
+        ensures some { 0 < length bytes.now → IfOk result (λ moved. moved ≢ Moved.Bytes 0) }
+        ensures written { WriteAppends (S.contents self.old.stream) (S.contents self.new.stream)
+            (count_of result)
+            bytes.now }
         ensures end { self.new.ends ≡ self.old.ends }
+        ensures later { TellsLater result self.old.waits self.new.waits }
+        ensures never { IfErr result (λ fault. fault.kind ≢ ErrorKind.WouldBlock) }
         ensures works { OnOk result (self.new.failures ≡ self.old.failures) }
         ensures fails { OnErr result (Rose self.old.failures self.new.failures) }
     {
         if bytes.is_empty() {
-            return Ok(0);
+            return Ok(Moved::Bytes(0));
         }
-        match self.stream.write(bytes) {
-            Ok(0) => Err(self.fail()),
-            Ok(n) => Ok(n),
-            Err(_) => Err(self.fail()),
+        for _ in 0..u64::MAX {
+            match self.stream.write(bytes) {
+                Ok(0) => return self.failed(ErrorKind::WriteZero),
+                Ok(n) => return Ok(Moved::Bytes(n)),
+                Err(error) if error.kind() == ErrorKind::Interrupted => {}
+                Err(error) => return self.failed(error.kind()),
+            }
         }
+        self.failed(ErrorKind::Interrupted)
     }
 }

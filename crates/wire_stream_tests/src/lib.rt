@@ -18,3 +18,5 @@ mod readers;
 mod stream_refusals;
 #[cfg(test)]
 mod tcp_links;
+#[cfg(test)]
+mod texts;

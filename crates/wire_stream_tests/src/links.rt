@@ -2,8 +2,19 @@
 
 use bson_raw::RawDocument;
 use std::alloc::Global;
+use std::io::ErrorKind;
 use wire_msg::{MsgFlags, MsgRefusal, PayloadBuf};
-use wire_stream::{Inlet, Link, LinkFault, MemLink, OutBuf, Pulled, flush};
+use wire_stream::{Flushed, Inlet, Link, LinkFault, MemLink, Moved, OutBuf, Pulled, flush};
+
+/// The fault of the call that a link in memory fails.
+pub(crate) const RESET: LinkFault = LinkFault {
+    kind: ErrorKind::ConnectionReset,
+};
+
+/// The fault of a link in memory that is full.
+pub(crate) const FULL: LinkFault = LinkFault {
+    kind: ErrorKind::WriteZero,
+};
 
 /// `{"a": 1}`.
 const BODY: &[u8; 12] = b"\x0c\0\0\0\x10a\0\x01\0\0\0\0";
@@ -32,7 +43,7 @@ pub(crate) fn body_payload(alloc: Global) -> Option<PayloadBuf> {
 }
 
 /// Like `push_payload`, with the payload made of the body. Returns true if the reply was appended.
-fn push_reply(alloc: Global, out: &mut OutBuf) -> bool {
+pub(crate) fn push_reply(alloc: Global, out: &mut OutBuf) -> bool {
     match body_payload(alloc) {
         Some(payload) => push_payload(out, &payload).is_ok(),
         None => false,
@@ -40,7 +51,12 @@ fn push_reply(alloc: Global, out: &mut OutBuf) -> bool {
 }
 
 /// Returns true if flushing the reply over `link` comes to `flushed`, and the link has sent its first `count` bytes then.
-fn sends(alloc: Global, link: &mut MemLink, flushed: Result<(), LinkFault>, count: usize) -> bool {
+fn sends(
+    alloc: Global,
+    link: &mut MemLink,
+    flushed: Result<Flushed, LinkFault>,
+    count: usize,
+) -> bool {
     let mut out = OutBuf::new(alloc);
     if !push_reply(alloc, &mut out) || flush(link, &mut out) != flushed {
         return false;
@@ -60,7 +76,8 @@ pub(crate) fn link_of(alloc: Global, input: &[u8], room: usize) -> Option<MemLin
 /// Returns true if the reply goes out whole in calls of at most `most` bytes.
 fn goes_out(alloc: Global, most: usize) -> bool {
     match link_of(alloc, b"", 33) {
-        Some(link) => most > 0 && sends(alloc, &mut link.moving_at_most(most), Ok(()), 33),
+        Some(link) => most > 0
+            && sends(alloc, &mut link.moving_at_most(most), Ok(Flushed::All), 33),
         None => false,
     }
 }
@@ -78,7 +95,7 @@ fn stops(alloc: Global, calls: u64, count: usize) -> bool {
     match link_of(alloc, b"", 33) {
         Some(link) => {
             let mut link = link.moving_at_most(10).failing_after(calls);
-            sends(alloc, &mut link, Err(LinkFault), count)
+            sends(alloc, &mut link, Err(RESET), count)
         }
         None => false,
     }
@@ -94,7 +111,7 @@ fn a_failed_call_leaves_what_was_not_sent(rt: HostRuntime) {
 /// Returns true if flushing fails where there is room for `room` bytes, after these.
 fn fills(alloc: Global, room: usize) -> bool {
     match link_of(alloc, b"", room) {
-        Some(mut link) => sends(alloc, &mut link, Err(LinkFault), room),
+        Some(mut link) => sends(alloc, &mut link, Err(FULL), room),
         None => false,
     }
 }
@@ -136,10 +153,10 @@ fn bytes_come_in_pieces(rt: HostRuntime) {
 /// Returns true if a receive fails once, and the next one gives what there is.
 fn recovers(link: &mut MemLink) -> bool {
     let mut buffer = [0; 4];
-    link.recv(&mut buffer) == Err(LinkFault)
-        && link.recv(&mut buffer) == Ok(3)
+    link.recv(&mut buffer) == Err(RESET)
+        && link.recv(&mut buffer) == Ok(Moved::Bytes(3))
         && buffer == [97, 98, 99, 0]
-        && link.recv(&mut buffer) == Ok(0)
+        && link.recv(&mut buffer) == Ok(Moved::Bytes(0))
 }
 
 /// Returns true if a link that fails at its first call goes on.

@@ -1,12 +1,12 @@
 //! Tests of what stands after a refused allocation. `scripts/checks/try-refusals` runs them with each of their allocations refused in
 //! turn. No other one is refused then, so what is asked for again is granted.
 
-use crate::links::{REPLY, body_payload, link_of, push_payload};
+use crate::links::{FULL, REPLY, body_payload, link_of, push_payload};
 use crate::readers::{INSERT, LIMIT, PING, has, lends, takes};
 use std::alloc::Global;
 use wire_msg::{MsgRefusal, PayloadBuf};
 use wire_stream::{
-    Fed, Inlet, Link, LinkFault, MemLink, MsgReader, OutBuf, Pulled, ReadRefusal, ReaderState,
+    Fed, Inlet, Link, MemLink, Moved, MsgReader, OutBuf, Pulled, ReadRefusal, ReaderState,
 };
 
 /// The reply, twice.
@@ -100,11 +100,11 @@ fn a_message_can_be_pushed_again(rt: HostRuntime) {
 /// Returns true if the link gives three bytes and takes three.
 fn moves(link: &mut MemLink) -> bool {
     let mut buffer = [0; 4];
-    link.recv(&mut buffer) == Ok(3)
+    link.recv(&mut buffer) == Ok(Moved::Bytes(3))
         && buffer == [97, 98, 99, 0]
-        && link.send(b"def") == Ok(3)
+        && link.send(b"def") == Ok(Moved::Bytes(3))
         && link.sent_bytes() == b"def".as_slice()
-        && link.send(b"g") == Err(LinkFault)
+        && link.send(b"g") == Err(FULL)
 }
 
 /// Returns a link that gives these bytes. It is made again where the first one is refused memory.

@@ -1,22 +1,26 @@
-use Rattle.std.proofs.Common.{◌≡◌, ◌<◌, ◌≤◌, ◌∙◌, ap, arith, length, refl, subst, sym}
-use Rattle.wire_msg.specs.{Message, SpellsMsg, msg_bytes}
+use Rattle.std.proofs.Common.{◌≡◌, ◌<◌, ◌∙◌, Err, Ok, ap, arith, refl}
+use Rattle.wire_peer.specs.Coming.{front_of}
 use Rattle.wire_peer.specs.Serving.{Seen, seen}
-use Rattle.wire_peer.proofs.Serves.{ends_answer, ends_budget, ends_coming, ends_unbegun, progress_came, progress_sent, progress_start}
+use Rattle.wire_peer.specs.Servers.{ServerView}
+use Rattle.wire_peer.proofs.Comings.{fresh, fresh_again}
+use Rattle.wire_peer.proofs.Serves.{answers_as, ends_answer, ends_budget, ends_coming, ends_unbegun, progress_came, progress_sent, progress_start}
 use Rattle.wire_peer.proofs.serving.serve.Goals as goal
 
 pub returns-in_default : goal.returns-in_default
 returns-in_default g c =
     ends_unbegun g.H.Handler.does g.H.Handler.stops _ _ _ _
 
+pub returns-in_default-of : goal.returns-in_default-of
+returns-in_default-of g c =
+    ends_unbegun g.H.Handler.does g.H.Handler.stops _ _ _ _
+
 pub loop-i-init : goal.loop-i-init
 loop-i-init g c = record {
-  limit = ap (λ r. r.limit) c.new-reader.ensures;
-  none = ap (λ r. r.held) c.new-reader.ensures;
-  reply_limit = ap (λ r. r.limit) c.new-replies.ensures;
-  sent = ap (λ r. r.output) c.new-replies.ensures;
+  same = fresh c.args.connection c.args.limit c.in-Ok-of.server c.in-Ok-of.ensures;
   works = refl;
   ends = refl;
-  progress = rw (c.in-Ok.ensures, c.new-replies.ensures) (progress_start g.H.Handler.does g.H.Handler.stops _ _ _);
+  waits = refl;
+  progress = rw (c.in-Ok.ensures, c.in-Ok-of.ensures) (progress_start g.H.Handler.does g.H.Handler.stops _ _ _);
 }
 
 pub returns : goal.returns
@@ -26,49 +30,53 @@ returns g c =
 
 pub returns-in-Err : goal.returns-in-Err
 returns-in-Err g c =
-    let b = c.next_message.ensures.received in
-    let same : c.next_message.new.reader.limit ≡ c.args.limit = c.next_message.ensures.limit ∙ c.loop-i.invariant.limit in
+    let i = c.loop-i.invariant in
+    let b = c.next_request.ensures.received in
+    let limit : c.loop-i.server.limit ≡ c.args.limit = ap (λ (q : ServerView). q.limit) i.same in
     let lt : c.loop-i.i < c.args.budget = omega arith in
-    let came = rw same at c.in-Err.ensures.came in
-    ends_coming g.H.Handler.does g.H.Handler.stops _ _ _ c.in-Err.end _ _ _ _ c.next_message.new.reader.held c.next_message.new.inlet _ _
-    (progress_came g.H.Handler.does g.H.Handler.stops _ _ _ _ _ _ _ _ _ _ b.0 c.loop-i.invariant.progress b.1 b.2 c.next_message.ensures.sent c.loop-i.invariant.limit c.next_message.ensures.turns refl refl)
-    lt c.loop-i.invariant.works c.loop-i.invariant.ends came c.in-Err.ensures.works
+    let came = rw limit at c.in-Err.ensures.came in
+    ends_coming g.H.Handler.does g.H.Handler.stops _ _ _ c.in-Err.end _ _ _ _ (front_of c.next_request.new.server) c.next_request.new.inlet _ _ _
+    (progress_came g.H.Handler.does g.H.Handler.stops _ _ _ _ _ _ _ _ _ _ b.0 i.progress b.1 b.2 c.next_request.ensures.sent limit c.next_request.ensures.turns refl refl)
+    lt i.works i.ends i.waits came c.in-Err.ensures.works c.in-Err.ensures.later
 
-pub returns-in-Err-answer_one : goal.returns-in-Err-answer_one
-returns-in-Err-answer_one g c =
-    let b = c.next_message.ensures.received in
-    let same : c.next_message.new.reader.limit ≡ c.args.limit = c.next_message.ensures.limit ∙ c.loop-i.invariant.limit in
+pub returns-in-Err-answer_first : goal.returns-in-Err-answer_first
+returns-in-Err-answer_first g c =
+    let i = c.loop-i.invariant in
+    let b = c.next_request.ensures.received in
+    let n = c.in_default-next_request.ensures in
+    let before : c.loop-i.server.limit ≡ c.args.limit = ap (λ (q : ServerView). q.limit) i.same in
+    let limit : c.next_request.new.server.limit ≡ c.args.limit = ap (λ (q : ServerView). q.limit) n.waits ∙ before in
+    let connection : c.next_request.new.server.connection ≡ c.args.connection = ap (λ (q : ServerView). q.connection) n.waits ∙ ap (λ (q : ServerView). q.connection) i.same in
+    let id : c.next_request.new.server.next_id ≡ c.loop-i.server.next_id = ap (λ (q : ServerView). q.next_id) n.waits in
     let lt : c.loop-i.i < c.args.budget = omega arith in
-    let some = c.in-Some.ensures.some in
-    let m : Message = some.1.1.0 in
-    let spells : SpellsMsg m (msg_bytes c.in-Some.message) = subst (SpellsMsg m) (sym some.0) some.1.1.1 in
-    let within : length c.next_message.new.reader.held ≤ c.args.limit = rw same at some.1.0 in
-    let works = c.in_default-next_message.ensures.works ∙ c.loop-i.invariant.works in
-    let a : Seen _ = seen g.L.Link.received g.L.Link.sent g.L.Link.turns g.L.Link.failures g.L.Link.ends c.loop-i.logged c.next_message.new.link in
-    let came = progress_came g.H.Handler.does g.H.Handler.stops _ _ _ _ _ a _ _ _ _ b.0 c.loop-i.invariant.progress b.1 b.2 c.next_message.ensures.sent c.loop-i.invariant.limit c.next_message.ensures.turns refl refl in
-    let told = c.answer_one.ensures.end ∙ c.in_default-next_message.ensures.came.1 ∙ c.loop-i.invariant.ends in
-    ends_answer g.H.Handler.does g.H.Handler.stops _ _ _ c.loop-i.replies.limit c.in-Err-answer_one.end _ a _ _ _ c.answer_one.new.replies.next m c.next_message.new.reader.held c.next_message.new.inlet
-    came some.1.1.1 within c.answer_one.ensures.received c.answer_one.ensures.turns lt works told c.loop-i.invariant.reply_limit (c.in-Err-answer_one.ensures.answered m spells)
+    let a : Seen _ = seen g.L.Link.received g.L.Link.sent g.L.Link.turns g.L.Link.failures g.L.Link.ends g.L.Link.waits c.loop-i.logged c.next_request.new.link in
+    let done : Seen _ = seen g.L.Link.received g.L.Link.sent g.L.Link.turns g.L.Link.failures g.L.Link.ends g.L.Link.waits c.answer_first.new.logged c.answer_first.new.link in
+    let came = progress_came g.H.Handler.does g.H.Handler.stops _ _ _ _ _ a _ _ _ _ b.0 i.progress b.1 b.2 c.next_request.ensures.sent before c.next_request.ensures.turns refl refl in
+    let x = c.in-Err-answer_first.ensures.answered in
+    let within = rw before at n.came.0.0 in
+    ends_answer g.H.Handler.does g.H.Handler.stops _ _ _ c.in-Err-answer_first.end _ a _ _ _ c.answer_first.new.server.next_id x.0 (front_of c.next_request.new.server) c.next_request.new.inlet
+    came x.1 within c.answer_first.ensures.received c.answer_first.ensures.turns lt (n.works ∙ i.works) (c.answer_first.ensures.end ∙ n.came.1 ∙ i.ends) (n.later ∙ i.waits) c.in-Err-answer_first.ensures.later
+    (answers_as g.H.Handler.does g.H.Handler.stops c.next_request.new.server.connection c.args.connection c.next_request.new.server.limit c.args.limit c.next_request.new.server.next_id c.loop-i.server.next_id c.answer_first.new.server.next_id x.0 (Err c.in-Err-answer_first.end) a done connection limit id x.2)
 
 pub loop-i-preserved : goal.loop-i-preserved
 loop-i-preserved g c =
-    let b = c.next_message.ensures.received in
-    let same : c.next_message.new.reader.limit ≡ c.args.limit = c.next_message.ensures.limit ∙ c.loop-i.invariant.limit in
-    let some = c.in-Some.ensures.some in
-    let m : Message = some.1.1.0 in
-    let spells : SpellsMsg m (msg_bytes c.in-Some.message) = subst (SpellsMsg m) (sym some.0) some.1.1.1 in
-    let within : length c.next_message.new.reader.held ≤ c.args.limit = rw same at some.1.0 in
-    let works = c.in_default-next_message.ensures.works ∙ c.loop-i.invariant.works in
-    let a : Seen _ = seen g.L.Link.received g.L.Link.sent g.L.Link.turns g.L.Link.failures g.L.Link.ends c.loop-i.logged c.next_message.new.link in
-    let came = progress_came g.H.Handler.does g.H.Handler.stops _ _ _ _ _ a _ _ _ _ b.0 c.loop-i.invariant.progress b.1 b.2 c.next_message.ensures.sent c.loop-i.invariant.limit c.next_message.ensures.turns refl refl in
-    let x = c.in_default-answer_one.ensures.answered m spells in
-    let released = c.release.ensures.ready some.1 in
+    let i = c.loop-i.invariant in
+    let b = c.next_request.ensures.received in
+    let n = c.in_default-next_request.ensures in
+    let before : c.loop-i.server.limit ≡ c.args.limit = ap (λ (q : ServerView). q.limit) i.same in
+    let limit : c.next_request.new.server.limit ≡ c.args.limit = ap (λ (q : ServerView). q.limit) n.waits ∙ before in
+    let connection : c.next_request.new.server.connection ≡ c.args.connection = ap (λ (q : ServerView). q.connection) n.waits ∙ ap (λ (q : ServerView). q.connection) i.same in
+    let id : c.next_request.new.server.next_id ≡ c.loop-i.server.next_id = ap (λ (q : ServerView). q.next_id) n.waits in
+    let a : Seen _ = seen g.L.Link.received g.L.Link.sent g.L.Link.turns g.L.Link.failures g.L.Link.ends g.L.Link.waits c.loop-i.logged c.next_request.new.link in
+    let done : Seen _ = seen g.L.Link.received g.L.Link.sent g.L.Link.turns g.L.Link.failures g.L.Link.ends g.L.Link.waits c.answer_first.new.logged c.answer_first.new.link in
+    let came = progress_came g.H.Handler.does g.H.Handler.stops _ _ _ _ _ a _ _ _ _ b.0 i.progress b.1 b.2 c.next_request.ensures.sent before c.next_request.ensures.turns refl refl in
+    let x = c.in_default-answer_first.ensures.answered in
+    let within = rw before at n.came.0.0 in
+    let step = answers_as g.H.Handler.does g.H.Handler.stops c.next_request.new.server.connection c.args.connection c.next_request.new.server.limit c.args.limit c.next_request.new.server.next_id c.loop-i.server.next_id c.answer_first.new.server.next_id x.0 (Ok tt) a done connection limit id x.2 in
     record {
-      limit = ap (λ r. r.limit) released ∙ same;
-      none = ap (λ r. r.held) released;
-      reply_limit = c.in_default-answer_one.ensures.limit ∙ c.loop-i.invariant.reply_limit;
-      sent = c.in_default-answer_one.ensures.waiting;
-      works = x.0 ∙ works;
-      ends = c.answer_one.ensures.end ∙ c.in_default-next_message.ensures.came.1 ∙ c.loop-i.invariant.ends;
-      progress = progress_sent g.H.Handler.does g.H.Handler.stops _ _ _ a _ _ _ _ m c.next_message.new.reader.held _ came some.1.1.1 within c.answer_one.ensures.received c.answer_one.ensures.turns x;
+      same = fresh_again c.args.connection c.args.limit c.loop-i.server c.next_request.new.server c.answer_first.new.server (front_of c.next_request.new.server) i.same n.waits c.in_default-answer_first.ensures.others;
+      works = step.0 ∙ n.works ∙ i.works;
+      ends = c.answer_first.ensures.end ∙ n.came.1 ∙ i.ends;
+      waits = c.in_default-answer_first.ensures.later ∙ n.later ∙ i.waits;
+      progress = progress_sent g.H.Handler.does g.H.Handler.stops _ _ _ a _ _ _ _ x.0 (front_of c.next_request.new.server) _ came x.1 within c.answer_first.ensures.received c.answer_first.ensures.turns step;
     }

@@ -11,6 +11,7 @@ loop-link-init g c = record {
   received = Keeps-refl _;
   turns = AddsTurns-nil _;
   end = refl;
+  waits = refl;
   works = refl;
 }
 
@@ -19,10 +20,11 @@ loop-link-preserved g c =
     let O = g.O.Outlet in
     let laws = g.met.O.Outlet in
     let i = c.loop-link.invariant in
-    let left : List ℕ = drop c.in_ok-n.n (O.waiting c.loop-link.outlet) in
+    let left : List ℕ = drop c.in-Bytes.n (O.waiting c.loop-link.outlet) in
     let waits : O.waiting c.sent.new.self ≡ left = ap O.waiting c.sent.ensures ∙ laws.waits c.loop-link.outlet left in
+    let gone = rw c.in-Bytes.is at c.in_ok-n.ensures.sent in
     record {
-      sent = sent_on _ _ _ _ i.sent.0 _ c.output-in-loop-link.result.now _ c.in_ok-n.n i.sent.1 i.sent.2 c.output-in-loop-link.ensures c.in_ok-n.ensures.sent waits;
+      sent = sent_on _ _ _ _ i.sent.0 _ c.output-in-loop-link.result.now _ c.in-Bytes.n i.sent.1 i.sent.2 c.output-in-loop-link.ensures gone waits;
       others =
           c.sent.ensures ∙ ap (λ o. O.with_waiting o left) i.others
           ∙ laws.last c.args.outlet.now (O.waiting c.loop-link.outlet) left
@@ -30,5 +32,6 @@ loop-link-preserved g c =
       received = Keeps-trans _ _ _ i.received c.in_ok-n.ensures.received;
       turns = AddsTurns-trans _ _ _ [] [] i.turns c.in_ok-n.ensures.turns;
       end = c.in_ok-n.ensures.end ∙ i.end;
+      waits = (rw c.in-Bytes.is at c.in_ok-n.ensures.later) ∙ i.waits;
       works = c.in_ok-n.ensures.works ∙ i.works;
     }

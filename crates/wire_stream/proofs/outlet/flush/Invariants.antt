@@ -13,6 +13,7 @@ invariant-loop-link g l =
       received : Keeps (L.received l.fn.link) (L.received l.link);
       turns : AddsTurns (L.turns l.fn.link) (L.turns l.link) [];
       end : L.ends l.link ≡ L.ends l.fn.link;
+      waits : L.waits l.link ≡ L.waits l.fn.link;
       works : L.failures l.link ≡ L.failures l.fn.link;
     }
 
