@@ -76,7 +76,7 @@ none_ready (Some reply) held ready none is = absurd (none-some reply (sym none))
 
 module _ (limit : ℕ) (records : List Record) (k : ClientSeen) (h : Hearing)
     (out : List (ReadyReply × Message)) (p : Past limit records k h out) (none : k.reply ≡ None)
-        (live : k.state ≡ Open) (b : List ℕ) where
+    (live : k.state ≡ Open) (b : List ℕ) where
   cause_is : h.cause ≡ None
   cause_is = no_cause limit p.rest h.cause k.state live p.closes
 
@@ -107,7 +107,7 @@ module _ (limit : ℕ) (records : List Record) (k : ClientSeen) (h : Hearing)
       )
   past_message m (Err cause) new s tidy same =
       subst (λ z. (q : Past limit records z (replied h m (Err cause)) out) × (q.rest ≡ []))
-          (sym same) (
+      (sym same) (
         record {
           limit_is = p.limit_is;
           next_is = p.next_is;
@@ -149,8 +149,7 @@ module _ (limit : ℕ) (records : List Record) (k : ClientSeen) (h : Hearing)
   past_bad : (f : MsgFault) (new : ClientSeen) → IsBad limit b f
       → new ≡ closed (holding k b) (causes.Message f)
       → (q : Past limit records new h out) × (q.rest ≡ b)
-  past_bad f new bad same = subst (λ z. (q : Past limit records z h out) × (q.rest ≡ b)) (sym same)
-      (
+  past_bad f new bad same = subst (λ z. (q : Past limit records z h out) × (q.rest ≡ b)) (sym same) (
     record {
       limit_is = p.limit_is;
       next_is = p.next_is;
@@ -173,13 +172,13 @@ module _ (limit : ℕ) (records : List Record) (k : ClientSeen) (h : Hearing)
 past_released : (limit : ℕ) (records records' : List Record) (k : ClientSeen) (h : Hearing)
     (out : List (ReadyReply × Message))
     (reply : ReadyReply) (m : Message) (p : Past limit records k h out) → length records' ≡ length
-        records
+    records
     → Tells records' (out ++ (reply, m) ∷ []) → k.reply ≡ Some reply
     → SpellsMsg m k.held
     → (q : Past limit records' (released k) h (out ++ (reply, m) ∷ [])) × (q.rest ≡ p.rest)
 past_released limit records records' k h out reply m p many told is spells =
     subst (λ o. (q : Past limit records' (after_release o k) h (out ++ (reply, m) ∷ []))
-        × (q.rest ≡ p.rest)) (sym is) (
+    × (q.rest ≡ p.rest)) (sym is) (
       record {
         limit_is = p.limit_is;
         next_is = λ n e. p.next_is n e ∙ sym many;
@@ -190,7 +189,7 @@ past_released limit records records' k h out reply m p many told is spells =
         ready_is = refl;
         replies =
             p.replies ∙ ap (λ z. out ++ z) (r.2 ∙ ap (λ z. (reply, z) ∷ [])
-                (same_request r.0 m k.held r.1 spells))
+            (same_request r.0 m k.held r.1 spells))
             ∙ sym (append-nil (out ++ (reply, m) ∷ []));
         rest = p.rest;
         holds = λ no_ c. sym (p.emptied reply is);
@@ -225,38 +224,43 @@ module _ (limit c : ℕ) where
 
   not_open : (b : List ℕ) → IsOpen limit b → (m : Message) → IsMessageOf limit b m → ⊥
   not_open b o m is =
-      open_not_whole limit b [] m o (record { front = b; parts = sym (append-nil b); spelled =
-          is.0; within = is.1 })
+      open_not_whole limit b [] m o (record {
+        front = b;
+        parts = sym (append-nil b);
+        spelled =
+            is.0;
+        within = is.1;
+      })
 
   not_bad : (b : List ℕ) (f : MsgFault) → IsBytes b → IsBad limit b f → (m : Message)
       → IsMessageOf limit b m → ⊥
   not_bad b f are bad m is =
       bad_not_whole limit b [] m f are bad
-          (record { front = b; parts = sym (append-nil b); spelled = is.0; within = is.1 })
+      (record { front = b; parts = sym (append-nil b); spelled = is.0; within = is.1 })
 
   comes : (acts : List ClientAct) (old new : ClientEnd) (h : Hearing)
       (out : List (ReadyReply × Message)) (p : Past limit old.records old.client h out)
-          → IsBytes p.rest
+      → IsBytes p.rest
       → IsBytes (bytes_taken acts) → ClientRun c old acts new
       → Come p.rest h (out ++ handed acts) acts new
   comes [] old new h out p are all same = rw same (subst (λ z. Come p.rest h z [] old)
       (sym (append-nil out)) (record {
-    heard = [];
-    hears = refl;
-    past = p;
-    joined = [];
-    spelled = refl;
-    parts = append-nil p.rest;
-  }))
+        heard = [];
+        hears = refl;
+        past = p;
+        joined = [];
+        spelled = refl;
+        parts = append-nil p.rest;
+      }))
   comes (Calls kind payload number ∷ acts) old new h out p are all (mid, (is, e), run) =
       let record_ : Record = new_record c (asked_as kind (content_of payload)) in
       let here : number.number ≡ length old.records = p.next_is number.number is.1.next.number in
       let q : Past limit (old.records ++ record_ ∷ []) (called old.client kind (content_of payload)
-              number) (hear h (Made kind number)) out = record {
+      number) (hear h (Made kind number)) out = record {
         limit_is = p.limit_is;
         next_is =
             λ n e'. after_is number.number n e' ∙ ap suc here
-                ∙ sym (length-push old.records record_);
+            ∙ sym (length-push old.records record_);
         tidy =
             subst (Tidy (hear h (Made kind number))) (sym (length-push old.records record_))
             (tidy_made h (length old.records) kind number p.tidy here
@@ -276,7 +280,7 @@ module _ (limit c : ℕ) where
         closes = p.closes;
       } in
       let r = comes acts _ new (hear h (Made kind number)) out q are all
-              (subst (λ z. ClientRun c z acts new) e run) in
+      (subst (λ z. ClientRun c z acts new) e run) in
       record {
         heard = Made kind number ∷ r.heard;
         hears = (r.heard, refl, r.hears);
@@ -324,7 +328,7 @@ module _ (limit c : ℕ) where
         emptied = p.emptied;
         closes =
             ended_closes limit p.rest old.client.reply old.client.held h.cause old.client.state
-                p.closes;
+            p.closes;
       } in
       let r = comes acts _ new h out q are all (subst (λ z. ClientRun c z acts new) e run) in
       record {
@@ -338,26 +342,26 @@ module _ (limit c : ℕ) where
   comes (Collects reply m ∷ acts) old new h out p are all (mid, (ready, spells, e), run) =
       let records : List Record = put_at (Some reply.call) m.content reply.last old.records in
       let there = ready_low old.client.reply old.client.held p.ready reply (length old.records) out
-              ready p.ready_is (subst
-              (Each (λ (x : ReadyReply × Message). x.0.call < length old.records)) p.replies
-              p.tidy.past) in
+      ready p.ready_is (subst
+      (Each (λ (x : ReadyReply × Message). x.0.call < length old.records)) p.replies
+      p.tidy.past) in
       let x = get_within old.records reply.call there in
       let put = put_is old.records (Some reply.call) reply.call x.0 m.content reply.last refl
-              x.1 in
+      x.1 in
       let many : length records ≡ length old.records = ap length put ∙ length-slice_set old.records
-              reply.call _ in
+      reply.call _ in
       let told : Tells records (out ++ (reply, m) ∷ []) = subst
-              (λ z. Tells z (out ++ (reply, m) ∷ [])) (sym put) (tells_given old.records out reply
-              m x.0 x.1 p.kept) in
+      (λ z. Tells z (out ++ (reply, m) ∷ [])) (sym put) (tells_given old.records out reply
+      m x.0 x.1 p.kept) in
       let q = past_released limit old.records records old.client h out reply m p many told ready
-              spells in
+      spells in
       let r0 = comes acts _ new h (out ++ (reply, m) ∷ []) q.0 (subst IsBytes (sym q.1) are) all
-              (subst (λ z. ClientRun c z acts new) e run) in
+      (subst (λ z. ClientRun c z acts new) e run) in
       let r1 : Come p.rest h ((out ++ (reply, m) ∷ []) ++ handed acts) acts new = subst
-              (λ z. Come z h ((out ++ (reply, m) ∷ []) ++ handed acts) acts new) q.1 r0 in
+      (λ z. Come z h ((out ++ (reply, m) ∷ []) ++ handed acts) acts new) q.1 r0 in
       let r : Come p.rest h (out ++ (reply, m) ∷ handed acts) acts new = subst
-              (λ z. Come p.rest h z acts new) (append_assoc out ((reply, m) ∷ []) (handed acts))
-              r1 in
+      (λ z. Come p.rest h z acts new) (append_assoc out ((reply, m) ∷ []) (handed acts))
+      r1 in
       record {
         heard = r.heard;
         hears = r.hears;
@@ -368,7 +372,7 @@ module _ (limit c : ℕ) where
       }
   comes (TakesDown bytes ∷ acts) old new h out p are all (mid, (client, takes, e), run) =
       by (λ g q q_are. comes acts _ new g out q q_are more_are (subst (λ z. ClientRun c z acts new)
-          e run)) takes.takes.settles
+      e run)) takes.takes.settles
     where
       k : ClientSeen
       k = old.client
@@ -400,8 +404,11 @@ module _ (limit c : ℕ) where
           let r = on h q (subst IsBytes (sym is) b_are) in
           record {
             heard = r.heard;
-            hears = inr (subst (λ z. (m : Message) → IsMessageOf limit z m → ⊥) b_is none, subst
-                (λ z. Hears limit z acts r.heard) (is ∙ b_is) r.hears);
+            hears = inr (
+              subst (λ z. (m : Message) → IsMessageOf limit z m → ⊥) b_is none,
+              subst
+                  (λ z. Hears limit z acts r.heard) (is ∙ b_is) r.hears,
+            );
             past = r.past;
             joined = r.joined;
             spelled = r.spelled;
@@ -417,8 +424,13 @@ module _ (limit c : ℕ) where
           let r = on (hear h (Got m)) q (subst IsBytes (sym none) (λ i. omega arith)) in
           record {
             heard = Got m ∷ r.heard;
-            hears = inl (m, r.heard, subst (λ z. IsMessageOf limit z m) b_is (spells, within),
-                refl, subst (λ z. Hears limit z acts r.heard) none r.hears);
+            hears = inl (
+              m,
+              r.heard,
+              subst (λ z. IsMessageOf limit z m) b_is (spells, within),
+              refl,
+              subst (λ z. Hears limit z acts r.heard) none r.hears,
+            );
             past = r.past;
             joined = b ++ r.joined;
             spelled = (b, r.joined, spells, within, r.spelled, refl);
@@ -438,16 +450,16 @@ module _ (limit c : ℕ) where
       by on (is_message m spells within same) =
           let same' = same
           ∙ ap (λ t. received (holding k b) m (allowed m.flags.more (owner t m.response_to)))
-              (sym p.table) in
+          (sym p.table) in
           let q =
           past_message limit old.records k h out p takes.may.0 takes.may.1 b m
-              (allowed m.flags.more (owner h.table m.response_to)) client spells
-              (tidy_got h (length old.records) m p.tidy) same' in
+          (allowed m.flags.more (owner h.table m.response_to)) client spells
+          (tidy_got h (length old.records) m p.tidy) same' in
           whole on m spells (subst (λ l. length b ≤ l) p.limit_is within) q.0 q.1
       by on (is_bad f bad same) =
           let bad' = subst (λ l. IsBad l b f) p.limit_is bad in
           let q = past_bad limit old.records k h out p takes.may.0 takes.may.1 b f client bad'
-                  same in
+          same in
           further on q.0 q.1 (not_bad b f b_are bad')
 
   -- ---- from the first act on
@@ -492,8 +504,12 @@ module _ (limit c : ℕ) where
           limit_is = refl;
           next_is = λ n e. sym (same_Some 0 n e);
           tidy = tidy_start;
-          kept = record { parts = λ n x at. absurd (none-some x at); done = λ n x at. absurd
-              (none-some x at); last = λ n x at. absurd (none-some x at) };
+          kept = record {
+            parts = λ n x at. absurd (none-some x at);
+            done = λ n x at. absurd
+                (none-some x at);
+            last = λ n x at. absurd (none-some x at);
+          };
           table = refl;
           ready = [];
           ready_is = refl;
@@ -510,7 +526,7 @@ module _ (limit c : ℕ) where
       r =
           subst (λ z. Come z silence (handed acts) acts new) start.1
           (comes acts _ new silence [] start.0 (subst IsBytes (sym start.1) (λ i. omega arith)) are
-              run)
+          run)
 
       rest_are : IsBytes r.past.rest
       rest_are =
@@ -521,4 +537,4 @@ module _ (limit c : ℕ) where
       split =
           subst (λ z. Split limit z (got r.heard) r.past.rest) (sym r.parts)
           (splits r.past.rest (got r.heard) r.joined (hear_all silence r.heard).cause
-              new.client.state rest_are r.spelled r.past.closes)
+          new.client.state rest_are r.spelled r.past.closes)

@@ -33,7 +33,7 @@ sends_way f c d bytes sent after e = elim (same_or_not d c) [
       ap (λ b. f d ++ (if b then bytes ++ sent else sent)) (is_here d c (sym is))
       ∙ sym (append_assoc (f d) bytes sent) ∙ ap (λ z. (f z ++ bytes) ++ sent) is
       ∙ ap (λ z. z ++ sent) (sym (one_here f c (f c ++ bytes)) ∙ ap (at_one f c (f c ++ bytes))
-          (sym is))
+      (sym is))
       ∙ e
   | inr n ↦
       ap (λ b. f d ++ (if b then bytes ++ sent else sent)) (is_elsewhere d c (λ is. n (sym is)))
@@ -52,7 +52,7 @@ takes_way f c d bytes rest sent taken after first e = elim (same_or_not d c) [
   | inr n ↦
       ap (λ z. z ++ sent) (sym (one_far f c d rest n)) ∙ e
       ∙ ap (λ b. (if b then bytes ++ taken else taken) ++ after)
-          (sym (is_elsewhere d c (λ is. n (sym is))))
+      (sym (is_elsewhere d c (λ is. n (sym is))))
 ]
 
 -- ---- deed after deed

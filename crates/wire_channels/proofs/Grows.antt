@@ -42,8 +42,12 @@ module _ (H : Type 0) (does : Does H) (stops : Stops H) (limit : ℕ) (made : �
   later n (suc m) = new_server (suc n) (made (suc n)).server_window limit ∷ later (suc n) m
 
   abbrev filled : ServerEnds H → ℕ → ℕ → ServerEnds H
-  filled old n m = record { servers = old.servers ++ later n m; log = old.log; handler =
-      old.handler }
+  filled old n m = record {
+    servers = old.servers ++ later n m;
+    log = old.log;
+    handler =
+        old.handler;
+  }
 
   first_later : (n m : ℕ)
       → first_servers limit made n ++ later n m ≡ first_servers limit made (n + m)
@@ -53,7 +57,7 @@ module _ (H : Type 0) (does : Does H) (stops : Stops H) (limit : ℕ) (made : �
   first_later n (suc m) =
       let same : suc n + m ≡ n + suc m = omega arith in
       sym (append_assoc (first_servers limit made n)
-          (new_server (suc n) (made (suc n)).server_window limit ∷ []) (later (suc n) m))
+      (new_server (suc n) (made (suc n)).server_window limit ∷ []) (later (suc n) m))
       ∙ first_later (suc n) m ∙ ap (first_servers limit made) same
 
   grow : (turns : List Turn) (old new : ServerEnds H) (n : ℕ) → length old.servers ≡ n
@@ -61,7 +65,7 @@ module _ (H : Type 0) (does : Does H) (stops : Stops H) (limit : ℕ) (made : �
       → ServersRun does stops (filled old n (opened_in turns)) (deeds_of turns) new
   grow [] old new n many same =
       same ∙ ap (λ ss. record { servers = ss; log = old.log; handler = old.handler })
-          (sym (append-nil old.servers))
+      (sym (append-nil old.servers))
   grow (Opens ∷ turns) old new n many run =
       subst (λ (z : ServerEnds H). ServersRun does stops z (deeds_of turns) new)
       (ap (λ ss. record { servers = ss; log = old.log; handler = old.handler })
@@ -89,10 +93,10 @@ module _ (H : Type 0) (does : Does H) (stops : Stops H) (limit : ℕ) (made : �
   pub grown : (first : H) (turns : List Turn) (new : ServerEnds H)
       → ServersGrow does stops limit made (first_servers_of limit made 0 first) turns new
       → ServersRun does stops (first_servers_of limit made (opened_in turns) first)
-          (deeds_of turns) new
+      (deeds_of turns) new
   grown first turns new run =
       let none : 0 + opened_in turns ≡ opened_in turns = omega arith in
       subst (λ ss. ServersRun does stops (record { servers = ss; log = []; handler = first })
-          (deeds_of turns) new)
+      (deeds_of turns) new)
       (first_later 0 (opened_in turns) ∙ ap (first_servers limit made) none)
       (grow turns (first_servers_of limit made 0 first) new 0 refl run)

@@ -88,7 +88,7 @@ stream_bears (e ∷ t) o a is = by (has_part e) is (λ g. stream_bears t o a.1 g
     by true g later =
         let same = same_Some e o g in
         ap (λ b. cond b (Some e.1) (bearer o.0 t))
-            (eq_int o.0 e.0 (ap (λ (z : Entry). z.0) (sym same)))
+        (eq_int o.0 e.0 (ap (λ (z : Entry). z.0) (sym same)))
         ∙ ap (λ (z : Entry). Some z.1) same
     by false g later =
         ap (λ b. cond b (Some e.1) (bearer o.0 t)) (stream_differs e t o a.0 g) ∙ later g
@@ -126,7 +126,7 @@ owner_bears t to more o a is = by (stream t) refl (unallowed (owner t to) is)
     by None g e = bears (bearer to t) refl e
     by (Some x) g e =
         stream_bears t o a (g ∙ ap (λ z. Some z)
-            (streams x (int_eq x.0 to || is_last_part x.1.last to) e))
+        (streams x (int_eq x.0 to || is_last_part x.1.last to) e))
 
 -- ---- a call more, another part, or a call fewer
 
@@ -173,9 +173,10 @@ apart_set id (e ∷ t) o w same is a = by (int_eq id e.0) is (λ g. apart_set id
         → Apart (cond b ((e.0, w) ∷ t) (e ∷ set_value (int_eq id) t w))
     by true g later =
         let call : w.call ≡ e.1.call = same ∙ ap (λ (z : Outstanding). z.call)
-                (sym (same_Some e.1 o g)) in
-        (each_weaker (Differs e) (Differs (e.0, w)) t (λ f d. (d.0, λ is. d.1 (is ∙ call))) a.0,
-            a.1)
+        (sym (same_Some e.1 o g)) in (
+          each_weaker (Differs e) (Differs (e.0, w)) t (λ f d. (d.0, λ is. d.1 (is ∙ call))) a.0,
+          a.1,
+        )
     by false g later =
         (each_set (Differs e) id t o w (λ i d. (d.0, λ is. d.1 (sym same ∙ is))) g a.0, later g)
 
@@ -256,7 +257,7 @@ tidy_made h count kind call t is free = by (awaits_reply kind)
     past =
         each_weaker (λ (r : ReadyReply × Message). r.0.call < count)
         (λ (r : ReadyReply × Message). r.0.call < suc count) h.replies (λ r lt. omega (arith, lt))
-            t.past
+        t.past
 
     below : Each (λ (e : Entry). e.1.call < suc count) h.table
     below =
@@ -267,29 +268,32 @@ tidy_made h count kind call t is free = by (awaits_reply kind)
     new n same lt = omega (arith, lt, same, is)
 
     by : (b : Bool)
-        → Tidy (record { table = if b then h.table ++ x ∷ [] else h.table; replies = h.replies;
-            cause = h.cause }) (suc count)
+        → Tidy (record {
+          table = if b then h.table ++ x ∷ [] else h.table;
+          replies = h.replies;
+          cause = h.cause;
+        }) (suc count)
     by false = record { apart = t.apart; below = below; past = past; over = t.over; none = t.none }
     by true = record {
       apart =
           apart_push h.table x t.apart
           (each_both (λ (f : Entry). int_eq call.id f.0 ≡ false)
-              (λ (f : Entry). call.number ≡ f.1.call → ⊥) h.table
+          (λ (f : Entry). call.number ≡ f.1.call → ⊥) h.table
           (free_each call.id h.table free)
           (each_weaker (λ (e : Entry). e.1.call < count) (λ (f : Entry). call.number ≡ f.1.call
-              → ⊥) h.table (λ e b same. new e.1.call same b) t.below));
+          → ⊥) h.table (λ e b same. new e.1.call same b) t.below));
       below =
           each_push (λ (e : Entry). e.1.call < suc count) h.table x below (omega (arith, is));
       past = past;
       over =
           each_weaker (λ (r : ReadyReply × Message). (r.0.last ≡ true → IsOver h.table r.0.call)
-              × r.0.call < count)
+          × r.0.call < count)
           (λ (r : ReadyReply × Message). r.0.last ≡ true → IsOver (h.table ++ x ∷ []) r.0.call)
-              h.replies
+          h.replies
           (λ r p l. each_push (λ (e : Entry). e.1.call ≡ r.0.call → ⊥) h.table x (p.0 l)
-              (λ same. new r.0.call same p.1))
+          (λ same. new r.0.call same p.1))
           (each_both (λ (r : ReadyReply × Message). r.0.last ≡ true → IsOver h.table r.0.call)
-              (λ (r : ReadyReply × Message). r.0.call < count) h.replies t.over t.past);
+          (λ (r : ReadyReply × Message). r.0.call < count) h.replies t.over t.past);
       none = t.none;
     }
 
@@ -301,30 +305,34 @@ module _ (h : Hearing) (count : ℕ) (t : Tidy h count) (m : Message) (o : Entry
       each_weaker (λ (r : ReadyReply × Message). r.0.last ≡ true → IsOver h.table r.0.call)
       (λ (r : ReadyReply × Message). r.0.last ≡ true → o.1.call ≡ r.0.call → ⊥) h.replies
       (λ r over l. (each_bearer (λ (e : Entry). e.1.call ≡ r.0.call → ⊥) o.0 h.table o.1 (over l)
-          bears).2) t.over
+      bears).2) t.over
 
   low : o.1.call < count
   low = (each_bearer (λ (e : Entry). e.1.call < count) o.0 h.table o.1 t.below bears).2
 
   tidy_reply : (id : ℤ) (more : Bool)
-      → Tidy (record { table = after_reply h.table o id more; replies = h.replies ++
-          (reply_to o more, m) ∷ []; cause = h.cause }) count
+      → Tidy (record {
+        table = after_reply h.table o id more;
+        replies = h.replies ++
+            (reply_to o more, m) ∷ [];
+        cause = h.cause;
+      }) count
   tidy_reply id true = record {
     apart = apart_set o.0 h.table o.1 (after_part o.1 id) refl bears t.apart;
     below =
         each_set (λ (e : Entry). e.1.call < count) o.0 h.table o.1 (after_part o.1 id) (λ i b. b)
-            bears t.below;
+        bears t.below;
     past =
         each_push (λ (r : ReadyReply × Message). r.0.call < count) h.replies (reply_to o true, m)
-            t.past low;
+        t.past low;
     over =
         each_push (λ (r : ReadyReply × Message). r.0.last ≡ true
-            → IsOver (after_reply h.table o id true) r.0.call) h.replies (reply_to o true, m)
+        → IsOver (after_reply h.table o id true) r.0.call) h.replies (reply_to o true, m)
         (each_weaker (λ (r : ReadyReply × Message). r.0.last ≡ true → IsOver h.table r.0.call)
         (λ (r : ReadyReply × Message). r.0.last ≡ true → IsOver (after_reply h.table o id true)
-            r.0.call) h.replies
+        r.0.call) h.replies
         (λ r over l. each_set (λ (e : Entry). e.1.call ≡ r.0.call → ⊥) o.0 h.table o.1
-            (after_part o.1 id) (λ i n. n) bears (over l)) t.over)
+        (after_part o.1 id) (λ i n. n) bears (over l)) t.over)
         (λ l. cc);
     none = none_push h.replies (reply_to o true, m) t.none others;
   }
@@ -333,15 +341,15 @@ module _ (h : Hearing) (count : ℕ) (t : Tidy h count) (m : Message) (o : Entry
     below = each_without (λ (e : Entry). e.1.call < count) o.0 h.table t.below;
     past =
         each_push (λ (r : ReadyReply × Message). r.0.call < count) h.replies (reply_to o false, m)
-            t.past low;
+        t.past low;
     over =
         each_push (λ (r : ReadyReply × Message). r.0.last ≡ true → IsOver (without o.0 h.table)
-            r.0.call) h.replies (reply_to o false, m)
+        r.0.call) h.replies (reply_to o false, m)
         (each_weaker (λ (r : ReadyReply × Message). r.0.last ≡ true → IsOver h.table r.0.call)
         (λ (r : ReadyReply × Message). r.0.last ≡ true → IsOver (without o.0 h.table) r.0.call)
-            h.replies
+        h.replies
         (λ r over l. each_without (λ (e : Entry). e.1.call ≡ r.0.call → ⊥) o.0 h.table (over l))
-            t.over)
+        t.over)
         (λ l. gone o.0 h.table o.1 t.apart bears);
     none = none_push h.replies (reply_to o false, m) t.none others;
   }
@@ -353,7 +361,7 @@ tidy_got h count m t = by (allowed m.flags.more (owner h.table m.response_to)) r
         → Tidy (replied h m r) count
     by (Ok o) e =
         tidy_reply h count t m o (owner_bears h.table m.response_to m.flags.more o t.apart e) m.id
-            m.flags.more
+        m.flags.more
     by (Err cause) e =
         record { apart = t.apart; below = t.below; past = t.past; over = t.over; none = t.none }
 

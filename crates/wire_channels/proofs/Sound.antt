@@ -135,12 +135,16 @@ module _ (H : Type 0) (does : Does H) (stops : Stops H) (limit : ℕ) where
       by i y (inl w) =
           let v = a.covered i w.0 w.1 in
           let at_y : pair_at s.pairs y.connection ≡ Some v.0 = ap (pair_at s.pairs) (sym w.2)
-                  ∙ v.1 in
+          ∙ v.1 in
           elim (same_or_not y.connection c) [
             | inl e ↦
-                let same : v.0 ≡ p = same_Some v.0 p (sym at_y ∙ ap (pair_at s.pairs) e ∙ at) in
-                (q, here y.connection e, v.2, kept v.2 i (ap (λ (z : Pair). slice_get z.calls v.2)
-                    (sym same) ∙ v.3))
+                let same : v.0 ≡ p = same_Some v.0 p (sym at_y ∙ ap (pair_at s.pairs) e ∙ at) in (
+                  q,
+                  here y.connection e,
+                  v.2,
+                  kept v.2 i (ap (λ (z : Pair). slice_get z.calls v.2)
+                      (sym same) ∙ v.3),
+                )
             | inr n ↦ (v.0, there y.connection n ∙ at_y, v.2, v.3)
           ]
 
@@ -162,8 +166,12 @@ module _ (H : Type 0) (does : Does H) (stops : Stops H) (limit : ℕ) where
       (λ n i g. get-push_old p.calls n i (length s.calls) g)
       (λ i y g. elim (get-push_cases s.calls i y r g) [
         | inl old ↦ inl (y, old, refl)
-        | inr new ↦ inr (ap (λ (z : Record). z.connection) new.1, length p.calls, get-push_new
-                p.calls (length s.calls) ∙ ap (λ z. Some z) (sym new.0))
+        | inr new ↦ inr (
+          ap (λ (z : Record). z.connection) new.1,
+          length p.calls,
+          get-push_new
+              p.calls (length s.calls) ∙ ap (λ z. Some z) (sym new.0),
+        )
       ]) (a.told c p at))
     where
       r : Record
@@ -179,9 +187,11 @@ module _ (H : Type 0) (does : Does H) (stops : Stops H) (limit : ℕ) where
   sound_step s s' (channels.answers c p i result server handler log at step contents e) a =
       let q : Pair = record p { server = server } in
       rw e (sound_set s _ c p q a at refl (λ n i g. g)
-      (still_comes s.calls c q)
-      ((λ told live. answered_shut does stops i result p.server server s.handler handler s.log log
-          step ((a.told c p at).0 told) live), (a.told c p at).1))
+      (still_comes s.calls c q) (
+        (λ told live. answered_shut does stops i result p.server server s.handler handler s.log log
+            step ((a.told c p at).0 told) live),
+        (a.told c p at).1,
+      ))
   sound_step s s' (channels.sends_down c p n at le e) a =
       rw e (sound_set s _ c p (server_sent p n) a at refl (λ n i g. g)
       (still_comes s.calls c (server_sent p n)) (a.told c p at))
@@ -193,9 +203,11 @@ module _ (H : Type 0) (does : Does H) (stops : Stops H) (limit : ℕ) where
   sound_step s s' (channels.collects c p reply m at ready spells e) a =
       let q : Pair = record p { client = released p.client } in
       rw e (sound_set s _ c p q a at refl (λ n i g. g)
-      (given_comes s.calls (slice_get p.calls reply.call) m.content reply.last c q)
-      ((a.told c p at).0, (λ told live. (a.told c p at).1 told (sym (released_state p.client)
-          ∙ live))))
+      (given_comes s.calls (slice_get p.calls reply.call) m.content reply.last c q) (
+        (a.told c p at).0,
+        (λ told live. (a.told c p at).1 told (sym (released_state p.client)
+            ∙ live)),
+      ))
   sound_step s s' (channels.ends_up c p at e) a =
       rw e (sound_set s _ c p (server_ended p) a at refl (λ n i g. g)
       (still_comes s.calls c (server_ended p))

@@ -40,8 +40,8 @@ pub ready_low : (o : Option ReadyReply) (held : List ℕ) (ready : List (ReadyRe
 ready_low None held ready reply count out is r e = absurd (none-some reply is)
 ready_low (Some other) held ready reply count out is r e =
     let low = low_behind count out ((other, r.0) ∷ [])
-            (subst (λ z. Each (λ (x : ReadyReply × Message). x.0.call < count) (out ++ z)) r.2
-            e) in
+    (subst (λ z. Each (λ (x : ReadyReply × Message). x.0.call < count) (out ++ z)) r.2
+    e) in
     subst (λ (z : ReadyReply). z.call < count) (same_Some other reply is) low.0
 
 -- ---- lists of replies
@@ -52,7 +52,7 @@ parts_none count [] e = refl
 parts_none count (x ∷ out) e =
     let n : x.0.call ≡ count → ⊥ = (λ same. let lt = e.0 in omega (arith, lt, same)) in
     ap (λ b. if b then x.1.content ∷ parts_to count out else parts_to count out)
-        (is_elsewhere count x.0.call n)
+    (is_elsewhere count x.0.call n)
     ∙ parts_none count out e.1
 
 last_none : (count : ℕ) (out : List (ReadyReply × Message))
@@ -152,12 +152,12 @@ tells_lost records out t = record {
 pub tells_given : (records : List Record) (out : List (ReadyReply × Message)) (reply : ReadyReply)
     (m : Message) (x0 : Record) → slice_get records reply.call ≡ Some x0 → Tells records out
     → Tells (slice_set records reply.call (given_record x0 m.content reply.last))
-        (out ++ (reply, m) ∷ [])
+    (out ++ (reply, m) ∷ [])
 tells_given records out reply m x0 at t = record {
   parts = λ n x g. elim (same_or_not n reply.call) [
     | inl e ↦ ap (λ (z : Record). z.parts) (sym (is n x g e))
         ∙ ap (λ z. z ++ m.content ∷ []) (t.parts reply.call x0 at ∙ ap (λ k. parts_to k out)
-            (sym e))
+        (sym e))
         ∙ sym (parts_same n out (reply, m) e)
     | inr e ↦ t.parts n x (old n x g e) ∙ sym (parts_other n out (reply, m) e)
   ];
@@ -167,7 +167,7 @@ tells_given records out reply m x0 at t = record {
   ];
   last = λ n x g h. elim (same_or_not n reply.call) [
     | inl e ↦ ap (λ (z : Record). z.state) (sym (is n x g e))
-            ∙ over n e (last_cases n out (reply, m) h)
+        ∙ over n e (last_cases n out (reply, m) h)
     | inr e ↦ elim (last_cases n out (reply, m) h) [
       | inl a ↦ t.last n x (old n x g e) a
       | inr a ↦ absurd (e (sym a.0))
