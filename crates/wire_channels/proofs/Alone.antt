@@ -1,15 +1,15 @@
 -- What holds of a client, whoever answers it: act after act.
-use Rattle.std.proofs.Common.{Contains, ◌≡◌, ℕ, ◌≤◌, ℤ, List, [], ◌∷◌, ◌++◌, length, take, refl, sym, ◌∙◌, ap, subst, append_assoc, arith, Option, Some, None, inl, inr, Result, Ok, Err}
+use Rattle.std.proofs.Common.{Contains, ◌≡◌, ℕ, ◌≤◌, ℤ, List, [], ◌∷◌, ◌++◌, length, map, suc, ◌<◌, take, refl, sym, ◌∙◌, ap, subst, append_assoc, arith, Option, Some, None, inl, inr, Result, Ok, Err}
 use Rattle.std.proofs.Math.Seq.{drop-append_seam, take-length}
 use Rattle.std.proofs.lemmas.List.{append-nil}
-use Rattle.std.proofs.lemmas.Option.{none-some}
+use Rattle.std.proofs.lemmas.Option.{none-some, same_Some}
 use Rattle.bson_elem.specs.{IsBytes}
 use Rattle.bson_elem.proofs.Lemmas.{IsBytes-drop}
 use Rattle.wire_msg.specs.{AreSpelled, IsBad, IsOpen, Message, SpellsMsg, Split}
 use Rattle.wire_msg.specs.Standing.{in_header}
 use Rattle.wire_msg.specs.declared.fault.MsgFault.{MsgFault}
 use Rattle.wire_msg.proofs.Lemmas.{IsBytes-front, bad_ends, bad_not_whole, bytes_append, one_split, open_ends, open_not_whole}
-use Rattle.wire_peer.specs.{ClientSeen, Settles, allowed, called, closed, content_of, ended, ids, number_after, holding, new_client, owner, released, reply_to}
+use Rattle.wire_peer.specs.{ClientSeen, Settles, allowed, called, closed, content_of, ended, ids, holding, new_client, owner, released, reply_to}
 use Rattle.wire_peer.specs.ClientSteps.{after_release, end_cause, is_bad, is_message, is_open, received, state_after}
 use Rattle.wire_peer.specs.declared.call_table.Outstanding.{Outstanding}
 use Rattle.wire_peer.specs.declared.call_table.ReadyReply.{ReadyReply}
@@ -17,15 +17,23 @@ use Rattle.wire_peer.specs.declared.client_state.ClientCause.{ClientCause}
 use Rattle.wire_peer.specs.declared.client_state.ClientCause.TheVariants as causes
 use Rattle.wire_peer.specs.declared.client_state.ClientState.{ClientState}
 use Rattle.wire_peer.specs.declared.client_state.ClientState.TheVariants.{Open, Closed}
-use Rattle.wire_model.proofs.Lemmas.{same_request}
+use lib.ListN.{length-map}
+use Rattle.wire_model.specs.{Record, asked_as, lost_record, new_record, put_at}
+use Rattle.wire_model.proofs.Lemmas.{length-push, length-slice_set, same_request}
 use Rattle.wire_channels.specs.Owners.{Calls, ClientAct, ClientEnd, ClientRun, Collects, EndsDown, SendsUp, TakesDown, bytes_taken}
-use Rattle.wire_channels.proofs.Numbers.{AreCalls, none_behind_last}
+use Rattle.wire_channels.proofs.Fits.{get_within}
+use Rattle.wire_channels.proofs.Numbers.{Each, Tidy, after_is, tidy_got, tidy_made, tidy_start}
+use Rattle.wire_channels.proofs.Records.{put_is}
+use Rattle.wire_channels.proofs.Tells.{Tells, low_front, new_not_done, ready_low, tells_given, tells_lost, tells_made}
 use Rattle.wire_channels.specs.Alone.{ClosesBy, Got, Heard, Hearing, Hears, HoldsAlone, IsMessageOf, IsReadyWith, Made, NoneBehind, got, handed, hear, hear_all, replied, silence}
 
 -- how a client stands with what it heard, where these replies were handed out
-record Past (limit : ℕ) (next : Option ℕ) (k : ClientSeen) (h : Hearing) (out : List (ReadyReply × Message)) : Type 0 where
+record Past (limit : ℕ) (records : List Record) (k : ClientSeen) (h : Hearing)
+    (out : List (ReadyReply × Message)) : Type 0 where
   limit_is : k.requests.limit ≡ limit
-  next_is : k.requests.next_number ≡ next
+  next_is : (n : ℕ) → k.requests.next_number ≡ Some n → n ≡ length records
+  tidy : Tidy h (length records)
+  kept : Tells records out
   table : h.table ≡ k.requests.outstanding
   ready : List (ReadyReply × Message)
   ready_is : IsReadyWith k.reply k.held ready
@@ -47,7 +55,8 @@ ended_closes limit rest None [] None Open c = c
 ended_closes limit rest None (b ∷ held) None Open c = c
 ended_closes limit rest (Some reply) held None Open c = c
 ended_closes limit rest o held None (Closed first) c = c
-ended_closes limit rest o held (Some cause) Open c = absurd (let no_ : Open ≡ Closed cause = c.0 in cc)
+ended_closes limit rest o held (Some cause) Open c = absurd (let no_ : Open ≡ Closed cause = c.0 in
+    cc)
 ended_closes limit rest o held (Some cause) (Closed first) c = c
 
 -- ---- an open client has no such cause
@@ -65,8 +74,9 @@ none_ready (Some reply) held ready none is = absurd (none-some reply (sym none))
 
 -- ---- a message is taken
 
-module _ (limit : ℕ) (next : Option ℕ) (k : ClientSeen) (h : Hearing)
-    (out : List (ReadyReply × Message)) (p : Past limit next k h out) (none : k.reply ≡ None) (live : k.state ≡ Open) (b : List ℕ) where
+module _ (limit : ℕ) (records : List Record) (k : ClientSeen) (h : Hearing)
+    (out : List (ReadyReply × Message)) (p : Past limit records k h out) (none : k.reply ≡ None)
+    (live : k.state ≡ Open) (b : List ℕ) where
   cause_is : h.cause ≡ None
   cause_is = no_cause limit p.rest h.cause k.state live p.closes
 
@@ -74,14 +84,17 @@ module _ (limit : ℕ) (next : Option ℕ) (k : ClientSeen) (h : Hearing)
   so_far = p.replies ∙ ap (λ z. out ++ z) (none_ready k.reply k.held p.ready none p.ready_is)
 
   past_message : (m : Message) (r : Result (ℤ × Outstanding) ClientCause) (new : ClientSeen)
-      → SpellsMsg m b → new ≡ received (holding k b) m r
-      → (q : Past limit next new (replied h m r) out) × (q.rest ≡ [])
-  past_message m (Ok o) new s same =
-      subst (λ z. (q : Past limit next z (replied h m (Ok o)) out) × (q.rest ≡ [])) (sym same) (
+      → SpellsMsg m b → Tidy (replied h m r) (length records) → new ≡ received (holding k b) m r
+      → (q : Past limit records new (replied h m r) out) × (q.rest ≡ [])
+  past_message m (Ok o) new s tidy same =
+      subst (λ z. (q : Past limit records z (replied h m (Ok o)) out) × (q.rest ≡ [])) (sym same) (
         record {
           limit_is = p.limit_is;
           next_is = p.next_is;
-          table = ap (λ t. (replied (record { table = t; replies = []; cause = None }) m (Ok o)).table) p.table;
+          tidy = tidy;
+          kept = p.kept;
+          table = ap (λ t. (replied (record { table = t; replies = []; cause = None }) m
+              (Ok o)).table) p.table;
           ready = (reply_to o m.flags.more_to_come, m) ∷ [];
           ready_is = (m, s, refl);
           replies = ap (λ z. z ++ (reply_to o m.flags.more_to_come, m) ∷ []) (so_far ∙ append-nil out);
@@ -92,11 +105,14 @@ module _ (limit : ℕ) (next : Option ℕ) (k : ClientSeen) (h : Hearing)
         },
         refl,
       )
-  past_message m (Err cause) new s same =
-      subst (λ z. (q : Past limit next z (replied h m (Err cause)) out) × (q.rest ≡ [])) (sym same) (
+  past_message m (Err cause) new s tidy same =
+      subst (λ z. (q : Past limit records z (replied h m (Err cause)) out) × (q.rest ≡ []))
+      (sym same) (
         record {
           limit_is = p.limit_is;
           next_is = p.next_is;
+          tidy = tidy;
+          kept = p.kept;
           table = p.table;
           ready = [];
           ready_is = rw none refl;
@@ -111,11 +127,13 @@ module _ (limit : ℕ) (next : Option ℕ) (k : ClientSeen) (h : Hearing)
 
   -- more of it may come
   past_open : (new : ClientSeen) → IsOpen limit b → new ≡ holding k b
-      → (q : Past limit next new h out) × (q.rest ≡ b)
-  past_open new o same = subst (λ z. (q : Past limit next z h out) × (q.rest ≡ b)) (sym same) (
+      → (q : Past limit records new h out) × (q.rest ≡ b)
+  past_open new o same = subst (λ z. (q : Past limit records z h out) × (q.rest ≡ b)) (sym same) (
     record {
       limit_is = p.limit_is;
       next_is = p.next_is;
+      tidy = p.tidy;
+      kept = p.kept;
       table = p.table;
       ready = [];
       ready_is = rw none refl;
@@ -130,11 +148,13 @@ module _ (limit : ℕ) (next : Option ℕ) (k : ClientSeen) (h : Hearing)
 
   past_bad : (f : MsgFault) (new : ClientSeen) → IsBad limit b f
       → new ≡ closed (holding k b) (causes.Message f)
-      → (q : Past limit next new h out) × (q.rest ≡ b)
-  past_bad f new bad same = subst (λ z. (q : Past limit next z h out) × (q.rest ≡ b)) (sym same) (
+      → (q : Past limit records new h out) × (q.rest ≡ b)
+  past_bad f new bad same = subst (λ z. (q : Past limit records z h out) × (q.rest ≡ b)) (sym same) (
     record {
       limit_is = p.limit_is;
       next_is = p.next_is;
+      tidy = p.tidy;
+      kept = p.kept;
       table = p.table;
       ready = [];
       ready_is = rw none refl;
@@ -149,20 +169,27 @@ module _ (limit : ℕ) (next : Option ℕ) (k : ClientSeen) (h : Hearing)
 
 -- ---- the reply is let go of
 
-past_released : (limit : ℕ) (next : Option ℕ) (k : ClientSeen) (h : Hearing) (out : List (ReadyReply × Message))
-    (reply : ReadyReply) (m : Message) (p : Past limit next k h out) → k.reply ≡ Some reply
+past_released : (limit : ℕ) (records records' : List Record) (k : ClientSeen) (h : Hearing)
+    (out : List (ReadyReply × Message))
+    (reply : ReadyReply) (m : Message) (p : Past limit records k h out) → length records' ≡ length
+    records
+    → Tells records' (out ++ (reply, m) ∷ []) → k.reply ≡ Some reply
     → SpellsMsg m k.held
-    → (q : Past limit next (released k) h (out ++ (reply, m) ∷ [])) × (q.rest ≡ p.rest)
-past_released limit next k h out reply m p is spells =
-    subst (λ o. (q : Past limit next (after_release o k) h (out ++ (reply, m) ∷ [])) × (q.rest ≡ p.rest)) (sym is) (
+    → (q : Past limit records' (released k) h (out ++ (reply, m) ∷ [])) × (q.rest ≡ p.rest)
+past_released limit records records' k h out reply m p many told is spells =
+    subst (λ o. (q : Past limit records' (after_release o k) h (out ++ (reply, m) ∷ []))
+    × (q.rest ≡ p.rest)) (sym is) (
       record {
         limit_is = p.limit_is;
-        next_is = p.next_is;
+        next_is = λ n e. p.next_is n e ∙ sym many;
+        tidy = subst (Tidy h) (sym many) p.tidy;
+        kept = told;
         table = p.table;
         ready = [];
         ready_is = refl;
         replies =
-            p.replies ∙ ap (λ z. out ++ z) (r.2 ∙ ap (λ z. (reply, z) ∷ []) (same_request r.0 m k.held r.1 spells))
+            p.replies ∙ ap (λ z. out ++ z) (r.2 ∙ ap (λ z. (reply, z) ∷ [])
+            (same_request r.0 m k.held r.1 spells))
             ∙ sym (append-nil (out ++ (reply, m) ∷ []));
         rest = p.rest;
         holds = λ no_ c. sym (p.emptied reply is);
@@ -179,51 +206,71 @@ past_released limit next k h out reply m p is spells =
 
 module _ (limit c : ℕ) where
   -- what a run comes to
-  record Come (rest : List ℕ) (next : Option ℕ) (h : Hearing) (all : List (ReadyReply × Message))
-      (acts : List ClientAct) (new : ClientSeen) : Type 0 where
+  record Come (rest : List ℕ) (h : Hearing) (all : List (ReadyReply × Message))
+      (acts : List ClientAct) (new : ClientEnd) : Type 0 where
     heard : List Heard
     hears : Hears limit rest acts heard
-    calls : AreCalls h next heard
-    left : Option ℕ
-    past : Past limit left new (hear_all h heard) all
+    past : Past limit new.records new.client (hear_all h heard) all
     joined : List ℕ
     spelled : AreSpelled limit (got heard) joined
     parts : rest ++ bytes_taken acts ≡ joined ++ past.rest
 
   -- the rest of a run, from this client on
-  abbrev On : Option ℕ → ClientSeen → ClientSeen → List (ReadyReply × Message) → List ClientAct → Type 0
-  On next client new out acts =
-      (g : Hearing) (q : Past limit next client g out) → IsBytes q.rest
-      → Come q.rest next g (out ++ handed acts) acts new
+  abbrev On : List Record → ClientSeen → ClientEnd → List (ReadyReply × Message) → List ClientAct
+      → Type 0
+  On records client new out acts =
+      (g : Hearing) (q : Past limit records client g out) → IsBytes q.rest
+      → Come q.rest g (out ++ handed acts) acts new
 
   not_open : (b : List ℕ) → IsOpen limit b → (m : Message) → IsMessageOf limit b m → ⊥
   not_open b o m is =
-      open_not_whole limit b [] m o (record { front = b; parts = sym (append-nil b); spelled = is.0; within = is.1 })
+      open_not_whole limit b [] m o (record {
+        front = b;
+        parts = sym (append-nil b);
+        spelled =
+            is.0;
+        within = is.1;
+      })
 
   not_bad : (b : List ℕ) (f : MsgFault) → IsBytes b → IsBad limit b f → (m : Message)
       → IsMessageOf limit b m → ⊥
   not_bad b f are bad m is =
-      bad_not_whole limit b [] m f are bad (record { front = b; parts = sym (append-nil b); spelled = is.0; within = is.1 })
+      bad_not_whole limit b [] m f are bad
+      (record { front = b; parts = sym (append-nil b); spelled = is.0; within = is.1 })
 
-  comes : (acts : List ClientAct) (old new : ClientEnd) (next : Option ℕ) (h : Hearing)
-      (out : List (ReadyReply × Message)) (p : Past limit next old.client h out) → IsBytes p.rest
+  comes : (acts : List ClientAct) (old new : ClientEnd) (h : Hearing)
+      (out : List (ReadyReply × Message)) (p : Past limit old.records old.client h out)
+      → IsBytes p.rest
       → IsBytes (bytes_taken acts) → ClientRun c old acts new
-      → Come p.rest next h (out ++ handed acts) acts new.client
-  comes [] old new next h out p are all same = rw same (subst (λ z. Come p.rest next h z [] old.client) (sym (append-nil out)) (record {
-    heard = [];
-    hears = refl;
-    calls = tt;
-    left = next;
-    past = p;
-    joined = [];
-    spelled = refl;
-    parts = append-nil p.rest;
-  }))
-  comes (Calls kind payload number ∷ acts) old new next h out p are all (mid, (is, e), run) =
-      let q : Past limit (number_after number.number) (called old.client kind (content_of payload) number) (hear h (Made kind number)) out = record {
+      → Come p.rest h (out ++ handed acts) acts new
+  comes [] old new h out p are all same = rw same (subst (λ z. Come p.rest h z [] old)
+      (sym (append-nil out)) (record {
+        heard = [];
+        hears = refl;
+        past = p;
+        joined = [];
+        spelled = refl;
+        parts = append-nil p.rest;
+      }))
+  comes (Calls kind payload number ∷ acts) old new h out p are all (mid, (is, e), run) =
+      let record_ : Record = new_record c (asked_as kind (content_of payload)) in
+      let here : number.number ≡ length old.records = p.next_is number.number is.1.next.number in
+      let q : Past limit (old.records ++ record_ ∷ []) (called old.client kind (content_of payload)
+      number) (hear h (Made kind number)) out = record {
         limit_is = p.limit_is;
-        next_is = refl;
-        table = ap (λ t. (hear (record { table = t; replies = []; cause = None }) (Made kind number)).table) p.table;
+        next_is =
+            λ n e'. after_is number.number n e' ∙ ap suc here
+            ∙ sym (length-push old.records record_);
+        tidy =
+            subst (Tidy (hear h (Made kind number))) (sym (length-push old.records record_))
+            (tidy_made h (length old.records) kind number p.tidy here
+            (subst (λ t. Contains (ids t) number.id → ⊥) (sym p.table) is.1.next.id.free));
+        kept = tells_made old.records out (length old.records) record_ refl refl
+            (new_not_done c (asked_as kind (content_of payload))) (low_front (length old.records)
+            out p.ready (subst (Each (λ (x : ReadyReply × Message). x.0.call < length old.records))
+            p.replies p.tidy.past)) p.kept;
+        table = ap (λ t. (hear (record { table = t; replies = []; cause = None })
+            (Made kind number)).table) p.table;
         ready = p.ready;
         ready_is = p.ready_is;
         replies = p.replies;
@@ -232,21 +279,22 @@ module _ (limit c : ℕ) where
         emptied = p.emptied;
         closes = p.closes;
       } in
-      let r = comes acts _ new (number_after number.number) (hear h (Made kind number)) out q are all (subst (λ z. ClientRun c z acts new) e run) in
+      let r = comes acts _ new (hear h (Made kind number)) out q are all
+      (subst (λ z. ClientRun c z acts new) e run) in
       record {
         heard = Made kind number ∷ r.heard;
         hears = (r.heard, refl, r.hears);
-        calls = (sym p.next_is ∙ is.1.next.number, subst (λ t. Contains (ids t) number.id → ⊥) (sym p.table) is.1.next.id.free, r.calls);
-        left = r.left;
         past = r.past;
         joined = r.joined;
         spelled = r.spelled;
         parts = r.parts;
       }
-  comes (SendsUp bytes ∷ acts) old new next h out p are all (mid, (rest, output, e), run) =
-      let q : Past limit next _ h out = record {
+  comes (SendsUp bytes ∷ acts) old new h out p are all (mid, (rest, output, e), run) =
+      let q : Past limit old.records _ h out = record {
         limit_is = p.limit_is;
         next_is = p.next_is;
+        tidy = p.tidy;
+        kept = p.kept;
         table = p.table;
         ready = p.ready;
         ready_is = p.ready_is;
@@ -256,21 +304,21 @@ module _ (limit c : ℕ) where
         emptied = p.emptied;
         closes = p.closes;
       } in
-      let r = comes acts _ new next h out q are all (subst (λ z. ClientRun c z acts new) e run) in
+      let r = comes acts _ new h out q are all (subst (λ z. ClientRun c z acts new) e run) in
       record {
         heard = r.heard;
         hears = r.hears;
-        calls = r.calls;
-        left = r.left;
         past = r.past;
         joined = r.joined;
         spelled = r.spelled;
         parts = r.parts;
       }
-  comes (EndsDown ∷ acts) old new next h out p are all (mid, e, run) =
-      let q : Past limit next (ended old.client) h out = record {
+  comes (EndsDown ∷ acts) old new h out p are all (mid, e, run) =
+      let q : Past limit (map lost_record old.records) (ended old.client) h out = record {
         limit_is = p.limit_is;
-        next_is = p.next_is;
+        next_is = λ n e'. p.next_is n e' ∙ sym (length-map old.records lost_record);
+        tidy = subst (Tidy h) (sym (length-map old.records lost_record)) p.tidy;
+        kept = tells_lost old.records out p.kept;
         table = p.table;
         ready = p.ready;
         ready_is = p.ready_is;
@@ -279,36 +327,52 @@ module _ (limit c : ℕ) where
         holds = p.holds;
         emptied = p.emptied;
         closes =
-            ended_closes limit p.rest old.client.reply old.client.held h.cause old.client.state p.closes;
+            ended_closes limit p.rest old.client.reply old.client.held h.cause old.client.state
+            p.closes;
       } in
-      let r = comes acts _ new next h out q are all (subst (λ z. ClientRun c z acts new) e run) in
+      let r = comes acts _ new h out q are all (subst (λ z. ClientRun c z acts new) e run) in
       record {
         heard = r.heard;
         hears = r.hears;
-        calls = r.calls;
-        left = r.left;
         past = r.past;
         joined = r.joined;
         spelled = r.spelled;
         parts = r.parts;
       }
-  comes (Collects reply m ∷ acts) old new next h out p are all (mid, (ready, spells, e), run) =
-      let q = past_released limit next old.client h out reply m p ready spells in
-      let r0 = comes acts _ new next h (out ++ (reply, m) ∷ []) q.0 (subst IsBytes (sym q.1) are) all (subst (λ z. ClientRun c z acts new) e run) in
-      let r1 : Come p.rest next h ((out ++ (reply, m) ∷ []) ++ handed acts) acts new.client = subst (λ z. Come z next h ((out ++ (reply, m) ∷ []) ++ handed acts) acts new.client) q.1 r0 in
-      let r : Come p.rest next h (out ++ (reply, m) ∷ handed acts) acts new.client = subst (λ z. Come p.rest next h z acts new.client) (append_assoc out ((reply, m) ∷ []) (handed acts)) r1 in
+  comes (Collects reply m ∷ acts) old new h out p are all (mid, (ready, spells, e), run) =
+      let records : List Record = put_at (Some reply.call) m.content reply.last old.records in
+      let there = ready_low old.client.reply old.client.held p.ready reply (length old.records) out
+      ready p.ready_is (subst
+      (Each (λ (x : ReadyReply × Message). x.0.call < length old.records)) p.replies
+      p.tidy.past) in
+      let x = get_within old.records reply.call there in
+      let put = put_is old.records (Some reply.call) reply.call x.0 m.content reply.last refl
+      x.1 in
+      let many : length records ≡ length old.records = ap length put ∙ length-slice_set old.records
+      reply.call _ in
+      let told : Tells records (out ++ (reply, m) ∷ []) = subst
+      (λ z. Tells z (out ++ (reply, m) ∷ [])) (sym put) (tells_given old.records out reply
+      m x.0 x.1 p.kept) in
+      let q = past_released limit old.records records old.client h out reply m p many told ready
+      spells in
+      let r0 = comes acts _ new h (out ++ (reply, m) ∷ []) q.0 (subst IsBytes (sym q.1) are) all
+      (subst (λ z. ClientRun c z acts new) e run) in
+      let r1 : Come p.rest h ((out ++ (reply, m) ∷ []) ++ handed acts) acts new = subst
+      (λ z. Come z h ((out ++ (reply, m) ∷ []) ++ handed acts) acts new) q.1 r0 in
+      let r : Come p.rest h (out ++ (reply, m) ∷ handed acts) acts new = subst
+      (λ z. Come p.rest h z acts new) (append_assoc out ((reply, m) ∷ []) (handed acts))
+      r1 in
       record {
         heard = r.heard;
         hears = r.hears;
-        calls = r.calls;
-        left = r.left;
         past = r.past;
         joined = r.joined;
         spelled = r.spelled;
         parts = r.parts;
       }
-  comes (TakesDown bytes ∷ acts) old new next h out p are all (mid, (client, takes, e), run) =
-      by (λ g q q_are. comes acts _ new next g out q q_are more_are (subst (λ z. ClientRun c z acts new) e run)) takes.takes.settles
+  comes (TakesDown bytes ∷ acts) old new h out p are all (mid, (client, takes, e), run) =
+      by (λ g q q_are. comes acts _ new g out q q_are more_are (subst (λ z. ClientRun c z acts new)
+      e run)) takes.takes.settles
     where
       k : ClientSeen
       k = old.client
@@ -320,25 +384,31 @@ module _ (limit c : ℕ) where
       held = p.holds takes.may.0 (no_cause limit p.rest h.cause k.state takes.may.1 p.closes)
 
       b_is : b ≡ p.rest ++ bytes
-      b_is = ap (λ z. z ++ take (length bytes) bytes) held ∙ ap (λ z. p.rest ++ z) (take-length bytes)
+      b_is = ap (λ z. z ++ take (length bytes) bytes) held ∙ ap (λ z. p.rest ++ z)
+          (take-length bytes)
 
       more_are : IsBytes (bytes_taken acts)
-      more_are = subst IsBytes (drop-append_seam bytes (bytes_taken acts)) (IsBytes-drop (length bytes) (bytes ++ bytes_taken acts) all)
+      more_are = subst IsBytes (drop-append_seam bytes (bytes_taken acts))
+          (IsBytes-drop (length bytes) (bytes ++ bytes_taken acts) all)
 
       b_are : IsBytes b
-      b_are = subst IsBytes (sym b_is) (bytes_append p.rest bytes are (IsBytes-front (bytes ++ bytes_taken acts) bytes (bytes_taken acts) all refl))
+      b_are = subst IsBytes (sym b_is) (bytes_append p.rest bytes are
+          (IsBytes-front (bytes ++ bytes_taken acts) bytes (bytes_taken acts) all refl))
 
       -- no message is whole
-      further : On next client new.client out acts → (q : Past limit next client h out) → q.rest ≡ b
+      further : On old.records client new out acts → (q : Past limit old.records client h out)
+          → q.rest ≡ b
           → ((m : Message) → IsMessageOf limit b m → ⊥)
-          → Come p.rest next h (out ++ handed acts) (TakesDown bytes ∷ acts) new.client
+          → Come p.rest h (out ++ handed acts) (TakesDown bytes ∷ acts) new
       further on q is none =
           let r = on h q (subst IsBytes (sym is) b_are) in
           record {
             heard = r.heard;
-            hears = inr (subst (λ z. (m : Message) → IsMessageOf limit z m → ⊥) b_is none, subst (λ z. Hears limit z acts r.heard) (is ∙ b_is) r.hears);
-            calls = r.calls;
-            left = r.left;
+            hears = inr (
+              subst (λ z. (m : Message) → IsMessageOf limit z m → ⊥) b_is none,
+              subst
+                  (λ z. Hears limit z acts r.heard) (is ∙ b_is) r.hears,
+            );
             past = r.past;
             joined = r.joined;
             spelled = r.spelled;
@@ -347,16 +417,20 @@ module _ (limit c : ℕ) where
                 ∙ ap (λ z. z ++ bytes_taken acts) (sym (is ∙ b_is)) ∙ r.parts;
           }
 
-      whole : On next client new.client out acts → (m : Message) → SpellsMsg m b → length b ≤ limit
-          → (q : Past limit next client (hear h (Got m)) out) → q.rest ≡ []
-          → Come p.rest next h (out ++ handed acts) (TakesDown bytes ∷ acts) new.client
+      whole : On old.records client new out acts → (m : Message) → SpellsMsg m b → length b ≤ limit
+          → (q : Past limit old.records client (hear h (Got m)) out) → q.rest ≡ []
+          → Come p.rest h (out ++ handed acts) (TakesDown bytes ∷ acts) new
       whole on m spells within q none =
           let r = on (hear h (Got m)) q (subst IsBytes (sym none) (λ i. omega arith)) in
           record {
             heard = Got m ∷ r.heard;
-            hears = inl (m, r.heard, subst (λ z. IsMessageOf limit z m) b_is (spells, within), refl, subst (λ z. Hears limit z acts r.heard) none r.hears);
-            calls = r.calls;
-            left = r.left;
+            hears = inl (
+              m,
+              r.heard,
+              subst (λ z. IsMessageOf limit z m) b_is (spells, within),
+              refl,
+              subst (λ z. Hears limit z acts r.heard) none r.hears,
+            );
             past = r.past;
             joined = b ++ r.joined;
             spelled = (b, r.joined, spells, within, r.spelled, refl);
@@ -367,21 +441,25 @@ module _ (limit c : ℕ) where
                 ∙ sym (append_assoc b r.joined r.past.rest);
           }
 
-      by : On next client new.client out acts → Settles (holding k b) client
-          → Come p.rest next h (out ++ handed acts) (TakesDown bytes ∷ acts) new.client
+      by : On old.records client new out acts → Settles (holding k b) client
+          → Come p.rest h (out ++ handed acts) (TakesDown bytes ∷ acts) new
       by on (is_open o same) =
           let o' = subst (λ l. IsOpen l b) p.limit_is o in
-          let q = past_open limit next k h out p takes.may.0 takes.may.1 b client o' same in
+          let q = past_open limit old.records k h out p takes.may.0 takes.may.1 b client o' same in
           further on q.0 q.1 (not_open b o')
       by on (is_message m spells within same) =
           let same' = same
-          ∙ ap (λ t. received (holding k b) m (allowed m.flags.more_to_come (owner t m.response_to))) (sym p.table) in
+          ∙ ap (λ t. received (holding k b) m (allowed m.flags.more_to_come (owner t m.response_to)))
+          (sym p.table) in
           let q =
-          past_message limit next k h out p takes.may.0 takes.may.1 b m (allowed m.flags.more_to_come (owner h.table m.response_to)) client spells same' in
+          past_message limit old.records k h out p takes.may.0 takes.may.1 b m
+          (allowed m.flags.more_to_come (owner h.table m.response_to)) client spells
+          (tidy_got h (length old.records) m p.tidy) same' in
           whole on m spells (subst (λ l. length b ≤ l) p.limit_is within) q.0 q.1
       by on (is_bad f bad same) =
           let bad' = subst (λ l. IsBad l b f) p.limit_is bad in
-          let q = past_bad limit next k h out p takes.may.0 takes.may.1 b f client bad' same in
+          let q = past_bad limit old.records k h out p takes.may.0 takes.may.1 b f client bad'
+          same in
           further on q.0 q.1 (not_bad b f b_are bad')
 
   -- ---- from the first act on
@@ -408,20 +486,30 @@ module _ (limit c : ℕ) where
     hears = r.hears;
     rest = r.past.rest;
     split = split;
-    only = λ others after s. one_split limit (bytes_taken acts) (got r.heard) others r.past.rest after are split s;
+    only = λ others after s. one_split limit (bytes_taken acts) (got r.heard) others r.past.rest
+        after are split s;
     ready = r.past.ready;
     ready_is = r.past.ready_is;
     replies = r.past.replies;
-    none_behind = subst NoneBehind r.past.replies (none_behind_last r.heard r.calls);
+    none_behind = subst NoneBehind r.past.replies r.past.tidy.none;
+    parts = r.past.kept.parts;
+    done = λ n x at. (r.past.kept.done n x at, r.past.kept.last n x at);
     table = r.past.table;
     closes = r.past.closes;
   }
     where
-      start : (q : Past limit (Some 0) (new_client first_id window limit) silence []) × (q.rest ≡ [])
+      start : (q : Past limit [] (new_client first_id window limit) silence []) × (q.rest ≡ [])
       start = (
         record {
           limit_is = refl;
-          next_is = refl;
+          next_is = λ n e. sym (same_Some 0 n e);
+          tidy = tidy_start;
+          kept = record {
+            parts = λ n x at. absurd (none-some x at);
+            done = λ n x at. absurd
+                (none-some x at);
+            last = λ n x at. absurd (none-some x at);
+          };
           table = refl;
           ready = [];
           ready_is = refl;
@@ -434,10 +522,11 @@ module _ (limit c : ℕ) where
         refl,
       )
 
-      r : Come [] (Some 0) silence (handed acts) acts new.client
+      r : Come [] silence (handed acts) acts new
       r =
-          subst (λ z. Come z (Some 0) silence (handed acts) acts new.client) start.1
-          (comes acts _ new (Some 0) silence [] start.0 (subst IsBytes (sym start.1) (λ i. omega arith)) are run)
+          subst (λ z. Come z silence (handed acts) acts new) start.1
+          (comes acts _ new silence [] start.0 (subst IsBytes (sym start.1) (λ i. omega arith)) are
+          run)
 
       rest_are : IsBytes r.past.rest
       rest_are =
@@ -447,4 +536,5 @@ module _ (limit c : ℕ) where
       split : Split limit (bytes_taken acts) (got r.heard) r.past.rest
       split =
           subst (λ z. Split limit z (got r.heard) r.past.rest) (sym r.parts)
-          (splits r.past.rest (got r.heard) r.joined (hear_all silence r.heard).cause new.client.state rest_are r.spelled r.past.closes)
+          (splits r.past.rest (got r.heard) r.joined (hear_all silence r.heard).cause
+          new.client.state rest_are r.spelled r.past.closes)

@@ -49,7 +49,8 @@ get_within (a ∷ xs) (suc i) lt = get_within xs i (omega (arith, lt))
 
 -- ---- how a pair and its two owners fit
 
-pub record PairFits (calls : List Record) (c : ℕ) (p : Pair) (e : ClientEnd) (server : Option ServerView) (up down : List ℕ) : Type 0 where
+pub record PairFits (calls : List Record) (c : ℕ) (p : Pair) (e : ClientEnd)
+    (server : Option ServerView) (up down : List ℕ) : Type 0 where
   pub client : e.client ≡ p.client
   pub server_is : server ≡ Some p.server
   pub up_is : p.up ≡ free_way up
@@ -106,7 +107,12 @@ module _ {H : Type 0} where
             up_is = old.up_is ∙ ap free_way (sym a.2);
             down_is = old.down_is ∙ ap free_way (sym a.3);
             own =
-                λ m i g. let w = old.own m i g in (w.0, stay i w.0 w.1 (λ z. n (sym w.2 ∙ z)), w.2, ap (λ (z : ClientEnd). slice_get z.records m) a.0 ∙ w.3);
+                λ m i g. let w = old.own m i g in (
+                  w.0,
+                  stay i w.0 w.1 (λ z. n (sym w.2 ∙ z)),
+                  w.2,
+                  ap (λ (z : ClientEnd). slice_get z.records m) a.0 ∙ w.3,
+                );
             many = ap (λ (z : ClientEnd). length z.records) a.0 ∙ old.many;
             once = old.once;
           }
@@ -147,16 +153,21 @@ module _ (H : Type 0) (does : Does H) (stops : Stops H) (limit : ℕ) where
       × (down' d ≡ down d))
       → Stay c s.calls s'.calls → s'.log ≡ ss'.log → s'.handler ≡ ss'.handler
       → Step H does stops limit s s' → FitStep s ends' ss' up' down'
-  goes s s' ends ends' ss ss' up down up' down' c p q f at is here far stay log handler step = record {
-    next = s';
-    step = step;
-    fits = fit_on s s' ends ends' ss ss' up down up' down' c p q f at is here far stay log handler;
-    pairs = λ d o at_o. elim (same_or_not d c) [
-      | inl e ↦ (q, ap (λ ps. pair_at ps d) is ∙ ap (pair_at (pair_set s.pairs c q)) e ∙ pair_set-same s.pairs c p q at)
-      | inr n ↦ (o, ap (λ ps. pair_at ps d) is ∙ pair_set-other s.pairs c d q n ∙ at_o)
-    ];
-    same = λ d o at_o. elim (same_or_not d c) [
-      | inl e ↦ (p, ap (pair_at s.pairs) e ∙ at)
-      | inr n ↦ (o, sym (ap (λ ps. pair_at ps d) is ∙ pair_set-other s.pairs c d q n) ∙ at_o)
-    ];
-  }
+  goes s s' ends ends' ss ss' up down up' down' c p q f at is here far stay log handler step =
+      record {
+        next = s';
+        step = step;
+        fits = fit_on s s' ends ends' ss ss' up down up' down' c p q f at is here far stay log handler;
+        pairs = λ d o at_o. elim (same_or_not d c) [
+          | inl e ↦ (
+            q,
+            ap (λ ps. pair_at ps d) is ∙ ap (pair_at (pair_set s.pairs c q)) e
+                ∙ pair_set-same s.pairs c p q at,
+          )
+          | inr n ↦ (o, ap (λ ps. pair_at ps d) is ∙ pair_set-other s.pairs c d q n ∙ at_o)
+        ];
+        same = λ d o at_o. elim (same_or_not d c) [
+          | inl e ↦ (p, ap (pair_at s.pairs) e ∙ at)
+          | inr n ↦ (o, sym (ap (λ ps. pair_at ps d) is ∙ pair_set-other s.pairs c d q n) ∙ at_o)
+        ];
+      }

@@ -32,7 +32,8 @@ sends_way f c d bytes sent after e = elim (same_or_not d c) [
   | inl is ↦
       ap (λ b. f d ++ (if b then bytes ++ sent else sent)) (is_here d c (sym is))
       ∙ sym (append_assoc (f d) bytes sent) ∙ ap (λ z. (f z ++ bytes) ++ sent) is
-      ∙ ap (λ z. z ++ sent) (sym (one_here f c (f c ++ bytes)) ∙ ap (at_one f c (f c ++ bytes)) (sym is))
+      ∙ ap (λ z. z ++ sent) (sym (one_here f c (f c ++ bytes)) ∙ ap (at_one f c (f c ++ bytes))
+      (sym is))
       ∙ e
   | inr n ↦
       ap (λ b. f d ++ (if b then bytes ++ sent else sent)) (is_elsewhere d c (λ is. n (sym is)))
@@ -50,7 +51,8 @@ takes_way f c d bytes rest sent taken after first e = elim (same_or_not d c) [
       ∙ ap (λ b. (if b then bytes ++ taken else taken) ++ after) (sym (is_here d c (sym is)))
   | inr n ↦
       ap (λ z. z ++ sent) (sym (one_far f c d rest n)) ∙ e
-      ∙ ap (λ b. (if b then bytes ++ taken else taken) ++ after) (sym (is_elsewhere d c (λ is. n (sym is))))
+      ∙ ap (λ b. (if b then bytes ++ taken else taken) ++ after)
+      (sym (is_elsewhere d c (λ is. n (sym is))))
 ]
 
 -- ---- deed after deed
@@ -84,7 +86,8 @@ module _ (deeds : List Deed) (up down up' down' : ℕ → List ℕ) where
   pub client_still : (c : ℕ) (act : ClientAct) → sent_by act ≡ [] → taken_by act ≡ []
       → Balanced up down up' down' deeds → Balanced up down up' down' (AtClient c act ∷ deeds)
   client_still c act sends takes b d = (
-    ap (λ z. up d ++ z) (sent_at c d act (acts_at d deeds) ∙ none_by (c == d) (sent_by act) _ sends)
+    ap (λ z. up d ++ z) (sent_at c d act (acts_at d deeds) ∙ none_by (c == d) (sent_by act) _
+        sends)
         ∙ (b d).0,
     (b d).1 ∙ ap (λ z. z ++ down' d) (sym (taken_at c d act (acts_at d deeds)
         ∙ none_by (c == d) (taken_by act) _ takes)),
@@ -106,7 +109,8 @@ module _ (deeds : List Deed) (up down up' down' : ℕ → List ℕ) where
   client_took_on c bytes rest first b d = (
     ap (λ z. up d ++ z) (sent_at c d (TakesDown bytes) (acts_at d deeds) ∙ if_same (c == d) _)
         ∙ (b d).0,
-    takes_way down c d bytes rest (bytes_sent_down (server_acts_at d deeds)) (bytes_taken (acts_at d deeds)) (down' d) first (b d).1
+    takes_way down c d bytes rest (bytes_sent_down (server_acts_at d deeds))
+        (bytes_taken (acts_at d deeds)) (down' d) first (b d).1
         ∙ ap (λ z. z ++ down' d) (sym (taken_at c d (TakesDown bytes) (acts_at d deeds))),
   )
 
@@ -133,7 +137,8 @@ module _ (deeds : List Deed) (up down up' down' : ℕ → List ℕ) where
       → Balanced (at_one up c rest) down up' down' deeds
       → Balanced up down up' down' (AtServer c (TakesUp bytes) ∷ deeds)
   server_took_on c bytes rest first b d = (
-    takes_way up c d bytes rest (bytes_sent (acts_at d deeds)) (bytes_taken_up (server_acts_at d deeds)) (up' d) first (b d).0
+    takes_way up c d bytes rest (bytes_sent (acts_at d deeds))
+        (bytes_taken_up (server_acts_at d deeds)) (up' d) first (b d).0
         ∙ ap (λ z. z ++ up' d) (sym (taken_up_at c d (TakesUp bytes) (server_acts_at d deeds))),
     ap (λ z. down d ++ z) (sent_down_at c d (TakesUp bytes) (server_acts_at d deeds)
         ∙ if_same (c == d) _) ∙ (b d).1,

@@ -30,7 +30,8 @@ put_front : (ss more : List ServerView) (c : ℕ) (s t : ServerView) → server_
 put_front ss more zero s t at = absurd (none-some s at)
 put_front ss more (suc i) s t at = set_front ss more i s t at
 
-set_length : (ss : List ServerView) (c : ℕ) (t : ServerView) → length (server_set ss c t) ≡ length ss
+set_length : (ss : List ServerView) (c : ℕ) (t : ServerView) → length (server_set ss c t) ≡ length
+    ss
 set_length ss zero t = refl
 set_length ss (suc i) t = length-slice_set ss i t
 
@@ -41,7 +42,12 @@ module _ (H : Type 0) (does : Does H) (stops : Stops H) (limit : ℕ) (made : �
   later n (suc m) = new_server (suc n) (made (suc n)).server_window limit ∷ later (suc n) m
 
   abbrev filled : ServerEnds H → ℕ → ℕ → ServerEnds H
-  filled old n m = record { servers = old.servers ++ later n m; log = old.log; handler = old.handler }
+  filled old n m = record {
+    servers = old.servers ++ later n m;
+    log = old.log;
+    handler =
+        old.handler;
+  }
 
   first_later : (n m : ℕ)
       → first_servers limit made n ++ later n m ≡ first_servers limit made (n + m)
@@ -50,14 +56,16 @@ module _ (H : Type 0) (does : Does H) (stops : Stops H) (limit : ℕ) (made : �
       append-nil (first_servers limit made n) ∙ ap (first_servers limit made) same
   first_later n (suc m) =
       let same : suc n + m ≡ n + suc m = omega arith in
-      sym (append_assoc (first_servers limit made n) (new_server (suc n) (made (suc n)).server_window limit ∷ []) (later (suc n) m))
+      sym (append_assoc (first_servers limit made n)
+      (new_server (suc n) (made (suc n)).server_window limit ∷ []) (later (suc n) m))
       ∙ first_later (suc n) m ∙ ap (first_servers limit made) same
 
   grow : (turns : List Turn) (old new : ServerEnds H) (n : ℕ) → length old.servers ≡ n
       → ServersGrow does stops limit made old turns new
       → ServersRun does stops (filled old n (opened_in turns)) (deeds_of turns) new
   grow [] old new n many same =
-      same ∙ ap (λ ss. record { servers = ss; log = old.log; handler = old.handler }) (sym (append-nil old.servers))
+      same ∙ ap (λ ss. record { servers = ss; log = old.log; handler = old.handler })
+      (sym (append-nil old.servers))
   grow (Opens ∷ turns) old new n many run =
       subst (λ (z : ServerEnds H). ServersRun does stops z (deeds_of turns) new)
       (ap (λ ss. record { servers = ss; log = old.log; handler = old.handler })
@@ -84,9 +92,11 @@ module _ (H : Type 0) (does : Does H) (stops : Stops H) (limit : ℕ) (made : �
 
   pub grown : (first : H) (turns : List Turn) (new : ServerEnds H)
       → ServersGrow does stops limit made (first_servers_of limit made 0 first) turns new
-      → ServersRun does stops (first_servers_of limit made (opened_in turns) first) (deeds_of turns) new
+      → ServersRun does stops (first_servers_of limit made (opened_in turns) first)
+      (deeds_of turns) new
   grown first turns new run =
       let none : 0 + opened_in turns ≡ opened_in turns = omega arith in
-      subst (λ ss. ServersRun does stops (record { servers = ss; log = []; handler = first }) (deeds_of turns) new)
+      subst (λ ss. ServersRun does stops (record { servers = ss; log = []; handler = first })
+      (deeds_of turns) new)
       (first_later 0 (opened_in turns) ∙ ap (first_servers limit made) none)
       (grow turns (first_servers_of limit made 0 first) new 0 refl run)

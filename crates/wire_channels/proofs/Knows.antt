@@ -92,7 +92,8 @@ owned_of {H} k ends ss s m of o =
         let same : x ≡ y = same_Some x y (sym v.2 ∙ ap (slice_get s.calls) e ∙ w.2) in
         let c : j.0 ≡ l.0 = sym v.4 ∙ ap (λ (z : Record). z.connection) same ∙ w.4 in
         let q : w.0 ≡ v.0 = same_Some w.0 v.0 (sym w.1 ∙ ap (pair_at s.pairs) (sym c) ∙ v.1) in
-        let n : j.1 ≡ l.1 = of.once j.0 v.0 v.1 j.1 l.1 (index s l) (v.3 ∙ ap (λ z. Some z) e) (ap (λ (z : Pair). slice_get z.calls l.1) (sym q) ∙ w.3) in
+        let n : j.1 ≡ l.1 = of.once j.0 v.0 v.1 j.1 l.1 (index s l) (v.3 ∙ ap (λ z. Some z) e)
+        (ap (λ (z : Pair). slice_get z.calls l.1) (sym q) ∙ w.3) in
         ap (λ z. (z, j.1)) c ∙ ap (λ z. (l.0, z)) n
 
 -- ---- quiet ends
@@ -121,8 +122,10 @@ module _ (H : Type 0) (does : Does H) (stops : Stops H) (limit : ℕ) (short : l
       let f = r.fits.pairs c v.0 v.1 in
       let told = (all_sound H does stops limit first r.final r.steps).told c v.0 v.1 in
       let server : s ≡ v.0.server = same_Some s v.0.server (sym at ∙ f.server_is) in
-      let server_open : v.0.server.state ≡ servers.Open = ap (λ (z : ServerView). z.state) (sym server) ∙ q.server_open in
-      let client_open : v.0.client.state ≡ clients.Open = ap (λ (z : ClientSeen). z.state) (sym f.client) ∙ q.client_open in
+      let server_open : v.0.server.state ≡ servers.Open = ap (λ (z : ServerView). z.state)
+      (sym server) ∙ q.server_open in
+      let client_open : v.0.client.state ≡ clients.Open = ap (λ (z : ClientSeen). z.state)
+      (sym f.client) ∙ q.client_open in
       record {
         p = v.0;
         at = v.1;

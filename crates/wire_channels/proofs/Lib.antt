@@ -13,5 +13,6 @@ pub mod Starts
 pub mod Knows
 pub mod GoingOn
 pub mod Numbers
+pub mod Tells
 pub mod Alone
 pub mod Grows

@@ -37,7 +37,12 @@ module _ (H : Type 0) (does : Does H) (stops : Stops H) (limit : ℕ) where
         → ClientEnd) (ss ss' : ServerEnds H) (up down up' down' : ℕ → List ℕ)
         → OnWay s ends ss up down → (g : FitStep H does stops limit s ends' ss' up' down')
         → OnWay g.next ends' ss' up' down'
-    further s ends ends' ss ss' up down up' down' w g = record { steps = channels.go w.steps g.step; fits = g.fits; all = λ c least most. let p = w.all c least most in g.pairs c p.0 p.1 }
+    further s ends ends' ss ss' up down up' down' w g = record {
+      steps = channels.go w.steps g.step;
+      fits = g.fits;
+      all = λ c least most. let p = w.all c
+          least most in g.pairs c p.0 p.1;
+    }
 
     -- a deed at the client of no pair
     nowhere : (s : System H) (ends : ℕ → ClientEnd) (ss : ServerEnds H) (up down up' down' : ℕ
@@ -60,7 +65,8 @@ module _ (H : Type 0) (does : Does H) (stops : Stops H) (limit : ℕ) where
               up_is = old.up_is ∙ ap free_way (sym a.0);
               down_is = old.down_is ∙ ap free_way (sym a.1);
               own =
-                  λ m i g. let v = old.own m i g in (v.0, v.1, v.2, ap (λ (z : ClientEnd). slice_get z.records m) e ∙ v.3);
+                  λ m i g. let v = old.own m i g in
+                  (v.0, v.1, v.2, ap (λ (z : ClientEnd). slice_get z.records m) e ∙ v.3);
               many = ap (λ (z : ClientEnd). length z.records) e ∙ old.many;
               once = old.once;
             };
@@ -88,19 +94,24 @@ module _ (H : Type 0) (does : Does H) (stops : Stops H) (limit : ℕ) where
       where
         mine : ClientRun c (ends c) (act ∷ acts_at c deeds) (finals c)
         mine =
-            subst (λ b. ClientRun c (ends c) (if b then act ∷ acts_at c deeds else acts_at c deeds) (finals c)) (is_here c c refl) (runs c)
+            subst (λ b. ClientRun c (ends c) (if b then act ∷ acts_at c deeds else acts_at c deeds)
+            (finals c)) (is_here c c refl) (runs c)
 
         others : Runs (end_one ends c mine.0) deeds
         others d = elim (same_or_not d c) [
           | inl e ↦ (rw (e, end_here ends c mine.0) mine.2)
-          | inr n ↦ (rw (end_far ends c d mine.0 n) (subst (λ b. ClientRun d (ends d) (if b then act ∷ acts_at d deeds else acts_at d deeds) (finals d)) (is_elsewhere d c (λ e. n (sym e))) (runs d)))
+          | inr n ↦ (rw (end_far ends c d mine.0 n)
+              (subst (λ b. ClientRun d (ends d) (if b then act ∷ acts_at d deeds else acts_at d
+              deeds) (finals d)) (is_elsewhere d c (λ e. n (sym e))) (runs d)))
         ]
 
         by : (o : Option Pair) → pair_at s.pairs c ≡ o → R
         by None at =
-            more s (end_one ends c mine.0) (nowhere s ends ss up down up' down' c mine.0 w at far) others
+            more s (end_one ends c mine.0) (nowhere s ends ss up down up' down' c mine.0 w at far)
+            others
         by (Some p) at =
-            let g = step p at mine.0 mine.1 in more g.next (end_one ends c mine.0) (further s ends (end_one ends c mine.0) ss ss up down up' down' w g) others
+            let g = step p at mine.0 mine.1 in more g.next (end_one ends c mine.0)
+            (further s ends (end_one ends c mine.0) ss ss up down up' down' w g) others
 
     pub meet : (deeds : List Deed) (s : System H) (ends : ℕ → ClientEnd) (ss : ServerEnds H)
         (up down : ℕ → List ℕ) → OnWay s ends ss up down → Runs ends deeds
@@ -122,10 +133,14 @@ module _ (H : Type 0) (does : Does H) (stops : Stops H) (limit : ℕ) where
     meet (AtClient c (Calls kind payload number) ∷ deeds) s ends ss up down w runs served arrive =
         on_client deeds c (Calls kind payload number) s ends ss up down up down w runs
         (λ d n. (refl, refl))
-        (λ p at mid a. client_calls H does stops limit s ends ss up down w.fits c p at kind payload number mid a)
+        (λ p at mid a. client_calls H does stops limit s ends ss up down w.fits c p at kind payload
+        number mid a)
         (λ s' ends' w' runs'.
-        let r = meet deeds s' ends' ss up down w' runs' served arrive in
-        (r.0, client_still deeds up down r.0.up r.0.down c (Calls kind payload number) refl refl r.1))
+        let r = meet deeds s' ends' ss up down w' runs' served arrive in (
+          r.0,
+          client_still deeds up down r.0.up r.0.down c (Calls kind payload number) refl refl
+              r.1,
+        ))
     meet (AtClient c (SendsUp bytes) ∷ deeds) s ends ss up down w runs served arrive =
         let up' : ℕ → List ℕ = at_one up c (up c ++ bytes) in
         on_client deeds c (SendsUp bytes) s ends ss up down up' down w runs
@@ -134,18 +149,21 @@ module _ (H : Type 0) (does : Does H) (stops : Stops H) (limit : ℕ) where
         (λ s' ends' w' runs'.
         let r = meet deeds s' ends' ss up' down w' runs' served arrive in
         (r.0, client_sent_on deeds up down r.0.up r.0.down c bytes r.1))
-    meet (AtClient c (TakesDown bytes) ∷ deeds) s ends ss up down w runs served (rest, is, arrive) =
+    meet (AtClient c (TakesDown bytes) ∷ deeds) s ends ss up down w runs served
+        (rest, is, arrive) =
         let down' : ℕ → List ℕ = at_one down c rest in
         on_client deeds c (TakesDown bytes) s ends ss up down up down' w runs
         (λ d n. (refl, one_far down c d rest n))
-        (λ p at mid a. client_takes H does stops limit s ends ss up down w.fits c p at bytes rest mid is a)
+        (λ p at mid a. client_takes H does stops limit s ends ss up down w.fits c p at bytes rest
+        mid is a)
         (λ s' ends' w' runs'.
         let r = meet deeds s' ends' ss up down' w' runs' served arrive in
         (r.0, client_took_on deeds up down r.0.up r.0.down c bytes rest is r.1))
     meet (AtClient c (Collects reply m) ∷ deeds) s ends ss up down w runs served arrive =
         on_client deeds c (Collects reply m) s ends ss up down up down w runs
         (λ d n. (refl, refl))
-        (λ p at mid a. client_collects H does stops limit s ends ss up down w.fits c p at reply m mid a)
+        (λ p at mid a. client_collects H does stops limit s ends ss up down w.fits c p at reply m
+        mid a)
         (λ s' ends' w' runs'.
         let r = meet deeds s' ends' ss up down w' runs' served arrive in
         (r.0, client_still deeds up down r.0.up r.0.down c (Collects reply m) refl refl r.1))
@@ -156,31 +174,36 @@ module _ (H : Type 0) (does : Does H) (stops : Stops H) (limit : ℕ) where
         (λ s' ends' w' runs'.
         let r = meet deeds s' ends' ss up down w' runs' served arrive in
         (r.0, client_still deeds up down r.0.up r.0.down c EndsDown refl refl r.1))
-    meet (AtServer c (TakesUp bytes) ∷ deeds) s ends ss up down w runs (mid, a, served) (rest, is, arrive) =
+    meet (AtServer c (TakesUp bytes) ∷ deeds) s ends ss up down w runs (mid, a, served)
+        (rest, is, arrive) =
         let p = w.fits.served c a.s a.at in
         let up' : ℕ → List ℕ = at_one up c rest in
         let g =
         server_takes H does stops limit s ends ss up down w.fits c p.0 p.1 bytes rest mid is a in
         let r =
-        meet deeds g.next ends mid up' down (further s ends ends ss mid up down up' down w g) runs served arrive in
+        meet deeds g.next ends mid up' down (further s ends ends ss mid up down up' down w g) runs
+        served arrive in
         (r.0, server_took_on deeds up down r.0.up r.0.down c bytes rest is r.1)
     meet (AtServer c (Answers i result) ∷ deeds) s ends ss up down w runs (mid, a, served) arrive =
         let p = w.fits.served c a.s a.at in
         let g =
         server_answers H does stops limit s ends ss up down w.fits c p.0 p.1 i result mid a in
         let r =
-        meet deeds g.next ends mid up down (further s ends ends ss mid up down up down w g) runs served arrive in
+        meet deeds g.next ends mid up down (further s ends ends ss mid up down up down w g) runs
+        served arrive in
         (r.0, server_still deeds up down r.0.up r.0.down c (Answers i result) refl refl r.1)
     meet (AtServer c (SendsDown bytes) ∷ deeds) s ends ss up down w runs (mid, a, served) arrive =
         let p = w.fits.served c a.s a.at in
         let down' : ℕ → List ℕ = at_one down c (down c ++ bytes) in
         let g = server_sends H does stops limit s ends ss up down w.fits c p.0 p.1 bytes mid a in
         let r =
-        meet deeds g.next ends mid up down' (further s ends ends ss mid up down up down' w g) runs served arrive in
+        meet deeds g.next ends mid up down' (further s ends ends ss mid up down up down' w g) runs
+        served arrive in
         (r.0, server_sent_on deeds up down r.0.up r.0.down c bytes r.1)
     meet (AtServer c EndsUp ∷ deeds) s ends ss up down w runs (mid, a, served) arrive =
         let p = w.fits.served c a.s a.at in
         let g = server_ends H does stops limit s ends ss up down w.fits c p.0 p.1 mid a in
         let r =
-        meet deeds g.next ends mid up down (further s ends ends ss mid up down up down w g) runs served arrive in
+        meet deeds g.next ends mid up down (further s ends ends ss mid up down up down w g) runs
+        served arrive in
         (r.0, server_still deeds up down r.0.up r.0.down c EndsUp refl refl r.1)

@@ -14,19 +14,11 @@ use Rattle.wire_peer.specs.declared.calls.CallKind.{CallKind}
 use Rattle.wire_peer.specs.declared.calls.CallNo.{CallNo}
 use Rattle.wire_peer.specs.declared.client_state.ClientCause.{ClientCause}
 use Rattle.wire_peer.specs.declared.client_state.ClientCause.TheVariants.{MoreNotAllowed, StreamBroken}
-use Rattle.wire_channels.specs.Alone.{Got, Heard, Hearing, Made, NoneBehind, NoneTo, hear, hear_all, replied, silence}
-
--- the calls that are heard of have the numbers from the next one on, and ids that are free
-abbrev pub AreCalls : Hearing → Option ℕ → List Heard → Type 0
-AreCalls h next [] = Unit {0}
-AreCalls h next (Made kind call ∷ hs) =
-    (next ≡ Some call.number) × (Contains (ids h.table) call.id → ⊥)
-    × AreCalls (hear h (Made kind call)) (number_after call.number) hs
-AreCalls h next (Got m ∷ hs) = AreCalls (hear h (Got m)) next hs
+use Rattle.wire_channels.specs.Alone.{Got, Hearing, Made, NoneBehind, NoneTo, hear, replied, silence}
 
 -- ---- lists
 
-abbrev Each : {A : Type 0} → (A → Type 0) → List A → Type 0
+abbrev pub Each : {A : Type 0} → (A → Type 0) → List A → Type 0
 Each P [] = Unit {0}
 Each P (x ∷ xs) = P x × Each P xs
 
@@ -95,7 +87,8 @@ stream_bears (e ∷ t) o a is = by (has_part e) is (λ g. stream_bears t o a.1 g
         → cond (int_eq o.0 e.0) (Some e.1) (bearer o.0 t) ≡ Some o.1
     by true g later =
         let same = same_Some e o g in
-        ap (λ b. cond b (Some e.1) (bearer o.0 t)) (eq_int o.0 e.0 (ap (λ (z : Entry). z.0) (sym same)))
+        ap (λ b. cond b (Some e.1) (bearer o.0 t))
+        (eq_int o.0 e.0 (ap (λ (z : Entry). z.0) (sym same)))
         ∙ ap (λ (z : Entry). Some z.1) same
     by false g later =
         ap (λ b. cond b (Some e.1) (bearer o.0 t)) (stream_differs e t o a.0 g) ∙ later g
@@ -132,7 +125,8 @@ owner_bears t to more o a is = by (stream t) refl (unallowed (owner t to) is)
     by : (s : Option Entry) → stream t ≡ s → OkIs (owner_by s t to) o → bearer o.0 t ≡ Some o.1
     by None g e = bears (bearer to t) refl e
     by (Some x) g e =
-        stream_bears t o a (g ∙ ap (λ z. Some z) (streams x (int_eq x.0 to || is_last_part x.1.last to) e))
+        stream_bears t o a (g ∙ ap (λ z. Some z)
+        (streams x (int_eq x.0 to || is_last_part x.1.last to) e))
 
 -- ---- a call more, another part, or a call fewer
 
@@ -178,8 +172,11 @@ apart_set id (e ∷ t) o w same is a = by (int_eq id e.0) is (λ g. apart_set id
         → (bearer id t ≡ Some o → Apart (set_value (int_eq id) t w))
         → Apart (cond b ((e.0, w) ∷ t) (e ∷ set_value (int_eq id) t w))
     by true g later =
-        let call : w.call ≡ e.1.call = same ∙ ap (λ (z : Outstanding). z.call) (sym (same_Some e.1 o g)) in
-        (each_weaker (Differs e) (Differs (e.0, w)) t (λ f d. (d.0, λ is. d.1 (is ∙ call))) a.0, a.1)
+        let call : w.call ≡ e.1.call = same ∙ ap (λ (z : Outstanding). z.call)
+        (sym (same_Some e.1 o g)) in (
+          each_weaker (Differs e) (Differs (e.0, w)) t (λ f d. (d.0, λ is. d.1 (is ∙ call))) a.0,
+          a.1,
+        )
     by false g later =
         (each_set (Differs e) id t o w (λ i d. (d.0, λ is. d.1 (sym same ∙ is))) g a.0, later g)
 
@@ -228,136 +225,145 @@ none_push [] x n e = ((λ l. tt), tt)
 none_push (r ∷ rs) x n e =
     ((λ l. none_to_push r.0.call rs x (n.0 l) (e.0 l)), none_push rs x n.1 e.1)
 
-abbrev Below : Option ℕ → ℕ → Type 0
-Below next c = (n : ℕ) → next ≡ Some n → c < n
-
 -- no outstanding call has this number
 abbrev IsOver : Table → ℕ → Type 0
 IsOver t c = Each (λ (e : Entry). e.1.call ≡ c → ⊥) t
 
-record Tidy (h : Hearing) (next : Option ℕ) : Type 0 where
-  apart : Apart h.table
-  below : Each (λ (e : Entry). Below next e.1.call) h.table
-  past : Each (λ (r : ReadyReply × Message). Below next r.0.call) h.replies
-  over : Each (λ (r : ReadyReply × Message). r.0.last ≡ true → IsOver h.table r.0.call) h.replies
-  none : NoneBehind h.replies
+-- what holds of a client that heard this, where so many calls were made
+pub record Tidy (h : Hearing) (count : ℕ) : Type 0 where
+  pub apart : Apart h.table
+  pub below : Each (λ (e : Entry). e.1.call < count) h.table
+  pub past : Each (λ (r : ReadyReply × Message). r.0.call < count) h.replies
+  pub over : Each (λ (r : ReadyReply × Message). r.0.last ≡ true → IsOver h.table r.0.call)
+      h.replies
+  pub none : NoneBehind h.replies
 
-after_up : (n k : ℕ) → number_after n ≡ Some k → n < k
-after_up n k e = by (n == 2 ^ 64 - 1) e
+pub after_is : (n k : ℕ) → number_after n ≡ Some k → k ≡ suc n
+after_is n k e = by (n == 2 ^ 64 - 1) e
   where
-    by : (b : Bool) → (if b then None else Some (n + 1)) ≡ Some k → n < k
+    by : (b : Bool) → (if b then None else Some (n + 1)) ≡ Some k → k ≡ suc n
     by true g = absurd (none-some k g)
     by false g = let same = same_Some (n + 1) k g in omega (arith, same)
 
-below_on : (next : Option ℕ) (n c : ℕ) → next ≡ Some n → Below next c → Below (number_after n) c
-below_on next n c is b k e =
-    let lt = b n is in let up = after_up n k e in omega (arith, lt, up)
-
-tidy_made : (h : Hearing) (next : Option ℕ) (kind : CallKind) (call : CallNo) → Tidy h next
-    → next ≡ Some call.number → (Contains (ids h.table) call.id → ⊥)
-    → Tidy (hear h (Made kind call)) (number_after call.number)
-tidy_made h next kind call t is free = by (awaits_reply kind)
+pub tidy_made : (h : Hearing) (count : ℕ) (kind : CallKind) (call : CallNo) → Tidy h count
+    → call.number ≡ count → (Contains (ids h.table) call.id → ⊥)
+    → Tidy (hear h (Made kind call)) (suc count)
+tidy_made h count kind call t is free = by (awaits_reply kind)
   where
     x : Entry
     x = (call.id, record { call = call.number; kind = kind; last = None })
 
-    past : Each (λ (r : ReadyReply × Message). Below (number_after call.number) r.0.call) h.replies
+    past : Each (λ (r : ReadyReply × Message). r.0.call < suc count) h.replies
     past =
-        each_weaker (λ (r : ReadyReply × Message). Below next r.0.call)
-        (λ (r : ReadyReply × Message). Below (number_after call.number) r.0.call) h.replies
-        (λ r b. below_on next call.number r.0.call is b) t.past
+        each_weaker (λ (r : ReadyReply × Message). r.0.call < count)
+        (λ (r : ReadyReply × Message). r.0.call < suc count) h.replies (λ r lt. omega (arith, lt))
+        t.past
 
-    below : Each (λ (e : Entry). Below (number_after call.number) e.1.call) h.table
+    below : Each (λ (e : Entry). e.1.call < suc count) h.table
     below =
-        each_weaker (λ (e : Entry). Below next e.1.call)
-        (λ (e : Entry). Below (number_after call.number) e.1.call) h.table
-        (λ e b. below_on next call.number e.1.call is b) t.below
+        each_weaker (λ (e : Entry). e.1.call < count) (λ (e : Entry). e.1.call < suc count) h.table
+        (λ e lt. omega (arith, lt)) t.below
 
-    new : (n : ℕ) → call.number ≡ n → Below next n → ⊥
-    new n same b = let lt = b call.number is in omega (arith, lt, same)
+    new : (n : ℕ) → call.number ≡ n → n < count → ⊥
+    new n same lt = omega (arith, lt, same, is)
 
     by : (b : Bool)
-        → Tidy (record { table = if b then h.table ++ x ∷ [] else h.table; replies = h.replies; cause = h.cause }) (number_after call.number)
+        → Tidy (record {
+          table = if b then h.table ++ x ∷ [] else h.table;
+          replies = h.replies;
+          cause = h.cause;
+        }) (suc count)
     by false = record { apart = t.apart; below = below; past = past; over = t.over; none = t.none }
     by true = record {
       apart =
           apart_push h.table x t.apart
-          (each_both (λ (f : Entry). int_eq call.id f.0 ≡ false) (λ (f : Entry). call.number ≡ f.1.call → ⊥) h.table
+          (each_both (λ (f : Entry). int_eq call.id f.0 ≡ false)
+          (λ (f : Entry). call.number ≡ f.1.call → ⊥) h.table
           (free_each call.id h.table free)
-          (each_weaker (λ (e : Entry). Below next e.1.call) (λ (f : Entry). call.number ≡ f.1.call → ⊥) h.table (λ e b same. new e.1.call same b) t.below));
+          (each_weaker (λ (e : Entry). e.1.call < count) (λ (f : Entry). call.number ≡ f.1.call
+          → ⊥) h.table (λ e b same. new e.1.call same b) t.below));
       below =
-          each_push (λ (e : Entry). Below (number_after call.number) e.1.call) h.table x below (λ k e. after_up call.number k e);
+          each_push (λ (e : Entry). e.1.call < suc count) h.table x below (omega (arith, is));
       past = past;
       over =
-          each_weaker (λ (r : ReadyReply × Message). (r.0.last ≡ true → IsOver h.table r.0.call) × Below next r.0.call)
-          (λ (r : ReadyReply × Message). r.0.last ≡ true → IsOver (h.table ++ x ∷ []) r.0.call) h.replies
-          (λ r p l. each_push (λ (e : Entry). e.1.call ≡ r.0.call → ⊥) h.table x (p.0 l) (λ same. new r.0.call same p.1))
-          (each_both (λ (r : ReadyReply × Message). r.0.last ≡ true → IsOver h.table r.0.call) (λ (r : ReadyReply × Message). Below next r.0.call) h.replies t.over t.past);
+          each_weaker (λ (r : ReadyReply × Message). (r.0.last ≡ true → IsOver h.table r.0.call)
+          × r.0.call < count)
+          (λ (r : ReadyReply × Message). r.0.last ≡ true → IsOver (h.table ++ x ∷ []) r.0.call)
+          h.replies
+          (λ r p l. each_push (λ (e : Entry). e.1.call ≡ r.0.call → ⊥) h.table x (p.0 l)
+          (λ same. new r.0.call same p.1))
+          (each_both (λ (r : ReadyReply × Message). r.0.last ≡ true → IsOver h.table r.0.call)
+          (λ (r : ReadyReply × Message). r.0.call < count) h.replies t.over t.past);
       none = t.none;
     }
 
-module _ (h : Hearing) (next : Option ℕ) (t : Tidy h next) (m : Message) (o : Entry)
+module _ (h : Hearing) (count : ℕ) (t : Tidy h count) (m : Message) (o : Entry)
     (bears : bearer o.0 h.table ≡ Some o.1) where
   -- replies that were the last ones are to other calls
   others : Each (λ (r : ReadyReply × Message). r.0.last ≡ true → o.1.call ≡ r.0.call → ⊥) h.replies
   others =
       each_weaker (λ (r : ReadyReply × Message). r.0.last ≡ true → IsOver h.table r.0.call)
       (λ (r : ReadyReply × Message). r.0.last ≡ true → o.1.call ≡ r.0.call → ⊥) h.replies
-      (λ r over l. (each_bearer (λ (e : Entry). e.1.call ≡ r.0.call → ⊥) o.0 h.table o.1 (over l) bears).2) t.over
+      (λ r over l. (each_bearer (λ (e : Entry). e.1.call ≡ r.0.call → ⊥) o.0 h.table o.1 (over l)
+      bears).2) t.over
 
-  low : Below next o.1.call
-  low = (each_bearer (λ (e : Entry). Below next e.1.call) o.0 h.table o.1 t.below bears).2
+  low : o.1.call < count
+  low = (each_bearer (λ (e : Entry). e.1.call < count) o.0 h.table o.1 t.below bears).2
 
   tidy_reply : (id : ℤ) (more : Bool)
-      → Tidy (record { table = after_reply h.table o id more; replies = h.replies ++ (reply_to o more, m) ∷ []; cause = h.cause }) next
+      → Tidy (record {
+        table = after_reply h.table o id more;
+        replies = h.replies ++
+            (reply_to o more, m) ∷ [];
+        cause = h.cause;
+      }) count
   tidy_reply id true = record {
     apart = apart_set o.0 h.table o.1 (after_part o.1 id) refl bears t.apart;
     below =
-        each_set (λ (e : Entry). Below next e.1.call) o.0 h.table o.1 (after_part o.1 id) (λ i b. b) bears t.below;
+        each_set (λ (e : Entry). e.1.call < count) o.0 h.table o.1 (after_part o.1 id) (λ i b. b)
+        bears t.below;
     past =
-        each_push (λ (r : ReadyReply × Message). Below next r.0.call) h.replies (reply_to o true, m) t.past low;
+        each_push (λ (r : ReadyReply × Message). r.0.call < count) h.replies (reply_to o true, m)
+        t.past low;
     over =
-        each_push (λ (r : ReadyReply × Message). r.0.last ≡ true → IsOver (after_reply h.table o id true) r.0.call) h.replies (reply_to o true, m)
+        each_push (λ (r : ReadyReply × Message). r.0.last ≡ true
+        → IsOver (after_reply h.table o id true) r.0.call) h.replies (reply_to o true, m)
         (each_weaker (λ (r : ReadyReply × Message). r.0.last ≡ true → IsOver h.table r.0.call)
-        (λ (r : ReadyReply × Message). r.0.last ≡ true → IsOver (after_reply h.table o id true) r.0.call) h.replies
-        (λ r over l. each_set (λ (e : Entry). e.1.call ≡ r.0.call → ⊥) o.0 h.table o.1 (after_part o.1 id) (λ i n. n) bears (over l)) t.over)
+        (λ (r : ReadyReply × Message). r.0.last ≡ true → IsOver (after_reply h.table o id true)
+        r.0.call) h.replies
+        (λ r over l. each_set (λ (e : Entry). e.1.call ≡ r.0.call → ⊥) o.0 h.table o.1
+        (after_part o.1 id) (λ i n. n) bears (over l)) t.over)
         (λ l. cc);
     none = none_push h.replies (reply_to o true, m) t.none others;
   }
   tidy_reply id false = record {
     apart = apart_without o.0 h.table t.apart;
-    below = each_without (λ (e : Entry). Below next e.1.call) o.0 h.table t.below;
+    below = each_without (λ (e : Entry). e.1.call < count) o.0 h.table t.below;
     past =
-        each_push (λ (r : ReadyReply × Message). Below next r.0.call) h.replies (reply_to o false, m) t.past low;
+        each_push (λ (r : ReadyReply × Message). r.0.call < count) h.replies (reply_to o false, m)
+        t.past low;
     over =
-        each_push (λ (r : ReadyReply × Message). r.0.last ≡ true → IsOver (without o.0 h.table) r.0.call) h.replies (reply_to o false, m)
+        each_push (λ (r : ReadyReply × Message). r.0.last ≡ true → IsOver (without o.0 h.table)
+        r.0.call) h.replies (reply_to o false, m)
         (each_weaker (λ (r : ReadyReply × Message). r.0.last ≡ true → IsOver h.table r.0.call)
-        (λ (r : ReadyReply × Message). r.0.last ≡ true → IsOver (without o.0 h.table) r.0.call) h.replies
-        (λ r over l. each_without (λ (e : Entry). e.1.call ≡ r.0.call → ⊥) o.0 h.table (over l)) t.over)
+        (λ (r : ReadyReply × Message). r.0.last ≡ true → IsOver (without o.0 h.table) r.0.call)
+        h.replies
+        (λ r over l. each_without (λ (e : Entry). e.1.call ≡ r.0.call → ⊥) o.0 h.table (over l))
+        t.over)
         (λ l. gone o.0 h.table o.1 t.apart bears);
     none = none_push h.replies (reply_to o false, m) t.none others;
   }
 
-tidy_got : (h : Hearing) (next : Option ℕ) (m : Message) → Tidy h next → Tidy (hear h (Got m)) next
-tidy_got h next m t = by (allowed m.flags.more_to_come (owner h.table m.response_to)) refl
+pub tidy_got : (h : Hearing) (count : ℕ) (m : Message) → Tidy h count → Tidy (hear h (Got m)) count
+tidy_got h count m t = by (allowed m.flags.more_to_come (owner h.table m.response_to)) refl
   where
     by : (r : Result Entry ClientCause) → allowed m.flags.more_to_come (owner h.table m.response_to) ≡ r
-        → Tidy (replied h m r) next
+        → Tidy (replied h m r) count
     by (Ok o) e =
-        tidy_reply h next t m o (owner_bears h.table m.response_to m.flags.more_to_come o t.apart e) m.id m.flags.more_to_come
+        tidy_reply h count t m o (owner_bears h.table m.response_to m.flags.more_to_come o t.apart e) m.id
+        m.flags.more_to_come
     by (Err cause) e =
         record { apart = t.apart; below = t.below; past = t.past; over = t.over; none = t.none }
 
-tidy_all : (hs : List Heard) (h : Hearing) (next : Option ℕ) → AreCalls h next hs → Tidy h next
-    → NoneBehind (hear_all h hs).replies
-tidy_all [] h next calls t = t.none
-tidy_all (Made kind call ∷ hs) h next calls t =
-    tidy_all hs (hear h (Made kind call)) (number_after call.number) calls.2
-    (tidy_made h next kind call t calls.0 calls.1)
-tidy_all (Got m ∷ hs) h next calls t =
-    tidy_all hs (hear h (Got m)) next calls (tidy_got h next m t)
-
-pub none_behind_last : (hs : List Heard) → AreCalls silence (Some 0) hs
-    → NoneBehind (hear_all silence hs).replies
-none_behind_last hs calls =
-    tidy_all hs silence (Some 0) calls (record { apart = tt; below = tt; past = tt; over = tt; none = tt })
+pub tidy_start : Tidy silence 0
+tidy_start = record { apart = tt; below = tt; past = tt; over = tt; none = tt }

@@ -133,9 +133,18 @@ module _ {H : Type 0} (m : Machine H) (ok : Ok m) (unraw : (c : ℕ) → m.raw c
   behind i x at =
       let o = agree i x at in
       let b = nth_back m.calls i o.0 (shown_at i o.0 o.1) in
-      record { y = o.0; agrees = o.2; z = b.0; at = b.1; same = b.2; place = sym (ap call_place b.1) }
+      record {
+        y = o.0;
+        agrees = o.2;
+        z = b.0;
+        at = b.1;
+        same = b.2;
+        place =
+            sym (ap call_place b.1);
+      }
 
-  alike : (i : ℕ) (x y : Record) → Agree ps i x y → (y.connection ≡ x.connection) × (y.asked ≡ x.asked)
+  alike : (i : ℕ) (x y : Record) → Agree ps i x y → (y.connection ≡ x.connection)
+      × (y.asked ≡ x.asked)
   alike i x y (inl e) =
       (ap (λ (r : Record). r.connection) e.0, ap (λ (r : Record). r.asked) e.0)
   alike i x y (inr a) =
@@ -208,14 +217,16 @@ module _ {H : Type 0} (m : Machine H) (ok : Ok m) (unraw : (c : ℕ) → m.raw c
   one i j x y e at_i at_j n n' =
       let b = behind i x at_i in
       let d = behind j y at_j in
-      once i j x y at_i at_j ((one_call m ok).0 (nth_of m.calls i) (nth_of m.calls j) e b.z d.z b.at d.at (named_by i x b e n) (named_by j y d e n'))
+      once i j x y at_i at_j ((one_call m ok).0 (nth_of m.calls i) (nth_of m.calls j) e b.z d.z
+      b.at d.at (named_by i x b e n) (named_by j y d e n'))
 
   named : (e : ℕ) (en : LogEntry) → slice_get m.log e ≡ Some en → (i : ℕ) × (x : Record)
       × IsOne i x × Names (place_of i) e
   named e en at =
       let w = (one_call m ok).1 e en at in
       let p = nth_to m.calls w.0 w.1 w.2 (all_ours w.0 w.1 w.2) in
-      let at_y : slice_get ys p.0 ≡ Some (shown w.1) = ap (λ cs. slice_get cs p.0) (sym shows) ∙ p.2 in
+      let at_y : slice_get ys p.0 ≡ Some (shown w.1) = ap (λ cs. slice_get cs p.0) (sym shows)
+      ∙ p.2 in
       let lt = slice_get_within ys p.0 (shown w.1) at_y in
       let x = get_within xs p.0 (omega (arith, lt, many)) in
       let b = behind p.0 x.0 x.1 in
@@ -232,7 +243,8 @@ module _ {H : Type 0} (m : Machine H) (ok : Ok m) (unraw : (c : ℕ) → m.raw c
       b = behind i x at
 
       w : (b.z.state ≡ Sent) × (b.z.parts ≡ [])
-      w = silent_none m ok (nth_of m.calls i) b.z b.at (all_ours (nth_of m.calls i) b.z b.at) (ap (λ z. z.more_to_come) ((of_call i x b).1)
+      w = silent_none m ok (nth_of m.calls i) b.z b.at (all_ours (nth_of m.calls i) b.z b.at)
+          (ap (λ z. z.more_to_come) ((of_call i x b).1)
           ∙ is)
 
       by : Agree ps i x b.y → (x.state ≡ Sent) × (x.parts ≡ [])
@@ -242,7 +254,8 @@ module _ {H : Type 0} (m : Machine H) (ok : Ok m) (unraw : (c : ℕ) → m.raw c
             ∙ w.1,
       )
       by (inr a) =
-          absurd (some_more x.parts a.m.content (ap (λ (r : Record). r.parts) (sym (b.same ∙ a.given)) ∙ w.1))
+          absurd (some_more x.parts a.m.content
+          (ap (λ (r : Record). r.parts) (sym (b.same ∙ a.given)) ∙ w.1))
 
   beginning : (i : ℕ) (x : Record) → IsOne i x → (x.state ≡ Pending) ⊎ (x.state ≡ Lost)
       → HoldsBeginning m.log (place_of i) x
@@ -268,7 +281,13 @@ module _ {H : Type 0} (m : Machine H) (ok : Ok m) (unraw : (c : ℕ) → m.raw c
         | inl w ↦
             let p = (ok.each j b.z b.at).entry w.0 w.2 in
             let same : p.0 ≡ w.1 = same_Some p.0 w.1 (sym p.1 ∙ w.3) in
-            inl (w.0, entry_is i x b w.0 p.0 p.1 p.2 p.3, names w.0 w.2, less p.0.answers (subst (λ (z : LogEntry). Owes z.answers b.z.parts) (sym same) w.4))
+            inl (
+              w.0,
+              entry_is i x b w.0 p.0 p.1 p.2 p.3,
+              names w.0 w.2,
+              less p.0.answers
+                  (subst (λ (z : LogEntry). Owes z.answers b.z.parts) (sym same) w.4),
+            )
         | inr w ↦ inr (
           none w.0,
           λ e n.
@@ -283,9 +302,20 @@ module _ {H : Type 0} (m : Machine H) (ok : Ok m) (unraw : (c : ℕ) → m.raw c
           let state : b.z.state ≡ Done = ap (λ (r : Record). r.state) (b.same ∙ a.given)
           ∙ ap (λ l. if l then Done else x.state) e in
           let w = done_whole m ok j b.z b.at state in
-          inl (w.0, entry_is i x b w.0 w.1 w.3 w.4 w.5, names w.0 (inl w.2), (a.m.content, [], w.6 ∙ ap (λ (r : Record). Some r.parts) (b.same ∙ a.given)))
+          inl (
+            w.0,
+            entry_is i x b w.0 w.1 w.3 w.4 w.5,
+            names w.0 (inl w.2),
+            (
+              a.m.content,
+              [],
+              w.6
+                  ∙ ap (λ (r : Record). Some r.parts) (b.same ∙ a.given),
+            ),
+          )
       ahead a false e =
-          let parts : b.z.parts ≡ x.parts ++ a.m.content ∷ [] = ap (λ (r : Record). r.parts) (b.same ∙ a.given) in
+          let parts : b.z.parts ≡ x.parts ++ a.m.content ∷ [] = ap (λ (r : Record). r.parts)
+          (b.same ∙ a.given) in
           let state : b.z.state ≡ x.state = ap (λ (r : Record). r.state) (b.same ∙ a.given)
           ∙ ap (λ l. if l then Done else x.state) e in
           from (elim how [ inl q ↦ inl (state ∙ q) | inr q ↦ inr (state ∙ q) ])
@@ -306,7 +336,8 @@ module _ {H : Type 0} (m : Machine H) (ok : Ok m) (unraw : (c : ℕ) → m.raw c
           (λ answers o. subst (Owes answers) parts o) (λ none. sym parts ∙ none)
       by (inr a) = ahead a a.is.reply.last refl
 
-  mute : (i : ℕ) (x : Record) → IsOne i x → ((e : ℕ) × (place_of i ≡ Mute e)) ⊎ (place_of i ≡ Never)
+  mute : (i : ℕ) (x : Record) → IsOne i x → ((e : ℕ) × (place_of i ≡ Mute e))
+      ⊎ (place_of i ≡ Never)
       → (x.parts ≡ []) × (x.state ≡ Done → ⊥)
   mute i x at how = by b.agrees
     where
@@ -327,7 +358,8 @@ module _ {H : Type 0} (m : Machine H) (ok : Ok m) (unraw : (c : ℕ) → m.raw c
             λ done. (early how).1 (ap (λ (r : Record). r.state) same ∙ done),
           )
       by (inr a) =
-          absurd (some_more x.parts a.m.content (ap (λ (r : Record). r.parts) (sym (b.same ∙ a.given)) ∙ (early how).0))
+          absurd (some_more x.parts a.m.content
+          (ap (λ (r : Record). r.parts) (sym (b.same ∙ a.given)) ∙ (early how).0))
 
   pub owned_calls : Owned m (λ (i : ℕ) (x : Record). slice_get xs i ≡ Some x)
   owned_calls = record {

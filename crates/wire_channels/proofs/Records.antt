@@ -56,9 +56,31 @@ still_set i ps c p q at alike d is = elim (same_or_not d c) [
       let same : is.p ≡ p = same_Some is.p p (sym is.at ∙ ap (pair_at ps) e ∙ at) in
       let a =
       alike is.reply (ap (λ (z : Pair). z.client.reply) (sym same)
-      ∙ is.ready) (ap (λ (z : Pair). slice_get z.calls is.reply.call) (sym same) ∙ is.index) in
-      (record { p = q; at = ap (pair_at (pair_set ps c q)) e ∙ pair_set-same ps c p q at; reply = is.reply; ready = a.0; index = a.1 }, refl, a.2 ∙ ap (λ (z : Pair). z.client.held) (sym same))
-  | inr n ↦ (record { p = is.p; at = pair_set-other ps c d q n ∙ is.at; reply = is.reply; ready = is.ready; index = is.index }, refl, refl)
+      ∙ is.ready) (ap (λ (z : Pair). slice_get z.calls is.reply.call) (sym same) ∙ is.index) in (
+        record {
+          p = q;
+          at = ap (pair_at (pair_set ps c q)) e ∙ pair_set-same ps c p q at;
+          reply =
+              is.reply;
+          ready = a.0;
+          index = a.1;
+        },
+        refl,
+        a.2 ∙ ap (λ (z : Pair). z.client.held)
+            (sym same),
+      )
+  | inr n ↦ (
+    record {
+      p = is.p;
+      at = pair_set-other ps c d q n ∙ is.at;
+      reply = is.reply;
+      ready =
+          is.ready;
+      index = is.index;
+    },
+    refl,
+    refl,
+  )
 ]
 
 still_back : (i : ℕ) (ps : List Pair) (c : ℕ) (p q : Pair) → pair_at ps c ≡ Some p
@@ -69,9 +91,22 @@ still_back i ps c p q at alike d is = elim (same_or_not d c) [
       ∙ pair_set-same ps c p q at) in
       let a =
       alike is.reply (ap (λ (z : Pair). z.client.reply) (sym same)
-      ∙ is.ready) (ap (λ (z : Pair). slice_get z.calls is.reply.call) (sym same) ∙ is.index) in
-      (record { p = p; at = ap (pair_at ps) e ∙ at; reply = is.reply; ready = a.0; index = a.1 }, refl, a.2 ∙ ap (λ (z : Pair). z.client.held) (sym same))
-  | inr n ↦ (record { p = is.p; at = sym (pair_set-other ps c d q n) ∙ is.at; reply = is.reply; ready = is.ready; index = is.index }, refl, refl)
+      ∙ is.ready) (ap (λ (z : Pair). slice_get z.calls is.reply.call) (sym same) ∙ is.index) in (
+        record { p = p; at = ap (pair_at ps) e ∙ at; reply = is.reply; ready = a.0; index = a.1 },
+        refl,
+        a.2 ∙ ap (λ (z : Pair). z.client.held) (sym same),
+      )
+  | inr n ↦ (
+    record {
+      p = is.p;
+      at = sym (pair_set-other ps c d q n) ∙ is.at;
+      reply = is.reply;
+      ready = is.ready;
+      index = is.index;
+    },
+    refl,
+    refl,
+  )
 ]
 
 -- what holds of the pair that is changed and of the others
@@ -103,16 +138,25 @@ pub kept_alike : (ps : List Pair) (xs ys : List Record) (c : ℕ) (p q : Pair)
     → q.client.held ≡ p.client.held → Kept ps xs ys → Kept (pair_set ps c q) xs ys
 kept_alike ps xs ys c p q at calls reply held k = record {
   own =
-      at_set (Owns xs) ps c p q at (λ n i is. k.own c p at n i (ap (λ z. slice_get z n) (sym calls) ∙ is)) k.own;
+      at_set (Owns xs) ps c p q at (λ n i is. k.own c p at n i (ap (λ z. slice_get z n) (sym calls)
+      ∙ is)) k.own;
   to =
-      at_set ToSome ps c p q at (λ r is. let t = k.to c p at r (sym reply ∙ is) in (t.0, ap (λ z. slice_get z r.call) calls ∙ t.1)) k.to;
+      at_set ToSome ps c p q at (λ r is. let t = k.to c p at r (sym reply ∙ is) in
+      (t.0, ap (λ z. slice_get z r.call) calls ∙ t.1)) k.to;
   as_many = k.as_many;
   agree = λ i x is. let o = k.agree i x is in (
     o.0,
     o.1,
     agree_still i ps (pair_set ps c q) x o.0
-        (still_set i ps c p q at (λ r a b. (reply ∙ a, ap (λ z. slice_get z r.call) calls ∙ b, held)))
-        (still_back i ps c p q at (λ r a b. (sym reply ∙ a, ap (λ z. slice_get z r.call) (sym calls) ∙ b, sym held))) o.2,
+        (still_set i ps c p q at (λ r a b. (
+          reply ∙ a,
+          ap (λ z. slice_get z r.call) calls
+              ∙ b,
+          held,
+        )))
+        (still_back i ps c p q at
+        (λ r a b. (sym reply ∙ a, ap (λ z. slice_get z r.call) (sym calls) ∙ b, sym held)))
+        o.2,
   );
 }
 
@@ -122,7 +166,8 @@ pub kept_pairs : (ps : List Pair) (xs ys : List Record) (q : Pair) → q.calls �
 kept_pairs ps xs ys q none unready k = record {
   own = λ c p at n i is. elim (pair_push-cases ps c p q at) [
     | inl old ↦ k.own c p old n i is
-    | inr new ↦ absurd (none-some i (ap (λ z. slice_get z n) (sym none ∙ ap (λ (z : Pair). z.calls) new) ∙ is))
+    | inr new ↦ absurd (none-some i (ap (λ z. slice_get z n) (sym none ∙ ap (λ (z : Pair). z.calls)
+        new) ∙ is))
   ];
   to = λ c p at reply is. elim (pair_push-cases ps c p q at) [
     | inl old ↦ k.to c p old reply is
@@ -133,10 +178,33 @@ kept_pairs ps xs ys q none unready k = record {
     o.0,
     o.1,
     agree_still i ps (ps ++ q ∷ []) x o.0
-        (λ c r. (record { p = r.p; at = pair_push-old ps c r.p q r.at; reply = r.reply; ready = r.ready; index = r.index }, refl, refl))
+        (λ c r. (
+          record {
+            p = r.p;
+            at = pair_push-old ps c r.p q r.at;
+            reply = r.reply;
+            ready =
+                r.ready;
+            index = r.index;
+          },
+          refl,
+          refl,
+        ))
         (λ c r. elim (pair_push-cases ps c r.p q r.at) [
-          | inl old ↦ (record { p = r.p; at = old; reply = r.reply; ready = r.ready; index = r.index }, refl, refl)
-          | inr new ↦ absurd (none-some r.reply (sym unready ∙ ap (λ (z : Pair). z.client.reply) new ∙ r.ready))
+          | inl old ↦ (
+            record {
+              p = r.p;
+              at = old;
+              reply = r.reply;
+              ready = r.ready;
+              index =
+                  r.index;
+            },
+            refl,
+            refl,
+          )
+          | inr new ↦ absurd (none-some r.reply (sym unready ∙ ap (λ (z : Pair). z.client.reply)
+              new ∙ r.ready))
         ]) o.2,
   );
 }
@@ -152,23 +220,44 @@ pub kept_calls : (ps : List Pair) (xs ys : List Record) (c : ℕ) (p q : Pair) (
     → Kept ps xs ys → Kept (pair_set ps c q) (xs ++ r ∷ []) (ys ++ r ∷ [])
 kept_calls ps xs ys c p q r at calls reply held here k = record {
   own = at_set (Owns (xs ++ r ∷ [])) ps c p q at
-      (λ n i is. elim (get-push_cases p.calls n i (length xs) (ap (λ z. slice_get z n) (sym calls) ∙ is)) [
+      (λ n i is. elim (get-push_cases p.calls n i (length xs) (ap (λ z. slice_get z n) (sym calls)
+      ∙ is)) [
         | inl old ↦ (let o = k.own c p at n i old in (o.0, get-push_old xs i o.0 r o.1, o.2))
         | inr new ↦ (r, ap (slice_get (xs ++ r ∷ [])) (sym new.1) ∙ get-push_new xs r, here)
       ])
       (λ d o is n i g. let w = k.own d o is n i g in (w.0, get-push_old xs i w.0 r w.1, w.2));
   to =
-      at_set ToSome ps c p q at (λ a is. let t = k.to c p at a (sym reply ∙ is) in (t.0, ap (λ z. slice_get z a.call) calls ∙ get-push_old p.calls a.call t.0 (length xs) t.1)) k.to;
+      at_set ToSome ps c p q at (λ a is. let t = k.to c p at a (sym reply ∙ is) in (
+        t.0,
+        ap (λ z. slice_get z a.call) calls ∙ get-push_old p.calls a.call t.0 (length xs)
+            t.1,
+      )) k.to;
   as_many = length-push ys r ∙ ap suc k.as_many ∙ sym (length-push xs r);
   agree = λ i x is. elim (get-push_cases xs i x r is) [
     | inl old ↦ (let o = k.agree i x old in (
       o.0,
       get-push_old ys i o.0 r o.1,
       agree_still i ps (pair_set ps c q) x o.0
-          (still_set i ps c p q at (λ a e f. (reply ∙ e, ap (λ z. slice_get z a.call) calls ∙ get-push_old p.calls a.call i (length xs) f, held)))
-          (still_back i ps c p q at (λ a e f. (sym reply ∙ e, before i x old a.call (ap (λ z. slice_get z a.call) (sym calls) ∙ f), sym held))) o.2,
+          (still_set i ps c p q at (λ a e f. (
+            reply ∙ e,
+            ap (λ z. slice_get z a.call) calls
+                ∙ get-push_old p.calls a.call i (length xs) f,
+            held,
+          )))
+          (still_back i ps c p q at
+          (λ a e f. (
+            sym reply ∙ e,
+            before i x old a.call
+                (ap (λ z. slice_get z a.call) (sym calls) ∙ f),
+            sym held,
+          ))) o.2,
     ))
-    | inr new ↦ (r, ap (slice_get (ys ++ r ∷ [])) (new.0 ∙ sym k.as_many) ∙ get-push_new ys r, inl (new.1, λ js. unready i x new.0 new.1 js))
+    | inr new ↦ (
+      r,
+      ap (slice_get (ys ++ r ∷ [])) (new.0 ∙ sym k.as_many) ∙ get-push_new ys r,
+      inl
+          (new.1, λ js. unready i x new.0 new.1 js),
+    )
   ];
 }
   where
@@ -190,7 +279,10 @@ kept_calls ps xs ys c p q r at calls reply held here k = record {
         k.to c p at js.reply (sym reply ∙ ap (λ (z : Pair). z.client.reply) (sym is)
         ∙ js.ready) in
         let w = k.own c p at js.reply.call t.0 t.1 in
-        let there : t.0 ≡ i = same_Some t.0 i (sym (get-push_old p.calls js.reply.call t.0 (length xs) t.1) ∙ ap (λ z. slice_get z js.reply.call) (sym calls ∙ ap (λ (z : Pair). z.calls) (sym is)) ∙ js.index) in
+        let there : t.0 ≡ i = same_Some t.0 i
+        (sym (get-push_old p.calls js.reply.call t.0 (length xs) t.1)
+        ∙ ap (λ z. slice_get z js.reply.call) (sym calls ∙ ap (λ (z : Pair). z.calls)
+        (sym is)) ∙ js.index) in
         not_within xs t.0 w.0 (there ∙ e) w.1
 
 -- ---- the client is fed
@@ -201,7 +293,8 @@ pub kept_fed : (ps : List Pair) (xs ys : List Record) (c : ℕ) (p q : Pair) →
     → Kept (pair_set ps c q) xs ys
 kept_fed ps xs ys c p q at calls none still k = record {
   own =
-      at_set (Owns xs) ps c p q at (λ n i is. k.own c p at n i (ap (λ z. slice_get z n) (sym calls) ∙ is)) k.own;
+      at_set (Owns xs) ps c p q at (λ n i is. k.own c p at n i (ap (λ z. slice_get z n) (sym calls)
+      ∙ is)) k.own;
   to = at_set ToSome ps c p q at (λ r is. absurd (none-some r (sym still ∙ is))) k.to;
   as_many = k.as_many;
   agree = λ i x is. let o = k.agree i x is in (
@@ -214,24 +307,41 @@ kept_fed ps xs ys c p q at calls none still k = record {
 }
 
 -- a reply becomes ready, to a call that is pending
-pub kept_ready : (ps : List Pair) (xs ys : List Record) (c : ℕ) (p q : Pair) (reply : ReadyReply) (m : Message) (index : ℕ) (y : Record) → pair_at ps c ≡ Some p → q.calls ≡ p.calls → p.client.reply ≡ None → q.client.reply ≡ Some reply → SpellsMsg m q.client.held
+pub kept_ready : (ps : List Pair) (xs ys : List Record) (c : ℕ) (p q : Pair) (reply : ReadyReply)
+    (m : Message) (index : ℕ) (y : Record) → pair_at ps c ≡ Some p → q.calls ≡ p.calls
+    → p.client.reply ≡ None → q.client.reply ≡ Some reply → SpellsMsg m q.client.held
     → slice_get p.calls reply.call ≡ Some index → slice_get ys index ≡ Some y → y.state ≡ Pending
     → Kept ps xs ys
     → Kept (pair_set ps c q) xs (slice_set ys index (given_record y m.content reply.last))
 kept_ready ps xs ys c p q reply m index y at calls none ready spells to at_y pending k = record {
   own =
-      at_set (Owns xs) ps c p q at (λ n i is. k.own c p at n i (ap (λ z. slice_get z n) (sym calls) ∙ is)) k.own;
+      at_set (Owns xs) ps c p q at (λ n i is. k.own c p at n i (ap (λ z. slice_get z n) (sym calls)
+      ∙ is)) k.own;
   to =
-      at_set ToSome ps c p q at (λ r is. (index, ap (λ z. slice_get z r.call) calls ∙ ap (λ (z : ReadyReply). slice_get p.calls z.call) (same_Some r reply (sym is ∙ ready)) ∙ to)) k.to;
+      at_set ToSome ps c p q at (λ r is. (
+        index,
+        ap (λ z. slice_get z r.call) calls
+            ∙ ap (λ (z : ReadyReply). slice_get p.calls z.call) (same_Some r reply (sym is ∙ ready))
+            ∙ to,
+      )) k.to;
   as_many = length-slice_set ys index _ ∙ k.as_many;
   agree = λ i x is. elim (same_or_not i index) [
-    | inl e ↦ (given_record y m.content reply.last, ap (slice_get (slice_set ys index (given_record y m.content reply.last))) e ∙ get-set_same ys index y _ at_y, inr (ahead i x is e))
+    | inl e ↦ (
+      given_record y m.content reply.last,
+      ap
+          (slice_get (slice_set ys index (given_record y m.content reply.last))) e
+          ∙ get-set_same ys index y _ at_y,
+      inr (ahead i x is e),
+    )
     | inr n ↦ (let o = k.agree i x is in (
       o.0,
       get-set_other ys index i _ n ∙ o.1,
       agree_still i ps (pair_set ps c q) x o.0
           (still_set i ps c p q at (λ r a b. absurd (none-some r (sym none ∙ a))))
-          (still_back i ps c p q at (λ r a b. absurd (n (same_Some i index (sym b ∙ ap (λ z. slice_get z r.call) calls ∙ ap (λ (z : ReadyReply). slice_get p.calls z.call) (same_Some r reply (sym a ∙ ready)) ∙ to))))) o.2,
+          (still_back i ps c p q at
+          (λ r a b. absurd (n (same_Some i index (sym b ∙ ap (λ z. slice_get z r.call) calls
+          ∙ ap (λ (z : ReadyReply). slice_get p.calls z.call)
+          (same_Some r reply (sym a ∙ ready)) ∙ to))))) o.2,
     ))
   ];
 }
@@ -246,7 +356,9 @@ kept_ready ps xs ys c p q reply m index y at calls none ready spells to at_y pen
         let there : o.0 ≡ y = same_Some o.0 y (sym o.1 ∙ ap (slice_get ys) e ∙ at_y) in
         let same : y ≡ x = elim o.2 [
           | inl s ↦ sym there ∙ s.0
-          | inr a ↦ absurd (let is_p : a.is.p ≡ p = same_Some a.is.p p (sym a.is.at ∙ ap (pair_at ps) conn ∙ at) in none-some a.is.reply (sym none ∙ ap (λ (z : Pair). z.client.reply) (sym is_p) ∙ a.is.ready))
+          | inr a ↦ absurd (let is_p : a.is.p ≡ p = same_Some a.is.p p
+              (sym a.is.at ∙ ap (pair_at ps) conn ∙ at) in none-some a.is.reply
+              (sym none ∙ ap (λ (z : Pair). z.client.reply) (sym is_p) ∙ a.is.ready))
         ] in
         record {
           is = record {
@@ -270,27 +382,45 @@ own_given : (xs : List Record) (index : ℕ) (x0 : Record) (part : Content) (las
     → Owns (slice_set xs index (given_record x0 part last)) c p
 own_given xs index x0 part last at c p own n i is =
     let w = own n i is in elim (same_or_not i index) [
-      | inl e ↦ (given_record x0 part last, ap (slice_get (slice_set xs index (given_record x0 part last))) e ∙ get-set_same xs index x0 _ at, ap (λ (z : Record). z.connection) (same_Some x0 w.0 (sym at ∙ ap (slice_get xs) (sym e) ∙ w.1)) ∙ w.2)
+      | inl e ↦ (
+        given_record x0 part last,
+        ap
+            (slice_get (slice_set xs index (given_record x0 part last))) e ∙ get-set_same xs
+            index x0 _ at,
+        ap (λ (z : Record). z.connection)
+            (same_Some x0 w.0 (sym at ∙ ap (slice_get xs) (sym e) ∙ w.1)) ∙ w.2,
+      )
       | inr n' ↦ (w.0, get-set_other xs index i _ n' ∙ w.1, w.2)
     ]
 
-kept_given : (ps : List Pair) (xs ys : List Record) (c : ℕ) (p q : Pair) (reply : ReadyReply) (m : Message) (index : ℕ) (x0 : Record) → pair_at ps c ≡ Some p → q.calls ≡ p.calls → p.client.reply ≡ Some reply → q.client.reply ≡ None → SpellsMsg m p.client.held
+kept_given : (ps : List Pair) (xs ys : List Record) (c : ℕ) (p q : Pair) (reply : ReadyReply)
+    (m : Message) (index : ℕ) (x0 : Record) → pair_at ps c ≡ Some p → q.calls ≡ p.calls
+    → p.client.reply ≡ Some reply → q.client.reply ≡ None → SpellsMsg m p.client.held
     → slice_get p.calls reply.call ≡ Some index → slice_get xs index ≡ Some x0 → x0.connection ≡ c
     → Kept ps xs ys
     → Kept (pair_set ps c q) (slice_set xs index (given_record x0 m.content reply.last)) ys
 kept_given ps xs ys c p q reply m index x0 at calls ready none spells to at_x conn k = record {
   own = at_set (Owns xs') ps c p q at
-      (own_given xs index x0 m.content reply.last at_x c q (λ n i is. k.own c p at n i (ap (λ z. slice_get z n) (sym calls) ∙ is)))
+      (own_given xs index x0 m.content reply.last at_x c q
+      (λ n i is. k.own c p at n i (ap (λ z. slice_get z n) (sym calls) ∙ is)))
       (λ d o is. own_given xs index x0 m.content reply.last at_x d o (k.own d o is));
   to = at_set ToSome ps c p q at (λ r is. absurd (none-some r (sym none ∙ is))) k.to;
   as_many = k.as_many ∙ sym (length-slice_set xs index _);
   agree = λ i x is. elim (same_or_not i index) [
-    | inl e ↦ (let o = k.agree index x0 at_x in (o.0, ap (slice_get ys) e ∙ o.1, inl (even o.0 o.2 ∙ same i x is e, λ js. unready i x is e js)))
+    | inl e ↦ (let o = k.agree index x0 at_x in (
+      o.0,
+      ap (slice_get ys) e
+          ∙ o.1,
+      inl (even o.0 o.2 ∙ same i x is e, λ js. unready i x is e js),
+    ))
     | inr n ↦ (let o = k.agree i x (sym (get-set_other xs index i _ n) ∙ is) in (
       o.0,
       o.1,
       agree_still i ps (pair_set ps c q) x o.0
-          (still_set i ps c p q at (λ r a b. absurd (n (same_Some i index (sym b ∙ ap (λ (z : ReadyReply). slice_get p.calls z.call) (same_Some r reply (sym a ∙ ready)) ∙ to)))))
+          (still_set i ps c p q at
+          (λ r a b. absurd (n (same_Some i index
+          (sym b ∙ ap (λ (z : ReadyReply). slice_get p.calls z.call)
+          (same_Some r reply (sym a ∙ ready)) ∙ to)))))
           (still_back i ps c p q at (λ r a b. absurd (none-some r (sym none ∙ a)))) o.2,
     ))
   ];
@@ -306,12 +436,19 @@ kept_given ps xs ys c p q reply m index x0 at calls ready none spells to at_x co
 
     even : (y : Record) → Agree ps index x0 y → y ≡ given_record x0 m.content reply.last
     even y (inl s) =
-        absurd (s.1 (record { p = p; at = ap (pair_at ps) conn ∙ at; reply = reply; ready = ready; index = to }))
+        absurd (s.1 (record {
+          p = p;
+          at = ap (pair_at ps) conn ∙ at;
+          reply = reply;
+          ready = ready;
+          index = to;
+        }))
     even y (inr a) =
         let is_p : a.is.p ≡ p = same_Some a.is.p p (sym a.is.at ∙ ap (pair_at ps) conn ∙ at) in
         let is_reply : a.is.reply ≡ reply = same_Some a.is.reply reply (sym a.is.ready
         ∙ ap (λ (z : Pair). z.client.reply) is_p ∙ ready) in
-        let is_m : a.m ≡ m = same_request a.m m p.client.held (subst (λ (z : Pair). SpellsMsg a.m z.client.held) is_p a.spells) spells in
+        let is_m : a.m ≡ m = same_request a.m m p.client.held
+        (subst (λ (z : Pair). SpellsMsg a.m z.client.held) is_p a.spells) spells in
         a.given ∙ ap (λ (z : Message). given_record x0 z.content a.is.reply.last) is_m
         ∙ ap (λ (z : ReadyReply). given_record x0 m.content z.last) is_reply
 
@@ -324,17 +461,25 @@ kept_given ps xs ys c p q reply m index x0 at calls ready none spells to at_x co
         ∙ pair_set-same ps c p q at) in
         none-some js.reply (sym none ∙ ap (λ (z : Pair). z.client.reply) (sym is_q) ∙ js.ready)
 
-pub put_is : (xs : List Record) (o : Option ℕ) (index : ℕ) (x : Record) (part : Content) (last : Bool) → o ≡ Some index → slice_get xs index ≡ Some x → put_at o part last xs ≡ slice_set xs index (given_record x part last)
+pub put_is : (xs : List Record) (o : Option ℕ) (index : ℕ) (x : Record) (part : Content)
+    (last : Bool) → o ≡ Some index → slice_get xs index ≡ Some x → put_at o part last xs
+    ≡ slice_set xs index (given_record x part last)
 put_is xs o index x part last to at =
     ap (λ z. put_at z part last xs) to ∙ ap (λ z. put_part z index part last xs) at
 
-pub kept_collected : (ps : List Pair) (xs ys : List Record) (c : ℕ) (p : Pair) (reply : ReadyReply) (m : Message) → pair_at ps c ≡ Some p → p.client.reply ≡ Some reply → SpellsMsg m p.client.held → Kept ps xs ys
-    → Kept (pair_set ps c (record p { client = released p.client })) (put_at (slice_get p.calls reply.call) m.content reply.last xs) ys
+pub kept_collected : (ps : List Pair) (xs ys : List Record) (c : ℕ) (p : Pair) (reply : ReadyReply)
+    (m : Message) → pair_at ps c ≡ Some p → p.client.reply ≡ Some reply → SpellsMsg m p.client.held
+    → Kept ps xs ys
+    → Kept (pair_set ps c (record p { client = released p.client }))
+    (put_at (slice_get p.calls reply.call) m.content reply.last xs) ys
 kept_collected ps xs ys c p reply m at ready spells k =
     let t = k.to c p at reply ready in
     let w = k.own c p at reply.call t.0 t.1 in
-    subst (λ z. Kept (pair_set ps c (record p { client = released p.client })) z ys) (sym (put_is xs (slice_get p.calls reply.call) t.0 w.0 m.content reply.last t.1 w.1))
-    (kept_given ps xs ys c p (record p { client = released p.client }) reply m t.0 w.0 at refl ready (released_reply p.client.requests p.client.held p.client.reply p.client.state) spells t.1 w.1 w.2 k)
+    subst (λ z. Kept (pair_set ps c (record p { client = released p.client })) z ys)
+    (sym (put_is xs (slice_get p.calls reply.call) t.0 w.0 m.content reply.last t.1 w.1))
+    (kept_given ps xs ys c p (record p { client = released p.client }) reply m t.0 w.0 at refl
+    ready (released_reply p.client.requests p.client.held p.client.reply p.client.state) spells
+    t.1 w.1 w.2 k)
 
 -- ---- the client's end
 
@@ -344,8 +489,21 @@ lost_given : (c : ℕ) (x : Record) (part : Content) (last : Bool)
 lost_given c x part last = by (x.connection == c) last
   where
     by : (b l : Bool)
-        → ◌≡◌ {A = Record} (record { connection = x.connection; asked = x.asked; parts = x.parts ++ part ∷ []; state = if b then lost_state (if l then Done else x.state) else (if l then Done else x.state) })
-        (record { connection = x.connection; asked = x.asked; parts = x.parts ++ part ∷ []; state = if l then Done else (if b then lost_state x.state else x.state) })
+        → ◌≡◌ {A = Record} (record {
+          connection = x.connection;
+          asked = x.asked;
+          parts = x.parts ++
+              part ∷ [];
+          state = if b then lost_state (if l then Done else x.state) else
+              (if l then Done else x.state);
+        })
+        (record {
+          connection = x.connection;
+          asked = x.asked;
+          parts = x.parts ++ part ∷ [];
+          state =
+              if l then Done else (if b then lost_state x.state else x.state);
+        })
     by true true = refl
     by true false = refl
     by false true = refl
@@ -372,17 +530,27 @@ kept_lost : (ps : List Pair) (xs ys : List Record) (c : ℕ) → Kept ps xs ys
     → Kept ps (map (lost_at c) xs) (map (lost_at c) ys)
 kept_lost ps xs ys c k = record {
   own =
-      λ d p at n i is. let w = k.own d p at n i is in (lost_at c w.0, get-map (lost_at c) xs i w.0 w.1, w.2);
+      λ d p at n i is. let w = k.own d p at n i is in (
+        lost_at c w.0,
+        get-map (lost_at c) xs i w.0
+            w.1,
+        w.2,
+      );
   to = k.to;
   as_many = length-map ys (lost_at c) ∙ k.as_many ∙ sym (length-map xs (lost_at c));
   agree = λ i x is.
       let b = get-map_back (lost_at c) xs i x is in
-      let o = k.agree i b.0 b.1 in
-      (lost_at c o.0, get-map (lost_at c) ys i o.0 o.1, subst (λ z. Agree ps i z (lost_at c o.0)) b.2 (agree_lost ps i c b.0 o.0 o.2));
+      let o = k.agree i b.0 b.1 in (
+        lost_at c o.0,
+        get-map (lost_at c) ys i o.0 o.1,
+        subst (λ z. Agree ps i z (lost_at c o.0))
+            b.2 (agree_lost ps i c b.0 o.0 o.2),
+      );
 }
 
 pub kept_ended : (ps : List Pair) (xs ys : List Record) (c : ℕ) (p : Pair) → pair_at ps c ≡ Some p
     → Kept ps xs ys
     → Kept (pair_set ps c (client_ended p)) (map (lost_at c) xs) (map (lost_at c) ys)
 kept_ended ps xs ys c p at k =
-    kept_lost (pair_set ps c (client_ended p)) xs ys c (kept_alike ps xs ys c p (client_ended p) at refl refl refl k)
+    kept_lost (pair_set ps c (client_ended p)) xs ys c (kept_alike ps xs ys c p (client_ended p) at
+    refl refl refl k)

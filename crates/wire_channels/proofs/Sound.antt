@@ -57,7 +57,8 @@ given_comes xs (Some j) part last c q i y at = by (slice_get xs j) refl at
       | inl is ↦ inl (
         x,
         ap (slice_get xs) is ∙ e,
-        ap (λ (r : Record). r.connection) (same_Some (given_record x part last) y (sym (get-set_same xs j x (given_record x part last) e)
+        ap (λ (r : Record). r.connection) (same_Some (given_record x part last) y
+            (sym (get-set_same xs j x (given_record x part last) e)
             ∙ ap (slice_get (slice_set xs j (given_record x part last))) (sym is) ∙ g)),
       )
       | inr n ↦ inl (y, sym (get-set_other xs j i (given_record x part last) n) ∙ g, refl)
@@ -92,7 +93,8 @@ answered_shut : {H : Type 0} (does : Does H) (stops : Stops H) (i : ℕ) (r : Re
     → AnswerStep does stops i r s h log s' h' log' → (s.state ≡ servers.Open → ⊥)
     → s'.state ≡ servers.Open → ⊥
 answered_shut does stops i (Ok n) s s' h h' log log' a shut live = shut a.0
-answered_shut does stops i (Err (refusals.NowClosed cause)) s s' h h' log log' a shut live = shut a.0
+answered_shut does stops i (Err (refusals.NowClosed cause)) s s' h h' log log' a shut live =
+    shut a.0
 answered_shut does stops i (Err refusals.Closed) s s' h h' log log' a shut live =
     shut (ap (λ (z : ServerView). z.state) (sym a.1) ∙ live)
 answered_shut does stops i (Err refusals.NoSuchRequest) s s' h h' log log' a shut live = shut a.0
@@ -132,11 +134,17 @@ module _ (H : Type 0) (does : Does H) (stops : Stops H) (limit : ℕ) where
       by i y (inr w) = (q, here y.connection (sym w.0), w.1, w.2)
       by i y (inl w) =
           let v = a.covered i w.0 w.1 in
-          let at_y : pair_at s.pairs y.connection ≡ Some v.0 = ap (pair_at s.pairs) (sym w.2) ∙ v.1 in
+          let at_y : pair_at s.pairs y.connection ≡ Some v.0 = ap (pair_at s.pairs) (sym w.2)
+          ∙ v.1 in
           elim (same_or_not y.connection c) [
             | inl e ↦
-                let same : v.0 ≡ p = same_Some v.0 p (sym at_y ∙ ap (pair_at s.pairs) e ∙ at) in
-                (q, here y.connection e, v.2, kept v.2 i (ap (λ (z : Pair). slice_get z.calls v.2) (sym same) ∙ v.3))
+                let same : v.0 ≡ p = same_Some v.0 p (sym at_y ∙ ap (pair_at s.pairs) e ∙ at) in (
+                  q,
+                  here y.connection e,
+                  v.2,
+                  kept v.2 i (ap (λ (z : Pair). slice_get z.calls v.2)
+                      (sym same) ∙ v.3),
+                )
             | inr n ↦ (v.0, there y.connection n ∙ at_y, v.2, v.3)
           ]
 
@@ -158,7 +166,12 @@ module _ (H : Type 0) (does : Does H) (stops : Stops H) (limit : ℕ) where
       (λ n i g. get-push_old p.calls n i (length s.calls) g)
       (λ i y g. elim (get-push_cases s.calls i y r g) [
         | inl old ↦ inl (y, old, refl)
-        | inr new ↦ inr (ap (λ (z : Record). z.connection) new.1, length p.calls, get-push_new p.calls (length s.calls) ∙ ap (λ z. Some z) (sym new.0))
+        | inr new ↦ inr (
+          ap (λ (z : Record). z.connection) new.1,
+          length p.calls,
+          get-push_new
+              p.calls (length s.calls) ∙ ap (λ z. Some z) (sym new.0),
+        )
       ]) (a.told c p at))
     where
       r : Record
@@ -174,8 +187,11 @@ module _ (H : Type 0) (does : Does H) (stops : Stops H) (limit : ℕ) where
   sound_step s s' (channels.answers c p i result server handler log at step contents e) a =
       let q : Pair = record p { server = server } in
       rw e (sound_set s _ c p q a at refl (λ n i g. g)
-      (still_comes s.calls c q)
-      ((λ told live. answered_shut does stops i result p.server server s.handler handler s.log log step ((a.told c p at).0 told) live), (a.told c p at).1))
+      (still_comes s.calls c q) (
+        (λ told live. answered_shut does stops i result p.server server s.handler handler s.log log
+            step ((a.told c p at).0 told) live),
+        (a.told c p at).1,
+      ))
   sound_step s s' (channels.sends_down c p n at le e) a =
       rw e (sound_set s _ c p (server_sent p n) a at refl (λ n i g. g)
       (still_comes s.calls c (server_sent p n)) (a.told c p at))
@@ -187,8 +203,11 @@ module _ (H : Type 0) (does : Does H) (stops : Stops H) (limit : ℕ) where
   sound_step s s' (channels.collects c p reply m at ready spells e) a =
       let q : Pair = record p { client = released p.client } in
       rw e (sound_set s _ c p q a at refl (λ n i g. g)
-      (given_comes s.calls (slice_get p.calls reply.call) m.content reply.last c q)
-      ((a.told c p at).0, (λ told live. (a.told c p at).1 told (sym (released_state p.client) ∙ live))))
+      (given_comes s.calls (slice_get p.calls reply.call) m.content reply.last c q) (
+        (a.told c p at).0,
+        (λ told live. (a.told c p at).1 told (sym (released_state p.client)
+            ∙ live)),
+      ))
   sound_step s s' (channels.ends_up c p at e) a =
       rw e (sound_set s _ c p (server_ended p) a at refl (λ n i g. g)
       (still_comes s.calls c (server_ended p))
@@ -204,7 +223,8 @@ module _ (H : Type 0) (does : Does H) (stops : Stops H) (limit : ℕ) where
       let q : Pair = record p { down = way } in
       rw e (sound_set s _ c p q a at refl (λ n i g. g) (still_comes s.calls c q) (a.told c p at))
 
-  pub all_sound : (first : H) (s : System H) → Steps H does stops limit (no_pairs first) s → Sound s
+  pub all_sound : (first : H) (s : System H) → Steps H does stops limit (no_pairs first) s
+      → Sound s
   all_sound first s channels.stay = record {
     covered = λ i x g. absurd (none-some x g);
     told = λ c p g. absurd (nowhere c p g);

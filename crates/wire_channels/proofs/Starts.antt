@@ -19,7 +19,8 @@ module _ (H : Type 0) (does : Does H) (stops : Stops H) (limit : ℕ) where
   abbrev pairs_of : (ℕ → Made) → ℕ → List Pair
   pairs_of made zero = []
   pairs_of made (suc n) =
-      pairs_of made n ++ new_pair (suc n) limit (made (suc n)).first_id (made (suc n)).client_window (made (suc n)).server_window ∷ []
+      pairs_of made n ++ new_pair (suc n) limit (made (suc n)).first_id
+      (made (suc n)).client_window (made (suc n)).server_window ∷ []
 
   many_pairs : (made : ℕ → Made) (n : ℕ) → length (pairs_of made n) ≡ n
   many_pairs made zero = refl
@@ -54,24 +55,33 @@ module _ (H : Type 0) (does : Does H) (stops : Stops H) (limit : ℕ) where
     begun_steps : (n : ℕ) → Steps H does stops limit (no_pairs first) (begun n)
     begun_steps zero = channels.stay
     begun_steps (suc n) =
-        channels.go (begun_steps n) (channels.pairs (made (suc n)).first_id (made (suc n)).client_window (made (suc n)).server_window (good (suc n)).0 (good (suc n)).1
-        (ap (λ c. paired (begun n) (new_pair (suc c) limit (made (suc n)).first_id (made (suc n)).client_window (made (suc n)).server_window)) (sym (many_pairs made n))))
+        channels.go (begun_steps n) (channels.pairs (made (suc n)).first_id
+        (made (suc n)).client_window (made (suc n)).server_window (good (suc n)).0
+        (good (suc n)).1
+        (ap (λ c. paired (begun n) (new_pair (suc c) limit (made (suc n)).first_id
+        (made (suc n)).client_window (made (suc n)).server_window)) (sym (many_pairs made n))))
 
     -- the pair of this number is at its place
     begun_at : (n c : ℕ) → 1 ≤ c → c ≤ n
-        → pair_at (pairs_of made n) c ≡ Some (new_pair c limit (made c).first_id (made c).client_window (made c).server_window)
+        → pair_at (pairs_of made n) c ≡ Some (new_pair c limit (made c).first_id
+        (made c).client_window (made c).server_window)
     begun_at zero c least most = absurd (omega (arith, least, most))
     begun_at (suc n) c least most = elim (same_or_not c (suc n)) [
-      | inl e ↦ (rw e (ap (λ z. slice_get (pairs_of made (suc n)) z) (sym (many_pairs made n)) ∙ get-push_new (pairs_of made n) _))
-      | inr no_ ↦ pair_push-old (pairs_of made n) c _ _ (begun_at n c least (omega (arith, most, no_)))
+      | inl e ↦ (rw e (ap (λ z. slice_get (pairs_of made (suc n)) z) (sym (many_pairs made n))
+          ∙ get-push_new (pairs_of made n) _))
+      | inr no_ ↦ pair_push-old (pairs_of made n) c _ _
+          (begun_at n c least (omega (arith, most, no_)))
     ]
 
     server_begun : (n c : ℕ) → 1 ≤ c → c ≤ n
-        → server_at (first_servers limit made n) c ≡ Some (new_server c (made c).server_window limit)
+        → server_at (first_servers limit made n) c ≡ Some (new_server c (made c).server_window
+        limit)
     server_begun zero c least most = absurd (omega (arith, least, most))
     server_begun (suc n) c least most = elim (same_or_not c (suc n)) [
-      | inl e ↦ (rw e (ap (λ z. slice_get (first_servers limit made (suc n)) z) (sym (many_servers made n)) ∙ get-push_new (first_servers limit made n) _))
-      | inr no_ ↦ server_old (first_servers limit made n) c _ _ (server_begun n c least (omega (arith, most, no_)))
+      | inl e ↦ (rw e (ap (λ z. slice_get (first_servers limit made (suc n)) z)
+          (sym (many_servers made n)) ∙ get-push_new (first_servers limit made n) _))
+      | inr no_ ↦ server_old (first_servers limit made n) c _ _
+          (server_begun n c least (omega (arith, most, no_)))
     ]
 
     within_pairs : (ps : List Pair) (c : ℕ) (p : Pair) → pair_at ps c ≡ Some p → (1 ≤ c)
@@ -87,14 +97,17 @@ module _ (H : Type 0) (does : Does H) (stops : Stops H) (limit : ℕ) where
         let lt = slice_get_within ss i p at in (omega arith, omega (arith, lt))
 
     begun_fits : (n : ℕ)
-        → Fit (begun n) (first_end limit made) (first_servers_of limit made n first) (λ c. []) (λ c. [])
+        → Fit (begun n) (first_end limit made) (first_servers_of limit made n first) (λ c. [])
+        (λ c. [])
     begun_fits n = record {
       pairs = λ c p at.
           let w = within_pairs (pairs_of made n) c p at in
           let many = many_pairs made n in
           let most : c ≤ n = omega (arith, w.1, many) in
-          let same : new_pair c limit (made c).first_id (made c).client_window (made c).server_window ≡ p = same_Some _ p (sym (begun_at n c w.0 most) ∙ at) in
-          subst (λ z. PairFits [] c z (first_end limit made c) (server_at (first_servers limit made n) c) [] []) same (record {
+          let same : new_pair c limit (made c).first_id (made c).client_window
+          (made c).server_window ≡ p = same_Some _ p (sym (begun_at n c w.0 most) ∙ at) in
+          subst (λ z. PairFits [] c z (first_end limit made c)
+          (server_at (first_servers limit made n) c) [] []) same (record {
             client = refl;
             server_is = server_begun n c w.0 most;
             up_is = refl;

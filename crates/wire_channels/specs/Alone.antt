@@ -1,6 +1,6 @@
 -- A client by itself, whoever answers it: over any calls, and any pieces of any bytes.
-use Rattle.std.specs.Prelude.{◌≡◌, ℕ, ◌≤◌, ℤ, ◌⊎◌, true, Option, None, Some, List, [], ◌∷◌, ◌++◌, length, Result, Ok, Err}
-use Rattle.wire_msg.specs.{IsBad, IsOpen, Message, SpellsMsg, Split}
+use Rattle.std.specs.Prelude.{◌≡◌, ℕ, ◌≤◌, ℤ, ◌⊎◌, true, ◌==◌, if◌then◌else◌, slice_get, Option, None, Some, List, [], ◌∷◌, ◌++◌, length, Result, Ok, Err}
+use Rattle.wire_msg.specs.{Content, IsBad, IsOpen, Message, SpellsMsg, Split}
 use Rattle.wire_peer.specs.{Table, after_reply, allowed, awaiting, owner, reply_to}
 use Rattle.wire_peer.specs.declared.call_table.Outstanding.{Outstanding}
 use Rattle.wire_peer.specs.declared.call_table.ReadyReply.{ReadyReply}
@@ -10,6 +10,7 @@ use Rattle.wire_peer.specs.declared.client_state.ClientCause.{ClientCause}
 use Rattle.wire_peer.specs.declared.client_state.ClientCause.TheVariants as causes
 use Rattle.wire_peer.specs.declared.client_state.ClientState.{ClientState}
 use Rattle.wire_peer.specs.declared.client_state.ClientState.TheVariants.{Open, Closed}
+use Rattle.wire_model.specs.{Done, Record}
 use Rattle.wire_channels.specs.Owners.{Calls, ClientAct, ClientEnd, Collects, EndsDown, SendsUp, TakesDown, bytes_taken}
 
 -- ---- what a client hears
@@ -94,6 +95,17 @@ abbrev pub IsReadyWith : Option ReadyReply → List ℕ → List (ReadyReply × 
 IsReadyWith None held out = out ≡ []
 IsReadyWith (Some reply) held out = (m : Message) × SpellsMsg m held × (out ≡ (reply, m) ∷ [])
 
+-- the contents of the replies to this call, in order
+abbrev pub parts_to : ℕ → List (ReadyReply × Message) → List Content
+parts_to call [] = []
+parts_to call (r ∷ rs) =
+    if r.0.call == call then r.1.content ∷ parts_to call rs else parts_to call rs
+
+-- the last reply to this call is among them
+abbrev pub HasLast : ℕ → List (ReadyReply × Message) → Type 0
+HasLast call [] = ⊥
+HasLast call (r ∷ rs) = ((r.0.call ≡ call) × (r.0.last ≡ true)) ⊎ HasLast call rs
+
 -- none of the replies is to this call
 abbrev pub NoneTo : ℕ → List (ReadyReply × Message) → Type 0
 NoneTo call [] = Unit {0}
@@ -118,7 +130,8 @@ ClosesBy limit rest (Some cause) state = (state ≡ Closed cause) × (rest ≡ [
 
 -- What a client heard are its calls and the messages of the one split of what it received. The replies that
 -- it handed out, and the one that is ready, are those messages, in order, each once, each to the call that
--- owns it, and none behind a call's last; and the client is closed by the first message that is bad or
+-- owns it, and none behind a call's last; the record of a call has the contents of those that were handed out
+-- to it, and is done just where its last one was; and the client is closed by the first message that is bad or
 -- nobody's, with that cause.
 pub record HoldsAlone (limit : ℕ) (acts : List ClientAct) (new : ClientEnd) : Type 0 where
   pub heard : List Heard
@@ -131,5 +144,9 @@ pub record HoldsAlone (limit : ℕ) (acts : List ClientAct) (new : ClientEnd) : 
   pub ready_is : IsReadyWith new.client.reply new.client.held ready
   pub replies : (hear_all silence heard).replies ≡ handed acts ++ ready
   pub none_behind : NoneBehind (handed acts ++ ready)
+  pub parts : (n : ℕ) (x : Record) → slice_get new.records n ≡ Some x
+      → x.parts ≡ parts_to n (handed acts)
+  pub done : (n : ℕ) (x : Record) → slice_get new.records n ≡ Some x
+      → (x.state ≡ Done → HasLast n (handed acts)) × (HasLast n (handed acts) → x.state ≡ Done)
   pub table : (hear_all silence heard).table ≡ new.client.requests.outstanding
   pub closes : ClosesBy limit rest (hear_all silence heard).cause new.client.state

@@ -69,9 +69,11 @@ pub fn servers_may_come<H: Handler>()
         (deeds_of turns) new }
 {}
 
-/// Proves what holds of a client, whoever answers it, over any calls and any pieces of any bytes: the replies that it
-/// handed out are messages of the one split of what it received, in order, each once, each to the call that owns it, and
-/// none behind a call's last; and it is closed by the first message that is bad or nobody's, with that cause.
+/// Proves what holds of a client, whoever answers it, over any calls and any pieces of any bytes.
+///
+/// The replies that it handed out are messages of the one split of what it received, in order, each once, each to the
+/// call that owns it, and none behind a call's last. The record of a call has the contents of those to it, and is done
+/// just where the last one was. The client is closed by the first message that is bad or nobody's, with that cause.
 pub fn a_client_holds_alone()
     ensures { (c limit window : ℕ) (first_id : ℤ) (acts : List ClientAct) (new : ClientEnd)
         → IsBytes (bytes_taken acts)
