@@ -1,5 +1,5 @@
-//! `test_server` is a server for trying drivers: it keeps documents in memory, answers hello, ping, insert, find, getMore,
-//! listCollections, drop and endSessions, and writes down each request with its answer.
+//! `test_server` is a server for trying drivers: it keeps documents in memory, answers the commands that README.md lists, and
+//! writes down each request with its answer.
 //!
 //! It serves one connection after another. What a connection sends that is no message, or is asked for in vain, ends that
 //! connection at most: the server goes on with the next, unless memory ran out.
