@@ -2,9 +2,10 @@
 """Messages as drivers send them to the test server.
 
     python3 scripts/tools/driver_messages.py ADDRESS
+    python3 scripts/tools/driver_messages.py --wanted
 
 sends it one of each of some commands over one connection, each after the answer to the one before, and ends where the server
-closes. driver_messages.wanted is what the server then writes of that connection.
+closes; or prints what the server then writes of that connection.
 """
 
 import os
@@ -70,25 +71,148 @@ def is_answered(link, sent):
         return False
 
 
-def one_of_each():
-    collection = (STRING, string("c"))
-    one = (INT32, int32(1))
-    bodies = [
-        (command("insert", collection), [document([element(INT32, "_id", int32(number))]) for number in (1, 2)]),
-        (command("find", collection, element(INT32, "batchSize", int32(1))), ()),
-        (command("getMore", (INT64, int64(1)), element(STRING, "collection", string("c"))), ()),
-        (command("listCollections", one), ()),
-        (command("drop", collection), ()),
-        (command("delete", collection), ()),
-        (command("ping", one), ()),
-    ]
-    return [message(number, body, documents) for number, (body, documents) in enumerate(bodies, 1)]
+COLLECTION = (STRING, string("c"))
+ONE = (INT32, int32(1))
+
+# Each request: its body, the documents of its sequence, and what the server writes of it.
+REQUESTS = [
+    (
+        command("insert", COLLECTION),
+        [document([element(INT32, "_id", int32(number))]) for number in (1, 2)],
+        """\
+request "insert"
+document 33
+  "insert" string "c"
+  "$db" string "test"
+sequence "documents" 2
+answer
+document 24
+  "n" int32 2
+  "ok" double 000000000000f03f
+""",
+    ),
+    (
+        command("find", COLLECTION, element(INT32, "batchSize", int32(1))),
+        (),
+        """\
+request "find"
+document 46
+  "find" string "c"
+  "batchSize" int32 1
+  "$db" string "test"
+answer
+document 91
+  "cursor" document 66
+    "firstBatch" array 22
+      "0" document 14
+        "_id" int32 1
+    "id" int64 1
+    "ns" string "test.c"
+  "ok" double 000000000000f03f
+""",
+    ),
+    (
+        command("getMore", (INT64, int64(1)), element(STRING, "collection", string("c"))),
+        (),
+        """\
+request "getMore"
+document 54
+  "getMore" int64 1
+  "collection" string "c"
+  "$db" string "test"
+answer
+document 90
+  "cursor" document 65
+    "nextBatch" array 22
+      "0" document 14
+        "_id" int32 2
+    "id" int64 0
+    "ns" string "test.c"
+  "ok" double 000000000000f03f
+""",
+    ),
+    (
+        command("listCollections", ONE),
+        (),
+        """\
+request "listCollections"
+document 40
+  "listCollections" int32 1
+  "$db" string "test"
+answer
+document 170
+  "cursor" document 145
+    "firstBatch" array 82
+      "0" document 74
+        "name" string "c"
+        "type" string "collection"
+        "options" document 5
+        "info" document 16
+          "readOnly" boolean false
+    "id" int64 0
+    "ns" string "test.$cmd.listCollections"
+  "ok" double 000000000000f03f
+""",
+    ),
+    (
+        command("drop", COLLECTION),
+        (),
+        """\
+request "drop"
+document 31
+  "drop" string "c"
+  "$db" string "test"
+answer
+document 49
+  "nIndexesWas" int32 1
+  "ns" string "test.c"
+  "ok" double 000000000000f03f
+""",
+    ),
+    (
+        command("delete", COLLECTION),
+        (),
+        """\
+request "delete"
+document 33
+  "delete" string "c"
+  "$db" string "test"
+answer
+document 95
+  "ok" double 0000000000000000
+  "errmsg" string "no such command: 'delete'"
+  "code" int32 59
+  "codeName" string "CommandNotFound"
+""",
+    ),
+    (
+        command("ping", ONE),
+        (),
+        """\
+request "ping"
+document 29
+  "ping" int32 1
+  "$db" string "test"
+answer
+document 17
+  "ok" double 000000000000f03f
+""",
+    ),
+]
+
+
+def wanted():
+    """Returns what the server writes of the connection."""
+    return "connection 1\n" + "".join(text for _, _, text in REQUESTS) + "end Ended\n"
 
 
 def main():
+    if sys.argv[1:] == ["--wanted"]:
+        print(wanted(), end="")
+        return
     with connect(sys.argv[1]) as link:
-        for sent in one_of_each():
-            if not is_answered(link, sent):
+        for number, (body, documents, _) in enumerate(REQUESTS, 1):
+            if not is_answered(link, message(number, body, documents)):
                 break
 
 

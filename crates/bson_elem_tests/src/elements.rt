@@ -96,15 +96,29 @@ fn reads_elements(rt: HostRuntime) {
     assert!(rt; is_read(document, 11, element));
 }
 
+/// Bytes, and the string that they begin with and the rest, or the check that fails.
+const STRINGS: [(&[u8], Result<(&str, &[u8]), BsonCause>); 6] = [
+    (b"\x02\x00\x00\x00a\x00rest", Ok(("a", b"rest"))),
+    (b"\x00\x00\x00\x00", Err(BsonCause::Length)),
+    (b"\xff\xff\xff\xff", Err(BsonCause::Length)),
+    (b"\x02\x00\x00\x00a", Err(BsonCause::Truncated)),
+    (b"\x03\x00\x00\x00\xc3\x28\x01", Err(BsonCause::Text)),
+    (b"\x02\x00\x00\x00a\x01", Err(BsonCause::TextEnd)),
+];
+
+/// The same of a text that ends with a 00.
+const CSTRINGS: [(&[u8], Result<(&str, &[u8]), BsonCause>); 3] = [
+    (b"name\x00rest", Ok(("name", b"rest"))),
+    (b"name", Err(BsonCause::Truncated)),
+    (b"\xff\x00", Err(BsonCause::Name)),
+];
+
 #[test]
 fn reads_texts(rt: HostRuntime) {
-    assert!(rt; read_string(b"\x02\x00\x00\x00a\x00rest") == Ok(("a", b"rest")));
-    assert!(rt; read_string(b"\x00\x00\x00\x00") == Err(BsonCause::Length));
-    assert!(rt; read_string(b"\xff\xff\xff\xff") == Err(BsonCause::Length));
-    assert!(rt; read_string(b"\x02\x00\x00\x00a") == Err(BsonCause::Truncated));
-    assert!(rt; read_string(b"\x03\x00\x00\x00\xc3\x28\x01") == Err(BsonCause::Text));
-    assert!(rt; read_string(b"\x02\x00\x00\x00a\x01") == Err(BsonCause::TextEnd));
-    assert!(rt; read_cstring(b"name\x00rest") == Ok(("name", b"rest")));
-    assert!(rt; read_cstring(b"name") == Err(BsonCause::Truncated));
-    assert!(rt; read_cstring(b"\xff\x00") == Err(BsonCause::Name));
+    for (bytes, wanted) in &STRINGS {
+        assert!(rt; read_string(bytes) == *wanted, "at {bytes:?}");
+    }
+    for (bytes, wanted) in &CSTRINGS {
+        assert!(rt; read_cstring(bytes) == *wanted, "at {bytes:?}");
+    }
 }

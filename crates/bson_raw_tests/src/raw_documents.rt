@@ -34,8 +34,8 @@ fn is_seen(alloc: Global, hex: &str, value: RawBson<'_>) -> bool {
 
 #[test]
 fn values(rt: HostRuntime) {
-    for ((hex, _), value) in EACH_KIND.iter().zip(VALUES.iter()) {
-        assert!(rt; is_seen(rt.alloc(), hex, *value), "{hex}");
+    for i in 0..22 {
+        assert!(rt; is_seen(rt.alloc(), EACH_KIND[i].0, VALUES[i]), "at {i}");
     }
 }
 
@@ -218,27 +218,51 @@ fn array_values_go_by_their_order(rt: HostRuntime) {
     }
 }
 
-#[test]
-fn a_part_is_given_for_its_kind_alone(rt: HostRuntime) {
-    assert!(rt; RawBson::String("a").as_str() == Some("a"));
-    assert!(rt; RawBson::Symbol("a").as_str() == None);
-    assert!(rt; RawBson::Int32(-1).as_i32() == Some(-1));
-    assert!(rt; RawBson::Int64(1).as_i32() == None);
-    assert!(rt; RawBson::Int64(-1).as_i64() == Some(-1));
-    assert!(rt; RawBson::DateTime(1).as_i64() == None);
-    assert!(rt; RawBson::Boolean(true).as_bool() == Some(true));
-    assert!(rt; RawBson::Null.as_bool() == None);
-    assert!(rt;
+/// What is given of a value as text, as either integer, as a boolean and as a binary.
+type Parts<'a> = (
+    Option<&'a str>,
+    Option<i32>,
+    Option<i64>,
+    Option<bool>,
+    Option<(u8, &'a [u8])>,
+);
+
+const PARTS: [(RawBson<'static>, Parts<'static>); 11] = [
+    (RawBson::String("a"), (Some("a"), None, None, None, None)),
+    (RawBson::Symbol("a"), (None, None, None, None, None)),
+    (RawBson::Int32(-1), (None, Some(-1), None, None, None)),
+    (RawBson::Int64(1), (None, None, Some(1), None, None)),
+    (RawBson::Int64(-1), (None, None, Some(-1), None, None)),
+    (RawBson::DateTime(1), (None, None, None, None, None)),
+    (RawBson::Boolean(true), (None, None, None, Some(true), None)),
+    (RawBson::Null, (None, None, None, None, None)),
+    (
         RawBson::Binary {
             subtype: 2,
-            bytes: b"\xaa"
-        }
-        .as_binary()
-            == Some((2, b"\xaa"))
-    );
-    assert!(rt; RawBson::Undefined.as_binary() == None);
-    assert!(rt; RawBson::Null.as_document() == None);
-    assert!(rt; RawBson::Null.as_array() == None);
+            bytes: b"\xaa",
+        },
+        (None, None, None, None, Some((2, b"\xaa"))),
+    ),
+    (RawBson::Undefined, (None, None, None, None, None)),
+    (RawBson::MinKey, (None, None, None, None, None)),
+];
+
+/// Returns true if these parts are given of the value, and no document.
+fn gives(value: RawBson<'_>, parts: Parts<'_>) -> bool {
+    value.as_str() == parts.0
+        && value.as_i32() == parts.1
+        && value.as_i64() == parts.2
+        && value.as_bool() == parts.3
+        && value.as_binary() == parts.4
+        && value.as_document().is_none()
+        && value.as_array().is_none()
+}
+
+#[test]
+fn a_part_is_given_for_its_kind_alone(rt: HostRuntime) {
+    for (value, parts) in &PARTS {
+        assert!(rt; gives(*value, *parts), "at {value:?}");
+    }
     assert!(rt; RawBson::MinKey.kind() == Kind::MinKey);
 }
 

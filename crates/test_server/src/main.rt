@@ -1,6 +1,5 @@
-//! `test_server` is a server for trying out drivers. It keeps documents in memory, answers hello,
-//! ping, insert, find, getMore, listCollections, drop and endSessions, and writes down each
-//! request with its answer.
+//! `test_server` is a server for trying out drivers. It keeps documents in memory, answers the
+//! commands that README.md lists, and writes down each request with its answer.
 //!
 //! It serves one connection after another. Bytes that are not a message, or a request that can't
 //! be answered, end at most that connection. The server goes on with the next, unless memory ran

@@ -85,18 +85,13 @@ fn is_ping_payload(payload: Payload<'_>) -> bool {
         && payload.msg_len() == 51
 }
 
-/// Returns true if the bytes are the message of `PING`.
-fn bytes_are_ping(bytes: &[u8]) -> bool {
-    match RawMsg::parse(bytes, LIMIT) {
-        Ok(msg) => is_ping(msg, bytes) && is_ping_payload(msg.payload()),
-        Err(_) => false,
-    }
-}
-
 /// Returns true if `PING` is read.
 fn reads_ping(alloc: Global) -> bool {
-    match read_digits(alloc, PING) {
-        Ok(bytes) => bytes_are_ping(&bytes),
+    let Ok(bytes) = read_digits(alloc, PING) else {
+        return false;
+    };
+    match RawMsg::parse(&bytes, LIMIT) {
+        Ok(msg) => is_ping(msg, &bytes) && is_ping_payload(msg.payload()),
         Err(_) => false,
     }
 }
@@ -132,18 +127,13 @@ fn is_insert(payload: Payload<'_>) -> bool {
     }
 }
 
-/// Returns true if the bytes are the message of `INSERT`.
-fn bytes_are_insert(bytes: &[u8]) -> bool {
-    match RawMsg::parse(bytes, 69) {
-        Ok(msg) => msg.id() == 2 && is_insert(msg.payload()),
-        Err(_) => false,
-    }
-}
-
 /// Returns true if `INSERT` is read.
 fn reads_insert(alloc: Global) -> bool {
-    match read_digits(alloc, INSERT) {
-        Ok(bytes) => bytes_are_insert(&bytes),
+    let Ok(bytes) = read_digits(alloc, INSERT) else {
+        return false;
+    };
+    match RawMsg::parse(&bytes, 69) {
+        Ok(msg) => msg.id() == 2 && is_insert(msg.payload()),
         Err(_) => false,
     }
 }
@@ -161,19 +151,14 @@ fn header_has_line(alloc: Global, header: MsgHeader, line: &str) -> bool {
     }
 }
 
-/// Like `header_has_line`, for the header in these bytes.
-fn bytes_have_header(alloc: Global, bytes: &[u8], line: &str) -> bool {
+/// Like `header_has_line`, for the header in these digits.
+fn is_checked(alloc: Global, hex: &str, line: &str) -> bool {
+    let Ok(bytes) = read_digits(alloc, hex) else {
+        return false;
+    };
     match bytes.split_first_chunk::<16>() {
         Some((chunk, _)) => header_has_line(alloc, MsgHeader::read(*chunk), line),
         None => false,
-    }
-}
-
-/// Like `header_has_line`, for the header in these digits.
-fn is_checked(alloc: Global, hex: &str, line: &str) -> bool {
-    match read_digits(alloc, hex) {
-        Ok(bytes) => bytes_have_header(alloc, &bytes, line),
-        Err(_) => false,
     }
 }
 
@@ -478,18 +463,13 @@ fn are_two(payload: Payload<'_>, first: (&str, usize), second: (&str, usize)) ->
         && sequences.next().is_none()
 }
 
-/// Like `are_two`, for the message of these bytes.
-fn bytes_have_two(bytes: &[u8], first: (&str, usize), second: (&str, usize)) -> bool {
-    match RawMsg::parse(bytes, LIMIT) {
-        Ok(msg) => are_two(msg.payload(), first, second),
-        Err(_) => false,
-    }
-}
-
 /// Like `are_two`, for the message of these digits.
 fn has_two(alloc: Global, hex: &str, first: (&str, usize), second: (&str, usize)) -> bool {
-    match read_digits(alloc, hex) {
-        Ok(bytes) => bytes_have_two(&bytes, first, second),
+    let Ok(bytes) = read_digits(alloc, hex) else {
+        return false;
+    };
+    match RawMsg::parse(&bytes, LIMIT) {
+        Ok(msg) => are_two(msg.payload(), first, second),
         Err(_) => false,
     }
 }

@@ -106,18 +106,13 @@ fn copy_takes(alloc: Global, payload: Payload<'_>, document: RawDocument<'_>) ->
     }
 }
 
-/// Like `copy_takes`, for the payload of the message in these bytes.
-fn bytes_take(alloc: Global, bytes: &[u8], document: RawDocument<'_>) -> bool {
-    match RawMsg::parse(bytes, LIMIT) {
-        Ok(msg) => copy_takes(alloc, msg.payload(), document),
-        Err(_) => false,
-    }
-}
-
 /// Like `copy_takes`, for the payload of `TWO_SEQUENCES`.
 fn two_take(alloc: Global, document: RawDocument<'_>) -> bool {
-    match read_digits(alloc, TWO_SEQUENCES) {
-        Ok(bytes) => bytes_take(alloc, &bytes, document),
+    let Ok(bytes) = read_digits(alloc, TWO_SEQUENCES) else {
+        return false;
+    };
+    match RawMsg::parse(&bytes, LIMIT) {
+        Ok(msg) => copy_takes(alloc, msg.payload(), document),
         Err(_) => false,
     }
 }

@@ -30,18 +30,13 @@ fn writes(alloc: Global, msg: RawMsg<'_>, wanted: &[u8]) -> bool {
     write_again(&mut out, msg, LIMIT).is_ok() && out.as_slice() == wanted
 }
 
-/// Like `writes`, for the message of these bytes.
-fn bytes_are_written_as(alloc: Global, bytes: &[u8], wanted: &[u8]) -> bool {
-    match RawMsg::parse(bytes, LIMIT) {
-        Ok(msg) => writes(alloc, msg, wanted),
-        Err(_) => false,
-    }
-}
-
 /// Like `writes`, for the message of these digits.
 fn digits_are_written_as(alloc: Global, hex: &str, wanted: &[u8]) -> bool {
-    match read_digits(alloc, hex) {
-        Ok(bytes) => bytes_are_written_as(alloc, &bytes, wanted),
+    let Ok(bytes) = read_digits(alloc, hex) else {
+        return false;
+    };
+    match RawMsg::parse(&bytes, LIMIT) {
+        Ok(msg) => writes(alloc, msg, wanted),
         Err(_) => false,
     }
 }
@@ -122,18 +117,13 @@ fn adds_all_or_nothing(alloc: Global, msg: RawMsg<'_>, wanted: &[u8]) -> bool {
     }
 }
 
-/// Like `adds_all_or_nothing`, for the message of these bytes.
-fn bytes_add_all_or_nothing(alloc: Global, bytes: &[u8], wanted: &[u8]) -> bool {
-    match RawMsg::parse(bytes, LIMIT) {
-        Ok(msg) => adds_all_or_nothing(alloc, msg, wanted),
-        Err(_) => false,
-    }
-}
-
 /// Like `adds_all_or_nothing`, for `INSERT`.
 fn insert_adds_all_or_nothing(alloc: Global, wanted: &[u8]) -> bool {
-    match read_digits(alloc, INSERT) {
-        Ok(bytes) => bytes_add_all_or_nothing(alloc, &bytes, wanted),
+    let Ok(bytes) = read_digits(alloc, INSERT) else {
+        return false;
+    };
+    match RawMsg::parse(&bytes, LIMIT) {
+        Ok(msg) => adds_all_or_nothing(alloc, msg, wanted),
         Err(_) => false,
     }
 }
@@ -170,18 +160,13 @@ fn copy_writes(alloc: Global, payload: Payload<'_>, wanted: &[u8]) -> bool {
     }
 }
 
-/// Like `copy_writes`, for the payload of the message in these bytes.
-fn bytes_copy_writes(alloc: Global, bytes: &[u8], wanted: &[u8]) -> bool {
-    match RawMsg::parse(bytes, LIMIT) {
-        Ok(msg) => copy_writes(alloc, msg.payload(), wanted),
-        Err(_) => false,
-    }
-}
-
 /// Like `copy_writes`, for the payload of the message in these digits.
 fn digits_copy_writes(alloc: Global, hex: &str, wanted: &[u8]) -> bool {
-    match read_digits(alloc, hex) {
-        Ok(bytes) => bytes_copy_writes(alloc, &bytes, wanted),
+    let Ok(bytes) = read_digits(alloc, hex) else {
+        return false;
+    };
+    match RawMsg::parse(&bytes, LIMIT) {
+        Ok(msg) => copy_writes(alloc, msg.payload(), wanted),
         Err(_) => false,
     }
 }
