@@ -5,6 +5,7 @@ ghost use Rattle.clap.specs.declared.builder.command.Command.TheViews.{out-Comma
 ghost use Rattle.bsonwire.specs.CommandLine.{calls_rule, command_line, file_app, file_line, hex_rule, loop_app, operand_rule, play_app, top_app};
 
 use clap::{Arg, ArgAction, Command, value_parser};
+use command_words::VERSION;
 use std::alloc::{AllocError, Global};
 
 /// Makes an operand that has to be there, which help shows as `shown`.
@@ -65,7 +66,7 @@ fn play_command<'a>(alloc: Global) -> Result<Command<'a>, AllocError>
             alloc,
             "file",
             "SCRIPT",
-            "The script to run, or - for standard input",
+            "The script to run, or - for standard input; docs/SCRIPTS.md is its language",
         ))
 }
 
@@ -86,7 +87,7 @@ fn top<'a>(alloc: Global) -> Command<'a>
 {
     Command::new(alloc, "bsonwire")
         .about("Reads BSON documents and MongoDB wire messages")
-        .version("0.1.0")
+        .version(VERSION)
         .subcommand_required(true)
 }
 

@@ -6,4 +6,4 @@
 
 mod program;
 
-pub use program::{IN_OUT, MEMORY, Program, USAGE, texts};
+pub use program::{IN_OUT, MEMORY, Program, USAGE, VERSION, texts};

@@ -5,6 +5,7 @@ ghost use Rattle.clap.specs.Words.{app_of, rule_of};
 ghost use Rattle.test_server.specs.CommandLine.{address_rule, command_line, connections_rule, top_app};
 
 use clap::{Arg, ArgAction, Command, value_parser};
+use command_words::VERSION;
 use std::alloc::{AllocError, Global};
 
 /// Makes the operand ADDRESS.
@@ -38,7 +39,7 @@ fn top<'a>(alloc: Global) -> Command<'a>
 {
     Command::new(alloc, "test_server")
         .about("Answers drivers out of memory, and shows what they sent")
-        .version("0.1.0")
+        .version(VERSION)
 }
 
 /// Makes the whole command line. Errs if memory runs out.
