@@ -6,6 +6,7 @@ ghost use Rattle.bsonwire.specs.CommandLine.{calls_rule, command_line, file_app,
 ghost use Rattle.bsonwire.specs.CommandLine.{hex_rule, loop_app, operand_rule, play_app, top_app};
 
 use clap::{Arg, ArgAction, Command, value_parser};
+use command_words::VERSION;
 use std::alloc::{AllocError, Global};
 
 /// Makes a required operand, which help shows as `shown`.
@@ -66,7 +67,7 @@ fn play_command<'a>(alloc: Global) -> Result<Command<'a>, AllocError>
             alloc,
             "file",
             "SCRIPT",
-            "The script to run, or - for standard input",
+            "The script to run, or - for standard input; docs/SCRIPTS.md is its language",
         ))
 }
 
@@ -87,7 +88,7 @@ fn top<'a>(alloc: Global) -> Command<'a>
 {
     Command::new(alloc, "bsonwire")
         .about("Reads BSON documents and MongoDB wire messages")
-        .version("0.1.0")
+        .version(VERSION)
         .subcommand_required(true)
 }
 

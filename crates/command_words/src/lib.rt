@@ -7,4 +7,4 @@
 
 mod program;
 
-pub use program::{IN_OUT, MEMORY, Program, USAGE, texts};
+pub use program::{IN_OUT, MEMORY, Program, USAGE, VERSION, texts};

@@ -10,6 +10,9 @@ use std::alloc::{AllocError, Global};
 use std::rt::Env;
 use std::{env, io};
 
+/// The version of the programs.
+pub const VERSION: &str = "0.1.0";
+
 /// The exit status of a fault in the command line.
 pub const USAGE: u8 = 2;
 

@@ -6,6 +6,7 @@ ghost use Rattle.test_server.specs.CommandLine.{address_rule, command_line, conn
 ghost use Rattle.test_server.specs.CommandLine.{top_app};
 
 use clap::{Arg, ArgAction, Command, value_parser};
+use command_words::VERSION;
 use std::alloc::{AllocError, Global};
 
 /// Makes the operand ADDRESS.
@@ -39,7 +40,7 @@ fn top<'a>(alloc: Global) -> Command<'a>
 {
     Command::new(alloc, "test_server")
         .about("Answers drivers out of memory, and shows what they sent")
-        .version("0.1.0")
+        .version(VERSION)
 }
 
 /// Makes the whole command line.
