@@ -1,6 +1,8 @@
 //! A TCP link over a stream that is made up: it counts failures and ends, sending nothing is a failure, a call that was
 //! interrupted is made again, and one that would block is no failure.
 
+ghost use Rattle.std.specs.Prelude.{◌≤◌, IfOk};
+
 use crate::links::{REPLY, push_reply};
 use std::alloc::Global;
 use std::io;
@@ -17,7 +19,9 @@ struct Stream {
 
 impl Stream {
     /// Returns how many bytes a call moves that may move so many.
-    fn moved(&mut self, most: usize) -> io::Result<usize> {
+    fn moved(&mut self, most: usize) -> io::Result<usize>
+        ensures { IfOk result (λ count. count ≤ most) }
+    {
         if self.interrupted > 0 {
             self.interrupted -= 1;
             return Err(io::Error::from(ErrorKind::Interrupted));
