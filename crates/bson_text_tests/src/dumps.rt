@@ -17,18 +17,13 @@ fn has_text(alloc: Global, document: RawDocument<'_>, text: &str) -> bool {
     dump_to(document, &mut out).is_ok() && out.as_slice() == text.as_bytes()
 }
 
-/// Like `has_text`, for the document of these bytes.
-fn bytes_have_text(alloc: Global, bytes: &[u8], text: &str) -> bool {
-    match RawDocument::from_bytes(bytes) {
-        Ok(document) => has_text(alloc, document, text),
-        Err(_) => false,
-    }
-}
-
 /// Like `has_text`, for the document of these digits.
 fn is_dumped_as(alloc: Global, digits: &str, text: &str) -> bool {
-    match read_digits(alloc, digits) {
-        Ok(bytes) => bytes_have_text(alloc, &bytes, text),
+    let Ok(bytes) = read_digits(alloc, digits) else {
+        return false;
+    };
+    match RawDocument::from_bytes(&bytes) {
+        Ok(document) => has_text(alloc, document, text),
         Err(_) => false,
     }
 }
