@@ -1,4 +1,4 @@
-//! An array that borrows its bytes.
+//! Borrows an array from the bytes of its document.
 
 ghost use Rattle.std.specs.Prelude.{◌≡◌, length, MatchOption, None};
 ghost use Rattle.bson_elem.specs.{Spells, Tree};

@@ -1,4 +1,4 @@
-//! A document that borrows its bytes.
+//! Borrows a document from its bytes, after a check of all of them.
 
 ghost use Rattle.std.specs.Prelude.{◌≡◌, ◌≤◌, ◌<◌, ◌^◌, List, ℕ, ◌++◌, IfOk, IfErr, IsOkAnd};
 ghost use Rattle.std.specs.Prelude.{IsErrOf, length, MatchResult, MatchOption, IsTrue, IsOk, ◌↔◌};

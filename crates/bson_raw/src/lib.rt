@@ -1,4 +1,4 @@
-//! BSON documents that are checked whole once, and then walked without errors and without a copy.
+//! Checks BSON documents whole once, and then walks them without errors and without a copy.
 //!
 //! A `RawDocument` borrows bytes that spell a document. `from_bytes` and `front` make one: they
 //! run every check, and return the first fault and its offset if there is one. From then on the

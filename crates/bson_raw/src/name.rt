@@ -1,4 +1,4 @@
-//! The names of the pairs of a container: in an array "0", "1" and so on.
+//! Reads the names of the pairs of a container, which in an array are "0", "1" and so on.
 
 ghost use Rattle.std.specs.Prelude.{◌≡◌, ◌≤◌, ◌<◌, length, IfOk, IfSome, Ok, true};
 ghost use Rattle.std.specs.Fmt.{decimal};

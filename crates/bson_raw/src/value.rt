@@ -1,4 +1,4 @@
-//! A value that borrows the bytes of its document.
+//! Borrows a value from the bytes of its document.
 
 ghost use Rattle.std.specs.Prelude.{◌≡◌};
 

@@ -10,9 +10,9 @@
  * Nothing else is owed: any content and any `limit` have an answer. Calls may run at once in several threads.
  * An offset is counted from `bytes`.
  *
- * The checks of documents take no memory. Those of messages take some for the names of a body, as much as these are
- * many, by malloc, realloc and free of the program, and give it back before they return. Where there is none to be had
- * the answer is the same, but takes time in proportion to the square of the number of names. The three functions must
+ * The checks of documents take no memory. Those of messages take some in proportion to the number of names in a
+ * body, by malloc, realloc and free of the program, and give it back before they return. If there is none, the answer
+ * is the same, but takes time in proportion to the square of the number of names. The three functions must
  * come from one allocator. Don't call the checks of messages from a signal handler, nor from the forked child of a
  * process with threads.
  *

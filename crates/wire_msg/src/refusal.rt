@@ -1,4 +1,4 @@
-//! Why a message or a payload is refused.
+//! Says why a message or a payload is refused.
 
 ghost use Rattle.std.specs.Prelude.{◌≡◌};
 ghost use Rattle.wire_msg.specs.Refusals.{refusal_text};

@@ -3,8 +3,8 @@ use Rattle.std.specs.Prelude.{ℕ, zero, suc, List, min, Option, Some, None, Boo
 
 -- What a caller sees of a link in memory: the bytes that were received, those that are left to
 -- receive, the bytes that were sent, how many more there is room for, how many bytes a call moves
--- at most, how many calls come before the one that fails, if one does, and how many calls failed
--- and returned the end.
+-- at most, how many calls come before the one that fails, if one does, how many calls failed, and
+-- how many returned the end.
 pub record Memory : Type 0 where
   pub received : List ℕ
   pub left : List ℕ
