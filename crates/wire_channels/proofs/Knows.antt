@@ -102,11 +102,11 @@ none_behind : (xs ys : List ℕ) → xs ≡ xs ++ ys → ys ≡ []
 none_behind [] ys e = sym e
 none_behind (x ∷ xs) ys e = none_behind xs ys (ap (drop 1) e)
 
-not_told : (b : Bool) → (b ≡ true → ⊥) → b ≡ false
+pub not_told : (b : Bool) → (b ≡ true → ⊥) → b ≡ false
 not_told true n = absurd (n refl)
 not_told false n = refl
 
-open_not_stopped : (s : ServerState) → s ≡ servers.Open → IsStopped s → ⊥
+pub open_not_stopped : (s : ServerState) → s ≡ servers.Open → IsStopped s → ⊥
 open_not_stopped s live (inl e) = let no_ = sym live ∙ e in cc
 open_not_stopped s live (inr (inl e)) = let no_ = sym live ∙ e in cc
 open_not_stopped s live (inr (inr e)) = let no_ = sym live ∙ e in cc

@@ -16,3 +16,5 @@ pub mod Numbers
 pub mod Tells
 pub mod Alone
 pub mod Grows
+pub mod Witness
+pub mod Work

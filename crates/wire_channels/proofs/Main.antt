@@ -37,12 +37,12 @@ module _ (H : Type 0) (does : Does H) (stops : Stops H) (limit : ℕ) (short : l
   start = empty first (λ c. false)
 
   -- a state of the machine stands for the system, with the world's records
-  record Holds (s : System H) : Type 0 where
-    ys : List Record
-    m : Machine H
-    steps : machine.Steps H does stops start m
-    stands : Agrees limit nothing nothing (world_of s ys) m
-    kept : Kept s.pairs s.calls ys
+  pub record Holds (s : System H) : Type 0 where
+    pub ys : List Record
+    pub m : Machine H
+    pub steps : machine.Steps H does stops start m
+    pub stands : Agrees limit nothing nothing (world_of s ys) m
+    pub kept : Kept s.pairs s.calls ys
 
   -- the machine goes on from there
   onward : (s s' : System H) (h : Holds s) (ys' : List Record)
@@ -194,7 +194,7 @@ module _ (H : Type 0) (does : Does H) (stops : Stops H) (limit : ℕ) (short : l
       nowhere zero p at = none-some p at
       nowhere (suc c) p at = none-some p at
 
-  all_hold : (s : System H) → channels.Steps H does stops limit (no_pairs first) s → Holds s
+  pub all_hold : (s : System H) → channels.Steps H does stops limit (no_pairs first) s → Holds s
   all_hold s channels.stay = begins
   all_hold s (channels.go {mid = mid} more one) = step_holds mid s (all_hold mid more) one
 

@@ -1,27 +1,42 @@
 //! The laws of pairs. The contract of a function is the law.
 
-ghost use Rattle.std.specs.Prelude.{◌≡◌, [], ◌++◌, ℕ, ℤ, List};
+ghost use Rattle.std.specs.Prelude.{◌≡◌, ◌≤◌, [], ◌++◌, ℕ, ℤ, List, Some};
 ghost use Rattle.bson_elem.specs.{IsBytes};
-ghost use Rattle.wire_peer.specs.{IsLimit, new_client};
+ghost use Rattle.wire_msg.specs.{message_len};
+ghost use Rattle.wire_msg.specs.declared.payloads.Payload.{Payload as Carried};
+ghost use Rattle.wire_peer.specs.{IsLimit, content_of, new_client};
 ghost use Rattle.wire_channels.specs.Alone.{HoldsAlone};
-ghost use Rattle.wire_channels.specs.Channels.{System, Trace, no_pairs};
-ghost use Rattle.wire_channels.specs.Deeds.{Arrive, Common, Deed, ServersGrow, ServersRun, Turn, acts_at, deeds_of, opened_in};
-ghost use Rattle.wire_channels.specs.Owners.{AreMade, ClientAct, ClientEnd, ClientRun, Made, ServerEnds, bytes_sent, bytes_taken, first_end, first_servers_of};
+ghost use Rattle.wire_channels.specs.Channels.{Pair, Step, System, Trace, no_pairs, pair_at};
+ghost use Rattle.wire_channels.specs.Deeds.{Arrive, Common, Deed, ServersGrow, ServersRun, Turn};
+ghost use Rattle.wire_channels.specs.Deeds.{acts_at, deeds_of, opened_in};
+ghost use Rattle.wire_channels.specs.Owners.{AreMade, ClientAct, ClientEnd, ClientRun, Made};
+ghost use Rattle.wire_channels.specs.Owners.{ServerEnds, bytes_sent, bytes_taken, first_end};
+ghost use Rattle.wire_channels.specs.Owners.{first_servers_of};
 ghost use Rattle.wire_channels.specs.Knowing.{OwnersKnow};
-ghost use Rattle.wire_channels.specs.Seen.{Channelled};
+ghost use Rattle.wire_channels.specs.Seen.{Channelled, IsQuietPair};
+ghost use Rattle.wire_channels.specs.Witness.{GetDone};
+ghost use Rattle.wire_channels.specs.Work.{CanGoOn, Falls, IsLive, IsWork};
 
 use wire_peer::Handler;
 
-/// Proves that whatever public calls are made at the ends of pairs, and whatever of the bytes in flight comes, the
-/// headline holds.
+/// Proves that these laws speak of something: that there is a run in which a plain call, an exhaust
+/// call with two replies and an unacknowledged one are done or sent, whatever their payload is.
+pub fn calls_get_done()
+    ensures { (limit : ℕ) (payload : Carried) → IsLimit limit
+        → message_len (content_of payload) ≤ limit → ∥ GetDone limit payload ∥₁ }
+{}
+
+/// Proves that whatever public calls are made at the ends of pairs, and whatever of the bytes in
+/// flight comes, the headline holds.
 pub fn channels_hold<H: Handler>()
     ensures { (limit : ℕ) (first : H) (s : System H)
         → IsLimit limit → Trace H.does H.stops limit (no_pairs first) s
         → Channelled H.does H.stops first s }
 {}
 
-/// Proves that where the owners of clients and the owner of their servers do what they do in some order, in which what
-/// each end takes are the first bytes in flight to it, all of them have one run of pairs in common.
+/// Proves that where the owners of clients and the owner of their servers do what they do in some
+/// order, in which what each end takes are the first bytes in flight to it, all of them have one
+/// run of pairs in common.
 pub fn halves_meet<H: Handler>()
     ensures { (limit k : ℕ) (first : H) (made : ℕ → Made) (deeds : List Deed)
         (ends : ℕ → ClientEnd) (servers : ServerEnds H)
@@ -32,8 +47,9 @@ pub fn halves_meet<H: Handler>()
         → Common H.does H.stops limit k first ends servers }
 {}
 
-/// Proves that after what all owners did the records that the owners of the clients have keep the headline, over the
-/// log of the servers, and that on a connection whose ends are quiet every acknowledged call is done.
+/// Proves that after what all owners did the records that the owners of the clients have keep the
+/// headline, over the log of the servers, and that on a connection whose ends are quiet every
+/// acknowledged call is done.
 pub fn owners_know<H: Handler>()
     ensures { (limit k : ℕ) (first : H) (made : ℕ → Made) (deeds : List Deed)
         (ends : ℕ → ClientEnd) (servers : ServerEnds H)
@@ -44,7 +60,8 @@ pub fn owners_know<H: Handler>()
         → OwnersKnow H.does H.stops k first deeds ends servers }
 {}
 
-/// Proves that what the owner of a client did, and then did from there on, is one run, and so are the bytes.
+/// Proves that what the owner of a client did, and then did from there on, is one run, and so are
+/// the bytes.
 pub fn runs_go_on()
     ensures { (c : ℕ) (acts more : List ClientAct) (old mid new : ClientEnd)
         → ClientRun c old acts mid → ClientRun c mid more new
@@ -60,8 +77,8 @@ pub fn servers_go_on<H: Handler>()
         → ServersRun H.does H.stops old (deeds ++ more) new }
 {}
 
-/// Proves that where the owner of the servers makes them one after the other, as connections come, what it did is a run
-/// with all of them there from the start.
+/// Proves that where the owner of the servers makes them one after the other, as connections come,
+/// what it did is a run with all of them there from the start.
 pub fn servers_may_come<H: Handler>()
     ensures { (limit : ℕ) (first : H) (made : ℕ → Made) (turns : List Turn) (new : ServerEnds H)
         → ServersGrow H.does H.stops limit made (first_servers_of limit made 0 first) turns new
@@ -71,12 +88,32 @@ pub fn servers_may_come<H: Handler>()
 
 /// Proves what holds of a client, whoever answers it, over any calls and any pieces of any bytes.
 ///
-/// The replies that it handed out are messages of the one split of what it received, in order, each once, each to the
-/// call that owns it, and none behind a call's last. The record of a call has the contents of those to it, and is done
-/// just where the last one was. The client is closed by the first message that is bad or nobody's, with that cause.
+/// The replies that it handed out are messages of the one split of what it received, in order, each
+/// once, each to the call that owns it, and none behind a call's last. The record of a call has the
+/// contents of those to it, and is done just where the last one was. The client is closed by the
+/// first message that is bad or nobody's, with that cause.
 pub fn a_client_holds_alone()
     ensures { (c limit window : ℕ) (first_id : ℤ) (acts : List ClientAct) (new : ClientEnd)
         → IsBytes (bytes_taken acts)
         → ClientRun c (record { client = new_client first_id window limit; records = [] }) acts new
         → HoldsAlone limit acts new }
+{}
+
+/// Proves that where both ends of a pair are open and no way is cut, there is something to do until
+/// the pair is quiet.
+pub fn pairs_go_on<H: Handler>()
+    ensures { (limit : ℕ) (first : H) (s : System H) (c : ℕ) (p : Pair)
+        → IsLimit limit → Trace H.does H.stops limit (no_pairs first) s
+        → pair_at s.pairs c ≡ Some p → IsLive p → (IsQuietPair s.pairs c → ⊥)
+        → CanGoOn H H.does H.stops limit s c p }
+{}
+
+/// Proves that each step that does some of the work of a pair leaves less of it, so that such steps
+/// come to an end where no call is made, and that it leaves the other pairs alone.
+pub fn work_falls<H: Handler>()
+    ensures { (limit : ℕ) (first : H) (s s' : System H) (c : ℕ) (p : Pair)
+        → IsLimit limit → Trace H.does H.stops limit (no_pairs first) s
+        → pair_at s.pairs c ≡ Some p → (step : Step H H.does H.stops limit s s')
+        → IsWork H H.does H.stops limit c s s' step
+        → Falls H H.does H.stops limit s s' c p }
 {}

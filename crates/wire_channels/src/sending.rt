@@ -8,7 +8,8 @@ ghost use Rattle.wire_channels.specs.Owners.{ClientDoes, SendsUp};
 use wire_peer::Client;
 use wire_stream::{Link, LinkFault, Moved};
 
-/// Sends the first bytes that wait in `client` over `link`, as many as it takes at once. Returns how many.
+/// Sends the first bytes that wait in `client` over `link`, as many as it takes at once. Returns
+/// how many.
 ///
 /// # Errors
 ///

@@ -1,0 +1,93 @@
+-- The work that is left at a pair: how much it is, which steps do some of it, and what can be done.
+use Rattle.std.specs.Prelude.{◌≡◌, ◌≢◌, ℕ, ◌+◌, ◌*◌, ◌<◌, ◌⊎◌, Option, None, Some, [], length}
+use Rattle.std.specs.Prelude.{Result, Ok, Err}
+use Rattle.wire_peer.specs.{Does, MayTake, Stops}
+use Rattle.wire_peer.specs.declared.call_table.ReadyReply.{ReadyReply}
+use Rattle.wire_peer.specs.declared.client_state.ClientState.TheVariants as clients
+use Rattle.wire_peer.specs.declared.server_state.AnswerRefusal.{AnswerRefusal}
+use Rattle.wire_peer.specs.declared.server_state.AnswerRefusal.TheVariants as refusals
+use Rattle.wire_peer.specs.declared.server_state.ServerState.TheVariants as servers
+use Rattle.wire_channels.specs.Channels.{Pair, Step, System, pair_at}
+use Rattle.wire_channels.specs.Channels as channels
+
+-- ---- how much is left
+
+-- Of the requests: each byte that has yet to be sent, or to be taken, and each one that waits. A
+-- byte counts less once it is sent, and no more than one request comes of it.
+abbrev pub up_work : Pair → ℕ
+up_work p =
+    3 * length p.client.requests.output + 2 * length p.up.bytes + length p.server.waiting
+
+abbrev pub ready_work : Option ReadyReply → ℕ
+ready_work None = 0
+ready_work (Some reply) = 1
+
+-- of the replies, one that is ready among them
+abbrev pub down_work : Pair → ℕ
+down_work p =
+    3 * length p.server.output + 2 * length p.down.bytes + ready_work p.client.reply
+
+-- Less of the requests is left, or as much of them and less of the replies: an answer may put out
+-- as many bytes as it likes.
+abbrev pub IsLess : (new old : Pair) → Type 0
+IsLess new old =
+    (up_work new < up_work old)
+    ⊎ ((up_work new ≡ up_work old) × (down_work new < down_work old))
+
+-- ---- steps that do some of it
+
+-- a request was answered, or its server closed over it
+abbrev pub IsAnswered : Result ℕ AnswerRefusal → Type 0
+IsAnswered (Ok n) = Unit {0}
+IsAnswered (Err (refusals.NowClosed cause)) = Unit {0}
+IsAnswered (Err refusals.Closed) = ⊥
+IsAnswered (Err refusals.NoSuchRequest) = ⊥
+IsAnswered (Err refusals.OutOfMemory) = ⊥
+
+module _ (H : Type 0) (does : Does H) (stops : Stops H) (limit : ℕ) where
+  -- Some bytes of pair c are sent, an end of it is fed some, a request there is answered, or a
+  -- reply collected.
+  abbrev pub IsWork : (c : ℕ) (old new : System H) → Step H does stops limit old new → Type 0
+  IsWork c old new (channels.pairs first_id cw sw least fits e) = ⊥
+  IsWork c old new (channels.calls d p kind payload number at is e) = ⊥
+  IsWork c old new (channels.sends_up d p n at le e) = (d ≡ c) × (0 < n)
+  IsWork c old new (channels.feeds_up d p piece n server way at live room takes t e) =
+      (d ≡ c) × (piece ≢ [])
+  IsWork c old new (channels.answers d p i result server handler log at step contents e) =
+      (d ≡ c) × IsAnswered result
+  IsWork c old new (channels.sends_down d p n at le e) = (d ≡ c) × (0 < n)
+  IsWork c old new (channels.feeds_down d p piece n client way at may takes t e) =
+      (d ≡ c) × (piece ≢ [])
+  IsWork c old new (channels.collects d p reply m at ready spells e) = d ≡ c
+  IsWork c old new (channels.ends_up d p at e) = ⊥
+  IsWork c old new (channels.ends_down d p at e) = ⊥
+  IsWork c old new (channels.cuts_up d p n way at t e) = ⊥
+  IsWork c old new (channels.cuts_down d p n way at t e) = ⊥
+
+  -- less is left of pair c, and the other pairs are as they were
+  pub record Falls (old new : System H) (c : ℕ) (p : Pair) : Type 0 where
+    pub q : Pair
+    pub at : pair_at new.pairs c ≡ Some q
+    pub less : IsLess q p
+    pub others : (d : ℕ) → (d ≡ c → ⊥) → pair_at new.pairs d ≡ pair_at old.pairs d
+
+  -- ---- what can be done
+
+  -- What there is to do at the pair: a step that does some of the work; or bytes are in flight to
+  -- an end that takes them, or a request waits at an open server. What comes of feeding and of
+  -- answering is for memory to say, and for the handler.
+  pub data CanGoOn (s : System H) (c : ℕ) (p : Pair) : Type 0 where
+    steps : (s' : System H) (step : Step H does stops limit s s') → IsWork c s s' step
+        → CanGoOn s c p
+    feeds_up : p.server.state ≡ servers.Open → length p.server.waiting < p.server.window
+        → p.up.bytes ≢ [] → CanGoOn s c p
+    feeds_down : MayTake p.client → p.down.bytes ≢ [] → CanGoOn s c p
+    answers : p.server.state ≡ servers.Open → p.server.waiting ≢ [] → CanGoOn s c p
+
+-- both ends are open, neither way is cut, and the server has room for a request
+pub record IsLive (p : Pair) : Type 0 where
+  pub client_open : p.client.state ≡ clients.Open
+  pub server_open : p.server.state ≡ servers.Open
+  pub up_uncut : p.up.left ≡ None
+  pub down_uncut : p.down.left ≡ None
+  pub room : 0 < p.server.window
