@@ -1,5 +1,6 @@
 -- A client by itself, whoever answers it: over any calls, and any pieces of any bytes.
-use Rattle.std.specs.Prelude.{◌≡◌, ℕ, ◌≤◌, ℤ, ◌⊎◌, true, ◌==◌, if◌then◌else◌, slice_get, Option, None, Some, List, [], ◌∷◌, ◌++◌, length, Result, Ok, Err}
+use Rattle.std.specs.Prelude.{◌≡◌, ℕ, ◌≤◌, ℤ, ◌⊎◌, true, ◌==◌, if◌then◌else◌, slice_get, Option}
+use Rattle.std.specs.Prelude.{None, Some, List, [], ◌∷◌, ◌++◌, length, Result, Ok, Err}
 use Rattle.wire_msg.specs.{Content, IsBad, IsOpen, Message, SpellsMsg, Split}
 use Rattle.wire_peer.specs.{Table, after_reply, allowed, awaiting, owner, reply_to}
 use Rattle.wire_peer.specs.declared.call_table.Outstanding.{Outstanding}
@@ -11,7 +12,8 @@ use Rattle.wire_peer.specs.declared.client_state.ClientCause.TheVariants as caus
 use Rattle.wire_peer.specs.declared.client_state.ClientState.{ClientState}
 use Rattle.wire_peer.specs.declared.client_state.ClientState.TheVariants.{Open, Closed}
 use Rattle.wire_model.specs.{Done, Record}
-use Rattle.wire_channels.specs.Owners.{Calls, ClientAct, ClientEnd, Collects, EndsDown, SendsUp, TakesDown, bytes_taken}
+use Rattle.wire_channels.specs.Owners.{Calls, ClientAct, ClientEnd, Collects, EndsDown, SendsUp}
+use Rattle.wire_channels.specs.Owners.{TakesDown, bytes_taken}
 
 -- ---- what a client hears
 
@@ -30,8 +32,8 @@ got (Got m ∷ hs) = m ∷ got hs
 abbrev pub IsMessageOf : ℕ → List ℕ → Message → Type 0
 IsMessageOf limit bytes m = SpellsMsg m bytes × (length bytes ≤ limit)
 
--- What a client hears by its acts, where it holds these bytes of a message: a call when it makes it, and a
--- message when it takes the last of its bytes.
+-- What a client hears by its acts, where it holds these bytes of a message: a call when it makes
+-- it, and a message when it takes the last of its bytes.
 abbrev pub Hears : ℕ → List ℕ → List ClientAct → List Heard → Type 0
 Hears limit held [] hs = hs ≡ []
 Hears limit held (Calls kind payload number ∷ acts) hs =
@@ -47,8 +49,8 @@ Hears limit held (EndsDown ∷ acts) hs = Hears limit held acts hs
 
 -- ---- what comes of it
 
--- the calls that are outstanding; the replies so far, each with its message; and the cause of the message that
--- was nobody's, if one was
+-- the calls that are outstanding; the replies so far, each with its message; and the cause of the
+-- message that was nobody's, if one was
 pub record Hearing : Type 0 where
   pub table : Table
   pub replies : List (ReadyReply × Message)
@@ -67,8 +69,8 @@ replied h m (Ok o) = record {
 }
 replied h m (Err cause) = record { table = h.table; replies = h.replies; cause = Some cause }
 
--- A call is outstanding where it awaits a reply, and a message is a reply to the call that owns it by its
--- responseTo.
+-- A call is outstanding where it awaits a reply, and a message is a reply to the call that owns it
+-- by its responseTo.
 abbrev pub hear : Hearing → Heard → Hearing
 hear h (Made kind call) =
     record { table = awaiting h.table kind call; replies = h.replies; cause = h.cause }
@@ -116,8 +118,9 @@ abbrev pub NoneBehind : List (ReadyReply × Message) → Type 0
 NoneBehind [] = Unit {0}
 NoneBehind (r ∷ rs) = (r.0.last ≡ true → NoneTo r.0.call rs) × NoneBehind rs
 
--- Where no message was nobody's, the client is open or was told the end, and more of the rest may come; or it
--- was closed by the rest, which is bad. Else it was closed by that message, the last one that it took.
+-- Where no message was nobody's, the client is open or was told the end, and more of the rest may
+-- come; or it was closed by the rest, which is bad. Else it was closed by that message, the last
+-- one that it took.
 abbrev pub ClosesBy : ℕ → List ℕ → Option ClientCause → ClientState → Type 0
 ClosesBy limit rest None Open = IsOpen limit rest
 ClosesBy limit rest None (Closed causes.Ended) = IsOpen limit rest
@@ -128,11 +131,11 @@ ClosesBy limit rest None (Closed causes.MoreNotAllowed) = ⊥
 ClosesBy limit rest None (Closed causes.StreamBroken) = ⊥
 ClosesBy limit rest (Some cause) state = (state ≡ Closed cause) × (rest ≡ [])
 
--- What a client heard are its calls and the messages of the one split of what it received. The replies that
--- it handed out, and the one that is ready, are those messages, in order, each once, each to the call that
--- owns it, and none behind a call's last; the record of a call has the contents of those that were handed out
--- to it, and is done just where its last one was; and the client is closed by the first message that is bad or
--- nobody's, with that cause.
+-- What a client heard are its calls and the messages of the one split of what it received. The
+-- replies that it handed out, and the one that is ready, are those messages, in order, each once,
+-- each to the call that owns it, and none behind a call's last; the record of a call has the
+-- contents of those that were handed out to it, and is done just where its last one was; and the
+-- client is closed by the first message that is bad or nobody's, with that cause.
 pub record HoldsAlone (limit : ℕ) (acts : List ClientAct) (new : ClientEnd) : Type 0 where
   pub heard : List Heard
   pub hears : Hears limit [] acts heard

@@ -1,16 +1,21 @@
 -- Connections whose two ends are apart: a client here, a server there, and bytes in flight between
 -- them. Each step is one public call at one end, or a cut.
-use Rattle.std.specs.Prelude.{◌≡◌, ℕ, zero, suc, ◌-◌, ◌<◌, ◌≤◌, Bool, true, false, ◌==◌, if◌then◌else◌, Option, None, Some, List, [], ◌∷◌, ◌++◌, length, map, slice_get, slice_set, take, drop, Result, ℤ, pos, ◌≤ℤ◌, FitsSigned}
+use Rattle.std.specs.Prelude.{◌≡◌, ℕ, zero, suc, ◌-◌, ◌<◌, ◌≤◌, Bool, true, false, ◌==◌}
+use Rattle.std.specs.Prelude.{if◌then◌else◌, Option, None, Some, List, [], ◌∷◌, ◌++◌, length, map}
+use Rattle.std.specs.Prelude.{slice_get, slice_set, take, drop, Result, ℤ, pos, ◌≤ℤ◌, FitsSigned}
 use Rattle.std.specs.Int.{w32}
 use Rattle.wire_msg.specs.{Content, Message, SpellsMsg}
 use Rattle.wire_msg.specs.declared.payloads.Payload.{Payload}
-use Rattle.wire_peer.specs.{AnswerStep, ClientSeen, Does, IsCalled, LogEntry, MayTake, ServerView, Stops, Takes, TakesBytes, called, content_of, ended, new_client, new_server, released}
+use Rattle.wire_peer.specs.{AnswerStep, ClientSeen, Does, IsCalled, LogEntry, MayTake, ServerView}
+use Rattle.wire_peer.specs.{Stops, Takes, TakesBytes, called, content_of, ended, new_client}
+use Rattle.wire_peer.specs.{new_server, released}
 use Rattle.wire_peer.specs.declared.call_table.ReadyReply.{ReadyReply}
 use Rattle.wire_peer.specs.declared.calls.CallKind.{CallKind}
 use Rattle.wire_peer.specs.declared.calls.CallNo.{CallNo}
 use Rattle.wire_peer.specs.declared.server_state.AnswerRefusal.{AnswerRefusal}
 use Rattle.wire_peer.specs.declared.server_state.ServerState.TheVariants as servers
-use Rattle.wire_model.specs.{AreContents, Record, asked_as, ended_server, lost_state, new_record, put_at, with_client_output, with_server_output}
+use Rattle.wire_model.specs.{AreContents, Record, asked_as, ended_server, lost_state, new_record}
+use Rattle.wire_model.specs.{put_at, with_client_output, with_server_output}
 
 -- ---- what there is
 
@@ -20,8 +25,8 @@ pub record Way : Type 0 where
   pub bytes : List ℕ
   pub left : Option ℕ
 
--- A client, a server, and the two ways between them; the index among the records of each call of the
--- client, by the call's number; and which of the two was told that no more bytes come.
+-- A client, a server, and the two ways between them; the index among the records of each call of
+-- the client, by the call's number; and which of the two was told that no more bytes come.
 pub record Pair : Type 0 where
   pub client : ClientSeen
   pub server : ServerView
@@ -174,10 +179,12 @@ given_up s c p = record s {
 
 module _ (H : Type 0) (does : Does H) (stops : Stops H) (limit : ℕ) where
   pub data Step (old new : System H) : Type 0 where
-    -- a client and a server are made, for messages of at most so many bytes, and two ways between them
+    -- a client and a server are made, for messages of at most so many bytes, and two ways between
+    -- them
     pairs : (first_id : ℤ) (client_window server_window : ℕ) → pos 1 ≤ℤ first_id
         → FitsSigned w32 first_id
-        → new ≡ paired old (new_pair (suc (length old.pairs)) limit first_id client_window server_window)
+        → new ≡ paired old
+        (new_pair (suc (length old.pairs)) limit first_id client_window server_window)
         → Step old new
     -- the client makes a call
     calls : (c : ℕ) (p : Pair) (kind : CallKind) (payload : Payload) (number : CallNo)

@@ -1,9 +1,12 @@
 -- What happened at both ends, in one order, and the run that the owners have in common.
-use Rattle.std.specs.Prelude.{◌≡◌, ℕ, suc, ◌≤◌, ◌==◌, if◌then◌else◌, Some, List, [], ◌∷◌, ◌++◌, length, slice_get}
+use Rattle.std.specs.Prelude.{◌≡◌, ℕ, suc, ◌≤◌, ◌==◌, if◌then◌else◌, Some, List, [], ◌∷◌, ◌++◌}
+use Rattle.std.specs.Prelude.{length, slice_get}
 use Rattle.wire_peer.specs.{Does, Stops, new_server}
 use Rattle.wire_model.specs.{Record}
 use Rattle.wire_channels.specs.Channels.{Pair, System, Trace, no_pairs, pair_at}
-use Rattle.wire_channels.specs.Owners.{ClientAct, ClientEnd, Made, ServerAct, ServerEnds, ServersDo, server_at, Calls, Collects, EndsDown, SendsUp, TakesDown, Answers, EndsUp, SendsDown, TakesUp}
+use Rattle.wire_channels.specs.Owners.{ClientAct, ClientEnd, Made, ServerAct, ServerEnds, ServersDo}
+use Rattle.wire_channels.specs.Owners.{server_at, Calls, Collects, EndsDown, SendsUp, TakesDown}
+use Rattle.wire_channels.specs.Owners.{Answers, EndsUp, SendsDown, TakesUp}
 
 -- ---- both
 
@@ -42,7 +45,8 @@ opened_in (Is deed ∷ turns) = opened_in turns
 -- the servers, and the next one before its first request
 abbrev pub opened : {H : Type 0} → (limit : ℕ) → (ℕ → Made) → ServerEnds H → ServerEnds H
 opened limit made old = record {
-  servers = old.servers ++ new_server (suc (length old.servers)) (made (suc (length old.servers))).server_window limit ∷ [];
+  servers = old.servers ++ new_server (suc (length old.servers))
+      (made (suc (length old.servers))).server_window limit ∷ [];
   log = old.log;
   handler = old.handler;
 }
@@ -78,8 +82,8 @@ server_acts_at c (AtServer d act ∷ deeds) =
 abbrev pub at_one : (ℕ → List ℕ) → ℕ → List ℕ → ℕ → List ℕ
 at_one f c bytes d = if d == c then bytes else f d
 
--- What an end takes are the first bytes in flight to it, where these are in flight up and down: what
--- was put in and not taken yet, in order.
+-- What an end takes are the first bytes in flight to it, where these are in flight up and down:
+-- what was put in and not taken yet, in order.
 abbrev pub Arrive : (up down : ℕ → List ℕ) → List Deed → Type 0
 Arrive up down [] = Unit {0}
 Arrive up down (AtClient c (Calls kind payload number) ∷ deeds) = Arrive up down deeds
@@ -98,8 +102,8 @@ Arrive up down (AtServer c EndsUp ∷ deeds) = Arrive up down deeds
 
 -- ---- what comes of it
 
--- Each record that the owner of a client has is the system's, under its own index, and the system has no
--- other one. So is the log.
+-- Each record that the owner of a client has is the system's, under its own index, and the system
+-- has no other one. So is the log.
 pub record AreOf {H : Type 0} (k : ℕ) (ends : ℕ → ClientEnd) (servers : ServerEnds H) (s : System H)
     : Type 0 where
   pub pair : (c : ℕ) → 1 ≤ c → c ≤ k → (p : Pair) × (pair_at s.pairs c ≡ Some p)

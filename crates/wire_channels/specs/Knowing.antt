@@ -4,8 +4,10 @@ use Rattle.wire_peer.specs.{Does, LogEntry, ServerView, Stops}
 use Rattle.wire_peer.specs.declared.client_state.ClientState.TheVariants as clients
 use Rattle.wire_peer.specs.declared.server_state.ServerState.TheVariants as servers
 use Rattle.wire_model.specs.{Machine, Record, Done, Lost, Pending, Sent}
-use Rattle.wire_model.specs.Machines.{Answered, Call, CallIs, Mute, Never, Owes, Place, Steps, empty}
-use Rattle.wire_channels.specs.Owners.{ClientEnd, ServerEnds, bytes_sent, bytes_sent_down, bytes_taken, bytes_taken_up, server_at}
+use Rattle.wire_model.specs.Machines.{Answered, Call, CallIs, Mute, Never, Owes, Place, Steps}
+use Rattle.wire_model.specs.Machines.{empty}
+use Rattle.wire_channels.specs.Owners.{ClientEnd, ServerEnds, bytes_sent, bytes_sent_down}
+use Rattle.wire_channels.specs.Owners.{bytes_taken, bytes_taken_up, server_at}
 use Rattle.wire_channels.specs.Deeds.{Deed, acts_at, server_acts_at}
 
 -- ---- calls, by whatever they are numbered
@@ -21,26 +23,28 @@ pub record IsEntry (log : List LogEntry) (e : ℕ) (x : Record) : Type 0 where
   pub connection : entry.connection ≡ x.connection
   pub payload : entry.payload ≡ x.asked.payload
 
--- The record holds a beginning of the answers of the entry that the place names, and not all of them; or
--- nothing, where no entry is named, or one with no answers.
+-- The record holds a beginning of the answers of the entry that the place names, and not all of
+-- them; or nothing, where no entry is named, or one with no answers.
 abbrev pub HoldsBeginning : List LogEntry → Place → Record → Type 0
 HoldsBeginning log p x =
     ((e : ℕ) × (is : IsEntry log e x) × Names p e × Owes is.entry.answers x.parts)
     ⊎ ((x.parts ≡ []) × ((e : ℕ) → Names p e → (is : IsEntry log e x) × (is.entry.answers ≡ None)))
 
--- Calls with these records keep the headline, as calls of the machine: each is one of its calls, and the
--- place of that one tells where its request is. One that is done holds exactly the answers of its own entry;
--- no two have one entry, and each entry is one's; an unacknowledged one holds none; a pending or lost one
--- holds a beginning of its answers and not all of them, or nothing; one that is mute, or never comes, holds
--- none and is never done.
-pub record Owned {H : Type 0} {I : Type 0} (m : Machine H) (IsCall : I → Record → Type 0) : Type 0 where
+-- Calls with these records keep the headline, as calls of the machine: each is one of its calls,
+-- and the place of that one tells where its request is. One that is done holds exactly the answers
+-- of its own entry; no two have one entry, and each entry is one's; an unacknowledged one holds
+-- none; a pending or lost one holds a beginning of its answers and not all of them, or nothing; one
+-- that is mute, or never comes, holds none and is never done.
+pub record Owned {H : Type 0} {I : Type 0} (m : Machine H) (IsCall : I → Record → Type 0)
+    : Type 0 where
   pub number : I → ℕ
   pub place : I → Place
   pub is : (i : I) (x : Record) → IsCall i x → (y : Call) × CallIs m.calls (number i) y
       × (y.connection ≡ x.connection) × (y.asked ≡ x.asked) × (y.place ≡ place i)
   pub once : (i j : I) (x y : Record) → IsCall i x → IsCall j y → number i ≡ number j → i ≡ j
   pub entry : (i : I) (x : Record) (e : ℕ) → IsCall i x → Names (place i) e → IsEntry m.log e x
-  pub whole : (i : I) (x : Record) → IsCall i x → x.state ≡ Done → (e : ℕ) × (is : IsEntry m.log e x)
+  pub whole : (i : I) (x : Record) → IsCall i x → x.state ≡ Done
+      → (e : ℕ) × (is : IsEntry m.log e x)
       × (place i ≡ Answered e) × (is.entry.answers ≡ Some x.parts)
   pub one_call : (i j : I) (x y : Record) (e : ℕ) → IsCall i x → IsCall j y → Names (place i) e
       → Names (place j) e → i ≡ j
@@ -64,8 +68,10 @@ pub record NoneInFlight (c : ℕ) (deeds : List Deed) : Type 0 where
   pub up : bytes_taken_up (server_acts_at c deeds) ≡ bytes_sent (acts_at c deeds)
   pub down : bytes_taken (acts_at c deeds) ≡ bytes_sent_down (server_acts_at c deeds)
 
--- Both ends are open, nothing is in flight or has yet to be sent, nothing waits, and no reply is ready.
-pub record AreQuiet (c : ℕ) (deeds : List Deed) (client : ClientEnd) (server : ServerView) : Type 0 where
+-- Both ends are open, nothing is in flight or has yet to be sent, nothing waits, and no reply is
+-- ready.
+pub record AreQuiet (c : ℕ) (deeds : List Deed) (client : ClientEnd) (server : ServerView)
+    : Type 0 where
   pub client_open : client.client.state ≡ clients.Open
   pub server_open : server.state ≡ servers.Open
   pub none_in_flight : NoneInFlight c deeds
@@ -74,8 +80,9 @@ pub record AreQuiet (c : ℕ) (deeds : List Deed) (client : ClientEnd) (server :
   pub none_waits : server.waiting ≡ []
   pub none_ready : client.client.reply ≡ None
 
--- After these deeds the records that the owners of the clients have keep the headline, over the log of the
--- servers; and where both ends of a connection are quiet, each of its acknowledged calls is done.
+-- After these deeds the records that the owners of the clients have keep the headline, over the log
+-- of the servers; and where both ends of a connection are quiet, each of its acknowledged calls is
+-- done.
 pub record OwnersKnow {H : Type 0} (does : Does H) (stops : Stops H) (k : ℕ) (first : H)
     (deeds : List Deed) (ends : ℕ → ClientEnd) (servers : ServerEnds H) : Type 0 where
   pub m : Machine H

@@ -1,15 +1,19 @@
--- The owners of the ends, each by itself: what the owner of a client, or of the servers, holds, and what
--- it does call by call.
-use Rattle.std.specs.Prelude.{◌≡◌, ℕ, zero, suc, ℤ, pos, ◌≤ℤ◌, FitsSigned, Option, None, Some, List, [], ◌∷◌, ◌++◌, map, slice_get, slice_set, Result}
+-- The owners of the ends, each by itself: what the owner of a client, or of the servers, holds, and
+-- what it does call by call.
+use Rattle.std.specs.Prelude.{◌≡◌, ℕ, zero, suc, ℤ, pos, ◌≤ℤ◌, FitsSigned, Option, None, Some, List}
+use Rattle.std.specs.Prelude.{[], ◌∷◌, ◌++◌, map, slice_get, slice_set, Result}
 use Rattle.std.specs.Int.{w32}
 use Rattle.wire_msg.specs.{Message, SpellsMsg}
 use Rattle.wire_msg.specs.declared.payloads.Payload.{Payload}
-use Rattle.wire_peer.specs.{AnswerStep, ClientSeen, Does, IsCalled, LogEntry, ServerView, Stops, called, content_of, ended, new_client, new_server, released}
+use Rattle.wire_peer.specs.{AnswerStep, ClientSeen, Does, IsCalled, LogEntry, ServerView, Stops}
+use Rattle.wire_peer.specs.{called, content_of, ended, new_client, new_server, released}
 use Rattle.wire_peer.specs.declared.call_table.ReadyReply.{ReadyReply}
 use Rattle.wire_peer.specs.declared.calls.CallKind.{CallKind}
 use Rattle.wire_peer.specs.declared.calls.CallNo.{CallNo}
 use Rattle.wire_peer.specs.declared.server_state.AnswerRefusal.{AnswerRefusal}
-use Rattle.wire_model.specs.{AreContents, ClientTakes, Record, ServerTakes, asked_as, ended_server, lost_record, new_record, put_at, with_client_output, with_server_output}
+use Rattle.wire_model.specs.{AreContents, ClientTakes, Record, ServerTakes, asked_as, ended_server}
+use Rattle.wire_model.specs.{lost_record, new_record, put_at, with_client_output}
+use Rattle.wire_model.specs.{with_server_output}
 
 -- ---- the owner of a client
 
@@ -126,8 +130,8 @@ abbrev pub server_set : List ServerView → ℕ → ServerView → List ServerVi
 server_set ss zero s = ss
 server_set ss (suc i) s = slice_set ss i s
 
--- a server takes bytes, answers a request that waits, or refuses to, has its first bytes sent, or is
--- told the end
+-- a server takes bytes, answers a request that waits, or refuses to, has its first bytes sent, or
+-- is told the end
 abbrev pub ServerDoes : {H : Type 0} → Does H → Stops H → ServerAct → ServerView → List LogEntry → H
     → ServerView → List LogEntry → H → Type 0
 ServerDoes does stops (TakesUp bytes) s log h s' log' h' =
@@ -173,4 +177,5 @@ first_servers limit made (suc k) =
     first_servers limit made k ++ new_server (suc k) (made (suc k)).server_window limit ∷ []
 
 abbrev pub first_servers_of : {H : Type 0} → (limit : ℕ) → (ℕ → Made) → ℕ → H → ServerEnds H
-first_servers_of limit made k h = record { servers = first_servers limit made k; log = []; handler = h }
+first_servers_of limit made k h =
+    record { servers = first_servers limit made k; log = []; handler = h }

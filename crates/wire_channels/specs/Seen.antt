@@ -1,14 +1,17 @@
 -- The world that a system shows, and what holds of every trace.
-use Rattle.std.specs.Prelude.{◌≡◌, ℕ, ◌⊎◌, false, None, Some, List, [], ◌++◌, length, map, slice_get}
+use Rattle.std.specs.Prelude.{◌≡◌, ℕ, ◌⊎◌, false, None, Some, List, [], ◌++◌, length, map}
+use Rattle.std.specs.Prelude.{slice_get}
 use Rattle.wire_msg.specs.{Message, SpellsMsg}
 use Rattle.wire_pool.specs.{new_pool}
 use Rattle.wire_peer.specs.{ClientSeen, Does, ServerView, Stops, released}
 use Rattle.wire_peer.specs.declared.call_table.ReadyReply.{ReadyReply}
-use Rattle.wire_model.specs.{Conn, Done, Headline, IsStopped, Lost, Pending, Record, World, given_record, with_client_output, with_server_output}
+use Rattle.wire_model.specs.{Conn, Done, Headline, IsStopped, Lost, Pending, Record, World}
+use Rattle.wire_model.specs.{given_record, with_client_output, with_server_output}
 use Rattle.wire_channels.specs.Channels.{Pair, System, pair_at}
 use Rattle.wire_channels.specs.Knowing.{Owned}
 
--- What is in flight is as if its sender had it yet, and a reply that is ready as if it had been let go of.
+-- What is in flight is as if its sender had it yet, and a reply that is ready as if it had been let
+-- go of.
 abbrev pub seen_client : Pair → ClientSeen
 seen_client p = with_client_output (released p.client) (p.up.bytes ++ p.client.requests.output)
 
@@ -37,7 +40,8 @@ world_of s calls = record {
 
 -- ---- the records
 
--- the client of the connection has a reply ready, to the call of this index, that its owner hasn't taken
+-- the client of the connection has a reply ready, to the call of this index, that its owner hasn't
+-- taken
 pub record IsReady (ps : List Pair) (i c : ℕ) : Type 0 where
   pub p : Pair
   pub at : pair_at ps c ≡ Some p
@@ -57,8 +61,8 @@ pub record IsAhead (ps : List Pair) (i : ℕ) (x y : Record) : Type 0 where
 abbrev pub Agree : List Pair → ℕ → Record → Record → Type 0
 Agree ps i x y = ((y ≡ x) × (IsReady ps i x.connection → ⊥)) ⊎ IsAhead ps i x y
 
--- Neither end of the pair was told that no more bytes come, and its server wasn't closed by an answer;
--- nothing is in flight or has yet to be sent, nothing waits, and no reply is ready.
+-- Neither end of the pair was told that no more bytes come, and its server wasn't closed by an
+-- answer; nothing is in flight or has yet to be sent, nothing waits, and no reply is ready.
 pub record IsQuietPair (ps : List Pair) (c : ℕ) : Type 0 where
   pub p : Pair
   pub at : pair_at ps c ≡ Some p
@@ -72,9 +76,9 @@ pub record IsQuietPair (ps : List Pair) (c : ℕ) : Type 0 where
   pub none_waits : p.server.waiting ≡ []
   pub none_ready : p.client.reply ≡ None
 
--- The world that the system shows keeps the headline, where its records are the owners' ones but for
--- replies that are ready; and so do the owners' records themselves. On a quiet pair each acknowledged call
--- is done with its owner.
+-- The world that the system shows keeps the headline, where its records are the owners' ones but
+-- for replies that are ready; and so do the owners' records themselves. On a quiet pair each
+-- acknowledged call is done with its owner.
 pub record Channelled {H : Type 0} (does : Does H) (stops : Stops H) (first : H) (s : System H)
     : Type 0 where
   pub calls : List Record
@@ -86,4 +90,5 @@ pub record Channelled {H : Type 0} (does : Does H) (stops : Stops H) (first : H)
       → slice_get calls i ≡ Some x
   pub owned : Owned headline.m (λ (i : ℕ) (x : Record). slice_get s.calls i ≡ Some x)
   pub quiet : (c : ℕ) → IsQuietPair s.pairs c → (i : ℕ) (x : Record)
-      → slice_get s.calls i ≡ Some x → x.connection ≡ c → x.asked.more_to_come ≡ false → x.state ≡ Done
+      → slice_get s.calls i ≡ Some x → x.connection ≡ c → x.asked.more_to_come ≡ false
+      → x.state ≡ Done
