@@ -1,7 +1,8 @@
 -- Which value of a tree an owned value is.
 use Rattle.std.specs.Prelude.{[], string_bytes}
 use Rattle.bson_elem.specs.declared.kinds.Kind.TheVariants as kinds
-use Rattle.bson_elem.specs.{binary_value, boolean_value, no_code, number_value, pointer_value, raw_value, regex_value, text_value, timestamp_value, with_code}
+use Rattle.bson_elem.specs.{binary_value, boolean_value, no_code, number_value, pointer_value}
+use Rattle.bson_elem.specs.{raw_value, regex_value, text_value, timestamp_value, with_code}
 use Rattle.bson_raw.specs.{TreeValue, document_value, leaf_value}
 use Rattle.bson_doc.specs.declared.bson_values.Bson.{Bson}
 use Rattle.bson_doc.specs.declared.bson_values.Bson.TheVariants as values
@@ -20,13 +21,17 @@ value_of (values.ObjectId bytes) = leaf_value kinds.ObjectId (raw_value bytes)
 value_of (values.Boolean truth) = leaf_value kinds.Boolean (boolean_value truth)
 value_of (values.DateTime millis) = leaf_value kinds.DateTime (number_value millis)
 value_of values.Null = leaf_value kinds.Null (raw_value [])
-value_of (values.Regex pattern options) = leaf_value kinds.Regex (regex_value (string_bytes pattern) (string_bytes options))
-value_of (values.DbPointer text id) = leaf_value kinds.DbPointer (pointer_value (string_bytes text) id)
+value_of (values.Regex pattern options) =
+    leaf_value kinds.Regex (regex_value (string_bytes pattern) (string_bytes options))
+value_of (values.DbPointer text id) =
+    leaf_value kinds.DbPointer (pointer_value (string_bytes text) id)
 value_of (values.Code text) = leaf_value kinds.Code (text_value (string_bytes text))
 value_of (values.Symbol text) = leaf_value kinds.Symbol (text_value (string_bytes text))
-value_of (values.CodeWithScope code scope) = document_value kinds.CodeWithScope (with_code (string_bytes code)) (tree_of scope)
+value_of (values.CodeWithScope code scope) =
+    document_value kinds.CodeWithScope (with_code (string_bytes code)) (tree_of scope)
 value_of (values.Int32 n) = leaf_value kinds.Int32 (number_value n)
-value_of (values.Timestamp increment seconds) = leaf_value kinds.Timestamp (timestamp_value increment seconds)
+value_of (values.Timestamp increment seconds) =
+    leaf_value kinds.Timestamp (timestamp_value increment seconds)
 value_of (values.Int64 n) = leaf_value kinds.Int64 (number_value n)
 value_of (values.Decimal128 bytes) = leaf_value kinds.Decimal128 (raw_value bytes)
 value_of values.MinKey = leaf_value kinds.MinKey (raw_value [])

@@ -3,7 +3,8 @@ use Rattle.std.specs.Prelude.{◌≡◌, ℕ, List, ◌⊎◌, refl}
 use Rattle.std.proofs.Common.{inl, inr}
 use Rattle.std.specs.Coded.{Coded, code_by, coded_list, coded×, coded⊎}
 use Rattle.bson_elem.specs.declared.kinds.Kind.{Kind}
-use Rattle.bson_elem.specs.{Beside, Leaf, Tree, coded_beside, coded_kind, coded_leaf, coded_text, coded_tree}
+use Rattle.bson_elem.specs.{Beside, Leaf, Tree, coded_beside, coded_kind, coded_leaf, coded_text}
+use Rattle.bson_elem.specs.{coded_tree}
 use Rattle.bson_raw.specs.{TreeValue, document_value, leaf_value}
 
 abbrev pub ValueParts : Type 0
@@ -22,7 +23,10 @@ value_again (leaf_value k v) = refl
 value_again (document_value k b inner) = refl
 
 abbrev pub coded_value : Coded TreeValue
-coded_value = code_by ValueParts (coded⊎ (coded× coded_kind coded_leaf) (coded× coded_kind (coded× coded_beside coded_tree))) value_parts value_of_parts value_again
+coded_value =
+    code_by ValueParts
+    (coded⊎ (coded× coded_kind coded_leaf) (coded× coded_kind (coded× coded_beside coded_tree)))
+    value_parts value_of_parts value_again
 
 -- the values of an array
 abbrev pub coded_values : Coded (List TreeValue)

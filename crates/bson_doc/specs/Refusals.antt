@@ -2,7 +2,8 @@
 use Rattle.std.specs.Prelude.{ℕ, ◌<◌, ◌≤◌, List, ◌++◌, Option, Some, codes}
 use Rattle.std.specs.Fmt.{decimal}
 use Rattle.bson_doc.specs.declared.refusal.DocRefusal.{DocRefusal}
-use Rattle.bson_doc.specs.declared.refusal.DocRefusal.TheVariants.{RepeatedName, OutOfMemory, TooLarge, ZeroInName, Depth}
+use Rattle.bson_doc.specs.declared.refusal.DocRefusal.TheVariants.{RepeatedName, OutOfMemory}
+use Rattle.bson_doc.specs.declared.refusal.DocRefusal.TheVariants.{TooLarge, ZeroInName, Depth}
 
 abbrev pub refusal_number : DocRefusal → ℕ
 refusal_number (RepeatedName depth) = 1

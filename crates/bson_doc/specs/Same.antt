@@ -26,7 +26,9 @@ number_is m n e = grind (arith, nat_tests)
 code_is : (a b : Gv) → same_code a b ≡ true → a ≡ b
 code_is gnil gnil e = refl
 code_is (gnum m) (gnum n) e = ap gnum (number_is m n e)
-code_is (gcons a b) (gcons c d) e = let p = both (same_code a c) (same_code b d) e in λ i. gcons (code_is a c p.0 i) (code_is b d p.1 i)
+code_is (gcons a b) (gcons c d) e =
+    let p = both (same_code a c) (same_code b d) e in λ i. gcons (code_is a c p.0 i)
+    (code_is b d p.1 i)
 code_is gnil (gnum n) e = absurd cc
 code_is gnil (gcons c d) e = absurd cc
 code_is (gnum m) gnil e = absurd cc
@@ -54,6 +56,11 @@ alike false false f g = refl
 pub same_equiv : {A : Type 0} (c : Coded A) → IsEquivalence (same c)
 same_equiv c = record {
   refl = λ x. is_same c x x refl;
-  symm = λ x y. alike (same c x y) (same c y x) (λ e. is_same c y x (sym (same_is c x y e))) (λ e. is_same c x y (sym (same_is c y x e)));
-  congr = λ x y z e. alike (same c x z) (same c y z) (λ f. is_same c y z (sym (same_is c x y e) ∙ same_is c x z f)) (λ f. is_same c x z (same_is c x y e ∙ same_is c y z f));
+  symm =
+      λ x y. alike (same c x y) (same c y x) (λ e. is_same c y x (sym (same_is c x y e)))
+      (λ e. is_same c x y (sym (same_is c y x e)));
+  congr =
+      λ x y z e. alike (same c x z) (same c y z)
+      (λ f. is_same c y z (sym (same_is c x y e) ∙ same_is c x z f))
+      (λ f. is_same c x z (same_is c x y e ∙ same_is c y z f));
 }

@@ -38,10 +38,11 @@ fn write_last(name: &str, value: &Bson, out: &mut Vec<u8>) -> Result<(), DocRefu
     finish(0, MAX_LEN, out)
 }
 
-/// Returns why the pair wasn't appended to a document of `len` bytes: `TooLarge` if the document would have more than
-/// `MAX_LEN` bytes, else `OutOfMemory`.
+/// Returns why the pair wasn't appended to a document of `len` bytes: `TooLarge` if the document
+/// would have more than `MAX_LEN` bytes, else `OutOfMemory`.
 fn refusal_of_pair(name: &str, value: &Bson, len: usize) -> DocRefusal
-    ensures { IsLengthRefusal MAX_LEN (len + length (element_bytes name.now (value_of value.now))) result }
+    ensures { IsLengthRefusal MAX_LEN (len + length (element_bytes name.now (value_of value.now)))
+        result }
 {
     let Some(room) = room_after(len, MAX_LEN) else {
         return DocRefusal::TooLarge;
@@ -54,7 +55,8 @@ pub(crate) fn append_pair(name: &str, value: &Bson, bytes: &mut Vec<u8>) -> Resu
     requires { ∥ IsSpelled bytes.old.items ∥₁ }
     ensures spelled { ∥ IsSpelled bytes.new.items ∥₁ }
     ensures added { (t : Tree) → Spells t bytes.old.items
-        → OnOk result (Spells (with_pair_appended name.now (value_of value.now) t) bytes.new.items) }
+        → OnOk result
+        (Spells (with_pair_appended name.now (value_of value.now) t) bytes.new.items) }
     ensures unchanged { OnErr result (bytes.new.items ≡ bytes.old.items) }
     ensures refused { (t : Tree) → Spells t bytes.old.items
         → IfErr result (λ e. IsUnwritable (with_pair_appended name.now (value_of value.now) t) e) }

@@ -44,8 +44,8 @@ impl RawDocumentBuf {
         RawDocumentBuf { bytes }
     }
 
-    /// Appends a pair, with canonical names in the arrays of `value`. The name may be there already.
-    /// If the pair is refused, the document is unchanged.
+    /// Appends a pair, with canonical names in the arrays of `value`. The name may be there
+    /// already. If the pair is refused, the document is unchanged.
     ///
     /// # Errors
     ///
@@ -59,7 +59,8 @@ impl RawDocumentBuf {
             (Spells (with_pair_appended name.now (value_of value.now) t) (buf_bytes self.new)) }
         ensures unchanged { OnErr result (buf_bytes self.new ≡ buf_bytes self.old) }
         ensures refused { (t : Tree) → Spells t (buf_bytes self.old)
-            → IfErr result (λ e. IsUnwritable (with_pair_appended name.now (value_of value.now) t) e) }
+            → IfErr result
+            (λ e. IsUnwritable (with_pair_appended name.now (value_of value.now) t) e) }
     {
         append_pair(name, value, &mut self.bytes)
     }

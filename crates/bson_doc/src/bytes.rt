@@ -1,10 +1,13 @@
-//! Appending the parts of a document to bytes (bsonspec.org, version 1.1). Each function appends all bytes of its part,
-//! or returns `OutOfMemory`, or `TooLarge` if the part is too long for the count in front of it. After an error the bytes
-//! from before are unchanged, and some bytes of the part may stand behind them.
+//! Appending the parts of a document to bytes (bsonspec.org, version 1.1). Each function appends
+//! all bytes of its part, or returns `OutOfMemory`, or `TooLarge` if the part is too long for the
+//! count in front of it. After an error the bytes from before are unchanged, and some bytes of the
+//! part may stand behind them.
 
-ghost use Rattle.std.specs.Prelude.{◌≡◌, ◌≤◌, ◌<◌, ◌+◌, ◌-◌, ◌++◌, ◌∷◌, [], length, take, drop, vec_len, OnOk, OnErr, IfErr};
+ghost use Rattle.std.specs.Prelude.{◌≡◌, ◌≤◌, ◌<◌, ◌+◌, ◌-◌, ◌++◌, ◌∷◌, [], length, take, drop};
+ghost use Rattle.std.specs.Prelude.{vec_len, OnOk, OnErr, IfErr};
 ghost use Rattle.std.specs.Io.{StartsWith};
-ghost use Rattle.bson_elem.specs.{binary, cstring, document, int32_form, int64_form, leaf_bytes, little, number_value, string, timestamp_form, timestamp_value};
+ghost use Rattle.bson_elem.specs.{binary, cstring, document, int32_form, int64_form, leaf_bytes};
+ghost use Rattle.bson_elem.specs.{little, number_value, string, timestamp_form, timestamp_value};
 ghost use Rattle.bson_doc.specs.declared.refusal.DocRefusal.TheVariants.{TooLarge};
 ghost use Rattle.bson_doc.specs.Refusals.{IsSizeRefusal};
 
@@ -47,7 +50,8 @@ pub(crate) fn write_u32(n: u32, out: &mut Vec<u8>) -> Result<(), DocRefusal>
 
 /// Appends an int32.
 pub(crate) fn write_int32(n: i32, out: &mut Vec<u8>) -> Result<(), DocRefusal>
-    ensures added { OnOk result (out.new.items ≡ out.old.items ++ leaf_bytes int32_form (number_value n)) }
+    ensures added { OnOk result
+        (out.new.items ≡ out.old.items ++ leaf_bytes int32_form (number_value n)) }
     ensures refused { IfErr result (λ e. IsSizeRefusal MAX_LEN 4 e) }
     ensures kept { OnErr result (StartsWith out.new.items out.old.items) }
 {
@@ -59,7 +63,8 @@ pub(crate) fn write_int32(n: i32, out: &mut Vec<u8>) -> Result<(), DocRefusal>
 
 /// Appends an int64.
 pub(crate) fn write_int64(n: i64, out: &mut Vec<u8>) -> Result<(), DocRefusal>
-    ensures added { OnOk result (out.new.items ≡ out.old.items ++ leaf_bytes int64_form (number_value n)) }
+    ensures added { OnOk result
+        (out.new.items ≡ out.old.items ++ leaf_bytes int64_form (number_value n)) }
     ensures refused { IfErr result (λ e. IsSizeRefusal MAX_LEN 8 e) }
     ensures kept { OnErr result (StartsWith out.new.items out.old.items) }
 {
@@ -75,7 +80,9 @@ pub(crate) fn write_timestamp(
     seconds: u32,
     out: &mut Vec<u8>,
 ) -> Result<(), DocRefusal>
-    ensures added { OnOk result (out.new.items ≡ out.old.items ++ leaf_bytes timestamp_form (timestamp_value increment seconds)) }
+    ensures added { OnOk result
+        (out.new.items
+        ≡ out.old.items ++ leaf_bytes timestamp_form (timestamp_value increment seconds)) }
     ensures refused { IfErr result (λ e. IsSizeRefusal MAX_LEN 8 e) }
     ensures kept { OnErr result (StartsWith out.new.items out.old.items) }
 {
@@ -107,8 +114,10 @@ pub(crate) fn write_string(text: &str, out: &mut Vec<u8>) -> Result<(), DocRefus
 
 /// Appends the count of bytes, and these.
 fn write_counted(bytes: &[u8], out: &mut Vec<u8>) -> Result<(), DocRefusal>
-    ensures added { OnOk result (out.new.items ≡ out.old.items ++ (little (length bytes.now) ++ bytes.now)) }
-    ensures refused { IfErr result (λ e. IsSizeRefusal MAX_LEN (length (little (length bytes.now) ++ bytes.now)) e) }
+    ensures added { OnOk result
+        (out.new.items ≡ out.old.items ++ (little (length bytes.now) ++ bytes.now)) }
+    ensures refused { IfErr result
+        (λ e. IsSizeRefusal MAX_LEN (length (little (length bytes.now) ++ bytes.now)) e) }
     ensures kept { OnErr result (StartsWith out.new.items out.old.items) }
 {
     write_count(bytes.len(), out)?;
@@ -126,10 +135,12 @@ fn write_binary_head(count: usize, subtype: u8, out: &mut Vec<u8>) -> Result<(),
     Ok(())
 }
 
-/// Appends a binary: the count of the data, the subtype and the data, which in subtype 02 begin with their own count.
+/// Appends a binary: the count of the data, the subtype and the data, which in subtype 02 begin
+/// with their own count.
 pub(crate) fn write_binary(subtype: u8, bytes: &[u8], out: &mut Vec<u8>) -> Result<(), DocRefusal>
     ensures added { OnOk result (out.new.items ≡ out.old.items ++ binary subtype bytes.now) }
-    ensures refused { IfErr result (λ e. IsSizeRefusal MAX_LEN (length (binary subtype bytes.now)) e) }
+    ensures refused { IfErr result
+        (λ e. IsSizeRefusal MAX_LEN (length (binary subtype bytes.now)) e) }
     ensures kept { OnErr result (StartsWith out.new.items out.old.items) }
 {
     if subtype == 2 {
@@ -142,8 +153,10 @@ pub(crate) fn write_binary(subtype: u8, bytes: &[u8], out: &mut Vec<u8>) -> Resu
 
 /// Appends a regular expression: its pattern and its options, neither with a 00 in it.
 pub(crate) fn write_regex(pattern: &str, options: &str, out: &mut Vec<u8>) -> Result<(), DocRefusal>
-    ensures added { OnOk result (out.new.items ≡ out.old.items ++ (cstring pattern.now ++ cstring options.now)) }
-    ensures refused { IfErr result (λ e. IsSizeRefusal MAX_LEN (length (cstring pattern.now ++ cstring options.now)) e) }
+    ensures added { OnOk result
+        (out.new.items ≡ out.old.items ++ (cstring pattern.now ++ cstring options.now)) }
+    ensures refused { IfErr result
+        (λ e. IsSizeRefusal MAX_LEN (length (cstring pattern.now ++ cstring options.now)) e) }
     ensures kept { OnErr result (StartsWith out.new.items out.old.items) }
 {
     write_cstring(pattern, out)?;
@@ -153,7 +166,8 @@ pub(crate) fn write_regex(pattern: &str, options: &str, out: &mut Vec<u8>) -> Re
 /// Appends a pointer: the namespace and the ObjectId.
 pub(crate) fn write_dbpointer(text: &str, id: &[u8], out: &mut Vec<u8>) -> Result<(), DocRefusal>
     ensures added { OnOk result (out.new.items ≡ out.old.items ++ (string text.now ++ id.now)) }
-    ensures refused { IfErr result (λ e. IsSizeRefusal MAX_LEN (length (string text.now ++ id.now)) e) }
+    ensures refused { IfErr result
+        (λ e. IsSizeRefusal MAX_LEN (length (string text.now ++ id.now)) e) }
     ensures kept { OnErr result (StartsWith out.new.items out.old.items) }
 {
     write_string(text, out)?;
@@ -170,12 +184,15 @@ pub(crate) fn begin(out: &mut Vec<u8>) -> Result<(), DocRefusal>
     Ok(())
 }
 
-/// Overwrites the four bytes at offset `start` with the count of all bytes from there on. Returns `TooLarge` if that is
-/// more than `limit`.
+/// Overwrites the four bytes at offset `start` with the count of all bytes from there on. Returns
+/// `TooLarge` if that is more than `limit`.
 pub(crate) fn put_len(start: usize, limit: usize, out: &mut Vec<u8>) -> Result<(), DocRefusal>
     requires begun { start + 4 ≤ vec_len out.old }
     requires counted { limit ≤ MAX_LEN }
-    ensures added { OnOk result (out.new.items ≡ take start out.old.items ++ (little (vec_len out.old - start) ++ drop (start + 4) out.old.items)) }
+    ensures added { OnOk result
+        (out.new.items
+        ≡ take start out.old.items
+        ++ (little (vec_len out.old - start) ++ drop (start + 4) out.old.items)) }
     ensures within { OnOk result (vec_len out.old ≤ start + limit) }
     ensures refused { IfErr result (λ e. (e ≡ TooLarge) × (limit < vec_len out.old - start)) }
     ensures kept { OnErr result (StartsWith out.new.items out.old.items) }
@@ -188,14 +205,16 @@ pub(crate) fn put_len(start: usize, limit: usize, out: &mut Vec<u8>) -> Result<(
     Ok(())
 }
 
-/// Ends the document that begins at offset `start`, and puts its length there. Returns `TooLarge` if that is more than
-/// `limit`.
+/// Ends the document that begins at offset `start`, and puts its length there. Returns `TooLarge`
+/// if that is more than `limit`.
 pub(crate) fn finish(start: usize, limit: usize, out: &mut Vec<u8>) -> Result<(), DocRefusal>
     requires begun { start + 4 ≤ vec_len out.old }
     requires counted { limit ≤ MAX_LEN }
-    ensures added { OnOk result (out.new.items ≡ take start out.old.items ++ document (drop (start + 4) out.old.items)) }
+    ensures added { OnOk result
+        (out.new.items ≡ take start out.old.items ++ document (drop (start + 4) out.old.items)) }
     ensures within { OnOk result (length (document (drop (start + 4) out.old.items)) ≤ limit) }
-    ensures refused { IfErr result (λ e. IsSizeRefusal limit (length (document (drop (start + 4) out.old.items))) e) }
+    ensures refused { IfErr result
+        (λ e. IsSizeRefusal limit (length (document (drop (start + 4) out.old.items))) e) }
     ensures kept { OnErr result (StartsWith out.new.items out.old.items) }
 {
     out.push(0)?;

@@ -16,8 +16,8 @@ use bson_elem::MAX_LEN;
 use bson_raw::RawDocument;
 use std::alloc::Global;
 
-/// Returns true if the document is in canonical form: the names in each array are "0", "1" and so on. It takes no
-/// memory.
+/// Returns true if the document is in canonical form: the names in each array are "0", "1" and so
+/// on. It takes no memory.
 pub fn is_canonical(document: RawDocument<'_>) -> bool
     ensures named { (t : Tree) → Spells t (document_bytes document.entry)
         → result ≡ is_plain false 0 t }
@@ -64,7 +64,8 @@ fn renumbered_bytes(
 ///
 /// # Errors
 ///
-/// Returns `TooLarge` if the canonical form has more than `limit` bytes, else `OutOfMemory` if memory is refused.
+/// Returns `TooLarge` if the canonical form has more than `limit` bytes, else `OutOfMemory` if
+/// memory is refused.
 pub fn canonical_bytes(
     alloc: Global,
     document: RawDocument<'_>,
@@ -86,12 +87,13 @@ pub fn canonical_bytes(
     Ok(Vec::from_slice(alloc, whole)?)
 }
 
-/// Returns the canonical form of the document: the names in each array become "0", "1" and so on, and nothing else
-/// changes. A document that is canonical already is copied.
+/// Returns the canonical form of the document: the names in each array become "0", "1" and so on,
+/// and nothing else changes. A document that is canonical already is copied.
 ///
 /// # Errors
 ///
-/// Returns `TooLarge` if the canonical form has more than 2,147,483,647 bytes, else `OutOfMemory` if memory is refused.
+/// Returns `TooLarge` if the canonical form has more than 2,147,483,647 bytes, else `OutOfMemory`
+/// if memory is refused.
 pub fn to_canonical(alloc: Global, document: RawDocument<'_>) -> Result<RawDocumentBuf, DocRefusal>
     ensures canonical { (t : Tree) → Spells t (document_bytes document.entry)
         → IfOk result (λ d. Spells (plain t) (buf_bytes d)) }
@@ -103,7 +105,8 @@ pub fn to_canonical(alloc: Global, document: RawDocument<'_>) -> Result<RawDocum
     Ok(RawDocumentBuf::from_spelled(bytes))
 }
 
-/// Like `to_canonical`, but writes every document anew: it doesn't test whether the document is canonical already.
+/// Like `to_canonical`, but writes every document anew: it doesn't test whether the document is
+/// canonical already.
 ///
 /// # Errors
 ///

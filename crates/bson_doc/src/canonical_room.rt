@@ -1,5 +1,5 @@
-//! How much room a limit leaves behind the canonical form of a document: its bytes are counted without being written. No
-//! function here takes memory.
+//! How much room a limit leaves behind the canonical form of a document: its bytes are counted
+//! without being written. No function here takes memory.
 
 ghost use Rattle.std.specs.Prelude.{false, length};
 ghost use Rattle.bson_elem.specs.{Spells, Tree, elements, inner_bytes, with_code};
@@ -47,7 +47,8 @@ fn room_after_value(value: RawBson<'_>, room: usize) -> Option<usize>
 #[cycle(measure)]
 fn room_after_scope(code: &str, scope: RawDocument<'_>, room: usize) -> Option<usize>
     ensures { (t : Tree) → Spells t (document_bytes scope.entry)
-        → IsRoomLeft room (length (inner_bytes (with_code code.now) (elements (plain_from false 0 t)))) result }
+        → IsRoomLeft room
+        (length (inner_bytes (with_code code.now) (elements (plain_from false 0 t)))) result }
 {
     let left = room_after_string(code, room)?;
     room_after_document(scope, false, room_after(4, left)?)
@@ -63,14 +64,15 @@ fn room_after_pair(
     room: usize,
 ) -> Option<usize>
     ensures { (v : TreeValue) → Shows value.entry v
-        → IsRoomLeft room (length (element_bytes (name_at in_array index name.now) (plain_value v))) result }
+        → IsRoomLeft room (length (element_bytes (name_at in_array index name.now) (plain_value v)))
+        result }
 {
     let left = room_after_head(name, in_array, index, room)?;
     room_after_value(value, left)
 }
 
-/// Returns what is left of `room` behind the document with the canonical names at every depth; in an array these are
-/// "0", "1" and so on.
+/// Returns what is left of `room` behind the document with the canonical names at every depth; in
+/// an array these are "0", "1" and so on.
 #[cycle(measure)]
 pub(crate) fn room_after_document(
     document: RawDocument<'_>,

@@ -1,6 +1,7 @@
 //! Documents that own their names and values.
 
-ghost use Rattle.std.specs.Prelude.{◌≡◌, ◌↔◌, [], length, map, option_map, string_bytes, None, IfOk, IfErr, IsOk, IsSome, IsTrue, OnErr, OnOk};
+ghost use Rattle.std.specs.Prelude.{◌≡◌, ◌↔◌, [], length, map, option_map, string_bytes, None};
+ghost use Rattle.std.specs.Prelude.{IfOk, IfErr, IsOk, IsSome, IsTrue, OnErr, OnOk};
 ghost use Rattle.std.specs.List.{IsDistinct};
 ghost use Rattle.std.specs.Str.{bytes_eq};
 
@@ -84,8 +85,9 @@ impl Document {
         self.len() == 0
     }
 
-    /// Returns the value of the pair with this name, if there is one. It compares names with at most 64 others, or in a tree
-    /// with a logarithm of their number, so that no choice of names makes it slow.
+    /// Returns the value of the pair with this name, if there is one. It compares names with at
+    /// most 64 others, or in a tree with a logarithm of their number, so that no choice of names
+    /// makes it slow.
     pub fn get(&self, name: &str) -> Option<&Bson>
         ensures { option_map (λ v. value_of v.now) result ≡ value_named name.now self.now }
     {
@@ -100,8 +102,8 @@ impl Document {
         self.get(name).is_some()
     }
 
-    /// Sets the value of a name, and returns the value that it had. A name that is there keeps its index, and no memory
-    /// is taken for it. A new name goes last.
+    /// Sets the value of a name, and returns the value that it had. A name that is there keeps its
+    /// index, and no memory is taken for it. A new name goes last.
     ///
     /// # Errors
     ///
@@ -146,8 +148,8 @@ impl Document {
         }
     }
 
-    /// Removes the pair with this name, and returns its value. The pairs after it close up, so a call takes time in
-    /// proportion to the number of pairs.
+    /// Removes the pair with this name, and returns its value. The pairs after it close up, so a
+    /// call takes time in proportion to the number of pairs.
     pub fn remove(&mut self, name: &str) -> Option<Bson>
         ensures after { self.new ≡ without name.now self.old }
         ensures value { option_map value_of result ≡ value_named name.now self.old }

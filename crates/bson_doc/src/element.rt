@@ -17,8 +17,8 @@ use crate::refusal::DocRefusal;
 use bson_elem::MAX_LEN;
 use bson_raw::{RawBson, RawDocument};
 
-/// Appends a value, with canonical names in what it holds. Returns `TooLarge` if a container in it has more than `limit`
-/// bytes.
+/// Appends a value, with canonical names in what it holds. Returns `TooLarge` if a container in it
+/// has more than `limit` bytes.
 #[cycle(write)]
 fn write_value(value: RawBson<'_>, limit: usize, out: &mut Vec<u8>) -> Result<(), DocRefusal>
     requires { limit ≤ MAX_LEN }
@@ -49,8 +49,8 @@ fn write_value(value: RawBson<'_>, limit: usize, out: &mut Vec<u8>) -> Result<()
     }
 }
 
-/// Appends a code and its scope, with canonical names in the scope. Returns `TooLarge` if they have more than `limit`
-/// bytes.
+/// Appends a code and its scope, with canonical names in the scope. Returns `TooLarge` if they have
+/// more than `limit` bytes.
 #[cycle(write)]
 fn write_scope(
     code: &str,
@@ -60,9 +60,15 @@ fn write_scope(
 ) -> Result<(), DocRefusal>
     requires { limit ≤ MAX_LEN }
     ensures added { (t : Tree) → Spells t (document_bytes scope.entry)
-        → OnOk result (out.new.items ≡ out.old.items ++ inner_bytes (with_code code.now) (elements (plain_from false 0 t))) }
+        → OnOk
+        result
+        (out.new.items
+        ≡ out.old.items
+        ++ inner_bytes (with_code code.now) (elements (plain_from false 0 t))) }
     ensures refused { (t : Tree) → Spells t (document_bytes scope.entry)
-        → IfErr result (λ e. IsSizeRefusal limit (length (inner_bytes (with_code code.now) (elements (plain_from false 0 t)))) e) }
+        → IfErr result
+        (λ e. IsSizeRefusal limit
+        (length (inner_bytes (with_code code.now) (elements (plain_from false 0 t)))) e) }
 {
     let start = out.len();
     begin(out)?;
@@ -71,8 +77,8 @@ fn write_scope(
     put_len(start, limit, out)
 }
 
-/// Appends the pair at `index` of a container, with canonical names. Returns `TooLarge` if a container in it has
-/// more than `limit` bytes.
+/// Appends the pair at `index` of a container, with canonical names. Returns `TooLarge` if a
+/// container in it has more than `limit` bytes.
 #[cycle(write)]
 fn write_element(
     name: &str,
@@ -84,17 +90,21 @@ fn write_element(
 ) -> Result<(), DocRefusal>
     requires { limit ≤ MAX_LEN }
     ensures added { (v : TreeValue) → Shows value.entry v
-        → OnOk result (out.new.items ≡ out.old.items ++ element_bytes (name_at in_array index name.now) (plain_value v)) }
+        → OnOk result
+        (out.new.items
+        ≡ out.old.items ++ element_bytes (name_at in_array index name.now) (plain_value v)) }
     ensures refused { (v : TreeValue) → Shows value.entry v
-        → IfErr result (λ e. IsSizeRefusal limit (length (element_bytes (name_at in_array index name.now) (plain_value v))) e) }
+        → IfErr result
+        (λ e. IsSizeRefusal limit
+        (length (element_bytes (name_at in_array index name.now) (plain_value v))) e) }
 {
     out.push(value.kind().byte())?;
     write_name(name, in_array, index, out)?;
     write_value(value, limit, out)
 }
 
-/// Appends the document with canonical names at every depth; in an array these are "0", "1" and so on. Returns
-/// `TooLarge` if it has more than `limit` bytes.
+/// Appends the document with canonical names at every depth; in an array these are "0", "1" and so
+/// on. Returns `TooLarge` if it has more than `limit` bytes.
 #[cycle(write)]
 pub(crate) fn write_document(
     document: RawDocument<'_>,
@@ -104,11 +114,16 @@ pub(crate) fn write_document(
 ) -> Result<(), DocRefusal>
     requires { limit ≤ MAX_LEN }
     ensures added { (t : Tree) → Spells t (document_bytes document.entry)
-        → OnOk result (out.new.items ≡ out.old.items ++ spelling.document (elements (plain_from in_array 0 t))) }
+        → OnOk
+        result
+        (out.new.items
+        ≡ out.old.items ++ spelling.document (elements (plain_from in_array 0 t))) }
     ensures within { (t : Tree) → Spells t (document_bytes document.entry)
         → OnOk result (length (spelling.document (elements (plain_from in_array 0 t))) ≤ limit) }
     ensures refused { (t : Tree) → Spells t (document_bytes document.entry)
-        → IfErr result (λ e. IsSizeRefusal limit (length (spelling.document (elements (plain_from in_array 0 t)))) e) }
+        → IfErr result
+        (λ e. IsSizeRefusal limit
+        (length (spelling.document (elements (plain_from in_array 0 t)))) e) }
 {
     let start = out.len();
     begin(out)?;

@@ -1,6 +1,7 @@
 //! Reading documents out of their bytes.
 
-ghost use Rattle.std.specs.Prelude.{◌≡◌, ◌+◌, ◌<◌, ◌^◌, [], None, false, true, length, ℕ, List, IfOk, IfErr, MatchResult, OnOk};
+ghost use Rattle.std.specs.Prelude.{◌≡◌, ◌+◌, ◌<◌, ◌^◌, [], None, false, true, length, ℕ, List};
+ghost use Rattle.std.specs.Prelude.{IfOk, IfErr, MatchResult, OnOk};
 ghost use Rattle.bson_elem.specs.{Spells, Tree};
 ghost use Rattle.bson_raw.specs.{Shows, TreeValue, array_bytes, document_bytes, held_len};
 ghost use Rattle.bson_doc.specs.declared.refusal.DocRefusal.TheVariants.{OutOfMemory};
@@ -86,8 +87,8 @@ fn read_array(alloc: Global, array: RawArray<'_>, depth: u32) -> Result<Array, D
     Ok(Array::from_vec(values))
 }
 
-/// Returns the owned document of one of depth `depth`. A name is looked up before it is copied, so that no memory is asked
-/// for one that is there.
+/// Returns the owned document of one of depth `depth`. A name is looked up before it is copied, so
+/// that no memory is asked for one that is there.
 #[cycle(read)]
 fn read_document(
     alloc: Global,
@@ -115,12 +116,14 @@ fn read_document(
 }
 
 impl Document {
-    /// Returns the document that the bytes spell, with the pairs in their order. The names in an array are not kept.
+    /// Returns the document that the bytes spell, with the pairs in their order. The names in an
+    /// array are not kept.
     ///
     /// # Errors
     ///
-    /// Returns `RepeatedName` if a document or a scope has a name twice, with the depth of that container; of several
-    /// repeated names, the first in the bytes. Returns `OutOfMemory` if memory is refused.
+    /// Returns `RepeatedName` if a document or a scope has a name twice, with the depth of that
+    /// container; of several repeated names, the first in the bytes. Returns `OutOfMemory` if
+    /// memory is refused.
     pub fn from_raw(alloc: Global, raw: RawDocument<'_>) -> Result<Document, DocRefusal>
         ensures read { (t : Tree) → Spells t (document_bytes raw.entry)
             → IfOk result (λ d. tree_of d ≡ plain t) }

@@ -1,7 +1,8 @@
-//! Laws of the canonical form, of equality, and of writing and reading. The contract of each function is the law; those
-//! about definitions alone do nothing.
+//! Laws of the canonical form, of equality, and of writing and reading. The contract of each
+//! function is the law; those about definitions alone do nothing.
 
-ghost use Rattle.std.specs.Prelude.{◌≡◌, ◌↔◌, ◌<◌, ◌^◌, ℕ, IsTrue, List, length, slice_get, Some, option_map, IfOk, IfErr};
+ghost use Rattle.std.specs.Prelude.{◌≡◌, ◌↔◌, ◌<◌, ◌^◌, ℕ, IsTrue, List, length, slice_get, Some};
+ghost use Rattle.std.specs.Prelude.{option_map, IfOk, IfErr};
 ghost use Rattle.std.specs.Fmt.{decimal};
 ghost use Rattle.bson_elem.specs.{Spells, Tree, document, elements};
 ghost use Rattle.bson_raw.specs.{TreeValue, names_of, nth_value};
@@ -50,14 +51,15 @@ pub fn plain_keeps_names()
     ensures { (t : Tree) → names_of (plain t) ≡ names_of t }
 {}
 
-/// Proves that in the canonical form of an array the name of each value is its index in decimal, counted from 0.
+/// Proves that in the canonical form of an array the name of each value is its index in decimal,
+/// counted from 0.
 pub fn array_names_are_indexes()
     ensures { (t : Tree) (k : ℕ) → k < length (names_of t)
         → slice_get (names_of (numbered 0 t)) k ≡ Some (decimal k) }
 {}
 
-/// Proves that the values of a document keep their indexes, their kinds and what they hold, but for the names in arrays
-/// inside.
+/// Proves that the values of a document keep their indexes, their kinds and what they hold, but for
+/// the names in arrays inside.
 pub fn plain_keeps_values()
     ensures { (t : Tree) (k : ℕ) → nth_value k (plain t) ≡ option_map plain_value (nth_value k t) }
 {}
@@ -74,8 +76,8 @@ pub fn canonical_form_is_there()
         → Spells (plain t) (document (elements (plain t))) }
 {}
 
-/// Proves that two lists of pairs are equal documents (`==`) exactly where they are the same list, and two lists of
-/// values equal arrays.
+/// Proves that two lists of pairs are equal documents (`==`) exactly where they are the same list,
+/// and two lists of values equal arrays.
 pub fn equal_where_same()
     ensures documents { (a b : List (List ℕ × TreeValue))
         → (IsTrue (same coded_pairs a b) ↔ (a ≡ b)) }

@@ -1,15 +1,18 @@
-//! BSON documents that own what they hold, documents in their bytes that are owned, and the canonical form of
-//! documents.
+//! BSON documents that own what they hold, documents in their bytes that are owned, and the
+//! canonical form of documents.
 //!
-//! A `Document` keeps its pairs in order, and no choice of names makes it slow to find one. A contract sees it as the list
-//! of its pairs. The values in that list are those of the trees that bytes of documents spell. `Document::from_raw` reads a
-//! document out of its bytes, and `Document::to_raw` writes it to bytes of its own, a `RawDocumentBuf`.
+//! A `Document` keeps its pairs in order, and no choice of names makes it slow to find one. A
+//! contract sees it as the list of its pairs. The values in that list are those of the trees that
+//! bytes of documents spell. `Document::from_raw` reads a document out of its bytes, and
+//! `Document::to_raw` writes it to bytes of its own, a `RawDocumentBuf`.
 //!
-//! The values of an array stand in the bytes as pairs, whose names should be "0", "1" and so on. A document is in
-//! canonical form where those of each array in it are. `is_canonical` tells whether a borrowed document is, and
-//! `to_canonical` makes the canonical form of one, as a `RawDocumentBuf`. What `Document::to_raw` writes is canonical.
+//! The values of an array stand in the bytes as pairs, whose names should be "0", "1" and so on. A
+//! document is in canonical form where those of each array in it are. `is_canonical` tells whether
+//! a borrowed document is, and `to_canonical` makes the canonical form of one, as a
+//! `RawDocumentBuf`. What `Document::to_raw` writes is canonical.
 //!
-//! `dump_to` and `dump_elements` of the crate `bson_text`, which write the text of a borrowed document, are given on.
+//! `dump_to` and `dump_elements` of the crate `bson_text`, which write the text of a borrowed
+//! document, are given on.
 //!
 //! Stands on bson_raw and bson_text. engines and test_server stand on it. Read first: `documents`,
 //! `from_raw` and `to_raw`, and then `canon`.

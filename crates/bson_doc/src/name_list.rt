@@ -1,6 +1,7 @@
 //! The names of a document, in order, and the index of each.
 
-ghost use Rattle.std.specs.Prelude.{◌≡◌, ◌≤◌, ◌++◌, ◌<◌, ◌∷◌, [], IfErr, IfOk, IfSome, OnErr, OnOk, false, is_some, length, map, remove, string_bytes};
+ghost use Rattle.std.specs.Prelude.{◌≡◌, ◌≤◌, ◌++◌, ◌<◌, ◌∷◌, [], IfErr, IfOk, IfSome, OnErr, OnOk};
+ghost use Rattle.std.specs.Prelude.{false, is_some, length, map, remove, string_bytes};
 ghost use Rattle.std.specs.List.{IsDistinct, list_any};
 ghost use Rattle.std.specs.Str.{bytes_eq};
 ghost use Rattle.std.specs.String.{string_eq};
@@ -11,8 +12,8 @@ use std::collections::BTreeMap;
 use std::fmt;
 use std::marker::Model;
 
-/// The most names among which one is found by comparing it with each. More names are found in a tree, by their order, so
-/// that no choice of names makes it slow.
+/// The most names among which one is found by comparing it with each. More names are found in a
+/// tree, by their order, so that no choice of names makes it slow.
 const FEW: usize = 64;
 
 /// Names in order, each of them once.
@@ -57,7 +58,8 @@ fn indexed(alloc: Global, names: &[String]) -> Result<BTreeMap<String, usize>, A
     Ok(tree)
 }
 
-/// Makes the tree of `names` that of those and `name`, which is appended to them, if they are more than `FEW` then.
+/// Makes the tree of `names` that of those and `name`, which is appended to them, if they are more
+/// than `FEW` then.
 fn put_index(
     alloc: Global,
     names: &[String],
@@ -65,9 +67,11 @@ fn put_index(
     tree: &mut BTreeMap<String, usize>,
 ) -> Result<(), AllocError>
     requires distinct { IsDistinct string_eq names.now }
-    requires new { list_any (λ k. bytes_eq (string_bytes name.now) (string_bytes k)) names.now ≡ false }
+    requires new { list_any (λ k. bytes_eq (string_bytes name.now) (string_bytes k)) names.now
+        ≡ false }
     requires indexed { FEW < length names.now → IsIndex tree.old names.now }
-    ensures ok { OnOk result (FEW ≤ length names.now → IsIndex tree.new (names.now ++ name.now ∷ [])) }
+    ensures ok { OnOk result
+        (FEW ≤ length names.now → IsIndex tree.new (names.now ++ name.now ∷ [])) }
     ensures err { OnErr result (FEW < length names.now → IsIndex tree.new names.now) }
 {
     if names.len() < FEW {
@@ -102,7 +106,8 @@ impl NameList {
     /// Returns the index of a name, if it is there.
     pub(crate) fn get_index_of(&self, name: &str) -> Option<usize>
         ensures index { result ≡ index_of name.now self.now }
-        ensures found { is_some result ≡ list_any (λ k. bytes_eq name.now (string_bytes k)) self.now }
+        ensures found { is_some result
+            ≡ list_any (λ k. bytes_eq name.now (string_bytes k)) self.now }
         ensures within { IfSome result (λ i. i < length self.now) }
     {
         if self.list.len() <= FEW {

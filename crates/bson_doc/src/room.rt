@@ -1,5 +1,5 @@
-//! How much room a limit leaves behind the bytes of a document, which are counted without being written. No function
-//! here takes memory.
+//! How much room a limit leaves behind the bytes of a document, which are counted without being
+//! written. No function here takes memory.
 
 ghost use Rattle.std.specs.Prelude.{ℕ, ◌+◌, ◌++◌, length};
 ghost use Rattle.bson_elem.specs.{binary, cstring, elements, inner_bytes, string, with_code};
@@ -25,8 +25,8 @@ pub(crate) fn room_after(count: usize, room: usize) -> Option<usize>
     room.checked_sub(count)
 }
 
-/// Returns why bytes aren't written that leave `left` of a limit: `TooLarge` where they are more than the limit, else
-/// want of memory.
+/// Returns why bytes aren't written that leave `left` of a limit: `TooLarge` where they are more
+/// than the limit, else want of memory.
 pub(crate) fn refusal_of(left: Option<usize>) -> DocRefusal
     ensures { (limit count : ℕ) → IsRoomLeft limit count left → IsLengthRefusal limit count result }
 {
@@ -75,7 +75,8 @@ pub(crate) fn room_after_binary(subtype: u8, bytes: &[u8], room: usize) -> Optio
     room_after(bytes.len() + 5, room)
 }
 
-/// Returns what is left of `room` behind the type byte and the canonical name of the pair at `index`.
+/// Returns what is left of `room` behind the type byte and the canonical name of the pair at
+/// `index`.
 pub(crate) fn room_after_head(
     name: &str,
     in_array: bool,
@@ -123,7 +124,8 @@ fn room_after_value(value: &Bson, room: usize) -> Option<usize>
 /// Returns what is left of `room` behind a code and its scope.
 #[cycle(measure)]
 fn room_after_scope(code: &str, scope: &Document, room: usize) -> Option<usize>
-    ensures { IsRoomLeft room (length (inner_bytes (with_code code.now) (elements (tree_of scope.now)))) result }
+    ensures { IsRoomLeft room
+        (length (inner_bytes (with_code code.now) (elements (tree_of scope.now)))) result }
 {
     let left = room_after_string(code, room)?;
     room_after_document(scope, room_after(4, left)?)
@@ -138,7 +140,8 @@ pub(crate) fn room_after_pair(
     value: &Bson,
     room: usize,
 ) -> Option<usize>
-    ensures { IsRoomLeft room (length (element_bytes (name_at in_array index name.now) (value_of value.now))) result }
+    ensures { IsRoomLeft room
+        (length (element_bytes (name_at in_array index name.now) (value_of value.now))) result }
 {
     let left = room_after_head(name, in_array, index, room)?;
     room_after_value(value, left)
@@ -147,7 +150,8 @@ pub(crate) fn room_after_pair(
 /// Returns what is left of `room` behind the bytes of an array.
 #[cycle(measure)]
 fn room_after_array(array: &Array, room: usize) -> Option<usize>
-    ensures { IsRoomLeft room (length (spelling.document (elements (array_tree 0 array.now)))) result }
+    ensures { IsRoomLeft room (length (spelling.document (elements (array_tree 0 array.now))))
+        result }
 {
     let mut left = room_after(5, room)?;
     for (index, value) in array.as_slice().iter().enumerate() {
@@ -159,7 +163,8 @@ fn room_after_array(array: &Array, room: usize) -> Option<usize>
 /// Returns what is left of `room` behind the bytes of a document.
 #[cycle(measure)]
 pub(crate) fn room_after_document(document: &Document, room: usize) -> Option<usize>
-    ensures { IsRoomLeft room (length (spelling.document (elements (tree_of document.now)))) result }
+    ensures { IsRoomLeft room (length (spelling.document (elements (tree_of document.now))))
+        result }
 {
     let mut left = room_after(5, room)?;
     for (name, value) in document.iter() {

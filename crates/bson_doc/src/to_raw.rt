@@ -1,8 +1,10 @@
 //! Writing owned documents to bytes.
 
-ghost use Rattle.std.specs.Prelude.{◌≡◌, ◌++◌, ◌∷◌, IsUtf8, IfErr, IfOk, OnErr, OnOk, None, Some, length, ◌≤◌, ◌<◌};
+ghost use Rattle.std.specs.Prelude.{◌≡◌, ◌++◌, ◌∷◌, IsUtf8, IfErr, IfOk, OnErr, OnOk, None, Some};
+ghost use Rattle.std.specs.Prelude.{length, ◌≤◌, ◌<◌};
 ghost use Rattle.std.specs.Io.{StartsWith};
-ghost use Rattle.bson_elem.specs.{AreBytes, IsBytes, Spells, byte_of, cstring, elements, inner_bytes, string, with_code};
+ghost use Rattle.bson_elem.specs.{AreBytes, IsBytes, Spells, byte_of, cstring, elements};
+ghost use Rattle.bson_elem.specs.{inner_bytes, string, with_code};
 ghost use Rattle.bson_elem.specs.Spelling as spelling;
 ghost use Rattle.bson_doc.specs.Array.{array_tree};
 ghost use Rattle.bson_doc.specs.Bson.{value_of};
@@ -30,7 +32,8 @@ use crate::room::{refusal_of, room_after_document};
 use crate::unwritable::check_document;
 use bson_elem::{Kind, MAX_LEN};
 
-/// Appends the type byte of the pair at `index` of a container, and its name, which in an array is its index.
+/// Appends the type byte of the pair at `index` of a container, and its name, which in an array is
+/// its index.
 fn write_head(
     kind: Kind,
     name: &str,
@@ -38,9 +41,14 @@ fn write_head(
     index: usize,
     out: &mut Vec<u8>,
 ) -> Result<(), DocRefusal>
-    ensures added { OnOk result (out.new.items ≡ out.old.items ++ (byte_of kind ∷ cstring (name_at in_array index name.now))) }
+    ensures added { OnOk
+        result
+        (out.new.items
+        ≡ out.old.items ++ (byte_of kind ∷ cstring (name_at in_array index name.now))) }
     ensures text { OnOk result (IsUtf8 (name_at in_array index name.now)) }
-    ensures refused { IfErr result (λ e. IsSizeRefusal MAX_LEN (length (byte_of kind ∷ cstring (name_at in_array index name.now))) e) }
+    ensures refused { IfErr result
+        (λ e. IsSizeRefusal MAX_LEN
+        (length (byte_of kind ∷ cstring (name_at in_array index name.now))) e) }
     ensures kept { OnErr result (StartsWith out.new.items out.old.items) }
 {
     out.push(kind.byte())?;
@@ -69,9 +77,11 @@ fn write_raw<const N: usize>(bytes: &[u8; N], out: &mut Vec<u8>) -> Result<(), D
 
 /// Appends a subtype and data.
 fn write_data(subtype: u8, bytes: &[u8], out: &mut Vec<u8>) -> Result<(), DocRefusal>
-    ensures added { OnOk result (out.new.items ≡ out.old.items ++ spelling.binary subtype bytes.now) }
+    ensures added { OnOk result
+        (out.new.items ≡ out.old.items ++ spelling.binary subtype bytes.now) }
     ensures formed { OnOk result ((subtype < 256) × IsBytes bytes.now) }
-    ensures refused { IfErr result (λ e. IsSizeRefusal MAX_LEN (length (spelling.binary subtype bytes.now)) e) }
+    ensures refused { IfErr result
+        (λ e. IsSizeRefusal MAX_LEN (length (spelling.binary subtype bytes.now)) e) }
     ensures kept { OnErr result (StartsWith out.new.items out.old.items) }
 {
     write_binary(subtype, bytes, out)
@@ -81,7 +91,8 @@ fn write_data(subtype: u8, bytes: &[u8], out: &mut Vec<u8>) -> Result<(), DocRef
 fn write_pointer(text: &str, id: &[u8; 12], out: &mut Vec<u8>) -> Result<(), DocRefusal>
     ensures added { OnOk result (out.new.items ≡ out.old.items ++ (string text.now ++ id.now)) }
     ensures formed { OnOk result (IsUtf8 text.now × AreBytes 12 id.now) }
-    ensures refused { IfErr result (λ e. IsSizeRefusal MAX_LEN (length (string text.now ++ id.now)) e) }
+    ensures refused { IfErr result
+        (λ e. IsSizeRefusal MAX_LEN (length (string text.now ++ id.now)) e) }
     ensures kept { OnErr result (StartsWith out.new.items out.old.items) }
 {
     write_string(text, out)?;
@@ -91,9 +102,11 @@ fn write_pointer(text: &str, id: &[u8; 12], out: &mut Vec<u8>) -> Result<(), Doc
 /// Appends a value.
 #[cycle(write)]
 pub(crate) fn write_value(value: &Bson, out: &mut Vec<u8>) -> Result<(), DocRefusal>
-    ensures added { OnOk result (out.new.items ≡ out.old.items ++ value_bytes (value_of value.now)) }
+    ensures added { OnOk result
+        (out.new.items ≡ out.old.items ++ value_bytes (value_of value.now)) }
     ensures formed { OnOk result (IsFormedValue (value_of value.now)) }
-    ensures refused { IfErr result (λ e. IsSizeRefusal MAX_LEN (length (value_bytes (value_of value.now))) e) }
+    ensures refused { IfErr result
+        (λ e. IsSizeRefusal MAX_LEN (length (value_bytes (value_of value.now))) e) }
     ensures kept { OnErr result (StartsWith out.new.items out.old.items) }
 {
     match value {
@@ -121,9 +134,13 @@ pub(crate) fn write_value(value: &Bson, out: &mut Vec<u8>) -> Result<(), DocRefu
 /// Appends a code and its scope.
 #[cycle(write)]
 fn write_scope(code: &str, scope: &Document, out: &mut Vec<u8>) -> Result<(), DocRefusal>
-    ensures added { OnOk result (out.new.items ≡ out.old.items ++ inner_bytes (with_code code.now) (elements (tree_of scope.now))) }
+    ensures added { OnOk result
+        (out.new.items
+        ≡ out.old.items ++ inner_bytes (with_code code.now) (elements (tree_of scope.now))) }
     ensures formed { OnOk result (IsFormed (tree_of scope.now)) }
-    ensures refused { IfErr result (λ e. IsSizeRefusal MAX_LEN (length (inner_bytes (with_code code.now) (elements (tree_of scope.now)))) e) }
+    ensures refused { IfErr result
+        (λ e. IsSizeRefusal MAX_LEN
+        (length (inner_bytes (with_code code.now) (elements (tree_of scope.now)))) e) }
     ensures kept { OnErr result (StartsWith out.new.items out.old.items) }
 {
     let start = out.len();
@@ -136,9 +153,12 @@ fn write_scope(code: &str, scope: &Document, out: &mut Vec<u8>) -> Result<(), Do
 /// Appends an array.
 #[cycle(write)]
 fn write_array(array: &Array, out: &mut Vec<u8>) -> Result<(), DocRefusal>
-    ensures added { OnOk result (out.new.items ≡ out.old.items ++ spelling.document (elements (array_tree 0 array.now))) }
+    ensures added { OnOk result
+        (out.new.items ≡ out.old.items ++ spelling.document (elements (array_tree 0 array.now))) }
     ensures formed { OnOk result (IsFormed (array_tree 0 array.now)) }
-    ensures refused { IfErr result (λ e. IsSizeRefusal MAX_LEN (length (spelling.document (elements (array_tree 0 array.now)))) e) }
+    ensures refused { IfErr result
+        (λ e. IsSizeRefusal MAX_LEN (length (spelling.document (elements (array_tree 0 array.now))))
+        e) }
     ensures kept { OnErr result (StartsWith out.new.items out.old.items) }
 {
     let start = out.len();
@@ -153,10 +173,15 @@ fn write_array(array: &Array, out: &mut Vec<u8>) -> Result<(), DocRefusal>
 /// Appends a document.
 #[cycle(write)]
 pub(crate) fn write_document(document: &Document, out: &mut Vec<u8>) -> Result<(), DocRefusal>
-    ensures added { OnOk result (out.new.items ≡ out.old.items ++ spelling.document (elements (tree_of document.now))) }
-    ensures within { OnOk result (length (spelling.document (elements (tree_of document.now))) ≤ MAX_LEN) }
+    ensures added { OnOk result
+        (out.new.items ≡ out.old.items ++ spelling.document (elements (tree_of document.now))) }
+    ensures within { OnOk result
+        (length (spelling.document (elements (tree_of document.now))) ≤ MAX_LEN) }
     ensures formed { OnOk result (IsFormed (tree_of document.now)) }
-    ensures refused { IfErr result (λ e. IsSizeRefusal MAX_LEN (length (spelling.document (elements (tree_of document.now)))) e) }
+    ensures refused { IfErr
+        result
+        (λ e. IsSizeRefusal MAX_LEN
+        (length (spelling.document (elements (tree_of document.now)))) e) }
     ensures kept { OnErr result (StartsWith out.new.items out.old.items) }
 {
     let start = out.len();
@@ -173,9 +198,9 @@ impl Document {
     ///
     /// # Errors
     ///
-    /// Returns `ZeroInName` for a 00 in a name, a pattern or options, and `Depth` for a container deeper than 200: the
-    /// first of them in the order of the pairs. Else returns `TooLarge` for more than 2,147,483,647 bytes, and else
-    /// `OutOfMemory` if memory is refused.
+    /// Returns `ZeroInName` for a 00 in a name, a pattern or options, and `Depth` for a container
+    /// deeper than 200: the first of them in the order of the pairs. Else returns `TooLarge` for
+    /// more than 2,147,483,647 bytes, and else `OutOfMemory` if memory is refused.
     pub fn to_raw(&self) -> Result<RawDocumentBuf, DocRefusal>
         ensures written { IfOk result (λ d. Spells (tree_of self.now) (buf_bytes d)) }
         ensures canonical { OnOk result (plain (tree_of self.now) ≡ tree_of self.now) }

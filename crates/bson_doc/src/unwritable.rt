@@ -89,8 +89,8 @@ fn check_array(array: &Array, depth: u32) -> Result<(), DocRefusal>
     Ok(())
 }
 
-/// Checks a document of depth `depth`. Returns the first refusal in the order of the pairs: a name comes before its
-/// value, and the depth of a container before its pairs.
+/// Checks a document of depth `depth`. Returns the first refusal in the order of the pairs: a name
+/// comes before its value, and the depth of a container before its pairs.
 #[cycle(check)]
 pub(crate) fn check_document(document: &Document, depth: u32) -> Result<(), DocRefusal>
     ensures reason { MatchResult result (λ _. unwritable depth (tree_of document.now) ≡ None)

@@ -1,7 +1,9 @@
 -- The number and the name of each cause, as fault lines give them: `fault NUMBER NAME at OFFSET`.
 use Rattle.std.specs.Prelude.{ℕ, List, codes}
 use Rattle.bson_elem.specs.declared.fault.BsonCause.{BsonCause}
-use Rattle.bson_elem.specs.declared.fault.BsonCause.TheVariants.{Truncated, Length, End, Kind, Name, Text, TextEnd, Boolean, OldBinary, Scope, Depth}
+use Rattle.bson_elem.specs.declared.fault.BsonCause.TheVariants.{Truncated, Length, End, Kind, Name}
+use Rattle.bson_elem.specs.declared.fault.BsonCause.TheVariants.{Text, TextEnd, Boolean, OldBinary}
+use Rattle.bson_elem.specs.declared.fault.BsonCause.TheVariants.{Scope, Depth}
 
 abbrev pub cause_number : BsonCause → ℕ
 cause_number Truncated = 1

@@ -1,12 +1,15 @@
 -- A code for trees, by which a proof tells two of them apart.
 use Rattle.std.specs.Prelude.{◌≡◌, ◌≢◌, ℕ, ℤ, Bool, List, ◌⊎◌, Option, Some, None, refl}
 use Rattle.std.proofs.Common.{ap, arith, inl, inr}
-use Rattle.std.specs.Coded.{Coded, code_by, coded_ℕ, coded_ℤ, coded_bool, coded_list, coded×, coded⊎, coded_option}
+use Rattle.std.specs.Coded.{Coded, code_by, coded_ℕ, coded_ℤ, coded_bool, coded_list, coded×}
+use Rattle.std.specs.Coded.{coded⊎, coded_option}
 use base.Stored.{Gv, gnil, gnum, gcons}
 use Rattle.bson_elem.specs.declared.kinds.Kind.{Kind}
 use Rattle.bson_elem.specs.declared.kinds.Kind.TheVariants.{Null}
 use Rattle.bson_elem.specs.Kinds.{byte_of, kind_of}
-use Rattle.bson_elem.specs.Trees.{Beside, Leaf, Tree, binary_value, boolean_value, inner_pair, leaf_pair, no_code, no_pairs, number_value, pointer_value, raw_value, regex_value, text_value, timestamp_value, with_code}
+use Rattle.bson_elem.specs.Trees.{Beside, Leaf, Tree, binary_value, boolean_value, inner_pair}
+use Rattle.bson_elem.specs.Trees.{leaf_pair, no_code, no_pairs, number_value, pointer_value}
+use Rattle.bson_elem.specs.Trees.{raw_value, regex_value, text_value, timestamp_value, with_code}
 
 abbrev pub coded_text : Coded (List ℕ)
 coded_text = coded_list coded_ℕ
@@ -27,7 +30,9 @@ coded_kind = code_by ℕ coded_ℕ byte_of (λ n. known (kind_of n)) known_kind
 -- ---- leaves, by their parts
 
 abbrev pub Parts : Type 0
-Parts = List ℕ ⊎ (Bool ⊎ (ℤ ⊎ ((ℕ × ℕ) ⊎ (List ℕ ⊎ ((List ℕ × List ℕ) ⊎ ((ℕ × List ℕ) ⊎ (List ℕ × List ℕ)))))))
+Parts =
+    List ℕ
+    ⊎ (Bool ⊎ (ℤ ⊎ ((ℕ × ℕ) ⊎ (List ℕ ⊎ ((List ℕ × List ℕ) ⊎ ((ℕ × List ℕ) ⊎ (List ℕ × List ℕ)))))))
 
 abbrev pub parts_of : Leaf → Parts
 parts_of (raw_value bytes) = inl bytes
@@ -62,7 +67,13 @@ leaf_again (regex_value pattern options) = refl
 abbrev pub coded_leaf : Coded Leaf
 coded_leaf =
     code_by Parts
-    (coded⊎ coded_text (coded⊎ coded_bool (coded⊎ coded_ℤ (coded⊎ (coded× coded_ℕ coded_ℕ) (coded⊎ coded_text (coded⊎ (coded× coded_text coded_text) (coded⊎ (coded× coded_ℕ coded_text) (coded× coded_text coded_text))))))))
+    (coded⊎ coded_text
+    (coded⊎ coded_bool
+    (coded⊎ coded_ℤ
+    (coded⊎ (coded× coded_ℕ coded_ℕ)
+    (coded⊎ coded_text
+    (coded⊎ (coded× coded_text coded_text)
+    (coded⊎ (coded× coded_ℕ coded_text) (coded× coded_text coded_text))))))))
     parts_of leaf_of leaf_again
 
 abbrev pub code_beside : Beside → Option (List ℕ)
@@ -78,7 +89,8 @@ beside_again no_code = refl
 beside_again (with_code words) = refl
 
 abbrev pub coded_beside : Coded Beside
-coded_beside = code_by (Option (List ℕ)) (coded_option coded_text) code_beside beside_of beside_again
+coded_beside =
+    code_by (Option (List ℕ)) (coded_option coded_text) code_beside beside_of beside_again
 
 -- ---- trees
 
@@ -97,8 +109,15 @@ apart m n p other = other (cc)
 
 abbrev pub tree_code : Tree → Gv
 tree_code no_pairs = gcons (gnum 0) gnil
-tree_code (leaf_pair n k v ps) = gcons (gnum 1) (gcons (coded_text.code n) (gcons (coded_kind.code k) (gcons (coded_leaf.code v) (tree_code ps))))
-tree_code (inner_pair n k b inner ps) = gcons (gnum 2) (gcons (coded_text.code n) (gcons (coded_kind.code k) (gcons (coded_beside.code b) (gcons (tree_code inner) (tree_code ps)))))
+tree_code (leaf_pair n k v ps) =
+    gcons (gnum 1)
+    (gcons (coded_text.code n)
+    (gcons (coded_kind.code k) (gcons (coded_leaf.code v) (tree_code ps))))
+tree_code (inner_pair n k b inner ps) =
+    gcons (gnum 2)
+    (gcons (coded_text.code n)
+    (gcons (coded_kind.code k)
+    (gcons (coded_beside.code b) (gcons (tree_code inner) (tree_code ps)))))
 
 pub tree_inj : (x y : Tree) → tree_code x ≡ tree_code y → x ≡ y
 tree_inj no_pairs no_pairs p = refl
@@ -106,14 +125,19 @@ tree_inj no_pairs (leaf_pair n k v ps) p = absurd (apart 0 1 p (omega arith))
 tree_inj no_pairs (inner_pair n k b inner ps) p = absurd (apart 0 2 p (omega arith))
 tree_inj (leaf_pair n k v ps) no_pairs p = absurd (apart 1 0 p (omega arith))
 tree_inj (leaf_pair n k v ps) (leaf_pair n' k' v' ps') p = λ i.
-    leaf_pair (coded_text.inj n n' (ap (λ g. head (tail g)) p) i) (coded_kind.inj k k' (ap (λ g. head (tail (tail g))) p) i)
-    (coded_leaf.inj v v' (ap (λ g. head (tail (tail (tail g)))) p) i) (tree_inj ps ps' (ap (λ g. tail (tail (tail (tail g)))) p) i)
-tree_inj (leaf_pair n k v ps) (inner_pair n' k' b' inner' ps') p = absurd (apart 1 2 p (omega arith))
+    leaf_pair (coded_text.inj n n' (ap (λ g. head (tail g)) p) i)
+    (coded_kind.inj k k' (ap (λ g. head (tail (tail g))) p) i)
+    (coded_leaf.inj v v' (ap (λ g. head (tail (tail (tail g)))) p) i)
+    (tree_inj ps ps' (ap (λ g. tail (tail (tail (tail g)))) p) i)
+tree_inj (leaf_pair n k v ps) (inner_pair n' k' b' inner' ps') p =
+    absurd (apart 1 2 p (omega arith))
 tree_inj (inner_pair n k b inner ps) no_pairs p = absurd (apart 2 0 p (omega arith))
 tree_inj (inner_pair n k b inner ps) (leaf_pair n' k' v' ps') p = absurd (apart 2 1 p (omega arith))
 tree_inj (inner_pair n k b inner ps) (inner_pair n' k' b' inner' ps') p = λ i.
-    inner_pair (coded_text.inj n n' (ap (λ g. head (tail g)) p) i) (coded_kind.inj k k' (ap (λ g. head (tail (tail g))) p) i)
-    (coded_beside.inj b b' (ap (λ g. head (tail (tail (tail g)))) p) i) (tree_inj inner inner' (ap (λ g. head (tail (tail (tail (tail g))))) p) i)
+    inner_pair (coded_text.inj n n' (ap (λ g. head (tail g)) p) i)
+    (coded_kind.inj k k' (ap (λ g. head (tail (tail g))) p) i)
+    (coded_beside.inj b b' (ap (λ g. head (tail (tail (tail g)))) p) i)
+    (tree_inj inner inner' (ap (λ g. head (tail (tail (tail (tail g))))) p) i)
     (tree_inj ps ps' (ap (λ g. tail (tail (tail (tail (tail g))))) p) i)
 
 abbrev pub coded_tree : Coded Tree

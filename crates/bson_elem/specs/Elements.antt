@@ -13,7 +13,8 @@ value_bytes form (opens q b body) = inner_bytes b body
 -- the value is one of this form, in a container of this depth
 abbrev pub ValueFits : ℕ → Form → Value → Type 0
 ValueFits depth form (a_leaf v) = IsOfForm form v
-ValueFits depth form (opens q b body) = StandsIn form b × (depth < 200) × (length (inner_bytes b body) < 2 ^ 31)
+ValueFits depth form (opens q b body) =
+    StandsIn form b × (depth < 200) × (length (inner_bytes b body) < 2 ^ 31)
 
 -- the offset of the document in a value at offset q
 abbrev pub offset_beside : ℕ → Beside → ℕ

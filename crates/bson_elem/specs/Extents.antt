@@ -1,4 +1,5 @@
--- How far values reach: the sizes that are fixed, the bytes after a value, and the offset of the document in it.
+-- How far values reach: the sizes that are fixed, the bytes after a value, and the offset of the
+-- document in it.
 use Rattle.std.specs.Prelude.{ℕ, List, Option, Some, None, Result, Ok, Err}
 use Rattle.bson_elem.specs.declared.fault.BsonCause.{BsonCause}
 use Rattle.bson_elem.specs.declared.fault.BsonFault.{BsonFault}

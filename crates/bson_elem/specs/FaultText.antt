@@ -11,7 +11,9 @@ shown_cause c = Some (cause_name c)
 
 -- the number of the cause, its name and the offset
 abbrev pub bson_fault_text : ℕ → BsonCause → List ℕ
-bson_fault_text at c = codes "fault " ++ (decimal (cause_number c) ++ (codes " " ++ (cause_name c ++ (codes " at " ++ decimal at))))
+bson_fault_text at c =
+    codes "fault "
+    ++ (decimal (cause_number c) ++ (codes " " ++ (cause_name c ++ (codes " at " ++ decimal at))))
 
 abbrev pub shown_fault : BsonFault → Option (List ℕ)
 shown_fault f = Some (bson_fault_text f.at f.cause)

@@ -4,7 +4,9 @@ use Rattle.bson_elem.specs.declared.kinds.Kind.{Kind}
 use Rattle.bson_elem.specs.declared.kinds.Kind.TheVariants as kinds
 use Rattle.bson_elem.specs.declared.items.Item.{Item}
 use Rattle.bson_elem.specs.declared.items.Item.TheVariants as items
-use Rattle.bson_elem.specs.Trees.{Leaf, raw_value, boolean_value, number_value, timestamp_value, text_value, pointer_value, binary_value, regex_value, no_code, with_code}
+use Rattle.bson_elem.specs.Trees.{Leaf, raw_value, boolean_value, number_value, timestamp_value}
+use Rattle.bson_elem.specs.Trees.{text_value, pointer_value, binary_value, regex_value, no_code}
+use Rattle.bson_elem.specs.Trees.{with_code}
 use Rattle.bson_elem.specs.Checks.{Read, Value, a_leaf, opens}
 use Rattle.bson_elem.specs.Checks as checks
 use Rattle.bson_elem.specs.declared.elements.Element.{Element}
@@ -50,7 +52,8 @@ item_value next (items.Regex p o) = a_leaf (regex_value p.now o.now)
 item_value next (items.DbPointer namespace id) = a_leaf (pointer_value namespace.now id)
 item_value next (items.Code s) = a_leaf (text_value s.now)
 item_value next (items.Symbol s) = a_leaf (text_value s.now)
-item_value next (items.CodeWithScope s d) = opens (next - length d.now) (with_code s.now) (elements_of d.now)
+item_value next (items.CodeWithScope s d) =
+    opens (next - length d.now) (with_code s.now) (elements_of d.now)
 item_value next (items.Int32 n) = a_leaf (number_value n)
 item_value next (items.Timestamp i s) = a_leaf (timestamp_value i s)
 item_value next (items.Int64 n) = a_leaf (number_value n)
@@ -63,13 +66,23 @@ abbrev pub as_value : Read Leaf → Read Value
 as_value (Ok v) = Ok (a_leaf v.0, v.1)
 as_value (Err c) = Err c
 
--- The element of this name and item, in front of these bytes, in a container whose last byte is at offset end.
+-- The element of this name and item, in front of these bytes, in a container whose last byte is at
+-- offset end.
 abbrev pub element_shown : ℕ → List ℕ → Item → List ℕ → checks.ElementRead
-element_shown end name item rest = record { name = name; kind = item_kind item; value = item_value (end - length rest) item; rest = rest }
+element_shown end name item rest =
+    record
+    { name = name; kind = item_kind item; value = item_value (end - length rest) item; rest = rest }
 
--- the element that an element of the code stands for, read from these bytes in a container whose last byte is at offset end
+-- the element that an element of the code stands for, read from these bytes in a container whose
+-- last byte is at offset end
 abbrev pub element_view : List ℕ → ℕ → Element → checks.ElementRead
-element_view bytes end e = record { name = e.name.now; kind = item_kind e.value; value = item_value e.next e.value; rest = slice_range bytes e.next end }
+element_view bytes end e =
+    record {
+      name = e.name.now;
+      kind = item_kind e.value;
+      value = item_value e.next e.value;
+      rest = slice_range bytes e.next end;
+    }
 
 -- If the item holds a document, it lends all bytes of that document.
 abbrev pub LendsFramed : Item → Type 0

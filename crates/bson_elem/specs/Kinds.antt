@@ -1,7 +1,12 @@
--- The table of kinds (bsonspec.org, version 1.1: `element`): the type byte of each, and the form of its values.
+-- The table of kinds (bsonspec.org, version 1.1: `element`): the type byte of each, and the form of
+-- its values.
 use Rattle.std.specs.Prelude.{ℕ, List, [], ◌∷◌, Option, Some, None, ◌==◌, if◌then◌else◌}
 use Rattle.bson_elem.specs.declared.kinds.Kind.{Kind}
-use Rattle.bson_elem.specs.declared.kinds.Kind.TheVariants.{Double, String, Document, Array, Binary, Undefined, ObjectId, Boolean, DateTime, Null, Regex, DbPointer, Code, Symbol, CodeWithScope, Int32, Timestamp, Int64, Decimal128, MinKey, MaxKey}
+use Rattle.bson_elem.specs.declared.kinds.Kind.TheVariants.{Double, String, Document, Array, Binary}
+use Rattle.bson_elem.specs.declared.kinds.Kind.TheVariants.{Undefined, ObjectId, Boolean, DateTime}
+use Rattle.bson_elem.specs.declared.kinds.Kind.TheVariants.{Null, Regex, DbPointer, Code, Symbol}
+use Rattle.bson_elem.specs.declared.kinds.Kind.TheVariants.{CodeWithScope, Int32, Timestamp, Int64}
+use Rattle.bson_elem.specs.declared.kinds.Kind.TheVariants.{Decimal128, MinKey, MaxKey}
 
 -- the type byte
 abbrev pub byte_of : Kind → ℕ
@@ -28,7 +33,10 @@ byte_of MinKey = 0xff
 byte_of MaxKey = 0x7f
 
 abbrev pub all_kinds : List Kind
-all_kinds = Double ∷ String ∷ Document ∷ Array ∷ Binary ∷ Undefined ∷ ObjectId ∷ Boolean ∷ DateTime ∷ Null ∷ Regex ∷ DbPointer ∷ Code ∷ Symbol ∷ CodeWithScope ∷ Int32 ∷ Timestamp ∷ Int64 ∷ Decimal128 ∷ MinKey ∷ MaxKey ∷ []
+all_kinds =
+    Double ∷ String ∷ Document ∷ Array ∷ Binary ∷ Undefined ∷ ObjectId ∷ Boolean ∷ DateTime ∷ Null
+    ∷ Regex ∷ DbPointer ∷ Code ∷ Symbol ∷ CodeWithScope ∷ Int32 ∷ Timestamp ∷ Int64 ∷ Decimal128
+    ∷ MinKey ∷ MaxKey ∷ []
 
 -- the first of the kinds that has the byte
 abbrev pub kind_among : List Kind → ℕ → Option Kind

@@ -1,4 +1,5 @@
--- A document as a tree: its pairs of a name and a value, in order (bsonspec.org, version 1.1: `e_list`).
+-- A document as a tree: its pairs of a name and a value, in order (bsonspec.org, version 1.1:
+-- `e_list`).
 use Rattle.std.specs.Prelude.{ℕ, ℤ, List, Bool}
 use Rattle.bson_elem.specs.declared.kinds.Kind.{Kind}
 
@@ -24,8 +25,9 @@ pub data Beside : Type 0 where
   -- the code whose scope the document is
   with_code : List ℕ → Beside
 
--- A list of pairs: of a name, a kind and a leaf, and then the pairs after it, or of a name, a kind, what stands
--- beside the document held, the pairs inside that document, and the pairs after it. Names in an array are kept.
+-- A list of pairs: of a name, a kind and a leaf, and then the pairs after it, or of a name, a kind,
+-- what stands beside the document held, the pairs inside that document, and the pairs after it.
+-- Names in an array are kept.
 pub data Tree : Type 0 where
   no_pairs : Tree
   leaf_pair : List ℕ → Kind → Leaf → Tree → Tree

@@ -1,5 +1,5 @@
-//! Reading values that hold a document: a document or an array, and a code with its scope (bsonspec.org, version 1.1:
-//! `document`, `code_w_s`).
+//! Reading values that hold a document: a document or an array, and a code with its scope
+//! (bsonspec.org, version 1.1: `document`, `code_w_s`).
 
 ghost use Rattle.std.specs.Prelude.{◌≡◌, ◌+◌, ◌-◌, ◌≤◌, ◌<◌, ◌^◌, ◌++◌, length, max, IfOk, IfErr};
 ghost use Rattle.bson_elem.specs.Trees.{with_code};
@@ -29,8 +29,10 @@ pub fn fault_at(offset: usize, cause: BsonCause) -> BsonFault
 #[tactic(auto, unfolding(crate::specs::Checks::document_at))]
 #[inline(always)]
 fn split_document(at: usize, from: usize, bytes: &[u8]) -> Result<(&[u8], &[u8]), BsonFault>
-    ensures read { Gives (λ x. (elements_of x.0.now, x.1.now)) result (document_at at from bytes.now) }
-    ensures parts { IfOk result (λ x. (5 ≤ length x.0.now) × (length x.0.now + length x.1.now ≡ length bytes.now)) }
+    ensures read { Gives (λ x. (elements_of x.0.now, x.1.now)) result
+        (document_at at from bytes.now) }
+    ensures parts { IfOk result
+        (λ x. (5 ≤ length x.0.now) × (length x.0.now + length x.1.now ≡ length bytes.now)) }
     ensures split { IfOk result (λ x. x.0.now ++ x.1.now ≡ bytes.now) }
     ensures offset { IfErr result (λ f. f.at ≤ max at from) }
 {
@@ -62,9 +64,9 @@ fn split_document(at: usize, from: usize, bytes: &[u8]) -> Result<(&[u8], &[u8])
     Ok(bytes.split_at(n))
 }
 
-/// Reads the document at the front of `bytes`, and returns its bytes and those after it. Checks its length and its last
-/// byte, but none of its elements. The document begins at offset `from`, in the element at offset `at`; both are 0 if no
-/// element holds it.
+/// Reads the document at the front of `bytes`, and returns its bytes and those after it. Checks its
+/// length and its last byte, but none of its elements. The document begins at offset `from`, in the
+/// element at offset `at`; both are 0 if no element holds it.
 ///
 /// # Errors
 ///
@@ -73,8 +75,10 @@ fn split_document(at: usize, from: usize, bytes: &[u8]) -> Result<(&[u8], &[u8])
 /// - `End` at `from` if the document's last byte isn't 00.
 #[inline(always)]
 pub fn read_document(at: usize, from: usize, bytes: &[u8]) -> Result<(&[u8], &[u8]), BsonFault>
-    ensures read { Gives (λ x. (elements_of x.0.now, x.1.now)) result (document_at at from bytes.now) }
-    ensures parts { IfOk result (λ x. (5 ≤ length x.0.now) × (length x.0.now + length x.1.now ≡ length bytes.now)) }
+    ensures read { Gives (λ x. (elements_of x.0.now, x.1.now)) result
+        (document_at at from bytes.now) }
+    ensures parts { IfOk result
+        (λ x. (5 ≤ length x.0.now) × (length x.0.now + length x.1.now ≡ length bytes.now)) }
     ensures split { IfOk result (λ x. x.0.now ++ x.1.now ≡ bytes.now) }
     ensures offset { IfErr result (λ f. f.at ≤ max at from) }
     ensures lent { IfOk result (λ x. IsFramed x.0.now) }
@@ -85,8 +89,9 @@ pub fn read_document(at: usize, from: usize, bytes: &[u8]) -> Result<(&[u8], &[u
     }
 }
 
-/// Reads a code with its scope, and returns the code, the bytes of the scope and those after it. Checks no element of the
-/// scope. The value begins at offset `from`, in the element at offset `at`.
+/// Reads a code with its scope, and returns the code, the bytes of the scope and those after it.
+/// Checks no element of the scope. The value begins at offset `from`, in the element at offset
+/// `at`.
 #[tactic(auto, unfolding(crate::specs::Checks::scope_at))]
 #[inline(always)]
 pub(crate) fn split_scope(
@@ -95,7 +100,13 @@ pub(crate) fn split_scope(
     bytes: &[u8],
 ) -> Result<(&str, &[u8], &[u8]), BsonFault>
     requires { from + length bytes.now < 2 ^ 64 }
-    ensures read { Gives (λ x. (opens (from + length bytes.now - length x.2.now - length x.1.now) (with_code x.0.now) (elements_of x.1.now), x.2.now)) result (scope_at at from bytes.now) }
+    ensures read { Gives
+        (λ x. (
+          opens (from + length bytes.now - length x.2.now - length x.1.now) (with_code x.0.now)
+              (elements_of x.1.now),
+          x.2.now,
+        ))
+        result (scope_at at from bytes.now) }
     ensures parts { IfOk result (λ x. length x.1.now + length x.2.now ≤ length bytes.now) }
     ensures offset { IfErr result (λ f. f.at ≤ max at (from + length bytes.now)) }
     ensures lent { IfOk result (λ x. IsFramed x.1.now) }
@@ -132,7 +143,8 @@ pub(crate) fn read_scope(
     bytes: &[u8],
 ) -> Result<(Item<'_>, &[u8]), BsonFault>
     requires { from + length bytes.now < 2 ^ 64 }
-    ensures read { Gives (λ x. (item_value (from + length bytes.now - length x.1.now) x.0, x.1.now)) result (scope_at at from bytes.now) }
+    ensures read { Gives (λ x. (item_value (from + length bytes.now - length x.1.now) x.0, x.1.now))
+        result (scope_at at from bytes.now) }
     ensures kind { IfOk result (λ x. item_kind x.0 ≡ Kind.CodeWithScope) }
     ensures shorter { IfOk result (λ x. length x.1.now ≤ length bytes.now) }
     ensures offset { IfErr result (λ f. f.at ≤ max at (from + length bytes.now)) }

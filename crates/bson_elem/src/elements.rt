@@ -1,9 +1,11 @@
 //! Reading one element of a document (bsonspec.org, version 1.1: `element`).
 
-ghost use Rattle.std.specs.Prelude.{◌≡◌, ℕ, ◌+◌, ◌-◌, ◌<◌, ◌≤◌, ◌^◌, length, max, slice_range, IfOk, IfErr};
+ghost use Rattle.std.specs.Prelude.{◌≡◌, ℕ, ◌+◌, ◌-◌, ◌<◌, ◌≤◌, ◌^◌, length, max, slice_range};
+ghost use Rattle.std.specs.Prelude.{IfOk, IfErr};
 ghost use Rattle.bson_elem.specs.Checks.{element_at, fault, value_at};
 ghost use Rattle.bson_elem.specs.Kinds.{form_of};
-ghost use Rattle.bson_elem.specs.Items.{element_shown, element_view, item_kind, item_value, LendsFramed};
+ghost use Rattle.bson_elem.specs.Items.{element_shown, element_view, item_kind, item_value};
+ghost use Rattle.bson_elem.specs.Items.{LendsFramed};
 ghost use Rattle.bson_elem.specs.Results.{Gives};
 
 use crate::container::{MAX_DEPTH, fault_at, read_document, read_scope};
@@ -13,8 +15,8 @@ use crate::kinds::Kind;
 use crate::leaf::read_leaf;
 use crate::text::read_cstring;
 
-/// Reads a value of this `kind`, and returns it and the bytes after it. The value begins at offset `from`, in the element
-/// at offset `at`, in a container of this `depth`.
+/// Reads a value of this `kind`, and returns it and the bytes after it. The value begins at offset
+/// `from`, in the element at offset `at`, in a container of this `depth`.
 #[tactic(auto, using(crate::proofs::ScopeLaws::parts, crate::proofs::ViewLaws::leaf_lends), unfolding(crate::specs::Checks::value_at))]
 #[inline(always)]
 pub(crate) fn read_value(
@@ -25,7 +27,8 @@ pub(crate) fn read_value(
     bytes: &[u8],
 ) -> Result<(Item<'_>, &[u8]), BsonFault>
     requires { from + length bytes.now < 2 ^ 64 }
-    ensures read { Gives (λ x. (item_value (from + length bytes.now - length x.1.now) x.0, x.1.now)) result (value_at depth at from (form_of kind) bytes.now) }
+    ensures read { Gives (λ x. (item_value (from + length bytes.now - length x.1.now) x.0, x.1.now))
+        result (value_at depth at from (form_of kind) bytes.now) }
     ensures kind { IfOk result (λ x. item_kind x.0 ≡ kind) }
     ensures offset { IfErr result (λ f. f.at ≤ max at (from + length bytes.now)) }
     ensures lent { IfOk result (λ x. LendsFramed x.0) }
@@ -67,8 +70,9 @@ pub struct Element<'a> {
     pub next: usize,
 }
 
-/// Reads the element at the front of `room`, and returns its name, its value and the bytes after it. `room` is what is
-/// left, from offset `at` on, of a container of this `depth` that begins at offset `start`.
+/// Reads the element at the front of `room`, and returns its name, its value and the bytes after
+/// it. `room` is what is left, from offset `at` on, of a container of this `depth` that begins at
+/// offset `start`.
 #[tactic(auto, unfolding(crate::specs::Checks::element_at))]
 #[inline(always)]
 fn element_in(
@@ -78,7 +82,8 @@ fn element_in(
     depth: u32,
 ) -> Result<(&str, Item<'_>, &[u8]), BsonFault>
     requires { at + length room.now < 2 ^ 64 }
-    ensures read { Gives (λ x. element_shown (at + length room.now) x.0.now x.1 x.2.now) result (element_at depth start at room.now) }
+    ensures read { Gives (λ x. element_shown (at + length room.now) x.0.now x.1 x.2.now) result
+        (element_at depth start at room.now) }
     ensures lent { IfOk result (λ x. LendsFramed x.1) }
     ensures offset { IfErr result (λ f. f.at ≤ max start (at + length room.now)) }
 {
@@ -102,15 +107,16 @@ fn element_in(
     }
 }
 
-/// Reads the element at offset `at` of `bytes`, in a container of this `depth` whose first byte is at offset `start` and
-/// whose last byte is at offset `end`. If the value is a document, an array or a code with scope, the inner document's
-/// length and last byte are checked, but none of its elements.
+/// Reads the element at offset `at` of `bytes`, in a container of this `depth` whose first byte is
+/// at offset `start` and whose last byte is at offset `end`. If the value is a document, an array
+/// or a code with scope, the inner document's length and last byte are checked, but none of its
+/// elements.
 ///
 /// # Errors
 ///
-/// Returns the first check that fails, in the order of the fields: the type byte, the name, the value. A type byte of 00
-/// is the fault `End` of the container, at `start`; an inner document's length and last byte are faults at its first
-/// byte; all others are faults at `at`.
+/// Returns the first check that fails, in the order of the fields: the type byte, the name, the
+/// value. A type byte of 00 is the fault `End` of the container, at `start`; an inner document's
+/// length and last byte are faults at its first byte; all others are faults at `at`.
 #[inline(always)]
 pub fn read_element(
     bytes: &[u8],
@@ -121,7 +127,8 @@ pub fn read_element(
 ) -> Result<Element<'_>, BsonFault>
     requires inside { at < end }
     requires whole { end < length bytes.now }
-    ensures read { Gives (λ e. element_view bytes.now end e) result (element_at depth start at (slice_range bytes.now at end)) }
+    ensures read { Gives (λ e. element_view bytes.now end e) result
+        (element_at depth start at (slice_range bytes.now at end)) }
     ensures next { IfOk result (λ e. (at < e.next) × (e.next ≤ end)) }
     ensures lent { IfOk result (λ e. LendsFramed e.value) }
     ensures offset { IfErr result (λ f. f.at ≤ max start end) }

@@ -1,5 +1,6 @@
-//! Skipping values. A value is checked as `read_value` checks it, but isn't returned: a walk that only checks needs the
-//! offset of the document in the value, if there is one, and the bytes after the value.
+//! Skipping values. A value is checked as `read_value` checks it, but isn't returned: a walk that
+//! only checks needs the offset of the document in the value, if there is one, and the bytes after
+//! the value.
 
 ghost use Rattle.std.specs.Prelude.{◌≡◌, ◌+◌, ◌<◌, ◌^◌, ◌≤◌, length, max, None, IfErr};
 ghost use Rattle.bson_elem.specs.Checks.{bytes_at, leaf_at, value_at};
@@ -24,9 +25,10 @@ fn skip_bytes(n: usize, bytes: &[u8]) -> Result<&[u8], BsonCause>
     Ok(&bytes[n..])
 }
 
-/// Skips a value of a `kind` that has no fixed size and holds no document, and returns the bytes after it.
-// By the parts of `read_leaf` and not by itself: with it, `skip_value` is no longer inlined, and a check of documents takes
-// a third to a half more instructions.
+/// Skips a value of a `kind` that has no fixed size and holds no document, and returns the bytes
+/// after it.
+// By the parts of `read_leaf` and not by itself: with it, `skip_value` is no longer inlined, and a
+// check of documents takes a third to a half more instructions.
 #[tactic(auto, unfolding(crate::specs::Checks::leaf_at))]
 #[inline(always)]
 fn skip_varied(kind: Kind, bytes: &[u8]) -> Result<&[u8], BsonCause>
@@ -72,8 +74,9 @@ fn skip_leaf(kind: Kind, bytes: &[u8]) -> Result<&[u8], BsonCause>
     }
 }
 
-/// Checks a value of this `kind`, and returns the offset of the document in it, if it holds one, and the bytes after it.
-/// The value begins at offset `from`, in the element at offset `at`, in a container of this `depth`.
+/// Checks a value of this `kind`, and returns the offset of the document in it, if it holds one,
+/// and the bytes after it. The value begins at offset `from`, in the element at offset `at`, in a
+/// container of this `depth`.
 ///
 /// # Errors
 ///
@@ -88,7 +91,8 @@ pub fn skip_value(
     bytes: &[u8],
 ) -> Result<(Option<usize>, &[u8]), BsonFault>
     requires { from + length bytes.now < 2 ^ 64 }
-    ensures read { Gives (λ x. (x.0, x.1.now)) result (value_extent (value_at depth at from (form_of kind) bytes.now)) }
+    ensures read { Gives (λ x. (x.0, x.1.now)) result
+        (value_extent (value_at depth at from (form_of kind) bytes.now)) }
     ensures offset { IfErr result (λ f. f.at ≤ max at (from + length bytes.now)) }
 {
     match kind {

@@ -10,8 +10,8 @@ use std::fmt;
 pub enum BsonCause {
     /// A value reaches past the end of its container, or a cstring has no 00 before it.
     Truncated,
-    /// A length is below its least value (5 for a document, 1 for a string, 0 for a binary, 14 for a code with scope), or
-    /// the length of a whole document isn't the number of bytes given.
+    /// A length is below its least value (5 for a document, 1 for a string, 0 for a binary, 14 for
+    /// a code with scope), or the length of a whole document isn't the number of bytes given.
     Length,
     /// The last byte of a container isn't 00, or a type byte before it is 00.
     End,
@@ -25,7 +25,8 @@ pub enum BsonCause {
     TextEnd,
     /// The byte of a boolean is neither 00 nor 01.
     Boolean,
-    /// A binary of subtype 02 has fewer than 4 bytes of data, or its inner count isn't the number of bytes after it.
+    /// A binary of subtype 02 has fewer than 4 bytes of data, or its inner count isn't the number
+    /// of bytes after it.
     OldBinary,
     /// The code and the scope of a code with scope don't fill its length.
     Scope,
@@ -85,11 +86,13 @@ impl fmt::Display for BsonCause {
 
 impl std::error::Error for BsonCause {}
 
-/// The first fault of some bytes, in the order of the checks. Displays as `fault NUMBER CAUSE at OFFSET`.
+/// The first fault of some bytes, in the order of the checks. Displays as `fault NUMBER CAUSE at
+/// OFFSET`.
 #[derive(Clone, Copy, Debug, PartialEq, Eq)]
 pub struct BsonFault {
-    /// The offset of the fault: of the first byte of a container, if its length or its last byte is wrong; else of the
-    /// type byte of the innermost element that is at fault, or 0 outside any element.
+    /// The offset of the fault: of the first byte of a container, if its length or its last byte is
+    /// wrong; else of the type byte of the innermost element that is at fault, or 0 outside any
+    /// element.
     pub at: usize,
     pub cause: BsonCause,
 }

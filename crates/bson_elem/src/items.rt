@@ -1,7 +1,8 @@
 //! The values of elements.
 
-/// A value, borrowed from the bytes that it was read from, with one variant for each kind (bsonspec.org, version 1.1:
-/// `element`). A document, an array or a scope is the bytes of a document whose elements are not yet checked.
+/// A value, borrowed from the bytes that it was read from, with one variant for each kind
+/// (bsonspec.org, version 1.1: `element`). A document, an array or a scope is the bytes of a
+/// document whose elements are not yet checked.
 #[derive(Clone, Copy, Debug, PartialEq, Eq)]
 pub enum Item<'a> {
     /// The 8 bytes of an IEEE 754 number, the lowest first.

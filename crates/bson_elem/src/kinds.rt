@@ -97,8 +97,10 @@ impl Kind {
         }
     }
 
-    /// Returns the size in bytes of each value of this kind, if all have the same and any bytes are a value.
-    // Not inlined, so that it stays a table: inlined where its result is tested, it becomes a jump for each kind.
+    /// Returns the size in bytes of each value of this kind, if all have the same and any bytes are
+    /// a value.
+    // Not inlined, so that it stays a table: inlined where its result is tested, it becomes a jump
+    // for each kind.
     #[inline(never)]
     pub(crate) fn fixed_len(self) -> Option<usize>
         ensures { result ≡ fixed_size (form_of self) }

@@ -1,5 +1,5 @@
-//! Laws of the definitions of trees, spellings, elements and faults. Each law is the contract of a function that does
-//! nothing.
+//! Laws of the definitions of trees, spellings, elements and faults. Each law is the contract of a
+//! function that does nothing.
 
 ghost use Rattle.std.specs.Prelude.{◌≡◌, ◌++◌, [], ℕ, List, Ok};
 ghost use Rattle.bson_elem.specs.declared.fault.BsonFault.{BsonFault};
@@ -38,7 +38,8 @@ pub fn no_fault_before_a_tree()
 
 /// Proves that an element that is read has a spelling, and that the bytes begin with it.
 pub fn element_read_was_spelled()
-    ensures { (depth s p : ℕ) (bytes : List ℕ) (e : ElementRead) → IsBytes bytes → element_at depth s p bytes ≡ Ok e
+    ensures { (depth s p : ℕ) (bytes : List ℕ) (e : ElementRead) → IsBytes bytes
+        → element_at depth s p bytes ≡ Ok e
         → (bytes ≡ element_bytes e ++ e.rest) × IsElement depth p e }
 {}
 

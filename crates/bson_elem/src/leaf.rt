@@ -1,7 +1,8 @@
 //! Reading values that hold no document.
 
 ghost use Rattle.std.specs.Prelude.{◌≡◌, ℕ, List, IfOk};
-ghost use Rattle.bson_elem.specs.Kinds.{form_of, boolean_form, binary_form, pointer_form, regex_form};
+ghost use Rattle.bson_elem.specs.Kinds.{form_of, boolean_form, binary_form, pointer_form};
+ghost use Rattle.bson_elem.specs.Kinds.{regex_form};
 ghost use Rattle.bson_elem.specs.Checks.{binary_of, leaf_at};
 ghost use Rattle.bson_elem.specs.Trees.{binary_value, boolean_value, pointer_value, regex_value};
 ghost use Rattle.bson_elem.specs.Items.{item_kind, item_value, as_value};
@@ -27,11 +28,14 @@ pub(crate) fn read_boolean(bytes: &[u8]) -> Result<(bool, &[u8]), BsonCause>
     }
 }
 
-/// Returns the data of a binary of this `subtype`: `bytes`, or for subtype 02 the bytes after their inner count.
+/// Returns the data of a binary of this `subtype`: `bytes`, or for subtype 02 the bytes after their
+/// inner count.
 #[tactic(auto, unfolding(crate::specs::Checks::binary_of))]
 #[inline(always)]
 fn binary_data(subtype: u8, bytes: &[u8]) -> Result<&[u8], BsonCause>
-    ensures { (rest : List ℕ) → Gives (λ x. (binary_value subtype x.now, rest)) result (binary_of subtype bytes.now rest) }
+    ensures { (rest : List ℕ)
+        → Gives (λ x. (binary_value subtype x.now, rest)) result
+        (binary_of subtype bytes.now rest) }
 {
     if subtype != 2 {
         return Ok(bytes);
@@ -50,7 +54,8 @@ fn binary_data(subtype: u8, bytes: &[u8]) -> Result<&[u8], BsonCause>
 #[tactic(auto, unfolding(crate::specs::Checks::leaf_at))]
 #[inline(always)]
 pub(crate) fn read_binary(bytes: &[u8]) -> Result<(u8, &[u8], &[u8]), BsonCause>
-    ensures { Gives (λ x. (binary_value x.0 x.1.now, x.2.now)) result (leaf_at binary_form bytes.now) }
+    ensures { Gives (λ x. (binary_value x.0 x.1.now, x.2.now)) result
+        (leaf_at binary_form bytes.now) }
 {
     let (n, rest) = read_length(0, bytes)?;
     if rest.len() < n + 1 {
@@ -67,7 +72,8 @@ pub(crate) fn read_binary(bytes: &[u8]) -> Result<(u8, &[u8], &[u8]), BsonCause>
 #[tactic(auto, unfolding(crate::specs::Checks::leaf_at))]
 #[inline(always)]
 pub(crate) fn read_regex(bytes: &[u8]) -> Result<(&str, &str, &[u8]), BsonCause>
-    ensures { Gives (λ x. (regex_value x.0.now x.1.now, x.2.now)) result (leaf_at regex_form bytes.now) }
+    ensures { Gives (λ x. (regex_value x.0.now x.1.now, x.2.now)) result
+        (leaf_at regex_form bytes.now) }
 {
     let (pattern, rest) = read_cstring(bytes)?;
     let (options, rest) = read_cstring(rest)?;
@@ -78,7 +84,8 @@ pub(crate) fn read_regex(bytes: &[u8]) -> Result<(&str, &str, &[u8]), BsonCause>
 #[tactic(auto, unfolding(crate::specs::Checks::leaf_at))]
 #[inline(always)]
 pub(crate) fn read_pointer(bytes: &[u8]) -> Result<(&str, [u8; 12], &[u8]), BsonCause>
-    ensures { Gives (λ x. (pointer_value x.0.now x.1, x.2.now)) result (leaf_at pointer_form bytes.now) }
+    ensures { Gives (λ x. (pointer_value x.0.now x.1, x.2.now)) result
+        (leaf_at pointer_form bytes.now) }
 {
     let (namespace, rest) = read_string(bytes)?;
     let (id, rest) = read_bytes::<12>(rest)?;
@@ -89,7 +96,9 @@ pub(crate) fn read_pointer(bytes: &[u8]) -> Result<(&str, [u8; 12], &[u8]), Bson
 #[tactic(auto, unfolding(crate::specs::Checks::leaf_at))]
 #[inline(always)]
 pub(crate) fn read_leaf(kind: Kind, bytes: &[u8]) -> Result<(Item<'_>, &[u8]), BsonCause>
-    ensures read { (n : ℕ) → Gives (λ x. (item_value n x.0, x.1.now)) result (as_value (leaf_at (form_of kind) bytes.now)) }
+    ensures read { (n : ℕ)
+        → Gives (λ x. (item_value n x.0, x.1.now)) result
+        (as_value (leaf_at (form_of kind) bytes.now)) }
     ensures kind { IfOk result (λ x. item_kind x.0 ≡ kind) }
 {
     match kind {

@@ -1,8 +1,8 @@
 //! The elements of BSON documents (bsonspec.org, version 1.1): a type byte, a name and a value.
 //!
-//! `read_element` reads one element, or returns the first check that fails. `skip_value` makes the same
-//! checks of a value without returning it, and `reread_element` reads an element of bytes that were checked
-//! before. None of them enters a document that a value holds.
+//! `read_element` reads one element, or returns the first check that fails. `skip_value` makes the
+//! same checks of a value without returning it, and `reread_element` reads an element of bytes that
+//! were checked before. None of them enters a document that a value holds.
 //!
 //! Stands on the kit alone. bson_raw stands on it, and all above cite its definitions. Read first:
 //! `specs/Spelling.antt` and `specs/Checks.antt`, and then `elements`.

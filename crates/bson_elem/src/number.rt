@@ -1,5 +1,6 @@
-//! Reading numbers, the lowest byte first, and a fixed number of bytes (bsonspec.org, version 1.1: `int32`, `int64`).
-//! Each function reads the front of `bytes`, and returns what it read and the bytes after it.
+//! Reading numbers, the lowest byte first, and a fixed number of bytes (bsonspec.org, version 1.1:
+//! `int32`, `int64`). Each function reads the front of `bytes`, and returns what it read and the
+//! bytes after it.
 
 ghost use Rattle.std.specs.Prelude.{◌≡◌, ◌+◌, ◌≤◌, length, take, IfOk};
 ghost use Rattle.std.specs.Int.{w32, w64, from_le_bytes};

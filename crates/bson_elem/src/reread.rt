@@ -1,10 +1,12 @@
-//! Reading elements of bytes that were checked before. Every check is known to succeed, so nothing here returns a fault,
-//! and no text is tested for UTF-8 again.
+//! Reading elements of bytes that were checked before. Every check is known to succeed, so nothing
+//! here returns a fault, and no text is tested for UTF-8 again.
 
 ghost use Rattle.std.specs.Prelude.{◌≡◌, ℕ, ◌+◌, ◌-◌, ◌<◌, ◌≤◌, ◌^◌, length, slice_range, IsOk};
-ghost use Rattle.bson_elem.specs.Checks.{cstring_at, element_at, scope_at, string_at, text_at, value_at};
+ghost use Rattle.bson_elem.specs.Checks.{cstring_at, element_at, scope_at, string_at, text_at};
+ghost use Rattle.bson_elem.specs.Checks.{value_at};
 ghost use Rattle.bson_elem.specs.Kinds.{form_of};
-ghost use Rattle.bson_elem.specs.Items.{element_shown, element_view, item_kind, item_value, LendsFramed};
+ghost use Rattle.bson_elem.specs.Items.{element_shown, element_view, item_kind, item_value};
+ghost use Rattle.bson_elem.specs.Items.{LendsFramed};
 
 use crate::container::read_document;
 use crate::elements::{Element, read_value};
@@ -52,7 +54,8 @@ fn reread_cstring(bytes: &[u8]) -> (&str, &[u8])
 fn reread_scope(at: usize, from: usize, bytes: &[u8]) -> (Item<'_>, &[u8])
     requires room { from + length bytes.now < 2 ^ 64 }
     requires checked { IsOk (scope_at at from bytes.now) }
-    ensures read { scope_at at from bytes.now ≡ Ok (item_value (from + length bytes.now - length result.1.now) result.0, result.1.now) }
+    ensures read { scope_at at from bytes.now
+        ≡ Ok (item_value (from + length bytes.now - length result.1.now) result.0, result.1.now) }
     ensures kind { item_kind result.0 ≡ Kind.CodeWithScope }
     ensures lent { LendsFramed result.0 }
 {
@@ -69,7 +72,8 @@ fn reread_scope(at: usize, from: usize, bytes: &[u8]) -> (Item<'_>, &[u8])
 fn reread_rare(at: usize, from: usize, kind: Kind, bytes: &[u8]) -> (Item<'_>, &[u8])
     requires room { from + length bytes.now < 2 ^ 64 }
     requires checked { IsOk (value_at 1 at from (form_of kind) bytes.now) }
-    ensures read { value_at 1 at from (form_of kind) bytes.now ≡ Ok (item_value (from + length bytes.now - length result.1.now) result.0, result.1.now) }
+    ensures read { value_at 1 at from (form_of kind) bytes.now
+        ≡ Ok (item_value (from + length bytes.now - length result.1.now) result.0, result.1.now) }
     ensures kind { item_kind result.0 ≡ kind }
     ensures lent { LendsFramed result.0 }
 {
@@ -97,18 +101,20 @@ fn reread_rare(at: usize, from: usize, kind: Kind, bytes: &[u8]) -> (Item<'_>, &
     }
 }
 
-/// Reads a value of this `kind`, and returns it and the bytes after it. The value begins at offset `from`, in the element
-/// at offset `at`.
+/// Reads a value of this `kind`, and returns it and the bytes after it. The value begins at offset
+/// `from`, in the element at offset `at`.
 #[tactic(auto, unfolding(crate::specs::Checks::value_at, crate::specs::Checks::leaf_at))]
 #[inline(always)]
 fn reread_value(at: usize, from: usize, kind: Kind, bytes: &[u8]) -> (Item<'_>, &[u8])
     requires room { from + length bytes.now < 2 ^ 64 }
     requires checked { IsOk (value_at 1 at from (form_of kind) bytes.now) }
-    ensures read { value_at 1 at from (form_of kind) bytes.now ≡ Ok (item_value (from + length bytes.now - length result.1.now) result.0, result.1.now) }
+    ensures read { value_at 1 at from (form_of kind) bytes.now
+        ≡ Ok (item_value (from + length bytes.now - length result.1.now) result.0, result.1.now) }
     ensures kind { item_kind result.0 ≡ kind }
     ensures lent { LendsFramed result.0 }
 {
-    // Each kind is named, so that one jump tells the kinds apart, rather than one more in each callee.
+    // Each kind is named, so that one jump tells the kinds apart, rather than one more in each
+    // callee.
     match kind {
         Kind::String => {
             let (value, rest) = reread_string(bytes);
@@ -128,14 +134,15 @@ fn reread_value(at: usize, from: usize, kind: Kind, bytes: &[u8]) -> (Item<'_>, 
     }
 }
 
-/// Reads the element at the front of `room`, and returns its name, its value and the bytes after it. `room` is what is
-/// left, from offset `at` on, of a document that no other holds.
+/// Reads the element at the front of `room`, and returns its name, its value and the bytes after
+/// it. `room` is what is left, from offset `at` on, of a document that no other holds.
 #[tactic(auto, unfolding(crate::specs::Checks::element_at))]
 #[inline(always)]
 fn reread_in(room: &[u8], at: usize) -> (&str, Item<'_>, &[u8])
     requires room { at + length room.now < 2 ^ 64 }
     requires checked { IsOk (element_at 1 0 at room.now) }
-    ensures read { element_at 1 0 at room.now ≡ Ok (element_shown (at + length room.now) result.0.now result.1 result.2.now) }
+    ensures read { element_at 1 0 at room.now
+        ≡ Ok (element_shown (at + length room.now) result.0.now result.1 result.2.now) }
     ensures lent { LendsFramed result.1 }
 {
     let [byte, rest @ ..] = room else {
@@ -147,14 +154,16 @@ fn reread_in(room: &[u8], at: usize) -> (&str, Item<'_>, &[u8])
     (name, value, rest)
 }
 
-/// Reads the element at offset `at` of `bytes`, for which `read_element` is known to succeed, and returns the same. The
-/// element is one of a document that no other holds, and whose last byte is at offset `end`.
+/// Reads the element at offset `at` of `bytes`, for which `read_element` is known to succeed, and
+/// returns the same. The element is one of a document that no other holds, and whose last byte is
+/// at offset `end`.
 #[inline(always)]
 pub fn reread_element(bytes: &[u8], at: usize, end: usize) -> Element<'_>
     requires inside { at < end }
     requires whole { end < length bytes.now }
     requires checked { IsOk (element_at 1 0 at (slice_range bytes.now at end)) }
-    ensures read { element_at 1 0 at (slice_range bytes.now at end) ≡ Ok (element_view bytes.now end result) }
+    ensures read { element_at 1 0 at (slice_range bytes.now at end)
+        ≡ Ok (element_view bytes.now end result) }
     ensures next { (at < result.next) × (result.next ≤ end) }
     ensures lent { LendsFramed result.value }
 {

@@ -1,7 +1,8 @@
-//! Reading texts (bsonspec.org, version 1.1: `string`, `cstring`). Each `read_` function reads the front of `bytes`, and
-//! returns the text and the bytes after it.
+//! Reading texts (bsonspec.org, version 1.1: `string`, `cstring`). Each `read_` function reads the
+//! front of `bytes`, and returns the text and the bytes after it.
 
-ghost use Rattle.std.specs.Prelude.{◌≡◌, ◌+◌, ◌<◌, Some, length, take, IfOk, IfSome, MatchOption, position, true, false};
+ghost use Rattle.std.specs.Prelude.{◌≡◌, ◌+◌, ◌<◌, Some, length, take, IfOk, IfSome, MatchOption};
+ghost use Rattle.std.specs.Prelude.{position, true, false};
 ghost use Rattle.std.specs.Str.{is_utf8};
 ghost use Rattle.bson_elem.specs.Checks.{text_at, string_at, is_zero, cstring_at};
 ghost use Rattle.bson_elem.specs.Results.{Gives};
@@ -25,7 +26,8 @@ pub(crate) fn known_text(bytes: &[u8]) -> &str
 
 /// Returns `bytes` as a text, or `None` if they aren't UTF-8.
 fn text_of(bytes: &[u8]) -> Option<&str>
-    ensures { MatchOption result (is_utf8 bytes.now ≡ false) (λ s. (s.now ≡ bytes.now) × (is_utf8 bytes.now ≡ true)) }
+    ensures { MatchOption result (is_utf8 bytes.now ≡ false)
+        (λ s. (s.now ≡ bytes.now) × (is_utf8 bytes.now ≡ true)) }
 {
     if bytes.len() < SHORT_TEXT && bytes.is_ascii() {
         return Some(known_text(bytes));
@@ -75,7 +77,8 @@ pub fn read_string(bytes: &[u8]) -> Result<(&str, &[u8]), BsonCause>
 #[inline(always)]
 fn near_zero_wide(bytes: &[u8]) -> Option<usize>
     requires { 16 < length bytes.now }
-    ensures { IfSome result (λ n. (position is_zero bytes.now ≡ Some n) × (is_utf8 (take n bytes.now) ≡ true)) }
+    ensures { IfSome result
+        (λ n. (position is_zero bytes.now ≡ Some n) × (is_utf8 (take n bytes.now) ≡ true)) }
 {
     // A byte less one, with 0 becoming 255, is 127 or more just for 00 and for bytes outside ASCII.
     let stops = (u8x16::from_slice(bytes) - u8x16::splat(1))
@@ -91,7 +94,8 @@ fn near_zero_wide(bytes: &[u8]) -> Option<usize>
 /// Returns the offset of the first 00, if it is near and only ASCII is before it.
 #[inline(always)]
 fn near_zero(bytes: &[u8]) -> Option<usize>
-    ensures { IfSome result (λ n. (position is_zero bytes.now ≡ Some n) × (is_utf8 (take n bytes.now) ≡ true)) }
+    ensures { IfSome result
+        (λ n. (position is_zero bytes.now ≡ Some n) × (is_utf8 (take n bytes.now) ≡ true)) }
 {
     if bytes.len() > 16 {
         return near_zero_wide(bytes);

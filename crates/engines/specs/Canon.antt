@@ -1,5 +1,6 @@
 -- What `canon` writes.
-use Rattle.std.specs.Prelude.{ℕ, nat_lt, List, [], ◌++◌, codes, Bool, true, false, Option, Some, None, if◌then◌else◌}
+use Rattle.std.specs.Prelude.{ℕ, nat_lt, List, [], ◌++◌, codes, Bool, true, false, Option, Some}
+use Rattle.std.specs.Prelude.{None, if◌then◌else◌}
 use Rattle.hex.specs.Hex.{encode_lower}
 use Rattle.bson_elem.specs.{Tree, document, elements}
 use Rattle.bson_doc.specs.{canonical_len, plain}
@@ -13,7 +14,8 @@ in_form true bytes = encode_lower bytes
 -- the canonical form of a document, if it has no more bytes than the limit
 abbrev pub canon_of : ℕ → Bool → Tree → Option (List ℕ)
 canon_of limit hex t =
-    if nat_lt limit (canonical_len t) then None else Some (in_form hex (document (elements (plain t))))
+    if nat_lt limit (canonical_len t) then None
+    else Some (in_form hex (document (elements (plain t))))
 
 -- the end of a line, where there is one
 abbrev pub line_end : Bool → List ℕ
@@ -29,6 +31,7 @@ abbrev pub joined_by : Bool → Bool → List ℕ → List ℕ
 joined_by false = plainly
 joined_by true = hex_line
 
--- what `canon` writes for bytes, as bytes or as hexadecimal text, and whether it ends with a fault line
+-- what `canon` writes for bytes, as bytes or as hexadecimal text, and whether it ends with a fault
+-- line
 abbrev pub CanonText : ℕ → Bool → List ℕ → List ℕ → Bool → Type 0
 CanonText limit hex = IsWholeText (canon_of limit hex) (joined_by hex)

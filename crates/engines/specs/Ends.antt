@@ -1,5 +1,7 @@
--- How a client stands that makes one call after another, each of which is complete before the next one.
-use Rattle.std.specs.Prelude.{◌≡◌, ℕ, ◌+◌, pos, List, [], ◌∷◌, ◌++◌, Option, None, Some, Bool, true, false}
+-- How a client stands that makes one call after another, each of which is complete before the next
+-- one.
+use Rattle.std.specs.Prelude.{◌≡◌, ℕ, ◌+◌, pos, List, [], ◌∷◌, ◌++◌, Option, None, Some, Bool, true}
+use Rattle.std.specs.Prelude.{false}
 use Rattle.std.specs.Io.KnownBytes.{Appends}
 use Rattle.bson_elem.specs.{Tree}
 use Rattle.wire_msg.specs.{Message, SpellsMsg, body_alone}
@@ -8,9 +10,10 @@ use Rattle.wire_peer.specs.declared.call_table.ReadyReply.{ReadyReply}
 use Rattle.wire_peer.specs.declared.calls.CallKind.TheVariants.{Plain}
 use Rattle.wire_peer.specs.declared.client_state.ClientState.TheVariants.{Open}
 
--- An open client has made so many calls, whose requests were sent: these are outstanding, this reply is ready, and the next
--- call has this number, and the id after it.
-pub record Stands (made : ℕ) (calls : Table) (reply : Option ReadyReply) (client : ClientSeen) : Type 0 where
+-- An open client has made so many calls, whose requests were sent: these are outstanding, this
+-- reply is ready, and the next call has this number, and the id after it.
+pub record Stands (made : ℕ) (calls : Table) (reply : Option ReadyReply) (client : ClientSeen) :
+    Type 0 where
   pub number : client.requests.next_number ≡ Some made
   pub id : client.requests.next_id ≡ pos (made + 1)
   pub outstanding : client.requests.outstanding ≡ calls
@@ -37,7 +40,8 @@ IsFed k false = Awaits k
 
 -- ---- what came and went
 
--- the bytes that came and of which nothing was made yet: those of the current message, and what is held behind them
+-- the bytes that came and of which nothing was made yet: those of the current message, and what is
+-- held behind them
 abbrev pub arrived : ClientSeen → List ℕ → List ℕ
 arrived client piece = client.held ++ piece
 

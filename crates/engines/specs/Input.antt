@@ -1,5 +1,6 @@
 -- The bytes that an input stands for: its own, or with `--hex` those that its text spells.
-use Rattle.std.specs.Prelude.{ℕ, ◌==◌, ◌||◌, Bool, true, false, not, List, length, filter, Result, Ok, Err}
+use Rattle.std.specs.Prelude.{ℕ, ◌==◌, ◌||◌, Bool, true, false, not, List, length, filter, Result}
+use Rattle.std.specs.Prelude.{Ok, Err}
 use Rattle.hex.specs.Hex.{decode_of}
 use Rattle.hex.specs.declared.error.FromHexError.{FromHexError}
 use Rattle.hex.specs.declared.error.FromHexError.TheVariants.{InvalidHexCharacter, OddLength}
@@ -14,7 +15,8 @@ is_space b = b == 32 || (b == 9 || (b == 10 || b == 13))
 abbrev pub packed : List ℕ → List ℕ
 packed text = filter (λ b. not (is_space b)) text
 
--- where packed text is at fault: at its end where its length is odd, else at the first byte that is no digit
+-- where packed text is at fault: at its end where its length is odd, else at the first byte that is
+-- no digit
 abbrev pub offset_of : List ℕ → FromHexError → ℕ
 offset_of text OddLength = length text
 offset_of text (InvalidHexCharacter c index) = index

@@ -6,7 +6,8 @@ use Rattle.wire_msg.specs.declared.fault.MsgCause.{MsgCause}
 use Rattle.wire_msg.specs.{fault_text}
 use Rattle.engines.specs.FaultLine.{fault_line}
 use Rattle.engines.specs.declared.input_fault.InputFault.{InputFault}
-use Rattle.engines.specs.declared.input_fault.InputFault.TheVariants.{Hex, Bson, TooLarge, Msg, EndedInside, Script}
+use Rattle.engines.specs.declared.input_fault.InputFault.TheVariants.{Hex, Bson, TooLarge, Msg}
+use Rattle.engines.specs.declared.input_fault.InputFault.TheVariants.{EndedInside, Script}
 
 -- the line of a fault in hexadecimal text
 abbrev pub hex_line : ℕ → List ℕ

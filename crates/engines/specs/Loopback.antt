@@ -1,4 +1,5 @@
--- What the calls of `loop` send and receive, and what it writes: a line for each call, and a last one.
+-- What the calls of `loop` send and receive, and what it writes: a line for each call, and a last
+-- one.
 use Rattle.std.specs.Prelude.{◌≡◌, ℕ, ◌+◌, zero, suc, pos, List, [], ◌++◌, codes, Option}
 use Rattle.std.specs.Fmt.{decimal}
 use Rattle.std.specs.Io.KnownBytes.{Appends}
@@ -22,11 +23,12 @@ abbrev pub requests_bytes : ℕ → List ℕ
 requests_bytes zero = []
 requests_bytes (suc k) = requests_bytes k ++ request_bytes k
 
--- Where these bytes had arrived, known bytes grew by some that put the reply to the call of this number in front of what has arrived
--- now.
+-- Where these bytes had arrived, known bytes grew by some that put the reply to the call of this
+-- number in front of what has arrived now.
 abbrev pub GetsReply : ℕ → Option (List ℕ) → Option (List ℕ) → List ℕ → List ℕ → Type 0
 GetsReply k old new before after =
-    (got : List ℕ) × (reply : List ℕ) × Appends old new got × IsReply (call_body k) reply × (before ++ got ≡ reply ++ after)
+    (got : List ℕ) × (reply : List ℕ) × Appends old new got × IsReply (call_body k) reply
+    × (before ++ got ≡ reply ++ after)
 
 -- ---- the text
 

@@ -1,5 +1,6 @@
 -- What `msg` writes for messages back to back.
-use Rattle.std.specs.Prelude.{◌≡◌, ◌⊎◌, ℕ, ◌+◌, List, [], ◌∷◌, ◌++◌, flat_map, Bool, Option, None, Some}
+use Rattle.std.specs.Prelude.{◌≡◌, ◌⊎◌, ℕ, ◌+◌, List, [], ◌∷◌, ◌++◌, flat_map, Bool, Option, None}
+use Rattle.std.specs.Prelude.{Some}
 use Rattle.wire_msg.specs.declared.fault.MsgFault.{MsgFault}
 use Rattle.wire_msg.specs.{IsBad, IsOpen, Message, Split, message_len}
 use Rattle.wire_text.specs.{message_text}
@@ -11,21 +12,23 @@ abbrev pub messages_len : List Message → ℕ
 messages_len [] = 0
 messages_len (m ∷ ms) = message_len m.content + messages_len ms
 
--- The last line, if there is one, where the rest begins at this offset: that the input ends inside a message, or that of
--- the rest's fault, which is told at its offset in the input.
+-- The last line, if there is one, where the rest begins at this offset: that the input ends inside
+-- a message, or that of the rest's fault, which is told at its offset in the input.
 abbrev pub IsLastMsg : ℕ → ℕ → List ℕ → Option (List ℕ) → Type 0
 IsLastMsg limit start [] last = last ≡ None
 IsLastMsg limit start (b ∷ bs) last =
     (IsOpen limit (b ∷ bs) × (last ≡ Some (ended_inside_line start)))
     ⊎ ((f : MsgFault) × IsBad limit (b ∷ bs) f × (last ≡ Some (msg_line (start + f.at) f.cause)))
 
--- The bytes are split into messages within the limit and a rest: the texts of the messages, joined, and the last line.
+-- The bytes are split into messages within the limit and a rest: the texts of the messages, joined,
+-- and the last line.
 abbrev pub MessagesAre : ℕ → List ℕ → List ℕ → Option (List ℕ) → Type 0
 MessagesAre limit bytes texts last =
     (messages : List Message) × (rest : List ℕ) × Split limit bytes messages rest
     × (texts ≡ flat_map message_text messages) × IsLastMsg limit (messages_len messages) rest last
 
--- What `msg` writes for bytes, and whether it ends with a fault line. The message limit is 48,000,000 bytes.
+-- What `msg` writes for bytes, and whether it ends with a fault line. The message limit is
+-- 48,000,000 bytes.
 abbrev pub MsgText : List ℕ → List ℕ → Bool → Type 0
 MsgText bytes text fault =
     (texts : List ℕ) × (last : Option (List ℕ)) × MessagesAre 48000000 bytes texts last

@@ -14,5 +14,6 @@ abbrev pub IsOutput : (List ℕ → List ℕ → Bool → Type 0) → Bool → L
 IsOutput Text hex input text fault = IsTextOf Text (bytes_of hex input) text fault
 
 -- known bytes grow by a text, and fault says whether it ends with a fault line
-abbrev pub AppendsText : (List ℕ → Bool → Type 0) → Bool → Option (List ℕ) → Option (List ℕ) → Type 0
+abbrev pub AppendsText : (List ℕ → Bool → Type 0) → Bool → Option (List ℕ) → Option (List ℕ)
+    → Type 0
 AppendsText IsText fault old new = (text : List ℕ) × IsText text fault × Appends old new text

@@ -13,8 +13,8 @@ abbrev pub last_of : Option ℕ → Option (List ℕ)
 last_of None = None
 last_of (Some line) = Some (script_line line)
 
--- What `play` writes for a script, and whether it ends with a fault line: the text of the lines up to one at fault, and then the
--- line of that.
+-- What `play` writes for a script, and whether it ends with a fault line: the text of the lines up
+-- to one at fault, and then the line of that.
 abbrev pub ScriptText : List ℕ → List ℕ → Bool → Type 0
 ScriptText script text fault =
     (texts : List ℕ) × (line : Option ℕ) × TextUpTo script texts line

@@ -1,6 +1,7 @@
 //! A writer behind a buffer of a fixed size.
 
-ghost use Rattle.std.specs.Prelude.{◌≡◌, ◌<◌, ◌≤◌, [], IfOk, OnOk, drop, length, min, vec_capacity, vec_len};
+ghost use Rattle.std.specs.Prelude.{◌≡◌, ◌<◌, ◌≤◌, [], IfOk, OnOk, drop, length, min, vec_capacity};
+ghost use Rattle.std.specs.Prelude.{vec_len};
 ghost use Rattle.std.specs.Io.{WritesAtMost};
 ghost use Rattle.std.specs.Io.KnownBytes.{Appends, Keeps, WriteAppends};
 ghost use Rattle.engines.specs.Buffered.{buffered_contents};
@@ -35,8 +36,8 @@ impl<W: Write> Buffered<W> {
         inner
     }
 
-    /// Gives the inner writer the front of the buffer, as much as it takes in one call. Errs if that
-    /// call fails or takes nothing.
+    /// Gives the inner writer the front of the buffer, as much as it takes in one call. Errs if
+    /// that call fails or takes nothing.
     fn pass_on(&mut self) -> io::Result<()>
         requires { 0 < vec_len self.old.buffer }
         ensures bytes { Keeps (buffered_contents W.contents self.old)
@@ -69,7 +70,8 @@ impl<W: Write> Buffered<W> {
         Err(io::Error::from(ErrorKind::Interrupted))
     }
 
-    /// Writes `bytes` for which the buffer has no room left. It stands apart, so that the test for room is inlined.
+    /// Writes `bytes` for which the buffer has no room left. It stands apart, so that the test for
+    /// room is inlined.
     #[cold]
     #[inline(never)]
     fn write_all_past(&mut self, bytes: &[u8]) -> io::Result<()>

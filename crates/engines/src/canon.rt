@@ -1,6 +1,7 @@
 //! The command `canon`: the canonical form of each document.
 
-ghost use Rattle.std.specs.Prelude.{◌≡◌, ◌⊎◌, ◌≤◌, ◌<◌, ◌^◌, IfErr, IfOk, IfSome, None, OnOk, Some, false, if◌then◌else◌, length, nat_lt, true};
+ghost use Rattle.std.specs.Prelude.{◌≡◌, ◌⊎◌, ◌≤◌, ◌<◌, ◌^◌, IfErr, IfOk, IfSome, None, OnOk, Some};
+ghost use Rattle.std.specs.Prelude.{false, if◌then◌else◌, length, nat_lt, true};
 ghost use Rattle.std.specs.Io.KnownBytes.{Appends, IsAtEnd, Keeps};
 ghost use Rattle.engines.specs.Canon.{CanonText, canon_of, hex_line, in_form, line_end};
 ghost use Rattle.engines.specs.Documents.{IsWholeText, IsWritten};
@@ -28,8 +29,8 @@ struct Canon {
 }
 
 impl Canon {
-    /// Writes `bytes`, the canonical form of a document. Returns false, with nothing written, if they are
-    /// more than the limit.
+    /// Writes `bytes`, the canonical form of a document. Returns false, with nothing written, if
+    /// they are more than the limit.
     fn write_bytes<W: Write>(&self, bytes: &[u8], out: &mut W) -> Result<bool, RunEnd>
         ensures written { IfOk result (λ there. IsWritten
             (if nat_lt self.now.limit (length bytes.now) then None
@@ -66,12 +67,12 @@ fn write_line_end<W: Write>(any: bool, out: &mut W) -> Result<(), RunEnd>
 }
 
 impl Canon {
-    /// Writes the canonical forms in one line, and then the line of the first fault. Returns true if there
-    /// is one.
+    /// Writes the canonical forms in one line, and then the line of the first fault. Returns true
+    /// if there is one.
     fn write_hex_line<W: Write>(&self, bytes: &[u8], out: &mut W) -> Result<bool, RunEnd>
         ensures written { IfOk result (λ fault.
-            AppendsText (IsWholeText (canon_of self.now.limit self.now.hex) hex_line bytes.now) fault
-            (W.contents out.old) (W.contents out.new)) }
+            AppendsText (IsWholeText (canon_of self.now.limit self.now.hex) hex_line bytes.now)
+            fault (W.contents out.old) (W.contents out.new)) }
         ensures stopped { IfErr result (λ end. is_done end ≡ false) }
     {
         let walk = write_each(self, bytes, out)?;
@@ -116,8 +117,8 @@ impl Engine for Canon {
     }
 }
 
-/// Writes the canonical form of each document in the input. If `hex` is true, the input is hexadecimal
-/// text, and so is the output, in one line.
+/// Writes the canonical form of each document in the input. If `hex` is true, the input is
+/// hexadecimal text, and so is the output, in one line.
 ///
 /// The form of a document is written before that of the next one is made.
 pub fn run_canon<R: Read, W: Write>(

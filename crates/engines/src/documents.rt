@@ -4,7 +4,8 @@ ghost use Rattle.std.specs.Prelude.{◌≡◌, ℕ, Bool, List, Option, IfErr, I
 ghost use Rattle.std.specs.Io.KnownBytes.{Appends};
 ghost use Rattle.bson_elem.specs.{Spells, Tree};
 ghost use Rattle.bson_raw.specs.{document_bytes, is_plain};
-ghost use Rattle.engines.specs.Documents.{IsWholeText, IsWritten, TextsAre, is_there, or_nothing, plainly};
+ghost use Rattle.engines.specs.Documents.{IsWholeText, IsWritten, TextsAre, is_there, or_nothing};
+ghost use Rattle.engines.specs.Documents.{plainly};
 ghost use Rattle.engines.specs.InputFault.{line_of};
 ghost use Rattle.engines.specs.Output.{AppendsText};
 ghost use Rattle.engines.specs.Run.{is_done};
@@ -23,15 +24,16 @@ pub trait EachDocument {
     // Whether it may want memory.
     ghost wants_memory: { Self → Bool };
 
-    /// Writes the text of `document`, where `canonical` says whether it is in canonical form. Returns
-    /// false, with nothing written, if the document has no text.
+    /// Writes the text of `document`, where `canonical` says whether it is in canonical form.
+    /// Returns false, with nothing written, if the document has no text.
     fn write_document<W: Write>(
         &self,
         document: RawDocument<'_>,
         canonical: bool,
         out: &mut W,
     ) -> Result<bool, RunEnd>
-        requires { (t : Tree) → Spells t (document_bytes document) → canonical ≡ is_plain false 0 t }
+        requires { (t : Tree) → Spells t (document_bytes document)
+            → canonical ≡ is_plain false 0 t }
         ensures written { (t : Tree) → Spells t (document_bytes document.entry)
             → IfOk result (λ there. IsWritten (text_of self.now t) there
             (W.contents out.old) (W.contents out.new)) }
@@ -55,7 +57,8 @@ pub fn write_each<E: EachDocument, W: Write>(
     out: &mut W,
 ) -> Result<Walk, RunEnd>
     ensures written { IfOk result (λ walk.
-        (texts : List ℕ) × TextsAre (E.text_of each.now) bytes.now walk.any texts (line_of walk.fault)
+        (texts : List ℕ)
+        × TextsAre (E.text_of each.now) bytes.now walk.any texts (line_of walk.fault)
         × Appends (W.contents out.old) (W.contents out.new) texts) }
     ensures stopped { IfErr result (λ end. (is_done end ≡ false)
         × (end ≡ RunEnd.Memory → E.wants_memory each.now ≡ true)) }
@@ -100,8 +103,8 @@ pub fn write_last<W: Write>(fault: Option<InputFault>, out: &mut W) -> Result<bo
     }
 }
 
-/// Writes the texts of the documents in `bytes`, and then the line of the first fault. Returns true if
-/// there is one.
+/// Writes the texts of the documents in `bytes`, and then the line of the first fault. Returns true
+/// if there is one.
 pub fn write_documents<E: EachDocument, W: Write>(
     each: &E,
     bytes: &[u8],

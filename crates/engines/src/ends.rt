@@ -1,10 +1,12 @@
 //! The two ends of a connection, a client and a server, each with its link.
 
-ghost use Rattle.std.specs.Prelude.{◌≡◌, ◌+◌, ◌++◌, ◌<◌, ◌^◌, ◌↔◌, ℕ, [], List, IfErr, IfOk, IsTrue, Ok, OnOk, false, pos};
+ghost use Rattle.std.specs.Prelude.{◌≡◌, ◌+◌, ◌++◌, ◌<◌, ◌^◌, ◌↔◌, ℕ, [], List, IfErr, IfOk};
+ghost use Rattle.std.specs.Prelude.{IsTrue, Ok, OnOk, false, pos};
 ghost use Rattle.std.specs.Io.KnownBytes.{Appends, Keeps};
 ghost use Rattle.bson_elem.specs.{Spells, Tree};
 ghost use Rattle.bson_raw.specs.{document_bytes};
-ghost use Rattle.engines.specs.Ends.{Awaits, HasReply, IsEchoed, IsFed, IsIdle, IsReply, Receives, arrived};
+ghost use Rattle.engines.specs.Ends.{Awaits, HasReply, IsEchoed, IsFed, IsIdle, IsReply, Receives};
+ghost use Rattle.engines.specs.Ends.{arrived};
 ghost use Rattle.engines.specs.Run.{is_done};
 ghost use Rattle.wire_msg.specs.{Carries, Content, body_alone, canonical};
 ghost use Rattle.wire_peer.specs.declared.calls.CallKind.TheVariants.{Plain};
@@ -40,7 +42,8 @@ impl<P: Drop, L: Link + Drop> End<P, L> {
     /// Receives a piece, where none is held. Errs if the link failed or ended.
     fn pull(&mut self) -> Result<(), RunEnd>
         ensures peer { self.new.peer ≡ self.old.peer }
-        ensures received { (more : List ℕ) × Appends (L.received self.old.link) (L.received self.new.link) more
+        ensures received { (more : List ℕ)
+            × Appends (L.received self.old.link) (L.received self.new.link) more
             × (self.new.inlet ≡ self.old.inlet ++ more) }
         ensures sent { Keeps (L.sent self.old.link) (L.sent self.new.link) }
         ensures stopped { IfErr result (λ end. is_done end ≡ false) }
@@ -56,12 +59,14 @@ impl<L: Link + Drop> End<Client, L> {
     /// Makes a call and sends its request. Errs if the link failed or memory ran out.
     pub fn call(&mut self, payload: Payload<'_>) -> Result<CallNo, RunEnd>
         ensures called { (k : ℕ) → k < 2 ^ 8 → IsIdle k self.old.peer
-            → IfOk result (λ call. (call.number ≡ k) × (call.id ≡ pos (k + 1)) × Awaits k self.new.peer) }
+            → IfOk result
+            (λ call. (call.number ≡ k) × (call.id ≡ pos (k + 1)) × Awaits k self.new.peer) }
         ensures sent { (k : ℕ) → k < 2 ^ 8 → IsIdle k self.old.peer
             → OnOk result (Appends (L.sent self.old.link) (L.sent self.new.link)
             (canonical (request (pos (k + 1)) Plain (content_of payload.entry)))) }
         ensures received { Keeps (L.received self.old.link) (L.received self.new.link) }
-        ensures arrived { arrived self.new.peer self.new.inlet ≡ arrived self.old.peer self.old.inlet }
+        ensures arrived { arrived self.new.peer self.new.inlet
+            ≡ arrived self.old.peer self.old.inlet }
         ensures stopped { IfErr result (λ end. is_done end ≡ false) }
     {
         match self.peer.call(payload) {
@@ -92,8 +97,8 @@ impl<L: Link + Drop> End<Client, L> {
         }
     }
 
-    /// Receives until the reply is ready. Errs if the link failed or ended, if what came closed the client, or if memory ran
-    /// out.
+    /// Receives until the reply is ready. Errs if the link failed or ended, if what came closed the
+    /// client, or if memory ran out.
     pub fn receive_reply(&mut self) -> Result<(), RunEnd>
         requires { MayTake self.old.peer }
         ensures ready { (k : ℕ) → Awaits k self.old.peer → OnOk result (HasReply k self.new.peer) }
@@ -112,13 +117,15 @@ impl<L: Link + Drop> End<Client, L> {
         Err(RunEnd::InOut)
     }
 
-    /// Feeds the client what came. Returns true if a reply is ready. Errs if what came closed the client, or memory ran
-    /// out.
+    /// Feeds the client what came. Returns true if a reply is ready. Errs if what came closed the
+    /// client, or memory ran out.
     fn feed(&mut self) -> Result<bool, RunEnd>
         requires { MayTake self.old.peer }
         ensures takes { result ≡ Ok false → MayTake self.new.peer }
-        ensures fed { (k : ℕ) → Awaits k self.old.peer → IfOk result (λ ready. IsFed k ready self.new.peer) }
-        ensures arrived { arrived self.new.peer self.new.inlet ≡ arrived self.old.peer self.old.inlet }
+        ensures fed { (k : ℕ) → Awaits k self.old.peer
+            → IfOk result (λ ready. IsFed k ready self.new.peer) }
+        ensures arrived { arrived self.new.peer self.new.inlet
+            ≡ arrived self.old.peer self.old.inlet }
         ensures link { self.new.link ≡ self.old.link }
         ensures stopped { IfErr result (λ end. is_done end ≡ false) }
     {
@@ -137,8 +144,10 @@ impl<L: Link + Drop> End<Client, L> {
 
     /// Lets go of the reply that is ready. Errs, and keeps it, if it carries anything but `body`.
     pub fn take_reply(&mut self, body: RawDocument<'_>) -> Result<(), RunEnd>
-        ensures complete { (k : ℕ) → HasReply k self.old.peer → OnOk result (IsIdle (k + 1) self.new.peer) }
-        ensures reply { (t : Tree) → Spells t (document_bytes body.entry) → OnOk result (IsReply t self.old.peer.held) }
+        ensures complete { (k : ℕ) → HasReply k self.old.peer
+            → OnOk result (IsIdle (k + 1) self.new.peer) }
+        ensures reply { (t : Tree) → Spells t (document_bytes body.entry)
+            → OnOk result (IsReply t self.old.peer.held) }
         ensures rest { OnOk result (arrived self.new.peer self.new.inlet ≡ self.old.inlet) }
         ensures link { self.new.link ≡ self.old.link }
         ensures stopped { IfErr result (λ end. is_done end ≡ false) }
@@ -154,15 +163,16 @@ impl<L: Link + Drop> End<Client, L> {
 
 /// Returns true if a payload is `body` and no document sequence.
 fn is_alone(payload: Payload<'_>, body: RawDocument<'_>) -> bool
-    ensures { (c : Content) (t : Tree) → Carries payload.entry c → Spells t (document_bytes body.entry)
+    ensures { (c : Content) (t : Tree) → Carries payload.entry c
+        → Spells t (document_bytes body.entry)
         → (IsTrue result ↔ (c ≡ body_alone t)) }
 {
     payload.body().as_bytes() == body.as_bytes() && payload.sequences().next().is_none()
 }
 
 impl<L: Link + Drop> End<Server, L> {
-    /// Receives until a request waits. Errs if the link failed or ended, if what came closed the server, or if memory ran
-    /// out.
+    /// Receives until a request waits. Errs if the link failed or ended, if what came closed the
+    /// server, or if memory ran out.
     pub fn receive_request(&mut self) -> Result<(), RunEnd>
         ensures { IfErr result (λ end. is_done end ≡ false) }
     {
@@ -191,10 +201,11 @@ impl<L: Link + Drop> End<Server, L> {
         }
     }
 
-    /// Answers the request that waits, and sends the reply. Errs if the link failed, if the server closed, or if memory ran
-    /// out.
+    /// Answers the request that waits, and sends the reply. Errs if the link failed, if the server
+    /// closed, or if memory ran out.
     pub fn answer(&mut self, logged: &mut Logged<Echo>) -> Result<(), RunEnd>
-        ensures echoed { OnOk result (IsEchoed (log_of logged.old.entries.items) (log_of logged.new.entries.items)) }
+        ensures echoed { OnOk result
+            (IsEchoed (log_of logged.old.entries.items) (log_of logged.new.entries.items)) }
         ensures sent { OnOk result (self.new.peer.output ≡ []) }
         ensures stopped { IfErr result (λ end. is_done end ≡ false) }
     {

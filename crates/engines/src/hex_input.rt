@@ -27,8 +27,8 @@ fn pack(text: &mut Vec<u8>)
     text.retain(|b| !is_white_space(*b));
 }
 
-/// Returns the bytes that `text` spells, in hexadecimal digits and white space. An offset is counted
-/// without the white space.
+/// Returns the bytes that `text` spells, in hexadecimal digits and white space. An offset is
+/// counted without the white space.
 pub fn decode_hex(alloc: Global, mut text: Vec<u8>) -> Result<Input, AllocError>
     ensures { IfOk result (λ input. read_bytes input ≡ bytes_of true text.items) }
 {

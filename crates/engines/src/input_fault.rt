@@ -19,8 +19,8 @@ pub enum InputFault {
     Bson(BsonFault),
     /// The canonical form of the document at `offset` has too many bytes for a document.
     TooLarge { offset: usize },
-    /// A message has this fault. If the fault is a document's own, its offset inside the document is
-    /// counted from the document's first byte.
+    /// A message has this fault. If the fault is a document's own, its offset inside the document
+    /// is counted from the document's first byte.
     Msg(MsgFault),
     /// The input ends inside the message at `offset`.
     EndedInside { offset: usize },

@@ -1,16 +1,18 @@
-//! The laws that make the texts of commands exact. The contract of each function is the law; the function does nothing.
+//! The laws that make the texts of commands exact. The contract of each function is the law; the
+//! function does nothing.
 
 ghost use Rattle.std.specs.Prelude.{◌≡◌, Bool, List, Option, ℕ};
 ghost use Rattle.bson_elem.specs.{IsBytes, Tree};
 ghost use Rattle.engines.specs.Documents.{IsWholeText};
 ghost use Rattle.engines.specs.Msg.{MsgText};
 
-/// Proves that bytes have at most one text as documents, which ends with a fault line or doesn't, whatever a command writes
-/// for a document and however it joins the texts.
+/// Proves that bytes have at most one text as documents, which ends with a fault line or doesn't,
+/// whatever a command writes for a document and however it joins the texts.
 pub fn one_text()
     ensures { (text_of : Tree → Option (List ℕ)) (joined : Bool → List ℕ → List ℕ)
         (bytes text other : List ℕ) (fault other_fault : Bool) → IsBytes bytes
-        → IsWholeText text_of joined bytes text fault → IsWholeText text_of joined bytes other other_fault
+        → IsWholeText text_of joined bytes text fault
+        → IsWholeText text_of joined bytes other other_fault
         → (text ≡ other) × (fault ≡ other_fault) }
 {}
 

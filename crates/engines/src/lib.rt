@@ -1,12 +1,15 @@
-//! The commands of the program `bsonwire`, each a function over a writer, and all but `loop` over a reader.
+//! The commands of the program `bsonwire`, each a function over a writer, and all but `loop` over a
+//! reader.
 //!
-//! `run_dump`, `run_check`, `run_canon`, `run_msg` and `run_play` read all that the reader has, write one text for it, and tell how
-//! that ended. Documents or messages stand back to back in the input, as bytes or as hexadecimal text; the input of `run_play`
-//! is a script of events. A fault in the input is told by the last line of the text. Nothing is written before the input was
-//! read to its end. `run_loop` reads nothing: it makes calls over a connection of the program with itself.
+//! `run_dump`, `run_check`, `run_canon`, `run_msg` and `run_play` read all that the reader has,
+//! write one text for it, and tell how that ended. Documents or messages stand back to back in the
+//! input, as bytes or as hexadecimal text; the input of `run_play` is a script of events. A fault
+//! in the input is told by the last line of the text. Nothing is written before the input was read
+//! to its end. `run_loop` reads nothing: it makes calls over a connection of the program with
+//! itself.
 //!
-//! Stands on bson_doc, wire_msg, wire_peer and wire_play. bsonwire stands on it. Read first: `run`, and
-//! then `dump`.
+//! Stands on bson_doc, wire_msg, wire_peer and wire_play. bsonwire stands on it. Read first: `run`,
+//! and then `dump`.
 #![tactic(auto)]
 
 mod buffered;

@@ -3,7 +3,8 @@
 ghost use Rattle.std.specs.Prelude.{◌≡◌, ◌≢◌, ◌+◌, ℕ, List, [], IfErr, IfOk, OnOk, false, pos};
 ghost use Rattle.std.specs.Io.KnownBytes.{Appends};
 ghost use Rattle.engines.specs.Ends.{IsEchoed, IsIdle, arrived};
-ghost use Rattle.engines.specs.Loopback.{AppendsUpTo, GetsReply, call_body, call_line, last_line, loop_text, request_bytes, requests_bytes};
+ghost use Rattle.engines.specs.Loopback.{AppendsUpTo, GetsReply, call_body, call_line, last_line};
+ghost use Rattle.engines.specs.Loopback.{loop_text, request_bytes, requests_bytes};
 ghost use Rattle.engines.specs.Run.{is_done};
 ghost use Rattle.wire_msg.specs.{BufCarries, body_alone};
 ghost use Rattle.wire_peer.specs.{log_of};
@@ -28,7 +29,8 @@ struct Loopback<L> {
 }
 
 impl<L: Link + Drop> Loopback<L> {
-    /// Returns a client and a server that have made and answered nothing, each with its link. Errs if memory runs out.
+    /// Returns a client and a server that have made and answered nothing, each with its link. Errs
+    /// if memory runs out.
     fn new(alloc: Global, near: L, far: L) -> Result<Loopback<L>, AllocError>
         ensures { IfOk result (λ loopback. IsIdle 0 (loopback.client.peer)) }
     {
@@ -45,18 +47,22 @@ impl<L: Link + Drop> Loopback<L> {
         })
     }
 
-    /// Makes the call of number `k`, answers it, and waits for its reply. Errs if the reply carries anything but what was sent,
-    /// if a link failed or ended, if an end was closed, or if memory ran out.
+    /// Makes the call of number `k`, answers it, and waits for its reply. Errs if the reply carries
+    /// anything but what was sent, if a link failed or ended, if an end was closed, or if memory
+    /// ran out.
     fn call(&mut self, alloc: Global, k: u8) -> Result<CallNo, RunEnd>
         requires { IsIdle k (self.old.client.peer) }
         ensures number { IfOk result (λ call. (call.number ≡ k) × (call.id ≡ pos (k + 1))) }
         ensures complete { OnOk result (IsIdle (k + 1) (self.new.client.peer)) }
-        ensures sent { OnOk result (Appends (L.sent self.old.client.link) (L.sent self.new.client.link)
+        ensures sent { OnOk result
+            (Appends (L.sent self.old.client.link) (L.sent self.new.client.link)
             (request_bytes k)) }
         ensures echoed { OnOk result (IsEchoed (log_of self.old.logged.entries.items)
             (log_of self.new.logged.entries.items)) }
-        ensures reply { OnOk result (GetsReply k (L.received self.old.client.link) (L.received self.new.client.link)
-            (arrived self.old.client.peer self.old.client.inlet) (arrived self.new.client.peer self.new.client.inlet)) }
+        ensures reply { OnOk result
+            (GetsReply k (L.received self.old.client.link) (L.received self.new.client.link)
+            (arrived self.old.client.peer self.old.client.inlet)
+            (arrived self.new.client.peer self.new.client.inlet)) }
         ensures stopped { IfErr result (λ end. is_done end ≡ false) }
     {
         let payload = payload_of(alloc, k)?;
@@ -88,8 +94,8 @@ fn payload_of(alloc: Global, number: u8) -> Result<PayloadBuf, RunEnd>
     }
 }
 
-/// Returns the stream of an accepted connection if its other end is at `own`. Errs if not, since another program may have been
-/// there first.
+/// Returns the stream of an accepted connection if its other end is at `own`. Errs if not, since
+/// another program may have been there first.
 fn only_from<S: Drop>(own: SocketAddr, accepted: (S, SocketAddr)) -> io::Result<S>
     ensures { IfOk result (λ stream. (accepted.1 ≡ own) × (stream ≡ accepted.0)) }
 {
@@ -110,9 +116,11 @@ fn connect<R: Net>(rt: &R) -> io::Result<(R::Stream, R::Stream)> {
 
 /// Writes `line` and flushes. Errs if the writer does.
 ///
-/// Unlike the contract of `write_all`, that of this says what was written before an error: a beginning of the line.
+/// Unlike the contract of `write_all`, that of this says what was written before an error: a
+/// beginning of the line.
 fn write_line<W: Write>(line: &[u8], out: &mut W) -> Result<(), RunEnd>
-    ensures written { (left : List ℕ) × AppendsUpTo left line.now (W.contents out.old) (W.contents out.new)
+    ensures written { (left : List ℕ)
+        × AppendsUpTo left line.now (W.contents out.old) (W.contents out.new)
         × OnOk result (left ≡ []) }
     ensures stopped { IfErr result (λ end. is_done end ≡ false) }
 {
@@ -159,8 +167,8 @@ fn write_last<W: Write>(alloc: Global, calls: u8, out: &mut W) -> Result<(), Run
     write_line(line.as_bytes(), out)
 }
 
-/// Makes so many calls one after another, writes the line of each when it is complete, and then the last line. Errs if a call
-/// is cut short, if the writer errs, and if memory runs out.
+/// Makes so many calls one after another, writes the line of each when it is complete, and then the
+/// last line. Errs if a call is cut short, if the writer errs, and if memory runs out.
 fn make_calls<L: Link + Drop, W: Write>(
     alloc: Global,
     loopback: &mut Loopback<L>,
@@ -171,7 +179,8 @@ fn make_calls<L: Link + Drop, W: Write>(
     ensures written { (left : List ℕ) × AppendsUpTo left (loop_text calls)
         (W.contents out.old) (W.contents out.new) × OnOk result (left ≡ []) }
     ensures made { OnOk result (IsIdle calls (loopback.new.client.peer)) }
-    ensures sent { OnOk result (Appends (L.sent loopback.old.client.link) (L.sent loopback.new.client.link)
+    ensures sent { OnOk result
+        (Appends (L.sent loopback.old.client.link) (L.sent loopback.new.client.link)
         (requests_bytes calls)) }
     ensures stopped { IfErr result (λ end. is_done end ≡ false) }
 {
@@ -199,12 +208,12 @@ fn run_calls<R: Net + AllocGlobal, W: Write>(rt: &R, calls: u8, out: &mut W) -> 
     make_calls(alloc, &mut loopback, calls, out)
 }
 
-/// Connects the program to itself over TCP, makes so many calls over that connection, each with the body `{"n": number}`
-/// and answered with the same, and writes a line for each and a last one. The calls are numbered from 0, and their ids
-/// count from 1.
+/// Connects the program to itself over TCP, makes so many calls over that connection, each with the
+/// body `{"n": number}` and answered with the same, and writes a line for each and a last one. The
+/// calls are numbered from 0, and their ids count from 1.
 ///
-/// The line of a call is written when its reply has come and carries what was sent. What a socket carries no contract can say;
-/// so none says that the run is good.
+/// The line of a call is written when its reply has come and carries what was sent. What a socket
+/// carries no contract can say; so none says that the run is good.
 pub fn run_loop<R: Net + AllocGlobal, W: Write>(rt: &R, calls: u8, writer: &mut W) -> RunEnd
     ensures ends { result ≢ RunEnd.Fault }
     ensures written { (left : List ℕ) × AppendsUpTo left (loop_text calls)

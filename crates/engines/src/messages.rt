@@ -24,8 +24,8 @@ fn fault_in_message(start: usize, fault: MsgFault) -> InputFault
     InputFault::Msg(MsgFault { at, cause })
 }
 
-/// Writes the texts of the messages in `bytes`, up to the first fault. Returns that fault, if there is
-/// one.
+/// Writes the texts of the messages in `bytes`, up to the first fault. Returns that fault, if there
+/// is one.
 fn write_each<W: Write>(
     alloc: Global,
     bytes: &[u8],
@@ -54,8 +54,8 @@ fn write_each<W: Write>(
     Ok(None)
 }
 
-/// Writes the texts of the messages in `bytes`, and then the line of the first fault. Returns true if
-/// there is one.
+/// Writes the texts of the messages in `bytes`, and then the line of the first fault. Returns true
+/// if there is one.
 ///
 /// Where memory is refused, the names in a message are compared in pairs.
 pub fn write_messages<W: Write>(alloc: Global, bytes: &[u8], out: &mut W) -> Result<bool, RunEnd>

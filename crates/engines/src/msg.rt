@@ -27,8 +27,8 @@ impl Engine for Msg {
     }
 }
 
-/// Writes the text of each message in the input, which has at most 48,000,000 bytes. If `hex` is true,
-/// the input is hexadecimal text.
+/// Writes the text of each message in the input, which has at most 48,000,000 bytes. If `hex` is
+/// true, the input is hexadecimal text.
 pub fn run_msg<R: Read, W: Write>(
     alloc: Global,
     hex: bool,

@@ -1,6 +1,8 @@
-//! The frame of a command: reads all of the input, decodes it, writes through a buffer, and tells how that ended.
+//! The frame of a command: reads all of the input, decodes it, writes through a buffer, and tells
+//! how that ended.
 
-ghost use Rattle.std.specs.Prelude.{◌≡◌, ◌⊎◌, [], ℕ, Bool, List, IfErr, IfOk, IfSome, IsSome, None, Err, OnOk, Ok, codes, true, false};
+ghost use Rattle.std.specs.Prelude.{◌≡◌, ◌⊎◌, [], ℕ, Bool, List, IfErr, IfOk, IfSome, IsSome, None};
+ghost use Rattle.std.specs.Prelude.{Err, OnOk, Ok, codes, true, false};
 ghost use Rattle.std.specs.Io.KnownBytes.{Appends, IsAtEnd, Keeps};
 ghost use Rattle.std.specs.IoError.{error_kind, raw_os_error};
 ghost use Rattle.engines.specs.Buffered.{buffered_contents};
@@ -39,8 +41,8 @@ pub trait Engine {
     // Whether writing may want memory.
     ghost wants_memory: { Self → Bool };
 
-    /// Writes the text of `bytes`. Returns true if it ends with a fault line. Errs if the writer does, and
-    /// for want of memory.
+    /// Writes the text of `bytes`. Returns true if it ends with a fault line. Errs if the writer
+    /// does, and for want of memory.
     fn write_text<W: Write>(&self, bytes: &[u8], out: &mut W) -> Result<bool, RunEnd>
         ensures written { IfOk result (λ fault. AppendsText (is_text self.now bytes.now) fault
             (W.contents out.old) (W.contents out.new)) }
@@ -50,8 +52,8 @@ pub trait Engine {
 
 /// Writes the text of the whole input. If `hex` is true, the input is hexadecimal text.
 ///
-/// Beside the input, the bytes that it spells and what the engine takes, the only memory is one buffer.
-/// It is taken before the first byte is written.
+/// Beside the input, the bytes that it spells and what the engine takes, the only memory is one
+/// buffer. It is taken before the first byte is written.
 pub fn run<E: Engine, R: Read, W: Write>(
     alloc: Global,
     engine: &E,
@@ -113,8 +115,8 @@ fn read_whole<R: Read>(alloc: Global, reader: &mut R) -> Result<Vec<u8>, RunEnd>
     }
 }
 
-/// Returns the end of a run that meets `error`. A refused allocation has no code of the system; if the error has one, it
-/// is the system that lacks memory, and not this program.
+/// Returns the end of a run that meets `error`. A refused allocation has no code of the system; if
+/// the error has one, it is the system that lacks memory, and not this program.
 pub fn end_of(error: &io::Error) -> RunEnd
     ensures { result ≡ end_of_error (error_kind error.now) (raw_os_error error.now) }
 {

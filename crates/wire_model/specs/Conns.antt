@@ -1,9 +1,12 @@
--- A world: its pool, its connections, each with its two ends, the records of the calls, and one log.
-use Rattle.std.specs.Prelude.{ℕ, zero, suc, pos, ◌≤ℤ◌, FitsSigned, Bool, true, false, if◌then◌else◌, Option, None, Some, List, [], ◌∷◌, ◌++◌, map, slice_get, slice_set}
+-- A world: its pool, its connections, each with its two ends, the records of the calls, and one
+-- log.
+use Rattle.std.specs.Prelude.{ℕ, zero, suc, pos, ◌≤ℤ◌, FitsSigned, Bool, true, false, if◌then◌else◌}
+use Rattle.std.specs.Prelude.{Option, None, Some, List, [], ◌∷◌, ◌++◌, map, slice_get, slice_set}
 use Rattle.std.specs.Int.{w32}
 use Rattle.wire_msg.specs.{Content}
 use Rattle.wire_pool.specs.{IsPoolMax, PoolSeen, new_pool}
-use Rattle.wire_peer.specs.{Asked, ClientSeen, IsLimit, IsWindow, LogEntry, ServerView, new_client, new_server}
+use Rattle.wire_peer.specs.{Asked, ClientSeen, IsLimit, IsWindow, LogEntry, ServerView, new_client}
+use Rattle.wire_peer.specs.{new_server}
 use Rattle.wire_peer.specs.declared.client_state.ClientCause.TheVariants as client_causes
 use Rattle.wire_peer.specs.declared.client_state.ClientState.{ClientState}
 use Rattle.wire_peer.specs.declared.client_state.ClientState.TheVariants.{Open, Closed}
@@ -17,9 +20,9 @@ pub record Record : Type 0 where
   pub parts : List Content
   pub state : State
 
--- A connection: its two ends, the index among the world's calls of each call of its client, by the call's number, and which
--- ways are cut. A raw connection has no client of ours: what stands in its place is closed from the start and has put
--- nothing out.
+-- A connection: its two ends, the index among the world's calls of each call of its client, by the
+-- call's number, and which ways are cut. A raw connection has no client of ours: what stands in its
+-- place is closed from the start and has put nothing out.
 pub record Conn : Type 0 where
   pub raw : Bool
   pub client : ClientSeen
@@ -38,7 +41,8 @@ pub record World (H : Type 0) : Type 0 where
 
 -- a world in which nothing has happened
 abbrev pub opening : {H : Type 0} → WorldLimits → H → World H
-opening l h = record { pool = new_pool l.connections; conns = []; calls = []; log = []; handler = h }
+opening l h =
+    record { pool = new_pool l.connections; conns = []; calls = []; log = []; handler = h }
 
 -- ---- connections, numbered from 1
 
@@ -66,7 +70,8 @@ new_conn l c = record {
 
 -- the client of a raw connection: closed from the start
 abbrev pub no_client : (window limit : ℕ) → ClientSeen
-no_client window limit = record (new_client (pos 1) window limit) { state = Closed client_causes.Ended }
+no_client window limit =
+    record (new_client (pos 1) window limit) { state = Closed client_causes.Ended }
 
 abbrev pub new_raw_conn : WorldLimits → ℕ → Conn
 new_raw_conn l c = record {
@@ -82,14 +87,24 @@ new_raw_conn l c = record {
 
 -- a call that was made; an unacknowledged one is sent, and that is all
 abbrev pub new_record : ℕ → Asked → Record
-new_record c a = record { connection = c; asked = a; parts = []; state = if a.more_to_come then Sent else Pending }
+new_record c a =
+    record
+    { connection = c; asked = a; parts = []; state = if a.more_to_come then Sent else Pending }
 
 -- one more part; with the last one the call is done
 abbrev pub given_record : Record → Content → Bool → Record
-given_record x part last = record { connection = x.connection; asked = x.asked; parts = x.parts ++ part ∷ []; state = if last then Done else x.state }
+given_record x part last =
+    record {
+      connection = x.connection;
+      asked = x.asked;
+      parts = x.parts ++ part ∷ [];
+      state = if last then Done else x.state;
+    }
 
 abbrev pub lost_record : Record → Record
-lost_record x = record { connection = x.connection; asked = x.asked; parts = x.parts; state = lost_state x.state }
+lost_record x =
+    record
+    { connection = x.connection; asked = x.asked; parts = x.parts; state = lost_state x.state }
 
 abbrev pub is_closed : ClientState → Bool
 is_closed Open = false

@@ -1,5 +1,6 @@
 -- Ways that are cut, and connections that are dropped.
-use Rattle.std.specs.Prelude.{ℕ, Bool, true, false, ◌&&◌, ◌||◌, not, if◌then◌else◌, Option, None, Some, List, [], ◌∷◌, map}
+use Rattle.std.specs.Prelude.{ℕ, Bool, true, false, ◌&&◌, ◌||◌, not, if◌then◌else◌, Option, None}
+use Rattle.std.specs.Prelude.{Some, List, [], ◌∷◌, map}
 use Rattle.wire_pool.specs.{cleared_pool, reset_pool}
 use Rattle.wire_peer.specs.{ServerView, closed_for, end_cause, ended}
 use Rattle.wire_model.specs.Conns.{Conn, World, conn_at, conn_set, is_closed, settled}
@@ -36,7 +37,8 @@ all_cut (c ∷ cs) ks = all_cut cs (cut_at c ks)
 
 -- the pool is cleared, and each connection that was idle is cut both ways
 abbrev pub cleared_world : {H : Type 0} → World H → World H
-cleared_world w = settled (record w { pool = cleared_pool w.pool; conns = all_cut w.pool.idle w.conns })
+cleared_world w =
+    settled (record w { pool = cleared_pool w.pool; conns = all_cut w.pool.idle w.conns })
 
 -- each client that isn't told the end yet is told it; raw connections are left alone
 abbrev pub restarted : Conn → Conn
@@ -51,4 +53,6 @@ is_empty (x ∷ xs) = false
 
 -- a connection that may be used again: not cut, its client open, and none of its calls outstanding
 abbrev pub is_healthy : Conn → Bool
-is_healthy k = not (k.up_cut || k.down_cut) && (not (is_closed k.client.state) && is_empty k.client.requests.outstanding)
+is_healthy k =
+    not (k.up_cut || k.down_cut)
+    && (not (is_closed k.client.state) && is_empty k.client.requests.outstanding)

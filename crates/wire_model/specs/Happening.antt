@@ -1,5 +1,7 @@
 -- What an event does in a world.
-use Rattle.std.specs.Prelude.{◌≡◌, ◌≢◌, ℕ, ◌+◌, ◌-◌, ◌<◌, ◌≤◌, ◌⊎◌, Bool, true, false, if◌then◌else◌, All, Option, None, Some, List, [], ◌∷◌, ◌++◌, length, take, Result, Ok, Err}
+use Rattle.std.specs.Prelude.{◌≡◌, ◌≢◌, ℕ, ◌+◌, ◌-◌, ◌<◌, ◌≤◌, ◌⊎◌, Bool, true, false}
+use Rattle.std.specs.Prelude.{if◌then◌else◌, All, Option, None, Some, List, [], ◌∷◌, ◌++◌, length}
+use Rattle.std.specs.Prelude.{take, Result, Ok, Err}
 use Rattle.std.specs.Option.{ForSome}
 use Rattle.std.specs.declared.alloc.Global.{Global}
 use Rattle.std.specs.declared.vec.Vec.{Vec}
@@ -8,7 +10,8 @@ use Rattle.wire_pool.specs.{PoolSeen, checked_in, checked_out, drawn}
 use Rattle.wire_pool.specs.declared.pool_answers.CheckIn.TheVariants as ins
 use Rattle.wire_pool.specs.declared.pool_answers.CheckOut.TheVariants as outs
 use Rattle.wire_stream.specs.{CompletesHeader}
-use Rattle.wire_peer.specs.{AnswerStep, ClientSeen, Does, LogEntry, MayTake, ServerView, Stops, content_of}
+use Rattle.wire_peer.specs.{AnswerStep, ClientSeen, Does, LogEntry, MayTake, ServerView, Stops}
+use Rattle.wire_peer.specs.{content_of}
 use Rattle.wire_peer.specs.declared.calls.CallNo.{CallNo}
 use Rattle.wire_peer.specs.declared.client_state.ClientState.TheVariants as clients
 use Rattle.wire_peer.specs.declared.server_state.AnswerRefusal.{AnswerRefusal}
@@ -17,15 +20,19 @@ use Rattle.wire_peer.specs.declared.server_state.ServerCause.{ServerCause}
 use Rattle.wire_peer.specs.declared.server_state.ServerState.{ServerState}
 use Rattle.wire_peer.specs.declared.server_state.ServerState.TheVariants as servers
 use Rattle.wire_model.specs.declared.events.Event.{Event}
-use Rattle.wire_model.specs.declared.events.Event.TheVariants.{Open, Return, Call, Up, Down, Answer, CutUp, CutDown, Clear, Restart, RawOpen, Raw, RawTake}
+use Rattle.wire_model.specs.declared.events.Event.TheVariants.{Open, Return, Call, Up, Down, Answer}
+use Rattle.wire_model.specs.declared.events.Event.TheVariants.{CutUp, CutDown, Clear, Restart}
+use Rattle.wire_model.specs.declared.events.Event.TheVariants.{RawOpen, Raw, RawTake}
 use Rattle.wire_model.specs.declared.limits.WorldLimits.{WorldLimits}
 use Rattle.wire_model.specs.declared.refusals.WorldRefusal.{WorldRefusal}
 use Rattle.wire_model.specs.declared.refusals.WorldRefusal.TheVariants as refusals
 use Rattle.wire_model.specs.declared.reports.Report.{Report}
 use Rattle.wire_model.specs.declared.reports.Report.TheVariants as reports
 use Rattle.wire_model.specs.Conns.{Conn, World, conn_at, new_conn, new_raw_conn, settled, with_conn}
-use Rattle.wire_model.specs.Cuts.{cleared_world, cut_down, cut_up, dropped, is_healthy, restarted_world}
-use Rattle.wire_model.specs.Moves.{Calls, GivesRaw, MovesDown, MovesUp, TakesNone, TakesRaw, TakesUncopied, joined}
+use Rattle.wire_model.specs.Cuts.{cleared_world, cut_down, cut_up, dropped, is_healthy}
+use Rattle.wire_model.specs.Cuts.{restarted_world}
+use Rattle.wire_model.specs.Moves.{Calls, GivesRaw, MovesDown, MovesUp, TakesNone, TakesRaw}
+use Rattle.wire_model.specs.Moves.{TakesUncopied, joined}
 use Rattle.wire_model.specs.Needing.{connection_of}
 use Rattle.wire_model.specs.Refusing.{RefusesCall, first_reason}
 
@@ -39,9 +46,12 @@ opened w p k = record w { pool = p; conns = w.conns ++ k ∷ [] }
 -- ---- the pool
 
 -- a connection is checked out, used or new
-abbrev pub Opens : {H : Type 0} → WorldLimits → World H → (connection : ℕ) → (new : Bool) → World H → Type 0
-Opens l old c false new = (p : PoolSeen) × (checked_out old.pool ≡ (outs.Use c, p)) × (new ≡ with_pool old p)
-Opens l old c true new = (p : PoolSeen) × (checked_out old.pool ≡ (outs.Open c, p)) × (new ≡ opened old p (new_conn l c))
+abbrev pub Opens : {H : Type 0} → WorldLimits → World H → (connection : ℕ) → (new : Bool) → World H
+    → Type 0
+Opens l old c false new =
+    (p : PoolSeen) × (checked_out old.pool ≡ (outs.Use c, p)) × (new ≡ with_pool old p)
+Opens l old c true new =
+    (p : PoolSeen) × (checked_out old.pool ≡ (outs.Open c, p)) × (new ≡ opened old p (new_conn l c))
 
 -- a connection of ours that was lent is checked in, and kept or dropped
 pub record Returns {H : Type 0} (old : World H) (c : ℕ) (kept : Bool) (new : World H) : Type 0 where
@@ -49,7 +59,8 @@ pub record Returns {H : Type 0} (old : World H) (c : ℕ) (kept : Bool) (new : W
   pub at : conn_at old.conns c ≡ Some k
   pub honest : k.raw ≡ false
   pub pool : PoolSeen
-  pub checked : checked_in old.pool c (is_healthy k) ≡ (if kept then ins.Kept else ins.Dropped, pool)
+  pub checked : checked_in old.pool c (is_healthy k)
+      ≡ (if kept then ins.Kept else ins.Dropped, pool)
   pub after : new ≡ (if kept then with_pool old pool else dropped (with_pool old pool) c)
 
 -- ---- cuts
@@ -71,10 +82,12 @@ pub record CutsDown {H : Type 0} (old : World H) (c : ℕ) (new : World H) : Typ
 
 -- each answer is the content of a message
 abbrev pub AreContents : List LogEntry → Type 0
-AreContents log = All (λ (e : LogEntry). ForSome e.answers (All (λ (c : Content). ∥ IsContent c ∥₁))) log
+AreContents log =
+    All (λ (e : LogEntry). ForSome e.answers (All (λ (c : Content). ∥ IsContent c ∥₁))) log
 
 -- the server answers a waiting request, with this result
-pub record Answers {H : Type 0} (does : Does H) (stops : Stops H) (old : World H) (c i : ℕ) (result : Result ℕ AnswerRefusal) (new : World H) : Type 0 where
+pub record Answers {H : Type 0} (does : Does H) (stops : Stops H) (old : World H) (c i : ℕ)
+    (result : Result ℕ AnswerRefusal) (new : World H) : Type 0 where
   pub k : Conn
   pub at : conn_at old.conns c ≡ Some k
   pub server : ServerView
@@ -82,17 +95,21 @@ pub record Answers {H : Type 0} (does : Does H) (stops : Stops H) (old : World H
   pub log : List LogEntry
   pub step : AnswerStep does stops i result k.server old.handler old.log server handler log
   pub contents : AreContents log
-  pub after : new ≡ record (with_conn old c (record k { server = server })) { log = log; handler = handler }
+  pub after : new
+      ≡ record (with_conn old c (record k { server = server })) { log = log; handler = handler }
 
 -- ---- how many bytes were moved
 
--- so many bytes were to be moved; fewer were only where there were no more, or the server takes none
-pub record AllUp {H : Type 0} {old new : World H} {c n : ℕ} (s : MovesUp old c n new) (moved : ℕ) : Type 0 where
+-- so many bytes were to be moved; fewer were only where there were no more, or the server takes
+-- none
+pub record AllUp {H : Type 0} {old new : World H} {c n : ℕ} (s : MovesUp old c n new) (moved : ℕ) :
+    Type 0 where
   pub moved_are : moved ≡ length (joined s.pieces)
   pub fewer : moved < n → (s.rest ≡ []) ⊎ TakesNone s.server
 
 -- the same of those that the client takes, unless it is closed
-pub record AllDown {H : Type 0} {old new : World H} {c n : ℕ} (s : MovesDown old c n new) (moved : ℕ) : Type 0 where
+pub record AllDown {H : Type 0} {old new : World H} {c n : ℕ} (s : MovesDown old c n new)
+    (moved : ℕ) : Type 0 where
   pub moved_are : moved ≡ length (joined s.pieces)
   pub fewer : moved < n → (s.rest ≡ []) ⊎ (s.client.state ≢ clients.Open)
 
@@ -101,7 +118,8 @@ abbrev pub closed_now : ServerState → ServerState → Option ServerCause
 closed_now servers.Open (servers.Closed cause) = Some cause
 closed_now before after = None
 
-pub record AllTaken {H : Type 0} {old new : World H} {c : ℕ} {bytes : List ℕ} (s : TakesRaw old c bytes new) (moved : ℕ) (closed : Option ServerCause) : Type 0 where
+pub record AllTaken {H : Type 0} {old new : World H} {c : ℕ} {bytes : List ℕ}
+    (s : TakesRaw old c bytes new) (moved : ℕ) (closed : Option ServerCause) : Type 0 where
   pub moved_are : moved ≡ length (joined s.pieces)
   pub fewer : (s.rest ≡ []) ⊎ TakesNone s.server
   pub closed_is : closed ≡ closed_now s.k.server.state s.server.state
@@ -109,27 +127,44 @@ pub record AllTaken {H : Type 0} {old new : World H} {c : ℕ} {bytes : List ℕ
 -- ---- events
 
 -- the event does what it is for, and this is its report
-abbrev pub Succeeds : {H : Type 0} → Does H → Stops H → WorldLimits → World H → Event → Report → World H → Type 0
-Succeeds does stops l old Open report new = (c : ℕ) × (made : Bool) × (report ≡ reports.Opened c made) × Opens l old c made new
-Succeeds does stops l old (Return c) report new = (kept : Bool) × (report ≡ (if kept then reports.Kept else reports.Dropped)) × Returns old c kept new
-Succeeds does stops l old (Call c kind payload) report new = (no : CallNo) × (report ≡ reports.Called (length old.calls) no.id) × Calls old c kind (content_of payload) no new
-Succeeds does stops l old (Up c n) report new = (s : MovesUp old c n new) × (moved : ℕ) × (report ≡ reports.Moved moved) × AllUp s moved
-Succeeds {H} does stops l old (Down c n) report new = (mid : World H) × (s : MovesDown old c n mid) × (moved : ℕ) × (report ≡ reports.Moved moved) × AllDown s moved × (new ≡ settled mid)
+abbrev pub Succeeds : {H : Type 0} → Does H → Stops H → WorldLimits → World H → Event → Report
+    → World H → Type 0
+Succeeds does stops l old Open report new =
+    (c : ℕ) × (made : Bool) × (report ≡ reports.Opened c made) × Opens l old c made new
+Succeeds does stops l old (Return c) report new =
+    (kept : Bool) × (report ≡ (if kept then reports.Kept else reports.Dropped))
+    × Returns old c kept new
+Succeeds does stops l old (Call c kind payload) report new =
+    (no : CallNo) × (report ≡ reports.Called (length old.calls) no.id)
+    × Calls old c kind (content_of payload) no new
+Succeeds does stops l old (Up c n) report new =
+    (s : MovesUp old c n new) × (moved : ℕ) × (report ≡ reports.Moved moved) × AllUp s moved
+Succeeds {H} does stops l old (Down c n) report new =
+    (mid : World H) × (s : MovesDown old c n mid) × (moved : ℕ) × (report ≡ reports.Moved moved)
+    × AllDown s moved × (new ≡ settled mid)
 Succeeds does stops l old (Answer c i) report new =
     ((e : ℕ) × (report ≡ reports.Entry e) × Answers does stops old c i (Ok e) new)
-    ⊎ ((cause : ServerCause) × (report ≡ reports.ClosedBy cause) × Answers does stops old c i (Err (answers.NowClosed cause)) new)
+    ⊎
+    ((cause : ServerCause) × (report ≡ reports.ClosedBy cause)
+    × Answers does stops old c i (Err (answers.NowClosed cause)) new)
 Succeeds does stops l old (CutUp c) report new = (report ≡ reports.Done) × CutsUp old c new
 Succeeds does stops l old (CutDown c) report new = (report ≡ reports.Done) × CutsDown old c new
 Succeeds does stops l old Clear report new = (report ≡ reports.Done) × (new ≡ cleared_world old)
 Succeeds does stops l old Restart report new = (report ≡ reports.Done) × (new ≡ restarted_world old)
-Succeeds does stops l old RawOpen report new = (c : ℕ) × (report ≡ reports.RawOpened c) × (old.pool.next ≡ Some c) × (new ≡ opened old (drawn old.pool) (new_raw_conn l c))
+Succeeds does stops l old RawOpen report new =
+    (c : ℕ) × (report ≡ reports.RawOpened c) × (old.pool.next ≡ Some c)
+    × (new ≡ opened old (drawn old.pool) (new_raw_conn l c))
 Succeeds does stops l old (Raw c bytes) report new =
-    (s : TakesRaw old c bytes.now new) × (moved : ℕ) × (closed : Option ServerCause) × (report ≡ reports.RawMoved moved closed) × AllTaken s moved closed
-Succeeds does stops l old (RawTake c n) report new = (s : GivesRaw old c n new) × (v : Vec ℕ Global) × (report ≡ reports.Bytes v) × (v.items ≡ s.bytes)
+    (s : TakesRaw old c bytes.now new) × (moved : ℕ) × (closed : Option ServerCause)
+    × (report ≡ reports.RawMoved moved closed) × AllTaken s moved closed
+Succeeds does stops l old (RawTake c n) report new =
+    (s : GivesRaw old c n new) × (v : Vec ℕ Global) × (report ≡ reports.Bytes v)
+    × (v.items ≡ s.bytes)
 
 -- ---- want of memory
 
--- a server that takes bytes is given a piece that completes the header of a message, for which there is no room
+-- a server that takes bytes is given a piece that completes the header of a message, for which
+-- there is no room
 pub record WantsRoom (s : ServerView) (piece : List ℕ) : Type 0 where
   pub is_open : s.state ≡ servers.Open
   pub has_room : length s.waiting < s.window
@@ -146,16 +181,22 @@ pub record HasOutput {H : Type 0} (w : World H) (c n : ℕ) : Type 0 where
   pub at : conn_at w.conns c ≡ Some k
   pub some : take n k.server.output ≢ []
 
--- The part of an event that is done where memory is wanting. Of what is to be moved a part may have been; a reply that isn't
--- copied is none.
+-- The part of an event that is done where memory is wanting. Of what is to be moved a part may have
+-- been; a reply that isn't copied is none.
 abbrev pub PartDone : {H : Type 0} → WorldLimits → World H → Event → World H → Type 0
 PartDone {H} l old (Call c kind payload) new = new ≡ old
-PartDone {H} l old (Up c n) new = (s : MovesUp old c n new) × ((m : ℕ) × (m + length (joined s.pieces) ≤ n) × WantsRoom s.server (take m s.rest))
+PartDone {H} l old (Up c n) new =
+    (s : MovesUp old c n new)
+    × ((m : ℕ) × (m + length (joined s.pieces) ≤ n) × WantsRoom s.server (take m s.rest))
 PartDone {H} l old (Down c n) new =
-    ((s : MovesDown old c n new) × ((m : ℕ) × (m + length (joined s.pieces) ≤ n) × ClientWantsRoom s.client (take m s.rest)))
-    ⊎ ((mid : World H) × (s : MovesDown old c n mid) × TakesUncopied mid c (n - length (joined s.pieces)) new)
+    ((s : MovesDown old c n new)
+    × ((m : ℕ) × (m + length (joined s.pieces) ≤ n) × ClientWantsRoom s.client (take m s.rest)))
+    ⊎
+    ((mid : World H) × (s : MovesDown old c n mid)
+    × TakesUncopied mid c (n - length (joined s.pieces)) new)
 PartDone {H} l old (Answer c i) new = new ≡ old
-PartDone {H} l old (Raw c bytes) new = (s : TakesRaw old c bytes.now new) × WantsRoom s.server s.rest
+PartDone {H} l old (Raw c bytes) new =
+    (s : TakesRaw old c bytes.now new) × WantsRoom s.server s.rest
 PartDone {H} l old (RawTake c n) new = (new ≡ old) × HasOutput old c n
 PartDone {H} l old e new = ⊥
 
@@ -166,27 +207,36 @@ IsMaking old RawOpen = Unit {0}
 IsMaking old e = ⊥
 
 -- memory is wanting: part of the event is done, then its connection is cut both ways
-pub record RunsOut {H : Type 0} (l : WorldLimits) (old : World H) (e : Event) (new : World H) : Type 0 where
+pub record RunsOut {H : Type 0} (l : WorldLimits) (old : World H) (e : Event) (new : World H) :
+    Type 0 where
   pub c : ℕ
   pub is : connection_of e ≡ Some c
   pub done : World H
   pub part : PartDone l old e done
   pub after : new ≡ dropped done c
 
--- The event is refused for the first check that it fails; where it fails none, by the client that is to call, or for want of
--- memory. Nothing changes then, but for want of memory.
-abbrev pub IsRefused : {H : Type 0} → WorldLimits → World H → Event → WorldRefusal → World H → Type 0
-IsRefused l old e (refusals.Call refusal) new = (new ≡ old) × (first_reason old e ≡ None) × RefusesCall old e refusal
-IsRefused l old e refusals.OutOfMemory new = (first_reason old e ≡ None) × (((new ≡ old) × IsMaking old e) ⊎ RunsOut l old e new)
+-- The event is refused for the first check that it fails; where it fails none, by the client that
+-- is to call, or for want of memory. Nothing changes then, but for want of memory.
+abbrev pub IsRefused : {H : Type 0} → WorldLimits → World H → Event → WorldRefusal → World H
+    → Type 0
+IsRefused l old e (refusals.Call refusal) new =
+    (new ≡ old) × (first_reason old e ≡ None) × RefusesCall old e refusal
+IsRefused l old e refusals.OutOfMemory new =
+    (first_reason old e ≡ None) × (((new ≡ old) × IsMaking old e) ⊎ RunsOut l old e new)
 IsRefused l old e refusal new = (new ≡ old) × (first_reason old e ≡ Some refusal)
 
--- An event happens in a world, with this result, and this is the world after it: the event does what it is for
--- (`Succeeds`), or is refused (`IsRefused`).
-abbrev pub Happens : {H : Type 0} → Does H → Stops H → WorldLimits → World H → Event → Result Report WorldRefusal → World H → Type 0
-Happens does stops l old e (Ok report) new = (first_reason old e ≡ None) × Succeeds does stops l old e report new
+-- An event happens in a world, with this result, and this is the world after it: the event does
+-- what it is for (`Succeeds`), or is refused (`IsRefused`).
+abbrev pub Happens : {H : Type 0} → Does H → Stops H → WorldLimits → World H → Event
+    → Result Report WorldRefusal → World H → Type 0
+Happens does stops l old e (Ok report) new =
+    (first_reason old e ≡ None) × Succeeds does stops l old e report new
 Happens does stops l old e (Err refusal) new = IsRefused l old e refusal new
 
 -- the events of a list happen one after the other, each with some result, from one world to another
-abbrev pub Run : {H : Type 0} → Does H → Stops H → WorldLimits → World H → List Event → World H → Type 0
+abbrev pub Run : {H : Type 0} → Does H → Stops H → WorldLimits → World H → List Event → World H
+    → Type 0
 Run does stops l old [] new = new ≡ old
-Run {H} does stops l old (e ∷ es) new = (mid : World H) × ((r : Result Report WorldRefusal) × Happens does stops l old e r mid) × Run does stops l mid es new
+Run {H} does stops l old (e ∷ es) new =
+    (mid : World H) × ((r : Result Report WorldRefusal) × Happens does stops l old e r mid)
+    × Run does stops l mid es new

@@ -1,5 +1,7 @@
 -- What a raw connection took and gave, and that its entries answer its own messages.
-use Rattle.std.specs.Prelude.{◌≡◌, ◌≢◌, ℕ, suc, Bool, true, false, if◌then◌else◌, ◌==◌, ◌⊎◌, Option, None, Some, List, [], ◌∷◌, ◌++◌, length, map, slice_get, take, Result, Ok, Err}
+use Rattle.std.specs.Prelude.{◌≡◌, ◌≢◌, ℕ, suc, Bool, true, false, if◌then◌else◌, ◌==◌, ◌⊎◌, Option}
+use Rattle.std.specs.Prelude.{None, Some, List, [], ◌∷◌, ◌++◌, length, map, slice_get, take, Result}
+use Rattle.std.specs.Prelude.{Ok, Err}
 use mathlib.Core.Logic.{inr}
 use Rattle.wire_msg.specs.{Content, Message, Split}
 use Rattle.wire_peer.specs.{Does, LogEntry, Stops, asked_by, chain, id_after, written}
@@ -19,23 +21,40 @@ use Rattle.wire_model.specs.Happening.{Happens, Run}
 -- ---- along a run
 
 -- the bytes that the server of connection c took in an event of a raw connection
-abbrev pub taken_in : {H : Type 0} (does : Does H) (stops : Stops H) (l : WorldLimits) (c : ℕ) (old new : World H) (e : Event) (r : Result Report WorldRefusal) → Happens does stops l old e r new → List ℕ
-taken_in does stops l c old new (events.Raw d bytes) (Ok report) s = if d == c then joined s.1.0.pieces else []
-taken_in does stops l c old new (events.Raw d bytes) (Err refusals.OutOfMemory) (_, inr s) = if d == c then joined s.part.0.pieces else []
+abbrev pub taken_in :
+    {H : Type 0} (does : Does H) (stops : Stops H) (l : WorldLimits) (c : ℕ) (old new : World H)
+    (e : Event) (r : Result Report WorldRefusal)
+    → Happens does stops l old e r new → List ℕ
+taken_in does stops l c old new (events.Raw d bytes) (Ok report) s =
+    if d == c then joined s.1.0.pieces else []
+taken_in does stops l c old new (events.Raw d bytes) (Err refusals.OutOfMemory) (_, inr s) =
+    if d == c then joined s.part.0.pieces else []
 taken_in does stops l c old new e r s = []
 
 -- the bytes that were taken away from it
-abbrev pub given_in : {H : Type 0} (does : Does H) (stops : Stops H) (l : WorldLimits) (c : ℕ) (old new : World H) (e : Event) (r : Result Report WorldRefusal) → Happens does stops l old e r new → List ℕ
-given_in does stops l c old new (events.RawTake d n) (Ok report) s = if d == c then s.1.0.bytes else []
+abbrev pub given_in :
+    {H : Type 0} (does : Does H) (stops : Stops H) (l : WorldLimits) (c : ℕ) (old new : World H)
+    (e : Event) (r : Result Report WorldRefusal)
+    → Happens does stops l old e r new → List ℕ
+given_in does stops l c old new (events.RawTake d n) (Ok report) s =
+    if d == c then s.1.0.bytes else []
 given_in does stops l c old new e r s = []
 
-abbrev pub taken : {H : Type 0} (does : Does H) (stops : Stops H) (l : WorldLimits) (c : ℕ) (old new : World H) (es : List Event) → Run does stops l old es new → List ℕ
+abbrev pub taken :
+    {H : Type 0} (does : Does H) (stops : Stops H) (l : WorldLimits) (c : ℕ) (old new : World H)
+    (es : List Event)
+    → Run does stops l old es new → List ℕ
 taken does stops l c old new [] run = []
-taken does stops l c old new (e ∷ es) run = taken_in does stops l c old run.0 e run.1.0 run.1.1 ++ taken does stops l c run.0 new es run.2
+taken does stops l c old new (e ∷ es) run =
+    taken_in does stops l c old run.0 e run.1.0 run.1.1 ++ taken does stops l c run.0 new es run.2
 
-abbrev pub given : {H : Type 0} (does : Does H) (stops : Stops H) (l : WorldLimits) (c : ℕ) (old new : World H) (es : List Event) → Run does stops l old es new → List ℕ
+abbrev pub given :
+    {H : Type 0} (does : Does H) (stops : Stops H) (l : WorldLimits) (c : ℕ) (old new : World H)
+    (es : List Event)
+    → Run does stops l old es new → List ℕ
 given does stops l c old new [] run = []
-given does stops l c old new (e ∷ es) run = given_in does stops l c old run.0 e run.1.0 run.1.1 ++ given does stops l c run.0 new es run.2
+given does stops l c old new (e ∷ es) run =
+    given_in does stops l c old run.0 e run.1.0 run.1.1 ++ given does stops l c run.0 new es run.2
 
 -- ---- strangers
 
@@ -50,8 +69,8 @@ AreMessages c ms calls = map (λ (x : Call). x.asked) (calls_of c calls) ≡ map
 
 -- ---- entries
 
--- An entry of a raw connection: the index of the message that it answers, the message, the answers, and whether their
--- replies were put out.
+-- An entry of a raw connection: the index of the message that it answers, the message, the answers,
+-- and whether their replies were put out.
 pub record RawEntry : Type 0 where
   pub index : ℕ
   pub message : Message
@@ -73,18 +92,25 @@ all_of (Some answers) = answers
 -- the replies of entry after entry, their ids one after the other
 abbrev pub raw_replies : ℕ → List RawEntry → List Message
 raw_replies id [] = []
-raw_replies id (t ∷ ts) = if t.gives then chain id t.message.id (all_of t.answers) ++ raw_replies (id_after id (all_of t.answers)) ts else raw_replies id ts
+raw_replies id (t ∷ ts) =
+    if t.gives
+    then chain id t.message.id (all_of t.answers) ++ raw_replies (id_after id (all_of t.answers)) ts
+    else raw_replies id ts
 
--- An entry gives its replies where it has answers and its message isn't silent; but the last one gives none where the server
--- closed in it.
+-- An entry gives its replies where it has answers and its message isn't silent; but the last one
+-- gives none where the server closed in it.
 abbrev pub GivesReplies : ServerState → ℕ → ℕ → RawEntry → Type 0
 GivesReplies s many i t =
-    ((t.gives ≡ true) × (t.message.flags.more_to_come ≡ false) × (t.answers ≢ None) × (suc i ≡ many → IsStopped s → ⊥))
-    ⊎ (((t.gives ≡ false) × (t.message.flags.more_to_come ≡ true)) ⊎ ((t.gives ≡ false) × (suc i ≡ many) × IsStopped s))
+    ((t.gives ≡ true) × (t.message.flags.more_to_come ≡ false) × (t.answers ≢ None)
+    × (suc i ≡ many → IsStopped s → ⊥))
+    ⊎
+    (((t.gives ≡ false) × (t.message.flags.more_to_come ≡ true))
+    ⊎ ((t.gives ≡ false) × (suc i ≡ many) × IsStopped s))
 
--- The stranger that the entry's message is, the one with as many of the connection before it, names the log's entry: the one
--- with as many of the connection before it.
-pub record IsNamed (c : ℕ) (calls : List Call) (log : List LogEntry) (i : ℕ) (t : RawEntry) : Type 0 where
+-- The stranger that the entry's message is, the one with as many of the connection before it, names
+-- the log's entry: the one with as many of the connection before it.
+pub record IsNamed (c : ℕ) (calls : List Call) (log : List LogEntry) (i : ℕ) (t : RawEntry) :
+    Type 0 where
   pub stranger : Call
   pub at : slice_get (calls_of c calls) t.index ≡ Some stranger
   pub e : ℕ
@@ -92,9 +118,10 @@ pub record IsNamed (c : ℕ) (calls : List Call) (log : List LogEntry) (i : ℕ)
   pub entry : slice_get log e ≡ Some (entry_by c t)
   pub before : length (entries_of c (take e log)) ≡ i
 
--- The entries of a raw connection answer, in log order, messages of the Split of what its server took, each of them once at
--- most, and each is named by the stranger that its message is.
-pub record AnswersOwn (limit c : ℕ) (taken : List ℕ) (calls : List Call) (log : List LogEntry) : Type 0 where
+-- The entries of a raw connection answer, in log order, messages of the Split of what its server
+-- took, each of them once at most, and each is named by the stranger that its message is.
+pub record AnswersOwn (limit c : ℕ) (taken : List ℕ) (calls : List Call) (log : List LogEntry) :
+    Type 0 where
   pub messages : List Message
   pub rest : List ℕ
   pub split : Split limit taken messages rest
@@ -102,14 +129,19 @@ pub record AnswersOwn (limit c : ℕ) (taken : List ℕ) (calls : List Call) (lo
   pub foreign : (i : ℕ) (x : Call) → slice_get (calls_of c calls) i ≡ Some x → x.state ≡ Foreign
   pub raw_entries : List RawEntry
   pub entries : entries_of c log ≡ map (entry_by c) raw_entries
-  pub are : (i : ℕ) (t : RawEntry) → slice_get raw_entries i ≡ Some t → slice_get messages t.index ≡ Some t.message
+  pub are : (i : ℕ) (t : RawEntry) → slice_get raw_entries i ≡ Some t
+      → slice_get messages t.index ≡ Some t.message
   pub named : (i : ℕ) (t : RawEntry) → slice_get raw_entries i ≡ Some t → IsNamed c calls log i t
-  pub once : (i j : ℕ) (t u : RawEntry) → slice_get raw_entries i ≡ Some t → slice_get raw_entries j ≡ Some u → t.index ≡ u.index → i ≡ j
+  pub once : (i j : ℕ) (t u : RawEntry) → slice_get raw_entries i ≡ Some t
+      → slice_get raw_entries j ≡ Some u → t.index ≡ u.index → i ≡ j
 
--- What the server gave is the replies to its own entries, each by the message that it answers, in log order, ids from 1.
-pub record GivesOwn (limit c : ℕ) (taken given : List ℕ) (state : ServerState) (calls : List Call) (log : List LogEntry) : Type 0 where
+-- What the server gave is the replies to its own entries, each by the message that it answers, in
+-- log order, ids from 1.
+pub record GivesOwn (limit c : ℕ) (taken given : List ℕ) (state : ServerState) (calls : List Call)
+    (log : List LogEntry) : Type 0 where
   pub own : AnswersOwn limit c taken calls log
-  pub right : (i : ℕ) (t : RawEntry) → slice_get own.raw_entries i ≡ Some t → GivesReplies state (length own.raw_entries) i t
+  pub right : (i : ℕ) (t : RawEntry) → slice_get own.raw_entries i ≡ Some t
+      → GivesReplies state (length own.raw_entries) i t
   pub given_is : given ≡ written (raw_replies 1 own.raw_entries)
 
 -- ---- of all raw connections
@@ -118,10 +150,21 @@ abbrev pub OfEachRaw : {H : Type 0} → World H → (ℕ → Conn → Type 0) �
 OfEachRaw w P = (c : ℕ) (k : Conn) → conn_at w.conns c ≡ Some k → k.raw ≡ true → P c k
 
 -- each raw connection has answered its own messages only
-abbrev pub RawAnswerOwn : {H : Type 0} (does : Does H) (stops : Stops H) (l : WorldLimits) (first : H) (es : List Event) (w : World H) → Run does stops l (opening l first) es w → Machine H → Type 0
-RawAnswerOwn does stops l first es w run m = OfEachRaw w (λ c k. AnswersOwn l.limit c (taken does stops l c (opening l first) w es run) m.calls w.log)
+abbrev pub RawAnswerOwn :
+    {H : Type 0} (does : Does H) (stops : Stops H) (l : WorldLimits) (first : H) (es : List Event)
+    (w : World H)
+    → Run does stops l (opening l first) es w → Machine H → Type 0
+RawAnswerOwn does stops l first es w run m =
+    OfEachRaw w
+    (λ c k. AnswersOwn l.limit c (taken does stops l c (opening l first) w es run) m.calls w.log)
 
--- each raw connection has given the replies to its own entries only; what it gave was taken away, or is its server's output
-abbrev pub RawGiveOwn : {H : Type 0} (does : Does H) (stops : Stops H) (l : WorldLimits) (first : H) (es : List Event) (w : World H) → Run does stops l (opening l first) es w → Machine H → Type 0
-RawGiveOwn does stops l first es w run m = OfEachRaw w (λ c k. GivesOwn l.limit c (taken does stops l c (opening l first) w es run)
-    (given does stops l c (opening l first) w es run ++ k.server.output) k.server.state m.calls w.log)
+-- each raw connection has given the replies to its own entries only; what it gave was taken away,
+-- or is its server's output
+abbrev pub RawGiveOwn :
+    {H : Type 0} (does : Does H) (stops : Stops H) (l : WorldLimits) (first : H) (es : List Event)
+    (w : World H)
+    → Run does stops l (opening l first) es w → Machine H → Type 0
+RawGiveOwn does stops l first es w run m =
+    OfEachRaw w (λ c k. GivesOwn l.limit c (taken does stops l c (opening l first) w es run)
+    (given does stops l c (opening l first) w es run ++ k.server.output) k.server.state m.calls
+    w.log)

@@ -9,8 +9,8 @@ use Rattle.wire_model.specs.Happening.{Run}
 use Rattle.wire_model.specs.Machines.{Call, CallIs, Done, EntryOf, Machine, Pending, Steps, empty}
 use Rattle.wire_model.specs.Shown.{Headline, Shows, raws}
 
--- A call keeps its connection, what it asks, and its parts, to which more may come. One that is done, sent or lost stays
--- as it is.
+-- A call keeps its connection, what it asks, and its parts, to which more may come. One that is
+-- done, sent or lost stays as it is.
 pub record IsKept (old new : Record) : Type 0 where
   pub connection : new.connection ≡ old.connection
   pub asked : new.asked ≡ old.asked
@@ -19,7 +19,9 @@ pub record IsKept (old new : Record) : Type 0 where
 
 -- each call is still there, and kept
 abbrev pub CallsAreKept : (old new : List Record) → Type 0
-CallsAreKept old new = (i : ℕ) (x : Record) → slice_get old i ≡ Some x → (y : Record) × (slice_get new i ≡ Some y) × IsKept x y
+CallsAreKept old new =
+    (i : ℕ) (x : Record) → slice_get old i ≡ Some x
+    → (y : Record) × (slice_get new i ≡ Some y) × IsKept x y
 
 -- the old log is the beginning of the new one
 abbrev pub LogGrows : (old new : List LogEntry) → Type 0
@@ -27,11 +29,15 @@ LogGrows old new = (more : List LogEntry) × (new ≡ old ++ more)
 
 -- a call that was done before another was made has the earlier entry
 abbrev pub DoneIsEarlier : {H : Type 0} → (old new : Machine H) → Type 0
-DoneIsEarlier old new = (i j e e' : ℕ) (x y z : Call) → CallIs old.calls i x → x.state ≡ Done → CallIs new.calls i y → EntryOf y e
+DoneIsEarlier old new =
+    (i j e e' : ℕ) (x y z : Call) → CallIs old.calls i x → x.state ≡ Done → CallIs new.calls i y
+    → EntryOf y e
     → length old.calls ≤ j → CallIs new.calls j z → EntryOf z e' → e < e'
 
--- The later world shows a state of the machine that its steps reach from one that the earlier world shows.
-pub record GoesOn {H : Type 0} (does : Does H) (stops : Stops H) (first : H) (old new : World H) : Type 0 where
+-- The later world shows a state of the machine that its steps reach from one that the earlier world
+-- shows.
+pub record GoesOn {H : Type 0} (does : Does H) (stops : Stops H) (first : H) (old new : World H) :
+    Type 0 where
   pub m : Machine H
   pub reached : Steps H does stops (empty first (raws new)) m
   pub shows : Shows old m
@@ -42,6 +48,9 @@ pub record GoesOn {H : Type 0} (does : Does H) (stops : Stops H) (first : H) (ol
   pub order : DoneIsEarlier m later.m
 
 -- whichever of the events came first, the world that they made goes on to this one
-abbrev pub GoesOnFromEach : {H : Type 0} → Does H → Stops H → WorldLimits → (first : H) → List Event → World H → Type 0
-GoesOnFromEach {H} does stops l first events w = (before after : List Event) → events ≡ before ++ after
-    → (mid : World H) × Run does stops l (opening l first) before mid × Run does stops l mid after w × GoesOn does stops first mid w
+abbrev pub GoesOnFromEach : {H : Type 0} → Does H → Stops H → WorldLimits → (first : H) → List Event
+    → World H → Type 0
+GoesOnFromEach {H} does stops l first events w =
+    (before after : List Event) → events ≡ before ++ after
+    → (mid : World H) × Run does stops l (opening l first) before mid × Run does stops l mid after w
+    × GoesOn does stops first mid w

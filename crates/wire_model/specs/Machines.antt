@@ -1,15 +1,23 @@
 -- The abstract machine: calls and one log. No bytes, ids, lengths or buffers.
-use Rattle.std.specs.Prelude.{◌≡◌, ℕ, ◌≤◌, Bool, true, false, if◌then◌else◌, ◌==◌, Option, None, Some, List, [], ◌∷◌, ◌++◌, ◌⊎◌, length, map, slice_get, slice_set}
+use Rattle.std.specs.Prelude.{◌≡◌, ℕ, ◌≤◌, Bool, true, false, if◌then◌else◌, ◌==◌, Option, None}
+use Rattle.std.specs.Prelude.{Some, List, [], ◌∷◌, ◌++◌, ◌⊎◌, length, map, slice_get, slice_set}
 use Rattle.wire_msg.specs.{Content}
-use Rattle.wire_peer.specs.{Asked, Does, LogEntry, LogStep, Stops, allows_more, are_left, awaits_reply}
+use Rattle.wire_peer.specs.{Asked, Does, LogEntry, LogStep, Stops, allows_more, are_left}
+use Rattle.wire_peer.specs.{awaits_reply}
 use Rattle.wire_peer.specs.declared.calls.CallKind.{CallKind}
 use Rattle.wire_peer.specs.declared.handlers.HandlerStop.{HandlerStop}
 
 -- what a call of this kind asks
 abbrev pub asked_as : CallKind → Content → Asked
-asked_as kind payload = record { payload = payload; exhaust_allowed = allows_more kind; more_to_come = if awaits_reply kind then false else true }
+asked_as kind payload =
+    record {
+      payload = payload;
+      exhaust_allowed = allows_more kind;
+      more_to_come = if awaits_reply kind then false else true;
+    }
 
--- where a request is: on its way, waiting at the server, answered or not by an entry, or never to come
+-- where a request is: on its way, waiting at the server, answered or not by an entry, or never to
+-- come
 pub data Place : Type 0 where
   OnWay : Place
   Waiting : Place
@@ -33,8 +41,8 @@ pub record Call : Type 0 where
   pub parts : List Content
   pub state : State
 
--- The calls, the strangers among them, in the order in which they appeared; the log; the handler; and of each connection
--- whether it is raw, and whether its client half and its server half live.
+-- The calls, the strangers among them, in the order in which they appeared; the log; the handler;
+-- and of each connection whether it is raw, and whether its client half and its server half live.
 pub record Machine (H : Type 0) : Type 0 where
   pub calls : List Call
   pub log : List LogEntry
@@ -51,17 +59,33 @@ is_ours Lost = true
 is_ours Foreign = false
 
 abbrev pub new_call : ℕ → Asked → Call
-new_call c a = record { connection = c; asked = a; place = OnWay; parts = []; state = if a.more_to_come then Sent else Pending }
+new_call c a =
+    record {
+      connection = c;
+      asked = a;
+      place = OnWay;
+      parts = [];
+      state = if a.more_to_come then Sent else Pending;
+    }
 
 abbrev pub stranger : ℕ → Asked → Call
 stranger c a = record { connection = c; asked = a; place = Waiting; parts = []; state = Foreign }
 
 abbrev pub placed : Call → Place → Call
-placed x p = record { connection = x.connection; asked = x.asked; place = p; parts = x.parts; state = x.state }
+placed x p =
+    record
+    { connection = x.connection; asked = x.asked; place = p; parts = x.parts; state = x.state }
 
 -- one more part; with the last one the call is done
 abbrev pub with_part : Call → Content → Bool → Call
-with_part x part more = record { connection = x.connection; asked = x.asked; place = x.place; parts = x.parts ++ part ∷ []; state = if more then x.state else Done }
+with_part x part more =
+    record {
+      connection = x.connection;
+      asked = x.asked;
+      place = x.place;
+      parts = x.parts ++ part ∷ [];
+      state = if more then x.state else Done;
+    }
 
 -- a pending call whose client is lost
 abbrev pub lost_state : State → State
@@ -72,7 +96,14 @@ lost_state Lost = Lost
 lost_state Foreign = Foreign
 
 abbrev pub lost : ℕ → Call → Call
-lost c x = record { connection = x.connection; asked = x.asked; place = x.place; parts = x.parts; state = if x.connection == c then lost_state x.state else x.state }
+lost c x =
+    record {
+      connection = x.connection;
+      asked = x.asked;
+      place = x.place;
+      parts = x.parts;
+      state = if x.connection == c then lost_state x.state else x.state;
+    }
 
 abbrev pub never_place : Place → Place
 never_place OnWay = Never
@@ -82,7 +113,14 @@ never_place (Mute e) = Mute e
 never_place Never = Never
 
 abbrev pub never : ℕ → Call → Call
-never c x = record { connection = x.connection; asked = x.asked; place = if x.connection == c then never_place x.place else x.place; parts = x.parts; state = x.state }
+never c x =
+    record {
+      connection = x.connection;
+      asked = x.asked;
+      place = if x.connection == c then never_place x.place else x.place;
+      parts = x.parts;
+      state = x.state;
+    }
 
 abbrev pub all_but : (ℕ → Bool) → ℕ → ℕ → Bool
 all_but f c d = if d == c then false else f d
@@ -90,7 +128,15 @@ all_but f c d = if d == c then false else f d
 -- ---- what each step leaves
 
 abbrev pub with_calls : {H : Type 0} → Machine H → List Call → Machine H
-with_calls m calls = record { calls = calls; log = m.log; handler = m.handler; raw = m.raw; client_lives = m.client_lives; server_lives = m.server_lives }
+with_calls m calls =
+    record {
+      calls = calls;
+      log = m.log;
+      handler = m.handler;
+      raw = m.raw;
+      client_lives = m.client_lives;
+      server_lives = m.server_lives;
+    }
 
 abbrev pub with_new : {H : Type 0} → Machine H → Call → Machine H
 with_new m x = with_calls m (m.calls ++ x ∷ [])
@@ -99,16 +145,41 @@ abbrev pub with_call : {H : Type 0} → Machine H → ℕ → Call → Machine H
 with_call m i x = with_calls m (slice_set m.calls i x)
 
 abbrev pub logged : {H : Type 0} → Machine H → ℕ → Call → LogEntry → H → Machine H
-logged m i x e h = record { calls = slice_set m.calls i x; log = m.log ++ e ∷ []; handler = h; raw = m.raw; client_lives = m.client_lives; server_lives = m.server_lives }
+logged m i x e h =
+    record {
+      calls = slice_set m.calls i x;
+      log = m.log ++ e ∷ [];
+      handler = h;
+      raw = m.raw;
+      client_lives = m.client_lives;
+      server_lives = m.server_lives;
+    }
 
 abbrev pub client_gone : {H : Type 0} → Machine H → ℕ → Machine H
-client_gone m c = record { calls = map (lost c) m.calls; log = m.log; handler = m.handler; raw = m.raw; client_lives = all_but m.client_lives c; server_lives = m.server_lives }
+client_gone m c =
+    record {
+      calls = map (lost c) m.calls;
+      log = m.log;
+      handler = m.handler;
+      raw = m.raw;
+      client_lives = all_but m.client_lives c;
+      server_lives = m.server_lives;
+    }
 
 abbrev pub server_gone : {H : Type 0} → Machine H → ℕ → Machine H
-server_gone m c = record { calls = map (never c) m.calls; log = m.log; handler = m.handler; raw = m.raw; client_lives = m.client_lives; server_lives = all_but m.server_lives c }
+server_gone m c =
+    record {
+      calls = map (never c) m.calls;
+      log = m.log;
+      handler = m.handler;
+      raw = m.raw;
+      client_lives = m.client_lives;
+      server_lives = all_but m.server_lives c;
+    }
 
 abbrev pub entry_for : Call → Option (List Content) → LogEntry
-entry_for x answers = record { connection = x.connection; payload = x.asked.payload; answers = answers }
+entry_for x answers =
+    record { connection = x.connection; payload = x.asked.payload; answers = answers }
 
 -- where a request is once entry e answers it
 abbrev pub logged_place : Call → ℕ → Place
@@ -120,7 +191,8 @@ CallIs calls i x = slice_get calls i ≡ Some x
 
 -- the answers go on after these parts
 abbrev pub Owes : Option (List Content) → List Content → Type 0
-Owes answers parts = (part : Content) × (rest : List Content) × (answers ≡ Some (parts ++ part ∷ rest))
+Owes answers parts =
+    (part : Content) × (rest : List Content) × (answers ≡ Some (parts ++ part ∷ rest))
 
 -- answered, with fewer parts than answers
 pub record IsDue (log : List LogEntry) (x : Call) (e : ℕ) : Type 0 where
@@ -137,22 +209,42 @@ EntryOf x e = (x.place ≡ Answered e) ⊎ (x.place ≡ Mute e)
 
 module _ (H : Type 0) (does : Does H) (stops : Stops H) where
   pub data Step (m n : Machine H) : Type 0 where
-    issue : (c : ℕ) (kind : CallKind) (payload : Content) → m.client_lives c ≡ true → n ≡ with_new m (new_call c (asked_as kind payload)) → Step m n
-    arrive : (i : ℕ) (x : Call) → m.server_lives x.connection ≡ true → CallIs m.calls i x → x.place ≡ OnWay
-        → ((j : ℕ) (y : Call) → CallIs m.calls j y → y.connection ≡ x.connection → y.place ≡ OnWay → i ≤ j)
+    issue : (c : ℕ) (kind : CallKind) (payload : Content) → m.client_lives c ≡ true
+        → n ≡ with_new m (new_call c (asked_as kind payload)) → Step m n
+    arrive : (i : ℕ) (x : Call) → m.server_lives x.connection ≡ true → CallIs m.calls i x
+        → x.place ≡ OnWay
+        →
+        ((j : ℕ) (y : Call) → CallIs m.calls j y → y.connection ≡ x.connection → y.place ≡ OnWay
+        → i ≤ j)
         → n ≡ with_call m i (placed x Waiting) → Step m n
-    answer : (i : ℕ) (x : Call) (answers : List Content) (h : H) → CallIs m.calls i x → x.place ≡ Waiting → LogStep does stops m.handler x.asked (Some answers) h
-        → n ≡ logged m i (placed x (logged_place x (length m.log))) (entry_for x (Some answers)) h → Step m n
-    log_lost : (i : ℕ) (x : Call) (answers : List Content) (h : H) → CallIs m.calls i x → x.place ≡ Waiting → x.asked.more_to_come ≡ false → LogStep does stops m.handler x.asked (Some answers) h
-        → n ≡ server_gone (logged m i (placed x (Mute (length m.log))) (entry_for x (Some answers)) h) x.connection → Step m n
-    stop : (i : ℕ) (x : Call) (why : HandlerStop) (h : H) → CallIs m.calls i x → x.place ≡ Waiting → stops m.handler x.asked why h
-        → n ≡ server_gone (logged m i (placed x (Mute (length m.log))) (entry_for x None) h) x.connection → Step m n
-    give_back : (i e : ℕ) (x : Call) (due : IsDue m.log x e) → m.client_lives x.connection ≡ true → CallIs m.calls i x
-        → ((j e' : ℕ) (y : Call) → CallIs m.calls j y → y.connection ≡ x.connection → IsDue m.log y e' → e ≤ e')
+    answer : (i : ℕ) (x : Call) (answers : List Content) (h : H) → CallIs m.calls i x
+        → x.place ≡ Waiting → LogStep does stops m.handler x.asked (Some answers) h
+        → n ≡ logged m i (placed x (logged_place x (length m.log))) (entry_for x (Some answers)) h
+        → Step m n
+    log_lost : (i : ℕ) (x : Call) (answers : List Content) (h : H) → CallIs m.calls i x
+        → x.place ≡ Waiting → x.asked.more_to_come ≡ false
+        → LogStep does stops m.handler x.asked (Some answers) h
+        → n
+        ≡ server_gone
+        (logged m i (placed x (Mute (length m.log))) (entry_for x (Some answers)) h)
+        x.connection
+        → Step m n
+    stop : (i : ℕ) (x : Call) (why : HandlerStop) (h : H) → CallIs m.calls i x → x.place ≡ Waiting
+        → stops m.handler x.asked why h
+        → n
+        ≡ server_gone (logged m i (placed x (Mute (length m.log))) (entry_for x None) h)
+        x.connection
+        → Step m n
+    give_back : (i e : ℕ) (x : Call) (due : IsDue m.log x e) → m.client_lives x.connection ≡ true
+        → CallIs m.calls i x
+        →
+        ((j e' : ℕ) (y : Call) → CallIs m.calls j y → y.connection ≡ x.connection
+        → IsDue m.log y e' → e ≤ e')
         → n ≡ with_call m i (with_part x due.owes.0 (are_left due.owes.1)) → Step m n
     client_lost : (c : ℕ) → n ≡ client_gone m c → Step m n
     server_lost : (c : ℕ) → n ≡ server_gone m c → Step m n
-    appear : (c : ℕ) (a : Asked) → m.raw c ≡ true → m.server_lives c ≡ true → n ≡ with_new m (stranger c a) → Step m n
+    appear : (c : ℕ) (a : Asked) → m.raw c ≡ true → m.server_lives c ≡ true
+        → n ≡ with_new m (stranger c a) → Step m n
 
   -- step after step
   pub data Steps (m : Machine H) : Machine H → Type 0 where
@@ -161,4 +253,12 @@ module _ (H : Type 0) (does : Does H) (stops : Stops H) where
 
 -- no calls, no entries; a raw connection has no client half from the start
 abbrev pub empty : {H : Type 0} → H → (ℕ → Bool) → Machine H
-empty h raw = record { calls = []; log = []; handler = h; raw = raw; client_lives = λ c. if raw c then false else true; server_lives = λ c. true }
+empty h raw =
+    record {
+      calls = [];
+      log = [];
+      handler = h;
+      raw = raw;
+      client_lives = λ c. if raw c then false else true;
+      server_lives = λ c. true;
+    }

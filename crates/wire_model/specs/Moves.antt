@@ -1,13 +1,16 @@
 -- Bytes that move from one end of a connection to the other, and what a call puts out.
-use Rattle.std.specs.Prelude.{◌≡◌, ◌≢◌, ℕ, ◌<◌, ◌≤◌, ◌⊎◌, Bool, true, false, Option, None, Some, List, [], ◌∷◌, ◌++◌, length, slice_get, slice_set, take, drop}
+use Rattle.std.specs.Prelude.{◌≡◌, ◌≢◌, ℕ, ◌<◌, ◌≤◌, ◌⊎◌, Bool, true, false, Option, None, Some}
+use Rattle.std.specs.Prelude.{List, [], ◌∷◌, ◌++◌, length, slice_get, slice_set, take, drop}
 use Rattle.std.specs.List.{flat_map}
 use Rattle.wire_msg.specs.{Content, Message, SpellsMsg}
-use Rattle.wire_peer.specs.{ClientSeen, IsCalled, MayTake, ServerView, Takes, TakesBytes, called, released}
+use Rattle.wire_peer.specs.{ClientSeen, IsCalled, MayTake, ServerView, Takes, TakesBytes, called}
+use Rattle.wire_peer.specs.{released}
 use Rattle.wire_peer.specs.declared.call_table.ReadyReply.{ReadyReply}
 use Rattle.wire_peer.specs.declared.calls.CallKind.{CallKind}
 use Rattle.wire_peer.specs.declared.calls.CallNo.{CallNo}
 use Rattle.wire_peer.specs.declared.server_state.ServerState.TheVariants as servers
-use Rattle.wire_model.specs.Conns.{Conn, Record, World, conn_at, given_record, new_record, with_conn}
+use Rattle.wire_model.specs.Conns.{Conn, Record, World, conn_at, given_record, new_record}
+use Rattle.wire_model.specs.Conns.{with_conn}
 use Rattle.wire_model.specs.Machines.{asked_as}
 
 -- the pieces, joined
@@ -25,7 +28,8 @@ pub record ServerTakes (old : ServerView) (piece : List ℕ) (new : ServerView) 
 -- piece after piece
 abbrev pub ServerTakesAll : ServerView → List (List ℕ) → ServerView → Type 0
 ServerTakesAll old [] new = new ≡ old
-ServerTakesAll old (p ∷ ps) new = (mid : ServerView) × ServerTakes old p mid × ServerTakesAll mid ps new
+ServerTakesAll old (p ∷ ps) new =
+    (mid : ServerView) × ServerTakes old p mid × ServerTakesAll mid ps new
 
 -- the server takes no more: it is closed, or its waiting list is full
 abbrev pub TakesNone : ServerView → Type 0
@@ -49,10 +53,12 @@ pub record MovesUp {H : Type 0} (old : World H) (c n : ℕ) (new : World H) : Ty
   pub at_most : length (joined pieces) ≤ n
   pub server : ServerView
   pub takes : ServerTakesAll k.server pieces server
-  pub after : new ≡ with_conn old c (record k { client = with_client_output k.client rest; server = server })
+  pub after : new
+      ≡ with_conn old c (record k { client = with_client_output k.client rest; server = server })
 
 -- pieces of these bytes go into the server of a raw connection
-pub record TakesRaw {H : Type 0} (old : World H) (c : ℕ) (bytes : List ℕ) (new : World H) : Type 0 where
+pub record TakesRaw {H : Type 0} (old : World H) (c : ℕ) (bytes : List ℕ) (new : World H) :
+    Type 0 where
   pub k : Conn
   pub at : conn_at old.conns c ≡ Some k
   pub raw : k.raw ≡ true
@@ -64,7 +70,8 @@ pub record TakesRaw {H : Type 0} (old : World H) (c : ℕ) (bytes : List ℕ) (n
   pub takes : ServerTakesAll k.server pieces server
   pub after : new ≡ with_conn old c (record k { server = server })
 
--- the first n bytes of the output of a raw connection's server are taken away, or all, if there are fewer
+-- the first n bytes of the output of a raw connection's server are taken away, or all, if there are
+-- fewer
 pub record GivesRaw {H : Type 0} (old : World H) (c n : ℕ) (new : World H) : Type 0 where
   pub k : Conn
   pub at : conn_at old.conns c ≡ Some k
@@ -72,7 +79,8 @@ pub record GivesRaw {H : Type 0} (old : World H) (c n : ℕ) (new : World H) : T
   pub uncut : k.down_cut ≡ false
   pub bytes : List ℕ
   pub are : bytes ≡ take n k.server.output
-  pub after : new ≡ with_conn old c (record k { server = with_server_output k.server (drop n k.server.output) })
+  pub after : new
+      ≡ with_conn old c (record k { server = with_server_output k.server (drop n k.server.output) })
 
 -- ---- clients
 
@@ -93,13 +101,17 @@ put_at (Some i) part last calls = put_part (slice_get calls i) i part last calls
 -- the reply that is ready, if one is, goes into the record of its call
 abbrev pub CopiesReply : List ℕ → List ℕ → Option ReadyReply → List Record → List Record → Type 0
 CopiesReply indexes held None old new = new ≡ old
-CopiesReply indexes held (Some reply) old new = (m : Message) × SpellsMsg m held × (new ≡ put_at (slice_get indexes reply.call) m.content reply.last old)
+CopiesReply indexes held (Some reply) old new =
+    (m : Message) × SpellsMsg m held
+    × (new ≡ put_at (slice_get indexes reply.call) m.content reply.last old)
 
 -- piece after piece; each reply goes into its record, and is let go of
-abbrev pub ClientTakesAll : List ℕ → ClientSeen → List Record → List (List ℕ) → ClientSeen → List Record → Type 0
+abbrev pub ClientTakesAll : List ℕ → ClientSeen → List Record → List (List ℕ) → ClientSeen
+    → List Record → Type 0
 ClientTakesAll indexes old calls [] new calls' = (new ≡ old) × (calls' ≡ calls)
 ClientTakesAll indexes old calls (p ∷ ps) new calls' =
-    (mid : ClientSeen) × ClientTakes old p mid × ((copied : List Record) × CopiesReply indexes mid.held mid.reply calls copied
+    (mid : ClientSeen) × ClientTakes old p mid
+    × ((copied : List Record) × CopiesReply indexes mid.held mid.reply calls copied
     × ClientTakesAll indexes (released mid) copied ps new calls')
 
 -- pieces of the server's output, at most n bytes, go into the client
@@ -115,7 +127,11 @@ pub record MovesDown {H : Type 0} (old : World H) (c n : ℕ) (new : World H) : 
   pub client : ClientSeen
   pub calls : List Record
   pub takes : ClientTakesAll k.calls k.client old.calls pieces client calls
-  pub after : new ≡ record (with_conn old c (record k { client = client; server = with_server_output k.server rest })) { calls = calls }
+  pub after : new
+      ≡ record
+      (with_conn old c
+      (record k { client = client; server = with_server_output k.server rest }))
+      { calls = calls }
 
 -- one more piece goes into the client, and makes a reply ready that isn't copied
 pub record TakesUncopied {H : Type 0} (old : World H) (c n : ℕ) (new : World H) : Type 0 where
@@ -128,14 +144,20 @@ pub record TakesUncopied {H : Type 0} (old : World H) (c n : ℕ) (new : World H
   pub client : ClientSeen
   pub takes : ClientTakes k.client piece client
   pub ready : client.reply ≢ None
-  pub after : new ≡ with_conn old c (record k { client = client; server = with_server_output k.server rest })
+  pub after : new
+      ≡ with_conn old c (record k { client = client; server = with_server_output k.server rest })
 
 -- ---- calls
 
 -- a call is accepted, and is the world's last one
-pub record Calls {H : Type 0} (old : World H) (c : ℕ) (kind : CallKind) (payload : Content) (id : CallNo) (new : World H) : Type 0 where
+pub record Calls {H : Type 0} (old : World H) (c : ℕ) (kind : CallKind) (payload : Content)
+    (id : CallNo) (new : World H) : Type 0 where
   pub k : Conn
   pub at : conn_at old.conns c ≡ Some k
   pub accepted : IsCalled k.client kind payload id
-  pub after : new ≡ record (with_conn old c (record k { client = called k.client kind payload id; calls = k.calls ++ length old.calls ∷ [] }))
+  pub after : new
+      ≡ record
+      (with_conn old c
+      (record k
+      { client = called k.client kind payload id; calls = k.calls ++ length old.calls ∷ [] }))
       { calls = old.calls ++ new_record c (asked_as kind payload) ∷ [] }

@@ -1,18 +1,22 @@
 -- What each event needs of its connection.
 use Rattle.std.specs.Prelude.{ℕ, true, false, Option, None, Some, option_map}
 use Rattle.wire_model.specs.declared.events.Event.{Event}
-use Rattle.wire_model.specs.declared.events.Event.TheVariants.{Open, Return, Call, Up, Down, Answer, CutUp, CutDown, Clear, Restart, RawOpen, Raw, RawTake}
+use Rattle.wire_model.specs.declared.events.Event.TheVariants.{Open, Return, Call, Up, Down, Answer}
+use Rattle.wire_model.specs.declared.events.Event.TheVariants.{CutUp, CutDown, Clear, Restart}
+use Rattle.wire_model.specs.declared.events.Event.TheVariants.{RawOpen, Raw, RawTake}
 use Rattle.wire_model.specs.declared.needs.Needs.{Needs}
 
 -- no more than that the connection is there
 abbrev pub no_needs : ℕ → Needs
-no_needs c = record { connection = c; client = false; raw = false; loan = false; up = false; down = false }
+no_needs c =
+    record { connection = c; client = false; raw = false; loan = false; up = false; down = false }
 
 -- a client of ours, or that it is raw; that it is lent; and which ways must not be cut
 abbrev pub needs_of : Event → Option Needs
 needs_of Open = None
 needs_of (Return c) = Some (record (no_needs c) { client = true; loan = true })
-needs_of (Call c kind payload) = Some (record (no_needs c) { client = true; loan = true; up = true; down = true })
+needs_of (Call c kind payload) =
+    Some (record (no_needs c) { client = true; loan = true; up = true; down = true })
 needs_of (Up c n) = Some (record (no_needs c) { client = true; up = true })
 needs_of (Down c n) = Some (record (no_needs c) { client = true; down = true })
 needs_of (Answer c i) = Some (no_needs c)

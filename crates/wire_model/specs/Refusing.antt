@@ -1,5 +1,6 @@
 -- Why an event is refused: the first check that fails.
-use Rattle.std.specs.Prelude.{◌≡◌, ◌≢◌, ℕ, Bool, true, false, ◌&&◌, ◌||◌, not, if◌then◌else◌, nat_le, Option, None, Some, is_none, is_some, List, length}
+use Rattle.std.specs.Prelude.{◌≡◌, ◌≢◌, ℕ, Bool, true, false, ◌&&◌, ◌||◌, not, if◌then◌else◌}
+use Rattle.std.specs.Prelude.{nat_le, Option, None, Some, is_none, is_some, List, length}
 use Rattle.wire_pool.specs.{checked_out, loan_of}
 use Rattle.wire_pool.specs.declared.loans.Loan.{Loan}
 use Rattle.wire_pool.specs.declared.pool_answers.CheckOut.{CheckOut}
@@ -31,7 +32,8 @@ is_full_for w e = false
 -- a server that is closed answers nothing, nor does an open one what doesn't wait
 abbrev pub answer_reason : ServerState → (waiting i : ℕ) → Option WorldRefusal
 answer_reason (servers.Closed cause) waiting i = Some (refusals.Answer answers.Closed)
-answer_reason servers.Open waiting i = if nat_le waiting i then Some (refusals.Answer answers.NoSuchRequest) else None
+answer_reason servers.Open waiting i =
+    if nat_le waiting i then Some (refusals.Answer answers.NoSuchRequest) else None
 
 abbrev pub core_reason : Event → Conn → Option WorldRefusal
 core_reason (Answer c i) k = answer_reason k.server.state (length k.server.waiting) i
@@ -64,5 +66,7 @@ first_reason w e = reason_of w e (needs_of e)
 
 -- the client refuses the call, for another cause than want of memory
 abbrev pub RefusesCall : {H : Type 0} → World H → Event → CallRefusal → Type 0
-RefusesCall w (Call c kind payload) refusal = (k : Conn) × (conn_at w.conns c ≡ Some k) × (refusal ≢ calls.OutOfMemory) × IsCallRefusal k.client kind (content_of payload) refusal
+RefusesCall w (Call c kind payload) refusal =
+    (k : Conn) × (conn_at w.conns c ≡ Some k) × (refusal ≢ calls.OutOfMemory)
+    × IsCallRefusal k.client kind (content_of payload) refusal
 RefusesCall w e refusal = ⊥

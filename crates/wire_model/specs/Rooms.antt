@@ -5,4 +5,6 @@ use Rattle.wire_peer.specs.{ServerView}
 
 -- So many more bytes end before a header does, or inside the message that a good header announces.
 abbrev pub HasRoomFor : ServerView → ℕ → Type 0
-HasRoomFor s n = (length s.held + n < 16) ⊎ ((room : ℕ) × (16 ≤ length s.held) × IsRoom s.limit s.held room × (length s.held + n ≤ room))
+HasRoomFor s n =
+    (length s.held + n < 16)
+    ⊎ ((room : ℕ) × (16 ≤ length s.held) × IsRoom s.limit s.held room × (length s.held + n ≤ room))

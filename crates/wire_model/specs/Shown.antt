@@ -1,14 +1,17 @@
 -- What a world shows of the machine, and what holds of every run.
-use Rattle.std.specs.Prelude.{◌≡◌, ℕ, ◌⊎◌, Bool, false, if◌then◌else◌, Option, None, Some, List, [], ◌∷◌, slice_get}
+use Rattle.std.specs.Prelude.{◌≡◌, ℕ, ◌⊎◌, Bool, false, if◌then◌else◌, Option, None, Some, List, []}
+use Rattle.std.specs.Prelude.{◌∷◌, slice_get}
 use Rattle.std.specs.List.{IsDistinct}
 use Rattle.std.specs.Ordering.{int_eq}
 use Rattle.wire_peer.specs.{Does, Stops, ids}
 use Rattle.wire_peer.specs.declared.client_state.ClientState.TheVariants as clients
-use Rattle.wire_peer.specs.declared.server_state.ServerCause.TheVariants.{ReplyTooLarge, NoMemory, HandlerFailed}
+use Rattle.wire_peer.specs.declared.server_state.ServerCause.TheVariants.{ReplyTooLarge, NoMemory}
+use Rattle.wire_peer.specs.declared.server_state.ServerCause.TheVariants.{HandlerFailed}
 use Rattle.wire_peer.specs.declared.server_state.ServerState.{ServerState}
 use Rattle.wire_peer.specs.declared.server_state.ServerState.TheVariants.{Open, Closed}
 use Rattle.wire_model.specs.Conns.{Conn, Record, World, conn_at}
-use Rattle.wire_model.specs.Facts.{DoneIsWhole, EntryHasOneCall, LogIsRun, MuteIsNeverDone, PendingHoldsBeginning, SilentHoldsNone}
+use Rattle.wire_model.specs.Facts.{DoneIsWhole, EntryHasOneCall, LogIsRun, MuteIsNeverDone}
+use Rattle.wire_model.specs.Facts.{PendingHoldsBeginning, SilentHoldsNone}
 use Rattle.wire_model.specs.Machines.{Call, Done, Machine, Steps, empty, is_ours}
 
 -- what the world shows of the calls; of strangers nothing
@@ -40,12 +43,16 @@ IsStopped s = (s ≡ Closed ReplyTooLarge) ⊎ ((s ≡ Closed NoMemory) ⊎ (s �
 abbrev pub IsOpenOrStopped : ServerState → Type 0
 IsOpenOrStopped s = (s ≡ Open) ⊎ IsStopped s
 
--- on a connection that isn't raw or cut the client is open, and so is the server, but where an answer closed it
+-- on a connection that isn't raw or cut the client is open, and so is the server, but where an
+-- answer closed it
 abbrev pub UncutIsOpen : {H : Type 0} → World H → Type 0
-UncutIsOpen w = (c : ℕ) (k : Conn) → conn_at w.conns c ≡ Some k → k.raw ≡ false → k.up_cut ≡ false → k.down_cut ≡ false
+UncutIsOpen w =
+    (c : ℕ) (k : Conn) → conn_at w.conns c ≡ Some k → k.raw ≡ false → k.up_cut ≡ false
+    → k.down_cut ≡ false
     → (k.client.state ≡ clients.Open) × IsOpenOrStopped k.server.state
 
--- Neither way of the connection was cut, no answer closed its server, nothing is on the ways, and nothing waits.
+-- Neither way of the connection was cut, no answer closed its server, nothing is on the ways, and
+-- nothing waits.
 pub record IsQuiet {H : Type 0} (w : World H) (c : ℕ) : Type 0 where
   pub k : Conn
   pub at : conn_at w.conns c ≡ Some k
@@ -58,16 +65,21 @@ pub record IsQuiet {H : Type 0} (w : World H) (c : ℕ) : Type 0 where
 
 -- on a quiet connection every acknowledged call is done
 abbrev pub QuietIsDone : {H : Type 0} → World H → Type 0
-QuietIsDone w = (c : ℕ) → IsQuiet w c → (i : ℕ) (x : Record) → slice_get w.calls i ≡ Some x → x.connection ≡ c → x.asked.more_to_come ≡ false → x.state ≡ Done
+QuietIsDone w =
+    (c : ℕ) → IsQuiet w c → (i : ℕ) (x : Record) → slice_get w.calls i ≡ Some x → x.connection ≡ c
+    → x.asked.more_to_come ≡ false → x.state ≡ Done
 
 -- no two outstanding calls of one client bear one id
 abbrev pub IdsApart : {H : Type 0} → World H → Type 0
-IdsApart w = (c : ℕ) (k : Conn) → conn_at w.conns c ≡ Some k → IsDistinct int_eq (ids k.client.requests.outstanding)
+IdsApart w =
+    (c : ℕ) (k : Conn) → conn_at w.conns c ≡ Some k
+    → IsDistinct int_eq (ids k.client.requests.outstanding)
 
--- The world shows a state of the machine that its steps reach from the empty one. In it each call that is done holds
--- exactly the answers of its own entry, no two calls share one, and an unacknowledged call holds none; and on a quiet
--- connection every acknowledged call is done.
-pub record Headline {H : Type 0} (does : Does H) (stops : Stops H) (first : H) (w : World H) : Type 0 where
+-- The world shows a state of the machine that its steps reach from the empty one. In it each call
+-- that is done holds exactly the answers of its own entry, no two calls share one, and an
+-- unacknowledged call holds none; and on a quiet connection every acknowledged call is done.
+pub record Headline {H : Type 0} (does : Does H) (stops : Stops H) (first : H) (w : World H) :
+    Type 0 where
   pub m : Machine H
   pub reached : Steps H does stops (empty first (raws w)) m
   pub shows : Shows w m

@@ -3,8 +3,8 @@
 use wire_msg::Payload;
 use wire_peer::CallKind;
 
-/// One thing that happens in a world. Connections are numbered from 1, in the order in which they are made, and what waits
-/// at a server from 0.
+/// One thing that happens in a world. Connections are numbered from 1, in the order in which they
+/// are made, and what waits at a server from 0.
 #[derive(Clone, Copy)]
 pub enum Event<'a> {
     /// A connection is checked out of the pool.

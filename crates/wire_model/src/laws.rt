@@ -22,16 +22,16 @@ pub fn up_finds_room<H: Handler>()
         → Happens H.does H.stops l old (Up c n) (Err OutOfMemory) new → ⊥ }
 {}
 
-/// Proves that whatever events come, the world shows a state of the machine that its steps reach, and all that holds
-/// there.
+/// Proves that whatever events come, the world shows a state of the machine that its steps reach,
+/// and all that holds there.
 pub fn headline_holds<H: Handler>()
     ensures { (l : Limits) (first : H) (events : List Happening) (w : World H)
         → AreGood l → Run H.does H.stops l (opening l first) events w
         → Headline H.does H.stops first w }
 {}
 
-/// Proves that whatever events come, each raw connection has answered its own messages only, each once at most. The
-/// strangers are those of the state that the world shows.
+/// Proves that whatever events come, each raw connection has answered its own messages only, each
+/// once at most. The strangers are those of the state that the world shows.
 pub fn raw_entries_are_own<H: Handler>()
     ensures { (l : Limits) (first : H) (events : List Happening) (w : World H)
         → AreGood l → (run : Run H.does H.stops l (opening l first) events w)
@@ -39,7 +39,8 @@ pub fn raw_entries_are_own<H: Handler>()
         × RawAnswerOwn H.does H.stops l first events w run shown.m }
 {}
 
-/// Proves that whatever events come, all that the server of a raw connection gave is the replies to its own entries.
+/// Proves that whatever events come, all that the server of a raw connection gave is the replies to
+/// its own entries.
 pub fn raw_replies_are_own<H: Handler>()
     ensures { (l : Limits) (first : H) (events : List Happening) (w : World H)
         → AreGood l → (run : Run H.does H.stops l (opening l first) events w)
@@ -53,7 +54,8 @@ pub fn ids_stay_apart<H: Handler>()
         → Run H.does H.stops l (opening l first) events w → IdsApart w }
 {}
 
-/// Proves that whatever steps the machine takes, a call keeps its parts, and one that is done, sent or lost stays so.
+/// Proves that whatever steps the machine takes, a call keeps its parts, and one that is done, sent
+/// or lost stays so.
 pub fn calls_are_kept<H: Handler>()
     ensures { (first : H) (raw : ℕ → Bool) (m n : Machine H)
         → Steps H H.does H.stops (empty first raw) m → Steps H H.does H.stops m n
@@ -74,8 +76,9 @@ pub fn done_is_earlier<H: Handler>()
         → DoneIsEarlier m n }
 {}
 
-/// Proves that whatever events come in a world, what it shows of the machine is reached by steps from what it showed
-/// before: calls are kept, the log only grows, and a call that was done before another was made has the earlier entry.
+/// Proves that whatever events come in a world, what it shows of the machine is reached by steps
+/// from what it showed before: calls are kept, the log only grows, and a call that was done before
+/// another was made has the earlier entry.
 pub fn worlds_go_on<H: Handler>()
     ensures { (l : Limits) (first : H) (before after : List Happening) (old new : World H)
         → AreGood l → Run H.does H.stops l (opening l first) before old

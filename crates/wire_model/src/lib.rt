@@ -1,11 +1,13 @@
-//! The model of a world of connections: what may happen in it, what each event does, and what holds after any of them.
+//! The model of a world of connections: what may happen in it, what each event does, and what holds
+//! after any of them.
 //!
-//! A world has a pool, connections, the calls that were made over them, and one handler with its log. `specs` says how each
-//! event changes it, and has the machine of calls and entries that a world shows. The laws say that every run shows a run of
-//! the machine, and what holds in each state of that.
+//! A world has a pool, connections, the calls that were made over them, and one handler with its
+//! log. `specs` says how each event changes it, and has the machine of calls and entries that a
+//! world shows. The laws say that every run shows a run of the machine, and what holds in each
+//! state of that.
 //!
-//! Stands on wire_peer and wire_pool. wire_world and wire_script stand on it. Read first: `events`, then
-//! `specs/Happening.antt` and `specs/Machines.antt`, and then `laws`.
+//! Stands on wire_peer and wire_pool. wire_world and wire_script stand on it. Read first: `events`,
+//! then `specs/Happening.antt` and `specs/Machines.antt`, and then `laws`.
 #![tactic(auto)]
 
 mod events;

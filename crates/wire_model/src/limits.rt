@@ -5,7 +5,8 @@
 pub struct WorldLimits {
     /// The id of each client's first request, 1 to 2,147,483,647.
     pub first_id: i32,
-    /// How many calls may be outstanding at a client, and how many requests may wait at a server, 1 to 1,024.
+    /// How many calls may be outstanding at a client, and how many requests may wait at a server, 1
+    /// to 1,024.
     pub window: usize,
     /// How many connections the pool may have lent, 1 to 1,024.
     pub connections: usize,

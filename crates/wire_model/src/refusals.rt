@@ -17,8 +17,8 @@ pub enum WorldRefusal {
     Call(CallRefusal),
     /// The server refuses to answer.
     Answer(AnswerRefusal),
-    /// Memory is wanting. Where a connection was to be made, nothing changes; else the event's connection is then cut both ways,
-    /// and part of what was to be moved may have been.
+    /// Memory is wanting. Where a connection was to be made, nothing changes; else the event's
+    /// connection is then cut both ways, and part of what was to be moved may have been.
     OutOfMemory,
     /// The connection is raw.
     Raw,

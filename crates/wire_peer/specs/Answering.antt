@@ -12,10 +12,12 @@ use Rattle.wire_peer.specs.declared.server_state.AnswerRefusal.{AnswerRefusal}
 use Rattle.wire_peer.specs.declared.server_state.AnswerRefusal.TheVariants.{NowClosed}
 use Rattle.wire_peer.specs.declared.server_state.ServerCause.TheVariants as causes
 use Rattle.wire_peer.specs.declared.serving.ServeEnd.{ServeEnd}
-use Rattle.wire_peer.specs.declared.serving.ServeEnd.TheVariants.{Link, Later, ReplyTooLarge, OutOfMemory, HandlerFailed}
+use Rattle.wire_peer.specs.declared.serving.ServeEnd.TheVariants.{Link, Later, ReplyTooLarge}
+use Rattle.wire_peer.specs.declared.serving.ServeEnd.TheVariants.{OutOfMemory, HandlerFailed}
 
 -- The handler was asked a message of a connection, and its entry was added to the log.
-pub record GotEntry {H : Type 0} (does : Does H) (stops : Stops H) (connection : ℕ) (m : Message) (old new : Seen H) : Type 0 where
+pub record GotEntry {H : Type 0} (does : Does H) (stops : Stops H) (connection : ℕ) (m : Message)
+    (old new : Seen H) : Type 0 where
   pub entry : LogEntry
   pub logged : new.log ≡ old.log ++ entry ∷ []
   pub connected : entry.connection ≡ connection
@@ -23,32 +25,41 @@ pub record GotEntry {H : Type 0} (does : Does H) (stops : Stops H) (connection :
   pub step : LogStep does stops old.handler (asked_by m) entry.answers new.handler
 
 -- a message has its entry, and a beginning of its replies was sent
-abbrev pub SentPart : {H : Type 0} → Does H → Stops H → (connection : ℕ) → Message → (id : ℕ) → Seen H → Seen H → Type 0
+abbrev pub SentPart : {H : Type 0} → Does H → Stops H → (connection : ℕ) → Message → (id : ℕ)
+    → Seen H → Seen H → Type 0
 SentPart does stops connection m id old new =
     (g : GotEntry does stops connection m old new) × (g.entry.answers ≢ None)
-    × (part : List ℕ) × (lost : List ℕ) × Appends old.sent new.sent part × (written (replies_to id m g.entry.answers) ≡ part ++ lost)
+    × (part : List ℕ) × (lost : List ℕ) × Appends old.sent new.sent part
+    × (written (replies_to id m g.entry.answers) ≡ part ++ lost)
 
--- A message was answered with this result: all replies were sent, from this reply id up to another one, or a part of them if
--- the link failed or took no more, or none.
-abbrev pub AnswersAs : {H : Type 0} → Does H → Stops H → (connection limit : ℕ) → Message → Result (Unit {0}) ServeEnd → (id id' : ℕ) → Seen H → Seen H → Type 0
+-- A message was answered with this result: all replies were sent, from this reply id up to another
+-- one, or a part of them if the link failed or took no more, or none.
+abbrev pub AnswersAs : {H : Type 0} → Does H → Stops H → (connection limit : ℕ) → Message
+    → Result (Unit {0}) ServeEnd → (id id' : ℕ) → Seen H → Seen H → Type 0
 AnswersAs does stops connection limit m (Ok _) id id' old new =
     (new.failures ≡ old.failures)
     × (g : GotEntry does stops connection m old new) × (g.entry.answers ≢ None)
-    × Appends old.sent new.sent (written (replies_to id m g.entry.answers)) × (id' ≡ id_behind id m g.entry.answers)
+    × Appends old.sent new.sent (written (replies_to id m g.entry.answers))
+    × (id' ≡ id_behind id m g.entry.answers)
 AnswersAs does stops connection limit m (Err Link) id id' old new =
     Rose old.failures new.failures × SentPart does stops connection m id old new
 AnswersAs does stops connection limit m (Err Later) id id' old new =
     (new.failures ≡ old.failures) × SentPart does stops connection m id old new
 AnswersAs does stops connection limit m (Err ReplyTooLarge) id id' old new =
     (new.failures ≡ old.failures) × Appends old.sent new.sent []
-    × (g : GotEntry does stops connection m old new) × (is_longer limit (replies_to id m g.entry.answers) ≡ true)
+    × (g : GotEntry does stops connection m old new)
+    × (is_longer limit (replies_to id m g.entry.answers) ≡ true)
 AnswersAs does stops connection limit m (Err HandlerFailed) id id' old new =
     (new.failures ≡ old.failures) × Appends old.sent new.sent []
-    × (g : GotEntry does stops connection m old new) × (g.entry.answers ≡ None) × stops old.handler (asked_by m) stop.Failed new.handler
+    × (g : GotEntry does stops connection m old new) × (g.entry.answers ≡ None)
+    × stops old.handler (asked_by m) stop.Failed new.handler
 AnswersAs does stops connection limit m (Err OutOfMemory) id id' old new =
     (new.failures ≡ old.failures) × Appends old.sent new.sent []
     × (((new.handler ≡ old.handler) × (new.log ≡ old.log))
-    ⊎ ((g : GotEntry does stops connection m old new) × WantedMemory stops limit old.handler m (replies_to id m g.entry.answers) g.entry.answers new.handler))
+    ⊎
+    ((g : GotEntry does stops connection m old new)
+    × WantedMemory stops limit old.handler m (replies_to id m g.entry.answers)
+    g.entry.answers new.handler))
 AnswersAs does stops connection limit m (Err _) id id' old new = ⊥
 
 -- how serving ends where a request got no replies

@@ -12,7 +12,9 @@ NoneBegun (o ∷ t) = (o.1.last ≡ None) × NoneBegun t
 -- the call that bears the id is this one, and no other has had a part
 abbrev pub OneBegun : ℤ → Outstanding → Table → Type 0
 OneBegun id o [] = ⊥
-OneBegun id o (e ∷ t) = ((int_eq id e.0 ≡ true) × (e ≡ (id, o)) × NoneBegun t) ⊎ ((int_eq id e.0 ≡ false) × (e.1.last ≡ None) × OneBegun id o t)
+OneBegun id o (e ∷ t) =
+    ((int_eq id e.0 ≡ true) × (e ≡ (id, o)) × NoneBegun t)
+    ⊎ ((int_eq id e.0 ≡ false) × (e.1.last ≡ None) × OneBegun id o t)
 
 -- the id of the call that has had a part, if there is one
 abbrev pub IsBegun : Table → Option ℤ → Type 0
@@ -25,4 +27,5 @@ IsAlone t id o = (bearer id t ≡ Some o) × (NoneBegun t ⊎ OneBegun id o t)
 
 -- the last call has had no part
 abbrev pub IsFreshLast : Table → Type 0
-IsFreshLast t = (before : Table) × (o : ℤ × Outstanding) × (o.1.last ≡ None) × (t ≡ before ++ o ∷ [])
+IsFreshLast t =
+    (before : Table) × (o : ℤ × Outstanding) × (o.1.last ≡ None) × (t ≡ before ++ o ∷ [])

@@ -1,11 +1,16 @@
--- The calls that await replies, in the order in which they were made, each with the id of its request.
-use Rattle.std.specs.Prelude.{◌≡◌, ◌≤◌, ℤ, Bool, false, ◌&&◌, ◌||◌, not, if◌then◌else◌, List, [], ◌∷◌, length, filter, map, Option, Some, None, is_some, Result, Ok, Err}
+-- The calls that await replies, in the order in which they were made, each with the id of its
+-- request.
+use Rattle.std.specs.Prelude.{◌≡◌, ◌≤◌, ℤ, Bool, false, ◌&&◌, ◌||◌, not, if◌then◌else◌, List, []}
+use Rattle.std.specs.Prelude.{◌∷◌, length, filter, map, Option, Some, None, is_some, Result, Ok}
+use Rattle.std.specs.Prelude.{Err}
 use Rattle.std.specs.Ordering.{int_eq}
 use Rattle.std.specs.Map.{lookup, remove_entry, set_value}
 use Rattle.wire_peer.specs.declared.call_table.Outstanding.{Outstanding}
 use Rattle.wire_peer.specs.declared.call_table.ReadyReply.{ReadyReply}
 use Rattle.wire_peer.specs.declared.client_state.ClientCause.{ClientCause}
-use Rattle.wire_peer.specs.declared.client_state.ClientCause.TheVariants.{UnknownReply, MoreNotAllowed, StreamBroken}
+use Rattle.wire_peer.specs.declared.client_state.ClientCause.TheVariants.{UnknownReply}
+use Rattle.wire_peer.specs.declared.client_state.ClientCause.TheVariants.{MoreNotAllowed}
+use Rattle.wire_peer.specs.declared.client_state.ClientCause.TheVariants.{StreamBroken}
 use Rattle.wire_peer.specs.Calls.{allows_more}
 
 abbrev pub Table : Type 0
@@ -60,13 +65,14 @@ abbrev pub owner_by : Option (ℤ × Outstanding) → Table → ℤ → Result (
 owner_by (Some o) t to = of_stream o to
 owner_by None t to = of_bearer (bearer to t) to
 
--- The call that a message with this responseTo belongs to. While a call has had a part and isn't complete, it is that one;
--- else the one that bears the id.
+-- The call that a message with this responseTo belongs to. While a call has had a part and isn't
+-- complete, it is that one; else the one that bears the id.
 abbrev pub owner : Table → ℤ → Result (ℤ × Outstanding) ClientCause
 owner t to = owner_by (stream t) t to
 
 -- more replies come to a call that allows them alone
-abbrev pub allowed : Bool → Result (ℤ × Outstanding) ClientCause → Result (ℤ × Outstanding) ClientCause
+abbrev pub allowed : Bool → Result (ℤ × Outstanding) ClientCause
+    → Result (ℤ × Outstanding) ClientCause
 allowed more (Ok o) = if more && not (allows_more o.1.kind) then Err MoreNotAllowed else Ok o
 allowed more (Err cause) = Err cause
 
@@ -78,9 +84,12 @@ reply_to o more = record { call = o.1.call; last = not more }
 
 -- the table after a part of that id, or after the last reply
 abbrev pub after_reply : Table → ℤ × Outstanding → ℤ → Bool → Table
-after_reply t o part more = if more then set_value (int_eq o.0) t (after_part o.1 part) else without o.0 t
+after_reply t o part more =
+    if more then set_value (int_eq o.0) t (after_part o.1 part) else without o.0 t
 
 -- a message with this id was given to the call that it belongs to, or to none
-abbrev pub IsReceived : Table → ℤ → Bool → Result (ℤ × Outstanding) ClientCause → Result ReadyReply ClientCause → Table → Type 0
-IsReceived t id more (Ok o) result new = (result ≡ Ok (reply_to o more)) × (new ≡ after_reply t o id more)
+abbrev pub IsReceived : Table → ℤ → Bool → Result (ℤ × Outstanding) ClientCause
+    → Result ReadyReply ClientCause → Table → Type 0
+IsReceived t id more (Ok o) result new =
+    (result ≡ Ok (reply_to o more)) × (new ≡ after_reply t o id more)
 IsReceived t id more (Err cause) result new = (result ≡ Err cause) × (new ≡ t)

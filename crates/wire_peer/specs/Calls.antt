@@ -5,7 +5,8 @@ use Rattle.wire_msg.specs.declared.flags.MsgFlags.{MsgFlags}
 use Rattle.wire_peer.specs.declared.calls.CallKind.{CallKind}
 use Rattle.wire_peer.specs.declared.calls.CallKind.TheVariants.{Plain, Exhaust, Unacknowledged}
 use Rattle.wire_peer.specs.declared.calls.CallRefusal.{CallRefusal}
-use Rattle.wire_peer.specs.declared.calls.CallRefusal.TheVariants.{Closed, WindowFull, TooLarge, NumbersSpent, OutOfMemory}
+use Rattle.wire_peer.specs.declared.calls.CallRefusal.TheVariants.{Closed, WindowFull, TooLarge}
+use Rattle.wire_peer.specs.declared.calls.CallRefusal.TheVariants.{NumbersSpent, OutOfMemory}
 
 -- a call of this kind has a reply
 abbrev pub awaits_reply : CallKind → Bool

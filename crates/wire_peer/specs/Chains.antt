@@ -1,5 +1,6 @@
 -- The replies to requests, as messages.
-use Rattle.std.specs.Prelude.{ℕ, ℤ, pos, ◌+◌, nat_lt, List, [], ◌∷◌, ◌++◌, Bool, true, false, if◌then◌else◌}
+use Rattle.std.specs.Prelude.{ℕ, ℤ, pos, ◌+◌, nat_lt, List, [], ◌∷◌, ◌++◌, Bool, true, false}
+use Rattle.std.specs.Prelude.{if◌then◌else◌}
 use Rattle.wire_msg.specs.{Content, Message, canonical, message_len}
 use Rattle.wire_peer.specs.Requests.{Asked}
 
@@ -13,12 +14,20 @@ are_left (a ∷ answers) = true
 
 -- a reply with this id to this id: whether another one follows it, and the answer
 abbrev pub reply : ℕ → ℤ → Bool → Content → Message
-reply id to more answer = record { id = pos id; response_to = to; flags = record { more_to_come = more; exhaust_allowed = false }; content = answer }
+reply id to more answer =
+    record {
+      id = pos id;
+      response_to = to;
+      flags = record { more_to_come = more; exhaust_allowed = false };
+      content = answer;
+    }
 
--- The replies with these answers, with ids from one on: the first to this id, each later one to the reply before it.
+-- The replies with these answers, with ids from one on: the first to this id, each later one to the
+-- reply before it.
 abbrev pub chain : ℕ → ℤ → List Content → List Message
 chain id to [] = []
-chain id to (a ∷ answers) = reply id to (are_left answers) a ∷ chain (id_after_one id) (pos id) answers
+chain id to (a ∷ answers) =
+    reply id to (are_left answers) a ∷ chain (id_after_one id) (pos id) answers
 
 -- the reply id that is next after so many replies
 abbrev pub id_after : ℕ → List Content → ℕ
@@ -42,7 +51,8 @@ abbrev pub is_longer : ℕ → List Message → Bool
 is_longer limit [] = false
 is_longer limit (m ∷ ms) = if nat_lt limit (message_len m.content) then true else is_longer limit ms
 
--- the replies that wait to be sent, as bytes, the id of the next reply, and the limit on a reply's length
+-- the replies that wait to be sent, as bytes, the id of the next reply, and the limit on a reply's
+-- length
 pub record ReplyState : Type 0 where
   pub output : List ℕ
   pub next : ℕ

@@ -1,5 +1,6 @@
 -- The client's end of a connection, and its steps.
-use Rattle.std.specs.Prelude.{◌≡◌, ◌≢◌, ℕ, ◌≤◌, ℤ, List, [], ◌∷◌, ◌++◌, length, take, Option, Some, None, Result, Ok, Err}
+use Rattle.std.specs.Prelude.{◌≡◌, ◌≢◌, ℕ, ◌≤◌, ℤ, List, [], ◌∷◌, ◌++◌, length, take, Option, Some}
+use Rattle.std.specs.Prelude.{None, Result, Ok, Err}
 use Rattle.wire_msg.specs.{Content, IsBad, IsOpen, Message, SpellsMsg}
 use Rattle.wire_msg.specs.declared.fault.MsgFault.{MsgFault}
 use Rattle.wire_stream.specs.{HoldsNoMore}
@@ -16,8 +17,8 @@ use Rattle.wire_peer.specs.declared.client_state.ClientState.TheVariants.{Open, 
 use Rattle.wire_peer.specs.CallTables.{after_reply, allowed, owner, reply_to}
 use Rattle.wire_peer.specs.Requesting.{RequestState, after_call, IsAccepted, IsRefused}
 
--- What a caller sees of a client: its requests, the bytes of the current message so far, the reply that is ready, and
--- whether it is open.
+-- What a caller sees of a client: its requests, the bytes of the current message so far, the reply
+-- that is ready, and whether it is open.
 pub record ClientSeen : Type 0 where
   pub requests : RequestState
   pub held : List ℕ
@@ -27,7 +28,15 @@ pub record ClientSeen : Type 0 where
 -- a client that has done nothing
 abbrev pub new_client : ℤ → ℕ → ℕ → ClientSeen
 new_client first_id window limit = record {
-  requests = record { limit = limit; window = window; output = []; outstanding = []; next_id = first_id; next_number = Some 0 };
+  requests =
+      record {
+        limit = limit;
+        window = window;
+        output = [];
+        outstanding = [];
+        next_id = first_id;
+        next_number = Some 0;
+      };
   held = [];
   reply = None;
   state = Open;
@@ -69,23 +78,28 @@ closed k cause = record k { state = state_after k.state cause }
 -- the message belongs to this call, or to none
 abbrev pub received : ClientSeen → Message → Result (ℤ × Outstanding) ClientCause → ClientSeen
 received k m (Ok o) = record k {
-  requests = record (k.requests) { outstanding = after_reply k.requests.outstanding o m.id m.flags.more_to_come };
+  requests =
+      record (k.requests)
+      { outstanding = after_reply k.requests.outstanding o m.id m.flags.more_to_come };
   reply = Some (reply_to o m.flags.more_to_come);
 }
 received k m (Err cause) = closed k cause
 
 -- the message is the next reply to the call that it belongs to
 abbrev pub after_message : ClientSeen → Message → ClientSeen
-after_message k m = received k m (allowed m.flags.more_to_come (owner k.requests.outstanding m.response_to))
+after_message k m =
+    received k m (allowed m.flags.more_to_come (owner k.requests.outstanding m.response_to))
 
 -- what the bytes that the client holds make of it: they are open, a message, or bad
 pub data Settles (k new : ClientSeen) : Type 0 where
   is_open : IsOpen k.requests.limit k.held → new ≡ k → Settles k new
-  is_message : (m : Message) → SpellsMsg m k.held → length k.held ≤ k.requests.limit → new ≡ after_message k m → Settles k new
-  is_bad : (f : MsgFault) → IsBad k.requests.limit k.held f → new ≡ closed k (causes.Message f) → Settles k new
+  is_message : (m : Message) → SpellsMsg m k.held → length k.held ≤ k.requests.limit
+      → new ≡ after_message k m → Settles k new
+  is_bad : (f : MsgFault) → IsBad k.requests.limit k.held f → new ≡ closed k (causes.Message f)
+      → Settles k new
 
--- So many first bytes of the piece went to the held ones: all of them, but none past the end of the current message or the
--- 16th byte of a bad header.
+-- So many first bytes of the piece went to the held ones: all of them, but none past the end of the
+-- current message or the 16th byte of a bad header.
 pub record Takes (old : ClientSeen) (piece : List ℕ) (taken : ℕ) (new : ClientSeen) : Type 0 where
   pub within : taken ≤ length piece
   pub no_more : HoldsNoMore old.requests.limit (old.held ++ take taken piece)

@@ -1,11 +1,13 @@
 -- How the next message comes over a link.
-use Rattle.std.specs.Prelude.{◌≡◌, ◌≢◌, ℕ, ◌≤◌, List, [], ◌∷◌, ◌++◌, length, Option, Result, Ok, Err}
+use Rattle.std.specs.Prelude.{◌≡◌, ◌≢◌, ℕ, ◌≤◌, List, [], ◌∷◌, ◌++◌, length, Option, Result, Ok}
+use Rattle.std.specs.Prelude.{Err}
 use Rattle.std.specs.Io.KnownBytes.{Appends, Keeps}
 use Rattle.bson_elem.specs.{IsBytes}
 use Rattle.wire_msg.specs.{IsBad, IsGoodHeader, IsMessage, IsOpen, header_of}
 use Rattle.wire_stream.specs.{Rose, Turn}
 use Rattle.wire_peer.specs.declared.serving.ServeEnd.{ServeEnd}
-use Rattle.wire_peer.specs.declared.serving.ServeEnd.TheVariants.{Ended, EndedInside, Fault, Link, Later, OutOfMemory}
+use Rattle.wire_peer.specs.declared.serving.ServeEnd.TheVariants.{Ended, EndedInside, Fault, Link}
+use Rattle.wire_peer.specs.declared.serving.ServeEnd.TheVariants.{Later, OutOfMemory}
 use Rattle.wire_peer.specs.declared.server_state.ServerState.{ServerState}
 use Rattle.wire_peer.specs.declared.server_state.ServerState.TheVariants.{Open, Closed}
 use Rattle.wire_peer.specs.declared.server_state.ServerCause.TheVariants.{Message}
@@ -38,14 +40,17 @@ pub record IsFree (s : ServerView) : Type 0 where
   pub none : s.waiting ≡ []
   pub window : 1 ≤ s.window
 
--- What a server has of one message under its limit, what an inlet holds behind that, and how often the link told its end before
--- and now: a message is there; or no message comes, since the end was told, between messages or inside one, or since what came
--- is at fault, the link failed, or memory was wanting for a message of which a good header came.
+-- What a server has of one message under its limit, what an inlet holds behind that, and how often
+-- the link told its end before and now: a message is there; or no message comes, since the end was
+-- told, between messages or inside one, or since what came is at fault, the link failed, or memory
+-- was wanting for a message of which a good header came.
 abbrev pub Came : Result (Unit {0}) ServeEnd → ℕ → List ℕ → List ℕ → ℕ → ℕ → Type 0
 Came (Ok _) limit held piece old new = IsMessage limit held × (new ≡ old)
 Came (Err Ended) limit held piece old new = (held ≡ []) × (piece ≡ []) × Rose old new
-Came (Err EndedInside) limit held piece old new = (held ≢ []) × IsOpen limit held × (piece ≡ []) × Rose old new
-Came (Err (Fault f)) limit held piece old new = IsBad limit held f × IsBytes (held ++ piece) × (new ≡ old)
+Came (Err EndedInside) limit held piece old new =
+    (held ≢ []) × IsOpen limit held × (piece ≡ []) × Rose old new
+Came (Err (Fault f)) limit held piece old new =
+    IsBad limit held f × IsBytes (held ++ piece) × (new ≡ old)
 Came (Err Link) limit held piece old new = new ≡ old
 Came (Err Later) limit held piece old new = new ≡ old
 Came (Err OutOfMemory) limit held piece old new = HasGoodHeader limit (held ++ piece) × (new ≡ old)
@@ -61,9 +66,11 @@ abbrev pub Waited : Result (Unit {0}) ServeEnd → ℕ → ℕ → Type 0
 Waited (Err Later) old new = Rose old new
 Waited _ old new = new ≡ old
 
--- At each of these calls of `recv` nothing had been sent since then, and the bytes that were held, with those that had been
--- received since then, were open.
+-- At each of these calls of `recv` nothing had been sent since then, and the bytes that were held,
+-- with those that had been received since then, were open.
 abbrev pub AreBetween : ℕ → (received sent : Option (List ℕ)) → (held : List ℕ) → List Turn → Type 0
 AreBetween limit received sent held [] = Unit {0}
 AreBetween limit received sent held (t ∷ ts) =
-    Keeps sent t.sent × ((more : List ℕ) × Appends received t.received more × IsOpen limit (held ++ more)) × AreBetween limit received sent held ts
+    Keeps sent t.sent
+    × ((more : List ℕ) × Appends received t.received more × IsOpen limit (held ++ more))
+    × AreBetween limit received sent held ts

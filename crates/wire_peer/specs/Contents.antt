@@ -10,11 +10,14 @@ use Rattle.wire_msg.proofs.Lemmas.{one_content}
 use Rattle.wire_peer.specs.ContentSets.{content_set}
 
 -- where a fact holds of one content and of no other, that content
-the_content : {P : Content → Type 0} → ((c d : Content) → P c → P d → c ≡ d) → ∥ ((c : Content) × P c) ∥₁ → ((c : Content) × ∥ P c ∥₁)
+the_content : {P : Content → Type 0} → ((c d : Content) → P c → P d → c ≡ d)
+    → ∥ ((c : Content) × P c) ∥₁ → ((c : Content) × ∥ P c ∥₁)
 the_content {P} same known = ∥∥₁_elim known one (λ k. (k.0, ∣ k.1 ∣₁))
   where
     alike : (x y : ((c : Content) × ∥ P c ∥₁)) → x.0 ≡ y.0
-    alike x y = ∥∥₁_elim x.1 (content_set x.0 y.0) (λ p. ∥∥₁_elim y.1 (content_set x.0 y.0) (λ q. same x.0 y.0 p q))
+    alike x y =
+        ∥∥₁_elim x.1 (content_set x.0 y.0)
+        (λ p. ∥∥₁_elim y.1 (content_set x.0 y.0) (λ q. same x.0 y.0 p q))
 
     one : IsProp ((c : Content) × ∥ P c ∥₁)
     one x y = Σ_prop_path (λ c. ∥∥₁_prop) (alike x y)

@@ -1,5 +1,6 @@
 -- The answers that count.
-use Rattle.std.specs.Prelude.{ℕ, zero, suc, pos, ◌+◌, List, [], ◌∷◌, Option, Some, codes, nat_le, if◌then◌else◌}
+use Rattle.std.specs.Prelude.{ℕ, zero, suc, pos, ◌+◌, List, [], ◌∷◌, Option, Some, codes, nat_le}
+use Rattle.std.specs.Prelude.{if◌then◌else◌}
 use Rattle.bson_elem.specs.declared.kinds.Kind.TheVariants.{Int32}
 use Rattle.bson_elem.specs.{leaf_pair, no_pairs, number_value}
 use Rattle.bson_raw.specs.{TreeValue, first_named, leaf_value}
@@ -20,7 +21,8 @@ abbrev pub small_number : Option TreeValue → ℕ
 small_number (Some (leaf_value Int32 (number_value (pos k)))) = if nat_le k 100 then k else 0
 small_number _ = 0
 
--- how many answers the request wants counted: the field s of its body, where it takes more, and else 0
+-- how many answers the request wants counted: the field s of its body, where it takes more, and
+-- else 0
 abbrev pub wanted : Asked → ℕ
 wanted a = if takes_more a then small_number (first_named (codes "s") a.payload.body) else 0
 

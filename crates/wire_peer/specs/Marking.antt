@@ -1,5 +1,6 @@
 -- Places that are marked, since the ids that stand there are used.
-use Rattle.std.specs.Prelude.{◌≡◌, ℕ, ◌+◌, ◌<◌, ◌≤◌, ◌⊎◌, ℤ, List, Bool, true, false, count_by, get_or, length}
+use Rattle.std.specs.Prelude.{◌≡◌, ℕ, ◌+◌, ◌<◌, ◌≤◌, ◌⊎◌, ℤ, List, Bool, true, false, count_by}
+use Rattle.std.specs.Prelude.{get_or, length}
 use Rattle.wire_peer.specs.FreeIds.{id_past}
 
 -- how many places are looked at

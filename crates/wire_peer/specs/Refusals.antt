@@ -2,7 +2,8 @@
 use Rattle.wire_peer.specs.declared.log.AskRefusal.{AskRefusal}
 use Rattle.wire_peer.specs.declared.log.AskRefusal.TheVariants as asks
 use Rattle.wire_peer.specs.declared.log.NoReplies.{NoReplies}
-use Rattle.wire_peer.specs.declared.log.NoReplies.TheVariants.{NotAsked, Stopped, TooLarge, NoMemory}
+use Rattle.wire_peer.specs.declared.log.NoReplies.TheVariants.{NotAsked, Stopped, TooLarge}
+use Rattle.wire_peer.specs.declared.log.NoReplies.TheVariants.{NoMemory}
 use Rattle.wire_peer.specs.declared.reply_buf.ReplyRefusal.{ReplyRefusal}
 use Rattle.wire_peer.specs.declared.reply_buf.ReplyRefusal.TheVariants as pushes
 

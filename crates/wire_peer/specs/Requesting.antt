@@ -1,16 +1,18 @@
 -- What a client puts out, and which call it refuses.
-use Rattle.std.specs.Prelude.{◌≡◌, ◌≢◌, ℕ, ◌+◌, ◌-◌, ◌^◌, ◌<◌, ◌≤◌, ℤ, true, if◌then◌else◌, ◌==◌, List, [], ◌∷◌, ◌++◌, length, Option, Some, None}
+use Rattle.std.specs.Prelude.{◌≡◌, ◌≢◌, ℕ, ◌+◌, ◌-◌, ◌^◌, ◌<◌, ◌≤◌, ℤ, true, if◌then◌else◌, ◌==◌}
+use Rattle.std.specs.Prelude.{List, [], ◌∷◌, ◌++◌, length, Option, Some, None}
 use Rattle.wire_msg.specs.{Content, canonical, message_len}
 use Rattle.wire_peer.specs.declared.calls.CallKind.{CallKind}
 use Rattle.wire_peer.specs.declared.calls.CallNo.{CallNo}
 use Rattle.wire_peer.specs.declared.calls.CallRefusal.{CallRefusal}
-use Rattle.wire_peer.specs.declared.calls.CallRefusal.TheVariants.{Closed, WindowFull, TooLarge, NumbersSpent, OutOfMemory}
+use Rattle.wire_peer.specs.declared.calls.CallRefusal.TheVariants.{Closed, WindowFull, TooLarge}
+use Rattle.wire_peer.specs.declared.calls.CallRefusal.TheVariants.{NumbersSpent, OutOfMemory}
 use Rattle.wire_peer.specs.Calls.{awaits_reply, request}
 use Rattle.wire_peer.specs.FreeIds.{IsFirstFree, id_following}
 use Rattle.wire_peer.specs.CallTables.{Table, ids}
 
--- The limit of a message and the window, the bytes that weren't sent yet, the outstanding calls, the id from which the
--- next request's is looked for, and the next call's number, if there is one.
+-- The limit of a message and the window, the bytes that weren't sent yet, the outstanding calls,
+-- the id from which the next request's is looked for, and the next call's number, if there is one.
 pub record RequestState : Type 0 where
   pub limit : ℕ
   pub window : ℕ
@@ -25,9 +27,12 @@ number_after n = if n == 2 ^ 64 - 1 then None else Some (n + 1)
 
 -- a call that awaits a reply goes behind the others
 abbrev pub awaiting : Table → CallKind → CallNo → Table
-awaiting t kind call = if awaits_reply kind then t ++ (call.id, record { call = call.number; kind = kind; last = None }) ∷ [] else t
+awaiting t kind call =
+    if awaits_reply kind
+    then t ++ (call.id, record { call = call.number; kind = kind; last = None }) ∷ [] else t
 
--- the call has the next number, and the first id from the next one on that no outstanding call bears
+-- the call has the next number, and the first id from the next one on that no outstanding call
+-- bears
 pub record IsNextCall (r : RequestState) (call : CallNo) : Type 0 where
   pub number : r.next_number ≡ Some call.number
   pub id : IsFirstFree r.next_id (ids r.outstanding) call.id
@@ -49,12 +54,15 @@ IsFull r kind = (awaits_reply kind ≡ true) × (r.window ≤ length r.outstandi
 abbrev pub IsRefused : RequestState → CallKind → Content → CallRefusal → Type 0
 IsRefused r kind c WindowFull = IsFull r kind
 IsRefused r kind c TooLarge = (IsFull r kind → ⊥) × (r.limit < message_len c)
-IsRefused r kind c NumbersSpent = (IsFull r kind → ⊥) × (message_len c ≤ r.limit) × (r.next_number ≡ None)
-IsRefused r kind c OutOfMemory = (IsFull r kind → ⊥) × (message_len c ≤ r.limit) × (r.next_number ≢ None)
+IsRefused r kind c NumbersSpent =
+    (IsFull r kind → ⊥) × (message_len c ≤ r.limit) × (r.next_number ≡ None)
+IsRefused r kind c OutOfMemory =
+    (IsFull r kind → ⊥) × (message_len c ≤ r.limit) × (r.next_number ≢ None)
 IsRefused r kind c Closed = ⊥
 
 -- none of them fails
-pub record IsAccepted (r : RequestState) (kind : CallKind) (c : Content) (call : CallNo) : Type 0 where
+pub record IsAccepted (r : RequestState) (kind : CallKind) (c : Content) (call : CallNo) :
+    Type 0 where
   pub next : IsNextCall r call
   pub window : IsFull r kind → ⊥
   pub within : message_len c ≤ r.limit

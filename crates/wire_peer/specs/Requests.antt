@@ -11,11 +11,21 @@ pub record Asked : Type 0 where
   pub more_to_come : Bool
 
 abbrev pub asked : Request → Asked
-asked r = record { payload = content_of r.payload; exhaust_allowed = r.exhaust_allowed; more_to_come = r.more_to_come }
+asked r =
+    record {
+      payload = content_of r.payload;
+      exhaust_allowed = r.exhaust_allowed;
+      more_to_come = r.more_to_come;
+    }
 
 -- the request that a message is
 abbrev pub asked_by : Message → Asked
-asked_by m = record { payload = m.content; exhaust_allowed = m.flags.exhaust_allowed; more_to_come = m.flags.more_to_come }
+asked_by m =
+    record {
+      payload = m.content;
+      exhaust_allowed = m.flags.exhaust_allowed;
+      more_to_come = m.flags.more_to_come;
+    }
 
 -- more than one answer may be given
 abbrev pub may_get_more : Bool → Bool → Bool

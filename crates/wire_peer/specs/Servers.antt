@@ -5,15 +5,18 @@ use Rattle.wire_stream.specs.declared.reader_state.ReaderState.{ReaderState}
 use Rattle.wire_stream.specs.declared.reader_state.ReaderState.TheVariants.{Need, Ready, Bad}
 use Rattle.wire_peer.specs.Limits.{IsLimit, IsWindow}
 use Rattle.wire_peer.specs.declared.server_state.ServerCause.{ServerCause}
-use Rattle.wire_peer.specs.declared.server_state.ServerCause.TheVariants.{Message, Ended, EndedInside}
+use Rattle.wire_peer.specs.declared.server_state.ServerCause.TheVariants.{Message, Ended}
+use Rattle.wire_peer.specs.declared.server_state.ServerCause.TheVariants.{EndedInside}
 use Rattle.wire_peer.specs.declared.server_state.ServerState.{ServerState}
 use Rattle.wire_peer.specs.declared.server_state.ServerState.TheVariants.{Open, Closed}
 use Rattle.wire_peer.specs.declared.server_state.ServerRefusal.{ServerRefusal}
-use Rattle.wire_peer.specs.declared.server_state.ServerRefusal.TheVariants.{BadWindow, BadLimit, OutOfMemory}
+use Rattle.wire_peer.specs.declared.server_state.ServerRefusal.TheVariants.{BadWindow, BadLimit}
+use Rattle.wire_peer.specs.declared.server_state.ServerRefusal.TheVariants.{OutOfMemory}
 
--- What a caller sees of a server: the number of its connection, how many requests may wait and how many bytes a message
--- may have; the bytes of a message that isn't whole yet; the bytes of each request that waits, in order; the bytes that
--- are to be sent; the id of the next reply; and whether it is closed.
+-- What a caller sees of a server: the number of its connection, how many requests may wait and how
+-- many bytes a message may have; the bytes of a message that isn't whole yet; the bytes of each
+-- request that waits, in order; the bytes that are to be sent; the id of the next reply; and
+-- whether it is closed.
 pub record ServerView : Type 0 where
   pub connection : ℕ
   pub window : ℕ
@@ -41,22 +44,24 @@ new_server connection window limit = record {
 
 -- what became of making a server
 abbrev pub IsNewServer : (connection window limit : ℕ) → Result ServerView ServerRefusal → Type 0
-IsNewServer connection window limit (Ok s) = IsWindow window × IsLimit limit × (s ≡ new_server connection window limit)
+IsNewServer connection window limit (Ok s) =
+    IsWindow window × IsLimit limit × (s ≡ new_server connection window limit)
 IsNewServer connection window limit (Err BadWindow) = (window < 1) ⊎ (1024 < window)
-IsNewServer connection window limit (Err BadLimit) = IsWindow window × ((limit < 26) ⊎ (48000000 < limit))
+IsNewServer connection window limit (Err BadLimit) =
+    IsWindow window × ((limit < 26) ⊎ (48000000 < limit))
 IsNewServer connection window limit (Err OutOfMemory) = IsWindow window × IsLimit limit
 
 -- ---- bytes that come
 
--- The server with these bytes of a message held, by what they are: more of it may come, a whole one waits behind the
--- others, and a fault closes the server.
+-- The server with these bytes of a message held, by what they are: more of it may come, a whole one
+-- waits behind the others, and a fault closes the server.
 abbrev pub holding : ServerView → List ℕ → ReaderState → ServerView
 holding s bytes Need = record s { held = bytes }
 holding s bytes Ready = record s { held = []; waiting = s.waiting ++ bytes ∷ [] }
 holding s bytes (Bad fault) = record s { held = bytes; state = Closed (Message fault) }
 
--- An open server with room in its waiting list took the first n bytes of the piece: up to the end of one message or to where a
--- fault shows, and else all of them.
+-- An open server with room in its waiting list took the first n bytes of the piece: up to the end
+-- of one message or to where a fault shows, and else all of them.
 pub record TakesBytes (s : ServerView) (piece : List ℕ) (n : ℕ) (after : ServerView) : Type 0 where
   pub bytes : List ℕ
   pub found : ReaderState

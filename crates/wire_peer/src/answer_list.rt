@@ -46,8 +46,9 @@ impl Answers {
     ///
     /// # Errors
     ///
-    /// `RepeatedField` if a top-level name of the body stands twice; else `TooLarge` if its message would have more than
-    /// 2,147,483,647 bytes; else `OutOfMemory`. The answers are as they were then.
+    /// `RepeatedField` if a top-level name of the body stands twice; else `TooLarge` if its message
+    /// would have more than 2,147,483,647 bytes; else `OutOfMemory`. The answers are as they were
+    /// then.
     pub fn push_body(&mut self, body: RawDocument<'_>) -> Result<(), MsgRefusal>
         ensures added { (t : Tree) → Spells t (document_bytes body.entry)
             → OnOk result (answers_of self.new ≡ answers_of self.old ++ body_alone t ∷ []) }

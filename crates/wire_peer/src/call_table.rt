@@ -1,12 +1,15 @@
 //! The calls that await replies, by the ids of their requests.
 
-ghost use Rattle.std.specs.Prelude.{◌≡◌, ◌≤◌, ◌≤ℤ◌, ◌++◌, ◌∷◌, [], ℤ, None, Some, OnOk, OnErr, IfOk, IsOk, length, pos};
+ghost use Rattle.std.specs.Prelude.{◌≡◌, ◌≤◌, ◌≤ℤ◌, ◌++◌, ◌∷◌, [], ℤ, None, Some, OnOk, OnErr};
+ghost use Rattle.std.specs.Prelude.{IfOk, IsOk, length, pos};
 ghost use Rattle.std.specs.List.{IsDistinct};
 ghost use Rattle.std.specs.Map.{set_value};
 ghost use Rattle.std.specs.Ordering.{int_eq};
 ghost use Rattle.wire_peer.specs.Begun.{IsAlone, IsBegun, IsFreshLast, NoneBegun};
 ghost use Rattle.wire_peer.specs.FreeIds.{IsFirstFree};
-ghost use Rattle.wire_peer.specs.CallTables.{after_part, allowed, bearer, HasOneStream, ids, IsReceived, of_bearer, of_stream, owner, Table, without};
+ghost use Rattle.wire_peer.specs.CallTables.{after_part, allowed, bearer, HasOneStream, ids};
+ghost use Rattle.wire_peer.specs.CallTables.{IsReceived, of_bearer, of_stream, owner, Table};
+ghost use Rattle.wire_peer.specs.CallTables.{without};
 
 use crate::calls::CallKind;
 use crate::client_state::ClientCause;
@@ -35,8 +38,8 @@ pub struct ReadyReply {
     pub last: bool,
 }
 
-/// The outstanding calls in the order in which they were made. No two bear one id, and at most one has had a part. A
-/// contract sees them as a list of ids and calls.
+/// The outstanding calls in the order in which they were made. No two bear one id, and at most one
+/// has had a part. A contract sees them as a list of ids and calls.
 #[derive(Drop)]
 pub(crate) struct CallTable {
     calls: IndexMap<i32, Outstanding>,
@@ -103,7 +106,8 @@ impl CallTable {
     /// Want of memory. Nothing changes then.
     pub(crate) fn push(&mut self, id: i32, call: u64, kind: CallKind) -> Result<(), AllocError>
         requires { bearer id self.old ≡ None }
-        ensures pushed { OnOk result (self.new ≡ self.old ++ (id, record { call = call; kind = kind; last = None }) ∷ []) }
+        ensures pushed { OnOk result
+            (self.new ≡ self.old ++ (id, record { call = call; kind = kind; last = None }) ∷ []) }
         ensures unchanged { OnErr result (self.new ≡ self.old) }
     {
         let outstanding = Outstanding {
@@ -123,14 +127,14 @@ impl CallTable {
         drop(self.calls.pop());
     }
 
-    /// Gives a message with this requestID, responseTo and moreToCome to the call that it belongs to. A call whose last
-    /// reply it is leaves the table, and those after it close up.
+    /// Gives a message with this requestID, responseTo and moreToCome to the call that it belongs
+    /// to. A call whose last reply it is leaves the table, and those after it close up.
     ///
     /// # Errors
     ///
-    /// `StreamBroken` where a call has had a part and the message doesn't answer it, `UnknownReply` where no call has and
-    /// none bears the id, and else `MoreNotAllowed` where more replies are announced than the call may have. Nothing
-    /// changes then.
+    /// `StreamBroken` where a call has had a part and the message doesn't answer it, `UnknownReply`
+    /// where no call has and none bears the id, and else `MoreNotAllowed` where more replies are
+    /// announced than the call may have. Nothing changes then.
     pub(crate) fn receive(
         &mut self,
         id: i32,
@@ -177,10 +181,12 @@ impl CallTable {
         }
     }
 
-    /// Returns the call that has had a part and bears this id, if the message answers its request or that part.
+    /// Returns the call that has had a part and bears this id, if the message answers its request
+    /// or that part.
     fn stream_owner(&self, id: i32, to: i32) -> Result<(i32, Outstanding), ClientCause>
         requires { IsBegun self.now (Some id) }
-        ensures owner { (o : Outstanding) → bearer id self.now ≡ Some o → result ≡ of_stream (id, o) to }
+        ensures owner { (o : Outstanding) → bearer id self.now ≡ Some o
+            → result ≡ of_stream (id, o) to }
         ensures alone { IfOk result (λ o. IsAlone self.now o.0 o.1) }
     {
         let Some(call) = self.calls.get(&id) else {

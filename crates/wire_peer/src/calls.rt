@@ -56,7 +56,8 @@ impl CallKind {
     }
 }
 
-/// A call that was accepted: its number among the calls of its client, counted from 0, and the id of its request.
+/// A call that was accepted: its number among the calls of its client, counted from 0, and the id
+/// of its request.
 #[derive(Clone, Copy, Debug, PartialEq, Eq)]
 pub struct CallNo {
     /// The call's number.

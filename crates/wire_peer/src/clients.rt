@@ -1,14 +1,17 @@
 //! The client's end of a connection.
 
-ghost use Rattle.std.specs.Prelude.{◌≡◌, ◌≢◌, ◌≤◌, None, IfOk, IfSome, IsNone, IsOkAnd, MatchResult, OnErr, drop, length, option_map, refl};
+ghost use Rattle.std.specs.Prelude.{◌≡◌, ◌≢◌, ◌≤◌, None, IfOk, IfSome, IsNone, IsOkAnd};
+ghost use Rattle.std.specs.Prelude.{MatchResult, OnErr, drop, length, option_map, refl};
 ghost use Rattle.std.specs.List.{IsDistinct};
 ghost use Rattle.std.specs.Ordering.{int_eq};
 ghost use Rattle.wire_msg.specs.{Carries, IsMessage, IsOpen, Message, SpellsMsg};
 ghost use Rattle.wire_stream.specs.{CompletesHeader};
-ghost use Rattle.wire_peer.specs.declared.calls.CallKind.TheVariants.{Exhaust, Plain, Unacknowledged};
+ghost use Rattle.wire_peer.specs.declared.calls.CallKind.TheVariants.{Exhaust, Plain};
+ghost use Rattle.wire_peer.specs.declared.calls.CallKind.TheVariants.{Unacknowledged};
 ghost use Rattle.wire_peer.specs.declared.client_state.ClientState.TheVariants.{Open};
 ghost use Rattle.wire_peer.specs.ClientCauses.{IsSetupRefusal};
-ghost use Rattle.wire_peer.specs.ClientSteps.{called, end_cause, ended, IsCalled, IsCallRefusal, new_client, released, Takes, MayTake};
+ghost use Rattle.wire_peer.specs.ClientSteps.{called, end_cause, ended, IsCalled, IsCallRefusal};
+ghost use Rattle.wire_peer.specs.ClientSteps.{new_client, released, Takes, MayTake};
 ghost use Rattle.wire_peer.specs.CallTables.{allowed, HasOneStream, ids, IsReceived, owner};
 ghost use Rattle.wire_peer.specs.Contents.{content_of};
 ghost use Rattle.wire_peer.specs.LentReplies.{ready_of};
@@ -24,11 +27,11 @@ use std::marker::Model;
 use wire_msg::{MAX_MESSAGE_LEN, Payload};
 use wire_stream::{MsgReader, Outlet, ReadEnd, ReadRefusal, ReaderState};
 
-/// Makes calls under ids that no outstanding call bears, and gives each reply to the call that it belongs to. Bytes go in
-/// and out by way of its caller.
+/// Makes calls under ids that no outstanding call bears, and gives each reply to the call that it
+/// belongs to. Bytes go in and out by way of its caller.
 ///
-/// A reply belongs to the call whose id is its responseTo. Once a call has had a part, replies belong to that call until it
-/// is complete, and answer its request or the part before.
+/// A reply belongs to the call whose id is its responseTo. Once a call has had a part, replies
+/// belong to that call until it is complete, and answer its request or the part before.
 #[derive(Drop)]
 pub struct Client {
     requests: RequestBuf,
@@ -66,8 +69,10 @@ fn receive(reader: &MsgReader, requests: &mut RequestBuf) -> Result<ReadyReply, 
     requires { IsMessage reader.now.limit reader.now.held }
     ensures received { (m : Message) → SpellsMsg m reader.now.held
         → IsReceived requests.old.outstanding m.id m.flags.more_to_come
-        (allowed m.flags.more_to_come (owner requests.old.outstanding m.response_to)) result requests.new.outstanding }
-    ensures others { requests.new ≡ record (requests.old) { outstanding = requests.new.outstanding } }
+        (allowed m.flags.more_to_come (owner requests.old.outstanding m.response_to)) result
+        requests.new.outstanding }
+    ensures others { requests.new
+        ≡ record (requests.old) { outstanding = requests.new.outstanding } }
 {
     let Some(message) = reader.message() else {
         unreachable!()
@@ -76,9 +81,9 @@ fn receive(reader: &MsgReader, requests: &mut RequestBuf) -> Result<ReadyReply, 
 }
 
 impl Client {
-    /// Returns an open client that has made no call. Its ids begin with `first_id`, from 1 to 2,147,483,647. At most
-    /// `window` calls are outstanding, from 1 to 1,024. Messages both ways have at most `limit` bytes, from 26 to
-    /// 48,000,000. It takes no memory.
+    /// Returns an open client that has made no call. Its ids begin with `first_id`, from 1 to
+    /// 2,147,483,647. At most `window` calls are outstanding, from 1 to 1,024. Messages both ways
+    /// have at most `limit` bytes, from 26 to 48,000,000. It takes no memory.
     ///
     /// # Errors
     ///
@@ -115,7 +120,8 @@ impl Client {
     ///
     /// # Errors
     ///
-    /// The first that applies of `Closed`, `WindowFull`, `TooLarge`, `NumbersSpent` and `OutOfMemory`. Nothing changes then.
+    /// The first that applies of `Closed`, `WindowFull`, `TooLarge`, `NumbersSpent` and
+    /// `OutOfMemory`. Nothing changes then.
     pub fn call(&mut self, payload: Payload<'_>) -> Result<CallNo, CallRefusal>
         ensures called { MatchResult result
             (λ no. IsCalled self.old Plain (content_of payload.entry) no
@@ -187,18 +193,21 @@ impl Client {
         self.requests.sent(n);
     }
 
-    /// Takes the first bytes of `piece`, up to the end of the current message or the 16th byte of a bad header, and returns
-    /// how many. It takes none while a reply is ready or the client is closed. A message that becomes whole makes a reply
-    /// ready, or closes the client, as bad bytes do.
+    /// Takes the first bytes of `piece`, up to the end of the current message or the 16th byte of a
+    /// bad header, and returns how many. It takes none while a reply is ready or the client is
+    /// closed. A message that becomes whole makes a reply ready, or closes the client, as bad bytes
+    /// do.
     ///
     /// # Errors
     ///
-    /// `OutOfMemory` where the piece completes a good header and memory for the announced message is wanting. Nothing
-    /// changes then, and the piece may be fed again.
+    /// `OutOfMemory` where the piece completes a good header and memory for the announced message
+    /// is wanting. Nothing changes then, and the piece may be fed again.
     pub fn feed(&mut self, piece: &[u8]) -> Result<usize, ReadRefusal>
         ensures fed { MayTake self.old → IfOk result (λ n. Takes self.old piece.now n self.new) }
-        ensures none { (MayTake self.old → ⊥) → IsOkAnd result (λ n. n ≡ 0) × (self.new ≡ self.old) }
-        ensures refused { OnErr result (CompletesHeader self.old.requests.limit self.old.held piece.now) }
+        ensures none { (MayTake self.old → ⊥)
+            → IsOkAnd result (λ n. n ≡ 0) × (self.new ≡ self.old) }
+        ensures refused { OnErr result
+            (CompletesHeader self.old.requests.limit self.old.held piece.now) }
         ensures unchanged { OnErr result (self.new ≡ self.old) }
     {
         if self.reply.is_some() || self.state != ClientState::Open {
@@ -242,7 +251,8 @@ impl Client {
         })
     }
 
-    /// Lets go of the reply that is ready, so that more bytes are taken. Where none is, nothing changes.
+    /// Lets go of the reply that is ready, so that more bytes are taken. Where none is, nothing
+    /// changes.
     pub fn release(&mut self)
         ensures { self.new ≡ released self.old }
     {
@@ -272,16 +282,18 @@ impl Client {
         }
     }
 
-    /// Returns whether the client is open, or why it was closed. An open one that has no reply ready is between messages or
-    /// inside one.
+    /// Returns whether the client is open, or why it was closed. An open one that has no reply
+    /// ready is between messages or inside one.
     pub fn state(&self) -> ClientState
         ensures state { result ≡ self.now.state }
-        ensures between { result ≡ Open → self.now.reply ≡ None → IsOpen self.now.requests.limit self.now.held }
+        ensures between { result ≡ Open → self.now.reply ≡ None
+            → IsOpen self.now.requests.limit self.now.held }
     {
         self.state
     }
 
-    /// Returns the number of calls that await a reply. No two of them bear one id, and at most one has had a part.
+    /// Returns the number of calls that await a reply. No two of them bear one id, and at most one
+    /// has had a part.
     pub fn outstanding(&self) -> usize
         ensures count { result ≡ length self.now.requests.outstanding }
         ensures window { length self.now.requests.outstanding ≤ self.now.requests.window }
@@ -295,7 +307,8 @@ impl Client {
 impl Outlet for Client {
     ghost waiting = { λ s. s.requests.output };
 
-    ghost with_waiting = { λ s bytes. record s { requests = record (s.requests) { output = bytes } } };
+    ghost with_waiting = { λ s bytes. record s
+        { requests = record (s.requests) { output = bytes } } };
 
     ghost waits = { λ o bytes. refl };
 

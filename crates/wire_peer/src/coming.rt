@@ -6,7 +6,8 @@ ghost use Rattle.bson_elem.specs.{IsBytes};
 ghost use Rattle.wire_msg.specs.{IsOpen};
 ghost use Rattle.wire_stream.specs.{AddsTurns, CompletesHeader, Feeds, Turn};
 ghost use Rattle.wire_peer.specs.declared.server_state.ServerState.TheVariants.{Closed, Open};
-ghost use Rattle.wire_peer.specs.Coming.{AreBetween, Came, IsFree, Waited, Worked, front_of, standing_by};
+ghost use Rattle.wire_peer.specs.Coming.{AreBetween, Came, IsFree, Waited, Worked, front_of};
+ghost use Rattle.wire_peer.specs.Coming.{standing_by};
 ghost use Rattle.wire_peer.specs.Servers.{end_cause, holding};
 
 use crate::server_state::{ServerCause, ServerState};
@@ -29,13 +30,15 @@ fn standing(server: &Server) -> ReaderState
 ///
 /// # Errors
 ///
-/// `OutOfMemory` where the piece completes a good header and memory for its message is wanting. Nothing is taken then.
+/// `OutOfMemory` where the piece completes a good header and memory for its message is wanting.
+/// Nothing is taken then.
 fn feed_piece(server: &mut Server, piece: &[u8]) -> Result<Fed, ServeEnd>
     requires { IsFree server.old }
     ensures bytes { IsBytes piece.now }
     ensures fed { IfOk result (λ fed.
         Feeds server.old.limit server.old.held piece.now (front_of server.new) fed) }
-    ensures is { IfOk result (λ fed. server.new ≡ holding server.old (front_of server.new) fed.state) }
+    ensures is { IfOk result
+        (λ fed. server.new ≡ holding server.old (front_of server.new) fed.state) }
     ensures refused { IfErr result (λ end. (end ≡ ServeEnd.OutOfMemory)
         × CompletesHeader server.old.limit server.old.held piece.now) }
     ensures unchanged { OnErr result (server.new ≡ server.old) }
@@ -63,11 +66,13 @@ fn end_bytes(server: &mut Server) -> ServeEnd
     }
 }
 
-/// Receives over `link` until a request waits in `server`, and takes no byte behind it out of `inlet`.
+/// Receives over `link` until a request waits in `server`, and takes no byte behind it out of
+/// `inlet`.
 ///
 /// # Errors
 ///
-/// Why no request comes: the link ended, failed or has none now, what came is at fault, or memory for a message was wanting.
+/// Why no request comes: the link ended, failed or has none now, what came is at fault, or memory
+/// for a message was wanting.
 pub(crate) fn next_request<L: Link>(
     link: &mut L,
     inlet: &mut Inlet,
@@ -75,7 +80,8 @@ pub(crate) fn next_request<L: Link>(
 ) -> Result<(), ServeEnd>
     requires free { IsFree server.old }
     requires between { server.old.held ≡ [] }
-    ensures waits { OnOk result (server.new ≡ record server.old { waiting = front_of server.new ∷ [] }) }
+    ensures waits { OnOk result
+        (server.new ≡ record server.old { waiting = front_of server.new ∷ [] }) }
     ensures received { (more : List ℕ) × Appends (L.received link.old) (L.received link.new) more
         × (front_of server.new ++ inlet.new ≡ inlet.old ++ more) }
     ensures came { Came result server.old.limit (front_of server.new) inlet.new

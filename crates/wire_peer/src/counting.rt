@@ -1,6 +1,7 @@
 //! The handler that counts.
 
-ghost use Rattle.std.specs.Prelude.{◌≡◌, ◌≤◌, ◌++◌, ◌∷◌, [], IfErr, MatchOption, None, OnOk, Option};
+ghost use Rattle.std.specs.Prelude.{◌≡◌, ◌≤◌, ◌++◌, ◌∷◌, [], IfErr, MatchOption, None, OnOk};
+ghost use Rattle.std.specs.Prelude.{Option};
 ghost use Rattle.bson_raw.specs.{ShowsFound, TreeValue};
 ghost use Rattle.wire_peer.specs.AnswerLists.{answers_of};
 ghost use Rattle.wire_peer.specs.Counting.{numbered, numbers, numbers_from, small_number, wanted};
@@ -65,9 +66,9 @@ fn push_numbers(count: u8, answers: &mut Answers) -> Result<(), HandlerStop>
     Ok(())
 }
 
-/// Counts: where the request takes more than one answer and the field `s` of its body is an int32 from 1 to 100, the
-/// answers are `{"n": 1}` and so on up to `{"n": s}`, and else it is `{"n": 0}` alone, with int32s. It stops only for want
-/// of memory.
+/// Counts: where the request takes more than one answer and the field `s` of its body is an int32
+/// from 1 to 100, the answers are `{"n": 1}` and so on up to `{"n": s}`, and else it is `{"n": 0}`
+/// alone, with int32s. It stops only for want of memory.
 #[derive(Clone, Copy, Debug, Drop)]
 pub struct Count;
 

@@ -1,6 +1,7 @@
 //! The ids of requests: from 1 to 2,147,483,647, and then from 1 again.
 
-ghost use Rattle.std.specs.Prelude.{◌≡◌, ◌+◌, ◌<◌, ◌≤◌, ◌^◌, ◌≤ℤ◌, ℕ, Contains, IsTrue, count_by, get_or, length, pos, false, true};
+ghost use Rattle.std.specs.Prelude.{◌≡◌, ◌+◌, ◌<◌, ◌≤◌, ◌^◌, ◌≤ℤ◌, ℕ, Contains, IsTrue, count_by};
+ghost use Rattle.std.specs.Prelude.{get_or, length, pos, false, true};
 ghost use Rattle.wire_peer.specs.FreeIds.{IsFirstFree, id_following, id_past};
 ghost use Rattle.wire_peer.specs.Marking.{Marks};
 
@@ -76,8 +77,8 @@ fn mark(marks: &mut [bool; PLACES], start: u32, id: i32)
     }
 }
 
-/// Returns the first id from `next` on, round after 2,147,483,647 to 1, that isn't in `used`. It takes no memory, and
-/// looks at each used id once.
+/// Returns the first id from `next` on, round after 2,147,483,647 to 1, that isn't in `used`. It
+/// takes no memory, and looks at each used id once.
 pub fn next_free(next: i32, used: &[i32]) -> i32
     requires next { pos 1 ≤ℤ next }
     requires few { length used.now ≤ 1024 }

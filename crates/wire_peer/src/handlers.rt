@@ -30,7 +30,8 @@ pub trait Handler {
     /// In this state the handler may stop at this request so, and is in that state then.
     ghost stops: { Self → Asked → HandlerStop → Self → Type 0 };
 
-    /// Puts the answers to `request` into `answers`, which has none yet: one, or more where the request takes more.
+    /// Puts the answers to `request` into `answers`, which has none yet: one, or more where the
+    /// request takes more.
     ///
     /// # Errors
     ///

@@ -14,7 +14,8 @@ pub fn one_first_free_id()
         → IsFirstFree next used a → IsFirstFree next used b → a ≡ b }
 {}
 
-/// Proves that where the entries of a log are a run of its handler, they are one after it was asked once more, too.
+/// Proves that where the entries of a log are a run of its handler, they are one after it was asked
+/// once more, too.
 pub fn a_run_goes_on<H: Handler>()
     ensures { (from mid to : H) (requests : List Asked) (log next : List LogEntry) (connection : ℕ)
         (a : Asked) (result : Result (Unit {0}) AskRefusal)

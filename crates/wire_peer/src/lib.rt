@@ -1,12 +1,14 @@
 //! The two ends of a connection that speaks in messages.
 //!
-//! A `Client` puts requests out under ids that no outstanding call bears, and gives each reply to the call that it belongs to.
+//! A `Client` puts requests out under ids that no outstanding call bears, and gives each reply to
+//! the call that it belongs to.
 //!
-//! A `Handler` answers a `Request` by putting `Answers` together, or stops. `Logged` asks a handler, and keeps an `Entry`
-//! of each request with what became of it; it takes the room for the entry before it asks. A `ReplyBuf` holds the replies
-//! of one connection until they are sent. `Echo`, `Count` and `StopAt` are handlers. A `Server` is the whole end without a
-//! link: bytes are fed to it, requests wait in it and are answered in any order, and its output is taken off as it is sent.
-//! `serve` runs a server over a link, and answers its messages in order.
+//! A `Handler` answers a `Request` by putting `Answers` together, or stops. `Logged` asks a
+//! handler, and keeps an `Entry` of each request with what became of it; it takes the room for the
+//! entry before it asks. A `ReplyBuf` holds the replies of one connection until they are sent.
+//! `Echo`, `Count` and `StopAt` are handlers. A `Server` is the whole end without a link: bytes are
+//! fed to it, requests wait in it and are answered in any order, and its output is taken off as it
+//! is sent. `serve` runs a server over a link, and answers its messages in order.
 //!
 //! Stands on wire_stream. wire_model, wire_world, engines and test_server stand on it. Read first:
 //! `handlers` and `log`, then `servers` and `clients`, and then `serving`.

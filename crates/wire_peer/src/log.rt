@@ -3,7 +3,8 @@
 ghost use Rattle.std.specs.Prelude.{◌≡◌, ◌<◌, ◌++◌, ◌∷◌, [], IfOk, List, OnOk, Some, ℕ};
 ghost use Rattle.std.specs.Vec.{vec_capacity, vec_len};
 ghost use Rattle.wire_peer.specs.Contents.{buf_content};
-ghost use Rattle.wire_peer.specs.Logs.{AskStep, IsGrown, IsLastAnswered, LogEntry, OutcomeStep, entered, log_of, outcome_of};
+ghost use Rattle.wire_peer.specs.Logs.{AskStep, IsGrown, IsLastAnswered, LogEntry, OutcomeStep};
+ghost use Rattle.wire_peer.specs.Logs.{entered, log_of, outcome_of};
 ghost use Rattle.wire_msg.specs.{Content};
 ghost use Rattle.wire_peer.specs.AnswerLists.{answers_of};
 ghost use Rattle.wire_peer.specs.Replying.{PutStep, ReplyStep};
@@ -96,7 +97,8 @@ impl<H> Logged<H> {
         ensures handler { self.new.handler ≡ self.old.handler }
         ensures entries { self.new.entries.items ≡ self.old.entries.items }
         ensures room { OnOk result (vec_len self.new.entries < vec_capacity self.new.entries) }
-        ensures grown { IsGrown (vec_len self.old.entries) (vec_capacity self.old.entries) (vec_capacity self.new.entries) }
+        ensures grown { IsGrown (vec_len self.old.entries) (vec_capacity self.old.entries)
+            (vec_capacity self.new.entries) }
     {
         let count = self.entries.len();
         if count < self.entries.capacity() {
@@ -110,7 +112,8 @@ impl<H> Logged<H> {
         ensures handler { self.new.handler ≡ self.old.handler }
         ensures entries { self.new.entries.items ≡ self.old.entries.items }
         ensures room { OnOk result (vec_len self.new.entries < vec_capacity self.new.entries) }
-        ensures grown { IsGrown (vec_len self.old.entries) (vec_capacity self.old.entries) (vec_capacity self.new.entries) }
+        ensures grown { IsGrown (vec_len self.old.entries) (vec_capacity self.old.entries)
+            (vec_capacity self.new.entries) }
         ensures payload { IfOk result (λ b. buf_content b ≡ (asked request.now).payload) }
     {
         self.make_room()?;
@@ -160,7 +163,8 @@ fn put_replies(
     answers: &Answers,
     replies: &mut ReplyBuf,
 ) -> Result<(), ReplyRefusal>
-    ensures { PutStep id (asked request.now) (answers_of answers.now) result replies.old replies.new }
+    ensures { PutStep id (asked request.now) (answers_of answers.now) result replies.old
+        replies.new }
 {
     if request.more_to_come {
         Ok(())
@@ -170,18 +174,19 @@ fn put_replies(
 }
 
 impl<H: Handler> Logged<H> {
-    /// Asks the handler a request that came over a connection, and adds its entry. Where the log has no room for one, it
-    /// takes as much again.
+    /// Asks the handler a request that came over a connection, and adds its entry. Where the log
+    /// has no room for one, it takes as much again.
     ///
     /// # Errors
     ///
-    /// `NotAsked` where the allocator refuses the memory for the entry: then the handler isn't asked, and nothing changes.
-    /// `Stopped` where the handler stops: the entry stands as failed.
+    /// `NotAsked` where the allocator refuses the memory for the entry: then the handler isn't
+    /// asked, and nothing changes. `Stopped` where the handler stops: the entry stands as failed.
     pub fn ask(&mut self, connection: u64, request: &Request<'_>) -> Result<(), AskRefusal>
         ensures step { AskStep H.does H.stops connection (asked request.now) result
             self.old.handler (log_of self.old.entries.items)
             self.new.handler (log_of self.new.entries.items) }
-        ensures room { IsGrown (vec_len self.old.entries) (vec_capacity self.old.entries) (vec_capacity self.new.entries) }
+        ensures room { IsGrown (vec_len self.old.entries) (vec_capacity self.old.entries)
+            (vec_capacity self.new.entries) }
     {
         let Ok(payload) = self.room_for(request) else {
             return Err(AskRefusal::NotAsked);
@@ -197,8 +202,8 @@ impl<H: Handler> Logged<H> {
         result
     }
 
-    /// Asks the handler a request of this id that came over a connection, adds its entry, and appends the replies, of which
-    /// a silent request gets none.
+    /// Asks the handler a request of this id that came over a connection, adds its entry, and
+    /// appends the replies, of which a silent request gets none.
     ///
     /// # Errors
     ///
@@ -213,7 +218,8 @@ impl<H: Handler> Logged<H> {
         ensures step { ReplyStep H.does H.stops connection id (asked request.now) result
             self.old.handler (log_of self.old.entries.items) replies.old
             self.new.handler (log_of self.new.entries.items) replies.new }
-        ensures room { IsGrown (vec_len self.old.entries) (vec_capacity self.old.entries) (vec_capacity self.new.entries) }
+        ensures room { IsGrown (vec_len self.old.entries) (vec_capacity self.old.entries)
+            (vec_capacity self.new.entries) }
     {
         self.ask(connection, request)?;
         put_replies(id, request, last_answers(&self.entries), replies)?;

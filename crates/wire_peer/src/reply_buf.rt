@@ -1,10 +1,12 @@
 //! Replies that wait to be sent.
 
-ghost use Rattle.std.specs.Prelude.{◌≡◌, ◌≤◌, ◌<◌, ◌^◌, ◌++◌, [], IfNone, IfSome, List, OnErr, OnOk, drop, false, length, map, nat_lt, refl, true, ℕ, ℤ};
+ghost use Rattle.std.specs.Prelude.{◌≡◌, ◌≤◌, ◌<◌, ◌^◌, ◌++◌, [], IfNone, IfSome, List, OnErr};
+ghost use Rattle.std.specs.Prelude.{OnOk, drop, false, length, map, nat_lt, refl, true, ℕ, ℤ};
 ghost use Rattle.std.specs.Io.{StartsWith};
 ghost use Rattle.wire_msg.specs.{canonical, message_len};
 ghost use Rattle.wire_peer.specs.AnswerLists.{answers_of};
-ghost use Rattle.wire_peer.specs.Chains.{ReplyState, chain, id_after, id_after_one, is_longer, reply, written};
+ghost use Rattle.wire_peer.specs.Chains.{ReplyState, chain, id_after, id_after_one, is_longer};
+ghost use Rattle.wire_peer.specs.Chains.{reply, written};
 ghost use Rattle.wire_peer.specs.Contents.{buf_content};
 ghost use Rattle.wire_peer.specs.Replying.{PushStep};
 
@@ -36,8 +38,8 @@ fn id_after_one(id: u32) -> u32
     if id < MAX_ID { id + 1 } else { 1 }
 }
 
-/// Holds the replies of one connection until they are sent, and the id of the next one: from 1 to 2,147,483,647, and then 1
-/// again.
+/// Holds the replies of one connection until they are sent, and the id of the next one: from 1 to
+/// 2,147,483,647, and then 1 again.
 #[derive(Drop)]
 pub struct ReplyBuf {
     out: OutBuf,
@@ -61,8 +63,8 @@ impl Model for ReplyBuf {
 }
 
 impl ReplyBuf {
-    /// Returns a buffer without replies, whose first reply has id 1. No reply may have more than `limit` bytes. It takes no
-    /// memory.
+    /// Returns a buffer without replies, whose first reply has id 1. No reply may have more than
+    /// `limit` bytes. It takes no memory.
     pub fn new(alloc: Global, limit: u32) -> ReplyBuf
         ensures { result ≡ record { output = []; next = 1; limit = limit } }
     {
@@ -92,12 +94,14 @@ impl ReplyBuf {
         self.out.sent(n);
     }
 
-    /// Appends the answers to the request of this id as replies. The first one's responseTo is `id`, and that of each later
-    /// one the requestID of the reply before it; moreToCome is set on all but the last.
+    /// Appends the answers to the request of this id as replies. The first one's responseTo is
+    /// `id`, and that of each later one the requestID of the reply before it; moreToCome is set on
+    /// all but the last.
     ///
     /// # Errors
     ///
-    /// `TooLarge` if one of the replies has more bytes than the limit, and else `OutOfMemory`. Nothing is appended then.
+    /// `TooLarge` if one of the replies has more bytes than the limit, and else `OutOfMemory`.
+    /// Nothing is appended then.
     pub fn push(&mut self, id: i32, answers: &Answers) -> Result<(), ReplyRefusal>
         ensures { PushStep id (answers_of answers.now) result self.old self.new }
     {
@@ -141,7 +145,8 @@ fn is_one_too_long(answers: &[PayloadBuf], limit: u32) -> bool
     false
 }
 
-/// Appends one reply with this payload. Returns false where memory is refused; then nothing is appended.
+/// Appends one reply with this payload. Returns false where memory is refused; then nothing is
+/// appended.
 fn write_reply(
     out: &mut OutBuf,
     id: u32,
@@ -164,8 +169,9 @@ fn write_reply(
         .is_ok()
 }
 
-/// Appends replies with ids from `first` on, the first to `to` and each later one to the reply before it. Returns the id that
-/// is next after them, or `None` where memory is refused; then some of their bytes may stand in `out`.
+/// Appends replies with ids from `first` on, the first to `to` and each later one to the reply
+/// before it. Returns the id that is next after them, or `None` where memory is refused; then some
+/// of their bytes may stand in `out`.
 fn write_chain(
     out: &mut OutBuf,
     first: u32,

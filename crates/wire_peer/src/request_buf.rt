@@ -1,6 +1,7 @@
 //! What a client puts out: requests, under ids that no outstanding call bears.
 
-ghost use Rattle.std.specs.Prelude.{◌≡◌, ◌≤◌, ◌≤ℤ◌, ◌↔◌, ◌++◌, ◌∷◌, [], None, Some, IfErr, IfOk, IsTrue, MatchResult, OnErr, OnOk, drop, length, pos};
+ghost use Rattle.std.specs.Prelude.{◌≡◌, ◌≤◌, ◌≤ℤ◌, ◌↔◌, ◌++◌, ◌∷◌, [], None, Some, IfErr, IfOk};
+ghost use Rattle.std.specs.Prelude.{IsTrue, MatchResult, OnErr, OnOk, drop, length, pos};
 ghost use Rattle.std.specs.List.{IsDistinct};
 ghost use Rattle.std.specs.Ordering.{int_eq};
 ghost use Rattle.wire_msg.specs.{canonical, message_len};
@@ -70,7 +71,8 @@ fn push_request(
     limit: u32,
 ) -> Result<(), CallRefusal>
     requires { message_len (content_of payload) ≤ limit }
-    ensures put { OnOk result (output.new ≡ output.old ++ canonical (request no.id kind (content_of payload.entry))) }
+    ensures put { OnOk result
+        (output.new ≡ output.old ++ canonical (request no.id kind (content_of payload.entry))) }
     ensures refused { IfErr result (λ e. e ≡ OutOfMemory) }
     ensures unchanged { OnErr result (output.new ≡ output.old) }
 {
@@ -80,8 +82,8 @@ fn push_request(
     }
 }
 
-/// Puts a request out, and its call into the table, if it awaits a reply. Where the second of the two is refused memory,
-/// the first is taken back.
+/// Puts a request out, and its call into the table, if it awaits a reply. Where the second of the
+/// two is refused memory, the first is taken back.
 fn put_out(
     output: &mut OutBuf,
     table: &mut CallTable,
@@ -92,7 +94,8 @@ fn put_out(
 ) -> Result<(), CallRefusal>
     requires fits { message_len (content_of payload) ≤ limit }
     requires free { bearer no.id table.old ≡ None }
-    ensures put { OnOk result (output.new ≡ output.old ++ canonical (request no.id kind (content_of payload.entry))) }
+    ensures put { OnOk result
+        (output.new ≡ output.old ++ canonical (request no.id kind (content_of payload.entry))) }
     ensures awaiting { OnOk result (table.new ≡ awaiting table.old kind no) }
     ensures refused { IfErr result (λ e. e ≡ OutOfMemory) }
     ensures unchanged { OnErr result (output.new ≡ output.old) }
@@ -173,8 +176,8 @@ impl RequestBuf {
     ///
     /// # Errors
     ///
-    /// The first that applies of `WindowFull`, which isn't told of a call without a reply, `TooLarge`, `NumbersSpent` and
-    /// `OutOfMemory`. Nothing changes then.
+    /// The first that applies of `WindowFull`, which isn't told of a call without a reply,
+    /// `TooLarge`, `NumbersSpent` and `OutOfMemory`. Nothing changes then.
     pub(crate) fn call(
         &mut self,
         kind: CallKind,
@@ -211,7 +214,8 @@ impl RequestBuf {
         Ok(no)
     }
 
-    /// Gives a message with this requestID, responseTo and moreToCome to the call that it belongs to.
+    /// Gives a message with this requestID, responseTo and moreToCome to the call that it belongs
+    /// to.
     ///
     /// # Errors
     ///
@@ -222,7 +226,8 @@ impl RequestBuf {
         to: i32,
         more: bool,
     ) -> Result<ReadyReply, ClientCause>
-        ensures received { IsReceived self.old.outstanding id more (allowed more (owner self.old.outstanding to))
+        ensures received { IsReceived self.old.outstanding id more
+            (allowed more (owner self.old.outstanding to))
             result self.new.outstanding }
         ensures others { self.new ≡ record self.old { outstanding = self.new.outstanding } }
     {

@@ -18,7 +18,8 @@ pub struct Request<'a> {
 }
 
 impl Request<'_> {
-    /// Returns true if more than one answer may be given: if more than one reply may be sent, and one is wanted at all.
+    /// Returns true if more than one answer may be given: if more than one reply may be sent, and
+    /// one is wanted at all.
     pub fn takes_more(&self) -> bool
         ensures { result ≡ takes_more (asked self.now) }
     {

@@ -6,7 +6,8 @@ use wire_msg::MsgFault;
 /// Why a server closed. The first cause stays.
 #[derive(Clone, Copy, Debug, PartialEq, Eq, Error)]
 pub enum ServerCause {
-    /// The bytes that came begin no message. The fault's offset is counted from the first byte behind the last request.
+    /// The bytes that came begin no message. The fault's offset is counted from the first byte
+    /// behind the last request.
     #[error("the bytes are no message: {0}")]
     Message(MsgFault),
     /// The bytes ended between messages.
@@ -61,8 +62,8 @@ pub enum AnswerRefusal {
     /// Memory for the entry was wanting. The handler wasn't asked, and nothing changed.
     #[error("out of memory")]
     OutOfMemory,
-    /// The server closed in this call, for this cause. The request has its entry and waits no longer, and none of its
-    /// replies is put out.
+    /// The server closed in this call, for this cause. The request has its entry and waits no
+    /// longer, and none of its replies is put out.
     #[error("the server closed: {0}")]
     NowClosed(ServerCause),
 }

@@ -1,6 +1,7 @@
 //! A server of one connection: bytes come in, requests wait and are answered, and replies go out.
 
-ghost use Rattle.std.specs.Prelude.{◌≡◌, ◌≢◌, ◌≤◌, ◌<◌, ◌↔◌, All, IfOk, IfSome, IsSome, Ok, OnErr, Some, drop, length, refl, slice_get};
+ghost use Rattle.std.specs.Prelude.{◌≡◌, ◌≢◌, ◌≤◌, ◌<◌, ◌↔◌, All, IfOk, IfSome, IsSome, Ok, OnErr};
+ghost use Rattle.std.specs.Prelude.{Some, drop, length, refl, slice_get};
 ghost use Rattle.std.specs.VecDeque.{deque_capacity, deque_len};
 ghost use Rattle.wire_msg.specs.{IsMessage, IsOpen, Message, SpellsMsg, msg_bytes};
 ghost use Rattle.wire_stream.specs.{CompletesHeader, StandsAt};
@@ -8,7 +9,8 @@ ghost use Rattle.wire_peer.specs.ServerAnswers.{AnswerStep, WaitsAt, cause_of};
 ghost use Rattle.wire_peer.specs.Logs.{log_of};
 ghost use Rattle.wire_peer.specs.Replying.{ReplyStep};
 ghost use Rattle.wire_peer.specs.Requests.{asked, asked_by};
-ghost use Rattle.wire_peer.specs.Servers.{IsNewServer, TakesBytes, closed_for, end_cause, new_server};
+ghost use Rattle.wire_peer.specs.Servers.{IsNewServer, TakesBytes, closed_for, end_cause};
+ghost use Rattle.wire_peer.specs.Servers.{new_server};
 ghost use Rattle.wire_peer.specs.Limits.{IsWindow};
 ghost use Rattle.wire_peer.specs.ServerParts.{IsAccepted, IsSettled, IsTakenOut};
 
@@ -24,8 +26,9 @@ use std::marker::Model;
 use wire_msg::{MAX_MESSAGE_LEN, RawMsg};
 use wire_stream::{MsgBuf, MsgReader, Outlet, ReadEnd, ReadRefusal, ReaderState};
 
-/// Serves one connection. It takes bytes, out of which requests come that wait in order; it answers one that waits, by a
-/// handler, and holds the bytes of the replies until they are sent. It reads and writes nothing itself.
+/// Serves one connection. It takes bytes, out of which requests come that wait in order; it answers
+/// one that waits, by a handler, and holds the bytes of the replies until they are sent. It reads
+/// and writes nothing itself.
 ///
 /// A contract sees it as the record `ServerView`.
 #[derive(Drop)]
@@ -63,7 +66,8 @@ fn accept(reader: &mut MsgReader, waiting: &mut VecDeque<MsgBuf>)
     }
 }
 
-/// Does what follows from where the reader stands: a whole message waits from now on. Returns the state of the server.
+/// Does what follows from where the reader stands: a whole message waits from now on. Returns the
+/// state of the server.
 fn settle(found: ReaderState, reader: &mut MsgReader, waiting: &mut VecDeque<MsgBuf>) -> ServerState
     requires stands { StandsAt reader.old.limit reader.old.held found }
     requires room { deque_len waiting.old < deque_capacity waiting.old }
@@ -112,8 +116,8 @@ fn reply_to<H: Handler>(
     logged.reply(connection, message.id(), &request_of(message), replies)
 }
 
-/// Returns the cause for which a server closes that has no replies for this reason. It has none where the handler
-/// wasn't asked.
+/// Returns the cause for which a server closes that has no replies for this reason. It has none
+/// where the handler wasn't asked.
 fn cause_of(reason: NoReplies) -> Option<ServerCause>
     ensures { result ≡ cause_of reason }
 {
@@ -127,7 +131,8 @@ fn cause_of(reason: NoReplies) -> Option<ServerCause>
 }
 
 impl Server {
-    /// Like `new`, of numbers that are known to be good, but for the least limit, which isn't asked for.
+    /// Like `new`, of numbers that are known to be good, but for the least limit, which isn't asked
+    /// for.
     ///
     /// # Errors
     ///
@@ -154,8 +159,9 @@ impl Server {
         })
     }
 
-    /// Returns a server of the connection of this number, in which at most `window` requests wait, 1 to 1,024, of
-    /// messages of at most `limit` bytes, 26 to 48,000,000. It takes the memory of its waiting list.
+    /// Returns a server of the connection of this number, in which at most `window` requests wait,
+    /// 1 to 1,024, of messages of at most `limit` bytes, 26 to 48,000,000. It takes the memory of
+    /// its waiting list.
     ///
     /// # Errors
     ///
@@ -180,18 +186,22 @@ impl Server {
         }
     }
 
-    /// Takes the first bytes of `piece`, up to the end of one message or the 16th byte of a bad header, and returns how
-    /// many. It takes none where the server is closed or its waiting list is full. A message that is whole then waits
-    /// behind the others; bytes with a fault close the server.
+    /// Takes the first bytes of `piece`, up to the end of one message or the 16th byte of a bad
+    /// header, and returns how many. It takes none where the server is closed or its waiting list
+    /// is full. A message that is whole then waits behind the others; bytes with a fault close the
+    /// server.
     ///
     /// # Errors
     ///
-    /// `OutOfMemory` where the piece completes a good header and memory for the announced message is wanting. Nothing
-    /// is taken then.
+    /// `OutOfMemory` where the piece completes a good header and memory for the announced message
+    /// is wanting. Nothing is taken then.
     pub fn feed(&mut self, piece: &[u8]) -> Result<usize, ReadRefusal>
-        ensures closed { self.old.state ≢ ServerState.Open → (result ≡ Ok 0) × (self.new ≡ self.old) }
-        ensures full { self.old.window ≤ length self.old.waiting → (result ≡ Ok 0) × (self.new ≡ self.old) }
-        ensures taken { self.old.state ≡ ServerState.Open → length self.old.waiting < self.old.window
+        ensures closed { self.old.state ≢ ServerState.Open
+            → (result ≡ Ok 0) × (self.new ≡ self.old) }
+        ensures full { self.old.window ≤ length self.old.waiting
+            → (result ≡ Ok 0) × (self.new ≡ self.old) }
+        ensures taken { self.old.state ≡ ServerState.Open
+            → length self.old.waiting < self.old.window
             → IfOk result (λ n. TakesBytes self.old piece.now n self.new) }
         ensures refused { OnErr result (CompletesHeader self.old.limit self.old.held piece.now) }
         ensures unchanged { OnErr result (self.new ≡ self.old) }
@@ -216,25 +226,28 @@ impl Server {
         self.waiting.len()
     }
 
-    /// Returns the `k`-th request that waits, counted from 0, or `None` where no more than `k` wait.
+    /// Returns the `k`-th request that waits, counted from 0, or `None` where no more than `k`
+    /// wait.
     pub fn request(&self, k: usize) -> Option<Request<'_>>
         ensures found { IsSome result ↔ (k < length self.now.waiting) }
-        ensures shown { (m : Message) → WaitsAt self.now k m → IfSome result (λ r. asked r ≡ asked_by m) }
+        ensures shown { (m : Message) → WaitsAt self.now k m
+            → IfSome result (λ r. asked r ≡ asked_by m) }
     {
         let message = message_at(&self.waiting, k)?;
         Some(request_of(message))
     }
 
-    /// Answers the `k`-th request that waits, counted from 0. The handler is asked, its log gets an entry, the request
-    /// leaves the list, which closes up, and its replies are put out; a request that wants none gets none. Returns the
-    /// entry's number.
+    /// Answers the `k`-th request that waits, counted from 0. The handler is asked, its log gets an
+    /// entry, the request leaves the list, which closes up, and its replies are put out; a request
+    /// that wants none gets none. Returns the entry's number.
     ///
     /// # Errors
     ///
-    /// `Closed` where the server is closed; else `NoSuchRequest` where no more than `k` wait; else `OutOfMemory` where
-    /// memory for the entry is wanting. Nothing changes then, and the handler isn't asked. `NowClosed` where the
-    /// handler stops, one of the replies has more bytes than the limit, or memory for the replies is wanting: the entry
-    /// stands, the request has left the list, no byte of its replies is put out, and the server is closed.
+    /// `Closed` where the server is closed; else `NoSuchRequest` where no more than `k` wait; else
+    /// `OutOfMemory` where memory for the entry is wanting. Nothing changes then, and the handler
+    /// isn't asked. `NowClosed` where the handler stops, one of the replies has more bytes than the
+    /// limit, or memory for the replies is wanting: the entry stands, the request has left the
+    /// list, no byte of its replies is put out, and the server is closed.
     pub fn answer<H: Handler>(
         &mut self,
         k: usize,
@@ -282,10 +295,11 @@ impl Server {
         self.replies.sent(n);
     }
 
-    /// Tells the server that no more bytes come. It closes, with `EndedInside` where it holds bytes of a message and
-    /// else with `Ended`; a closed one stays as it is. What waits still waits.
+    /// Tells the server that no more bytes come. It closes, with `EndedInside` where it holds bytes
+    /// of a message and else with `Ended`; a closed one stays as it is. What waits still waits.
     pub fn end(&mut self)
-        ensures { self.new ≡ record self.old { state = closed_for (end_cause self.old.held) self.old.state } }
+        ensures { self.new
+            ≡ record self.old { state = closed_for (end_cause self.old.held) self.old.state } }
     {
         if let ServerState::Open = self.state {
             self.state = match self.reader.end() {
@@ -295,8 +309,8 @@ impl Server {
         }
     }
 
-    /// Returns whether the server is open, and if not, the first cause for which it closed. An open one is between
-    /// messages or inside one.
+    /// Returns whether the server is open, and if not, the first cause for which it closed. An open
+    /// one is between messages or inside one.
     pub fn state(&self) -> ServerState
         ensures state { result ≡ self.now.state }
         ensures between { result ≡ ServerState.Open → IsOpen self.now.limit self.now.held }

@@ -1,4 +1,5 @@
-//! Serving one connection by a `Server`: its messages are answered in order, each before the next one is taken.
+//! Serving one connection by a `Server`: its messages are answered in order, each before the next
+//! one is taken.
 
 ghost use Rattle.std.specs.Prelude.{◌≡◌, ◌≤◌, ◌∷◌, [], OnOk};
 ghost use Rattle.std.specs.Io.KnownBytes.{Keeps};
@@ -57,7 +58,8 @@ impl From<AnswerRefusal> for ServeEnd {
 ///
 /// # Errors
 ///
-/// Returns why not all replies were sent. The entry stands unless memory ran out before the handler was asked.
+/// Returns why not all replies were sent. The entry stands unless memory ran out before the handler
+/// was asked.
 fn answer_first<L: Link, H: Handler>(
     link: &mut L,
     server: &mut Server,
@@ -92,8 +94,9 @@ fn answer_first<L: Link, H: Handler>(
     }
 }
 
-/// Serves a connection over `link`, by a `Server` in which one request may wait: answers messages of at most `limit` bytes in
-/// order, at most `budget` of them. All replies to a message are sent before the next one is taken. Returns why it ended.
+/// Serves a connection over `link`, by a `Server` in which one request may wait: answers messages
+/// of at most `limit` bytes in order, at most `budget` of them. All replies to a message are sent
+/// before the next one is taken. Returns why it ended.
 pub fn serve<L: Link, H: Handler>(
     alloc: Global,
     link: &mut L,

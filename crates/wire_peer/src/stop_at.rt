@@ -7,7 +7,8 @@ use crate::answer_list::Answers;
 use crate::handlers::{Handler, HandlerStop};
 use crate::requests::Request;
 
-/// Answers as another handler does, but stops at one request. What it stops at, that handler isn't asked.
+/// Answers as another handler does, but stops at one request. What it stops at, that handler isn't
+/// asked.
 #[derive(Drop)]
 pub struct StopAt<H> {
     inner: H,
@@ -17,7 +18,8 @@ pub struct StopAt<H> {
 }
 
 impl<H> StopAt<H> {
-    /// Returns the handler that answers as `inner`, but ends request number `at`, counted from 0, with `stop`.
+    /// Returns the handler that answers as `inner`, but ends request number `at`, counted from 0,
+    /// with `stop`.
     pub fn new(inner: H, at: u64, stop: HandlerStop) -> StopAt<H>
         ensures inner { result.inner ≡ inner }
         ensures at { result.at ≡ Some at }
@@ -36,8 +38,11 @@ impl<H: Handler> Handler for StopAt<H> {
         × (h'.at ≡ one_fewer h.at) × (h'.stop ≡ h.stop) };
 
     ghost stops = { λ h a stop h'.
-        ((h.at ≡ Some 0) × (stop ≡ h.stop) × (h'.inner ≡ h.inner) × (h'.at ≡ None) × (h'.stop ≡ h.stop))
-        ⊎ ((h.at ≢ Some 0) × H.stops h.inner a stop h'.inner × (h'.at ≡ one_fewer h.at) × (h'.stop ≡ h.stop)) };
+        ((h.at ≡ Some 0) × (stop ≡ h.stop) × (h'.inner ≡ h.inner) × (h'.at ≡ None)
+        × (h'.stop ≡ h.stop))
+        ⊎
+        ((h.at ≢ Some 0) × H.stops h.inner a stop h'.inner × (h'.at ≡ one_fewer h.at)
+        × (h'.stop ≡ h.stop)) };
 
     fn respond(&mut self, request: &Request<'_>, answers: &mut Answers) -> Result<(), HandlerStop> {
         match self.at {

@@ -1,5 +1,6 @@
 -- What the calls of a link do to what it shows.
-use Rattle.std.specs.Prelude.{◌≡◌, ℕ, zero, suc, ◌+◌, ◌-◌, ◌^◌, min, List, ◌++◌, Option, Some, None, Result, Ok, Err}
+use Rattle.std.specs.Prelude.{◌≡◌, ℕ, zero, suc, ◌+◌, ◌-◌, ◌^◌, min, List, ◌++◌, Option, Some, None}
+use Rattle.std.specs.Prelude.{Result, Ok, Err}
 use Rattle.wire_stream.specs.declared.link.LinkFault.{LinkFault}
 use Rattle.wire_stream.specs.declared.link.Moved.{Moved}
 use Rattle.wire_stream.specs.declared.link.Moved.TheVariants.{Bytes, Later}

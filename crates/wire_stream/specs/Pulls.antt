@@ -5,8 +5,8 @@ use Rattle.wire_stream.specs.declared.inlet.Pulled.{Pulled}
 use Rattle.wire_stream.specs.declared.inlet.Pulled.TheVariants.{Bytes, End, Later}
 use Rattle.wire_stream.specs.Links.{Rose}
 
--- The pull came to this result, holds these bytes now, and the link told its end in it or didn't: bytes are held, or the
--- end was told in this pull, or none came, or the link failed.
+-- The pull came to this result, holds these bytes now, and the link told its end in it or didn't:
+-- bytes are held, or the end was told in this pull, or none came, or the link failed.
 abbrev pub IsPulled : Result Pulled LinkFault → List ℕ → ℕ → ℕ → Type 0
 IsPulled (Ok Bytes) held old new = (held ≢ []) × (new ≡ old)
 IsPulled (Ok End) held old new = (held ≡ []) × Rose old new

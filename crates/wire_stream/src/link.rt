@@ -1,6 +1,7 @@
 //! Names what a link is: something that moves bytes both ways.
 
-ghost use Rattle.std.specs.Prelude.{◌≡◌, ◌≢◌, ◌<◌, ◌≤◌, ◌∷◌, [], ℕ, List, Option, IfOk, OnErr, OnOk, length, take};
+ghost use Rattle.std.specs.Prelude.{◌≡◌, ◌≢◌, ◌<◌, ◌≤◌, ◌∷◌, [], ℕ, List, Option, IfOk, OnErr};
+ghost use Rattle.std.specs.Prelude.{OnOk, length, take};
 ghost use Rattle.std.specs.Io.KnownBytes.{Appends, Keeps};
 ghost use Rattle.wire_stream.specs.Links.{AddsTurns, Rose, TellsEnd, TellsLater, Turn, bytes_moved};
 

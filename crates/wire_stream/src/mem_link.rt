@@ -139,7 +139,8 @@ impl MemLink {
         LinkFault { kind }
     }
 
-    /// Moves bytes of the input to the front of `buffer`, as many as a call may, and returns how many.
+    /// Moves bytes of the input to the front of `buffer`, as many as a call may, and returns how
+    /// many.
     fn give(&mut self, buffer: &mut [u8]) -> usize
         ensures count { result ≡ moved self.old.most (length buffer.old) (length self.old.left) }
         ensures received { self.new.received ≡ self.old.received ++ take result buffer.new }

@@ -1,6 +1,7 @@
 //! Sends bytes that wait.
 
-ghost use Rattle.std.specs.Prelude.{◌≡◌, ◌≢◌, ◌≤◌, ◌++◌, [], ℕ, List, Ok, OnErr, OnOk, drop, length};
+ghost use Rattle.std.specs.Prelude.{◌≡◌, ◌≢◌, ◌≤◌, ◌++◌, [], ℕ, List, Ok, OnErr, OnOk, drop};
+ghost use Rattle.std.specs.Prelude.{length};
 ghost use Rattle.std.specs.Io.KnownBytes.{Appends, Keeps};
 ghost use Rattle.wire_stream.specs.Links.{AddsTurns, Rose};
 ghost use Rattle.wire_stream.specs.Flushes.{FlushesLater};
@@ -44,8 +45,8 @@ pub enum Flushed {
     Later,
 }
 
-/// Sends over `link` the bytes that wait in `outlet`: all of them, or as many as the link takes now. Nothing else of the
-/// outlet changes.
+/// Sends over `link` the bytes that wait in `outlet`: all of them, or as many as the link takes
+/// now. Nothing else of the outlet changes.
 ///
 /// # Errors
 ///

@@ -5,7 +5,9 @@ use Rattle.wire_peer.specs.{IsLimit, IsWindow}
 use Rattle.wire_model.specs.{AreGood, opening}
 use Rattle.wire_model.specs.declared.limits.WorldLimits.{WorldLimits}
 use Rattle.wire_model.specs.declared.refusals.SetupRefusal.{SetupRefusal}
-use Rattle.wire_model.specs.declared.refusals.SetupRefusal.TheVariants.{BadFirstId, BadWindow, BadLimit, BadMax, OutOfMemory}
+use Rattle.wire_model.specs.declared.refusals.SetupRefusal.TheVariants.{BadFirstId, BadWindow}
+use Rattle.wire_model.specs.declared.refusals.SetupRefusal.TheVariants.{BadLimit, BadMax}
+use Rattle.wire_model.specs.declared.refusals.SetupRefusal.TheVariants.{OutOfMemory}
 use Rattle.wire_world.specs.Worlds.{WorldSeen}
 
 -- the numbers for the ends of a connection are within their ranges

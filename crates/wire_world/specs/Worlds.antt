@@ -9,9 +9,10 @@ pub record WorldSeen (H : Type 0) : Type 0 where
   pub limits : WorldLimits
   pub state : World H
 
--- The parts belong together: the pool is open, as many connections were made as ids were given, each call is of one of
--- them, and no call is pending whose client is closed.
-pub record AreParts (limits : WorldLimits) (pool : PoolSeen) (conns : List Conn) (calls : List Record) : Type 0 where
+-- The parts belong together: the pool is open, as many connections were made as ids were given,
+-- each call is of one of them, and no call is pending whose client is closed.
+pub record AreParts (limits : WorldLimits) (pool : PoolSeen) (conns : List Conn)
+    (calls : List Record) : Type 0 where
   pub limits_are : AreGood limits
   pub is_open : pool.closed ≡ false
   pub next_is : pool.next ≡ id_after (length conns)

@@ -1,9 +1,12 @@
 //! A connection of a world: its two ends, and which ways are cut.
 
-ghost use Rattle.std.specs.Prelude.{◌≡◌, ◌≢◌, ◌++◌, ◌∷◌, [], false, IfErr, IfOk, MatchResult, OnErr, length, option_map};
+ghost use Rattle.std.specs.Prelude.{◌≡◌, ◌≢◌, ◌++◌, ◌∷◌, [], false, IfErr, IfOk, MatchResult};
+ghost use Rattle.std.specs.Prelude.{OnErr, length, option_map};
 ghost use Rattle.wire_peer.specs.{AnswerStep, IsCallRefusal, IsCalled, called, content_of, log_of};
 ghost use Rattle.wire_world.specs.Connections.{is_quiet, is_stopped};
-ghost use Rattle.wire_model.specs.{AreGood, answer_reason, cut_both, cut_down, cut_up, is_closed, is_cut_for, is_empty, is_healthy, new_conn, new_raw_conn, restarted};
+ghost use Rattle.wire_model.specs.{AreGood, answer_reason, cut_both, cut_down, cut_up, is_closed};
+ghost use Rattle.wire_model.specs.{is_cut_for, is_empty, is_healthy, new_conn, new_raw_conn};
+ghost use Rattle.wire_model.specs.{restarted};
 
 use std::alloc::{AllocError, Global};
 use std::marker::Model;
@@ -101,7 +104,8 @@ impl Connection {
         }
     }
 
-    /// Returns true if the connection may be used again: no way is cut, the client is open, and no call is outstanding.
+    /// Returns true if the connection may be used again: no way is cut, the client is open, and no
+    /// call is outstanding.
     pub(crate) fn is_healthy(&self) -> bool
         ensures { result ≡ is_healthy self.now }
     {
@@ -116,7 +120,8 @@ impl Connection {
         }
     }
 
-    /// Returns true if the connection was not cut nor closed by an answer, and nothing is on its ways or waits.
+    /// Returns true if the connection was not cut nor closed by an answer, and nothing is on its
+    /// ways or waits.
     pub(crate) fn is_quiet(&self) -> bool
         ensures { result ≡ is_quiet self.now }
     {
@@ -192,7 +197,8 @@ impl Connection {
         index: usize,
     ) -> Result<CallNo, CallRefusal>
         requires { self.old.raw ≡ false }
-        ensures called { IfOk result (λ no. IsCalled self.old.client kind (content_of payload.entry) no
+        ensures called { IfOk result
+            (λ no. IsCalled self.old.client kind (content_of payload.entry) no
             × (self.new ≡ record self.old {
               client = called self.old.client kind (content_of payload.entry) no;
               calls = self.old.calls ++ index ∷ [];
@@ -214,7 +220,8 @@ impl Connection {
 
     /// Returns why the server wouldn't answer the `k`-th request that waits, if it wouldn't.
     pub(crate) fn answer_refusal(&self, k: usize) -> Option<AnswerRefusal>
-        ensures { option_map WorldRefusal.Answer result ≡ answer_reason self.now.server.state (length self.now.server.waiting) k }
+        ensures { option_map WorldRefusal.Answer result
+            ≡ answer_reason self.now.server.state (length self.now.server.waiting) k }
     {
         if self.server.state() != ServerState::Open {
             return Some(AnswerRefusal::Closed);

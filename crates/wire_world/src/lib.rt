@@ -1,8 +1,9 @@
 //! The world of connections: a pool, clients and servers, and bytes that move between them.
 //!
-//! A `World` has connections, each with a client and a server of its own, one handler with its log, and a record of each call.
-//! An `Event` moves bytes over a connection, makes a call, has a request answered, cuts a way, or lends and takes back a
-//! connection. `step` makes one event happen, and `run` many.
+//! A `World` has connections, each with a client and a server of its own, one handler with its log,
+//! and a record of each call. An `Event` moves bytes over a connection, makes a call, has a request
+//! answered, cuts a way, or lends and takes back a connection. `step` makes one event happen, and
+//! `run` many.
 //!
 //! Stands on wire_model, and on the code of wire_peer and wire_pool. wire_play stands on it. Read
 //! first: `worlds`.

@@ -60,7 +60,8 @@ fn settle_one(call: &mut CallRecord, connections: &[Connection])
 
 /// Notes of each pending call whose client is closed that it is lost.
 pub(crate) fn settle(calls: &mut [CallRecord], connections: &[Connection])
-    ensures { map record_of calls.new ≡ map (settled_record connections.now) (map record_of calls.old) }
+    ensures { map record_of calls.new
+        ≡ map (settled_record connections.now) (map record_of calls.old) }
 {
     for call in calls.iter_mut() {
         settle_one(call, connections);

@@ -1,10 +1,13 @@
 //! Bytes that move over a connection.
 
-ghost use Rattle.std.specs.Prelude.{[], ◌≡◌, ◌≢◌, ◌≤◌, ℕ, IfOk, MatchResult, None, OnErr, OnOk, drop, false, take, true};
+ghost use Rattle.std.specs.Prelude.{[], ◌≡◌, ◌≢◌, ◌≤◌, ℕ, IfOk, MatchResult, None, OnErr, OnOk};
+ghost use Rattle.std.specs.Prelude.{drop, false, take, true};
 ghost use Rattle.wire_msg.specs.{IsOpen};
 ghost use Rattle.wire_model.specs.{CopiesReply, with_server_output, WantsRoom, closed_now};
 ghost use Rattle.wire_peer.specs.{MayTake};
-ghost use Rattle.wire_world.specs.Moving.{DownEnd, DownResult, FedClient, FedServer, GoneRaw, GoneUp, MovedUp, RawEnd, RawResult, TakenRaw, Unfed, UpEnd, UpResult};
+ghost use Rattle.wire_world.specs.Moving.{DownEnd, DownResult, FedClient, FedServer, GoneRaw};
+ghost use Rattle.wire_world.specs.Moving.{GoneUp, MovedUp, RawEnd, RawResult, TakenRaw, Unfed};
+ghost use Rattle.wire_world.specs.Moving.{UpEnd, UpResult};
 ghost use Rattle.wire_world.specs.Records.{records_of};
 
 use crate::connections::Connection;
@@ -14,12 +17,13 @@ use wire_peer::{Client, ClientState, Server, ServerCause, ServerState};
 use wire_stream::ReadRefusal;
 
 impl Connection {
-    /// Moves the first bytes of the client's output into the server, at most `n`, and returns how many. Fewer are moved only
-    /// where there are no more, or the server takes none.
+    /// Moves the first bytes of the client's output into the server, at most `n`, and returns how
+    /// many. Fewer are moved only where there are no more, or the server takes none.
     ///
     /// # Errors
     ///
-    /// Memory is wanting for a message whose header is complete now. Part of the bytes may have been moved.
+    /// Memory is wanting for a message whose header is complete now. Part of the bytes may have
+    /// been moved.
     pub(crate) fn move_up(&mut self, n: usize) -> Result<usize, ReadRefusal>
         requires { self.old.raw ≡ false }
         ensures { (m : MovedUp self.old n self.new) × UpResult m result }
@@ -30,20 +34,22 @@ impl Connection {
         pass_up(client, &mut self.server, n)
     }
 
-    /// Moves the first bytes of the server's output into the client, at most `n`, and returns how many. Fewer are moved only
-    /// where there are no more, or the client is closed. Each reply goes into the record of its call.
+    /// Moves the first bytes of the server's output into the client, at most `n`, and returns how
+    /// many. Fewer are moved only where there are no more, or the client is closed. Each reply goes
+    /// into the record of its call.
     ///
     /// # Errors
     ///
-    /// Memory is wanting, for a message whose header is complete now or for the copy of a reply. Part of the bytes may have
-    /// been moved, and the connection is cut both ways.
+    /// Memory is wanting, for a message whose header is complete now or for the copy of a reply.
+    /// Part of the bytes may have been moved, and the connection is cut both ways.
     pub(crate) fn move_down(
         &mut self,
         n: usize,
         calls: &mut [CallRecord],
     ) -> Result<usize, AllocError>
         requires { self.old.raw ≡ false }
-        ensures { DownResult self.old n (records_of calls.old) self.new (records_of calls.new) result }
+        ensures { DownResult self.old n (records_of calls.old) self.new (records_of calls.new)
+            result }
     {
         let Some(client) = &mut self.client else {
             unreachable!()
@@ -60,11 +66,13 @@ impl Connection {
         }
     }
 
-    /// Feeds the server of a raw connection, and returns how many of the bytes it took: all, but where it takes no more.
+    /// Feeds the server of a raw connection, and returns how many of the bytes it took: all, but
+    /// where it takes no more.
     ///
     /// # Errors
     ///
-    /// Memory is wanting for a message whose header is complete now. Part of the bytes may have been taken.
+    /// Memory is wanting for a message whose header is complete now. Part of the bytes may have
+    /// been taken.
     pub(crate) fn take_raw(&mut self, bytes: &[u8]) -> Result<usize, ReadRefusal>
         requires { self.old.raw ≡ true }
         ensures { (m : TakenRaw self.old bytes.now self.new) × RawResult m result }
@@ -79,7 +87,10 @@ impl Connection {
     /// Memory is wanting. Nothing changes then.
     pub(crate) fn give_raw(&mut self, alloc: Global, n: usize) -> Result<Vec<u8>, AllocError>
         ensures given { IfOk result (λ v. (v.items ≡ take n self.old.server.output)
-            × (self.new ≡ record self.old { server = with_server_output self.old.server (drop n self.old.server.output) })) }
+            ×
+            (self.new
+            ≡ record self.old
+            { server = with_server_output self.old.server (drop n self.old.server.output) })) }
         ensures unchanged { OnErr result (self.new ≡ self.old) }
         ensures some { OnErr result (take n self.old.server.output ≢ []) }
     {
@@ -94,13 +105,15 @@ impl Connection {
     }
 }
 
-/// Feeds a server, and returns how many of the bytes it took: none only where there are none, or it takes no more.
+/// Feeds a server, and returns how many of the bytes it took: none only where there are none, or it
+/// takes no more.
 ///
 /// # Errors
 ///
 /// Memory is wanting for a message whose header is complete now. Nothing is taken then.
 fn feed_server(server: &mut Server, piece: &[u8]) -> Result<usize, ReadRefusal>
-    ensures fed { MatchResult result (λ taken. FedServer server.old piece.now taken server.new) (λ _. WantsRoom server.old piece.now) }
+    ensures fed { MatchResult result (λ taken. FedServer server.old piece.now taken server.new)
+        (λ _. WantsRoom server.old piece.now) }
     ensures unchanged { OnErr result (server.new ≡ server.old) }
 {
     let ServerState::Open = server.state() else {
@@ -113,9 +126,11 @@ fn feed_server(server: &mut Server, piece: &[u8]) -> Result<usize, ReadRefusal>
 ///
 /// # Errors
 ///
-/// Memory is wanting for a message whose header is complete now. Part of the bytes may have been moved.
+/// Memory is wanting for a message whose header is complete now. Part of the bytes may have been
+/// moved.
 fn pass_up(client: &mut Client, server: &mut Server, n: usize) -> Result<usize, ReadRefusal>
-    ensures { (moved : ℕ) × (moved ≤ n) × GoneUp client.old server.old moved client.new server.new × UpEnd n moved client.new server.new result }
+    ensures { (moved : ℕ) × (moved ≤ n) × GoneUp client.old server.old moved client.new server.new
+        × UpEnd n moved client.new server.new result }
 {
     let mut moved = 0;
     while moved < n {
@@ -135,9 +150,11 @@ fn pass_up(client: &mut Client, server: &mut Server, n: usize) -> Result<usize, 
 ///
 /// # Errors
 ///
-/// Memory is wanting for a message whose header is complete now. Part of the bytes may have been taken.
+/// Memory is wanting for a message whose header is complete now. Part of the bytes may have been
+/// taken.
 fn pass_raw(server: &mut Server, bytes: &[u8]) -> Result<usize, ReadRefusal>
-    ensures { (moved : ℕ) × GoneRaw server.old bytes.now moved server.new × RawEnd bytes.now moved server.new result }
+    ensures { (moved : ℕ) × GoneRaw server.old bytes.now moved server.new
+        × RawEnd bytes.now moved server.new result }
 {
     let mut moved = 0;
     while moved < bytes.len() {
@@ -150,8 +167,9 @@ fn pass_raw(server: &mut Server, bytes: &[u8]) -> Result<usize, ReadRefusal>
     Ok(moved)
 }
 
-/// Moves the first bytes of the server's output into the client, at most `n`, and returns how many. Fewer are moved only
-/// where there are no more, or the client is closed. Each reply goes into the record of its call.
+/// Moves the first bytes of the server's output into the client, at most `n`, and returns how many.
+/// Fewer are moved only where there are no more, or the client is closed. Each reply goes into the
+/// record of its call.
 ///
 /// # Errors
 ///
@@ -164,7 +182,8 @@ fn pass_down(
     calls: &mut [CallRecord],
 ) -> Result<usize, AllocError>
     requires { client.old.state ≡ ClientState.Open → client.old.reply ≡ None }
-    ensures { DownEnd indexes.now client.old server.old (records_of calls.old) n client.new server.new (records_of calls.new) result }
+    ensures { DownEnd indexes.now client.old server.old (records_of calls.old) n client.new
+        server.new (records_of calls.new) result }
 {
     let mut moved = 0;
     while moved < n {
@@ -188,8 +207,8 @@ fn pass_down(
     Ok(moved)
 }
 
-/// Feeds a client, which takes the first bytes, copies the reply that is ready then, if one is, and lets go of it. Returns
-/// how many bytes it took: none only where there are none.
+/// Feeds a client, which takes the first bytes, copies the reply that is ready then, if one is, and
+/// lets go of it. Returns how many bytes it took: none only where there are none.
 ///
 /// # Errors
 ///
@@ -203,7 +222,8 @@ fn feed_client(
     requires may { MayTake client.old }
     requires between { IsOpen client.old.requests.limit client.old.held }
     ensures fed { MatchResult result
-        (λ taken. FedClient indexes.now client.old (records_of calls.old) piece.now taken client.new (records_of calls.new))
+        (λ taken. FedClient indexes.now client.old (records_of calls.old) piece.now taken client.new
+        (records_of calls.new))
         (λ taken. Unfed client.old piece.now taken client.new) }
     ensures unchanged { OnErr result (records_of calls.new ≡ records_of calls.old) }
 {
@@ -227,7 +247,9 @@ fn copy_reply(
     indexes: &[usize],
     calls: &mut [CallRecord],
 ) -> Result<(), AllocError>
-    ensures copied { OnOk result (CopiesReply indexes.now client.now.held client.now.reply (records_of calls.old) (records_of calls.new)) }
+    ensures copied { OnOk result
+        (CopiesReply indexes.now client.now.held client.now.reply (records_of calls.old)
+        (records_of calls.new)) }
     ensures unchanged { OnErr result (records_of calls.new ≡ records_of calls.old) }
     ensures ready { OnErr result (client.now.reply ≢ None) }
 {

@@ -38,15 +38,16 @@ pub struct CallRecord {
 }
 
 impl CallRecord {
-    /// Returns the record of a call that is made now, and has no part. The only memory that it takes is that of the copied
-    /// payload.
+    /// Returns the record of a call that is made now, and has no part. The only memory that it
+    /// takes is that of the copied payload.
     pub(crate) fn new(
         alloc: Global,
         connection: u64,
         kind: CallKind,
         payload: Payload<'_>,
     ) -> Result<CallRecord, AllocError>
-        ensures { IfOk result (λ r. record_of r ≡ new_record connection (asked_as kind (content_of payload.entry))) }
+        ensures { IfOk result
+            (λ r. record_of r ≡ new_record connection (asked_as kind (content_of payload.entry))) }
     {
         let payload = payload.to_buf(alloc)?;
         Ok(CallRecord {

@@ -1,7 +1,12 @@
 //! Worlds of connections, and the events that happen in them.
 
-ghost use Rattle.std.specs.Prelude.{◌≡◌, ◌≢◌, ◌↔◌, IfErr, IfNone, IfOk, IfSome, IsTrue, Err, MatchResult, None, Ok, OnErr, Some, map};
-ghost use Rattle.wire_model.specs.{AreGood, Calls, CutsDown, CutsUp, GoesOnFromEach, Happens, Headline, IdsApart, IsQuiet, QuietIsDone, RawAnswerOwn, RawGiveOwn, RefusesCall, Returns, Run, UncutIsOpen, cleared_world, dropped, first_reason, is_full_for, opening, restarted_world};
+ghost use Rattle.std.specs.Prelude.{◌≡◌, ◌≢◌, ◌↔◌, IfErr, IfNone, IfOk, IfSome, IsTrue, Err};
+ghost use Rattle.std.specs.Prelude.{MatchResult, None, Ok, OnErr, Some, map};
+ghost use Rattle.wire_model.specs.{AreGood, Calls, CutsDown, CutsUp, GoesOnFromEach, Happens};
+ghost use Rattle.wire_model.specs.{Headline, IdsApart, IsQuiet, QuietIsDone, RawAnswerOwn};
+ghost use Rattle.wire_model.specs.{RawGiveOwn, RefusesCall, Returns, Run, UncutIsOpen};
+ghost use Rattle.wire_model.specs.{cleared_world, dropped, first_reason, is_full_for, opening};
+ghost use Rattle.wire_model.specs.{restarted_world};
 ghost use Rattle.wire_model.specs.declared.events.Event.TheVariants as events;
 ghost use Rattle.wire_model.specs.declared.reports.Report.TheVariants as reports;
 ghost use Rattle.wire_peer.specs.{content_of, log_of};
@@ -57,10 +62,12 @@ impl<H> Model for World<H> {
       };
     } };
 
-    ghost invariant = { λ w. AreParts w.limits w.pool w.connections.items (map record_of w.calls.items) };
+    ghost invariant = { λ w. AreParts w.limits w.pool w.connections.items
+        (map record_of w.calls.items) };
 }
 
-/// Returns why no world is made with these limits, if none is. The number of connections is the pool's to check.
+/// Returns why no world is made with these limits, if none is. The number of connections is the
+/// pool's to check.
 fn limits_refusal(limits: WorldLimits) -> Option<SetupRefusal>
     ensures refused { IfSome result (λ refusal. IsSetupRefusal limits refusal) }
     ensures none { IfNone result (AreGoodForEnds limits) }
@@ -82,7 +89,8 @@ impl<H: Handler + Drop> World<H> {
     ///
     /// # Errors
     ///
-    /// The first of the limits that is outside its range, or `OutOfMemory`. The handler is dropped then.
+    /// The first of the limits that is outside its range, or `OutOfMemory`. The handler is dropped
+    /// then.
     pub fn new(alloc: Global, handler: H, limits: WorldLimits) -> Result<World<H>, SetupRefusal>
         ensures { IsNewWorld limits handler result }
     {
@@ -118,8 +126,8 @@ impl<H> World<H> {
         self.logged.entries()
     }
 
-    /// Returns true if neither way of the connection of this number was cut, no answer closed its server, nothing is on
-    /// the ways, and no request waits.
+    /// Returns true if neither way of the connection of this number was cut, no answer closed its
+    /// server, nothing is on the ways, and no request waits.
     pub fn is_quiet(&self, number: u64) -> bool
         ensures { IsTrue result ↔ IsQuiet self.now.state number }
     {
@@ -129,7 +137,8 @@ impl<H> World<H> {
         }
     }
 
-    /// Returns the first reason that stands against the event, if one does; but for a call, the client may refuse it too.
+    /// Returns the first reason that stands against the event, if one does; but for a call, the
+    /// client may refuse it too.
     fn check(&self, event: &Event<'_>) -> Result<(), WorldRefusal>
         ensures { MatchResult result
             (λ _. first_reason self.now.state event.now ≡ None)
@@ -164,7 +173,8 @@ impl<H> World<H> {
         Ok(())
     }
 
-    /// Returns true if the event makes a connection, and the pool has nothing to lend, or no number is left.
+    /// Returns true if the event makes a connection, and the pool has nothing to lend, or no number
+    /// is left.
     fn is_full_for(&self, event: &Event<'_>) -> bool
         ensures { result ≡ is_full_for self.now.state event.now }
     {
@@ -183,7 +193,8 @@ impl<H> World<H> {
         settle(&mut self.calls, &self.connections);
     }
 
-    /// Checks a connection in that was lent. Returns true if it is kept, and false if it is dropped.
+    /// Checks a connection in that was lent. Returns true if it is kept, and false if it is
+    /// dropped.
     fn give_back(&mut self, number: u64) -> bool
         requires { first_reason self.old.state (events.Return number) ≡ None }
         ensures limits { self.new.limits ≡ self.old.limits }
@@ -250,7 +261,8 @@ impl<H: Handler> World<H> {
     fn open(&mut self) -> Result<Report, WorldRefusal>
         requires { first_reason self.old.state events.Open ≡ None }
         ensures limits { self.new.limits ≡ self.old.limits }
-        ensures state { Happens H.does H.stops self.old.limits self.old.state events.Open result self.new.state }
+        ensures state { Happens H.does H.stops self.old.limits self.old.state events.Open result
+            self.new.state }
     {
         match self.pool.peek() {
             CheckOut::Use(connection) => {
@@ -286,7 +298,8 @@ impl<H: Handler> World<H> {
     fn open_raw(&mut self) -> Result<Report, WorldRefusal>
         requires { first_reason self.old.state events.RawOpen ≡ None }
         ensures limits { self.new.limits ≡ self.old.limits }
-        ensures state { Happens H.does H.stops self.old.limits self.old.state events.RawOpen result self.new.state }
+        ensures state { Happens H.does H.stops self.old.limits self.old.state events.RawOpen result
+            self.new.state }
     {
         let Some(number) = self.pool.next_id() else {
             unreachable!()
@@ -372,7 +385,8 @@ impl<H: Handler> World<H> {
     fn answer(&mut self, number: u64, k: usize) -> Result<Report, WorldRefusal>
         requires { first_reason self.old.state (events.Answer number k) ≡ None }
         ensures limits { self.new.limits ≡ self.old.limits }
-        ensures state { Happens H.does H.stops self.old.limits self.old.state (events.Answer number k) result self.new.state }
+        ensures state { Happens H.does H.stops self.old.limits self.old.state
+            (events.Answer number k) result self.new.state }
     {
         let connection = &mut self.connections[(number - 1) as usize];
         match connection.answer(k, &mut self.logged) {
@@ -395,7 +409,8 @@ impl<H: Handler> World<H> {
     fn up(&mut self, number: u64, n: usize) -> Result<Report, WorldRefusal>
         requires { first_reason self.old.state (events.Up number n) ≡ None }
         ensures limits { self.new.limits ≡ self.old.limits }
-        ensures state { Happens H.does H.stops self.old.limits self.old.state (events.Up number n) result self.new.state }
+        ensures state { Happens H.does H.stops self.old.limits self.old.state (events.Up number n)
+            result self.new.state }
     {
         let connection = &mut self.connections[(number - 1) as usize];
         match connection.move_up(n) {
@@ -407,7 +422,8 @@ impl<H: Handler> World<H> {
         }
     }
 
-    /// Moves bytes down, and notes which calls are lost if the client is closed then. Returns how many bytes were moved.
+    /// Moves bytes down, and notes which calls are lost if the client is closed then. Returns how
+    /// many bytes were moved.
     ///
     /// # Errors
     ///
@@ -416,8 +432,10 @@ impl<H: Handler> World<H> {
         requires { first_reason self.old.state (events.Down number n) ≡ None }
         ensures limits { self.new.limits ≡ self.old.limits }
         ensures state { MatchResult result
-            (λ moved. Happens H.does H.stops self.old.limits self.old.state (events.Down number n) (Ok (reports.Moved moved)) self.new.state)
-            (λ _. Happens H.does H.stops self.old.limits self.old.state (events.Down number n) (Err WorldRefusal.OutOfMemory) self.new.state) }
+            (λ moved. Happens H.does H.stops self.old.limits self.old.state (events.Down number n)
+            (Ok (reports.Moved moved)) self.new.state)
+            (λ _. Happens H.does H.stops self.old.limits self.old.state (events.Down number n)
+            (Err WorldRefusal.OutOfMemory) self.new.state) }
     {
         let connection = &mut self.connections[(number - 1) as usize];
         let moved = connection.move_down(n, &mut self.calls);
@@ -435,7 +453,8 @@ impl<H: Handler> World<H> {
     fn down(&mut self, number: u64, n: usize) -> Result<Report, WorldRefusal>
         requires { first_reason self.old.state (events.Down number n) ≡ None }
         ensures limits { self.new.limits ≡ self.old.limits }
-        ensures state { Happens H.does H.stops self.old.limits self.old.state (events.Down number n) result self.new.state }
+        ensures state { Happens H.does H.stops self.old.limits self.old.state (events.Down number n)
+            result self.new.state }
     {
         match self.move_down(number, n) {
             Ok(moved) => Ok(Report::Moved(moved)),
@@ -451,7 +470,8 @@ impl<H: Handler> World<H> {
     fn feed_raw(&mut self, number: u64, bytes: &[u8]) -> Result<Report, WorldRefusal>
         requires { first_reason self.old.state (events.Raw number bytes) ≡ None }
         ensures limits { self.new.limits ≡ self.old.limits }
-        ensures state { Happens H.does H.stops self.old.limits self.old.state (events.Raw number bytes.entry) result self.new.state }
+        ensures state { Happens H.does H.stops self.old.limits self.old.state
+            (events.Raw number bytes.entry) result self.new.state }
     {
         let connection = &mut self.connections[(number - 1) as usize];
         let before = connection.server.state();
@@ -475,7 +495,8 @@ impl<H: Handler> World<H> {
     fn take_raw(&mut self, number: u64, n: usize) -> Result<Report, WorldRefusal>
         requires { first_reason self.old.state (events.RawTake number n) ≡ None }
         ensures limits { self.new.limits ≡ self.old.limits }
-        ensures state { Happens H.does H.stops self.old.limits self.old.state (events.RawTake number n) result self.new.state }
+        ensures state { Happens H.does H.stops self.old.limits self.old.state
+            (events.RawTake number n) result self.new.state }
     {
         let alloc = *self.calls.allocator();
         let connection = &mut self.connections[(number - 1) as usize];
@@ -492,11 +513,13 @@ impl<H: Handler> World<H> {
     ///
     /// # Errors
     ///
-    /// The first reason that stands against the event. Nothing changes then, but after `OutOfMemory` the event's connection
-    /// is cut both ways, and part of what was to be moved may have been.
+    /// The first reason that stands against the event. Nothing changes then, but after
+    /// `OutOfMemory` the event's connection is cut both ways, and part of what was to be moved may
+    /// have been.
     pub fn step(&mut self, event: &Event<'_>) -> Result<Report, WorldRefusal>
         ensures limits { self.new.limits ≡ self.old.limits }
-        ensures state { Happens H.does H.stops self.old.limits self.old.state event.now result self.new.state }
+        ensures state { Happens H.does H.stops self.old.limits self.old.state event.now result
+            self.new.state }
     {
         self.check(event)?;
         match *event {
@@ -553,7 +576,8 @@ impl<H: Handler + Drop> World<H> {
         Ok(world)
     }
 
-    /// Makes a world, and has the events happen in it, one after the other. An event that is refused doesn't stop the run.
+    /// Makes a world, and has the events happen in it, one after the other. An event that is
+    /// refused doesn't stop the run.
     ///
     /// # Errors
     ///
