@@ -8,7 +8,7 @@ use Rattle.bson_elem.specs.{pointer_value, raw_form, raw_value, regex_form, rege
 use Rattle.bson_elem.specs.{string_form, text_value, timestamp_form, timestamp_value}
 use Rattle.bson_raw.specs.{TreeValue, document_value, leaf_value}
 
--- the leaf is one of this form, but for its length and for a 00 in a pattern or options
+-- the leaf is one of this form, whatever its length, and may have a 00 in a pattern or options
 abbrev pub IsFormedLeaf : Form → Leaf → Type 0
 IsFormedLeaf (raw_form n) (raw_value bytes) = AreBytes n bytes
 IsFormedLeaf boolean_form (boolean_value b) = Unit {0}

@@ -12,7 +12,7 @@ refusal_number TooLarge = 3
 refusal_number ZeroInName = 4
 refusal_number Depth = 5
 
--- what a refusal displays as, but for a depth
+-- what a refusal displays as, without a depth
 abbrev pub refusal_words : DocRefusal → List ℕ
 refusal_words (RepeatedName depth) = codes "a name is repeated"
 refusal_words OutOfMemory = codes "out of memory"
@@ -28,13 +28,13 @@ refusal_text e = refusal_words e
 abbrev pub shown_refusal : DocRefusal → Option (List ℕ)
 shown_refusal e = Some (refusal_text e)
 
--- memory is wanting, or so many bytes are more than the limit
+-- memory runs out, or the bytes are more than the limit
 abbrev pub IsSizeRefusal : ℕ → ℕ → DocRefusal → Type 0
 IsSizeRefusal limit count OutOfMemory = Unit {0}
 IsSizeRefusal limit count TooLarge = limit < count
 IsSizeRefusal limit count _ = ⊥
 
--- so many bytes are more than the limit; or they aren't, and memory is wanting
+-- the bytes are more than the limit; or they aren't, and memory runs out
 abbrev pub IsLengthRefusal : ℕ → ℕ → DocRefusal → Type 0
 IsLengthRefusal limit count OutOfMemory = count ≤ limit
 IsLengthRefusal limit count TooLarge = limit < count

@@ -36,7 +36,7 @@ abbrev pub repeat_in_value : ℕ → TreeValue → Option ℕ
 repeat_in_value depth (leaf_value k v) = None
 repeat_in_value depth (document_value k b inner) = repeat_in (is_array_kind k) (depth + 1) [] inner
 
--- memory is wanting, or the first repeated name is in a container of the depth that is told
+-- memory runs out, or the first repeated name is in a container of the depth that is told
 abbrev pub IsRepeat : Option ℕ → DocRefusal → Type 0
 IsRepeat found (RepeatedName depth) = found ≡ Some depth
 IsRepeat found OutOfMemory = Unit {0}

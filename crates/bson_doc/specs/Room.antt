@@ -1,7 +1,7 @@
 -- How much of a limit is left behind bytes.
 use Rattle.std.specs.Prelude.{◌≡◌, ◌+◌, ◌<◌, ℕ, Option, Some, None}
 
--- what is left of the room behind so many bytes: none where they are more
+-- what is left of the room behind bytes of this length: none where they are more
 abbrev pub IsRoomLeft : ℕ → ℕ → Option ℕ → Type 0
 IsRoomLeft room count None = room < count
 IsRoomLeft room count (Some left) = left + count ≡ room

@@ -39,7 +39,7 @@ unwritable_value depth (document_value k b inner) =
     if nat_lt depth 200 then unwritable (depth + 1) inner else Some Depth
 
 -- why the tree of a document isn't written: the first reason why it has no spelling, its length
--- last; and want of memory, where it has one
+-- last; and that memory ran out, where it has a spelling
 abbrev pub IsUnwritable : Tree → DocRefusal → Type 0
 IsUnwritable t OutOfMemory = (unwritable 1 t ≡ None) × (length (document (elements t)) < 2 ^ 31)
 IsUnwritable t TooLarge = (unwritable 1 t ≡ None) × (2 ^ 31 ≤ length (document (elements t)))

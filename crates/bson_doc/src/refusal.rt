@@ -36,7 +36,7 @@ impl DocRefusal {
         }
     }
 
-    /// Returns what the refusal displays as, but for a depth.
+    /// Returns what the refusal displays as, without a depth.
     fn words(self) -> &'static str
         ensures { result.now ≡ refusal_words self }
     {

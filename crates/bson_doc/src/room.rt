@@ -26,7 +26,7 @@ pub(crate) fn room_after(count: usize, room: usize) -> Option<usize>
 }
 
 /// Returns why bytes aren't written that leave `left` of a limit: `TooLarge` where they are more
-/// than the limit, else want of memory.
+/// than the limit, else that memory ran out.
 pub(crate) fn refusal_of(left: Option<usize>) -> DocRefusal
     ensures { (limit count : ℕ) → IsRoomLeft limit count left → IsLengthRefusal limit count result }
 {

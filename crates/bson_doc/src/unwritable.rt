@@ -1,4 +1,4 @@
-//! The test whether a document can be written, but for its length.
+//! Tests whether a document can be written, whatever its length.
 
 ghost use Rattle.std.specs.Prelude.{◌≡◌, ◌≤◌, ◌<◌, [], Some, None, true, false, MatchResult, OnOk};
 ghost use Rattle.bson_doc.specs.declared.refusal.DocRefusal.TheVariants.{ZeroInName, Depth};

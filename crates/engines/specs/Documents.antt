@@ -72,7 +72,7 @@ IsWholeText text_of joined bytes text fault =
     × TextsAre text_of bytes any texts last
     × (text ≡ joined any texts ++ or_nothing last) × (fault ≡ is_there last)
 
--- the texts as they are
+-- the texts unchanged
 abbrev pub plainly : Bool → List ℕ → List ℕ
 plainly any texts = texts
 

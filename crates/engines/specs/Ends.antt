@@ -21,7 +21,7 @@ pub record Stands (made : ℕ) (calls : Table) (reply : Option ReadyReply) (clie
   pub state : client.state ≡ Open
   pub sent : client.requests.output ≡ []
 
--- so many calls are complete
+-- k calls are complete
 abbrev pub IsIdle : ℕ → ClientSeen → Type 0
 IsIdle k = Stands k [] None
 

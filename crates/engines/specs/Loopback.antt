@@ -18,7 +18,7 @@ call_body k = leaf_pair (codes "n") Int32 (number_value (pos k)) no_pairs
 abbrev pub request_bytes : ℕ → List ℕ
 request_bytes k = canonical (request (pos (k + 1)) Plain (body_alone (call_body k)))
 
--- those of so many calls, in order
+-- those of the first k calls, in order
 abbrev pub requests_bytes : ℕ → List ℕ
 requests_bytes zero = []
 requests_bytes (suc k) = requests_bytes k ++ request_bytes k
@@ -36,7 +36,7 @@ GetsReply k old new before after =
 abbrev pub call_line : ℕ → List ℕ
 call_line k = codes "call " ++ (decimal k ++ (codes " id " ++ (decimal (k + 1) ++ codes " done\n")))
 
--- the lines of so many calls, from this number on
+-- the lines of a number of calls, from number k on
 abbrev pub call_lines : ℕ → ℕ → List ℕ
 call_lines k zero = []
 call_lines k (suc count) = call_line k ++ call_lines (k + 1) count
@@ -45,7 +45,7 @@ call_lines k (suc count) = call_line k ++ call_lines (k + 1) count
 abbrev pub last_line : ℕ → List ℕ
 last_line calls = codes "loop " ++ (decimal calls ++ codes " done\n")
 
--- the whole text of so many calls
+-- the whole text of a number of calls
 abbrev pub loop_text : ℕ → List ℕ
 loop_text calls = call_lines 0 calls ++ last_line calls
 

@@ -16,7 +16,7 @@ abbrev pub is_fault : RunEnd → Bool
 is_fault Fault = true
 is_fault _ = false
 
--- an error of this kind ends a run so: it is want of memory where the system gave no code
+-- an error of this kind ends a run so: it is out of memory where the system gave no code
 abbrev pub end_of_error : ErrorKind → Option ℤ → RunEnd
 end_of_error OutOfMemory None = Memory
 end_of_error kind code = InOut

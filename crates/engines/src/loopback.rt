@@ -84,7 +84,7 @@ fn payload_of(alloc: Global, number: u8) -> Result<PayloadBuf, RunEnd>
     let Ok(mut body) = RawDocumentBuf::new(alloc) else {
         return Err(RunEnd::Memory);
     };
-    // A body so short is refused for want of memory alone.
+    // A body so short is refused only if memory runs out.
     let Ok(()) = body.append("n", &Bson::Int32(i32::from(number))) else {
         return Err(RunEnd::Memory);
     };
@@ -167,7 +167,7 @@ fn write_last<W: Write>(alloc: Global, calls: u8, out: &mut W) -> Result<(), Run
     write_line(line.as_bytes(), out)
 }
 
-/// Makes so many calls one after another, writes the line of each when it is complete, and then the
+/// Makes `calls` calls one after another, writes the line of each when it is complete, and then the
 /// last line. Errs if a call is cut short, if the writer errs, and if memory runs out.
 fn make_calls<L: Link + Drop, W: Write>(
     alloc: Global,
@@ -208,7 +208,7 @@ fn run_calls<R: Net + AllocGlobal, W: Write>(rt: &R, calls: u8, out: &mut W) -> 
     make_calls(alloc, &mut loopback, calls, out)
 }
 
-/// Connects the program to itself over TCP, makes so many calls over that connection, each with the
+/// Connects the program to itself over TCP, makes `calls` calls over that connection, each with the
 /// body `{"n": number}` and answered with the same, and writes a line for each and a last one. The
 /// calls are numbered from 0, and their ids count from 1.
 ///

@@ -42,7 +42,7 @@ pub trait Engine {
     ghost wants_memory: { Self → Bool };
 
     /// Writes the text of `bytes`. Returns true if it ends with a fault line. Errs if the writer
-    /// does, and for want of memory.
+    /// does, and if memory runs out.
     fn write_text<W: Write>(&self, bytes: &[u8], out: &mut W) -> Result<bool, RunEnd>
         ensures written { IfOk result (λ fault. AppendsText (is_text self.now bytes.now) fault
             (W.contents out.old) (W.contents out.new)) }

@@ -29,7 +29,7 @@ fn connections_option<'a>(alloc: Global) -> Arg<'a>
     Arg::new(alloc, "connections")
         .long("connections")
         .value_name("N")
-        .help("End after so many connections; without it the server goes on")
+        .help("End after this many connections; without it the server goes on")
         .action(ArgAction::Set)
         .value_parser(value_parser!(u64))
 }

@@ -57,7 +57,7 @@ pub record IsAhead (ps : List Pair) (i : ℕ) (x y : Record) : Type 0 where
   pub not_done : (x.state ≡ Pending) ⊎ (x.state ≡ Lost)
   pub given : y ≡ given_record x m.content is.reply.last
 
--- The world's record of call i is its owner's one, but for a reply that is ready.
+-- The world's record of call i is its owner's one, except for a reply that is ready.
 abbrev pub Agree : List Pair → ℕ → Record → Record → Type 0
 Agree ps i x y = ((y ≡ x) × (IsReady ps i x.connection → ⊥)) ⊎ IsAhead ps i x y
 

@@ -161,7 +161,7 @@ Succeeds does stops l old (RawTake c n) report new =
     (s : GivesRaw old c n new) × (v : Vec ℕ Global) × (report ≡ reports.Bytes v)
     × (v.items ≡ s.bytes)
 
--- ---- want of memory
+-- ---- out of memory
 
 -- a server that takes bytes is given a piece that completes the header of a message, for which
 -- there is no room
@@ -181,7 +181,7 @@ pub record HasOutput {H : Type 0} (w : World H) (c n : ℕ) : Type 0 where
   pub at : conn_at w.conns c ≡ Some k
   pub some : take n k.server.output ≢ []
 
--- The part of an event that is done where memory is wanting. Of what is to be moved a part may have
+-- The part of an event that is done where memory runs out. Of what is to be moved a part may have
 -- been; a reply that isn't copied is none.
 abbrev pub PartDone : {H : Type 0} → WorldLimits → World H → Event → World H → Type 0
 PartDone {H} l old (Call c kind payload) new = new ≡ old
@@ -200,13 +200,13 @@ PartDone {H} l old (Raw c bytes) new =
 PartDone {H} l old (RawTake c n) new = (new ≡ old) × HasOutput old c n
 PartDone {H} l old e new = ⊥
 
--- the events that make a connection, which change nothing where memory is wanting
+-- the events that make a connection, which change nothing where memory runs out
 abbrev pub IsMaking : {H : Type 0} → World H → Event → Type 0
 IsMaking old Open = (c : ℕ) × ((checked_out old.pool).0 ≡ outs.Open c)
 IsMaking old RawOpen = Unit {0}
 IsMaking old e = ⊥
 
--- memory is wanting: part of the event is done, then its connection is cut both ways
+-- memory runs out: part of the event is done, then its connection is cut both ways
 pub record RunsOut {H : Type 0} (l : WorldLimits) (old : World H) (e : Event) (new : World H) :
     Type 0 where
   pub c : ℕ
@@ -216,7 +216,7 @@ pub record RunsOut {H : Type 0} (l : WorldLimits) (old : World H) (e : Event) (n
   pub after : new ≡ dropped done c
 
 -- The event is refused for the first check that it fails; where it fails none, by the client that
--- is to call, or for want of memory. Nothing changes then, but for want of memory.
+-- is to call, or memory runs out. Nothing changes then, unless memory ran out.
 abbrev pub IsRefused : {H : Type 0} → WorldLimits → World H → Event → WorldRefusal → World H
     → Type 0
 IsRefused l old e (refusals.Call refusal) new =

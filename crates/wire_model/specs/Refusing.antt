@@ -64,7 +64,7 @@ reason_of w e (Some needs) = reason_at w e needs (conn_at w.conns needs.connecti
 abbrev pub first_reason : {H : Type 0} → World H → Event → Option WorldRefusal
 first_reason w e = reason_of w e (needs_of e)
 
--- the client refuses the call, for another cause than want of memory
+-- the client refuses the call, for another cause than memory
 abbrev pub RefusesCall : {H : Type 0} → World H → Event → CallRefusal → Type 0
 RefusesCall w (Call c kind payload) refusal =
     (k : Conn) × (conn_at w.conns c ≡ Some k) × (refusal ≢ calls.OutOfMemory)

@@ -3,7 +3,7 @@ use Rattle.std.specs.Prelude.{ℕ, ◌+◌, ◌<◌, ◌≤◌, ◌⊎◌, lengt
 use Rattle.wire_stream.specs.{IsRoom}
 use Rattle.wire_peer.specs.{ServerView}
 
--- So many more bytes end before a header does, or inside the message that a good header announces.
+-- The next n bytes end before a header does, or inside the message that a good header announces.
 abbrev pub HasRoomFor : ServerView → ℕ → Type 0
 HasRoomFor s n =
     (length s.held + n < 16)

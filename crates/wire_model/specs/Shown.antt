@@ -36,7 +36,7 @@ is_raw (Some k) = k.raw
 abbrev pub raws : {H : Type 0} → World H → ℕ → Bool
 raws w c = is_raw (conn_at w.conns c)
 
--- closed by an answer: it is too large, memory is wanting, or the handler failed
+-- closed by an answer: it is too large, memory runs out, or the handler failed
 abbrev pub IsStopped : ServerState → Type 0
 IsStopped s = (s ≡ Closed ReplyTooLarge) ⊎ ((s ≡ Closed NoMemory) ⊎ (s ≡ Closed HandlerFailed))
 

@@ -13,9 +13,9 @@ pub enum Event<'a> {
     Return(u64),
     /// A call of this kind with this payload is made over the connection.
     Call(u64, CallKind, Payload<'a>),
-    /// So many bytes of the client's output go into the server.
+    /// Bytes of the client's output go into the server, at most this many.
     Up(u64, usize),
-    /// So many bytes of the server's output go into the client.
+    /// Bytes of the server's output go into the client, at most this many.
     Down(u64, usize),
     /// The server answers the request of this index among those that wait.
     Answer(u64, usize),
@@ -31,6 +31,6 @@ pub enum Event<'a> {
     RawOpen,
     /// These bytes are fed to the server of a raw connection.
     Raw(u64, &'a [u8]),
-    /// So many bytes of the output of a raw connection's server are taken away.
+    /// Bytes of the output of a raw connection's server are taken away, at most this many.
     RawTake(u64, usize),
 }

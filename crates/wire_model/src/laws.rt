@@ -15,7 +15,7 @@ ghost use Rattle.wire_model.specs.Happening.{Happens, Run};
 
 use wire_peer::Handler;
 
-/// Proves that memory is never wanting for what is moved up to a server that has room for it.
+/// Proves that memory never runs out for what is moved up to a server that has room for it.
 pub fn up_finds_room<H: Handler>()
     ensures { (l : Limits) (old new : World H) (c n : ℕ) (k : Conn)
         → conn_at old.conns c ≡ Some k → HasRoomFor k.server n

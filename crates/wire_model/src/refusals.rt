@@ -17,7 +17,7 @@ pub enum WorldRefusal {
     Call(CallRefusal),
     /// The server refuses to answer.
     Answer(AnswerRefusal),
-    /// Memory is wanting. Where a connection was to be made, nothing changes; else the event's
+    /// Out of memory. Where a connection was to be made, nothing changes; else the event's
     /// connection is then cut both ways, and part of what was to be moved may have been.
     OutOfMemory,
     /// The connection is raw.
@@ -37,6 +37,6 @@ pub enum SetupRefusal {
     BadLimit,
     /// The number of connections isn't 1 to 1,024.
     BadMax,
-    /// Memory is wanting.
+    /// Out of memory.
     OutOfMemory,
 }

@@ -23,7 +23,7 @@ pub enum Report {
         /// The id of its request.
         id: i32,
     },
-    /// So many bytes were moved.
+    /// How many bytes were moved.
     Moved(usize),
     /// The request was answered, by the entry of this index.
     Entry(usize),

@@ -29,7 +29,7 @@ chain id to [] = []
 chain id to (a ∷ answers) =
     reply id to (are_left answers) a ∷ chain (id_after_one id) (pos id) answers
 
--- the reply id that is next after so many replies
+-- the reply id that is next after replies with these answers
 abbrev pub id_after : ℕ → List Content → ℕ
 id_after id [] = id
 id_after id (a ∷ answers) = id_after (id_after_one id) answers

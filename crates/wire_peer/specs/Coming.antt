@@ -43,7 +43,7 @@ pub record IsFree (s : ServerView) : Type 0 where
 -- What a server has of one message under its limit, what an inlet holds behind that, and how often
 -- the link told its end before and now: a message is there; or no message comes, since the end was
 -- told, between messages or inside one, or since what came is at fault, the link failed, or memory
--- was wanting for a message of which a good header came.
+-- ran out for a message whose good header came.
 abbrev pub Came : Result (Unit {0}) ServeEnd → ℕ → List ℕ → List ℕ → ℕ → ℕ → Type 0
 Came (Ok _) limit held piece old new = IsMessage limit held × (new ≡ old)
 Came (Err Ended) limit held piece old new = (held ≡ []) × (piece ≡ []) × Rose old new

@@ -11,7 +11,7 @@ use Rattle.wire_peer.specs.Requests.{Asked, takes_more}
 abbrev pub numbered : ℕ → Content
 numbered k = body_alone (leaf_pair (codes "n") Int32 (number_value (pos k)) no_pairs)
 
--- so many of them, from this number on
+-- a number of them, from number k on
 abbrev pub numbers_from : ℕ → ℕ → List Content
 numbers_from k zero = []
 numbers_from k (suc count) = numbered k ∷ numbers_from (k + 1) count

@@ -11,7 +11,7 @@ max_id = pos (2 ^ 31 - 1)
 abbrev pub id_following : ℤ → ℤ
 id_following id = if int_eq id max_id then pos 1 else id +ℤ pos 1
 
--- the id that stands so many places after this one
+-- the id that is n places after this one
 abbrev pub id_past : ℤ → ℕ → ℤ
 id_past id zero = id
 id_past id (suc k) = id_following (id_past id k)

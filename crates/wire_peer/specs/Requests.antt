@@ -35,6 +35,6 @@ may_get_more exhaust_allowed false = exhaust_allowed
 abbrev pub takes_more : Asked → Bool
 takes_more a = may_get_more a.exhaust_allowed a.more_to_come
 
--- so many answers may be given: one, or more where the request takes more
+-- n answers may be given: one, or more where the request takes more
 abbrev pub IsCount : Asked → ℕ → Type 0
 IsCount a n = (0 < n) × (takes_more a ≡ false → n ≡ 1)

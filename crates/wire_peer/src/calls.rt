@@ -11,7 +11,7 @@ use wire_msg::MsgFlags;
 pub enum CallKind {
     /// Just one.
     Plain,
-    /// One or more, of which each but the last says that more will come.
+    /// One or more. Each one before the last says that more will come.
     Exhaust,
     /// None.
     Unacknowledged,

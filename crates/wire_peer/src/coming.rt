@@ -30,7 +30,7 @@ fn standing(server: &Server) -> ReaderState
 ///
 /// # Errors
 ///
-/// `OutOfMemory` where the piece completes a good header and memory for its message is wanting.
+/// `OutOfMemory` where the piece completes a good header and memory runs out for its message.
 /// Nothing is taken then.
 fn feed_piece(server: &mut Server, piece: &[u8]) -> Result<Fed, ServeEnd>
     requires { IsFree server.old }

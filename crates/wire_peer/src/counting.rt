@@ -68,7 +68,7 @@ fn push_numbers(count: u8, answers: &mut Answers) -> Result<(), HandlerStop>
 
 /// Counts: where the request takes more than one answer and the field `s` of its body is an int32
 /// from 1 to 100, the answers are `{"n": 1}` and so on up to `{"n": s}`, and else it is `{"n": 0}`
-/// alone, with int32s. It stops only for want of memory.
+/// alone, with int32s. It stops only if memory runs out.
 #[derive(Clone, Copy, Debug, Drop)]
 pub struct Count;
 

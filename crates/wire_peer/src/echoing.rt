@@ -6,7 +6,7 @@ use crate::answer_list::Answers;
 use crate::handlers::{Handler, HandlerStop};
 use crate::requests::Request;
 
-/// Gives one answer to each request, the request's own payload. It stops only for want of memory.
+/// Gives one answer to each request, the request's own payload. It stops only if memory runs out.
 #[derive(Clone, Copy, Debug, Drop)]
 pub struct Echo;
 

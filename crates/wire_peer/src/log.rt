@@ -156,7 +156,7 @@ fn last_answers(entries: &[Entry]) -> &Answers
     }
 }
 
-/// Appends the answers to a request of this id as replies, of which a silent request gets none.
+/// Appends the answers to a request of this id as replies. A silent request gets none.
 fn put_replies(
     id: i32,
     request: &Request<'_>,
@@ -203,7 +203,7 @@ impl<H: Handler> Logged<H> {
     }
 
     /// Asks the handler a request of this id that came over a connection, adds its entry, and
-    /// appends the replies, of which a silent request gets none.
+    /// appends the replies. A silent request gets none.
     ///
     /// # Errors
     ///

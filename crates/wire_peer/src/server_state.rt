@@ -19,7 +19,7 @@ pub enum ServerCause {
     /// A reply would have more bytes than the limit.
     #[error("a reply is too large")]
     ReplyTooLarge,
-    /// The handler stopped for want of memory, or memory for the replies was wanting.
+    /// The handler stopped because memory ran out, or memory ran out for the replies.
     #[error("out of memory")]
     NoMemory,
     /// The handler failed.
@@ -45,7 +45,7 @@ pub enum ServerRefusal {
     /// The limit isn't 26 to 48,000,000.
     #[error("the limit isn't from 26 to 48,000,000")]
     BadLimit,
-    /// Memory for the waiting list was wanting.
+    /// Memory ran out for the waiting list.
     #[error("out of memory")]
     OutOfMemory,
 }
@@ -59,7 +59,7 @@ pub enum AnswerRefusal {
     /// The server is closed. Nothing changed.
     #[error("the server is closed")]
     Closed,
-    /// Memory for the entry was wanting. The handler wasn't asked, and nothing changed.
+    /// Memory ran out for the entry. The handler wasn't asked, and nothing changed.
     #[error("out of memory")]
     OutOfMemory,
     /// The server closed in this call, for this cause. The request has its entry and waits no

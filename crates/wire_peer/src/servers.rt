@@ -136,7 +136,7 @@ impl Server {
     ///
     /// # Errors
     ///
-    /// `AllocError` where memory is wanting.
+    /// `AllocError` where memory runs out.
     pub(crate) fn of(
         alloc: Global,
         connection: u64,
@@ -165,7 +165,7 @@ impl Server {
     ///
     /// # Errors
     ///
-    /// `BadWindow`, else `BadLimit`, else `OutOfMemory` where memory is wanting.
+    /// `BadWindow`, else `BadLimit`, else `OutOfMemory` where memory runs out.
     pub fn new(
         alloc: Global,
         connection: u64,
@@ -244,9 +244,9 @@ impl Server {
     /// # Errors
     ///
     /// `Closed` where the server is closed; else `NoSuchRequest` where no more than `k` wait; else
-    /// `OutOfMemory` where memory for the entry is wanting. Nothing changes then, and the handler
+    /// `OutOfMemory` where memory runs out for the entry. Nothing changes then, and the handler
     /// isn't asked. `NowClosed` where the handler stops, one of the replies has more bytes than the
-    /// limit, or memory for the replies is wanting: the entry stands, the request has left the
+    /// limit, or memory runs out for the replies: the entry stands, the request has left the
     /// list, no byte of its replies is put out, and the server is closed.
     pub fn answer<H: Handler>(
         &mut self,
