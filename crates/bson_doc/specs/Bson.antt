@@ -1,9 +1,10 @@
 -- Which value of a tree an owned value is.
-use Rattle.std.specs.Prelude.{[], string_bytes}
+use Rattle.std.specs.Prelude.{[], string_bytes, Option, Some, None}
+use Rattle.std.specs.Float.{Float}
 use Rattle.bson_elem.specs.declared.kinds.Kind.TheVariants as kinds
 use Rattle.bson_elem.specs.{binary_value, boolean_value, no_code, number_value, pointer_value}
 use Rattle.bson_elem.specs.{raw_value, regex_value, text_value, timestamp_value, with_code}
-use Rattle.bson_raw.specs.{TreeValue, document_value, leaf_value}
+use Rattle.bson_raw.specs.{TreeValue, document_value, double_of, leaf_value}
 use Rattle.bson_doc.specs.declared.bson_values.Bson.{Bson}
 use Rattle.bson_doc.specs.declared.bson_values.Bson.TheVariants as values
 use Rattle.bson_doc.specs.Document.{tree_of}
@@ -36,3 +37,8 @@ value_of (values.Int64 n) = leaf_value kinds.Int64 (number_value n)
 value_of (values.Decimal128 bytes) = leaf_value kinds.Decimal128 (raw_value bytes)
 value_of values.MinKey = leaf_value kinds.MinKey (raw_value [])
 value_of values.MaxKey = leaf_value kinds.MaxKey (raw_value [])
+
+-- the number of a value that is a double
+abbrev pub as_f64 : Bson → Option Float
+as_f64 (values.Double bytes) = Some (double_of bytes)
+as_f64 _ = None

@@ -5,6 +5,7 @@ ghost use Rattle.std.specs.Prelude.{◌≡◌, IfOk};
 use crate::arrays::Array;
 use crate::documents::Document;
 use bson_elem::Kind;
+use bson_raw::{double_from_bytes, double_to_bytes};
 use std::alloc::AllocError;
 
 /// A value: one variant for each kind.
@@ -123,6 +124,31 @@ impl Bson {
             Bson::MinKey => Kind::MinKey,
             Bson::MaxKey => Kind::MaxKey,
         }
+    }
+}
+
+impl Bson {
+    ghost use Rattle.bson_doc.specs.Bson.{as_f64};
+
+    /// Returns the number, if the value is a double. For each NaN that is `f64::NAN`.
+    pub fn as_f64(&self) -> Option<f64>
+        ensures { result ≡ as_f64 self.now }
+    {
+        match self {
+            Bson::Double(bytes) => Some(double_from_bytes(*bytes)),
+            _ => None,
+        }
+    }
+}
+
+impl From<f64> for Bson {
+    ghost use Rattle.bson_raw.specs.{double_bytes};
+    ghost use Rattle.bson_doc.specs.declared.bson_values.Bson.TheVariants.{Double};
+
+    ghost from_gives = { λ number value. value ≡ Double (double_bytes number) };
+
+    fn from(number: f64) -> Bson {
+        Bson::Double(double_to_bytes(number))
     }
 }
 

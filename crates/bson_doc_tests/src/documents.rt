@@ -477,6 +477,23 @@ fn values_are_made_and_listed(rt: HostRuntime) {
     assert!(rt; made_and_listed(rt.alloc()));
 }
 
+/// Returns true if the number is kept as a double.
+fn is_kept(number: f64) -> bool {
+    let value = Bson::from(number);
+    value.kind() == Kind::Double && value.as_f64() == Some(number)
+}
+
+#[test]
+fn doubles_are_made_of_numbers(rt: HostRuntime) {
+    assert!(rt; is_kept(1.5));
+    assert!(rt;
+        Bson::from(f64::NAN)
+            .as_f64()
+            .is_some_and(|number| number.is_nan())
+    );
+    assert!(rt; Bson::Null.as_f64() == None);
+}
+
 /// Returns true if the document's `Debug` writes its names and its values.
 fn is_shown(alloc: Global, document: &Document) -> bool {
     match format!(in alloc; "{document:?}") {

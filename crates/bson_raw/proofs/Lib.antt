@@ -11,3 +11,4 @@ pub mod CountLaws
 pub mod PairLaws
 pub mod Splits
 pub mod Lemmas
+pub mod DoubleLaws

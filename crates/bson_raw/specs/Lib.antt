@@ -10,7 +10,9 @@ pub mod RawArray
 pub mod RawBson
 pub mod RawIter
 pub mod Totals
+pub mod Doubles
 -- the words that clauses of other crates cite
+pub use Rattle.bson_raw.specs.Doubles.{double_bytes, double_of}
 pub use Rattle.bson_raw.specs.Naming.{is_array_kind, is_plain, name_at}
 pub use Rattle.bson_raw.specs.Pairs.{TreeValue, document_value, first_named, first_repeated}
 pub use Rattle.bson_raw.specs.Pairs.{is_among, leaf_value, names_of, nth_value, with_first}

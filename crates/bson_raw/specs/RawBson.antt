@@ -1,6 +1,7 @@
 -- What a borrowed value shows of the tree.
 use Rattle.std.specs.Prelude.{◌≡◌, ℕ, ℤ, [], List, length, Bool, Option, Some, None}
 use Rattle.std.specs.Borrow.{Bor}
+use Rattle.std.specs.Float.{Float}
 use Rattle.bson_elem.specs.declared.kinds.Kind.{Kind}
 use Rattle.bson_elem.specs.declared.kinds.Kind.TheVariants as kinds
 use Rattle.bson_elem.specs.{Spells, Tree, binary_value, boolean_value, no_code, number_value}
@@ -13,6 +14,7 @@ use Rattle.bson_raw.specs.declared.value.RawBson.TheVariants as values
 use Rattle.bson_raw.specs.RawDocument.{document_bytes}
 use Rattle.bson_raw.specs.RawArray.{array_bytes}
 use Rattle.bson_raw.specs.Pairs.{TreeValue, leaf_value, document_value}
+use Rattle.bson_raw.specs.Doubles.{double_of}
 
 -- The value lends this value of the tree. The bytes of a document, an array or a scope spell the
 -- tree that it holds.
@@ -87,6 +89,10 @@ kind_of_value values.MaxKey = kinds.MaxKey
 abbrev pub as_str : RawBson → Option (Bor (List ℕ))
 as_str (values.String text) = Some text
 as_str _ = None
+
+abbrev pub as_f64 : RawBson → Option Float
+as_f64 (values.Double bytes) = Some (double_of bytes)
+as_f64 _ = None
 
 abbrev pub as_i32 : RawBson → Option ℤ
 as_i32 (values.Int32 n) = Some n

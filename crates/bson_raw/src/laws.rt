@@ -1,7 +1,8 @@
-//! Laws of documents back to back. The contract of each function is the law.
+//! Laws of documents back to back, and of the numbers of doubles. The contract of each function is the law.
 
 ghost use Rattle.std.specs.Prelude.{◌≡◌, ℕ, List};
 ghost use Rattle.bson_elem.specs.{IsBytes, Tree};
+ghost use Rattle.bson_raw.specs.Doubles.{double_bytes, double_of};
 ghost use Rattle.bson_raw.specs.Split.{DocumentSplit};
 
 use crate::document::RawDocument;
@@ -27,3 +28,8 @@ pub fn documents_split(bytes: &[u8]) -> &[u8]
     }
     rest
 }
+
+/// Proves that the bytes of a number as a double are of that number. Does nothing.
+pub fn double_keeps_its_number(number: f64)
+    ensures { double_of (double_bytes number) ≡ number }
+{}

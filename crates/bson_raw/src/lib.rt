@@ -16,6 +16,7 @@
 mod array;
 mod check;
 mod document;
+mod double;
 mod iter;
 pub mod laws;
 mod name;
@@ -24,6 +25,7 @@ mod value;
 
 pub use array::RawArray;
 pub use document::{Front, RawDocument};
+pub use double::{double_from_bytes, double_to_bytes};
 pub use iter::{RawArrayIter, RawIter};
 pub use totals::DocumentTotals;
 pub use value::RawBson;

@@ -4,6 +4,7 @@ ghost use Rattle.std.specs.Prelude.{◌≡◌};
 
 use crate::array::RawArray;
 use crate::document::RawDocument;
+use crate::double::{double_from_bytes, double_to_bytes};
 use bson_elem::{Item, Kind};
 
 /// A borrowed value, with one variant for each kind. Its texts, bytes, documents and arrays borrow
@@ -134,6 +135,16 @@ impl<'a> RawBson<'a> {
         }
     }
 
+    /// Returns the number, if the value is a double. For each NaN that is `f64::NAN`.
+    pub fn as_f64(self) -> Option<f64>
+        ensures { result ≡ shown.as_f64 self.entry }
+    {
+        match self {
+            RawBson::Double(bytes) => Some(double_from_bytes(bytes)),
+            _ => None,
+        }
+    }
+
     /// Returns the number, if the value is an int32.
     pub fn as_i32(self) -> Option<i32>
         ensures { result ≡ shown.as_i32 self.entry }
@@ -192,5 +203,16 @@ impl<'a> RawBson<'a> {
             RawBson::Binary { subtype, bytes } => Some((subtype, bytes)),
             _ => None,
         }
+    }
+}
+
+impl From<f64> for RawBson<'_> {
+    ghost use Rattle.bson_raw.specs.declared.value.RawBson.TheVariants.{Double};
+    ghost use Rattle.bson_raw.specs.Doubles.{double_bytes};
+
+    ghost from_gives = { λ number value. value ≡ Double (double_bytes number) };
+
+    fn from(number: f64) -> Self {
+        RawBson::Double(double_to_bytes(number))
     }
 }

@@ -10,6 +10,8 @@
 
 #[cfg(test)]
 mod altered;
+#[cfg(test)]
+mod doubles;
 pub mod each_kind;
 pub mod hex_bytes;
 #[cfg(test)]
