@@ -10,7 +10,7 @@ use Rattle.wire_peer.specs.Chains.{written}
 use Rattle.wire_peer.specs.Logs.{Does, LogEntry, LogStep, RunOf, Stops}
 use Rattle.wire_peer.specs.declared.serving.ServeEnd.{ServeEnd}
 use Rattle.wire_peer.specs.declared.serving.ServeEnd.TheVariants as end
-use Rattle.wire_peer.specs.Coming.{AreBetween, Came, HasGoodHeader, Waited, Worked}
+use Rattle.wire_peer.specs.Coming.{AreBetween, ReceivesMessage, HasGoodHeader, CountsLater, CountsFailure}
 use Rattle.wire_peer.specs.Requests.{asked_by}
 use Rattle.wire_peer.specs.Serving.{AllSent, AreAnswered, AreInTurn, AreOf, EndsAs, LastSent, Seen, Served, WantedMemory, id_behind, last_id, replies_to, requests_of, serve_out}
 use Rattle.wire_peer.specs.Answering.{AnswersAs, GotEntry}
@@ -206,7 +206,7 @@ module _ {H : Type 0} (does : Does H) (stops : Stops H) where
 
   -- no next message came
   pub ends_coming : (c limit budget : ℕ) (e : ServeEnd) (old new : Seen H) (k id : ℕ) (held piece : List ℕ) (failures ends waits : ℕ) → Progress c limit old new k id (held ++ piece)
-      → k < budget → failures ≡ old.failures → ends ≡ old.ends → waits ≡ old.waits → Came (Err e) limit held piece ends new.ends → Worked (Err e) failures new.failures → Waited (Err e) waits new.waits
+      → k < budget → failures ≡ old.failures → ends ≡ old.ends → waits ≡ old.waits → ReceivesMessage (Err e) limit held piece ends new.ends → CountsFailure (Err e) failures new.failures → CountsLater (Err e) waits new.waits
       → Served does stops c limit budget e old new
   ends_coming c limit budget end.Ended old new k id held piece failures ends waits p lt works told idle came w l =
       let none : held ++ piece ≡ [] = (rw (came.0, came.1) refl) in
@@ -292,7 +292,7 @@ module _ {H : Type 0} (does : Does H) (stops : Stops H) where
 
   ends_by_answer : (c limit budget : ℕ) (e : ServeEnd) (old a b : Seen H) (k id id' : ℕ) (m : Message) (front piece : List ℕ) → Progress c limit old a k id (front ++ piece)
       → SpellsMsg m front → length front ≤ limit → Keeps a.received b.received → AddsTurns a.turns b.turns [] → k < budget → a.failures ≡ old.failures → b.ends ≡ old.ends
-      → a.waits ≡ old.waits → Waited (Err e) a.waits b.waits → AnswersAs does stops c limit m (Err e) id id' a b → Served does stops c limit budget e old b
+      → a.waits ≡ old.waits → CountsLater (Err e) a.waits b.waits → AnswersAs does stops c limit m (Err e) id id' a b → Served does stops c limit budget e old b
   ends_by_answer c limit budget end.Link old a b k id id' m front piece p spells within keeps none lt works told idle l x =
       served_with c limit budget end.Link old a b k id m front piece x.1.2 p spells within keeps none lt x.1.0 x.1.4 (
         rose_from old.failures a.failures b.failures works x.0,
@@ -349,6 +349,6 @@ module _ {H : Type 0} (does : Does H) (stops : Stops H) where
   -- a message was not answered, or not all its replies were sent
   pub ends_answer : (c limit budget : ℕ) (e : ServeEnd) (old a b : Seen H) (k id id' : ℕ) (m : Message) (front piece : List ℕ) → Progress c limit old a k id (front ++ piece)
       → SpellsMsg m front → length front ≤ limit → Keeps a.received b.received → AddsTurns a.turns b.turns [] → k < budget → a.failures ≡ old.failures → b.ends ≡ old.ends
-      → a.waits ≡ old.waits → Waited (Err e) a.waits b.waits → AnswersAs does stops c limit m (Err e) id id' a b → Served does stops c limit budget e old b
+      → a.waits ≡ old.waits → CountsLater (Err e) a.waits b.waits → AnswersAs does stops c limit m (Err e) id id' a b → Served does stops c limit budget e old b
   ends_answer c limit budget e old a b k id id' m front piece p spells within keeps none lt works told idle l x =
       ends_by_answer c limit budget e old a b k id id' m front piece p spells within keeps none lt works told idle l x

@@ -44,27 +44,28 @@ pub record IsFree (s : ServerView) : Type 0 where
 -- the link told its end before and now: a message is there; or no message comes, since the end was
 -- told, between messages or inside one, or since what came is at fault, the link failed, or memory
 -- ran out for a message whose good header came.
-abbrev pub Came : Result (Unit {0}) ServeEnd → ℕ → List ℕ → List ℕ → ℕ → ℕ → Type 0
-Came (Ok _) limit held piece old new = IsMessage limit held × (new ≡ old)
-Came (Err Ended) limit held piece old new = (held ≡ []) × (piece ≡ []) × Rose old new
-Came (Err EndedInside) limit held piece old new =
+abbrev pub ReceivesMessage : Result (Unit {0}) ServeEnd → ℕ → List ℕ → List ℕ → ℕ → ℕ → Type 0
+ReceivesMessage (Ok _) limit held piece old new = IsMessage limit held × (new ≡ old)
+ReceivesMessage (Err Ended) limit held piece old new = (held ≡ []) × (piece ≡ []) × Rose old new
+ReceivesMessage (Err EndedInside) limit held piece old new =
     (held ≢ []) × IsOpen limit held × (piece ≡ []) × Rose old new
-Came (Err (Fault f)) limit held piece old new =
+ReceivesMessage (Err (Fault f)) limit held piece old new =
     IsBad limit held f × IsBytes (held ++ piece) × (new ≡ old)
-Came (Err Link) limit held piece old new = new ≡ old
-Came (Err Later) limit held piece old new = new ≡ old
-Came (Err OutOfMemory) limit held piece old new = HasGoodHeader limit (held ++ piece) × (new ≡ old)
-Came (Err _) limit held piece old new = ⊥
+ReceivesMessage (Err Link) limit held piece old new = new ≡ old
+ReceivesMessage (Err Later) limit held piece old new = new ≡ old
+ReceivesMessage (Err OutOfMemory) limit held piece old new =
+    HasGoodHeader limit (held ++ piece) × (new ≡ old)
+ReceivesMessage (Err _) limit held piece old new = ⊥
 
 -- the count of failures is as before, but where the link failed
-abbrev pub Worked : Result (Unit {0}) ServeEnd → ℕ → ℕ → Type 0
-Worked (Err Link) old new = Rose old new
-Worked _ old new = new ≡ old
+abbrev pub CountsFailure : Result (Unit {0}) ServeEnd → ℕ → ℕ → Type 0
+CountsFailure (Err Link) old new = Rose old new
+CountsFailure _ old new = new ≡ old
 
 -- the count of calls that told that no byte can be moved now is as before, but where one told it
-abbrev pub Waited : Result (Unit {0}) ServeEnd → ℕ → ℕ → Type 0
-Waited (Err Later) old new = Rose old new
-Waited _ old new = new ≡ old
+abbrev pub CountsLater : Result (Unit {0}) ServeEnd → ℕ → ℕ → Type 0
+CountsLater (Err Later) old new = Rose old new
+CountsLater _ old new = new ≡ old
 
 -- At each of these calls of `recv` nothing had been sent since then, and the bytes that were held,
 -- with those that had been received since then, were open.

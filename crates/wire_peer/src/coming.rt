@@ -6,7 +6,8 @@ ghost use Rattle.bson_elem.specs.{IsBytes};
 ghost use Rattle.wire_msg.specs.{IsOpen};
 ghost use Rattle.wire_stream.specs.{AddsTurns, CompletesHeader, Feeds, Turn};
 ghost use Rattle.wire_peer.specs.declared.server_state.ServerState.TheVariants.{Closed, Open};
-ghost use Rattle.wire_peer.specs.Coming.{AreBetween, Came, IsFree, Waited, Worked, front_of};
+ghost use Rattle.wire_peer.specs.Coming.{AreBetween, ReceivesMessage, IsFree, CountsLater};
+ghost use Rattle.wire_peer.specs.Coming.{CountsFailure, front_of};
 ghost use Rattle.wire_peer.specs.Coming.{standing_by};
 ghost use Rattle.wire_peer.specs.Servers.{end_cause, holding};
 
@@ -84,13 +85,13 @@ pub(crate) fn next_request<L: Link>(
         (server.new ≡ record server.old { waiting = front_of server.new ∷ [] }) }
     ensures received { (more : List ℕ) × Appends (L.received link.old) (L.received link.new) more
         × (front_of server.new ++ inlet.new ≡ inlet.old ++ more) }
-    ensures came { Came result server.old.limit (front_of server.new) inlet.new
+    ensures came { ReceivesMessage result server.old.limit (front_of server.new) inlet.new
         (L.ends link.old) (L.ends link.new) }
     ensures sent { Keeps (L.sent link.old) (L.sent link.new) }
     ensures turns { (ts : List Turn) × AddsTurns (L.turns link.old) (L.turns link.new) ts
         × AreBetween server.old.limit (L.received link.old) (L.sent link.old) inlet.old ts }
-    ensures works { Worked result (L.failures link.old) (L.failures link.new) }
-    ensures later { Waited result (L.waits link.old) (L.waits link.new) }
+    ensures works { CountsFailure result (L.failures link.old) (L.failures link.new) }
+    ensures later { CountsLater result (L.waits link.old) (L.waits link.new) }
 {
     loop {
         match inlet.pull(link) {

@@ -7,7 +7,7 @@ ghost use Rattle.wire_msg.specs.{IsMessage, Message, SpellsMsg};
 ghost use Rattle.wire_stream.specs.{AddsTurns};
 ghost use Rattle.wire_peer.specs.declared.server_state.ServerState.TheVariants.{Open};
 ghost use Rattle.wire_peer.specs.Answering.{AnswersAs, end_of};
-ghost use Rattle.wire_peer.specs.Coming.{Waited, front_of};
+ghost use Rattle.wire_peer.specs.Coming.{CountsLater, front_of};
 ghost use Rattle.wire_peer.specs.Serving.{Served, seen};
 
 use crate::coming::next_request;
@@ -82,7 +82,7 @@ fn answer_first<L: Link, H: Handler>(
     ensures received { Keeps (L.received link.old) (L.received link.new) }
     ensures turns { AddsTurns (L.turns link.old) (L.turns link.new) [] }
     ensures end { L.ends link.new ≡ L.ends link.old }
-    ensures later { Waited result (L.waits link.old) (L.waits link.new) }
+    ensures later { CountsLater result (L.waits link.old) (L.waits link.new) }
 {
     if let Err(refusal) = server.answer(0, logged) {
         return Err(ServeEnd::from(refusal));

@@ -1,7 +1,7 @@
 //! Tests of what a client is after a refused allocation. `scripts/checks/try-refusals` runs them with each of their allocations refused
 //! in turn. No other one is refused then, so what is asked for again is granted.
 
-use crate::refused_calls::{Came, again, at_once, both, goes_on};
+use crate::refused_calls::{CallEnd, again, at_once, both, goes_on};
 use bson_raw::RawDocument;
 use std::alloc::Global;
 use wire_msg::PayloadBuf;
@@ -85,7 +85,7 @@ fn stands(client: &Client, (outstanding, unsent): Standing, bytes: &[u8]) -> boo
 }
 
 /// Makes a call, and makes it again where it is refused, which has to change nothing.
-fn calls(client: &mut Client, payload: &PayloadBuf, row: &Row, bytes: &[u8]) -> Came {
+fn calls(client: &mut Client, payload: &PayloadBuf, row: &Row, bytes: &[u8]) -> CallEnd {
     let (kind, call, before, after) = *row;
     match call_as(client, kind, payload) {
         Ok(made) => at_once(made == call && stands(client, after, bytes)),
@@ -99,8 +99,8 @@ fn calls(client: &mut Client, payload: &PayloadBuf, row: &Row, bytes: &[u8]) -> 
 }
 
 /// Makes the calls one after the other.
-fn calls_all(client: &mut Client, payload: &PayloadBuf, rows: &[Row], bytes: &[u8]) -> Came {
-    let mut all = Came::AtOnce;
+fn calls_all(client: &mut Client, payload: &PayloadBuf, rows: &[Row], bytes: &[u8]) -> CallEnd {
+    let mut all = CallEnd::AtOnce;
     for row in rows {
         all = both(all, calls(client, payload, row, bytes));
         if !goes_on(all) {
@@ -111,10 +111,10 @@ fn calls_all(client: &mut Client, payload: &PayloadBuf, rows: &[Row], bytes: &[u
 }
 
 /// Like `calls_all`, of a client that is made for it.
-fn calls_of_one(alloc: Global, payload: &PayloadBuf, rows: &[Row], bytes: &[u8]) -> Came {
+fn calls_of_one(alloc: Global, payload: &PayloadBuf, rows: &[Row], bytes: &[u8]) -> CallEnd {
     match Client::new(alloc, 1, 8, 48_000_000) {
         Ok(mut client) => calls_all(&mut client, payload, rows, bytes),
-        Err(_) => Came::Otherwise,
+        Err(_) => CallEnd::Otherwise,
     }
 }
 
@@ -122,8 +122,8 @@ fn calls_of_one(alloc: Global, payload: &PayloadBuf, rows: &[Row], bytes: &[u8])
 fn calls_at_last(alloc: Global, rows: &[Row], bytes: &[u8]) -> bool {
     match one_again(alloc) {
         Some(payload) => match calls_of_one(alloc, &payload, rows, bytes) {
-            Came::AtOnce => true,
-            Came::Again => calls_of_one(alloc, &payload, rows, bytes) == Came::AtOnce,
+            CallEnd::AtOnce => true,
+            CallEnd::Again => calls_of_one(alloc, &payload, rows, bytes) == CallEnd::AtOnce,
             _ => false,
         },
         None => false,
@@ -167,7 +167,7 @@ fn has_come(client: &Client, whole: bool) -> bool {
 
 /// Feeds a piece, behind which the reply is whole or isn't, and feeds it again where it is refused, which has to change
 /// nothing.
-fn feeds(client: &mut Client, piece: &[u8], whole: bool) -> Came {
+fn feeds(client: &mut Client, piece: &[u8], whole: bool) -> CallEnd {
     match client.feed(piece) {
         Ok(taken) => at_once(taken == piece.len() && has_come(client, whole)),
         Err(ReadRefusal::OutOfMemory) => again(
@@ -177,9 +177,9 @@ fn feeds(client: &mut Client, piece: &[u8], whole: bool) -> Came {
 }
 
 /// Makes the first call, and feeds its reply in two pieces, of which the first has this many bytes.
-fn feeds_all(client: &mut Client, payload: &PayloadBuf, cut: usize) -> Came {
+fn feeds_all(client: &mut Client, payload: &PayloadBuf, cut: usize) -> CallEnd {
     let Some((first, rest)) = REPLY.split_at_checked(cut) else {
-        return Came::Otherwise;
+        return CallEnd::Otherwise;
     };
     let called = calls(client, payload, &PLAIN_FIRST[0], PLAIN_FIRST_BYTES);
     let begun = both(called, feeds(client, first, false));
@@ -187,10 +187,10 @@ fn feeds_all(client: &mut Client, payload: &PayloadBuf, cut: usize) -> Came {
 }
 
 /// Like `feeds_all`, of a client that is made for it.
-fn feeds_one(alloc: Global, payload: &PayloadBuf, cut: usize) -> Came {
+fn feeds_one(alloc: Global, payload: &PayloadBuf, cut: usize) -> CallEnd {
     match Client::new(alloc, 1, 8, 48_000_000) {
         Ok(mut client) => feeds_all(&mut client, payload, cut),
-        Err(_) => Came::Otherwise,
+        Err(_) => CallEnd::Otherwise,
     }
 }
 
@@ -198,8 +198,8 @@ fn feeds_one(alloc: Global, payload: &PayloadBuf, cut: usize) -> Came {
 fn feeds_at_last(alloc: Global, cut: usize) -> bool {
     match one_again(alloc) {
         Some(payload) => match feeds_one(alloc, &payload, cut) {
-            Came::AtOnce => true,
-            Came::Again => feeds_one(alloc, &payload, cut) == Came::AtOnce,
+            CallEnd::AtOnce => true,
+            CallEnd::Again => feeds_one(alloc, &payload, cut) == CallEnd::AtOnce,
             _ => false,
         },
         None => false,

@@ -2,7 +2,7 @@
 //! allocations refused in turn. No other one is refused then, so what is asked for again is granted.
 
 use crate::log_rows::{Noted, are_bodies, is_log};
-use crate::refused_calls::{Came, again, at_once, both, goes_on, to_an_end};
+use crate::refused_calls::{CallEnd, again, at_once, both, goes_on, to_an_end};
 use bson_raw::RawDocument;
 use std::alloc::Global;
 use wire_msg::PayloadBuf;
@@ -107,7 +107,7 @@ fn pushes(
     way: Way,
     before: &[&[u8]],
     after: &[&[u8]],
-) -> Came {
+) -> CallEnd {
     if adds(answers, payload, way) {
         at_once(hold(answers, after))
     } else {
@@ -116,7 +116,7 @@ fn pushes(
 }
 
 /// Appends two answers in this way.
-fn pushes_both(answers: &mut Answers, payload: &PayloadBuf, way: Way) -> Came {
+fn pushes_both(answers: &mut Answers, payload: &PayloadBuf, way: Way) -> CallEnd {
     let first = pushes(answers, payload, way, &[], &[THREE]);
     both(
         first,
@@ -125,7 +125,7 @@ fn pushes_both(answers: &mut Answers, payload: &PayloadBuf, way: Way) -> Came {
 }
 
 /// Like `pushes_both`, to answers that are made for it.
-fn pushes_two(alloc: Global, payload: &PayloadBuf, way: Way) -> Came {
+fn pushes_two(alloc: Global, payload: &PayloadBuf, way: Way) -> CallEnd {
     let mut answers = Answers::new(alloc);
     pushes_both(&mut answers, payload, way)
 }
@@ -134,8 +134,8 @@ fn pushes_two(alloc: Global, payload: &PayloadBuf, way: Way) -> Came {
 fn leaves_answers(alloc: Global, way: Way) -> bool {
     match three(alloc) {
         Some(payload) => match pushes_two(alloc, &payload, way) {
-            Came::AtOnce => true,
-            Came::Again => pushes_two(alloc, &payload, way) == Came::AtOnce,
+            CallEnd::AtOnce => true,
+            CallEnd::Again => pushes_two(alloc, &payload, way) == CallEnd::AtOnce,
             _ => false,
         },
         None => false,
@@ -282,7 +282,7 @@ fn end_of_ask(answers: bool) -> Result<(), AskRefusal> {
 
 /// Asks a request, and asks it again where the handler wasn't asked, which has to change nothing. Where the handler stops for
 /// want of memory its entry has to stand.
-fn enters(logged: &mut Logged<Twice>, request: &Request<'_>, row: &Row<'_>) -> Came {
+fn enters(logged: &mut Logged<Twice>, request: &Request<'_>, row: &Row<'_>) -> CallEnd {
     let came = logged.ask(5, request);
     if came == end_of_ask(row.answers) {
         return at_once(notes(logged, row.log_after));
@@ -296,13 +296,13 @@ fn enters(logged: &mut Logged<Twice>, request: &Request<'_>, row: &Row<'_>) -> C
         Err(AskRefusal::Stopped(HandlerStop::OutOfMemory)) => {
             to_an_end(notes(logged, row.log_stopped))
         }
-        _ => Came::Otherwise,
+        _ => CallEnd::Otherwise,
     }
 }
 
 /// Asks the three requests.
-fn enters_all(logged: &mut Logged<Twice>, request: &Request<'_>) -> Came {
-    let mut all = Came::AtOnce;
+fn enters_all(logged: &mut Logged<Twice>, request: &Request<'_>) -> CallEnd {
+    let mut all = CallEnd::AtOnce;
     for row in &ROWS {
         all = both(all, enters(logged, request, row));
         if !goes_on(all) {
@@ -313,7 +313,7 @@ fn enters_all(logged: &mut Logged<Twice>, request: &Request<'_>) -> Came {
 }
 
 /// Like `enters_all`, with a log that is made for it.
-fn enters_one(alloc: Global, request: &Request<'_>) -> Came {
+fn enters_one(alloc: Global, request: &Request<'_>) -> CallEnd {
     let mut logged = twice(alloc);
     enters_all(&mut logged, request)
 }
@@ -323,9 +323,9 @@ fn enters_one(alloc: Global, request: &Request<'_>) -> Came {
 fn leaves_the_log(alloc: Global) -> bool {
     match three(alloc) {
         Some(payload) => match enters_one(alloc, &asking(&payload)) {
-            Came::AtOnce => true,
-            Came::Otherwise => false,
-            _ => enters_one(alloc, &asking(&payload)) == Came::AtOnce,
+            CallEnd::AtOnce => true,
+            CallEnd::Otherwise => false,
+            _ => enters_one(alloc, &asking(&payload)) == CallEnd::AtOnce,
         },
         None => false,
     }
@@ -357,7 +357,7 @@ fn replies(
     out: &mut ReplyBuf,
     request: &Request<'_>,
     row: &Row<'_>,
-) -> Came {
+) -> CallEnd {
     let came = logged.reply(5, 7, request, out);
     if came == end_of_reply(row.answers) {
         return at_once(stands(logged, out, row.log_after, row.bytes_after));
@@ -374,13 +374,13 @@ fn replies(
         Err(NoReplies::NoMemory) => {
             to_an_end(stands(logged, out, row.log_after, row.bytes_before))
         }
-        _ => Came::Otherwise,
+        _ => CallEnd::Otherwise,
     }
 }
 
 /// Asks the three requests for their replies.
-fn replies_all(logged: &mut Logged<Twice>, out: &mut ReplyBuf, request: &Request<'_>) -> Came {
-    let mut all = Came::AtOnce;
+fn replies_all(logged: &mut Logged<Twice>, out: &mut ReplyBuf, request: &Request<'_>) -> CallEnd {
+    let mut all = CallEnd::AtOnce;
     for row in &ROWS {
         all = both(all, replies(logged, out, request, row));
         if !goes_on(all) {
@@ -391,7 +391,7 @@ fn replies_all(logged: &mut Logged<Twice>, out: &mut ReplyBuf, request: &Request
 }
 
 /// Like `replies_all`, with a log and a buffer that are made for it.
-fn replies_one(alloc: Global, request: &Request<'_>) -> Came {
+fn replies_one(alloc: Global, request: &Request<'_>) -> CallEnd {
     let mut logged = twice(alloc);
     let mut out = ReplyBuf::new(alloc, 33);
     replies_all(&mut logged, &mut out, request)
@@ -402,9 +402,9 @@ fn replies_one(alloc: Global, request: &Request<'_>) -> Came {
 fn leaves_the_replies(alloc: Global) -> bool {
     match three(alloc) {
         Some(payload) => match replies_one(alloc, &asking(&payload)) {
-            Came::AtOnce => true,
-            Came::Otherwise => false,
-            _ => replies_one(alloc, &asking(&payload)) == Came::AtOnce,
+            CallEnd::AtOnce => true,
+            CallEnd::Otherwise => false,
+            _ => replies_one(alloc, &asking(&payload)) == CallEnd::AtOnce,
         },
         None => false,
     }
@@ -417,7 +417,7 @@ fn refused_replies_leave_no_byte(rt: HostRuntime) {
 
 /// Appends the answers as two replies behind so many bytes, and appends them again where that is refused, which has to change
 /// nothing.
-fn puts(out: &mut ReplyBuf, answers: &Answers, before: usize, after: usize) -> Came {
+fn puts(out: &mut ReplyBuf, answers: &Answers, before: usize, after: usize) -> CallEnd {
     match out.push(7, answers) {
         Ok(()) => at_once(are_messages(out.output(), &PUSHED, after)),
         Err(refusal) => again(
@@ -430,13 +430,13 @@ fn puts(out: &mut ReplyBuf, answers: &Answers, before: usize, after: usize) -> C
 }
 
 /// Appends the answers twice.
-fn puts_both(out: &mut ReplyBuf, answers: &Answers) -> Came {
+fn puts_both(out: &mut ReplyBuf, answers: &Answers) -> CallEnd {
     let first = puts(out, answers, 0, 66);
     both(first, puts(out, answers, 66, 132))
 }
 
 /// Like `puts_both`, in a buffer that is made for it.
-fn puts_one(alloc: Global, answers: &Answers) -> Came {
+fn puts_one(alloc: Global, answers: &Answers) -> CallEnd {
     let mut out = ReplyBuf::new(alloc, 33);
     puts_both(&mut out, answers)
 }
@@ -444,8 +444,8 @@ fn puts_one(alloc: Global, answers: &Answers) -> Came {
 /// Returns true if the answers are appended, at once or with a second try, and at once then in another buffer.
 fn puts_at_last(alloc: Global, answers: &Answers) -> bool {
     match puts_one(alloc, answers) {
-        Came::AtOnce => true,
-        Came::Again => puts_one(alloc, answers) == Came::AtOnce,
+        CallEnd::AtOnce => true,
+        CallEnd::Again => puts_one(alloc, answers) == CallEnd::AtOnce,
         _ => false,
     }
 }

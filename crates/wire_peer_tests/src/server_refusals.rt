@@ -2,7 +2,7 @@
 //! refused in turn. No other one is refused then, so what is asked for again is granted.
 
 use crate::log_rows::{Noted, is_log};
-use crate::refused_calls::{Came, again, at_once, both, goes_on, to_an_end};
+use crate::refused_calls::{CallEnd, again, at_once, both, goes_on, to_an_end};
 use std::alloc::Global;
 use wire_peer::{
     AnswerRefusal, Echo, HandlerStop, Logged, Server, ServerCause, ServerRefusal, ServerState,
@@ -98,7 +98,7 @@ const PIECES: [Piece<'_>; 3] = [
 ];
 
 /// Feeds a piece, and feeds it again where it is refused, which has to change nothing.
-fn feeds(server: &mut Server, piece: &Piece<'_>) -> Came {
+fn feeds(server: &mut Server, piece: &Piece<'_>) -> CallEnd {
     let (bytes, before, after) = *piece;
     match server.feed(bytes) {
         Ok(taken) => at_once(taken == bytes.len() && stands(server, after, 0)),
@@ -111,8 +111,8 @@ fn feeds(server: &mut Server, piece: &Piece<'_>) -> Came {
 }
 
 /// Feeds the first request whole, and the second one in two pieces.
-fn feeds_all(server: &mut Server) -> Came {
-    let mut all = Came::AtOnce;
+fn feeds_all(server: &mut Server) -> CallEnd {
+    let mut all = CallEnd::AtOnce;
     for piece in &PIECES {
         all = both(all, feeds(server, piece));
     }
@@ -120,10 +120,10 @@ fn feeds_all(server: &mut Server) -> Came {
 }
 
 /// Like `feeds_all`, of a server that is made for it.
-fn feeds_one(alloc: Global) -> Came {
+fn feeds_one(alloc: Global) -> CallEnd {
     match server_again(alloc) {
         Some(mut server) => feeds_all(&mut server),
-        None => Came::Otherwise,
+        None => CallEnd::Otherwise,
     }
 }
 
@@ -131,8 +131,8 @@ fn feeds_one(alloc: Global) -> Came {
 /// server.
 fn feeds_at_last(alloc: Global) -> bool {
     match feeds_one(alloc) {
-        Came::AtOnce => true,
-        Came::Again => feeds_one(alloc) == Came::AtOnce,
+        CallEnd::AtOnce => true,
+        CallEnd::Again => feeds_one(alloc) == CallEnd::AtOnce,
         _ => false,
     }
 }
@@ -210,7 +210,7 @@ fn is_closed(server: &Server, logged: &Logged<Twice>, row: &Row<'_>) -> bool {
 
 /// Answers the first request that waits, and answers it again where that is refused before the handler is asked, which has to
 /// change nothing.
-fn answers(server: &mut Server, logged: &mut Logged<Twice>, row: &Row<'_>) -> Came {
+fn answers(server: &mut Server, logged: &mut Logged<Twice>, row: &Row<'_>) -> CallEnd {
     let number = row.before.log.len();
     match server.answer(0, logged) {
         Ok(entry) => at_once(entry == number && both_stand(server, logged, &row.after)),
@@ -220,13 +220,13 @@ fn answers(server: &mut Server, logged: &mut Logged<Twice>, row: &Row<'_>) -> Ca
                 && both_stand(server, logged, &row.after),
         ),
         Err(AnswerRefusal::NowClosed(_)) => to_an_end(is_closed(server, logged, row)),
-        Err(_) => Came::Otherwise,
+        Err(_) => CallEnd::Otherwise,
     }
 }
 
 /// Answers both requests, the first one first.
-fn answers_both(server: &mut Server, logged: &mut Logged<Twice>) -> Came {
-    let mut all = Came::AtOnce;
+fn answers_both(server: &mut Server, logged: &mut Logged<Twice>) -> CallEnd {
+    let mut all = CallEnd::AtOnce;
     for row in &ROWS {
         all = both(all, answers(server, logged, row));
         if !goes_on(all) {
@@ -237,7 +237,7 @@ fn answers_both(server: &mut Server, logged: &mut Logged<Twice>) -> Came {
 }
 
 /// Feeds both requests to a server, and answers them.
-fn answers_fed(server: &mut Server, logged: &mut Logged<Twice>) -> Came {
+fn answers_fed(server: &mut Server, logged: &mut Logged<Twice>) -> CallEnd {
     let fed = feeds_all(server);
     if goes_on(fed) {
         both(fed, answers_both(server, logged))
@@ -247,20 +247,20 @@ fn answers_fed(server: &mut Server, logged: &mut Logged<Twice>) -> Came {
 }
 
 /// Like `answers_fed`, of a server that is made for it.
-fn answers_of_one(alloc: Global) -> Came {
+fn answers_of_one(alloc: Global) -> CallEnd {
     let mut logged = Logged::new(alloc, StopAt::new(Echo, 2, HandlerStop::Failed));
     match server_again(alloc) {
         Some(mut server) => answers_fed(&mut server, &mut logged),
-        None => Came::Otherwise,
+        None => CallEnd::Otherwise,
     }
 }
 
 /// Returns true if the requests are answered; or memory is wanting for one of them, and another server answers them at once then.
 fn answers_at_last(alloc: Global) -> bool {
     match answers_of_one(alloc) {
-        Came::AtOnce => true,
-        Came::Otherwise => false,
-        _ => answers_of_one(alloc) == Came::AtOnce,
+        CallEnd::AtOnce => true,
+        CallEnd::Otherwise => false,
+        _ => answers_of_one(alloc) == CallEnd::AtOnce,
     }
 }
 

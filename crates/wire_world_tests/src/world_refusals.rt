@@ -155,28 +155,28 @@ fn goes_on_closed(world: &mut World<Echo>, one: Payload<'_>) -> bool {
     false
 }
 
-/// What an event came to.
+/// How an event ended.
 #[derive(Clone, Copy, PartialEq)]
-enum Came {
+enum StepEnd {
     ToItsEnd,
-    /// Memory was wanting for it.
+    /// Out of memory.
     ToNothing,
-    /// Memory was wanting for the handler or its reply, and the server closed.
+    /// Memory ran out for the handler or its reply, and the server closed.
     ToAClose,
     Otherwise,
 }
 
 /// Returns what an event came to that was to have this end.
-fn end_of_step(world: &mut World<Echo>, event: &Event<'_>, end: End<'_>) -> Came {
+fn end_of_step(world: &mut World<Echo>, event: &Event<'_>, end: End<'_>) -> StepEnd {
     let ended = world.step(event);
     if ends_so(&ended, end) {
-        Came::ToItsEnd
+        StepEnd::ToItsEnd
     } else if ends_so(&ended, End::Refused(WorldRefusal::OutOfMemory)) {
-        Came::ToNothing
+        StepEnd::ToNothing
     } else if ends_so(&ended, End::ClosedBy(ServerCause::NoMemory)) {
-        Came::ToAClose
+        StepEnd::ToAClose
     } else {
-        Came::Otherwise
+        StepEnd::Otherwise
     }
 }
 
@@ -220,14 +220,14 @@ fn wanting(holds: bool) -> Option<bool> {
 /// call or entry, and all else goes on; or its server closed, and its entry stands.
 fn stands(world: &mut World<Echo>, one: Payload<'_>, trial: &Trial<'_, '_, '_>) -> Option<bool> {
     match end_of_step(world, &trial.event, trial.end) {
-        Came::ToItsEnd => Some(true),
-        Came::ToNothing => wanting(
+        StepEnd::ToItsEnd => Some(true),
+        StepEnd::ToNothing => wanting(
             holds(world, trial.going.first)
                 && all_are_cut(world, trial.cut)
                 && goes_on_so(world, one, trial.next, &trial.going),
         ),
-        Came::ToAClose => wanting(goes_on_closed(world, one)),
-        Came::Otherwise => Some(false),
+        StepEnd::ToAClose => wanting(goes_on_closed(world, one)),
+        StepEnd::Otherwise => Some(false),
     }
 }
 
@@ -320,8 +320,8 @@ fn happens_again(
 fn happens(alloc: Global, one: Payload<'_>, event: &Event<'_>, end: End<'_>) -> Option<bool> {
     let mut world = prepared(alloc, one, &[])?;
     match end_of_step(&mut world, event, end) {
-        Came::ToItsEnd => Some(true),
-        Came::ToNothing => wanting(happens_again(&mut world, one, event, end)),
+        StepEnd::ToItsEnd => Some(true),
+        StepEnd::ToNothing => wanting(happens_again(&mut world, one, event, end)),
         _ => Some(false),
     }
 }
