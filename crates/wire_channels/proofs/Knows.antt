@@ -22,7 +22,7 @@ use Rattle.wire_channels.proofs.Starts.{are_of, met}
 
 -- ---- calls under other numbers
 
-owned_by : {H I J : Type 0} (m : Machine H) (A : I → Record → Type 0) (B : J → Record → Type 0)
+pub owned_by : {H I J : Type 0} (m : Machine H) (A : I → Record → Type 0) (B : J → Record → Type 0)
     (f : J → I) → ((j : J) (x : Record) → B j x → A (f j) x)
     → ((j l : J) (x y : Record) → B j x → B l y → f j ≡ f l → j ≡ l)
     → ((i : I) (x : Record) → A i x → (j : J) × B j x × (f j ≡ i)) → Owned m A → Owned m B

@@ -18,3 +18,7 @@ pub mod Alone
 pub mod Grows
 pub mod Witness
 pub mod Work
+pub mod Asking
+pub mod Beside
+pub mod Once
+pub mod OwnEntries

@@ -31,6 +31,21 @@ module _ (H : Type 0) (does : Does H) (stops : Stops H) (limit : ℕ) where
   many_servers made (suc n) =
       length-push (first_servers limit made n) _ ∙ ap suc (many_servers made n)
 
+  pub first_is : (made : ℕ → Made) (k c : ℕ) (s : ServerView)
+      → server_at (first_servers limit made k) c ≡ Some s
+      → s ≡ new_server c (made c).server_window limit
+  first_is made zero zero s at = absurd (none-some s at)
+  first_is made zero (suc i) s at = absurd (none-some s at)
+  first_is made (suc k) zero s at = absurd (none-some s at)
+  first_is made (suc k) (suc i) s at = elim (get-push_cases (first_servers limit made k) i s
+      (new_server (suc k) (made (suc k)).server_window limit) at) [
+        | inl old ↦ first_is made k (suc i) s old
+        | inr new ↦
+            sym new.1
+            ∙ ap (λ z. new_server (suc z) (made (suc z)).server_window limit)
+            (sym (new.0 ∙ many_servers made k))
+      ]
+
   push_cases : (ps : List Pair) (c : ℕ) (p q : Pair) → pair_at (ps ++ q ∷ []) c ≡ Some p
       → (pair_at ps c ≡ Some p) ⊎ ((c ≡ suc (length ps)) × (q ≡ p))
   push_cases ps zero p q at = absurd (none-some p at)

@@ -1,6 +1,6 @@
 //! The laws of pairs. The contract of a function is the law.
 
-ghost use Rattle.std.specs.Prelude.{◌≡◌, ◌≤◌, [], ◌++◌, ℕ, ℤ, List, Some};
+ghost use Rattle.std.specs.Prelude.{◌≡◌, ◌≤◌, [], ◌++◌, ℕ, ℤ, Bool, false, List, Some};
 ghost use Rattle.bson_elem.specs.{IsBytes};
 ghost use Rattle.wire_msg.specs.{message_len};
 ghost use Rattle.wire_msg.specs.declared.payloads.Payload.{Payload as Carried};
@@ -8,12 +8,13 @@ ghost use Rattle.wire_peer.specs.{IsLimit, content_of, new_client};
 ghost use Rattle.wire_channels.specs.Alone.{HoldsAlone};
 ghost use Rattle.wire_channels.specs.Channels.{Pair, Step, System, Trace, no_pairs, pair_at};
 ghost use Rattle.wire_channels.specs.Deeds.{Arrive, Common, Deed, ServersGrow, ServersRun, Turn};
-ghost use Rattle.wire_channels.specs.Deeds.{acts_at, deeds_of, opened_in};
+ghost use Rattle.wire_channels.specs.Deeds.{acts_at, deeds_of, opened_in, server_acts_at};
 ghost use Rattle.wire_channels.specs.Owners.{AreMade, ClientAct, ClientEnd, ClientRun, Made};
-ghost use Rattle.wire_channels.specs.Owners.{ServerEnds, bytes_sent, bytes_taken, first_end};
-ghost use Rattle.wire_channels.specs.Owners.{first_servers_of};
+ghost use Rattle.wire_channels.specs.Owners.{ServerEnds, bytes_sent, bytes_taken, bytes_taken_up};
+ghost use Rattle.wire_channels.specs.Owners.{first_end, first_servers_of};
 ghost use Rattle.wire_channels.specs.Knowing.{OwnersKnow};
 ghost use Rattle.wire_channels.specs.Seen.{Channelled, IsQuietPair};
+ghost use Rattle.wire_channels.specs.Strangers.{OwnEntries, PairsKnow, deeds_beside};
 ghost use Rattle.wire_channels.specs.Witness.{GetDone};
 ghost use Rattle.wire_channels.specs.Work.{CanGoOn, Falls, IsLive, IsWork};
 
@@ -116,4 +117,29 @@ pub fn work_falls<H: Handler>()
         → pair_at s.pairs c ≡ Some p → (step : Step H H.does H.stops limit s s')
         → IsWork H H.does H.stops limit c s s' step
         → Falls H H.does H.stops limit s s' c p }
+{}
+
+/// Proves that strangers beside the pairs, connections at whose other ends there may be anything,
+/// disturb none of them: the headline of the pairs holds as it does without strangers, whatever
+/// bytes these send. To the pairs what strangers ask is a change of the handler's state.
+pub fn strangers_disturb_none<H: Handler>()
+    ensures { (limit k : ℕ) (first : H) (made : ℕ → Made) (strange : ℕ → Bool) (deeds : List Deed)
+        (ends : ℕ → ClientEnd) (servers : ServerEnds H)
+        → IsLimit limit → AreMade made
+        → ((c : ℕ) → strange c ≡ false
+        → ClientRun c (first_end limit made c) (acts_at c deeds) (ends c))
+        → ServersRun H.does H.stops (first_servers_of limit made k first) deeds servers
+        → Arrive (λ _. []) (λ _. []) (deeds_beside strange deeds)
+        → PairsKnow H.does H.stops strange k first deeds ends servers }
+{}
+
+/// Proves what holds of the servers, whoever asks them, with any bytes: the entries of a connection
+/// are of messages of the one split of what its server took, each of one of them, and no two of the
+/// same one.
+pub fn servers_hold_alone<H: Handler>()
+    ensures { (limit k c : ℕ) (first : H) (made : ℕ → Made) (deeds : List Deed)
+        (servers : ServerEnds H)
+        → ServersRun H.does H.stops (first_servers_of limit made k first) deeds servers
+        → IsBytes (bytes_taken_up (server_acts_at c deeds))
+        → OwnEntries limit c (bytes_taken_up (server_acts_at c deeds)) servers.log }
 {}

@@ -6,7 +6,8 @@
 //! call by call, seen from there alone. The laws say that the headline holds of the calls as their
 //! owners have them, and that owners who each tell what they did themselves have one run in common,
 //! where bytes arrive in order. `specs/Alone.antt` says what holds of a client whoever answers it,
-//! and `specs/Work.antt` what there is to do at a pair until it is quiet.
+//! `specs/Strangers.antt` the same of servers, and of pairs beside strangers, and `specs/Work.antt`
+//! what there is to do at a pair until it is quiet.
 //!
 //! Stands on wire_model, and on the code of wire_peer and wire_stream. Nothing stands on it yet.
 //! Read first: `specs/Channels.antt` and `specs/Seen.antt`, then `specs/Owners.antt`,
