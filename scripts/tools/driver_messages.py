@@ -206,14 +206,19 @@ def wanted():
     return "connection 1\n" + "".join(text for _, _, text in REQUESTS) + "end Ended\n"
 
 
+def send(address):
+    """Sends the requests over one connection, up to the first one that isn't answered."""
+    with connect(address) as link:
+        for number, (body, documents, _) in enumerate(REQUESTS, 1):
+            if not is_answered(link, message(number, body, documents)):
+                break
+
+
 def main():
     if sys.argv[1:] == ["--wanted"]:
         print(wanted(), end="")
         return
-    with connect(sys.argv[1]) as link:
-        for number, (body, documents, _) in enumerate(REQUESTS, 1):
-            if not is_answered(link, message(number, body, documents)):
-                break
+    send(sys.argv[1])
 
 
 if __name__ == "__main__":
