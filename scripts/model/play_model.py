@@ -14,7 +14,7 @@ import sys
 sys.dont_write_bytecode = True
 sys.path.insert(0, os.path.dirname(os.path.realpath(__file__)))
 from world_ends import Content, Fault, check_content, count, echo, want  # noqa: E402
-from world_model import Limits, World  # noqa: E402
+from world_model import RANGES, Limits, World  # noqa: E402
 
 HANDLERS = {b"echo": (echo, None), b"count": (count, None)}
 
@@ -66,7 +66,7 @@ def read_event(line):
 def read_world(line, handlers):
     """Returns the handler, its state and the limits of a world."""
     word, *words = line.split(b" ")
-    want(word == b"world" and len(words) == 5 and words[0] in handlers)
+    want(word == b"world" and len(words) == 1 + len(RANGES) and words[0] in handlers)
     limits = Limits(*map(read_number, words[1:]))
     want(limits.are_good())
     return (*handlers[words[0]], limits)

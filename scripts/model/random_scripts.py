@@ -1,15 +1,15 @@
 """Random documents, messages and scripts, good ones and others, each by a source of chance alone."""
 
 from play_model import FORMS
+from text_model import SIZES, STRINGS
 from world_ends import Content, Message, count, echo, little, spelled
-from world_model import Limits, World
+from world_model import RANGES, Limits, World
 from world_schedule import BODIES, WORDS, Schedule
 
 NAMES = [b"", b"a", b"b", b"n", b"s", b"0", b"1", b"10", b"name", "é".encode(), b"\x7f\x01\"\\"]
 TEXTS = [b"", b"x", b"text", "größer".encode(), b"a\0b", b"\"\\\n", b"z" * 40]
 CHECKED = (0x02, 0x05, 0x08, 0x0C, 0x0D, 0x0E)  # kinds whose values have faults of their own
-LEAVES = (0x01, 0x02, 0x05, 0x06, 0x07, 0x08, 0x09, 0x0A, 0x0B, 0x0C, 0x0D, 0x0E, 0x10, 0x11, 0x12, 0x13, 0xFF, 0x7F)
-SIZES = {0x01: 8, 0x06: 0, 0x07: 12, 0x09: 8, 0x0A: 0, 0x10: 4, 0x11: 8, 0x12: 8, 0x13: 16, 0xFF: 0, 0x7F: 0}
+LEAVES = (*SIZES, *STRINGS, 0x05, 0x08, 0x0B)
 
 # Bodies that `count` looks at: at its most answers and one more, and at fields that it passes over.
 COUNTED = [bytes.fromhex(digits) for digits in ("0c0000001073006400000000", "0c0000001073006500000000", "0c000000107300ffffffff00",
@@ -232,9 +232,10 @@ WEIGHTS = [WORDS, WORDS, {"open": 6, "return": 8, "plain": 4, "clear": 2, "resta
            {"open": 1, "rawopen": 6, "raw": 20, "answer": 8, "rawtake": 4, "cutup": 1, "restart": 0.5, "clear": 0.5},
            {"open": 1, "plain": 4, "exhaust": 6, "unacknowledged": 1, "up": 6, "down": 8, "answer": 8}]
 
-GOOD_WORLDS = {"first": [1, 7, 2**31 - 2, 2**31 - 1], "window": [1, 2, 3, 8], "pool": [1, 2, 4], "limit": [26, 33, 51, 60, 200, 48_000_000]}
-EDGES = {"first": [0, 1, 2**31 - 1, 2**31, 2**32 + 1], "window": [0, 1, 1024, 1025], "pool": [0, 1, 1024, 1025],
-         "limit": [25, 26, 47_999_999, 48_000_000, 48_000_001, 2**32 + 26, 2**64]}
+# Limits under which much happens. One that isn't here is as great as it may be.
+GOOD_WORLDS = {name: [greatest] for name, (_, greatest) in RANGES.items()}
+GOOD_WORLDS |= {"first_id": [1, 7, 2**31 - 2, 2**31 - 1], "window": [1, 2, 3, 8], "connections": [1, 2, 4], "limit": [26, 33, 51, 60, 200, 48_000_000]}
+EDGES = {name: [least - 1, least, greatest - 1, greatest, greatest + 1, 2**32 + least, 2**64] for name, (least, greatest) in RANGES.items()}
 
 
 GOOD_NUMBERS = [b"1", b"1", b"33", b"01"]
@@ -285,9 +286,9 @@ class Scripts:
     def of_one_world(self):
         """Returns a script whose world is just good or just isn't."""
         edge = self.chance.choice([*EDGES])
-        numbers = {word: self.chance.choice(EDGES[word] if word == edge else GOOD_WORLDS[word]) for word in EDGES}
+        limits = Limits(*(self.chance.choice(EDGES[name] if name == edge else GOOD_WORLDS[name]) for name in RANGES))
         handler = self.chance.choice([*["echo", "count"] * 5, "stop", "Echo", ""])
-        return f"world {handler} {numbers['first']} {numbers['window']} {numbers['pool']} {numbers['limit']}\nopen\nopen\n".encode()
+        return world_line(handler, limits) + b"\nopen\nopen\n"
 
     def of_one_line(self):
         """Returns a script in which one line is of any words that a line may have, or nearly."""
@@ -307,10 +308,10 @@ class Scripts:
     def lines(self, few=False):
         """Returns the lines of a script in which most events are done."""
         pick = self.chance.choice
-        handler, limits = pick([echo, count, count]), Limits(*(pick(GOOD_WORLDS[word]) for word in GOOD_WORLDS))
+        handler, limits = pick([echo, count, count]), good_limits(pick)
         world = World(handler, None, limits)
         schedule = ScriptSchedule(self.chance, world, pick(WEIGHTS), self.messages)
-        lines = [f"world {handler.__name__} {limits.first_id} {limits.window} {limits.connections} {limits.limit}".encode()]
+        lines = [world_line(handler.__name__, limits)]
         for _ in range(pick([2, 5, 9] if few else [5, 20, 40, 80])):
             event = schedule.event()
             lines.append(spelled_event(event))
@@ -361,6 +362,16 @@ class Scripts:
         if how < 0.9:
             return b"".join(self.messages.any_message() for _ in range(self.chance.choice([1, 1, 2, 3])))
         return self.messages.damaged(self.script())
+
+
+def good_limits(pick):
+    """Returns limits under which much happens, each picked by `pick` of its list."""
+    return Limits(*(pick(GOOD_WORLDS[name]) for name in RANGES))
+
+
+def world_line(handler, limits):
+    """Returns the line that makes a world."""
+    return " ".join(["world", handler, *map(str, limits)]).encode()
 
 
 def spelled_event(event):

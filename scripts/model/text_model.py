@@ -13,6 +13,7 @@ MSG_CAUSES = ["", "Length", "Opcode", "Flags", "Checksum", "SectionKind", "Secti
 # Kinds of a fixed size: the word, and the bytes of a value.
 FIXED = {0x01: ("double", 8), 0x06: ("undefined", 0), 0x07: ("objectid", 12), 0x09: ("datetime", 8), 0x0A: ("null", 0), 0x10: ("int32", 4),
          0x11: ("timestamp", 8), 0x12: ("int64", 8), 0x13: ("decimal128", 16), 0xFF: ("minkey", 0), 0x7F: ("maxkey", 0)}
+SIZES = {kind: size for kind, (_, size) in FIXED.items()}
 STRINGS = {0x02: "string", 0x0D: "code", 0x0E: "symbol", 0x0C: "dbpointer"}
 CONTAINERS = {0x03: "document", 0x04: "array", 0x0F: "codescope"}
 KINDS = {*FIXED, *STRINGS, *CONTAINERS, 0x05, 0x08, 0x0B}
@@ -104,8 +105,8 @@ def string(b, at, end, p):
 
 def value_of(b, kind, at, end, p, depth):
     """Returns a value, and the place after it. Its room ends before `end`, and its element begins at p."""
-    if kind in FIXED:
-        size = FIXED[kind][1]
+    if kind in SIZES:
+        size = SIZES[kind]
         bad(1, p, end - at < size)
         return b[at:at + size], at + size
     if kind == 0x08:
@@ -315,6 +316,10 @@ def read_hex(text):
         return None, len(left)
     wrong = re.search(rb"[^0-9a-fA-F]", left)
     return (None, wrong.start()) if wrong else (bytes.fromhex(left.decode()), None)
+
+
+# The commands over a FILE.
+COMMANDS = ("dump", "check", "canon", "msg")
 
 
 def one_document(command, b):

@@ -9,7 +9,7 @@ import sys
 import types
 
 FOLDER = os.path.dirname(os.path.realpath(__file__))
-MODELS = ("world_ends", "world_model", "play_model", "text_model")
+MODELS = ("text_model", "world_ends", "world_model", "play_model")
 
 PLAY = [
     ("a CR in front of an LF is dropped", 'line.removesuffix(b"\\r") for line', "line for line"),
@@ -32,8 +32,8 @@ PLAY = [
     ("words of an event stand one space apart", 'word, *words = line.split(b" ")\n    want(word in', "word, *words = line.split() or [line]\n    want(word in"),
     ("words of a world stand one space apart", 'word, *words = line.split(b" ")\n    want(word ==', "word, *words = line.split() or [line]\n    want(word =="),
     ("an event has no more words", "len(words) == len(FORMS[word])", "len(words) >= len(FORMS[word])"),
-    ("a world has no more words", "len(words) == 5 and words[0] in handlers)\n    limits = Limits(*map(read_number, words[1:]))",
-     "len(words) >= 5 and words[0] in handlers)\n    limits = Limits(*map(read_number, words[1:5]))"),
+    ("a world has no more words", "len(words) == 1 + len(RANGES) and words[0] in handlers)\n    limits = Limits(*map(read_number, words[1:]))",
+     "len(words) > len(RANGES) and words[0] in handlers)\n    limits = Limits(*map(read_number, words[1:1 + len(RANGES)]))"),
     ("the world stands once", 'or line.startswith(b"#")', 'or line.startswith(b"#") or begun and line.startswith(b"world ")'),
     ("the world stands first", 'or line.startswith(b"#")', 'or line.startswith(b"#") or not begun and line.split(b" ")[0] in FORMS'),
     ("limits are within their ranges", "want(limits.are_good())\n    ", ""),
@@ -49,14 +49,14 @@ PLAY = [
 ]
 
 WORLD = [
-    ("a first id is 1 at least", "1 <= self.first_id", "0 <= self.first_id"),
-    ("a first id is less than 2 to the 31st", "self.first_id < 2**31", "self.first_id <= 2**31"),
-    ("a window is 1 at least", "1 <= self.window", "0 <= self.window"),
-    ("a window is 1024 at most", "self.window <= 1024", "self.window <= 1025"),
-    ("a limit is 26 at least", "26 <= self.limit", "25 <= self.limit"),
-    ("a limit is 48000000 at most", "self.limit <= 48_000_000", "self.limit <= 48_000_001"),
-    ("a pool has 1 connection at least", "1 <= self.connections", "0 <= self.connections"),
-    ("a pool has 1024 connections at most", "self.connections <= 1024", "self.connections <= 1025"),
+    ("a first id is 1 at least", '"first_id": (1,', '"first_id": (0,'),
+    ("a first id is less than 2 to the 31st", "(1, 2**31 - 1)", "(1, 2**31)"),
+    ("a window is 1 at least", '"window": (1,', '"window": (0,'),
+    ("a window is 1024 at most", '"window": (1, 1024)', '"window": (1, 1025)'),
+    ("a limit is 26 at least", '"limit": (26,', '"limit": (25,'),
+    ("a limit is 48000000 at most", "(26, 48_000_000)", "(26, 48_000_001)"),
+    ("a pool has 1 connection at least", '"connections": (1,', '"connections": (0,'),
+    ("a pool has 1024 connections at most", '"connections": (1, 1024)', '"connections": (1, 1025)'),
     ("connections are numbered from 1", "if 1 <= c <= len", "if 0 <= c <= len"),
     ("not lent is told before cut", 'found[2] = "3 NotLent"', 'found[4] = "3 NotLent"'),
     ("raw is told before not lent", "found[1] =", "found[3.5] ="),
@@ -116,10 +116,6 @@ LISTS = [("WANTS_CLIENT", "{} wants a client"), ("WANTS_RAW", "{} wants a raw co
          ("NEEDS_UP", "{} needs the way up"), ("NEEDS_DOWN", "{} needs the way down")]
 
 ENDS = [
-    *((f"a value of kind {kind} has {size} bytes", f"{kind}: {size}", f"{kind}: {other}")
-      for kind, size, other in (("0x01", 8, 7), ("0x06", 0, 1), ("0x07", 12, 11), ("0x09", 8, 7), ("0x0A", 0, 1), ("0x10", 4, 5), ("0x11", 8, 9),
-                                ("0x12", 8, 7), ("0x13", 16, 15), ("0xFF", 0, 1), ("0x7F", 0, 1))),
-    ("14 is no kind", "0x7F: 0}", "0x7F: 0, 0x14: 0}"),
     ("a boolean is 00 or 01", '(b"\\0", b"\\1"))', '(b"\\0", b"\\1", b"\\2"))'),
     ("a string ends with 00", "at <= end < len(b) and b[end] == 0", "at <= end < len(b)"),
     ("texts are UTF-8", "        b[at:end].decode()", '        b[at:end].decode("latin-1")'),
@@ -195,6 +191,11 @@ ENDS = [
 ]
 
 TEXTS = [
+    *((f"a value of kind {kind} has {size} bytes", f'{kind}: ("{word}", {size})', f'{kind}: ("{word}", {other})')
+      for kind, word, size, other in (("0x01", "double", 8, 7), ("0x06", "undefined", 0, 1), ("0x07", "objectid", 12, 11), ("0x09", "datetime", 8, 7),
+                                      ("0x0A", "null", 0, 1), ("0x10", "int32", 4, 5), ("0x11", "timestamp", 8, 9), ("0x12", "int64", 8, 7),
+                                      ("0x13", "decimal128", 16, 15), ("0xFF", "minkey", 0, 1), ("0x7F", "maxkey", 0, 1))),
+    ("14 is no kind", '0x7F: ("maxkey", 0)}', '0x7F: ("maxkey", 0), 0x14: ("none", 0)}'),
     ("a document has 4 bytes at least", "bad(1, 0, len(b) < 4)\n    length", "bad(2, 0, len(b) < 4)\n    length"),
     ("a document's length is 5 at least", "bad(2, 0, length < 5)", "bad(1, 0, length < 5)"),
     ("a document ends within the input", "bad(1, 0, length > len(b))", "bad(2, 0, length > len(b))"),

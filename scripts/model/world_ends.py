@@ -6,6 +6,8 @@ It is written from crates/wire_peer/specs, crates/wire_pool/specs and crates/wir
 from dataclasses import dataclass, field
 from typing import NamedTuple
 
+from text_model import SIZES, STRINGS
+
 OPEN, MAX_ID, MAX_U64 = "open", 2**31 - 1, 2**64 - 1
 
 
@@ -44,16 +46,13 @@ def string_end(b, at):
     return text_end(b, at + 4, at + 3 + number(b, at))
 
 
-SIZES = {0x01: 8, 0x06: 0, 0x07: 12, 0x09: 8, 0x0A: 0, 0x10: 4, 0x11: 8, 0x12: 8, 0x13: 16, 0xFF: 0, 0x7F: 0}
-
-
 def value_end(b, kind, at, depth):
     if kind in SIZES:
         end = at + SIZES[kind]
     elif kind == 0x08:
         want(b[at:at + 1] in (b"\0", b"\1"))
         end = at + 1
-    elif kind in (0x02, 0x0C, 0x0D, 0x0E):
+    elif kind in STRINGS:
         end = string_end(b, at) + (12 if kind == 0x0C else 0)
     elif kind == 0x0B:
         end = cstring_end(b, cstring_end(b, at))

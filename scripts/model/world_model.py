@@ -3,6 +3,7 @@
 It is written from crates/wire_model/specs, and not from the code.
 """
 
+from collections import namedtuple
 from dataclasses import dataclass, field
 
 from world_ends import (KINDS, MAX_U64, OPEN, Asked, Client, Pool, Server, chain, completes_header, message_len, reach,
@@ -22,16 +23,13 @@ def claim(what, holds):
         raise AssertionError(what)
 
 
-@dataclass
-class Limits:
-    first_id: int
-    window: int
-    connections: int
-    limit: int
+# The limits of a world, in the order in which its line tells them: the least and the greatest of each.
+RANGES = {"first_id": (1, 2**31 - 1), "window": (1, 1024), "connections": (1, 1024), "limit": (26, 48_000_000)}
 
+
+class Limits(namedtuple("Limits", RANGES)):
     def are_good(self):
-        return (1 <= self.first_id < 2**31 and 1 <= self.window <= 1024 and 26 <= self.limit <= 48_000_000
-                and 1 <= self.connections <= 1024)
+        return all(least <= n <= greatest for n, (least, greatest) in zip(self, RANGES.values()))
 
 
 @dataclass
