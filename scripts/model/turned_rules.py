@@ -298,7 +298,7 @@ def source_of(model):
         return file.read()
 
 
-# No script cuts the way down of a raw connection, since memory isn't wanting.
+# No script cuts the way down of a raw connection, since memory doesn't run out.
 UNSEEN = ("rawtake needs the way down",)
 
 

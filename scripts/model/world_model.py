@@ -62,7 +62,7 @@ class Conn:
 
 class World:
     """A world. `told` holds the steps of the machine that its last event gives, and `taken` and `given` what each server of a
-    raw connection took and gave. `short` says of each growth whether memory is wanting."""
+    raw connection took and gave. `short` says of each growth whether memory runs out."""
 
     def __init__(self, handler, state, limits, short=lambda: False):
         self.handler, self.state, self.limits, self.short = handler, state, limits, short
@@ -108,7 +108,7 @@ class World:
         return report or self.run_out(c)
 
     def run_out(self, c):
-        """Drops the connection, since memory is wanting."""
+        """Drops the connection, since memory ran out."""
         self.drop(c)
         return NO_MEMORY
 
@@ -205,7 +205,7 @@ class World:
         return f"call {len(self.calls) - 1} id {k.client.call(kind, content)}"
 
     def feed_server(self, c, b):
-        """Returns how many of the bytes the server takes, and whether memory is wanting for the next ones."""
+        """Returns how many of the bytes the server takes, and whether memory runs out for the next ones."""
         k, moved = self.at(c), 0
         while moved < len(b) and k.server.takes():
             piece = b[moved:moved + reach(k.server.limit, k.server.held, b[moved:])]
@@ -415,8 +415,8 @@ class Run:
         if report == NO_MEMORY and touched:
             (c,) = touched
             k = self.world.at(c)
-            claim("where memory is wanting both ways are cut", k.up_cut and k.down_cut and OPEN not in (k.client.state, k.server.state))
-            claim("where memory is wanting no more changes", before[0] == after[0])
+            claim("where memory runs out both ways are cut", k.up_cut and k.down_cut and OPEN not in (k.client.state, k.server.state))
+            claim("where memory runs out no more changes", before[0] == after[0])
         elif report.startswith("refused"):
             claim("a refusal changes nothing", before == after)
         changed = {c for what, (c, was) in before[1].items() if after[1][what] != (c, was)}

@@ -193,7 +193,7 @@ fn a_read_without_memory_ends_for_want_of_it(rt: HostRuntime) {
 fn a_failed_read_writes_nothing(rt: HostRuntime) {
     for hex in [false, true] {
         assert!(rt; ends_unwritten(rt.alloc(), None, hex), "at {hex}");
-        // The code of a read that the system refused for want of memory.
+        // The code of a read that the system refused where memory runs out.
         assert!(rt; ends_unwritten(rt.alloc(), Some(12), hex), "at {hex}");
     }
 }

@@ -10,7 +10,7 @@ use wire_play_tests::kept::{SCRIPT, empty, ends_refused, is_played};
 /// Two documents: one of 5 bytes, and one whose canonical form has 27.
 const TWO: &str = "0500000000 19000000 04 7600 11000000 10 00 07000000 10 00 08000000 00 00";
 
-/// Returns whether the line of both forms is written, or none for want of memory, where nothing was written.
+/// Returns whether the line of both forms is written, or none where memory runs out, where nothing was written.
 fn writes(alloc: Global) -> Option<bool> {
     let mut writer = Counter::failing_at(0);
     match run_canon_within(alloc, 27, true, &mut TWO.as_bytes(), &mut writer) {
@@ -28,7 +28,7 @@ fn canonical_forms_are_written_whole_or_not_at_all(rt: HostRuntime) {
     assert!(rt; holds);
 }
 
-/// Returns true if `run_play` writes the whole text; or none for want of memory: where that is in an event, the line of its refusal
+/// Returns true if `run_play` writes the whole text; or none where memory runs out: where that is in an event, the line of its refusal
 /// is the last one then, and else nothing was passed on.
 fn plays(alloc: Global) -> Option<bool> {
     let mut writer = empty();

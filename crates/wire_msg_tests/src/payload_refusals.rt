@@ -46,7 +46,7 @@ fn has_len(payload: &PayloadBuf, len: u64) -> bool {
     payload.as_payload().msg_len() == len
 }
 
-/// Returns true if the payload of `BODY` is made, or refused for want of memory and made then.
+/// Returns true if the payload of `BODY` is made, or refused where memory runs out and made then.
 fn is_made(alloc: Global, body: RawDocument<'_>) -> bool {
     match PayloadBuf::new(alloc, body) {
         Ok(made) => has_len(&made, 40),
@@ -101,7 +101,7 @@ fn a_payload_that_is_copied_stays(rt: HostRuntime) {
     assert!(rt; stays(rt.alloc()));
 }
 
-/// Returns true if a sequence is begun; or is refused for want of memory, the payload is `before`, and the sequence is begun
+/// Returns true if a sequence is begun; or is refused where memory runs out, the payload is `before`, and the sequence is begun
 /// then.
 fn begins(changed: &mut PayloadBuf, before: &PayloadBuf) -> bool {
     match changed.begin_sequence("documents") {
@@ -136,7 +136,7 @@ fn begin_sequence_leaves_the_payload(rt: HostRuntime) {
     assert!(rt; leaves_at_begin(rt.alloc()));
 }
 
-/// Returns true if the document is added; or is refused for want of memory, the payload is `before`, and the document is added
+/// Returns true if the document is added; or is refused where memory runs out, the payload is `before`, and the document is added
 /// then.
 fn pushes(changed: &mut PayloadBuf, document: RawDocument<'_>, before: &PayloadBuf) -> bool {
     match changed.push_document(document) {
@@ -175,7 +175,7 @@ fn push_document_leaves_the_payload(rt: HostRuntime) {
     assert!(rt; leaves_at_push(rt.alloc(), document));
 }
 
-/// Returns true if the message is written behind two bytes; or is refused for want of memory, the bytes are still these two,
+/// Returns true if the message is written behind two bytes; or is refused where memory runs out, the bytes are still these two,
 /// and it is written then.
 fn is_written(out: &mut Vec<u8>, payload: Payload<'_>) -> bool {
     match write_msg(out, 2, 0, MsgFlags::NONE, payload, 55) {

@@ -1,4 +1,4 @@
-//! Messages written: rows that were worked out by hand from the manual, limits, want of memory,
+//! Messages written: rows that were worked out by hand from the manual, limits, memory that runs out,
 //! and payloads in bytes of their own.
 
 use crate::messages::{INSERT, LIMIT, PING};
@@ -96,7 +96,7 @@ fn is_too_large(out: &mut Vec<u8>, msg: RawMsg<'_>, limit: u32) -> bool {
         && out.as_slice() == b"\xaa\xbb".as_slice()
 }
 
-/// Returns true if the message is written behind two bytes, or refused for want of memory, and they stay.
+/// Returns true if the message is written behind two bytes, or refused where memory runs out, and they stay.
 fn is_written_behind(out: &mut Vec<u8>, msg: RawMsg<'_>, limit: u32, wanted: &[u8]) -> bool {
     match write_again(out, msg, limit) {
         Ok(()) => out.as_slice() == wanted,

@@ -135,8 +135,8 @@ abbrev pub last_replies :
     → LastSent does stops from to ms made gave part → List Message
 last_replies l = replies_to (last_id 1 l.early l.past) l.message l.entry.answers
 
--- From a state into a state the handler stopped at a request for want of memory, or it answered and
--- there was none for these replies, none of which is longer than the limit.
+-- From a state into a state the handler stopped at a request because memory ran out, or it answered
+-- and memory ran out for these replies, none of which is longer than the limit.
 abbrev pub WantedMemory : {H : Type 0} → Stops H → ℕ → H → Message → List Message
     → Option (List Content) → H → Type 0
 WantedMemory stops limit h m rs None h' = stops h (asked_by m) stop.OutOfMemory h'

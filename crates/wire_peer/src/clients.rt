@@ -200,8 +200,8 @@ impl Client {
     ///
     /// # Errors
     ///
-    /// `OutOfMemory` where the piece completes a good header and memory for the announced message
-    /// is wanting. Nothing changes then, and the piece may be fed again.
+    /// `OutOfMemory` where the piece completes a good header and memory runs out for the announced
+    /// message. Nothing changes then, and the piece may be fed again.
     pub fn feed(&mut self, piece: &[u8]) -> Result<usize, ReadRefusal>
         ensures fed { MayTake self.old → IfOk result (λ n. Takes self.old piece.now n self.new) }
         ensures none { (MayTake self.old → ⊥)

@@ -73,7 +73,7 @@ fn end_bytes(server: &mut Server) -> ServeEnd
 /// # Errors
 ///
 /// Why no request comes: the link ended, failed or has none now, what came is at fault, or memory
-/// for a message was wanting.
+/// ran out for a message.
 pub(crate) fn next_request<L: Link>(
     link: &mut L,
     inlet: &mut Inlet,

@@ -193,8 +193,8 @@ impl Server {
     ///
     /// # Errors
     ///
-    /// `OutOfMemory` where the piece completes a good header and memory for the announced message
-    /// is wanting. Nothing is taken then.
+    /// `OutOfMemory` where the piece completes a good header and memory runs out for the announced
+    /// message. Nothing is taken then.
     pub fn feed(&mut self, piece: &[u8]) -> Result<usize, ReadRefusal>
         ensures closed { self.old.state ≢ ServerState.Open
             → (result ≡ Ok 0) × (self.new ≡ self.old) }

@@ -149,7 +149,7 @@ fn a_refused_answer_is_not_appended(rt: HostRuntime) {
     assert!(rt; leaves_answers(rt.alloc(), Way::Moved));
 }
 
-/// Returns whether the handler gives these answers, or none where it stops for want of memory.
+/// Returns whether the handler gives these answers, or none where it stops where memory runs out.
 fn responds<H: Handler>(
     alloc: Global,
     handler: &mut H,
@@ -164,7 +164,7 @@ fn responds<H: Handler>(
     }
 }
 
-/// Returns true if the handler gives these answers, or stops for want of memory and gives them when it is asked again.
+/// Returns true if the handler gives these answers, or stops where memory runs out and gives them when it is asked again.
 fn responds_at_last<H: Handler>(
     alloc: Global,
     handler: &mut H,
@@ -229,7 +229,7 @@ const SECOND_FAILED: &[Noted<'_>] = &[ANSWERED, FAILED];
 struct Row<'a> {
     log_before: &'a [Noted<'a>],
     log_after: &'a [Noted<'a>],
-    /// The log after it where the handler stops for want of memory.
+    /// The log after it where the handler stops where memory runs out.
     log_stopped: &'a [Noted<'a>],
     /// Whether the handler answers it where memory is there.
     answers: bool,
@@ -281,7 +281,7 @@ fn end_of_ask(answers: bool) -> Result<(), AskRefusal> {
 }
 
 /// Asks a request, and asks it again where the handler wasn't asked, which has to change nothing. Where the handler stops for
-/// want of memory its entry has to stand.
+/// out of memory its entry has to stand.
 fn enters(logged: &mut Logged<Twice>, request: &Request<'_>, row: &Row<'_>) -> CallEnd {
     let came = logged.ask(5, request);
     if came == end_of_ask(row.answers) {
@@ -318,7 +318,7 @@ fn enters_one(alloc: Global, request: &Request<'_>) -> CallEnd {
     enters_all(&mut logged, request)
 }
 
-/// Returns true if the requests get their entries; or memory is wanting for one of them, and they get them at once then in another
+/// Returns true if the requests get their entries; or memory runs out for one of them, and they get them at once then in another
 /// log.
 fn leaves_the_log(alloc: Global) -> bool {
     match three(alloc) {
@@ -351,7 +351,7 @@ fn stands(logged: &Logged<Twice>, out: &ReplyBuf, rows: &[Noted<'_>], put_out: u
 }
 
 /// Asks a request for its replies, and asks it again where the handler wasn't asked, which has to change nothing. Where the
-/// handler stops for want of memory or the replies find none, the entry has to stand, and no byte of them.
+/// handler stops where memory runs out or the replies find none, the entry has to stand, and no byte of them.
 fn replies(
     logged: &mut Logged<Twice>,
     out: &mut ReplyBuf,
@@ -397,7 +397,7 @@ fn replies_one(alloc: Global, request: &Request<'_>) -> CallEnd {
     replies_all(&mut logged, &mut out, request)
 }
 
-/// Returns true if the requests get their replies; or memory is wanting for one of them, and they get them at once then from
+/// Returns true if the requests get their replies; or memory runs out for one of them, and they get them at once then from
 /// another log.
 fn leaves_the_replies(alloc: Global) -> bool {
     match three(alloc) {

@@ -12,7 +12,7 @@ pub(crate) enum CallEnd {
     Otherwise,
 }
 
-/// Returns what a call came to for which memory was wanting: nothing changed, and the same call came to its end then, if this
+/// Returns what a call came to for which memory ran out: nothing changed, and the same call came to its end then, if this
 /// is true.
 pub(crate) fn again(holds: bool) -> CallEnd {
     if holds {
@@ -22,7 +22,7 @@ pub(crate) fn again(holds: bool) -> CallEnd {
     }
 }
 
-/// Returns what a call came to whose want of memory left what it was to leave, if this is true.
+/// Returns what a call came to that ran out of memory and left what it was to leave, if this is true.
 pub(crate) fn to_an_end(holds: bool) -> CallEnd {
     if holds {
         CallEnd::ToAnEnd

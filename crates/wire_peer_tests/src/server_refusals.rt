@@ -42,7 +42,7 @@ fn server_again(alloc: Global) -> Option<Server> {
     }
 }
 
-/// Returns true if a server is made; or refused for want of memory, and made then.
+/// Returns true if a server is made; or refused where memory runs out, and made then.
 fn is_made(alloc: Global) -> bool {
     match server(alloc) {
         Ok(server) => stands(&server, &[], 0),
@@ -255,7 +255,7 @@ fn answers_of_one(alloc: Global) -> CallEnd {
     }
 }
 
-/// Returns true if the requests are answered; or memory is wanting for one of them, and another server answers them at once then.
+/// Returns true if the requests are answered; or memory runs out for one of them, and another server answers them at once then.
 fn answers_at_last(alloc: Global) -> bool {
     match answers_of_one(alloc) {
         CallEnd::AtOnce => true,

@@ -20,7 +20,7 @@ const REQUESTS: &[u8] =
 const REPLIES: &[u8; 66] =
     b"\x21\0\0\0\x01\0\0\0\x01\0\0\0\xdd\x07\0\0\0\0\0\0\0\x0c\0\0\0\x10a\0\x01\0\0\0\0\x21\0\0\0\x02\0\0\0\x02\0\0\0\xdd\x07\0\0\0\0\0\0\0\x0c\0\0\0\x10a\0\x02\0\0\0\0";
 
-/// A log as it may stand where memory was wanting, and how many bytes were sent then.
+/// A log as it may stand where memory ran out, and how many bytes were sent then.
 type Stopped<'a> = (&'a [Noted<'a>], usize);
 
 /// The logs of all requests, of the first one, and of none, whose replies were sent; and those whose last entry met the want, and
@@ -41,7 +41,7 @@ fn stands(entries: &[Entry], sent: &[u8], stopped: &Stopped<'_>) -> bool {
     is_log(entries, 1, log) && sent.len() == count && REPLIES.starts_with(sent)
 }
 
-/// Returns true if serving may have stopped so for want of memory.
+/// Returns true if serving may have stopped so where memory runs out.
 fn may_stop(entries: &[Entry], sent: &[u8]) -> bool {
     for row in &STOPPED {
         if stands(entries, sent, row) {
@@ -51,7 +51,7 @@ fn may_stop(entries: &[Entry], sent: &[u8]) -> bool {
     false
 }
 
-/// Returns whether all was answered; or none where memory was wanting, and the entries, or those before the last one, have their
+/// Returns whether all was answered; or none where memory ran out, and the entries, or those before the last one, have their
 /// replies.
 fn outcome(end: ServeEnd, entries: &[Entry], sent: &[u8]) -> Option<bool> {
     match end {
@@ -80,7 +80,7 @@ fn serves_requests(alloc: Global) -> Option<bool> {
     serves(alloc, &mut link)
 }
 
-/// Returns true if the requests are served; or memory is wanting, and they are when they come again.
+/// Returns true if the requests are served; or memory runs out, and they are when they come again.
 fn serves_at_last(alloc: Global) -> bool {
     match serves_requests(alloc) {
         Some(holds) => holds,
@@ -89,6 +89,6 @@ fn serves_at_last(alloc: Global) -> bool {
 }
 
 #[test]
-fn serving_ends_where_memory_is_wanting(rt: HostRuntime) {
+fn serving_ends_where_memory_runs_out(rt: HostRuntime) {
     assert!(rt; serves_at_last(rt.alloc()));
 }

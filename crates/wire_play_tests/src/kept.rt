@@ -90,7 +90,7 @@ impl Kept {
     }
 }
 
-/// Returns true if the script was played; none if it was up to a server that closed for want of memory.
+/// Returns true if the script was played; none if it was up to a server that closed where memory runs out.
 pub fn is_played(text: &[u8]) -> Option<bool> {
     if text == STOPPED || text == UNSENT {
         None

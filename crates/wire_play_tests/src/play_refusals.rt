@@ -5,7 +5,7 @@ use crate::kept::{SCRIPT, WHOLE, empty, ends_refused, is_played};
 use std::alloc::Global;
 use wire_play::{PlayStop, play};
 
-/// Returns true if `play` writes the whole text; or none for want of memory: where that is in an event, the line of its refusal is
+/// Returns true if `play` writes the whole text; or none where memory runs out: where that is in an event, the line of its refusal is
 /// the last one then, and else the lines of the events before stand.
 fn plays(alloc: Global) -> Option<bool> {
     let mut writer = empty();

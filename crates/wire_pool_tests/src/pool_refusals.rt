@@ -20,7 +20,7 @@ fn is_made(alloc: Global) -> bool {
     }
 }
 
-/// Returns true if a pool is made, and lends one; or is refused for want of memory, and made then.
+/// Returns true if a pool is made, and lends one; or is refused where memory runs out, and made then.
 fn is_made_at_last(alloc: Global) -> bool {
     match Pool::new(alloc, 1) {
         Ok(mut pool) => lends_one(&mut pool),

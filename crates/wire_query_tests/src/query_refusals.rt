@@ -54,7 +54,7 @@ fn a_refused_message_adds_nothing(rt: HostRuntime) {
     }
 }
 
-/// Returns true if the reply is appended, or nothing is for want of memory and then the reply.
+/// Returns true if the reply is appended, or nothing is where memory runs out and then the reply.
 fn is_answered(document: RawDocument<'_>, out: &mut Vec<u8>) -> bool {
     let head = ReplyHead::of_command(7, 3);
     match write_reply(out, head, document, 53) {

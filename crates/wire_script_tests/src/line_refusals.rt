@@ -6,7 +6,7 @@ use std::alloc::Global;
 use wire_peer::CallKind;
 use wire_script::{LineError, parse_line};
 
-/// Returns true if the line is read so; or isn't for want of memory, and is then.
+/// Returns true if the line is read so; or isn't where memory runs out, and is then.
 fn reads_at_last(alloc: Global, line: &[u8], reading: Reading<'_>) -> bool {
     match parse_line(alloc, line) {
         Ok(line) => is_reading(&line, reading),

@@ -180,8 +180,8 @@ fn end_of_step(world: &mut World<Echo>, event: &Event<'_>, end: End<'_>) -> Step
     }
 }
 
-/// Returns a world in which a request over connection 2 waits, and these events have happened then, or `None` where memory is
-/// wanting before.
+/// Returns a world in which a request over connection 2 waits, and these events have happened then, or `None` where memory runs
+/// out before.
 fn prepared(alloc: Global, one: Payload<'_>, events: &[Event<'_>]) -> Option<World<Echo>> {
     let Ok(mut world) = World::new(alloc, Echo, ample(1)) else {
         return None;
@@ -211,22 +211,22 @@ struct Trial<'a, 'c, 'e> {
     next: u64,
 }
 
-/// Returns none, which tells that memory was wanting, if all stands as it is to then.
-fn wanting(holds: bool) -> Option<bool> {
+/// Returns none, which tells that memory ran out, if all stands as it is to then.
+fn out_of_memory(holds: bool) -> Option<bool> {
     if holds { None } else { Some(false) }
 }
 
-/// Returns true if the event comes to its end; or none if memory is wanting for it. Its connection is cut then, there is no other
+/// Returns true if the event comes to its end; or none if memory runs out for it. Its connection is cut then, there is no other
 /// call or entry, and all else goes on; or its server closed, and its entry stands.
 fn stands(world: &mut World<Echo>, one: Payload<'_>, trial: &Trial<'_, '_, '_>) -> Option<bool> {
     match end_of_step(world, &trial.event, trial.end) {
         StepEnd::ToItsEnd => Some(true),
-        StepEnd::ToNothing => wanting(
+        StepEnd::ToNothing => out_of_memory(
             holds(world, trial.going.first)
                 && all_are_cut(world, trial.cut)
                 && goes_on_so(world, one, trial.next, &trial.going),
         ),
-        StepEnd::ToAClose => wanting(goes_on_closed(world, one)),
+        StepEnd::ToAClose => out_of_memory(goes_on_closed(world, one)),
         StepEnd::Otherwise => Some(false),
     }
 }
@@ -237,7 +237,7 @@ fn tries(alloc: Global, one: Payload<'_>, trial: &Trial<'_, '_, '_>) -> Option<b
     stands(&mut world, one, trial)
 }
 
-/// Returns true if the event comes to its end; or memory is wanting, and it comes to its end in another world.
+/// Returns true if the event comes to its end; or memory runs out, and it comes to its end in another world.
 fn tries_at_last(alloc: Global, one: Payload<'_>, trial: &Trial<'_, '_, '_>) -> bool {
     match tries(alloc, one, trial) {
         Some(holds) => holds,
@@ -245,7 +245,7 @@ fn tries_at_last(alloc: Global, one: Payload<'_>, trial: &Trial<'_, '_, '_>) -> 
     }
 }
 
-/// Returns true if an event of connection 1 comes to its end, or cuts its own connection alone where memory is wanting.
+/// Returns true if an event of connection 1 comes to its end, or cuts its own connection alone where memory runs out.
 fn cuts_connection_1<'a>(
     alloc: Global,
     one: Payload<'a>,
@@ -315,13 +315,13 @@ fn happens_again(
         && goes_on_so(world, one, 4, &ALONE)
 }
 
-/// Returns true if the event, which makes a connection, comes to its end; or none where memory is wanting for it, which has to
+/// Returns true if the event, which makes a connection, comes to its end; or none where memory runs out for it, which has to
 /// change nothing, or before it.
 fn happens(alloc: Global, one: Payload<'_>, event: &Event<'_>, end: End<'_>) -> Option<bool> {
     let mut world = prepared(alloc, one, &[])?;
     match end_of_step(&mut world, event, end) {
         StepEnd::ToItsEnd => Some(true),
-        StepEnd::ToNothing => wanting(happens_again(&mut world, one, event, end)),
+        StepEnd::ToNothing => out_of_memory(happens_again(&mut world, one, event, end)),
         _ => Some(false),
     }
 }
@@ -478,7 +478,7 @@ fn setup_refusal(alloc: Global) -> Option<SetupRefusal> {
     }
 }
 
-/// Returns true if a world is made; or refused for want of memory, and made then.
+/// Returns true if a world is made; or refused where memory runs out, and made then.
 fn is_made(alloc: Global) -> bool {
     match setup_refusal(alloc) {
         None => true,
@@ -498,10 +498,10 @@ const LOST_2: Standing<'_> = (2, CallState::Lost, &[]);
 
 const FAILED_2: Logging<'_> = (2, None, ONE);
 
-/// How a run stands to which no memory was wanting: a call over each connection is complete.
+/// How a run stands to which no memory ran out: a call over each connection is complete.
 const RUN: Holding<'_> = (&[DONE_1, DONE], &[OF_1, OF_2]);
 
-/// How it stands where memory was wanting for one event: one call is complete. The other one wasn't made, was lost before its
+/// How it stands where memory ran out for one event: one call is complete. The other one wasn't made, was lost before its
 /// request had an entry or behind it, or is pending, since the server closed when its entry stood.
 const BROKEN_RUNS: [Holding<'_>; 10] = [
     (&[DONE_1], &[OF_1]),
@@ -526,17 +526,17 @@ fn is_broken(world: &World<Echo>) -> bool {
     false
 }
 
-/// Returns true if both calls of a run are complete; or none if memory was wanting for one of its events, and the others came to
+/// Returns true if both calls of a run are complete; or none if memory ran out for one of its events, and the others came to
 /// what they come to behind it.
 fn is_run(world: &World<Echo>) -> Option<bool> {
     if holds(world, RUN) {
         Some(true)
     } else {
-        wanting(is_broken(world))
+        out_of_memory(is_broken(world))
     }
 }
 
-/// Returns how the run of two calls and their replies stands, or none where memory was wanting.
+/// Returns how the run of two calls and their replies stands, or none where memory ran out.
 fn runs(alloc: Global, one: Payload<'_>) -> Option<bool> {
     let events = [
         Event::Open,
