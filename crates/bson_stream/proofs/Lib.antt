@@ -1,0 +1,4 @@
+pub mod Standings
+pub mod Holdings
+pub mod Gatherings
+pub mod Lemmas

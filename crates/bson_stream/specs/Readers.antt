@@ -1,0 +1,73 @@
+-- What a reader of documents holds, and its state.
+use Rattle.std.specs.Prelude.{◌≡◌, ℕ, ◌+◌, ◌*◌, ◌^◌, ◌<◌, ◌≤◌, ◌⊎◌, List, [], ◌++◌, length}
+use Rattle.std.specs.Prelude.{Bool, false, max, take}
+use Rattle.bson_elem.specs.{Spells, Tree}
+use Rattle.bson_raw.specs.{IsSpelled, is_plain}
+use Rattle.bson_stream.specs.declared.reader_state.Fed.{Fed}
+use Rattle.bson_stream.specs.declared.reader_state.ReaderState.{ReaderState}
+use Rattle.bson_stream.specs.declared.reader_state.ReaderState.TheVariants.{Need, Ready, Bad}
+use Rattle.bson_stream.specs.declared.reader_state.ReadRefusal.{ReadRefusal}
+use Rattle.bson_stream.specs.declared.reader_state.ReadRefusal.TheVariants.{OutOfMemory}
+use Rattle.bson_stream.specs.declared.reader_state.ReadRefusal.TheVariants.{TooFar, TooLong}
+use Rattle.bson_stream.specs.Standing.{IsBad, IsLength, IsOpen, announced}
+
+-- what a caller sees of a reader: its limit, the number of bytes of the documents before the
+-- current one, the bytes of the current one so far, and how many there is memory for
+pub record Reading : Type 0 where
+  pub limit : ℕ
+  pub start : ℕ
+  pub held : List ℕ
+  pub room : ℕ
+
+-- this says whether the document of the bytes is in canonical form
+abbrev pub TellsForm : List ℕ → Bool → Type 0
+TellsForm bytes canonical = (t : Tree) → Spells t bytes → canonical ≡ is_plain false 0 t
+
+-- the state of a reader that holds these bytes, which begin at this offset
+abbrev pub StandsAt : ℕ → List ℕ → ReaderState → Type 0
+StandsAt start held Need = IsOpen held
+StandsAt start held (Ready canonical) = IsSpelled held × TellsForm held canonical
+StandsAt start held (Bad f) = IsBad start held f
+
+-- no more bytes are held than a length has, or than a good one within the limit announces
+abbrev pub HoldsNoMore : ℕ → List ℕ → Type 0
+HoldsNoMore limit held =
+    (length held ≤ 4)
+    ⊎ (IsLength (announced held) × (announced held ≤ limit) × (length held ≤ announced held))
+
+-- A reader was fed the piece, of which it took the front. The memory is at most twice what is held,
+-- or what it was before.
+pub record Feeds (old : Reading) (piece : List ℕ) (new : Reading) (fed : Fed) : Type 0 where
+  pub taken : fed.taken ≤ length piece
+  pub limit : new.limit ≡ old.limit
+  pub start : new.start ≡ old.start
+  pub held : new.held ≡ old.held ++ take fed.taken piece
+  pub state : StandsAt new.start new.held fed.state
+  pub no_more : HoldsNoMore new.limit new.held
+  pub all : fed.state ≡ Need → fed.taken ≡ length piece
+  pub room : new.room ≤ max old.room (2 * length new.held)
+
+-- a good length above the limit is in front
+pub record AnnouncesMore (limit : ℕ) (bytes : List ℕ) : Type 0 where
+  pub complete : 4 ≤ length bytes
+  pub good : IsLength (announced bytes)
+  pub more : limit < announced bytes
+
+-- why a reader took nothing of the piece
+abbrev pub IsRefused : Reading → List ℕ → ReadRefusal → Type 0
+IsRefused old piece OutOfMemory = old.room < length old.held + length piece
+IsRefused old piece TooLong = AnnouncesMore old.limit (old.held ++ piece)
+IsRefused old piece TooFar = 2 ^ 64 ≤ old.start + length old.held + length piece
+
+-- A reader that held nothing passed the document in front of the piece, behind which is this rest.
+pub record Passes (old : Reading) (piece document rest : List ℕ) (new : Reading) : Type 0 where
+  pub none_held : old.held ≡ []
+  pub parts : piece ≡ document ++ rest
+  pub spelled : IsSpelled document
+  pub within : length document ≤ old.limit
+  pub behind : new ≡ record {
+    limit = old.limit;
+    start = old.start + length document;
+    held = [];
+    room = old.room;
+  }

@@ -1,0 +1,22 @@
+//! Cuts documents out of bytes that come in pieces.
+//!
+//! A `DocumentReader` holds the document that isn't whole yet, and no more. It takes bytes from the
+//! front of a piece (`feed`), lends the document that became whole (`document`), and lets go of it
+//! (`release`). A document that is whole in a piece is lent from there (`pass`). Where no document
+//! begins, the reader tells the first fault at its offset in the stream, as soon as no more bytes
+//! can change it. However the bytes are cut, they give the same documents and the same fault
+//! (`read_pieces`).
+//!
+//! Stands on bson_raw. engines stands on it. Read first: `reader`, and then `specs/Readers.antt`.
+#![tactic(auto)]
+
+mod document_buf;
+mod gather;
+mod pieces;
+mod reader;
+mod reader_state;
+
+pub use document_buf::DocumentBuf;
+pub use pieces::{PiecesRead, read_pieces};
+pub use reader::DocumentReader;
+pub use reader_state::{Fed, ReadRefusal, ReaderState};

@@ -1,0 +1,96 @@
+//! Tests of what stands after a refused allocation. They pass with each of their allocations
+//! refused in turn. No other one is refused then, so what is asked for again is granted.
+
+use crate::streams::{EMPTY, LIMIT, OTHERS, TRUTH};
+use bson_raw::RawDocument;
+use bson_stream::{DocumentBuf, DocumentReader, Fed, ReadRefusal, ReaderState, read_pieces};
+use std::alloc::Global;
+
+/// Returns true if the reader takes all of the piece and needs more, or is refused memory and is as
+/// before; it takes the piece then, when it is fed again.
+fn is_fed(reader: &mut DocumentReader, piece: &[u8], held: usize, room: usize) -> bool {
+    let fed = Fed {
+        taken: piece.len(),
+        state: ReaderState::Need,
+    };
+    match reader.feed(piece) {
+        Ok(first) => first == fed,
+        Err(refusal) => {
+            refusal == ReadRefusal::OutOfMemory
+                && reader.held() == held
+                && reader.room() == room
+                && reader.feed(piece) == Ok(fed)
+        }
+    }
+}
+
+/// Returns true if a reader takes three pieces of one document, the memory growing with each.
+fn takes_three(alloc: Global) -> bool {
+    let mut reader = DocumentReader::new(alloc, LIMIT);
+    let first = is_fed(&mut reader, b"\xff\0\0", 0, 0);
+    let room = reader.room();
+    let second = is_fed(&mut reader, b"\0\x08a\0\x01\x08b\0\x01", 3, room);
+    let room = reader.room();
+    first && second && is_fed(&mut reader, &[0x0a; 200], 12, room)
+}
+
+#[test]
+fn a_reader_of_documents_can_be_fed_again(rt: HostRuntime) {
+    assert!(rt; takes_three(rt.alloc()));
+}
+
+/// Returns true if these are three documents, the last one of 22 bytes.
+fn are_three(documents: &[DocumentBuf]) -> bool {
+    match documents {
+        [_, _, last] => last.as_document().as_bytes().len() == 22,
+        _ => false,
+    }
+}
+
+/// Returns true if three documents are read of the pieces.
+fn reads_again(alloc: Global, pieces: &[&[u8]]) -> bool {
+    match read_pieces(alloc, LIMIT, pieces) {
+        Ok(read) => are_three(&read.documents),
+        Err(_) => false,
+    }
+}
+
+/// Returns true if three documents are read, or memory is refused and they are read the next time.
+fn reads_at_last(alloc: Global) -> bool {
+    let pieces: [&[u8]; 2] = [EMPTY, OTHERS];
+    match read_pieces(alloc, LIMIT, pieces.as_slice()) {
+        Ok(read) => are_three(&read.documents),
+        Err(refusal) => {
+            refusal == ReadRefusal::OutOfMemory && reads_again(alloc, pieces.as_slice())
+        }
+    }
+}
+
+#[test]
+fn pieces_of_documents_can_be_read_again(rt: HostRuntime) {
+    assert!(rt; reads_at_last(rt.alloc()));
+}
+
+/// Returns true if the copy lends these bytes.
+fn copies(copy: &DocumentBuf, bytes: &[u8]) -> bool {
+    copy.as_document().as_bytes() == bytes
+}
+
+/// Returns true if the document is copied, or memory is refused and it is copied the next time.
+fn is_copied(alloc: Global, document: RawDocument<'_>) -> bool {
+    match DocumentBuf::copy_of(alloc, document) {
+        Ok(copy) => copies(&copy, document.as_bytes()),
+        Err(_) => match DocumentBuf::copy_of(alloc, document) {
+            Ok(copy) => copies(&copy, document.as_bytes()),
+            Err(_) => false,
+        },
+    }
+}
+
+#[test]
+fn a_document_of_a_stream_can_be_copied_again(rt: HostRuntime) {
+    match RawDocument::from_bytes(TRUTH) {
+        Ok(document) => { assert!(rt; is_copied(rt.alloc(), document)) }
+        Err(_) => { assert!(rt; false) }
+    }
+}
