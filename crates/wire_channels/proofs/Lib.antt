@@ -22,3 +22,10 @@ pub mod Asking
 pub mod Beside
 pub mod Once
 pub mod OwnEntries
+pub mod Wider
+pub mod WiderServer
+pub mod WiderClient
+pub mod WiderActs
+pub mod WiderServes
+pub mod Limits
+pub mod LimitsKnow

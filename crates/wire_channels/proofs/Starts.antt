@@ -26,7 +26,7 @@ module _ (H : Type 0) (does : Does H) (stops : Stops H) (limit : ℕ) where
   many_pairs made zero = refl
   many_pairs made (suc n) = length-push (pairs_of made n) _ ∙ ap suc (many_pairs made n)
 
-  many_servers : (made : ℕ → Made) (n : ℕ) → length (first_servers limit made n) ≡ n
+  pub many_servers : (made : ℕ → Made) (n : ℕ) → length (first_servers limit made n) ≡ n
   many_servers made zero = refl
   many_servers made (suc n) =
       length-push (first_servers limit made n) _ ∙ ap suc (many_servers made n)

@@ -7,6 +7,7 @@ pub mod Alone
 pub mod Witness
 pub mod Work
 pub mod Strangers
+pub mod Limits
 -- the words that clauses of other crates cite
 pub use Rattle.wire_channels.specs.Channels.{Pair, System, Trace, Way, no_pairs, pair_at}
 pub use Rattle.wire_channels.specs.Owners.{AreMade, ClientAct, ClientDoes, ClientEnd, ClientRun}
@@ -23,3 +24,4 @@ pub use Rattle.wire_channels.specs.Witness.{GetDone}
 pub use Rattle.wire_channels.specs.Work.{CanGoOn, Falls, IsLive, IsWork}
 pub use Rattle.wire_channels.specs.Strangers.{OwnEntries, PairsKnow, Strayed, deeds_beside}
 pub use Rattle.wire_channels.specs.Strangers.{log_beside}
+pub use Rattle.wire_channels.specs.Limits.{servers_with_limits}

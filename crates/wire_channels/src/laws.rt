@@ -13,6 +13,7 @@ ghost use Rattle.wire_channels.specs.Owners.{AreMade, ClientAct, ClientEnd, Clie
 ghost use Rattle.wire_channels.specs.Owners.{ServerEnds, bytes_sent, bytes_taken, bytes_taken_up};
 ghost use Rattle.wire_channels.specs.Owners.{first_end, first_servers_of};
 ghost use Rattle.wire_channels.specs.Knowing.{OwnersKnow};
+ghost use Rattle.wire_channels.specs.Limits.{servers_with_limits};
 ghost use Rattle.wire_channels.specs.Seen.{Channelled, IsQuietPair};
 ghost use Rattle.wire_channels.specs.Strangers.{OwnEntries, PairsKnow, deeds_beside};
 ghost use Rattle.wire_channels.specs.Witness.{GetDone};
@@ -142,4 +143,18 @@ pub fn servers_hold_alone<H: Handler>()
         → ServersRun H.does H.stops (first_servers_of limit made k first) deeds servers
         → IsBytes (bytes_taken_up (server_acts_at c deeds))
         → OwnEntries limit c (bytes_taken_up (server_acts_at c deeds)) servers.log }
+{}
+
+/// Proves that the ends of a connection may be told their limits apart, each any one in its range:
+/// what holds of ends with one limit holds of these. What is lost is that an end stays open: it
+/// closes where a message is too long for it.
+pub fn limits_may_differ<H: Handler>()
+    ensures { (client_limit server_limit : ℕ → ℕ) (k : ℕ) (first : H) (made : ℕ → Made)
+        (deeds : List Deed) (ends : ℕ → ClientEnd) (servers : ServerEnds H)
+        → ((c : ℕ) → IsLimit (client_limit c)) → ((c : ℕ) → IsLimit (server_limit c))
+        → AreMade made
+        → ((c : ℕ) → ClientRun c (first_end (client_limit c) made c) (acts_at c deeds) (ends c))
+        → ServersRun H.does H.stops (servers_with_limits server_limit made k first) deeds servers
+        → Arrive (λ _. []) (λ _. []) deeds
+        → OwnersKnow H.does H.stops k first deeds ends servers }
 {}
