@@ -42,8 +42,8 @@ pub use Rattle.wire_peer.specs.Counting.{numbers, wanted}
 pub use Rattle.wire_peer.specs.FreeIds.{IsFirstFree, id_following, id_past, max_id}
 pub use Rattle.wire_peer.specs.LentReplies.{ready_of}
 pub use Rattle.wire_peer.specs.Limits.{IsLimit, IsWindow}
-pub use Rattle.wire_peer.specs.Logs.{AskStep, Does, LogEntry, LogStep, RunOf, Stops, entered}
-pub use Rattle.wire_peer.specs.Logs.{entry_of, log_of, outcome_of}
+pub use Rattle.wire_peer.specs.Logs.{AskStep, Does, IsGrown, LogEntry, LogStep, RunOf, Stops}
+pub use Rattle.wire_peer.specs.Logs.{entered, entry_of, log_of, outcome_of}
 pub use Rattle.wire_peer.specs.Replying.{PushStep, ReplyStep}
 pub use Rattle.wire_peer.specs.Requesting.{IsAccepted, IsFull, IsNextCall, IsRefused, RequestState}
 pub use Rattle.wire_peer.specs.Requesting.{after_call, awaiting, number_after}

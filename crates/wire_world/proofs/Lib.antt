@@ -11,6 +11,7 @@ pub mod Moved
 pub mod Numbered
 pub mod Parts
 pub mod Pooled
+pub mod FairRooms
 pub mod RecordLaws
 pub mod Running
 pub mod StayParts

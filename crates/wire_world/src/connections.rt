@@ -8,6 +8,7 @@ ghost use Rattle.wire_model.specs.{AreGood, answer_reason, cut_both, cut_down, c
 ghost use Rattle.wire_model.specs.{is_cut_for, is_empty, is_healthy, new_conn, new_raw_conn};
 ghost use Rattle.wire_model.specs.{restarted};
 
+use crate::rooms::make_room;
 use std::alloc::{AllocError, Global};
 use std::marker::Model;
 use wire_model::{Needs, WorldLimits, WorldRefusal};
@@ -31,14 +32,19 @@ pub(crate) struct Connection {
 }
 
 impl Model for Connection {
+    ghost use Rattle.std.specs.Vec.{vec_capacity, vec_len};
     ghost use Rattle.wire_model.specs.{Conn};
     ghost use Rattle.wire_world.specs.Connections.{IsReleased, conn_of};
+    ghost use Rattle.wire_world.specs.Rooms.{IsFair};
 
     ghost Value = { Conn };
 
     ghost view = { λ s. conn_of s.client s.server s.calls.items s.up_cut s.down_cut };
 
-    ghost invariant = { λ s. record { released : IsReleased s.client } };
+    ghost invariant = { λ s. record {
+      released : IsReleased s.client;
+      room : IsFair (vec_len s.calls) (vec_capacity s.calls);
+    } };
 }
 
 impl Connection {
@@ -207,7 +213,7 @@ impl Connection {
             → IsCallRefusal self.old.client kind (content_of payload.entry) e) }
         ensures unchanged { OnErr result (self.new ≡ self.old) }
     {
-        if self.calls.try_reserve(1).is_err() {
+        if make_room(&mut self.calls).is_err() {
             return Err(CallRefusal::OutOfMemory);
         }
         let Some(client) = &mut self.client else {

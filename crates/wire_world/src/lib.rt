@@ -13,6 +13,7 @@ mod connections;
 mod lists;
 mod moving;
 mod records;
+mod rooms;
 mod worlds;
 
 pub use records::{CallRecord, CallState};

@@ -2,9 +2,11 @@
 
 ghost use Rattle.std.specs.Prelude.{◌≡◌, IfOk, OnErr, OnOk};
 ghost use Rattle.wire_model.specs.{asked_as, given_record, lost_record, new_record};
-ghost use Rattle.wire_peer.specs.{content_of};
+ghost use Rattle.std.specs.Vec.{vec_capacity, vec_len};
+ghost use Rattle.wire_peer.specs.{IsGrown, content_of};
 ghost use Rattle.wire_world.specs.Records.{record_of};
 
+use crate::rooms::make_room;
 use std::alloc::{AllocError, Global};
 use wire_msg::{Payload, PayloadBuf};
 use wire_peer::CallKind;
@@ -72,8 +74,10 @@ impl CallRecord {
         ensures given { OnOk result
             (record_of self.new ≡ given_record (record_of self.old) (content_of part.entry) last) }
         ensures unchanged { OnErr result (record_of self.new ≡ record_of self.old) }
+        ensures room { IsGrown (vec_len self.old.parts) (vec_capacity self.old.parts)
+            (vec_capacity self.new.parts) }
     {
-        self.parts.try_reserve(1)?;
+        make_room(&mut self.parts)?;
         let alloc = *self.parts.allocator();
         let part = part.to_buf(alloc)?;
         self.parts.push_reserved(part);

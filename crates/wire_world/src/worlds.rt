@@ -17,6 +17,7 @@ use crate::connections::Connection;
 use crate::lists::{connection_at, cut_all, cut_at, restart_all, settle};
 use crate::moving::closed_now;
 use crate::records::CallRecord;
+use crate::rooms::make_room;
 use std::alloc::{AllocError, Global};
 use std::marker::Model;
 use wire_model::{Event, Report, SetupRefusal, WorldLimits, WorldRefusal};
@@ -26,7 +27,8 @@ use wire_peer::{
 };
 use wire_pool::{CheckIn, CheckOut, Pool, PoolRefusal};
 
-/// A world: a pool, its connections, the records of the calls, and a handler with its log.
+/// A world: a pool, its connections, the records of the calls, and a handler with its log. Its lists
+/// have at most twice the room that they need, or room for four more.
 ///
 /// A contract sees it as the record `WorldSeen`.
 #[derive(Drop)]
@@ -41,7 +43,9 @@ pub struct World<H> {
 impl<H> Model for World<H> {
     ghost use Rattle.std.specs.Prelude.{map};
     ghost use Rattle.wire_peer.specs.{log_of};
+    ghost use Rattle.std.specs.Vec.{vec_capacity, vec_len};
     ghost use Rattle.wire_world.specs.Records.{record_of};
+    ghost use Rattle.wire_world.specs.Rooms.{IsFair};
     ghost use Rattle.wire_world.specs.Worlds.{AreParts, WorldSeen};
 
     ghost Value = { WorldSeen H };
@@ -62,8 +66,11 @@ impl<H> Model for World<H> {
       };
     } };
 
-    ghost invariant = { λ w. AreParts w.limits w.pool w.connections.items
-        (map record_of w.calls.items) };
+    ghost invariant = { λ w. record {
+      parts : AreParts w.limits w.pool w.connections.items (map record_of w.calls.items);
+      rooms : IsFair (vec_len w.connections) (vec_capacity w.connections)
+          × IsFair (vec_len w.calls) (vec_capacity w.calls);
+    } };
 }
 
 /// Returns why no world is made with these limits, if none is. The number of connections is the
@@ -277,9 +284,10 @@ impl<H: Handler> World<H> {
                 let Ok(opened) = Connection::new(alloc, self.limits, connection) else {
                     return Err(WorldRefusal::OutOfMemory);
                 };
-                if self.connections.push(opened).is_err() {
+                if make_room(&mut self.connections).is_err() {
                     return Err(WorldRefusal::OutOfMemory);
                 }
+                self.connections.push_reserved(opened);
                 let _ = self.pool.check_out();
                 Ok(Report::Opened {
                     connection,
@@ -308,9 +316,10 @@ impl<H: Handler> World<H> {
         let Ok(connection) = Connection::new_raw(alloc, self.limits, number) else {
             return Err(WorldRefusal::OutOfMemory);
         };
-        if self.connections.push(connection).is_err() {
+        if make_room(&mut self.connections).is_err() {
             return Err(WorldRefusal::OutOfMemory);
         }
+        self.connections.push_reserved(connection);
         let _ = self.pool.draw();
         Ok(Report::RawOpened(number))
     }
@@ -338,7 +347,7 @@ impl<H: Handler> World<H> {
         let Ok(record) = CallRecord::new(alloc, number, kind, payload) else {
             return Err(CallRefusal::OutOfMemory);
         };
-        if self.calls.try_reserve(1).is_err() {
+        if make_room(&mut self.calls).is_err() {
             return Err(CallRefusal::OutOfMemory);
         }
         let connection = &mut self.connections[(number - 1) as usize];

@@ -5,8 +5,8 @@ use Rattle.wire_world.proofs.records.CallRecord.give.Goals as goal
 
 pub returns-then-last-clause-given : goal.returns-then-last-clause-given
 returns-then-last-clause-given c =
-    rw (c.push_reserved.ensures.items, c.in_ok-try_reserve.ensures.items, contents_push c.args.self.now.parts.items c.in_ok-part.part, copied_content c.args.part c.in_ok-part.part c.in_ok-part.ensures, c.if-last.true) refl
+    rw (c.push_reserved.ensures.items, c.in_ok-make_room.ensures.items, contents_push c.args.self.now.parts.items c.in_ok-part.part, copied_content c.args.part c.in_ok-part.part c.in_ok-part.ensures, c.if-last.true) refl
 
 pub returns-else-last-clause-given : goal.returns-else-last-clause-given
 returns-else-last-clause-given c =
-    rw (c.push_reserved.ensures.items, c.in_ok-try_reserve.ensures.items, contents_push c.args.self.now.parts.items c.in_ok-part.part, copied_content c.args.part c.in_ok-part.part c.in_ok-part.ensures, c.if-last.false) refl
+    rw (c.push_reserved.ensures.items, c.in_ok-make_room.ensures.items, contents_push c.args.self.now.parts.items c.in_ok-part.part, copied_content c.args.part c.in_ok-part.part c.in_ok-part.ensures, c.if-last.false) refl

@@ -8,16 +8,20 @@ use Rattle.wire_world.proofs.StayParts.{parts_placed}
 use Rattle.wire_world.proofs.worlds.World.answer.Goals as goal
 
 pub invariant_of-self : goal.invariant_of-self
-invariant_of-self g c =
-    let k = c.index_mut-connection.result.now in
-    let at : conn_at c.self.inside.connections.items c.args.number ≡ Some k = read_by (events.Answer c.args.number c.args.k) c.args.number k c.self.view_is refl c.requires c.index_mut-connection.ensures.value in
-    parts_placed c.self.inside.limits c.self.inside.pool c.self.inside.connections.items _ c.args.number k c.answer.new.self at (ap (λ (z : Conn). is_closed z.client.state) c.answer.ensures.others) c.self.invariant
+invariant_of-self g c = record {
+  parts = let k = c.index_mut-connection.result.now in
+      let at : conn_at c.self.inside.connections.items c.args.number ≡ Some k = read_by (events.Answer c.args.number c.args.k) c.args.number k c.self.view_is refl c.requires c.index_mut-connection.ensures.value in
+      parts_placed c.self.inside.limits c.self.inside.pool c.self.inside.connections.items _ c.args.number k c.answer.new.self at (ap (λ (z : Conn). is_closed z.client.state) c.answer.ensures.others) c.self.invariant.parts;
+  rooms = c.self.invariant.rooms;
+}
 
 pub invariant_of-self-in-Err-NowClosed : goal.invariant_of-self-in-Err-NowClosed
-invariant_of-self-in-Err-NowClosed g c =
-    let k = c.index_mut-connection.result.now in
-    let at : conn_at c.self.inside.connections.items c.args.number ≡ Some k = read_by (events.Answer c.args.number c.args.k) c.args.number k c.self.view_is refl c.requires c.index_mut-connection.ensures.value in
-    parts_placed c.self.inside.limits c.self.inside.pool c.self.inside.connections.items _ c.args.number k c.answer.new.self at (ap (λ (z : Conn). is_closed z.client.state) c.answer.ensures.others) c.self.invariant
+invariant_of-self-in-Err-NowClosed g c = record {
+  parts = let k = c.index_mut-connection.result.now in
+      let at : conn_at c.self.inside.connections.items c.args.number ≡ Some k = read_by (events.Answer c.args.number c.args.k) c.args.number k c.self.view_is refl c.requires c.index_mut-connection.ensures.value in
+      parts_placed c.self.inside.limits c.self.inside.pool c.self.inside.connections.items _ c.args.number k c.answer.new.self at (ap (λ (z : Conn). is_closed z.client.state) c.answer.ensures.others) c.self.invariant.parts;
+  rooms = c.self.invariant.rooms;
+}
 
 pub unreachable-requires : goal.unreachable-requires
 unreachable-requires g c =

@@ -3,6 +3,9 @@ use Rattle.wire_world.proofs.Parts.{length-written, settling_parts}
 use Rattle.wire_world.proofs.worlds.World.drop_connection.Goals as goal
 
 pub invariant_of-self : goal.invariant_of-self
-invariant_of-self g c = settling_parts _ c.self.inside.pool c.self.inside.pool c.self.inside.connections.items _ c.deref.result.now _ c.self.inside.calls.items c.deref_mut-2.result.now c.settle.new.calls c.self.inside.calls.items
-    c.self.invariant (refl, refl) (length-written _ c.self.inside.connections.items _ c.cut_at.new.connections c.self.inside.connections.items c.deref_mut.ensures.value c.deref_mut.ensures.len c.cut_at.auto.connections)
-    c.deref.ensures.value c.deref_mut-2.ensures.value c.deref_mut-2.ensures.len c.settle.auto.calls c.settle.ensures
+invariant_of-self g c = record {
+  parts = settling_parts _ c.self.inside.pool c.self.inside.pool c.self.inside.connections.items _ c.deref.result.now _ c.self.inside.calls.items c.deref_mut-2.result.now c.settle.new.calls c.self.inside.calls.items
+      c.self.invariant.parts (refl, refl) (length-written _ c.self.inside.connections.items _ c.cut_at.new.connections c.self.inside.connections.items c.deref_mut.ensures.value c.deref_mut.ensures.len c.cut_at.auto.connections)
+      c.deref.ensures.value c.deref_mut-2.ensures.value c.deref_mut-2.ensures.len c.settle.auto.calls c.settle.ensures;
+  rooms = c.self.invariant.rooms;
+}

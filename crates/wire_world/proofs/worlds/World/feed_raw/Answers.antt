@@ -10,18 +10,22 @@ use Rattle.wire_world.proofs.StayParts.{parts_changed}
 use Rattle.wire_world.proofs.worlds.World.feed_raw.Goals as goal
 
 pub invariant_of-self : goal.invariant_of-self
-invariant_of-self g c =
-    let k = c.index_mut-connection.result.now in
-    let at : conn_at c.self.inside.connections.items c.args.number ≡ Some k = read_by (events.Raw c.args.number c.args.bytes) c.args.number k c.self.view_is refl c.requires c.index_mut-connection.ensures.value in
-    rw (← conn_set_place c.self.inside.connections.items c.args.number c.take_raw.new.self (numbered _ c.args.number k at).0)
-    (parts_changed _ _ _ _ c.args.number k c.take_raw.new.self at (ap (λ (z : Conn). is_closed z.client.state) c.take_raw.ensures.0.after) c.self.invariant)
+invariant_of-self g c = record {
+  parts = let k = c.index_mut-connection.result.now in
+      let at : conn_at c.self.inside.connections.items c.args.number ≡ Some k = read_by (events.Raw c.args.number c.args.bytes) c.args.number k c.self.view_is refl c.requires c.index_mut-connection.ensures.value in
+      rw (← conn_set_place c.self.inside.connections.items c.args.number c.take_raw.new.self (numbered _ c.args.number k at).0)
+      (parts_changed _ _ _ _ c.args.number k c.take_raw.new.self at (ap (λ (z : Conn). is_closed z.client.state) c.take_raw.ensures.0.after) c.self.invariant.parts);
+  rooms = c.self.invariant.rooms;
+}
 
 pub invariant_of-self-in-Err : goal.invariant_of-self-in-Err
-invariant_of-self-in-Err g c =
-    let k = c.index_mut-connection.result.now in
-    let at : conn_at c.self.inside.connections.items c.args.number ≡ Some k = read_by (events.Raw c.args.number c.args.bytes) c.args.number k c.self.view_is refl c.requires c.index_mut-connection.ensures.value in
-    rw (← conn_set_place c.self.inside.connections.items c.args.number c.take_raw.new.self (numbered _ c.args.number k at).0)
-    (parts_changed _ _ _ _ c.args.number k c.take_raw.new.self at (ap (λ (z : Conn). is_closed z.client.state) c.take_raw.ensures.0.after) c.self.invariant)
+invariant_of-self-in-Err g c = record {
+  parts = let k = c.index_mut-connection.result.now in
+      let at : conn_at c.self.inside.connections.items c.args.number ≡ Some k = read_by (events.Raw c.args.number c.args.bytes) c.args.number k c.self.view_is refl c.requires c.index_mut-connection.ensures.value in
+      rw (← conn_set_place c.self.inside.connections.items c.args.number c.take_raw.new.self (numbered _ c.args.number k at).0)
+      (parts_changed _ _ _ _ c.args.number k c.take_raw.new.self at (ap (λ (z : Conn). is_closed z.client.state) c.take_raw.ensures.0.after) c.self.invariant.parts);
+  rooms = c.self.invariant.rooms;
+}
 
 pub returns-in-Ok-clause-state : goal.returns-in-Ok-clause-state
 returns-in-Ok-clause-state g c = takes_in c.self.view_is c.args.number c.index_mut-connection.result.now c.take_raw.new.self c.index_mut-connection.ensures.value g.H.Handler.does g.H.Handler.stops c.args.bytes c.in-Ok.moved _ c.requires

@@ -16,28 +16,32 @@ use Rattle.wire_world.proofs.StayParts.{parts_changed}
 use Rattle.wire_world.proofs.worlds.World.move_down.Goals as goal
 
 pub invariant_of-self : goal.invariant_of-self
-invariant_of-self g c =
-    let xs = map record_of c.self.inside.calls.items in
-    let calls : map record_of c.deref_mut.result.now ≡ xs = ap (map record_of) c.deref_mut.ensures.value in
-    let was : AreParts c.self.inside.limits c.self.inside.pool c.self.inside.connections.items (map record_of c.deref_mut.result.now) = subst (λ (zs : List Record). AreParts c.self.inside.limits c.self.inside.pool c.self.inside.connections.items zs) (sym calls) c.self.invariant in
-    let moved = moved_parts c.self.inside.limits c.self.inside.pool c.self.inside.connections.items c.index_mut-connection.result.now c.move_down-moved.new.self c.args.n _ (map record_of c.move_down-moved.new.calls) c.move_down-moved.result c.move_down-moved.ensures was in
-    let kept = written c.self.inside.calls.len c.move_down-moved.new.calls c.self.inside.calls.items (c.move_down-moved.auto.calls ∙ c.deref_mut.ensures.len) in
-    settling_parts _ c.self.inside.pool c.self.inside.pool c.self.inside.connections.items _ c.deref.result.now _ _ c.deref_mut-then-is_closed.result.now c.settle.new.calls _
-    (subst (λ (zs : List CallRecord). AreParts c.self.inside.limits c.self.inside.pool c.self.inside.connections.items (map record_of zs)) (sym kept) moved)
-    (refl, refl) (length-set _ _ _) c.deref.ensures.value c.deref_mut-then-is_closed.ensures.value c.deref_mut-then-is_closed.ensures.len c.settle.auto.calls c.settle.ensures
+invariant_of-self g c = record {
+  parts = let xs = map record_of c.self.inside.calls.items in
+      let calls : map record_of c.deref_mut.result.now ≡ xs = ap (map record_of) c.deref_mut.ensures.value in
+      let was : AreParts c.self.inside.limits c.self.inside.pool c.self.inside.connections.items (map record_of c.deref_mut.result.now) = subst (λ (zs : List Record). AreParts c.self.inside.limits c.self.inside.pool c.self.inside.connections.items zs) (sym calls) c.self.invariant.parts in
+      let moved = moved_parts c.self.inside.limits c.self.inside.pool c.self.inside.connections.items c.index_mut-connection.result.now c.move_down-moved.new.self c.args.n _ (map record_of c.move_down-moved.new.calls) c.move_down-moved.result c.move_down-moved.ensures was in
+      let kept = written c.self.inside.calls.len c.move_down-moved.new.calls c.self.inside.calls.items (c.move_down-moved.auto.calls ∙ c.deref_mut.ensures.len) in
+      settling_parts _ c.self.inside.pool c.self.inside.pool c.self.inside.connections.items _ c.deref.result.now _ _ c.deref_mut-then-is_closed.result.now c.settle.new.calls _
+      (subst (λ (zs : List CallRecord). AreParts c.self.inside.limits c.self.inside.pool c.self.inside.connections.items (map record_of zs)) (sym kept) moved)
+      (refl, refl) (length-set _ _ _) c.deref.ensures.value c.deref_mut-then-is_closed.ensures.value c.deref_mut-then-is_closed.ensures.len c.settle.auto.calls c.settle.ensures;
+  rooms = c.self.invariant.rooms;
+}
 
 pub invariant_of-self-else-is_closed : goal.invariant_of-self-else-is_closed
-invariant_of-self-else-is_closed g c =
-    let xs = map record_of c.self.inside.calls.items in
-    let k = c.index_mut-connection.result.now in
-    let at : conn_at c.self.inside.connections.items c.args.number ≡ Some k = read_by (events.Down c.args.number c.args.n) c.args.number k c.self.view_is refl c.requires c.index_mut-connection.ensures.value in
-    let calls : map record_of c.deref_mut.result.now ≡ xs = ap (map record_of) c.deref_mut.ensures.value in
-    let was : AreParts c.self.inside.limits c.self.inside.pool c.self.inside.connections.items (map record_of c.deref_mut.result.now) = subst (λ (zs : List Record). AreParts c.self.inside.limits c.self.inside.pool c.self.inside.connections.items zs) (sym calls) c.self.invariant in
-    let moved = moved_parts c.self.inside.limits c.self.inside.pool c.self.inside.connections.items k c.move_down-moved.new.self c.args.n _ (map record_of c.move_down-moved.new.calls) c.move_down-moved.result c.move_down-moved.ensures was in
-    let kept = written c.self.inside.calls.len c.move_down-moved.new.calls c.self.inside.calls.items (c.move_down-moved.auto.calls ∙ c.deref_mut.ensures.len) in
-    let live = sym c.is_closed.ensures ∙ c.if-is_closed.false in
-    rw (← conn_set_place c.self.inside.connections.items c.args.number c.move_down-moved.new.self (numbered _ c.args.number k at).0, kept)
-    (parts_changed _ _ _ _ c.args.number k c.move_down-moved.new.self at (live ∙ sym (open_before k c.move_down-moved.new.self c.args.n _ _ c.move_down-moved.result c.move_down-moved.ensures live)) moved)
+invariant_of-self-else-is_closed g c = record {
+  parts = let xs = map record_of c.self.inside.calls.items in
+      let k = c.index_mut-connection.result.now in
+      let at : conn_at c.self.inside.connections.items c.args.number ≡ Some k = read_by (events.Down c.args.number c.args.n) c.args.number k c.self.view_is refl c.requires c.index_mut-connection.ensures.value in
+      let calls : map record_of c.deref_mut.result.now ≡ xs = ap (map record_of) c.deref_mut.ensures.value in
+      let was : AreParts c.self.inside.limits c.self.inside.pool c.self.inside.connections.items (map record_of c.deref_mut.result.now) = subst (λ (zs : List Record). AreParts c.self.inside.limits c.self.inside.pool c.self.inside.connections.items zs) (sym calls) c.self.invariant.parts in
+      let moved = moved_parts c.self.inside.limits c.self.inside.pool c.self.inside.connections.items k c.move_down-moved.new.self c.args.n _ (map record_of c.move_down-moved.new.calls) c.move_down-moved.result c.move_down-moved.ensures was in
+      let kept = written c.self.inside.calls.len c.move_down-moved.new.calls c.self.inside.calls.items (c.move_down-moved.auto.calls ∙ c.deref_mut.ensures.len) in
+      let live = sym c.is_closed.ensures ∙ c.if-is_closed.false in
+      rw (← conn_set_place c.self.inside.connections.items c.args.number c.move_down-moved.new.self (numbered _ c.args.number k at).0, kept)
+      (parts_changed _ _ _ _ c.args.number k c.move_down-moved.new.self at (live ∙ sym (open_before k c.move_down-moved.new.self c.args.n _ _ c.move_down-moved.result c.move_down-moved.ensures live)) moved);
+  rooms = c.self.invariant.rooms;
+}
 
 pub returns-then-is_closed-clause-state : goal.returns-then-is_closed-clause-state
 returns-then-is_closed-clause-state g c =
@@ -64,7 +68,7 @@ returns-else-is_closed-clause-state g c =
     let calls : map record_of c.deref_mut.result.now ≡ map record_of c.self.inside.calls.items = ap (map record_of) c.deref_mut.ensures.value in
     let kept = written c.self.inside.calls.len c.move_down-moved.new.calls c.self.inside.calls.items (c.move_down-moved.auto.calls ∙ c.deref_mut.ensures.len) in
     let at : conn_at ks c.args.number ≡ Some k = read_by (events.Down c.args.number c.args.n) c.args.number k c.self.view_is refl c.requires c.index_mut-connection.ensures.value in
-    let was : AreParts c.self.inside.limits c.self.inside.pool ks (map record_of c.deref_mut.result.now) = subst (λ (zs : List Record). AreParts c.self.inside.limits c.self.inside.pool ks zs) (sym calls) c.self.invariant in
+    let was : AreParts c.self.inside.limits c.self.inside.pool ks (map record_of c.deref_mut.result.now) = subst (λ (zs : List Record). AreParts c.self.inside.limits c.self.inside.pool ks zs) (sym calls) c.self.invariant.parts in
     let moved = moved_parts c.self.inside.limits c.self.inside.pool ks k k' c.args.n _ ys c.move_down-moved.result c.move_down-moved.ensures was in
     let live = sym c.is_closed.ensures ∙ c.if-is_closed.false in
     let parts = parts_changed _ _ ks ys c.args.number k k' at (live ∙ sym (open_before k k' c.args.n _ ys c.move_down-moved.result c.move_down-moved.ensures live)) moved in

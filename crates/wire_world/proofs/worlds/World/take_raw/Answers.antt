@@ -9,11 +9,13 @@ use Rattle.wire_world.proofs.StayParts.{parts_changed}
 use Rattle.wire_world.proofs.worlds.World.take_raw.Goals as goal
 
 pub invariant_of-self : goal.invariant_of-self
-invariant_of-self g c =
-    let k = c.index_mut-connection.result.now in
-    let at : conn_at c.self.inside.connections.items c.args.number ≡ Some k = read_by (events.RawTake c.args.number c.args.n) c.args.number k c.self.view_is refl c.requires c.index_mut-connection.ensures.value in
-    rw (← conn_set_place c.self.inside.connections.items c.args.number c.give_raw.new.self (numbered _ c.args.number k at).0)
-    (parts_changed _ _ _ _ c.args.number k c.give_raw.new.self at (ap (λ (z : Conn). is_closed z.client.state) c.in-Ok.ensures.given.1) c.self.invariant)
+invariant_of-self g c = record {
+  parts = let k = c.index_mut-connection.result.now in
+      let at : conn_at c.self.inside.connections.items c.args.number ≡ Some k = read_by (events.RawTake c.args.number c.args.n) c.args.number k c.self.view_is refl c.requires c.index_mut-connection.ensures.value in
+      rw (← conn_set_place c.self.inside.connections.items c.args.number c.give_raw.new.self (numbered _ c.args.number k at).0)
+      (parts_changed _ _ _ _ c.args.number k c.give_raw.new.self at (ap (λ (z : Conn). is_closed z.client.state) c.in-Ok.ensures.given.1) c.self.invariant.parts);
+  rooms = c.self.invariant.rooms;
+}
 
 pub returns-in-Ok-clause-state : goal.returns-in-Ok-clause-state
 returns-in-Ok-clause-state g c = gives_out c.self.view_is c.args.number c.index_mut-connection.result.now c.give_raw.new.self c.index_mut-connection.ensures.value g.H.Handler.does g.H.Handler.stops c.args.n c.in-Ok.bytes c.requires
