@@ -29,3 +29,4 @@ pub mod WiderActs
 pub mod WiderServes
 pub mod Limits
 pub mod LimitsKnow
+pub mod Feeding

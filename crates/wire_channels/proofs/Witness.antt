@@ -99,7 +99,7 @@ serves_on deeds old new act s s' log at does run = (
 
 -- ---- a whole message is taken at once
 
-whole_no_more : (limit : ℕ) (m : Message) (b : List ℕ) → SpellsMsg m b → length b ≤ limit
+pub whole_no_more : (limit : ℕ) (m : Message) (b : List ℕ) → SpellsMsg m b → length b ≤ limit
     → HoldsNoMore limit b
 whole_no_more limit m b s le =
     let w = whole_read limit b [] m (record {

@@ -1,14 +1,15 @@
 -- The work that is left falls with each step that does some of it, and some can be done.
-use Rattle.std.proofs.Common.{◌≡◌, ◌≢◌, ℕ, suc, zero, ◌+◌, ◌<◌, ◌≤◌, ◌^◌, true, false, List, [], ◌∷◌, length, take, drop, refl, sym, ◌∙◌, ap, subst, arith, Option, Some, None, ◌⊎◌, inl, inr, Result, Ok, Err, length-append, length-drop, length-take}
+use Rattle.std.proofs.Common.{◌≡◌, ◌≢◌, ℕ, suc, zero, ◌+◌, ◌<◌, ◌≤◌, ◌^◌, ℤ, pos, true, false, List, [], ◌∷◌, ◌++◌, length, take, drop, refl, sym, ◌∙◌, ap, subst, arith, Option, Some, None, ◌⊎◌, inl, inr, Result, Ok, Err, length-append, length-drop, length-take}
 use Rattle.std.specs.Prelude.{remove, slice_get}
 use Rattle.std.proofs.lemmas.List.{append-nil}
 use Rattle.std.proofs.lemmas.Option.{none-some, same_Some}
+use mathlib.Core.Logic.{∥∥₁_elim, ∥∥₁_prop}
 use Rattle.wire_msg.specs.{IsOpen, Message, SpellsMsg}
-use Rattle.wire_msg.proofs.Lemmas.{open_not_bad, open_not_whole}
+use Rattle.wire_msg.proofs.Lemmas.{canonical_spelled, length-canonical, open_not_bad, open_not_whole}
 use Rattle.wire_stream.specs.{StandsAt}
 use Rattle.wire_stream.specs.declared.reader_state.ReaderState.{ReaderState}
 use Rattle.wire_stream.specs.declared.reader_state.ReaderState.TheVariants.{Need, Ready, Bad}
-use Rattle.wire_peer.specs.{AnswerStep, ClientSeen, Does, LogEntry, MayTake, ServerView, Stops, Takes, TakesBytes, released}
+use Rattle.wire_peer.specs.{AnswerStep, ClientSeen, chain, Does, LogEntry, MayTake, ServerView, Stops, Takes, TakesBytes, released}
 use Rattle.wire_peer.specs.Servers as server_steps
 use Rattle.wire_peer.specs.declared.call_table.ReadyReply.{ReadyReply}
 use Rattle.wire_peer.specs.declared.client_state.ClientState.TheVariants as clients
@@ -17,15 +18,21 @@ use Rattle.wire_peer.specs.declared.server_state.AnswerRefusal.TheVariants as re
 use Rattle.wire_peer.specs.declared.server_state.ServerState.TheVariants as servers
 use Rattle.wire_model.specs.{Record}
 use Rattle.wire_model.proofs.Lemmas.{released_none}
-use Rattle.wire_channels.specs.Channels.{Pair, Step, Steps, System, Taken, Trace, Way, client_sent, no_pairs, pair_at, pair_set, server_sent, with_pair}
+use Rattle.wire_channels.specs.Channels.{Comes, Pair, Step, Steps, System, Taken, Trace, Way, client_sent, fewer, no_pairs, pair_at, pair_set, server_sent, with_pair}
 use Rattle.wire_channels.specs.Channels as channels
 use Rattle.wire_channels.specs.Seen.{Agree, IsQuietPair, seen_as}
-use Rattle.wire_channels.specs.Work.{CanGoOn, Falls, IsAnswered, IsLess, IsLive, IsWork, answers, feeds_down, feeds_up, ready_work, steps}
+use Rattle.wire_channels.specs.Work.{CanGoOn, Falls, IsAnswered, IsLess, IsLive, IsWork, MayAnswer, ready_work}
+use Rattle.wire_channels.proofs.Feeding.{client_feeds, down_first, server_feeds, up_first}
 use Rattle.wire_channels.proofs.Ends.{took_output}
 use Rattle.wire_channels.proofs.Knows.{not_told, open_not_stopped}
 use Rattle.wire_channels.proofs.Main.{Holds, all_hold}
 use Rattle.wire_channels.proofs.Pairs.{pair_set-other, pair_set-same, seen_at}
 use Rattle.wire_channels.proofs.Sound.{all_sound}
+
+-- the id that the next reply of a call answers: that of its last part, or of its request
+abbrev to_last : Option ℤ → ℤ → ℤ
+to_last None id = id
+to_last (Some last) id = last
 
 -- ---- lists
 
@@ -267,56 +274,183 @@ module _ (H : Type 0) (does : Does H) (stops : Stops H) (limit : ℕ) where
     is_none None = inl refl
     is_none (Some reply) = inr (reply, refl)
 
-    is_nil : {A : Type 0} (xs : List A) → (xs ≡ []) ⊎ (xs ≢ [])
+    is_nil : {A : Type 0} (xs : List A) → (xs ≡ []) ⊎ ((x : A) × (rest : List A) × (xs ≡ x ∷ rest))
     is_nil [] = inl refl
-    is_nil (x ∷ xs) = inr (λ e. cc)
+    is_nil (x ∷ xs) = inr (x, xs, refl)
 
-    pub goes_on : (c : ℕ) (p : Pair) → pair_at s.pairs c ≡ Some p → IsLive p
-        → (IsQuietPair s.pairs c → ⊥) → CanGoOn H does stops limit s c p
-    goes_on c p at live busy =
-        by (is_none p.client.reply) (is_nil p.client.requests.output) (is_nil p.server.output)
-        (is_nil p.server.waiting) (is_nil p.up.bytes) (is_nil p.down.bytes)
-      where
-        told : (p.server_told ≡ false) × (p.client_told ≡ false)
-        told =
-            let t = (all_sound H does stops limit first s trace).told c p at in (
-              not_told p.server_told (λ e. t.0 e live.server_open),
-              not_told p.client_told (λ e. t.1 e live.client_open),
-            )
+    abbrev Nil : {A : Type 0} → List A → Type 0
+    Nil {A} xs = (xs ≡ []) ⊎ ((x : A) × (rest : List A) × (xs ≡ x ∷ rest))
 
-        by : (p.client.reply ≡ None) ⊎ ((reply : ReadyReply) × (p.client.reply ≡ Some reply))
-            → (p.client.requests.output ≡ []) ⊎ (p.client.requests.output ≢ [])
-            → (p.server.output ≡ []) ⊎ (p.server.output ≢ [])
-            → (p.server.waiting ≡ []) ⊎ (p.server.waiting ≢ [])
-            → (p.up.bytes ≡ []) ⊎ (p.up.bytes ≢ [])
-            → (p.down.bytes ≡ []) ⊎ (p.down.bytes ≢ []) → CanGoOn H does stops limit s c p
-        by (inr r) o out w up down =
-            let m = ready_spelled c p at r.0 r.1 in
-            steps _ (channels.collects c p r.0 m.0 at r.1 m.1 refl) refl
-        by (inl none) (inr some) out w up down =
-            steps _ (channels.sends_up c p (length p.client.requests.output) at (omega arith) refl)
-            (refl, some_length p.client.requests.output some)
-        by (inl none) (inl no_) (inr some) w up down =
-            steps _ (channels.sends_down c p (length p.server.output) at (omega arith) refl)
-            (refl, some_length p.server.output some)
-        by (inl none) (inl no_) (inl no_out) (inr some) up down = answers live.server_open some
-        by (inl none) (inl no_) (inl no_out) (inl no_one) (inr some) down =
-            let many = ap length no_one in
-            let room = live.room in
-            feeds_up live.server_open (omega (arith, many, room)) some
-        by (inl none) (inl no_) (inl no_out) (inl no_one) (inl no_up) (inr some) =
-            feeds_down (none, live.client_open) some
-        by (inl none) (inl no_) (inl no_out) (inl no_one) (inl no_up) (inl no_down) =
-            absurd (busy (record {
-              p = p;
-              at = at;
-              server_untold = told.0;
-              client_untold = told.1;
-              not_stopped = open_not_stopped p.server.state live.server_open;
-              none_up = no_up;
-              none_down = no_down;
-              client_empty = no_;
-              server_empty = no_out;
-              none_waits = no_one;
-              none_ready = none;
-            }))
+    some_behind : (xs ys zs : List ℕ) (y : ℕ) → xs ++ ((y ∷ ys) ++ zs) ≢ []
+    some_behind [] ys zs y e = cc
+    some_behind (x ∷ xs) ys zs y e = cc
+
+    -- one byte of those in flight comes
+    one_came : (way : Way) (b : ℕ) (rest : List ℕ) → way.bytes ≡ b ∷ rest → way.left ≡ None
+        → Taken way (b ∷ []) 1 (record { bytes = rest; left = fewer way.left 1 })
+    one_came way b rest is uncut = record {
+      rest = rest;
+      first = is;
+      comes = subst (λ o. Comes o 1) (sym uncut) tt;
+      within = omega arith;
+      after = refl;
+    }
+
+    abbrev Some_step : ℕ → Type 0
+    Some_step c =
+        ∥ ((s' : System H) × (step : Step H does stops limit s s')
+        × IsWork H does stops limit c s s' step) ∥₁
+
+    module _ (c : ℕ) (p : Pair) (at : pair_at s.pairs c ≡ Some p) (live : IsLive p) where
+      feeds_the_server : (b : ℕ) (tail : List ℕ) → p.up.bytes ≡ b ∷ tail
+          → p.server.waiting ≡ [] → Some_step c
+      feeds_the_server b tail some none =
+          let here = holds.stands.ways.conns c (seen_as p) (seen_at s.pairs c p at) in
+          let fits = here.fits in
+          let alive : holds.m.server_lives c ≡ true = rw (← fits.server_is) (rw live.server_open
+          refl) in
+          let up = fits.up alive refl in
+          let out : List ℕ = p.client.requests.output in
+          let f = up_first here.route.onway (λ t. record {
+            id = t.id;
+            response_to = pos 0;
+            flags = record {
+              more_to_come = t.asked.more_to_come;
+              exhaust_allowed = t.asked.exhaust_allowed;
+            };
+            content = t.asked.payload;
+          }) (p.server.held ++ (p.up.bytes ++ out)) up.fit up.bytes
+          (λ e. some_behind p.server.held tail out b
+          (ap (λ z. p.server.held ++ (z ++ out)) (sym some) ∙ e)) in
+          ∥∥₁_elim f.2.content ∥∥₁_prop (λ is.
+          let m : Message = record {
+            id = f.0.id;
+            response_to = pos 0;
+            flags = record {
+              more_to_come = f.0.asked.more_to_come;
+              exhaust_allowed = f.0.asked.exhaust_allowed;
+            };
+            content = f.0.asked.payload;
+          } in
+          let few = f.2.within in
+          let g = server_feeds limit short p.server.held b (tail ++ out) f.1 m up.still_open
+          (ap (λ z. p.server.held ++ (z ++ out)) (sym some) ∙ f.3)
+          (omega (arith, few, length-canonical m)) p.server fits.made.limit_up refl
+          (canonical_spelled m f.2.id f.2.response_to is (omega (arith, few, short))) in
+          let many = ap length none in
+          let room = live.room in
+          ∣ (
+            _,
+            channels.feeds_up c p (b ∷ []) 1 g.0 (record {
+              bytes = tail;
+              left = fewer p.up.left 1;
+            }) at live.server_open (omega (arith, many, room)) g.1
+                (one_came p.up b tail some live.up_uncut) refl,
+            (refl, λ e. cc),
+          ) ∣₁)
+
+      feeds_the_client : (b : ℕ) (tail : List ℕ) → p.down.bytes ≡ b ∷ tail
+          → p.client.reply ≡ None → Some_step c
+      feeds_the_client b tail some none =
+          let here = holds.stands.ways.conns c (seen_as p) (seen_at s.pairs c p at) in
+          let fits = here.fits in
+          let same : released p.client ≡ p.client = released_none p.client none in
+          let open_ : (released p.client).state ≡ clients.Open = ap (λ (k : ClientSeen). k.state)
+          same ∙ live.client_open in
+          let alive : holds.m.client_lives c ≡ true = rw (← fits.client_is) (rw open_ refl) in
+          let down = fits.down alive in
+          let k : ClientSeen = released p.client in
+          let out : List ℕ = p.server.output in
+          let f = down_first here.route.due (λ d. chain d.next (to_last d.last d.tag.id) d.left)
+          (k.held ++ (p.down.bytes ++ out)) down.fit down.bytes
+          (λ e. some_behind k.held tail out b
+          (ap (λ z. k.held ++ (z ++ out)) (sym some) ∙ e)) in
+          ∥∥₁_elim f.2.content ∥∥₁_prop (λ is.
+          let m : Message = f.0 in
+          let few = f.2.within in
+          let g = client_feeds limit short k.held b (tail ++ out) f.1 m down.still_open
+          (ap (λ z. k.held ++ (z ++ out)) (sym some) ∙ f.3)
+          (omega (arith, few, length-canonical m)) p.client
+          (ap (λ (z : ClientSeen). z.requests.limit) (sym same) ∙ fits.made.limit_down)
+          (ap (λ (z : ClientSeen). z.held) (sym same))
+          (canonical_spelled m f.2.id f.2.response_to is (omega (arith, few, short))) in
+          ∣ (
+            _,
+            channels.feeds_down c p (b ∷ []) 1 g.0 (record {
+              bytes = tail;
+              left = fewer p.down.left 1;
+            }) at (none, live.client_open) g.1
+                (one_came p.down b tail some live.down_uncut) refl,
+            (refl, λ e. cc),
+          ) ∣₁)
+
+      answers : p.server.waiting ≢ [] → MayAnswer H does stops limit s p
+      answers some = record {
+        is_open = live.server_open;
+        some_wait = some;
+        comes = comes;
+      }
+        where
+          comes : (i : ℕ) (result : Result ℕ AnswerRefusal) (server : ServerView) (handler : H)
+              (log : List LogEntry) → i < length p.server.waiting
+              → AnswerStep does stops i result p.server s.handler s.log server handler log
+              → IsAnswered result ⊎ (result ≡ Err refusals.OutOfMemory)
+          comes i (Ok n) server handler log lt step = inl tt
+          comes i (Err (refusals.NowClosed cause)) server handler log lt step = inl tt
+          comes i (Err refusals.Closed) server handler log lt step =
+              absurd (step.0 live.server_open)
+          comes i (Err refusals.NoSuchRequest) server handler log lt step =
+              absurd (let le = step.1 in omega (arith, le, lt))
+          comes i (Err refusals.OutOfMemory) server handler log lt step = inr refl
+
+      told : (p.server_told ≡ false) × (p.client_told ≡ false)
+      told =
+          let t = (all_sound H does stops limit first s trace).told c p at in (
+            not_told p.server_told (λ e. t.0 e live.server_open),
+            not_told p.client_told (λ e. t.1 e live.client_open),
+          )
+
+      pub goes_on : (IsQuietPair s.pairs c → ⊥) → CanGoOn H does stops limit s c p
+      goes_on busy =
+          by (is_none p.client.reply) (is_nil p.client.requests.output) (is_nil p.server.output)
+          (is_nil p.server.waiting) (is_nil p.up.bytes) (is_nil p.down.bytes)
+        where
+          some_of : {A : Type 0} (xs : List A) (x : A) (rest : List A) → xs ≡ x ∷ rest → xs ≢ []
+          some_of xs x rest e none = let no_ : x ∷ rest ≡ [] = sym e ∙ none in cc
+
+          by : (p.client.reply ≡ None) ⊎ ((reply : ReadyReply) × (p.client.reply ≡ Some reply))
+              → Nil p.client.requests.output → Nil p.server.output → Nil p.server.waiting
+              → Nil p.up.bytes → Nil p.down.bytes → CanGoOn H does stops limit s c p
+          by (inr r) o out w up down =
+              let m = ready_spelled c p at r.0 r.1 in
+              inl ∣ (_, channels.collects c p r.0 m.0 at r.1 m.1 refl, refl) ∣₁
+          by (inl none) (inr some) out w up down = inl ∣ (
+            _,
+            channels.sends_up c p (length p.client.requests.output) at (omega arith) refl,
+            (refl, some_length p.client.requests.output (some_of _ some.0 some.1 some.2)),
+          ) ∣₁
+          by (inl none) (inl no_) (inr some) w up down = inl ∣ (
+            _,
+            channels.sends_down c p (length p.server.output) at (omega arith) refl,
+            (refl, some_length p.server.output (some_of _ some.0 some.1 some.2)),
+          ) ∣₁
+          by (inl none) (inl no_) (inl no_out) (inr some) up down =
+              inr (answers (some_of _ some.0 some.1 some.2))
+          by (inl none) (inl no_) (inl no_out) (inl no_one) (inr some) down =
+              inl (feeds_the_server some.0 some.1 some.2 no_one)
+          by (inl none) (inl no_) (inl no_out) (inl no_one) (inl no_up) (inr some) =
+              inl (feeds_the_client some.0 some.1 some.2 none)
+          by (inl none) (inl no_) (inl no_out) (inl no_one) (inl no_up) (inl no_down) =
+              absurd (busy (record {
+                p = p;
+                at = at;
+                server_untold = told.0;
+                client_untold = told.1;
+                not_stopped = open_not_stopped p.server.state live.server_open;
+                none_up = no_up;
+                none_down = no_down;
+                client_empty = no_;
+                server_empty = no_out;
+                none_waits = no_one;
+                none_ready = none;
+              }))

@@ -1,7 +1,7 @@
 -- The work that is left at a pair: how much it is, which steps do some of it, and what can be done.
-use Rattle.std.specs.Prelude.{◌≡◌, ◌≢◌, ℕ, ◌+◌, ◌*◌, ◌<◌, ◌⊎◌, Option, None, Some, [], length}
+use Rattle.std.specs.Prelude.{◌≡◌, ◌≢◌, ℕ, ◌+◌, ◌*◌, ◌<◌, ◌⊎◌, Option, None, Some, List, [], length}
 use Rattle.std.specs.Prelude.{Result, Ok, Err}
-use Rattle.wire_peer.specs.{Does, MayTake, Stops}
+use Rattle.wire_peer.specs.{AnswerStep, Does, LogEntry, ServerView, Stops}
 use Rattle.wire_peer.specs.declared.call_table.ReadyReply.{ReadyReply}
 use Rattle.wire_peer.specs.declared.client_state.ClientState.TheVariants as clients
 use Rattle.wire_peer.specs.declared.server_state.AnswerRefusal.{AnswerRefusal}
@@ -73,16 +73,21 @@ module _ (H : Type 0) (does : Does H) (stops : Stops H) (limit : ℕ) where
 
   -- ---- what can be done
 
-  -- What there is to do at the pair: a step that does some of the work; or bytes are in flight to
-  -- an end that takes them, or a request waits at an open server. What comes of feeding and of
-  -- answering is for memory to say, and for the handler.
-  pub data CanGoOn (s : System H) (c : ℕ) (p : Pair) : Type 0 where
-    steps : (s' : System H) (step : Step H does stops limit s s') → IsWork c s s' step
-        → CanGoOn s c p
-    feeds_up : p.server.state ≡ servers.Open → length p.server.waiting < p.server.window
-        → p.up.bytes ≢ [] → CanGoOn s c p
-    feeds_down : MayTake p.client → p.down.bytes ≢ [] → CanGoOn s c p
-    answers : p.server.state ≡ servers.Open → p.server.waiting ≢ [] → CanGoOn s c p
+  -- Requests wait at an open server. Whatever comes of answering one of them, it is answered, or
+  -- its server closes over it, or memory is wanting.
+  pub record MayAnswer (s : System H) (p : Pair) : Type 0 where
+    pub is_open : p.server.state ≡ servers.Open
+    pub some_wait : p.server.waiting ≢ []
+    pub comes : (i : ℕ) (result : Result ℕ AnswerRefusal) (server : ServerView) (handler : H)
+        (log : List LogEntry) → i < length p.server.waiting
+        → AnswerStep does stops i result p.server s.handler s.log server handler log
+        → IsAnswered result ⊎ (result ≡ Err refusals.OutOfMemory)
+
+  -- There is a step that does some of the work, or a request to answer.
+  abbrev pub CanGoOn : (s : System H) (c : ℕ) (p : Pair) → Type 0
+  CanGoOn s c p =
+      ∥ ((s' : System H) × (step : Step H does stops limit s s') × IsWork c s s' step) ∥₁
+      ⊎ MayAnswer s p
 
 -- both ends are open, neither way is cut, and the server has room for a request
 pub record IsLive (p : Pair) : Type 0 where

@@ -102,7 +102,8 @@ pub fn a_client_holds_alone()
 {}
 
 /// Proves that where both ends of a pair are open and no way is cut, there is something to do until
-/// the pair is quiet.
+/// the pair is quiet: a step that sends bytes, feeds an end or collects a reply, or a request to
+/// answer.
 pub fn pairs_go_on<H: Handler>()
     ensures { (limit : ℕ) (first : H) (s : System H) (c : ℕ) (p : Pair)
         → IsLimit limit → Trace H.does H.stops limit (no_pairs first) s
