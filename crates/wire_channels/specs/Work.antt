@@ -74,7 +74,7 @@ module _ (H : Type 0) (does : Does H) (stops : Stops H) (limit : ℕ) where
   -- ---- what can be done
 
   -- Requests wait at an open server. Whatever comes of answering one of them, it is answered, or
-  -- its server closes over it, or memory is wanting.
+  -- its server closes over it, or memory runs out.
   pub record MayAnswer (s : System H) (p : Pair) : Type 0 where
     pub is_open : p.server.state ≡ servers.Open
     pub some_wait : p.server.waiting ≢ []

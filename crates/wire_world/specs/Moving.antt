@@ -72,7 +72,7 @@ Stopped old n calls new calls' =
     ((mid : Conn) × (m : MovedDown old n calls mid calls')
     × Uncopied mid (n - length (joined m.pieces)) new)
 
--- with this result: how many bytes were moved; where memory was wanting, both ways are cut
+-- with this result: how many bytes were moved; where memory ran out, both ways are cut
 -- afterwards
 abbrev pub DownResult :
     {E : Type 0} (old : Conn) (n : ℕ) (calls : List Record) (new : Conn) (calls' : List Record)
@@ -112,7 +112,7 @@ Unfed old piece taken new =
 
 -- ---- piece after piece
 
--- so many bytes of the client's output went into the server
+-- n bytes of the client's output went into the server
 pub record GoneUp (kc : ClientSeen) (ks : ServerView) (moved : ℕ) (client : ClientSeen)
     (server : ServerView) : Type 0 where
   pub pieces : List (List ℕ)
@@ -129,7 +129,7 @@ UpEnd n moved client server (Ok k) =
 UpEnd n moved client server (Err e) =
     (k : ℕ) × (k + moved ≤ n) × WantsRoom server (take k client.requests.output)
 
--- so many of the bytes went into the server
+-- n of the bytes went into the server
 pub record GoneRaw (old : ServerView) (bytes : List ℕ) (moved : ℕ) (server : ServerView) :
     Type 0 where
   pub pieces : List (List ℕ)
@@ -142,7 +142,7 @@ abbrev pub RawEnd : {E : Type 0} (bytes : List ℕ) (moved : ℕ) (server : Serv
 RawEnd bytes moved server (Ok k) = (k ≡ moved) × ((drop moved bytes ≡ []) ⊎ TakesNone server)
 RawEnd bytes moved server (Err e) = WantsRoom server (drop moved bytes)
 
--- so many bytes of the server's output went into the client
+-- n bytes of the server's output went into the client
 pub record GoneDown (indexes : List ℕ) (kc : ClientSeen) (ks : ServerView) (calls : List Record)
     (moved : ℕ) (client : ClientSeen) (server : ServerView) (calls' : List Record) : Type 0 where
   pub pieces : List (List ℕ)
@@ -165,7 +165,7 @@ pub record PartDown (indexes : List ℕ) (kc : ClientSeen) (ks : ServerView) (ca
   pub unfed : Unfed mid (take many half.output) taken client
   pub after : server ≡ with_server_output half (drop taken half.output)
 
--- at the end of a loop: how many were moved; or only a part, where memory was wanting
+-- at the end of a loop: how many were moved; or only a part, where memory ran out
 abbrev pub DownEnd :
     {E : Type 0} (indexes : List ℕ) (kc : ClientSeen) (ks : ServerView) (calls : List Record)
     (n : ℕ) (client : ClientSeen) (server : ServerView) (calls' : List Record)

@@ -14,7 +14,7 @@ use Rattle.wire_world.specs.Worlds.{WorldSeen}
 abbrev pub AreGoodForEnds : WorldLimits → Type 0
 AreGoodForEnds l = (pos 1 ≤ℤ l.first_id) × IsWindow l.window × IsLimit l.limit
 
--- the first number that is outside its range; none is, where memory is wanting
+-- the first number that is outside its range; none is, where memory runs out
 abbrev pub IsSetupRefusal : WorldLimits → SetupRefusal → Type 0
 IsSetupRefusal l BadFirstId = l.first_id <ℤ pos 1
 IsSetupRefusal l BadWindow = (pos 1 ≤ℤ l.first_id) × (IsWindow l.window → ⊥)

@@ -195,7 +195,7 @@ impl Connection {
     ///
     /// # Errors
     ///
-    /// The client's refusal, or that memory is wanting. Nothing changes then.
+    /// The client's refusal, or that memory runs out. Nothing changes then.
     pub(crate) fn call(
         &mut self,
         kind: CallKind,

@@ -22,7 +22,7 @@ impl Connection {
     ///
     /// # Errors
     ///
-    /// Memory is wanting for a message whose header is complete now. Part of the bytes may have
+    /// Out of memory for a message whose header is complete now. Part of the bytes may have
     /// been moved.
     pub(crate) fn move_up(&mut self, n: usize) -> Result<usize, ReadRefusal>
         requires { self.old.raw ≡ false }
@@ -40,7 +40,7 @@ impl Connection {
     ///
     /// # Errors
     ///
-    /// Memory is wanting, for a message whose header is complete now or for the copy of a reply.
+    /// Out of memory, for a message whose header is complete now or for the copy of a reply.
     /// Part of the bytes may have been moved, and the connection is cut both ways.
     pub(crate) fn move_down(
         &mut self,
@@ -71,7 +71,7 @@ impl Connection {
     ///
     /// # Errors
     ///
-    /// Memory is wanting for a message whose header is complete now. Part of the bytes may have
+    /// Out of memory for a message whose header is complete now. Part of the bytes may have
     /// been taken.
     pub(crate) fn take_raw(&mut self, bytes: &[u8]) -> Result<usize, ReadRefusal>
         requires { self.old.raw ≡ true }
@@ -84,7 +84,7 @@ impl Connection {
     ///
     /// # Errors
     ///
-    /// Memory is wanting. Nothing changes then.
+    /// Out of memory. Nothing changes then.
     pub(crate) fn give_raw(&mut self, alloc: Global, n: usize) -> Result<Vec<u8>, AllocError>
         ensures given { IfOk result (λ v. (v.items ≡ take n self.old.server.output)
             ×
@@ -110,7 +110,7 @@ impl Connection {
 ///
 /// # Errors
 ///
-/// Memory is wanting for a message whose header is complete now. Nothing is taken then.
+/// Out of memory for a message whose header is complete now. Nothing is taken then.
 fn feed_server(server: &mut Server, piece: &[u8]) -> Result<usize, ReadRefusal>
     ensures fed { MatchResult result (λ taken. FedServer server.old piece.now taken server.new)
         (λ _. WantsRoom server.old piece.now) }
@@ -126,7 +126,7 @@ fn feed_server(server: &mut Server, piece: &[u8]) -> Result<usize, ReadRefusal>
 ///
 /// # Errors
 ///
-/// Memory is wanting for a message whose header is complete now. Part of the bytes may have been
+/// Out of memory for a message whose header is complete now. Part of the bytes may have been
 /// moved.
 fn pass_up(client: &mut Client, server: &mut Server, n: usize) -> Result<usize, ReadRefusal>
     ensures { (moved : ℕ) × (moved ≤ n) × GoneUp client.old server.old moved client.new server.new
@@ -150,7 +150,7 @@ fn pass_up(client: &mut Client, server: &mut Server, n: usize) -> Result<usize, 
 ///
 /// # Errors
 ///
-/// Memory is wanting for a message whose header is complete now. Part of the bytes may have been
+/// Out of memory for a message whose header is complete now. Part of the bytes may have been
 /// taken.
 fn pass_raw(server: &mut Server, bytes: &[u8]) -> Result<usize, ReadRefusal>
     ensures { (moved : ℕ) × GoneRaw server.old bytes.now moved server.new
@@ -173,7 +173,7 @@ fn pass_raw(server: &mut Server, bytes: &[u8]) -> Result<usize, ReadRefusal>
 ///
 /// # Errors
 ///
-/// Memory is wanting. Part of the bytes may have been moved.
+/// Out of memory. Part of the bytes may have been moved.
 fn pass_down(
     client: &mut Client,
     server: &mut Server,
@@ -212,7 +212,7 @@ fn pass_down(
 ///
 /// # Errors
 ///
-/// Memory is wanting: how many bytes were taken. The reply that is ready stays so.
+/// Out of memory: how many bytes were taken. The reply that is ready stays so.
 fn feed_client(
     client: &mut Client,
     indexes: &[usize],
@@ -241,7 +241,7 @@ fn feed_client(
 ///
 /// # Errors
 ///
-/// Memory is wanting. Nothing changes then.
+/// Out of memory. Nothing changes then.
 fn copy_reply(
     client: &Client,
     indexes: &[usize],

@@ -69,7 +69,7 @@ impl CallRecord {
     ///
     /// # Errors
     ///
-    /// Memory is wanting. Nothing changes then.
+    /// Out of memory. Nothing changes then.
     pub(crate) fn give(&mut self, part: Payload<'_>, last: bool) -> Result<(), AllocError>
         ensures given { OnOk result
             (record_of self.new ≡ given_record (record_of self.old) (content_of part.entry) last) }

@@ -27,8 +27,8 @@ use wire_peer::{
 };
 use wire_pool::{CheckIn, CheckOut, Pool, PoolRefusal};
 
-/// A world: a pool, its connections, the records of the calls, and a handler with its log. Its lists
-/// have at most twice the room that they need, or room for four more.
+/// A world: a pool, its connections, the records of the calls, and a handler with its log. Its
+/// lists have at most twice the room that they need, or room for four more.
 ///
 /// A contract sees it as the record `WorldSeen`.
 #[derive(Drop)]
@@ -144,8 +144,8 @@ impl<H> World<H> {
         }
     }
 
-    /// Returns the first reason that stands against the event, if one does; but for a call, the
-    /// client may refuse it too.
+    /// Returns the first reason to refuse the event. A call that passes may still be refused by its
+    /// client.
     fn check(&self, event: &Event<'_>) -> Result<(), WorldRefusal>
         ensures { MatchResult result
             (λ _. first_reason self.now.state event.now ≡ None)
@@ -264,7 +264,7 @@ impl<H: Handler> World<H> {
     ///
     /// # Errors
     ///
-    /// Memory is wanting. Nothing changes then.
+    /// Out of memory. Nothing changes then.
     fn open(&mut self) -> Result<Report, WorldRefusal>
         requires { first_reason self.old.state events.Open ≡ None }
         ensures limits { self.new.limits ≡ self.old.limits }
@@ -302,7 +302,7 @@ impl<H: Handler> World<H> {
     ///
     /// # Errors
     ///
-    /// Memory is wanting. Nothing changes then.
+    /// Out of memory. Nothing changes then.
     fn open_raw(&mut self) -> Result<Report, WorldRefusal>
         requires { first_reason self.old.state events.RawOpen ≡ None }
         ensures limits { self.new.limits ≡ self.old.limits }
@@ -328,7 +328,7 @@ impl<H: Handler> World<H> {
     ///
     /// # Errors
     ///
-    /// Why the client refuses, or that memory is wanting. Nothing changes then.
+    /// Why the client refuses, or that memory runs out. Nothing changes then.
     fn make_call(
         &mut self,
         number: u64,
@@ -360,7 +360,7 @@ impl<H: Handler> World<H> {
     ///
     /// # Errors
     ///
-    /// Why the client refuses, and nothing changes then; or that memory is wanting.
+    /// Why the client refuses, and nothing changes then; or that memory runs out.
     fn call(
         &mut self,
         number: u64,
@@ -390,7 +390,7 @@ impl<H: Handler> World<H> {
     ///
     /// # Errors
     ///
-    /// Memory is wanting, and the handler wasn't asked.
+    /// Out of memory, and the handler wasn't asked.
     fn answer(&mut self, number: u64, k: usize) -> Result<Report, WorldRefusal>
         requires { first_reason self.old.state (events.Answer number k) ≡ None }
         ensures limits { self.new.limits ≡ self.old.limits }
@@ -414,7 +414,7 @@ impl<H: Handler> World<H> {
     ///
     /// # Errors
     ///
-    /// Memory is wanting. The connection is cut both ways then.
+    /// Out of memory. The connection is cut both ways then.
     fn up(&mut self, number: u64, n: usize) -> Result<Report, WorldRefusal>
         requires { first_reason self.old.state (events.Up number n) ≡ None }
         ensures limits { self.new.limits ≡ self.old.limits }
@@ -436,7 +436,7 @@ impl<H: Handler> World<H> {
     ///
     /// # Errors
     ///
-    /// Memory is wanting. The connection is cut both ways then.
+    /// Out of memory. The connection is cut both ways then.
     fn move_down(&mut self, number: u64, n: usize) -> Result<usize, AllocError>
         requires { first_reason self.old.state (events.Down number n) ≡ None }
         ensures limits { self.new.limits ≡ self.old.limits }
@@ -458,7 +458,7 @@ impl<H: Handler> World<H> {
     ///
     /// # Errors
     ///
-    /// Memory is wanting. The connection is cut both ways then.
+    /// Out of memory. The connection is cut both ways then.
     fn down(&mut self, number: u64, n: usize) -> Result<Report, WorldRefusal>
         requires { first_reason self.old.state (events.Down number n) ≡ None }
         ensures limits { self.new.limits ≡ self.old.limits }
@@ -475,7 +475,7 @@ impl<H: Handler> World<H> {
     ///
     /// # Errors
     ///
-    /// Memory is wanting. The connection is cut both ways then.
+    /// Out of memory. The connection is cut both ways then.
     fn feed_raw(&mut self, number: u64, bytes: &[u8]) -> Result<Report, WorldRefusal>
         requires { first_reason self.old.state (events.Raw number bytes) ≡ None }
         ensures limits { self.new.limits ≡ self.old.limits }
@@ -500,7 +500,7 @@ impl<H: Handler> World<H> {
     ///
     /// # Errors
     ///
-    /// Memory is wanting. The connection is cut both ways then.
+    /// Out of memory. The connection is cut both ways then.
     fn take_raw(&mut self, number: u64, n: usize) -> Result<Report, WorldRefusal>
         requires { first_reason self.old.state (events.RawTake number n) ≡ None }
         ensures limits { self.new.limits ≡ self.old.limits }
@@ -522,7 +522,7 @@ impl<H: Handler> World<H> {
     ///
     /// # Errors
     ///
-    /// The first reason that stands against the event. Nothing changes then, but after
+    /// The first reason to refuse the event. Nothing changes then, but after
     /// `OutOfMemory` the event's connection is cut both ways, and part of what was to be moved may
     /// have been.
     pub fn step(&mut self, event: &Event<'_>) -> Result<Report, WorldRefusal>
