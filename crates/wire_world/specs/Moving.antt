@@ -112,7 +112,7 @@ Unfed old piece taken new =
 
 -- ---- piece after piece
 
--- n bytes of the client's output went into the server
+-- this many bytes of the client's output went into the server
 pub record GoneUp (kc : ClientSeen) (ks : ServerView) (moved : ℕ) (client : ClientSeen)
     (server : ServerView) : Type 0 where
   pub pieces : List (List ℕ)
@@ -129,7 +129,7 @@ UpEnd n moved client server (Ok k) =
 UpEnd n moved client server (Err e) =
     (k : ℕ) × (k + moved ≤ n) × WantsRoom server (take k client.requests.output)
 
--- n of the bytes went into the server
+-- this many of the bytes went into the server
 pub record GoneRaw (old : ServerView) (bytes : List ℕ) (moved : ℕ) (server : ServerView) :
     Type 0 where
   pub pieces : List (List ℕ)
@@ -142,7 +142,7 @@ abbrev pub RawEnd : {E : Type 0} (bytes : List ℕ) (moved : ℕ) (server : Serv
 RawEnd bytes moved server (Ok k) = (k ≡ moved) × ((drop moved bytes ≡ []) ⊎ TakesNone server)
 RawEnd bytes moved server (Err e) = WantsRoom server (drop moved bytes)
 
--- n bytes of the server's output went into the client
+-- this many bytes of the server's output went into the client
 pub record GoneDown (indexes : List ℕ) (kc : ClientSeen) (ks : ServerView) (calls : List Record)
     (moved : ℕ) (client : ClientSeen) (server : ServerView) (calls' : List Record) : Type 0 where
   pub pieces : List (List ℕ)
