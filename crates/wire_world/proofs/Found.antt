@@ -40,3 +40,7 @@ is_read w e c k is passes read =
 -- the same, of the world that the parts of one are seen as
 pub read_by : {H : Type 0} {v now : WorldSeen H} (e : Event) (c : ℕ) (k : Conn) → v ≡ now → connection_of e ≡ Some c → first_reason now.state e ≡ None → k ≡ get_or v.state.conns (c - 1) k → conn_at v.state.conns c ≡ Some k
 read_by {v = v} e c k seen is passes read = is_read v.state e c k is (subst (λ (u : WorldSeen _). first_reason u.state e ≡ None) (sym seen) passes) read
+
+-- an index that is one less than the number
+pub at_place : {i j : ℕ} (ks : List Conn) (k : Conn) → i ≡ j → k ≡ get_or ks i k → k ≡ get_or ks j k
+at_place ks k e read = subst (λ (n : ℕ). k ≡ get_or ks n k) e read

@@ -39,6 +39,10 @@ is_placed : {H : Type 0} (w : World H) (c : ℕ) (k k' j : Conn) → conn_at w.c
 is_placed {H} w c k k' j at is = ap (λ (ks : List Conn). let u : World H = record w { conns = ks } in u)
     (sym (conn_set_place w.conns c k' (numbered w.conns c k at).0) ∙ ap (λ (z : Conn). conn_set w.conns c z) is)
 
+-- the same, of an index that is one less than the number
+pub is_dropped : {H : Type 0} (w : World H) (c i : ℕ) (k : Conn) (new : World H) → i ≡ c - 1 → new ≡ dropped (record w { conns = slice_set w.conns i k }) c → new ≡ dropped (placed w c k) c
+is_dropped {H} w c i k new e is = subst (λ (n : ℕ). new ≡ dropped (record w { conns = slice_set w.conns n k }) c) e is
+
 -- ---- up
 
 abbrev moves_up : {H : Type 0} (w : World H) (c n : ℕ) (k k' : Conn) → conn_at w.conns c ≡ Some k → Passes w (events.Up c n) c k → MovedUp k n k' → MovesUp w c n (placed w c k')

@@ -1,6 +1,6 @@
 //! Worlds of connections, and the events that happen in them.
 
-ghost use Rattle.std.specs.Prelude.{◌≡◌, ◌≢◌, ◌↔◌, IfErr, IfNone, IfOk, IfSome, IsTrue, Err};
+ghost use Rattle.std.specs.Prelude.{◌≡◌, ◌≢◌, ◌↔◌, ◌-◌, IfErr, IfNone, IfOk, IfSome, IsTrue, Err};
 ghost use Rattle.std.specs.Prelude.{MatchResult, None, Ok, OnErr, Some, map};
 ghost use Rattle.wire_model.specs.{AreGood, Calls, CutsDown, CutsUp, GoesOnFromEach, Happens};
 ghost use Rattle.wire_model.specs.{Headline, IdsApart, IsQuiet, QuietIsDone, RawAnswerOwn};
@@ -10,6 +10,7 @@ ghost use Rattle.wire_model.specs.{restarted_world};
 ghost use Rattle.wire_model.specs.declared.events.Event.TheVariants as events;
 ghost use Rattle.wire_model.specs.declared.reports.Report.TheVariants as reports;
 ghost use Rattle.wire_peer.specs.{content_of, log_of};
+ghost use Rattle.wire_world.specs.Places.{IsPlace};
 ghost use Rattle.wire_world.specs.Records.{record_of};
 ghost use Rattle.wire_world.specs.Setups.{AreGoodForEnds, IsNewWorld, IsSetupRefusal};
 
@@ -144,18 +145,22 @@ impl<H> World<H> {
         }
     }
 
-    /// Returns the first reason to refuse the event. A call that passes may still be refused by its
-    /// client.
-    fn check(&self, event: &Event<'_>) -> Result<(), WorldRefusal>
-        ensures { MatchResult result
+    /// Returns the index of the event's connection, or 0 if it is of none.
+    ///
+    /// # Errors
+    ///
+    /// The first reason to refuse the event. A call that passes may still be refused by its client.
+    fn check(&self, event: &Event<'_>) -> Result<usize, WorldRefusal>
+        ensures reason { MatchResult result
             (λ _. first_reason self.now.state event.now ≡ None)
             (λ refusal. first_reason self.now.state event.now ≡ Some refusal) }
+        ensures place { IfOk result (λ at. IsPlace event.now at) }
     {
         if self.is_full_for(event) {
             return Err(WorldRefusal::Full);
         }
         let Some(needs) = event.needs() else {
-            return Ok(());
+            return Ok(0);
         };
         let Some(connection) = connection_at(&self.connections, needs.connection) else {
             return Err(WorldRefusal::NoConnection);
@@ -177,7 +182,7 @@ impl<H> World<H> {
         {
             return Err(WorldRefusal::Answer(refusal));
         }
-        Ok(())
+        Ok((needs.connection - 1) as usize)
     }
 
     /// Returns true if the event makes a connection, and the pool has nothing to lend, or no number
@@ -202,12 +207,13 @@ impl<H> World<H> {
 
     /// Checks a connection in that was lent. Returns true if it is kept, and false if it is
     /// dropped.
-    fn give_back(&mut self, number: u64) -> bool
-        requires { first_reason self.old.state (events.Return number) ≡ None }
+    fn give_back(&mut self, number: u64, at: usize) -> bool
+        requires passes { first_reason self.old.state (events.Return number) ≡ None }
+        requires place { at ≡ number - 1 }
         ensures limits { self.new.limits ≡ self.old.limits }
         ensures state { Returns self.old.state number result self.new.state }
     {
-        let connection = &self.connections[(number - 1) as usize];
+        let connection = &self.connections[at];
         let healthy = connection.is_healthy();
         match self.pool.check_in(number, healthy) {
             CheckIn::Kept => true,
@@ -220,22 +226,24 @@ impl<H> World<H> {
     }
 
     /// Cuts the way up.
-    fn cut_up(&mut self, number: u64)
-        requires { first_reason self.old.state (events.CutUp number) ≡ None }
+    fn cut_up(&mut self, number: u64, at: usize)
+        requires passes { first_reason self.old.state (events.CutUp number) ≡ None }
+        requires place { at ≡ number - 1 }
         ensures limits { self.new.limits ≡ self.old.limits }
         ensures state { CutsUp self.old.state number self.new.state }
     {
-        let connection = &mut self.connections[(number - 1) as usize];
+        let connection = &mut self.connections[at];
         connection.cut_up();
     }
 
     /// Cuts the way down.
-    fn cut_down(&mut self, number: u64)
-        requires { first_reason self.old.state (events.CutDown number) ≡ None }
+    fn cut_down(&mut self, number: u64, at: usize)
+        requires passes { first_reason self.old.state (events.CutDown number) ≡ None }
+        requires place { at ≡ number - 1 }
         ensures limits { self.new.limits ≡ self.old.limits }
         ensures state { CutsDown self.old.state number self.new.state }
     {
-        let connection = &mut self.connections[(number - 1) as usize];
+        let connection = &mut self.connections[at];
         connection.cut_down();
         settle(&mut self.calls, &self.connections);
     }
@@ -332,10 +340,12 @@ impl<H: Handler> World<H> {
     fn make_call(
         &mut self,
         number: u64,
+        at: usize,
         kind: CallKind,
         payload: Payload<'_>,
     ) -> Result<CallNo, CallRefusal>
-        requires { first_reason self.old.state (events.Call number kind payload) ≡ None }
+        requires passes { first_reason self.old.state (events.Call number kind payload) ≡ None }
+        requires place { at ≡ number - 1 }
         ensures limits { self.new.limits ≡ self.old.limits }
         ensures called { IfOk result
             (λ no. Calls self.old.state number kind (content_of payload.entry) no self.new.state) }
@@ -350,7 +360,7 @@ impl<H: Handler> World<H> {
         if make_room(&mut self.calls).is_err() {
             return Err(CallRefusal::OutOfMemory);
         }
-        let connection = &mut self.connections[(number - 1) as usize];
+        let connection = &mut self.connections[at];
         let call = connection.call(kind, payload, self.calls.len())?;
         self.calls.push_reserved(record);
         Ok(call)
@@ -364,16 +374,18 @@ impl<H: Handler> World<H> {
     fn call(
         &mut self,
         number: u64,
+        at: usize,
         kind: CallKind,
         payload: Payload<'_>,
     ) -> Result<Report, WorldRefusal>
-        requires { first_reason self.old.state (events.Call number kind payload) ≡ None }
+        requires passes { first_reason self.old.state (events.Call number kind payload) ≡ None }
+        requires place { at ≡ number - 1 }
         ensures limits { self.new.limits ≡ self.old.limits }
         ensures state { Happens H.does H.stops self.old.limits self.old.state
             (events.Call number kind payload.entry) result self.new.state }
     {
         let index = self.calls.len();
-        match self.make_call(number, kind, payload) {
+        match self.make_call(number, at, kind, payload) {
             Ok(call) => Ok(Report::Called {
                 call: index,
                 id: call.id,
@@ -391,13 +403,14 @@ impl<H: Handler> World<H> {
     /// # Errors
     ///
     /// Out of memory, and the handler wasn't asked.
-    fn answer(&mut self, number: u64, k: usize) -> Result<Report, WorldRefusal>
-        requires { first_reason self.old.state (events.Answer number k) ≡ None }
+    fn answer(&mut self, number: u64, at: usize, k: usize) -> Result<Report, WorldRefusal>
+        requires passes { first_reason self.old.state (events.Answer number k) ≡ None }
+        requires place { at ≡ number - 1 }
         ensures limits { self.new.limits ≡ self.old.limits }
         ensures state { Happens H.does H.stops self.old.limits self.old.state
             (events.Answer number k) result self.new.state }
     {
-        let connection = &mut self.connections[(number - 1) as usize];
+        let connection = &mut self.connections[at];
         match connection.answer(k, &mut self.logged) {
             Ok(entry) => Ok(Report::Entry(entry)),
             Err(AnswerRefusal::NowClosed(cause)) => Ok(Report::ClosedBy(cause)),
@@ -415,13 +428,14 @@ impl<H: Handler> World<H> {
     /// # Errors
     ///
     /// Out of memory. The connection is cut both ways then.
-    fn up(&mut self, number: u64, n: usize) -> Result<Report, WorldRefusal>
-        requires { first_reason self.old.state (events.Up number n) ≡ None }
+    fn up(&mut self, number: u64, at: usize, n: usize) -> Result<Report, WorldRefusal>
+        requires passes { first_reason self.old.state (events.Up number n) ≡ None }
+        requires place { at ≡ number - 1 }
         ensures limits { self.new.limits ≡ self.old.limits }
         ensures state { Happens H.does H.stops self.old.limits self.old.state (events.Up number n)
             result self.new.state }
     {
-        let connection = &mut self.connections[(number - 1) as usize];
+        let connection = &mut self.connections[at];
         match connection.move_up(n) {
             Ok(moved) => Ok(Report::Moved(moved)),
             Err(_) => {
@@ -437,8 +451,9 @@ impl<H: Handler> World<H> {
     /// # Errors
     ///
     /// Out of memory. The connection is cut both ways then.
-    fn move_down(&mut self, number: u64, n: usize) -> Result<usize, AllocError>
-        requires { first_reason self.old.state (events.Down number n) ≡ None }
+    fn move_down(&mut self, number: u64, at: usize, n: usize) -> Result<usize, AllocError>
+        requires passes { first_reason self.old.state (events.Down number n) ≡ None }
+        requires place { at ≡ number - 1 }
         ensures limits { self.new.limits ≡ self.old.limits }
         ensures state { MatchResult result
             (λ moved. Happens H.does H.stops self.old.limits self.old.state (events.Down number n)
@@ -446,7 +461,7 @@ impl<H: Handler> World<H> {
             (λ _. Happens H.does H.stops self.old.limits self.old.state (events.Down number n)
             (Err WorldRefusal.OutOfMemory) self.new.state) }
     {
-        let connection = &mut self.connections[(number - 1) as usize];
+        let connection = &mut self.connections[at];
         let moved = connection.move_down(n, &mut self.calls);
         if connection.is_closed() {
             settle(&mut self.calls, &self.connections);
@@ -459,13 +474,14 @@ impl<H: Handler> World<H> {
     /// # Errors
     ///
     /// Out of memory. The connection is cut both ways then.
-    fn down(&mut self, number: u64, n: usize) -> Result<Report, WorldRefusal>
-        requires { first_reason self.old.state (events.Down number n) ≡ None }
+    fn down(&mut self, number: u64, at: usize, n: usize) -> Result<Report, WorldRefusal>
+        requires passes { first_reason self.old.state (events.Down number n) ≡ None }
+        requires place { at ≡ number - 1 }
         ensures limits { self.new.limits ≡ self.old.limits }
         ensures state { Happens H.does H.stops self.old.limits self.old.state (events.Down number n)
             result self.new.state }
     {
-        match self.move_down(number, n) {
+        match self.move_down(number, at, n) {
             Ok(moved) => Ok(Report::Moved(moved)),
             Err(_) => Err(WorldRefusal::OutOfMemory),
         }
@@ -476,13 +492,14 @@ impl<H: Handler> World<H> {
     /// # Errors
     ///
     /// Out of memory. The connection is cut both ways then.
-    fn feed_raw(&mut self, number: u64, bytes: &[u8]) -> Result<Report, WorldRefusal>
-        requires { first_reason self.old.state (events.Raw number bytes) ≡ None }
+    fn feed_raw(&mut self, number: u64, at: usize, bytes: &[u8]) -> Result<Report, WorldRefusal>
+        requires passes { first_reason self.old.state (events.Raw number bytes) ≡ None }
+        requires place { at ≡ number - 1 }
         ensures limits { self.new.limits ≡ self.old.limits }
         ensures state { Happens H.does H.stops self.old.limits self.old.state
             (events.Raw number bytes.entry) result self.new.state }
     {
-        let connection = &mut self.connections[(number - 1) as usize];
+        let connection = &mut self.connections[at];
         let before = connection.server.state();
         match connection.take_raw(bytes) {
             Ok(moved) => Ok(Report::RawMoved {
@@ -501,14 +518,15 @@ impl<H: Handler> World<H> {
     /// # Errors
     ///
     /// Out of memory. The connection is cut both ways then.
-    fn take_raw(&mut self, number: u64, n: usize) -> Result<Report, WorldRefusal>
-        requires { first_reason self.old.state (events.RawTake number n) ≡ None }
+    fn take_raw(&mut self, number: u64, at: usize, n: usize) -> Result<Report, WorldRefusal>
+        requires passes { first_reason self.old.state (events.RawTake number n) ≡ None }
+        requires place { at ≡ number - 1 }
         ensures limits { self.new.limits ≡ self.old.limits }
         ensures state { Happens H.does H.stops self.old.limits self.old.state
             (events.RawTake number n) result self.new.state }
     {
         let alloc = *self.calls.allocator();
-        let connection = &mut self.connections[(number - 1) as usize];
+        let connection = &mut self.connections[at];
         match connection.give_raw(alloc, n) {
             Ok(bytes) => Ok(Report::Bytes(bytes)),
             Err(_) => {
@@ -530,24 +548,24 @@ impl<H: Handler> World<H> {
         ensures state { Happens H.does H.stops self.old.limits self.old.state event.now result
             self.new.state }
     {
-        self.check(event)?;
+        let at = self.check(event)?;
         match *event {
             Event::Open => self.open(),
-            Event::Return(c) => Ok(if self.give_back(c) {
+            Event::Return(c) => Ok(if self.give_back(c, at) {
                 Report::Kept
             } else {
                 Report::Dropped
             }),
-            Event::Call(c, kind, payload) => self.call(c, kind, payload),
-            Event::Up(c, n) => self.up(c, n),
-            Event::Down(c, n) => self.down(c, n),
-            Event::Answer(c, k) => self.answer(c, k),
+            Event::Call(c, kind, payload) => self.call(c, at, kind, payload),
+            Event::Up(c, n) => self.up(c, at, n),
+            Event::Down(c, n) => self.down(c, at, n),
+            Event::Answer(c, k) => self.answer(c, at, k),
             Event::CutUp(c) => {
-                self.cut_up(c);
+                self.cut_up(c, at);
                 Ok(Report::Done)
             }
             Event::CutDown(c) => {
-                self.cut_down(c);
+                self.cut_down(c, at);
                 Ok(Report::Done)
             }
             Event::Clear => {
@@ -559,8 +577,8 @@ impl<H: Handler> World<H> {
                 Ok(Report::Done)
             }
             Event::RawOpen => self.open_raw(),
-            Event::Raw(c, bytes) => self.feed_raw(c, bytes),
-            Event::RawTake(c, n) => self.take_raw(c, n),
+            Event::Raw(c, bytes) => self.feed_raw(c, at, bytes),
+            Event::RawTake(c, n) => self.take_raw(c, at, n),
         }
     }
 }

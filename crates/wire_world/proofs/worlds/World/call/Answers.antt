@@ -5,7 +5,7 @@ use Rattle.wire_world.proofs.worlds.World.call.Goals as goal
 
 pub returns-in-Err-OutOfMemory-clause-state : goal.returns-in-Err-OutOfMemory-clause-state
 returns-in-Err-OutOfMemory-clause-state g c = (
-  c.requires,
+  c.requires.passes,
   inr (record {
     c = c.args.number;
     is = refl;

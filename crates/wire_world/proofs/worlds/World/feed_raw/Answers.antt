@@ -1,38 +1,44 @@
-use Rattle.std.proofs.Common.{◌≡◌, ◌∙◌, ap, refl, Some}
+use Rattle.std.proofs.Common.{◌≡◌, ◌∙◌, ap, map, refl, Some}
 use Rattle.wire_model.specs.{Conn, conn_at, is_closed}
 use Rattle.wire_model.specs.Happening.{closed_now}
 use Rattle.wire_model.specs.declared.events.Event.TheVariants as events
 use Rattle.wire_world.specs.Worlds.{WorldSeen}
-use Rattle.wire_world.proofs.Found.{numbered, read_by}
-use Rattle.wire_world.proofs.Moved.{raw_runs_out, server_seen, takes_in}
+use Rattle.wire_world.proofs.Found.{at_place, numbered, read_by}
+use Rattle.wire_world.proofs.Moved.{is_dropped, raw_runs_out, server_seen, takes_in}
 use Rattle.wire_world.proofs.Numbered.{conn_set_place}
 use Rattle.wire_world.proofs.StayParts.{parts_changed}
+use Rattle.wire_peer.specs.{log_of}
+use Rattle.wire_world.specs.Records.{record_of}
 use Rattle.wire_world.proofs.worlds.World.feed_raw.Goals as goal
 
 pub invariant_of-self : goal.invariant_of-self
-invariant_of-self g c = record {
-  parts = let k = c.index_mut-connection.result.now in
-      let at : conn_at c.self.inside.connections.items c.args.number ≡ Some k = read_by (events.Raw c.args.number c.args.bytes) c.args.number k c.self.view_is refl c.requires c.index_mut-connection.ensures.value in
-      rw (← conn_set_place c.self.inside.connections.items c.args.number c.take_raw.new.self (numbered _ c.args.number k at).0)
-      (parts_changed _ _ _ _ c.args.number k c.take_raw.new.self at (ap (λ (z : Conn). is_closed z.client.state) c.take_raw.ensures.0.after) c.self.invariant.parts);
-  rooms = c.self.invariant.rooms;
-}
+invariant_of-self g c =
+    rw c.requires.place (record {
+      parts = let k = c.index_mut-connection.result.now in
+          let at : conn_at c.self.inside.connections.items c.args.number ≡ Some k = read_by (events.Raw c.args.number c.args.bytes) c.args.number k c.self.view_is refl c.requires.passes (at_place _ c.index_mut-connection.result.now c.requires.place c.index_mut-connection.ensures.value) in
+          rw (← conn_set_place c.self.inside.connections.items c.args.number c.take_raw.new.self (numbered _ c.args.number k at).0)
+          (parts_changed _ _ _ _ c.args.number k c.take_raw.new.self at (ap (λ (z : Conn). is_closed z.client.state) c.take_raw.ensures.0.after) c.self.invariant.parts);
+      rooms = c.self.invariant.rooms;
+    })
 
 pub invariant_of-self-in-Err : goal.invariant_of-self-in-Err
-invariant_of-self-in-Err g c = record {
-  parts = let k = c.index_mut-connection.result.now in
-      let at : conn_at c.self.inside.connections.items c.args.number ≡ Some k = read_by (events.Raw c.args.number c.args.bytes) c.args.number k c.self.view_is refl c.requires c.index_mut-connection.ensures.value in
-      rw (← conn_set_place c.self.inside.connections.items c.args.number c.take_raw.new.self (numbered _ c.args.number k at).0)
-      (parts_changed _ _ _ _ c.args.number k c.take_raw.new.self at (ap (λ (z : Conn). is_closed z.client.state) c.take_raw.ensures.0.after) c.self.invariant.parts);
-  rooms = c.self.invariant.rooms;
-}
+invariant_of-self-in-Err g c =
+    rw c.requires.place (record {
+      parts = let k = c.index_mut-connection.result.now in
+          let at : conn_at c.self.inside.connections.items c.args.number ≡ Some k = read_by (events.Raw c.args.number c.args.bytes) c.args.number k c.self.view_is refl c.requires.passes (at_place _ c.index_mut-connection.result.now c.requires.place c.index_mut-connection.ensures.value) in
+          rw (← conn_set_place c.self.inside.connections.items c.args.number c.take_raw.new.self (numbered _ c.args.number k at).0)
+          (parts_changed _ _ _ _ c.args.number k c.take_raw.new.self at (ap (λ (z : Conn). is_closed z.client.state) c.take_raw.ensures.0.after) c.self.invariant.parts);
+      rooms = c.self.invariant.rooms;
+    })
 
 pub returns-in-Ok-clause-state : goal.returns-in-Ok-clause-state
-returns-in-Ok-clause-state g c = takes_in c.self.view_is c.args.number c.index_mut-connection.result.now c.take_raw.new.self c.index_mut-connection.ensures.value g.H.Handler.does g.H.Handler.stops c.args.bytes c.in-Ok.moved _ c.requires
+returns-in-Ok-clause-state g c =
+    rw c.requires.place (takes_in c.self.view_is c.args.number c.index_mut-connection.result.now c.take_raw.new.self (at_place _ c.index_mut-connection.result.now c.requires.place c.index_mut-connection.ensures.value) g.H.Handler.does g.H.Handler.stops c.args.bytes c.in-Ok.moved _ c.requires.passes
     c.in-Ok.ensures.0 c.in-Ok.ensures.1.0 c.in-Ok.ensures.1.1
     (c.closed_now.ensures ∙ ap (λ s. closed_now s c.state.result) (c.state-before.ensures.state ∙ server_seen c.connection.inside.client c.connection.inside.server c.connection.inside.calls.items c.connection.inside.up_cut c.connection.inside.down_cut _ c.connection.view_is)
-    ∙ ap (closed_now c.index_mut-connection.result.now.server.state) (c.state.ensures.state ∙ server_seen c.connection-2.inside.client c.connection-2.inside.server c.connection-2.inside.calls.items c.connection-2.inside.up_cut c.connection-2.inside.down_cut _ c.connection-2.view_is))
+    ∙ ap (closed_now c.index_mut-connection.result.now.server.state) (c.state.ensures.state ∙ server_seen c.connection-2.inside.client c.connection-2.inside.server c.connection-2.inside.calls.items c.connection-2.inside.up_cut c.connection-2.inside.down_cut _ c.connection-2.view_is)))
 
 pub returns-in-Err-clause-state : goal.returns-in-Err-clause-state
-returns-in-Err-clause-state g c = raw_runs_out c.self.view_is c.args.number c.index_mut-connection.result.now c.take_raw.new.self c.index_mut-connection.ensures.value c.args.bytes _ c.requires
-    c.in-Err.ensures.0 c.in-Err.ensures.1 (ap (λ (u : WorldSeen _). u.state) c.drop_connection.ensures)
+returns-in-Err-clause-state g c =
+    raw_runs_out c.self.view_is c.args.number c.index_mut-connection.result.now c.take_raw.new.self (at_place _ c.index_mut-connection.result.now c.requires.place c.index_mut-connection.ensures.value) c.args.bytes _ c.requires.passes
+    c.in-Err.ensures.0 c.in-Err.ensures.1 (is_dropped (record { pool = c.self.inside.pool; conns = c.self.inside.connections.items; calls = map record_of c.self.inside.calls.items; log = log_of c.self.inside.logged.entries.items; handler = c.self.inside.logged.handler }) c.args.number c.args.at c.take_raw.new.self c.drop_connection.new.self.state c.requires.place (ap (λ (u : WorldSeen _). u.state) c.drop_connection.ensures))
