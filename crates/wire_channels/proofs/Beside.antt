@@ -1,10 +1,7 @@
 -- To pairs, what strangers ask is a change of the handler's state: their run without the strangers.
 use Rattle.std.proofs.Common.{◌≡◌, ℕ, ◌^◌, ◌<◌, Bool, true, false, List, [], ◌∷◌, ◌++◌, length, refl, sym, ◌∙◌, ap, subst, Some, None, ◌⊎◌, inl, inr, Result, Ok, Err}
-use Rattle.std.specs.Prelude.{All, ◌==◌, if◌then◌else◌, slice_get}
-use Rattle.std.specs.Option.{ForSome}
-use Rattle.std.proofs.lemmas.List.Elements.{All-cons, All-head, All-tail}
+use Rattle.std.specs.Prelude.{◌==◌, if◌then◌else◌, slice_get}
 use Rattle.std.proofs.lemmas.Option.{none-some, same_Some}
-use Rattle.wire_msg.specs.{Content, IsContent}
 use Rattle.wire_peer.specs.{AnswerStep, Does, LogEntry, ServerView, Stops, asked_by, entered}
 use Rattle.wire_peer.specs.Replying.{ReplyStep}
 use Rattle.wire_peer.specs.ServerAnswers.{cause_of, replies_of}
@@ -15,74 +12,16 @@ use Rattle.wire_peer.specs.declared.server_state.AnswerRefusal.TheVariants as re
 use Rattle.wire_model.specs.{AreContents, Record}
 use Rattle.wire_model.proofs.Lemmas.{is_elsewhere, same_or_not}
 use Rattle.wire_channels.specs.Owners.{AreMade, ClientAct, ClientEnd, ClientRun, Made, ServerAct, ServerDoes, ServerEnds, ServersDo, first_end, first_servers_of, server_at, server_set}
-use Rattle.wire_channels.specs.Owners.{Answers, Calls, Collects, EndsDown, EndsUp, SendsDown, SendsUp, TakesDown, TakesUp, bytes_sent, bytes_sent_down, bytes_taken, bytes_taken_up, sent_down_by, taken_up_by}
-use Rattle.wire_channels.specs.Deeds.{Arrive, AtClient, AtServer, Deed, ServersRun, acts_at, at_one, server_acts_at}
+use Rattle.wire_channels.specs.Owners.{Answers, EndsUp, SendsDown, TakesUp, bytes_sent, bytes_sent_down, bytes_taken, bytes_taken_up, sent_down_by, taken_up_by}
+use Rattle.wire_channels.specs.Deeds.{Arrive, AtClient, AtServer, Deed, ServersRun, acts_at, server_acts_at}
 use Rattle.wire_channels.specs.Knowing.{AreQuiet, IsCallOf, OwnersKnow}
 use Rattle.wire_channels.specs.Strangers.{IsPairCall, PairsKnow, Strayed, deeds_beside, does_beside, log_beside, none, once_more, stops_beside}
 use Rattle.wire_channels.proofs.Asking.{asking, fed_connection}
 use Rattle.wire_channels.proofs.Fits.{server_set-other, server_set-same}
 use Rattle.wire_channels.proofs.Knows.{know, owned_by}
 use Rattle.wire_channels.proofs.Starts.{first_is}
-
--- ---- the log without strangers' entries
-
-module _ (strange : ℕ → Bool) where
-  beside_push : (log : List LogEntry) (en : LogEntry) → strange en.connection ≡ false
-      → log_beside strange (log ++ en ∷ []) ≡ log_beside strange log ++ en ∷ []
-  beside_push [] en n = ap (λ b. if b then [] else en ∷ []) n
-  beside_push (x ∷ log) en n = by (strange x.connection) (beside_push log en n)
-    where
-      by : (b : Bool)
-          → log_beside strange (log ++ en ∷ []) ≡ log_beside strange log ++ en ∷ []
-          → (if b then log_beside strange (log ++ en ∷ [])
-          else x ∷ log_beside strange (log ++ en ∷ []))
-          ≡ (if b then log_beside strange log else x ∷ log_beside strange log) ++ en ∷ []
-      by true e = e
-      by false e = ap (λ z. x ∷ z) e
-
-  beside_skip : (log : List LogEntry) (en : LogEntry) → strange en.connection ≡ true
-      → log_beside strange (log ++ en ∷ []) ≡ log_beside strange log
-  beside_skip [] en n = ap (λ b. if b then [] else en ∷ []) n
-  beside_skip (x ∷ log) en n =
-      ap (λ z. if strange x.connection then z else x ∷ z) (beside_skip log en n)
-
-  abbrev Fine : LogEntry → Type 0
-  Fine e = ForSome e.answers (All (λ (c : Content). ∥ IsContent c ∥₁))
-
-  contents_beside : (log : List LogEntry) → AreContents log → AreContents (log_beside strange log)
-  contents_beside [] all = all
-  contents_beside (x ∷ log) all =
-      by (strange x.connection) (contents_beside log (All-tail Fine x log all))
-    where
-      by : (b : Bool) → AreContents (log_beside strange log)
-          → AreContents (if b then log_beside strange log else x ∷ log_beside strange log)
-      by true more = more
-      by false more =
-          All-cons Fine x (log_beside strange log) (All-head Fine x log all) more
-
-true_is : (b : Bool) → b ≡ true → b ≡ false → ⊥
-true_is b t f = let no_ : true ≡ false = sym t ∙ f in cc
-
--- ---- what arrives
-
-arrive_client : (c : ℕ) (act : ClientAct) (ds ds' : List Deed)
-    → ((up down : ℕ → List ℕ) → Arrive up down ds → Arrive up down ds') → (up down : ℕ → List ℕ)
-    → Arrive up down (AtClient c act ∷ ds) → Arrive up down (AtClient c act ∷ ds')
-arrive_client c (Calls kind payload number) ds ds' f up down a = f up down a
-arrive_client c (SendsUp bytes) ds ds' f up down a = f (at_one up c (up c ++ bytes)) down a
-arrive_client c (TakesDown bytes) ds ds' f up down (rest, is, a) =
-    (rest, is, f up (at_one down c rest) a)
-arrive_client c (Collects reply m) ds ds' f up down a = f up down a
-arrive_client c EndsDown ds ds' f up down a = f up down a
-
-arrive_server : (c : ℕ) (act : ServerAct) (ds ds' : List Deed)
-    → ((up down : ℕ → List ℕ) → Arrive up down ds → Arrive up down ds') → (up down : ℕ → List ℕ)
-    → Arrive up down (AtServer c act ∷ ds) → Arrive up down (AtServer c act ∷ ds')
-arrive_server c (TakesUp bytes) ds ds' f up down (rest, is, a) =
-    (rest, is, f (at_one up c rest) down a)
-arrive_server c (Answers i result) ds ds' f up down a = f up down a
-arrive_server c (SendsDown bytes) ds ds' f up down a = f up (at_one down c (down c ++ bytes)) a
-arrive_server c EndsUp ds ds' f up down a = f up down a
+use Rattle.wire_channels.proofs.LogBeside.{beside_push, beside_skip, contents_beside, true_is}
+use Rattle.wire_channels.proofs.WiderActs.{arrive_client, arrive_server}
 
 module _ (H : Type 0) (does : Does H) (stops : Stops H) (strange : ℕ → Bool) where
   abbrev D : Does H

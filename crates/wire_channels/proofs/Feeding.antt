@@ -13,7 +13,7 @@ use Rattle.wire_peer.specs.{ClientSeen, ServerView, Takes, TakesBytes, after_mes
 use Rattle.wire_peer.specs.ClientSteps.{is_message, is_open}
 use Rattle.wire_peer.specs.Servers as server_steps
 use Rattle.wire_channels.proofs.Numbers.{Each}
-use Rattle.wire_channels.proofs.Witness.{whole_no_more}
+use Rattle.wire_channels.proofs.Acts.{whole_no_more}
 
 -- ---- what is in flight begins with a message
 

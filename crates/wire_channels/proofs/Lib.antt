@@ -30,3 +30,5 @@ pub mod WiderServes
 pub mod Limits
 pub mod LimitsKnow
 pub mod Feeding
+pub mod Acts
+pub mod LogBeside
