@@ -1,3 +1,4 @@
+pub mod Lemmas
 pub mod Pairs
 pub mod Ends
 pub mod Goes

@@ -1,0 +1,76 @@
+-- A client's end, and what is done with it.
+use Rattle.std.specs.Prelude.{◌≡◌, ℕ, Option, List, [], ◌∷◌, ◌++◌, Result, Ok, Err}
+use Rattle.std.specs.Io.KnownBytes.{Appends}
+use Rattle.wire_msg.specs.{Message}
+use Rattle.wire_peer.specs.{ClientSeen, MayTake}
+use Rattle.wire_peer.specs.declared.client_state.ClientState.TheVariants.{Closed}
+use Rattle.wire_channels.specs.{ClientAct, ClientEnd, ClientRun, bytes_sent, bytes_taken, handed}
+use Rattle.wire_stream.specs.{Rose}
+use Rattle.wire_end.specs.declared.next.EndFault.{EndFault}
+use Rattle.wire_end.specs.declared.next.EndFault.TheVariants as faults
+use Rattle.wire_end.specs.declared.next.Next.{Next}
+use Rattle.wire_end.specs.declared.next.Next.TheVariants.{Later, Reply}
+
+-- The number of the connection; the client, and the records of its calls by their numbers; the
+-- link; and the bytes that came over it and that the client hasn't taken yet.
+pub record EndSeen (L : Type 0) : Type 0 where
+  pub connection : ℕ
+  pub own : ClientEnd
+  pub link : L
+  pub inlet : List ℕ
+
+-- an end over which nothing was done
+abbrev pub new_end : {L : Type 0} → ℕ → ClientSeen → L → EndSeen L
+new_end connection client link = record {
+  connection = connection;
+  own = record { client = client; records = [] };
+  link = link;
+  inlet = [];
+}
+
+-- The end did these acts. They are a run of its client and records; the link sent the bytes that
+-- they sent; and what came over the link, behind the bytes that were held, are those that they took
+-- and those that are held now.
+pub record EndRuns {L : Type 0} (sent received : L → Option (List ℕ)) (old : EndSeen L)
+    (acts : List ClientAct) (new : EndSeen L) : Type 0 where
+  pub connection : new.connection ≡ old.connection
+  pub run : ClientRun old.connection old.own acts new.own
+  pub sends : Appends (sent old.link) (sent new.link) (bytes_sent acts)
+  pub came : List ℕ
+  pub receives : Appends (received old.link) (received new.link) came
+  pub taken : old.inlet ++ came ≡ bytes_taken acts ++ new.inlet
+
+-- the client takes bytes, and none is there
+abbrev pub IsWaiting : {L : Type 0} → EndSeen L → Type 0
+IsWaiting e = MayTake e.own.client × (e.inlet ≡ [])
+
+-- ---- the next reply
+
+-- The reply that a call returned is the one that was handed out by these acts; where it returned
+-- none, none was.
+abbrev pub HandsOut : Result Next EndFault → List ClientAct → Type 0
+HandsOut (Ok (Reply reply)) acts = (m : Message) × (handed acts ≡ (reply, m) ∷ [])
+HandsOut (Ok Later) acts = handed acts ≡ []
+HandsOut (Err fault) acts = handed acts ≡ []
+
+-- Where no reply was there yet, the client takes more bytes and none is held; and where none comes
+-- any more, it is closed, with this cause.
+abbrev pub StandsAs : {L : Type 0} → Result Next EndFault → EndSeen L → Type 0
+StandsAs (Ok (Reply reply)) new = Unit {0}
+StandsAs (Ok Later) new = IsWaiting new
+StandsAs (Err (faults.Closed cause)) new = new.own.client.state ≡ Closed cause
+StandsAs (Err (faults.Link fault)) new = Unit {0}
+StandsAs (Err faults.OutOfMemory) new = Unit {0}
+
+-- the count of waits rose if no reply was there yet, and otherwise stayed the same
+abbrev pub NextLater : Result Next EndFault → ℕ → ℕ → Type 0
+NextLater (Ok Later) old new = Rose old new
+NextLater (Ok (Reply reply)) old new = new ≡ old
+NextLater (Err fault) old new = new ≡ old
+
+-- the count of failures rose if the link failed, and otherwise stayed the same
+abbrev pub FailsAs : {T : Type 0} → Result T EndFault → ℕ → ℕ → Type 0
+FailsAs (Err (faults.Link fault)) old new = Rose old new
+FailsAs (Err (faults.Closed cause)) old new = new ≡ old
+FailsAs (Err faults.OutOfMemory) old new = new ≡ old
+FailsAs (Ok value) old new = new ≡ old

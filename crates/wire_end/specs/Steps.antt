@@ -1,0 +1,53 @@
+-- The steps that an end is made of.
+use Rattle.std.specs.Prelude.{◌≡◌, ℕ, ◌+◌, ◌<◌, Bool, true, false, Option, None, Some, List, []}
+use Rattle.std.specs.Prelude.{◌∷◌, ◌++◌, length, Result, Ok, Err}
+use Rattle.wire_msg.specs.{Message}
+use Rattle.wire_model.specs.{ClientTakes}
+use Rattle.wire_peer.specs.{ClientSeen, MayTake}
+use Rattle.wire_peer.specs.declared.call_table.ReadyReply.{ReadyReply}
+use Rattle.wire_channels.specs.{ClientAct, handed}
+use Rattle.wire_channels.specs.Owners.{Collects}
+use Rattle.wire_stream.specs.{Rose}
+use Rattle.wire_end.specs.declared.next.EndFault.{EndFault}
+use Rattle.wire_end.specs.declared.next.EndFault.TheVariants as faults
+use Rattle.wire_end.specs.Ends.{EndRuns, EndSeen}
+
+-- the end did some acts, and handed out no reply
+abbrev pub Hears : {L : Type 0} → (sent received : L → Option (List ℕ)) → EndSeen L → EndSeen L
+    → Type 0
+Hears sent received old new =
+    (acts : List ClientAct) × EndRuns sent received old acts new × (handed acts ≡ [])
+
+-- Where the client still takes bytes, it holds more of a message than before, within its limit or a
+-- header.
+abbrev pub HoldsMore : ClientSeen → ClientSeen → Type 0
+HoldsMore old new = MayTake new → (length old.held < length new.held)
+    × (length new.held < 16 + new.requests.limit) × (new.requests.limit ≡ old.requests.limit)
+
+-- the client took the first of the bytes that were there
+pub record IsFed (old : ClientSeen) (there : List ℕ) (new : ClientSeen) (left : List ℕ) :
+    Type 0 where
+  pub bytes : List ℕ
+  pub takes : ClientTakes old bytes new
+  pub parts : there ≡ bytes ++ left
+  pub more : HoldsMore old new
+
+-- the reply that was ready is handed out, or none was
+abbrev pub CollectsAs : {L : Type 0} → (sent received : L → Option (List ℕ)) → Option ReadyReply
+    → EndSeen L
+    → EndSeen L → Type 0
+CollectsAs sent received None old new = (new ≡ old) × (old.own.client.reply ≡ None)
+CollectsAs sent received (Some reply) old new =
+    (m : Message) × EndRuns sent received old (Collects reply m ∷ []) new
+
+-- the count of waits rose if no more bytes came, and otherwise stayed the same
+abbrev pub StepLater : Result Bool EndFault → ℕ → ℕ → Type 0
+StepLater (Ok false) old new = Rose old new
+StepLater (Ok true) old new = new ≡ old
+StepLater (Err fault) old new = new ≡ old
+
+-- the link failed or memory ran out, and the client isn't closed by that
+abbrev pub ClosesNothing : EndFault → Type 0
+ClosesNothing (faults.Link fault) = Unit {0}
+ClosesNothing (faults.Closed cause) = ⊥
+ClosesNothing faults.OutOfMemory = Unit {0}

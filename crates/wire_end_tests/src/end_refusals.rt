@@ -1,0 +1,97 @@
+//! Tests of what an end is after a refused allocation. `scripts/checks/try-refusals` runs them with
+//! each of their allocations refused in turn. No other one is refused then, so what is asked for
+//! again is granted.
+
+use crate::answered::{end_over, one};
+use std::alloc::Global;
+use wire_end::{CallState, ClientEnd, EndFault, Next};
+use wire_msg::PayloadBuf;
+use wire_peer::{CallKind, CallNo, CallRefusal, ReadyReply};
+use wire_stream::{Flushed, MemLink};
+
+/// The reply `{"n": 1}` to request 1.
+const REPLY: &[u8; 33] =
+    b"\x21\0\0\0\x05\0\0\0\x01\0\0\0\xdd\x07\0\0\0\0\0\0\0\x0c\0\0\0\x10n\0\x01\0\0\0\0";
+
+/// What comes next: the reply to call 0.
+const NEXT: Result<Next, EndFault> = Ok(Next::Reply(ReadyReply {
+    call: 0,
+    last: true,
+}));
+
+/// Makes a call of this kind.
+fn call_as(
+    end: &mut ClientEnd<MemLink>,
+    kind: CallKind,
+    payload: &PayloadBuf,
+) -> Result<CallNo, CallRefusal> {
+    match kind {
+        CallKind::Plain => end.call(payload.as_payload()),
+        CallKind::Exhaust => end.call_exhaust(payload.as_payload()),
+        CallKind::Unacknowledged => end.send_unacknowledged(payload.as_payload()),
+    }
+}
+
+/// Makes a call, and makes it again where memory was refused, which has to change nothing. Returns
+/// true if it is made, with this number and the id after it.
+fn calls(end: &mut ClientEnd<MemLink>, kind: CallKind, payload: &PayloadBuf, number: u8) -> bool {
+    let call = CallNo {
+        number: u64::from(number),
+        id: i32::from(number) + 1,
+    };
+    let outstanding = end.outstanding();
+    match call_as(end, kind, payload) {
+        Err(CallRefusal::OutOfMemory) => {
+            end.outstanding() == outstanding
+                && end.record(call.number).is_none()
+                && call_as(end, kind, payload) == Ok(call)
+        }
+        made => made == Ok(call),
+    }
+}
+
+/// Makes a call of each kind.
+fn calls_each(end: &mut ClientEnd<MemLink>, payload: &PayloadBuf) -> bool {
+    calls(end, CallKind::Plain, payload, 0)
+        && calls(end, CallKind::Exhaust, payload, 1)
+        && calls(end, CallKind::Unacknowledged, payload, 2)
+}
+
+/// Waits for the reply, and waits again where memory was refused, which has to lose nothing.
+/// Returns true if it comes.
+fn comes(end: &mut ClientEnd<MemLink>) -> bool {
+    match end.next_reply() {
+        Err(EndFault::OutOfMemory) => end.next_reply() == NEXT,
+        found => found == NEXT,
+    }
+}
+
+/// Returns true if a call and its reply go on behind a refused allocation. An end or a payload that
+/// isn't made is made again.
+fn goes_on(alloc: Global) -> bool {
+    let reply = [REPLY.as_slice()];
+    let Some(mut end) = (match end_over(alloc, &reply, 20) {
+        None => end_over(alloc, &reply, 20),
+        made => made,
+    }) else {
+        return false;
+    };
+    let Some(payload) = (match one(alloc) {
+        None => one(alloc),
+        made => made,
+    }) else {
+        return false;
+    };
+    if !calls_each(&mut end, &payload) || end.flush() != Ok(Flushed::All) || !comes(&mut end) {
+        return false;
+    }
+    match end.record(0) {
+        Some(record) => record.state == CallState::Done && record.parts.len() == 1,
+        None => false,
+    }
+}
+
+#[test]
+fn a_refused_allocation_loses_nothing(rt: HostRuntime) {
+    assert!(rt; goes_on(rt.alloc()));
+}
