@@ -7,7 +7,7 @@ use crate::fault::FirstFault;
 use bson_raw::RawDocument;
 
 /// Checks that `bytes` are exactly one document. Returns the first fault, by the number of its
-/// cause, from 1 to 11.
+/// cause.
 #[unsafe(no_mangle)]
 pub extern "C" fn lughemra_check_document_nonnull(bytes: &[u8]) -> FirstFault
     ensures { IsDocumentCheck bytes.now result }
@@ -38,7 +38,7 @@ pub struct DocumentsCheck {
     pub documents: usize,
     /// The number of bytes that these documents take.
     pub bytes_read: usize,
-    /// The first fault, by the number of its cause, from 1 to 11.
+    /// The first fault, by the number of its cause.
     pub fault: FirstFault,
 }
 

@@ -17,7 +17,7 @@ pub struct DocumentsWalk {
     pub elements: usize,
     /// The number of bytes of all names, texts and data in them.
     pub sizes: usize,
-    /// The first fault, by the number of its cause, from 1 to 11.
+    /// The first fault, by the number of its cause.
     pub fault: FirstFault,
 }
 

@@ -116,10 +116,8 @@ fn lent_again(alloc: Global, one: Payload<'_>) -> bool {
         alloc,
         Echo,
         WorldLimits {
-            first_id: 1,
-            window: 8,
             connections: 1,
-            limit: 48_000_000,
+            ..ample(1)
         },
         &[
             (Event::Open, End::Opened(1, true)),
@@ -148,10 +146,10 @@ fn small_window(alloc: Global, one: Payload<'_>) -> bool {
         alloc,
         Echo,
         WorldLimits {
-            first_id: 1,
             window: 1,
             connections: 1,
             limit: 33,
+            ..ample(1)
         },
         &[
             (Event::Open, End::Opened(1, true)),
