@@ -8,7 +8,8 @@ fn is_added(document: &mut RawDocumentBuf, name: &str, value: &Bson, wanted: &[u
     document.append(name, value).is_ok() && document.as_raw().as_bytes() == wanted
 }
 
-/// Returns true if no pair of this name is added, for the byte 00 in it, and the document is still these bytes.
+/// Returns true if a pair with this name is refused for the 00 in the name, and the document is
+/// still these bytes.
 fn is_refused(document: &mut RawDocumentBuf, name: &str, wanted: &[u8]) -> bool {
     document.append(name, &Bson::Null) == Err(DocRefusal::ZeroInName)
         && document.as_raw().as_bytes() == wanted
@@ -18,14 +19,15 @@ const ONE: &[u8] = b"\x0c\0\0\0\x10a\0\x01\0\0\0\0";
 
 const TWO: &[u8] = b"\x0f\0\0\0\x10a\0\x01\0\0\0\x0aa\0\0";
 
-/// Returns true if pairs are added last to an empty document, whose names may be those of pairs that are there.
+/// Returns true if pairs are added at the end of an empty document, also one whose name is there
+/// already.
 fn grows(document: &mut RawDocumentBuf) -> bool {
     is_added(document, "a", &Bson::Int32(1), ONE)
         && is_added(document, "a", &Bson::Null, TWO)
         && is_refused(document, "a\0", TWO)
 }
 
-/// Returns true if an empty document is made, and grows.
+/// Returns true if an empty document is made, and `grows` holds of it.
 fn adds_pairs(alloc: Global) -> bool {
     match RawDocumentBuf::new(alloc) {
         Ok(mut document) => grows(&mut document),
@@ -46,7 +48,7 @@ fn nulls(alloc: Global) -> Option<Array> {
     Some(Array::from_vec(values))
 }
 
-/// Returns true if the value under the name "a" makes an empty document these bytes.
+/// Returns true if an empty document is these bytes once the value is added under the name "a".
 fn makes(alloc: Global, value: &Bson, wanted: &[u8]) -> bool {
     match RawDocumentBuf::new(alloc) {
         Ok(mut document) => is_added(&mut document, "a", value, wanted),

@@ -1,5 +1,5 @@
-//! Canonical forms: rows that were worked out by hand from the standard (bsonspec.org, version 1.1), and that calls
-//! succeed where memory is there.
+//! Tests of canonical forms: rows that were worked out by hand from the standard (bsonspec.org,
+//! version 1.1), and that calls succeed if there is memory.
 
 ghost use Rattle.std.specs.Prelude.{◌≤◌};
 
@@ -17,7 +17,8 @@ fn is_form(alloc: Global, document: RawDocument<'_>, wanted: &[u8]) -> bool {
     }
 }
 
-/// Returns true if `wanted` is the canonical form of these bytes, and they are canonical just where they are `wanted`.
+/// Returns true if `wanted` is the canonical form of `bytes`, and `bytes` is canonical exactly if
+/// it is `wanted`.
 fn bytes_have_form(alloc: Global, bytes: &[u8], wanted: &[u8]) -> bool {
     match RawDocument::from_bytes(bytes) {
         Ok(document) => {
@@ -35,7 +36,7 @@ fn digits_have_form(alloc: Global, hex: &str, wanted: &[u8]) -> bool {
     }
 }
 
-/// Returns true if the canonical form of the first document is the second one, whose own canonical form is itself.
+/// Returns true if `canonical` is the canonical form of `hex`, and its own canonical form.
 fn has_form(alloc: Global, hex: &str, canonical: &str) -> bool {
     match read_digits(alloc, canonical) {
         Ok(wanted) => {
@@ -134,7 +135,8 @@ fn canonical_forms(rt: HostRuntime) {
     }
 }
 
-/// Returns true if the canonical form has so many bytes, or, where `len` is none, is refused as too large.
+/// Returns true if the canonical form has `len` bytes, or, if `len` is `None`, is refused as too
+/// large.
 fn document_has_len(
     alloc: Global,
     document: RawDocument<'_>,

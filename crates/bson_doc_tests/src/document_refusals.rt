@@ -1,5 +1,6 @@
-//! Tests of what stays of documents after a refused allocation. `scripts/checks/try-refusals` runs them with each of their allocations
-//! refused in turn. No other one is refused then, so what is asked for again is granted.
+//! Tests that documents stay the same after a refused allocation. `scripts/checks/try-refusals`
+//! runs them with each of their allocations refused in turn. Only one is refused in a run, so what
+//! is tried again succeeds.
 
 use bson_doc::laws::round_trip;
 use bson_doc::{
@@ -29,7 +30,7 @@ fn read(alloc: Global) -> Option<Document> {
     Document::from_raw(alloc, raw).ok()
 }
 
-/// Returns the document of `BYTES`, which is read again where memory is refused.
+/// Returns the document of `BYTES`. Reads it again if memory is refused.
 fn document(alloc: Global) -> Option<Document> {
     match read(alloc) {
         Some(document) => Some(document),
@@ -37,7 +38,7 @@ fn document(alloc: Global) -> Option<Document> {
     }
 }
 
-/// Returns true if what was tried twice came right both times, or once where memory was refused the other time.
+/// Returns true if both tries came right, or one did and memory was refused to the other.
 fn comes_right(first: Result<bool, DocRefusal>, second: Result<bool, DocRefusal>) -> bool {
     match (first, second) {
         (Ok(right), Ok(again)) => right && again,
@@ -102,7 +103,7 @@ fn a_pair_is_read(rt: HostRuntime) {
     assert!(rt; comes_right(reads(alloc, raw), reads(alloc, raw)));
 }
 
-/// Returns whether the document is refused since its name stands twice.
+/// Returns whether the document is refused because its name is repeated.
 fn finds(alloc: Global, raw: RawDocument<'_>) -> Result<bool, DocRefusal> {
     match Document::from_raw(alloc, raw) {
         Ok(_) => Ok(false),
@@ -111,8 +112,8 @@ fn finds(alloc: Global, raw: RawDocument<'_>) -> Result<bool, DocRefusal> {
     }
 }
 
-/// A name that is there is looked up before it is copied. So this asks for memory as often as `a_pair_is_read`, which
-/// `scripts/checks/try-refusals` compares.
+/// A name that is there is looked up before it is copied. So this asks for memory as often as
+/// `a_pair_is_read`, which `scripts/checks/try-refusals` compares.
 #[test]
 fn a_repeated_name_is_found(rt: HostRuntime) {
     let alloc = rt.alloc();
@@ -213,7 +214,7 @@ fn has_pair(changed: &Document) -> bool {
     }
 }
 
-/// Inserts a new name. Returns true if memory isn't refused.
+/// Inserts a pair with a new name. Returns true if memory isn't refused.
 fn is_new(changed: &mut Document, name: String, value: Bson) -> bool {
     match changed.insert(name, value) {
         Ok(before) => before.is_none(),
@@ -221,8 +222,8 @@ fn is_new(changed: &mut Document, name: String, value: Bson) -> bool {
     }
 }
 
-/// Returns true if a pair is inserted into the empty document; or is handed back, the document is still empty, and the pair
-/// that came back is inserted then.
+/// Returns true if a pair is inserted into the empty document; or it is handed back, the document
+/// is still empty, and the pair that came back is then inserted.
 fn inserts(changed: &mut Document, name: String) -> bool {
     match changed.insert(name, Bson::Int32(2)) {
         Ok(_) => has_pair(changed),
@@ -236,7 +237,7 @@ fn inserts(changed: &mut Document, name: String) -> bool {
     }
 }
 
-/// Returns the name of the pair, which is copied again where memory is refused.
+/// Returns the name of the pair. Copies it again if memory is refused.
 fn name_again(alloc: Global) -> Option<String> {
     match String::from_str(alloc, "n") {
         Ok(name) => Some(name),
@@ -244,8 +245,8 @@ fn name_again(alloc: Global) -> Option<String> {
     }
 }
 
-/// Returns true if a name is made, and `inserts` holds of it. An empty document has no room for a pair, so its first one asks
-/// for memory.
+/// Returns true if a name is made, and `inserts` holds of it. An empty document has no room for a
+/// pair, so its first one asks for memory.
 fn hands_back(alloc: Global) -> bool {
     match name_again(alloc) {
         Some(name) => inserts(&mut Document::new(alloc), name),
@@ -258,8 +259,8 @@ fn insert_hands_the_pair_back(rt: HostRuntime) {
     assert!(rt; hands_back(rt.alloc()));
 }
 
-/// Returns true if the pair is appended to the empty document; or is refused, the bytes are as they were, and it is appended
-/// then.
+/// Returns true if the pair is appended to the empty document; or it is refused, the bytes are as
+/// they were, and it is appended at the second try.
 fn appends(bytes: &mut RawDocumentBuf, value: &Bson) -> bool {
     match bytes.append("d", value) {
         Ok(()) => bytes.as_raw().as_bytes() == APPENDED,
@@ -272,7 +273,7 @@ fn appends(bytes: &mut RawDocumentBuf, value: &Bson) -> bool {
     }
 }
 
-/// Returns an empty document, which is made again where memory is refused.
+/// Returns an empty document. Makes it again if memory is refused.
 fn empty(alloc: Global) -> Option<RawDocumentBuf> {
     match RawDocumentBuf::new(alloc) {
         Ok(bytes) => Some(bytes),

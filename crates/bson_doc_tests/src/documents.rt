@@ -1,4 +1,5 @@
-//! Owned documents by their bytes (bsonspec.org, version 1.1), and that calls succeed where memory is there.
+//! Tests of owned documents by their bytes (bsonspec.org, version 1.1), and that calls succeed if
+//! there is memory.
 
 use bson_doc::laws::round_trip;
 use bson_doc::{Array, Bson, DocRefusal, Document};
@@ -34,7 +35,8 @@ fn both_write(alloc: Global, document: &Document, wanted: &[u8]) -> bool {
     writes(document, wanted) && copy_writes(alloc, document, wanted)
 }
 
-/// Returns true if the document of these bytes is read, and it and a copy of it are written as `wanted`.
+/// Returns true if the document of these bytes is read, and it and a copy of it are written as
+/// `wanted`.
 fn bytes_are_written_as(alloc: Global, bytes: &[u8], wanted: &[u8]) -> bool {
     match document_of(alloc, bytes) {
         Some(document) => both_write(alloc, &document, wanted),
@@ -50,7 +52,7 @@ fn digits_are_written_as(alloc: Global, hex: &str, wanted: &[u8]) -> bool {
     }
 }
 
-/// Returns true if the document is read, and it and a copy of it are written as the other bytes.
+/// Returns true if the document of `hex` is read, and it and a copy of it are written as `written`.
 fn is_written_as(alloc: Global, hex: &str, written: &str) -> bool {
     match read_digits(alloc, written) {
         Ok(wanted) => digits_are_written_as(alloc, hex, &wanted),
@@ -87,7 +89,8 @@ fn arrays_are_written_with_their_indices(rt: HostRuntime) {
     assert!(rt; is_written_as(rt.alloc(), hex, written));
 }
 
-/// Returns true if `from_raw` refuses the document for a name repeated at this depth, or, where there is none, reads it.
+/// Returns true if `from_raw` refuses the document for a name repeated at this depth, or, if that
+/// is `None`, reads it.
 fn raw_repeats(alloc: Global, raw: RawDocument<'_>, depth: Option<u32>) -> bool {
     match Document::from_raw(alloc, raw) {
         Ok(_) => depth.is_none(),
@@ -120,7 +123,7 @@ const REPEATED: [(&str, Option<u32>); 7] = [
         "1c000000 0f 6300 14000000 01000000 00 0b000000 0a 6100 0a 6100 00 00",
         Some(2),
     ),
-    // The first in file order is told, and a name stands before its value.
+    // The first in file order is reported, and a name comes before its value.
     (
         "16000000 03 6100 0b000000 0a 6200 0a 6200 00 0a 6100 00",
         Some(2),
@@ -143,7 +146,7 @@ fn is_number(value: Option<&Bson>, number: i32) -> bool {
     matches!(value, Some(Bson::Int32(found)) if *found == number)
 }
 
-/// Inserts the pair of this name and number, and returns true if the number `before` stood there.
+/// Inserts the pair of this name and number, and returns true if it replaces the number `before`.
 fn replaces(document: &mut Document, name: String, number: i32, before: i32) -> bool {
     match document.insert(name, Bson::Int32(number)) {
         Ok(found) => is_number(found.as_ref(), before),
@@ -159,7 +162,7 @@ fn replaces_a(alloc: Global, document: &mut Document, number: i32, before: i32) 
     }
 }
 
-/// Returns true if the number is taken out under the name.
+/// Returns true if the pair with this name is removed, and its value is the number.
 fn removes(document: &mut Document, name: &str, number: i32) -> bool {
     is_number(document.remove(name).as_ref(), number)
 }
@@ -169,7 +172,8 @@ fn is_first(document: &Document, name: &str) -> bool {
     document.iter().next().map(|(first, _)| first) == Some(name)
 }
 
-/// Returns true if the document, of 1 under "a" and null under "b", finds its values, and takes another one for "a".
+/// Returns true if the document, of 1 under "a" and null under "b", finds its values, and takes
+/// another one for "a".
 fn looks_up(alloc: Global, document: &mut Document) -> bool {
     replaces_a(alloc, document, 2, 1)
         && is_number(document.get("a"), 2)
@@ -178,7 +182,8 @@ fn looks_up(alloc: Global, document: &mut Document) -> bool {
         && is_first(document, "a")
 }
 
-/// Returns true if, of a document of 2 under "a" and null under "b", the second pair is left when "a" is taken out.
+/// Returns true if the second pair is left when "a" is removed from a document of 2 under "a" and
+/// null under "b".
 fn closes_up(document: &mut Document) -> bool {
     removes(document, "a", 2)
         && is_first(document, "b")
@@ -199,13 +204,13 @@ fn names_are_looked_up(rt: HostRuntime) {
     assert!(rt; finds_names(rt.alloc()));
 }
 
-/// Inserts the pair, and returns nothing where memory is refused.
+/// Inserts the pair. Returns `None` if memory is refused.
 fn put(document: &mut Document, name: String, value: Bson) -> Option<()> {
     document.insert(name, value).ok()?;
     Some(())
 }
 
-/// Inserts the pair of this name and value, and returns true if memory is there.
+/// Inserts the pair of this name and value. Returns true if there is memory.
 fn puts(alloc: Global, document: &mut Document, name: &str, value: Bson) -> bool {
     match String::from_str(alloc, name) {
         Ok(name) => put(document, name, value).is_some(),
@@ -233,7 +238,8 @@ fn numbers(alloc: Global) -> Option<Document> {
     Some(document)
 }
 
-/// Returns true if each number from 0 to 99 but `left_out` is found under itself, and that isn't.
+/// Returns true if each number from 0 to 99 except `left_out` is found under itself, and `left_out`
+/// isn't.
 fn finds_numbers(alloc: Global, document: &Document, left_out: i32) -> bool {
     for number in 0i32..100 {
         let Ok(name) = format!(in alloc; "{number}") else {
@@ -246,8 +252,8 @@ fn finds_numbers(alloc: Global, document: &Document, left_out: i32) -> bool {
     true
 }
 
-/// Returns true if names are looked up in a document of many, in one that is read from its bytes, and behind one that is
-/// taken out.
+/// Returns true if names are looked up in a document of many pairs, in one that is read from its
+/// bytes, and after one of the pairs is removed.
 fn finds_many(alloc: Global) -> bool {
     let Some(document) = numbers(alloc) else {
         return false;
@@ -266,7 +272,7 @@ fn many_names_are_looked_up(rt: HostRuntime) {
     assert!(rt; finds_many(rt.alloc()));
 }
 
-/// Returns so many documents, one in another, and null in the innermost.
+/// Returns `count` documents, each in the one before it, and null in the innermost.
 fn nested(alloc: Global, count: u32) -> Option<Bson> {
     let mut value = Bson::Null;
     for _ in 0..count {
@@ -282,7 +288,8 @@ fn regex(alloc: Global, pattern: &str, options: &str) -> Option<Bson> {
     Some(Bson::Regex { pattern, options })
 }
 
-/// Returns true if the document can't be written for this reason, or, where there is none, is written.
+/// Returns true if the document can't be written for this reason, or, if that is `None`, is
+/// written.
 fn has_refusal(document: &Document, wanted: Option<DocRefusal>) -> bool {
     match document.to_raw() {
         Ok(_) => wanted.is_none(),
@@ -306,7 +313,7 @@ fn regex_has_zero(alloc: Global, pattern: &str, options: &str) -> bool {
     }
 }
 
-/// Like `has_refusal`, for a document of so many documents, one in another, under this name.
+/// Like `has_refusal`, for a document that has `count` documents, one in another, under this name.
 fn nested_has_refusal(alloc: Global, name: &str, count: u32, wanted: Option<DocRefusal>) -> bool {
     match nested(alloc, count) {
         Some(value) => pair_has_refusal(alloc, name, value, wanted),
@@ -337,7 +344,8 @@ fn grown_has_refusal(
     puts(alloc, document, name, value) && has_refusal(document, Some(wanted))
 }
 
-/// Returns true if the depth of the first of two pairs is told before the 00 in the name of the second.
+/// Returns true if the depth of the first of two pairs is reported, and not the 00 in the name of
+/// the second.
 fn depth_is_first(alloc: Global, deep: Bson) -> bool {
     match one_pair(alloc, "a", deep) {
         Some(mut document) => {
@@ -347,7 +355,8 @@ fn depth_is_first(alloc: Global, deep: Bson) -> bool {
     }
 }
 
-/// Returns true if the 00 in the name of the first of two pairs is told before the depth of the second.
+/// Returns true if the 00 in the name of the first of two pairs is reported, and not the depth of
+/// the second.
 fn zero_is_first(alloc: Global, deep: Bson) -> bool {
     match one_pair(alloc, "b\0", Bson::Null) {
         Some(mut document) => {
@@ -357,7 +366,7 @@ fn zero_is_first(alloc: Global, deep: Bson) -> bool {
     }
 }
 
-/// Returns true if a value that is too deep is told where it comes first.
+/// Returns true if a value that is too deep is reported if it comes first.
 fn deep_before_zero(alloc: Global) -> bool {
     match nested(alloc, 200) {
         Some(deep) => depth_is_first(alloc, deep),
@@ -365,7 +374,7 @@ fn deep_before_zero(alloc: Global) -> bool {
     }
 }
 
-/// Returns true if a name with a 00 in it is told where it comes first.
+/// Returns true if a name with a 00 in it is reported if it comes first.
 fn zero_before_deep(alloc: Global) -> bool {
     match nested(alloc, 200) {
         Some(deep) => zero_is_first(alloc, deep),
@@ -411,7 +420,7 @@ fn a_document_is_read_back(rt: HostRuntime) {
     assert!(rt; nested_comes_back(rt.alloc()));
 }
 
-/// Returns a document whose values are made out of those of Rust.
+/// Returns a document whose values are made from Rust's own types.
 fn made(alloc: Global) -> Option<Document> {
     let inner = Bson::from(one_pair(alloc, "", Bson::from(7i32))?);
     let mut document = one_pair(alloc, "a", inner)?;
@@ -431,7 +440,7 @@ fn made(alloc: Global) -> Option<Document> {
     }
 }
 
-/// Inserts the string "x" under the name "d", and returns true if memory is there.
+/// Inserts the string "x" under the name "d". Returns true if there is memory.
 fn puts_text(alloc: Global, document: &mut Document) -> bool {
     match String::from_str(alloc, "x") {
         Ok(text) => puts(alloc, document, "d", Bson::from(text)),
@@ -447,7 +456,7 @@ const KINDS: [Kind; 5] = [
     Kind::Array,
 ];
 
-/// Returns true if each name of the document finds a value of the kind that stands beside it.
+/// Returns true if a look-up of each name finds a value of the kind that its pair has.
 fn finds_each(document: &Document) -> bool {
     for (name, value) in document {
         if document.get(name).map(|found| found.kind()) != Some(value.kind()) {

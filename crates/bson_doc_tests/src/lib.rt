@@ -1,6 +1,6 @@
-//! Tests of owned documents, by what no contract says: rows that were worked out by hand from the standard, that calls
-//! succeed where memory is there, and what stays where it is refused. They stand in a crate of their own, since a crate is
-//! proved once more with its tests.
+//! Tests of what no contract of owned documents says: rows that were worked out by hand from the
+//! standard, that calls succeed if there is memory, and that nothing changes if it is refused. They
+//! are in a crate of their own, since a crate is proved once more with its tests.
 //!
 //! Stands on bson_doc and bson_raw_tests. Read first: `documents`.
 #![tactic(auto)]

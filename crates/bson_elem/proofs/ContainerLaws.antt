@@ -1,4 +1,5 @@
--- Documents and elements: what is read was spelled so, and what is spelled so is read.
+-- Documents and elements: what is read begins with its own spelling, and each spelling is read
+-- back.
 use Rattle.std.proofs.Common.{◌≡◌, ℕ, suc, ◌+◌, ◌-◌, ◌^◌, ◌<◌, ◌≤◌, Bool, true, false, cond, ltb, leb, eqb, ◌||◌, List, [], ◌∷◌, ◌++◌, length, get_or, take, drop, Option, Some, None, Result, Ok, Err, refl, sym, ap, subst, ◌∙◌, append_assoc, arith}
 use Rattle.std.specs.Prelude.{IsUtf8}
 use Rattle.std.specs.Int.{w32, from_le_bytes}
@@ -239,7 +240,7 @@ kinded_takes depth p b (Some k) bytes e o fits h =
     subst (λ (y : ElementRead). Takes (b ∷ bytes) (element_bytes y) y.rest × IsElement depth p y) (ok_is {E = BsonFault} (made a.0.0 k v.0.0 v.0.1) e v.2)
     (record { parts = ap (λ (t : List ℕ). b ∷ t) both.parts ∙ ap (λ (j : ℕ). j ∷ ((cstring a.0.0 ++ value_bytes (form_of k) v.0.0) ++ v.0.1)) byte_is; rest_fits = both.rest_fits }, record { name = t.1; part = u.1; offset = u.2 })
 
--- What is read as an element was spelled so.
+-- Bytes from which an element is read begin with that element's spelling.
 pub element_takes : (depth s p : ℕ) (bytes : List ℕ) (e : ElementRead) → IsBytes bytes → element_at depth s p bytes ≡ Ok e → Takes bytes (element_bytes e) e.rest × IsElement depth p e
 unfolding element_at
 element_takes depth s p [] e fits h = absurd cc
@@ -247,7 +248,7 @@ element_takes depth s p (b ∷ bytes) e fits h =
     let g = guard_else (eqb b 0) (fault s causes.End) (kinded_at depth p (kind_of b) bytes) e h in
     kinded_takes depth p b (kind_of b) bytes e refl (λ i. fits (suc i)) g.1
 
--- What is spelled as an element is read as that one.
+-- The spelling of an element is read as that element.
 pub element_again : (depth s p : ℕ) (e : ElementRead) → IsElement depth p e → element_at depth s p (element_bytes e ++ e.rest) ≡ Ok e
 unfolding element_at
 element_again depth s p e h =

@@ -1,4 +1,5 @@
--- What is read of a value and of an element was spelled so, and what is spelled so is read.
+-- Values that hold no document: what is read begins with its own spelling, and each spelling is
+-- read back.
 use Rattle.std.proofs.Common.{◌≡◌, ℕ, suc, ◌+◌, ◌-◌, ◌^◌, ◌<◌, ◌≤◌, ℤ, Bool, true, false, cond, ltb, eqb, List, [], ◌∷◌, ◌++◌, length, get_or, take, drop, Ok, Err, refl, sym, ap, subst, ◌∙◌, append_assoc, arith, inl, inr, add-one, lit<}
 use Rattle.std.specs.Prelude.{FitsSigned}
 use Rattle.std.proofs.Math.Facts.{sfits_to_z, Fits-of_z}
@@ -82,7 +83,7 @@ old_takes bytes rest x fits short e =
     let again : little (length (drop 4 bytes)) ≡ take 4 bytes = ap little (sym len) ∙ front in
     (drop 4 bytes, sym (ok_is {E = BsonCause} (binary_value 2 (drop 4 bytes), rest) x h.1), sym (ap (λ (t : List ℕ). t ++ drop 4 bytes) again ∙ take-append-drop 4 bytes), omega (arith, length-drop 4 bytes), IsBytes-drop 4 bytes fits)
 
--- the spelling of a binary's data: of subtype 2 a length stands before them
+-- the spelling of a binary with this subtype and data
 abbrev binary_text : ℕ → List ℕ → List ℕ
 binary_text subtype bytes = leaf_bytes binary_form (binary_value subtype bytes)
 
@@ -106,7 +107,7 @@ old_front front bytes rest len n =
 old_again : (bytes rest : List ℕ) → length bytes < 2 ^ 32 → binary_of 2 (little (length bytes) ++ bytes) rest ≡ Ok (binary_value 2 bytes, rest)
 old_again bytes rest short = old_front (little (length bytes)) bytes rest refl (from_le_bytes-to_le_bytes_4 (length bytes) short)
 
--- a front of so many bytes, one byte before it
+-- the first byte, the n bytes after it, and the rest
 cells : (n : ℕ) (bytes : List ℕ) → n + 1 ≤ length bytes → bytes ≡ (get_or bytes 0 0 ∷ take n (drop 1 bytes)) ++ drop (n + 1) bytes
 cells n [] le = absurd (omega (arith, le))
 cells n (b ∷ bytes) le = rw add-one (ap (λ (t : List ℕ). b ∷ t) (sym (take-append-drop n bytes)))

@@ -6,7 +6,7 @@ use Rattle.bson_elem.specs.Kinds.{Form, raw_form, int32_form, int64_form, timest
 use Rattle.bson_elem.specs.Checks.{bytes_at, leaf_at}
 use Rattle.bson_elem.specs.Extents.{fixed_size, rest_of}
 
--- what follows a value of this form is what follows so many bytes
+-- what follows a value of this form is what follows n bytes
 abbrev pub IsFixed : Form → ℕ → Type 0
 IsFixed form n = (bytes : List ℕ) → rest_of (leaf_at form bytes) ≡ rest_of (bytes_at n bytes)
 
@@ -29,7 +29,7 @@ fixed_timestamp : IsFixed timestamp_form 8
 unfolding leaf_at
 fixed_timestamp bytes = grind (arith, drop-drop, length-drop)
 
--- what follows a value of a form of this size is what follows so many bytes
+-- what follows a value of a form of fixed size n is what follows n bytes
 pub fixed_rest : (form : Form) (n : ℕ) → fixed_size form ≡ Some n → IsFixed form n
 fixed_rest (raw_form m) n e = subst (IsFixed (raw_form m)) (some_is m n e) (fixed_raw m)
 fixed_rest int32_form n e = subst (IsFixed int32_form) (some_is 4 n e) fixed_int32

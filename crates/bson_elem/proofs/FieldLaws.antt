@@ -1,4 +1,5 @@
--- Each row's reading and its spelling: what is read was spelled so, and what is spelled so is read.
+-- Numbers, texts and names: what is read begins with its own spelling, and each spelling is read
+-- back.
 use Rattle.std.proofs.Common.{◌≡◌, ℕ, zero, suc, ◌+◌, ◌-◌, ◌^◌, ◌<◌, ◌≤◌, Bool, true, false, cond, ltb, leb, eqb, ◌||◌, List, [], ◌∷◌, ◌++◌, length, get_or, take, drop, Result, Ok, Err, refl, sym, ap, subst, ◌∙◌, append_assoc, arith, inl, inr, one-add}
 use Rattle.std.specs.Prelude.{IsUtf8}
 use Rattle.std.specs.Str.{is_utf8}
@@ -65,7 +66,7 @@ little_takes bytes x fits e =
     subst (λ (y : ℕ × List ℕ). Takes bytes (little y.0) y.1 × (y.0 < 2 ^ 32)) (ok_is {E = BsonCause} (from_le_bytes w32 (take 4 bytes), drop 4 bytes) x g.1)
     (record { parts = sym (ap (λ (t : List ℕ). t ++ drop 4 bytes) front ∙ take-append-drop 4 bytes); rest_fits = IsBytes-drop 4 bytes fits }, below)
 
--- Over a front that isn't written out: `little n` computes to four cells, and `rw` then finds none of it.
+-- Said of any four bytes, not of `little n`: that computes to four cells, and then `rw` doesn't find it.
 little_front : (front rest : List ℕ) → length front ≡ 4 → little_at (front ++ rest) ≡ Ok (from_le_bytes w32 front, rest)
 little_front front rest len =
     let long : ltb (length (front ++ rest)) 4 ≡ false = le-ltb _ _ (omega (arith, length-append front rest)) in
@@ -90,7 +91,7 @@ length_again least n rest low high =
 
 -- ---- texts
 
--- so many bytes, one more, and what follows it
+-- the first n bytes, the byte b after them, and the rest
 pub past_one : (n : ℕ) (bytes : List ℕ) (b : ℕ) → n < length bytes → get_or bytes n 0 ≡ b → bytes ≡ (take n bytes ++ b ∷ []) ++ drop (n + 1) bytes
 past_one n bytes b lt e = sym (rw (← e, ← take_more bytes n 0 lt) (take-append-drop (n + 1) bytes))
 
@@ -138,7 +139,7 @@ is_zero-suc b = ne_eqb (suc b) 0 (λ e. omega (arith, e))
 past_cell : (b : ℕ) (bytes : List ℕ) → position_or_len is_zero (suc b ∷ bytes) ≡ suc (position_or_len is_zero bytes)
 past_cell b bytes = rw (is_zero-suc b, one-add) refl
 
--- the bytes before the first 0 have none
+-- no byte before the first 0 is 0
 no_zero_before : (bytes : List ℕ) → HasNoZero (take (position_or_len is_zero bytes) bytes)
 no_zero_before [] = tt
 no_zero_before (zero ∷ bytes) = tt

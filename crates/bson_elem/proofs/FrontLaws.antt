@@ -1,4 +1,4 @@
--- The document at the front of some bytes: a tree or a fault, one of them at most.
+-- The document at the front of some bytes: there is a tree or a fault, and never both.
 use Rattle.std.proofs.Common.{◌≡◌, ℕ, ◌+◌, List, [], ◌∷◌, ◌++◌, length, Result, Ok, Err, sym, ap, subst, ◌∙◌, append_assoc, arith}
 use Rattle.bson_elem.specs.declared.fault.BsonFault.{BsonFault}
 use Rattle.bson_elem.specs.Trees.{Tree}
@@ -16,20 +16,20 @@ read_ok x = Ok x
 abbrev read_err : BsonFault → Result (List ℕ × List ℕ) BsonFault
 read_err f = Err f
 
--- the elements of a document are bytes where the document is
+-- if a document consists of bytes, so do its elements
 body_bytes : (bytes body rest : List ℕ) → IsBytes bytes → document_at 0 0 bytes ≡ Ok (body, rest) → IsBytes body
 body_bytes bytes body rest fits read =
     let t = document_takes 0 0 bytes (body, rest) fits read in
     IsBytes-middle (little (length body + 5)) body ((0 ∷ []) ++ rest) (subst IsBytes (t.0.parts ∙ append_assoc (little (length body + 5)) (body ++ 0 ∷ []) rest ∙ ap (λ (x : List ℕ). little (length body + 5) ++ x) (append_assoc body (0 ∷ []) rest)) fits)
 
--- what spells a tree is read as a document of its elements
+-- the spelling of a tree is read as a document with the elements of the tree
 pub spelled_read : (bytes : List ℕ) (t : Tree) (b rest : List ℕ) → Spells t b → bytes ≡ b ++ rest → document_at 0 0 bytes ≡ Ok (elements t, rest)
 spelled_read bytes t b rest s is =
     let whole : bytes ≡ document (elements t) ++ rest = is ∙ ap (λ (x : List ℕ). x ++ rest) s.parts in
     let size : length b ≡ length (elements t) + 5 = ap length s.parts ∙ length-document (elements t) in
     ap (document_at 0 0) whole ∙ document_again 0 0 (elements t) rest (omega (arith, size, s.short))
 
--- two trees spelled at the front of the same bytes are one, and the same bytes follow
+-- two trees spelled at the front of the same bytes are equal, and so is what follows them
 pub same_front : (bytes : List ℕ) (t u : Tree) (a b rest rest' : List ℕ) → Spells t a → Spells u b → bytes ≡ a ++ rest → bytes ≡ b ++ rest' → (t ≡ u) × (rest ≡ rest')
 same_front bytes t u a b rest rest' s s' is is' =
     let same = ok_is {E = BsonFault} (elements t, rest) (elements u, rest') (sym (spelled_read bytes t a rest s is) ∙ spelled_read bytes u b rest' s' is') in

@@ -16,8 +16,8 @@ is_stop b = eqb b 0 || leb 128 b
 plain_byte : (b : ℕ) → is_stop b ≡ false → (b ≢ 0) × (b < 128)
 plain_byte b e = (grind (arith, nat_tests), grind (arith, nat_tests))
 
--- Where the lanes that were computed from 16 bytes have their top bits set just at the stops, the lowest bit of the mask
--- is the first stop.
+-- If the lanes computed from 16 bytes have their top bits set exactly at the stops, the lowest bit of the mask is at the
+-- first stop.
 pub stop_offset : (d z : List ℕ) (f : ℕ → ℕ) → 16 ≤ length d → ((k : ℕ) → Fits w8 (get_or d k 0)) → z ≡ map f (chunk 0 16 d) → agree_below (λ x. top 7 (f x)) is_stop 256 ≡ true → mask_l (map (top 7) z) % 2 ^ 64 ≢ 0 → (count_trailing_zeros 64 (mask_l (map (top 7) z) % 2 ^ 64) ≤ 16) × IsNonzeroAsciiTo d (count_trailing_zeros 64 (mask_l (map (top 7) z) % 2 ^ 64))
 stop_offset d z f room fits lanes all some =
     let v = chunk 0 16 d in

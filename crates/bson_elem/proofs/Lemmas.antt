@@ -1,4 +1,4 @@
--- The lemmas that proofs of other crates stand on: of bytes and names, of an element and the bytes that spell it, of
+-- The lemmas that proofs of other crates use: of bytes and names, of an element and the bytes that spell it, of
 -- pairs joined, and of the document at the front of some bytes.
 
 -- ---- bytes
@@ -10,7 +10,8 @@ pub use Rattle.bson_elem.proofs.TreeLaws.{IsBytes-after}
 pub use Rattle.bson_elem.proofs.FieldLaws.{past_one}
 -- equal results that are `Ok` hold equal values
 pub use Rattle.bson_elem.proofs.FieldLaws.{ok_is}
--- ---- names, documents and elements: what is read was spelled so, and what is spelled so is read
+-- ---- names, documents and elements: what is read begins with its spelling, and spellings are read
+-- back
 
 pub use Rattle.bson_elem.proofs.FieldLaws.{cstring_takes, cstring_again}
 pub use Rattle.bson_elem.proofs.ContainerLaws.{length-document, document_takes}
@@ -26,7 +27,7 @@ pub use Rattle.bson_elem.proofs.ViewLaws.{part_after, rest_in}
 -- ---- pairs joined
 
 pub use Rattle.bson_elem.proofs.TreeLaws.{joined, elements-joined, Fits-joined}
--- ---- a tree or a fault, one of them at most
+-- ---- a tree or a fault, and never both
 
 -- of the elements of a container
 pub use Rattle.bson_elem.proofs.TreeLaws.{no_both, one_tree}

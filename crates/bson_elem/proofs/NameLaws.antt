@@ -1,4 +1,4 @@
--- A name, from where its 0 stands.
+-- A name, from the offset of its 0.
 use Rattle.std.proofs.Common.{◌≡◌, ◌≢◌, ℕ, get_or, subst, sym, ◌+◌, ◌<◌, Bool, true, false, cond, ltb, List, length, take, drop, Option, Some, None, Result, Ok, Err, refl, ap, ◌∙◌, arith, inl, inr}
 use Rattle.std.specs.Prelude.{position, IsOk}
 use Rattle.std.specs.Str.{is_utf8, IsAscii}
@@ -47,7 +47,7 @@ no_ok : {A E : Type 0} (r : Result A E) (e : E) → r ≡ Err e → IsOk r → �
 no_ok (Ok x) e is ok = absurd cc
 no_ok (Err d) e is ok = absurd cc
 
--- a name of which it is known that each check succeeds
+-- a name whose checks are known to succeed
 pub checked_name : (bytes : List ℕ) (n : ℕ) → position is_zero bytes ≡ Some n → IsOk (cstring_at bytes) → cstring_at bytes ≡ Ok (take n bytes, drop (n + 1) bytes)
 checked_name bytes n e ok =
     elim (cases_Bool (is_utf8 (take n bytes))) [
@@ -58,7 +58,7 @@ checked_name bytes n e ok =
 pub offset_below : (bytes : List ℕ) (n : ℕ) → position is_zero bytes ≡ Some n → n < length bytes
 offset_below bytes n e = (found bytes n e).0
 
--- what a search for the first 0 finds is where the first 0 stands
+-- a search for the first 0 returns the offset of the first 0
 pub first_zero_offset : (bytes : List ℕ) (r : Option ℕ) → IsFirstByte (is_byte 0) bytes r → r ≡ position is_zero bytes
 first_zero_offset bytes None nowhere =
     let all : position_or_len is_zero bytes ≡ length bytes = position_or_len_is is_zero bytes (length bytes) 0 (omega arith) (λ k lt. false_from_ne_true _ (nowhere k (omega arith) lt)) (λ lt. absurd (omega (arith, lt))) in

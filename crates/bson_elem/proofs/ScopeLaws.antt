@@ -18,7 +18,7 @@ scope_read p q bytes total a n b words c body d e0 long e1 room e2 same e3 =
     let t2 = eq-eqb _ _ same in
     rw (e0, t0, e1, t1, e2, t2, e3) refl
 
--- the same, where it is known that each check of them succeeds
+-- the same, where the checks are known to succeed
 pub checked_scope : (p q : ℕ) (bytes : List ℕ) (total : ℕ) (a : List ℕ) (n : ℕ) (b words c body d : List ℕ) → IsOk (scope_at p q bytes) → length_at 14 bytes ≡ Ok (total, a) → length_at 1 a ≡ Ok (n, b) → text_at (n - 1) b ≡ Ok (words, c) → document_at p (q + 8 + n) c ≡ Ok (body, d) → scope_at p q bytes ≡ Ok (opens (q + 8 + n) (with_code words) body, d)
 unfolding scope_at
 checked_scope p q bytes total a n b words c body d ok e0 e1 e2 e3 = grind arith
@@ -27,7 +27,7 @@ part_bind : (p : ℕ) (r : Read Leaf) → (told_at p r >>= λ v. Ok (a_leaf v.0,
 part_bind p (Ok v) = refl
 part_bind p (Err c) = refl
 
--- The part of a kind that holds no document.
+-- A value of a kind that holds no document is read as a leaf.
 pub leaf_value_at : (depth p q : ℕ) (k : Kind) (bytes : List ℕ) → (k ≡ kinds.Document → ⊥) → (k ≡ kinds.Array → ⊥) → (k ≡ kinds.CodeWithScope → ⊥) → value_at depth p q (form_of k) bytes ≡ told_at p (as_value (leaf_at (form_of k) bytes))
 unfolding value_at
 leaf_value_at depth p q kinds.Document bytes a b c = absurd (a refl)

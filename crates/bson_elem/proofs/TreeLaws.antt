@@ -35,7 +35,7 @@ joined-empty no_pairs = refl
 joined-empty (leaf_pair name k v ps) = ap (leaf_pair name k v) (joined-empty ps)
 joined-empty (inner_pair name k b inner ps) = ap (inner_pair name k b inner) (joined-empty ps)
 
--- ---- a reading of the whole, with a number that falls
+-- ---- reading the whole, by recursion on a number that falls
 
 entered : (ℕ → List ℕ → Result Tree BsonFault) → Value → Result Tree BsonFault
 entered read (a_leaf v) = Ok no_pairs
@@ -136,7 +136,7 @@ IsBytes-middle a b c h i =
 pub IsBytes-after : (a b : List ℕ) → IsBytes (a ++ b) → IsBytes b
 IsBytes-after a b h i = rw (← get_or-append-add a b i 0) (h (length a + i))
 
--- a document's elements stand in the value that holds it
+-- a document's elements are inside the value that holds it
 inside_of : (b : Beside) (body : List ℕ) → (front : List ℕ) × (inner_bytes b body ≡ front ++ (body ++ 0 ∷ []))
 inside_of no_code body = (little (length body + 5), refl)
 inside_of (with_code words) body = (

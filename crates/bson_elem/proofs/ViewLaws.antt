@@ -90,7 +90,7 @@ element_by_kind depth s p (b ∷ bytes) = tested (eqb b 0)
     tested true = refl
     tested false = kinded_by_kind depth p (kind_of b) bytes
 
--- an element of which the kind was read, and the name
+-- an element whose kind and name were read
 after_both : (depth s p : ℕ) (room after : List ℕ) (k : Kind) (name : Read (List ℕ)) → kind_at s p room ≡ Ok (k, after) → cstring_at after ≡ name → element_at depth s p room ≡ (told_at p name >>= after_name depth p k)
 after_both depth s p room after k name kind is =
     element_by_kind depth s p room ∙ ap (λ (r : Result (Kind × List ℕ) BsonFault). r >>= after_kind depth p) kind ∙ ap (λ (r : Read (List ℕ)). told_at p r >>= after_name depth p k) is

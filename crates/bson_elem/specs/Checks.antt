@@ -90,8 +90,8 @@ boolean_at (b ∷ rest) =
     if b == 0 then Ok (boolean_value false, rest) else if b == 1 then Ok (boolean_value true, rest)
     else Err causes.Boolean
 
--- a binary of this subtype and these bytes, in front of a rest; in subtype 02 the bytes begin with
--- an inner count, of the bytes after it
+-- A binary with this subtype and this data, and the rest after it. In subtype 02 the data begins
+-- with an inner count: the number of bytes after that count.
 unfoldable pub binary_of : ℕ → List ℕ → List ℕ → Read Leaf
 binary_of subtype bytes rest =
     if subtype == 2 then
@@ -138,6 +138,7 @@ leaf_at scope_form bytes = Err causes.Kind
 
 -- ---- with offsets: the element's type byte is at p, and its value begins at q
 
+-- the fault with this cause, at this offset
 abbrev pub fault : ℕ → BsonCause → BsonFault
 fault p c = record { at = p; cause = c }
 
@@ -157,7 +158,7 @@ document_at p q bytes =
     else if slice_index bytes (n - 1) == 0 then Ok (take (n - 5) (drop 4 bytes), drop n bytes)
     else Err (fault q End)
 
--- a value: a leaf, or a document, by its offset, what stands beside it, and its elements
+-- a value: a leaf; or a document, as its offset, what is beside it, and its elements
 pub data Value : Type 0 where
   a_leaf : Leaf → Value
   opens : ℕ → Beside → List ℕ → Value
@@ -196,7 +197,7 @@ pub record ElementRead : Type 0 where
   pub value : Value
   pub rest : List ℕ
 
--- The element at p, whose type byte is that of this kind, or of none, from its name on.
+-- The element at p, from its name on. Its type byte is that of this kind, or of no kind.
 abbrev pub kinded_at : ℕ → ℕ → Option Kind → List ℕ → Result ElementRead BsonFault
 kinded_at depth p None bytes = Err (fault p causes.Kind)
 kinded_at depth p (Some k) bytes = do

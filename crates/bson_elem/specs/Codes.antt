@@ -1,4 +1,4 @@
--- A code for trees, by which a proof tells two of them apart.
+-- An encoding of trees in which no two trees have the same code.
 use Rattle.std.specs.Prelude.{◌≡◌, ◌≢◌, ℕ, ℤ, Bool, List, ◌⊎◌, Option, Some, None, refl}
 use Rattle.std.proofs.Common.{ap, arith, inl, inr}
 use Rattle.std.specs.Coded.{Coded, code_by, coded_ℕ, coded_ℤ, coded_bool, coded_list, coded×}

@@ -6,7 +6,7 @@ use Rattle.bson_elem.specs.declared.fault.BsonFault.{BsonFault}
 use Rattle.bson_elem.specs.Kinds.{Form, raw_form, int32_form, int64_form, timestamp_form}
 use Rattle.bson_elem.specs.Checks.{Read, Value, a_leaf, opens}
 
--- the size of each value of the form, if all have the same and any bytes are a value
+-- the size of each value of the form, if all have the same size and any bytes of that size are one
 abbrev pub fixed_size : Form → Option ℕ
 fixed_size (raw_form n) = Some n
 fixed_size int32_form = Some 4

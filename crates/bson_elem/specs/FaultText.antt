@@ -5,11 +5,11 @@ use Rattle.bson_elem.specs.declared.fault.BsonCause.{BsonCause}
 use Rattle.bson_elem.specs.declared.fault.BsonFault.{BsonFault}
 use Rattle.bson_elem.specs.Causes.{cause_number, cause_name}
 
--- a cause: its name
+-- a cause displays as its name
 abbrev pub shown_cause : BsonCause → Option (List ℕ)
 shown_cause c = Some (cause_name c)
 
--- the number of the cause, its name and the offset
+-- a fault displays as `fault`, the number of the cause, its name and the offset
 abbrev pub bson_fault_text : ℕ → BsonCause → List ℕ
 bson_fault_text at c =
     codes "fault "

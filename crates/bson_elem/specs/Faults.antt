@@ -10,9 +10,9 @@ pub record Before (depth : ℕ) (bytes : List ℕ) (pairs : Tree) (rest : List �
   pub parts : bytes ≡ elements pairs ++ rest
   pub fits : Fits depth pairs
 
--- These are the elements, from offset p on, of a container of this depth that begins at offset s,
--- and this is their first fault: after whole pairs comes an element that fails a check, or one that
--- holds a document which has the fault.
+-- The bytes are the elements, from offset p on, of a container of this depth that begins at offset
+-- s. This is their first fault: after whole pairs comes an element that fails a check with this
+-- fault, or one whose inner document has this fault.
 pub data FaultIn : ℕ → ℕ → ℕ → List ℕ → BsonFault → Type 0 where
   at_element :
       {depth s p : ℕ} {bytes : List ℕ} {f : BsonFault} (pairs : Tree) (b : ℕ) (rest : List ℕ)

@@ -1,4 +1,4 @@
--- The values and elements that the items of the code stand for.
+-- What the items and elements of the code show.
 use Rattle.std.specs.Prelude.{ℕ, ◌-◌, [], List, length, slice_range, Ok, Err}
 use Rattle.bson_elem.specs.declared.kinds.Kind.{Kind}
 use Rattle.bson_elem.specs.declared.kinds.Kind.TheVariants as kinds
@@ -36,7 +36,7 @@ item_kind (items.Decimal128 _) = kinds.Decimal128
 item_kind items.MinKey = kinds.MinKey
 item_kind items.MaxKey = kinds.MaxKey
 
--- the value that the item is, if the next element is at this offset
+-- the value that the item shows, where the offset after its element is next
 abbrev pub item_value : ℕ → Item → Value
 item_value next (items.Double b) = a_leaf (raw_value b)
 item_value next (items.String s) = a_leaf (text_value s.now)
@@ -61,20 +61,20 @@ item_value next (items.Decimal128 b) = a_leaf (raw_value b)
 item_value next items.MinKey = a_leaf (raw_value [])
 item_value next items.MaxKey = a_leaf (raw_value [])
 
--- a leaf, as the value that it is
+-- a leaf that was read, as a value
 abbrev pub as_value : Read Leaf → Read Value
 as_value (Ok v) = Ok (a_leaf v.0, v.1)
 as_value (Err c) = Err c
 
--- The element of this name and item, in front of these bytes, in a container whose last byte is at
--- offset end.
+-- The element with this name and item. The bytes rest follow it, in a container whose last byte is
+-- at offset end.
 abbrev pub element_shown : ℕ → List ℕ → Item → List ℕ → checks.ElementRead
 element_shown end name item rest =
     record
     { name = name; kind = item_kind item; value = item_value (end - length rest) item; rest = rest }
 
--- the element that an element of the code stands for, read from these bytes in a container whose
--- last byte is at offset end
+-- What an `Element` of the code shows. It was read from these bytes, in a container whose last byte
+-- is at offset end.
 abbrev pub element_view : List ℕ → ℕ → Element → checks.ElementRead
 element_view bytes end e =
     record {

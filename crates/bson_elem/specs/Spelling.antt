@@ -19,7 +19,7 @@ little n = to_le_bytes w32 n
 abbrev pub cstring : List ℕ → List ℕ
 cstring name = name ++ 0 ∷ []
 
--- `string`: the number of the bytes and the last 00, the bytes, and that 00
+-- `string`: the length, which counts the bytes and the last 00; the bytes; and that 00
 abbrev pub string : List ℕ → List ℕ
 string words = little (length words + 1) ++ cstring words
 
@@ -27,8 +27,8 @@ string words = little (length words + 1) ++ cstring words
 abbrev pub document : List ℕ → List ℕ
 document elements = little (length elements + 5) ++ (elements ++ 0 ∷ [])
 
--- `binary`: the number of bytes of data, the subtype, and the data; in subtype 02 the data begin
--- with an inner count, of the bytes after it
+-- `binary`: the number of bytes of data, the subtype, and the data; in subtype 02 the data begins
+-- with an inner count, the number of bytes after that count
 abbrev pub binary : ℕ → List ℕ → List ℕ
 binary subtype bytes =
     if subtype == 2 then little (length bytes + 4) ++ (2 ∷ (little (length bytes) ++ bytes))
@@ -46,8 +46,8 @@ leaf_bytes form (pointer_value namespace id) = string namespace ++ id
 leaf_bytes form (binary_value subtype bytes) = binary subtype bytes
 leaf_bytes form (regex_value pattern options) = cstring pattern ++ cstring options
 
--- a document with these elements, alone, or as the scope of a code: `code_w_s`, the number of all
--- bytes of the value, the code, and the scope
+-- a document with these elements, alone or as the scope of a code; with the code, as `code_w_s`:
+-- the number of bytes of the whole value, the code, and the scope
 abbrev pub inner_bytes : Beside → List ℕ → List ℕ
 inner_bytes no_code elements = document elements
 inner_bytes (with_code words) elements =
@@ -82,8 +82,7 @@ pub record IsText (words : List ℕ) : Type 0 where
   pub is_text : IsUtf8 words
   pub short : length words + 1 < 2 ^ 31
 
--- a binary's subtype and its data, whose number of bytes, with the inner count of subtype 02, is
--- below 2 ^ 31
+-- a binary's subtype and its data: fewer than 2 ^ 31 bytes, with the inner count of subtype 02
 pub record IsBinary (subtype : ℕ) (bytes : List ℕ) : Type 0 where
   pub one_byte : subtype < 256
   pub are_bytes : IsBytes bytes
@@ -108,14 +107,14 @@ IsOfForm binary_form (binary_value subtype bytes) = IsBinary subtype bytes
 IsOfForm regex_form (regex_value pattern options) = IsName pattern × IsName options
 IsOfForm _ _ = ⊥
 
--- this stands beside a document in a value of this form
+-- in a value of this form, this is beside the document
 abbrev pub StandsIn : Form → Beside → Type 0
 StandsIn document_form no_code = Unit {0}
 StandsIn scope_form (with_code words) = IsUtf8 words
 StandsIn _ _ = ⊥
 
--- The pairs can stand in a container of this depth: each name is UTF-8 without 00, each leaf is of
--- its kind's form, each inner document has fewer than 2 ^ 31 bytes, and none is deeper than 200.
+-- The pairs can be in a container of this depth: each name is UTF-8 without 00, each leaf is of its
+-- kind's form, each inner document has fewer than 2 ^ 31 bytes, and none is deeper than 200.
 abbrev pub Fits : ℕ → Tree → Type 0
 Fits depth no_pairs = Unit {0}
 Fits depth (leaf_pair name k v ps) = IsName name × IsOfForm (form_of k) v × Fits depth ps

@@ -19,15 +19,15 @@ pub data Leaf : Type 0 where
   -- the pattern and the options
   regex_value : List ℕ → List ℕ → Leaf
 
--- what stands beside the document that a value holds
+-- what is beside the document in a value: nothing, or a code
 pub data Beside : Type 0 where
   no_code : Beside
   -- the code whose scope the document is
   with_code : List ℕ → Beside
 
--- A list of pairs: of a name, a kind and a leaf, and then the pairs after it, or of a name, a kind,
--- what stands beside the document held, the pairs inside that document, and the pairs after it.
--- Names in an array are kept.
+-- A list of pairs. A leaf pair has a name, a kind and a leaf. An inner pair has a name, a kind,
+-- what is beside its document, and the pairs of that document. Either is followed by the other
+-- pairs. The names in an array are kept.
 pub data Tree : Type 0 where
   no_pairs : Tree
   leaf_pair : List ℕ → Kind → Leaf → Tree → Tree

@@ -27,8 +27,8 @@ fn skip_bytes(n: usize, bytes: &[u8]) -> Result<&[u8], BsonCause>
 
 /// Skips a value of a `kind` that has no fixed size and holds no document, and returns the bytes
 /// after it.
-// By the parts of `read_leaf` and not by itself: with it, `skip_value` is no longer inlined, and a
-// check of documents takes a third to a half more instructions.
+// Calls the parts of `read_leaf`, not `read_leaf` itself: with that call `skip_value` is no longer
+// inlined, and a check of documents takes a third to a half more instructions.
 #[tactic(auto, unfolding(crate::specs::Checks::leaf_at))]
 #[inline(always)]
 fn skip_varied(kind: Kind, bytes: &[u8]) -> Result<&[u8], BsonCause>

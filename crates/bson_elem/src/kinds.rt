@@ -36,7 +36,7 @@ impl Kind {
     pub fn from_byte(byte: u8) -> Option<Kind>
         ensures { result ≡ kind_of byte }
     {
-        // Told apart first, so that the `match` on the low bytes becomes a table.
+        // The two high bytes come first, so that the `match` on the low ones becomes a table.
         if byte > 0x13 {
             return match byte {
                 0xff => Some(Kind::MinKey),
@@ -97,8 +97,8 @@ impl Kind {
         }
     }
 
-    /// Returns the size in bytes of each value of this kind, if all have the same and any bytes are
-    /// a value.
+    /// Returns the size in bytes of each value of this kind, if all have the same size and any
+    /// bytes of that size are one.
     // Not inlined, so that it stays a table: inlined where its result is tested, it becomes a jump
     // for each kind.
     #[inline(never)]

@@ -66,7 +66,7 @@ fn reread_scope(at: usize, from: usize, bytes: &[u8]) -> (Item<'_>, &[u8])
     (Item::CodeWithScope { code, scope }, rest)
 }
 
-/// Reads a value like `reread_value`, of the kinds that are rare.
+/// Reads a value of a rare kind, like `reread_value`.
 #[tactic(auto, unfolding(crate::specs::Checks::value_at, crate::specs::Checks::leaf_at))]
 #[inline(never)]
 fn reread_rare(at: usize, from: usize, kind: Kind, bytes: &[u8]) -> (Item<'_>, &[u8])
@@ -135,7 +135,7 @@ fn reread_value(at: usize, from: usize, kind: Kind, bytes: &[u8]) -> (Item<'_>, 
 }
 
 /// Reads the element at the front of `room`, and returns its name, its value and the bytes after
-/// it. `room` is what is left, from offset `at` on, of a document that no other holds.
+/// it. `room` is what is left, from offset `at` on, of an outermost document.
 #[tactic(auto, unfolding(crate::specs::Checks::element_at))]
 #[inline(always)]
 fn reread_in(room: &[u8], at: usize) -> (&str, Item<'_>, &[u8])
@@ -154,9 +154,9 @@ fn reread_in(room: &[u8], at: usize) -> (&str, Item<'_>, &[u8])
     (name, value, rest)
 }
 
-/// Reads the element at offset `at` of `bytes`, for which `read_element` is known to succeed, and
-/// returns the same. The element is one of a document that no other holds, and whose last byte is
-/// at offset `end`.
+/// Reads the element at offset `at` of `bytes`, where `read_element` is known to succeed, and
+/// returns what it returns. The element is in an outermost document, whose last byte is at offset
+/// `end`.
 #[inline(always)]
 pub fn reread_element(bytes: &[u8], at: usize, end: usize) -> Element<'_>
     requires inside { at < end }

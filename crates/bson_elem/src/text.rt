@@ -73,7 +73,7 @@ pub fn read_string(bytes: &[u8]) -> Result<(&str, &[u8]), BsonCause>
     read_text(n - 1, rest)
 }
 
-/// Looks for the first 00 like `near_zero`, in the first 16 bytes at once.
+/// Looks for the first 00 like `near_zero`, at the first 16 bytes at once.
 #[inline(always)]
 fn near_zero_wide(bytes: &[u8]) -> Option<usize>
     requires { 16 < length bytes.now }
@@ -91,7 +91,8 @@ fn near_zero_wide(bytes: &[u8]) -> Option<usize>
     if bytes[n] == 0 { Some(n) } else { None }
 }
 
-/// Returns the offset of the first 00, if it is near and only ASCII is before it.
+/// Returns the offset of the first 00, if it is among the first 16 bytes and only ASCII is before
+/// it.
 #[inline(always)]
 fn near_zero(bytes: &[u8]) -> Option<usize>
     ensures { IfSome result

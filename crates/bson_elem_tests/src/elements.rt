@@ -1,5 +1,5 @@
-//! Elements, kinds and texts by rows that were worked out by hand from the standard (bsonspec.org, version 1.1), and what
-//! faults display as.
+//! Tests of elements, kinds and texts, by rows that were worked out by hand from the standard
+//! (bsonspec.org, version 1.1), and of the texts of faults.
 
 ghost use Rattle.std.specs.Prelude.{◌<◌, length};
 
@@ -52,7 +52,7 @@ fn a_fault_displays_as_its_line(rt: HostRuntime) {
     assert!(rt; is_shown(rt.alloc(), FAULT, "fault 8 Boolean at 4"));
 }
 
-/// Returns true if the byte is that of the kind it is read as, or no kind has it.
+/// Returns true if `byte` is the type byte of the kind that it is read as, or is that of no kind.
 fn has_its_kind(byte: u8) -> bool {
     match Kind::from_byte(byte) {
         Some(kind) => kind.byte() == byte,
@@ -67,7 +67,8 @@ fn each_kind_has_its_byte(rt: HostRuntime) {
     }
 }
 
-/// Returns true if the element at offset 4 is this one, when it is checked and when it is read again.
+/// Returns true if the element at offset 4 is this one, when it is checked and when it is read
+/// again.
 fn is_read(document: &[u8], end: usize, element: Element<'_>) -> bool
     requires inside { 4 < end }
     requires whole { end < length document.now }
@@ -106,7 +107,7 @@ const STRINGS: [(&[u8], Result<(&str, &[u8]), BsonCause>); 6] = [
     (b"\x02\x00\x00\x00a\x01", Err(BsonCause::TextEnd)),
 ];
 
-/// The same of a text that ends with a 00.
+/// Bytes, and the cstring that they begin with and the rest, or the check that fails.
 const CSTRINGS: [(&[u8], Result<(&str, &[u8]), BsonCause>); 3] = [
     (b"name\x00rest", Ok(("name", b"rest"))),
     (b"name", Err(BsonCause::Truncated)),

@@ -7,7 +7,7 @@ use Rattle.bson_raw.specs.Pairs.{names_of}
 use Rattle.bson_raw.specs.Totals.{elements_in}
 use Rattle.bson_raw.proofs.TotalLaws.{totals_fit}
 
--- what is at most the count of a document's elements fits a number of 64 bits
+-- a number that is at most the count of a document's elements fits 64 bits
 pub count_fits : (n : ℕ) (bytes : List ℕ) → ∥ IsSpelled bytes ∥₁ → ((t : Tree) → Spells t bytes → n ≤ elements_in t) → Fits w64 n
 count_fits n bytes spelled below = totals_fit n bytes spelled (λ t s. omega (arith, below t s))
 

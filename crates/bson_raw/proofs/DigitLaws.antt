@@ -25,7 +25,7 @@ one_byte (b ∷ c ∷ rest) d =
     let long : eqb (length (b ∷ c ∷ rest)) 1 ≡ false = ne_eqb (length (b ∷ c ∷ rest)) 1 (λ (e : length (b ∷ c ∷ rest) ≡ 1). omega (arith, e)) in
     and_false (eqb b d) ∙ sym (ap (λ (t : Bool). t && eqb b d) long)
 
--- the name is that of an index below 10 just where it is the index's digit
+-- the name is that of an index below 10 exactly if it is the digit of the index
 pub digit_name : (bytes : List ℕ) (index : ℕ) → index < 10 → bytes_eq bytes (decimal index) ≡ (eqb (length bytes) 1 && eqb (get_or bytes 0 0) (48 + index))
 digit_name bytes index lt = ap (bytes_eq bytes) (decimal_digit index lt) ∙ one_byte bytes (48 + index)
 
@@ -41,7 +41,7 @@ and_swap : (a b c : Bool) → (a && (b && c)) ≡ (b && (a && c))
 and_swap true b c = refl
 and_swap false b c = sym (and_false b)
 
--- bytes are the same where the last ones are, and those before them
+-- bytes are the same exactly if their last bytes are and the bytes before those are
 last_byte : (xs ys : List ℕ) (a b : ℕ) → bytes_eq (xs ++ a ∷ []) (ys ++ b ∷ []) ≡ (eqb a b && bytes_eq xs ys)
 last_byte [] [] a b = refl
 last_byte [] (y ∷ ys) a b = ap (λ (t : Bool). eqb a y && t) (none_is_longer ys b) ∙ and_false (eqb a y) ∙ sym (and_false (eqb a b))
@@ -53,7 +53,8 @@ ends_in name some =
     let n : suc (length name - 1) ≡ length name = omega arith in
     sym (take-length name) ∙ ap (λ (k : ℕ). take k name) (sym n) ∙ take-suc name (length name - 1) 0 (omega arith)
 
--- the name is that of an index from 10 on just where its last digit is the index's, and the others are those of a tenth
+-- the name is that of an index from 10 on exactly if its last byte is the last digit of the index, and the others are
+-- the digits of a tenth of it
 last_digit : (name : List ℕ) (index : ℕ) → 1 ≤ length name → 10 ≤ index → index < 2 ^ 64
     → bytes_eq name (decimal index) ≡ (eqb (get_or name (length name - 1) 0) (48 + index % 10) && bytes_eq (take (length name - 1) name) (decimal (index / 10)))
 last_digit name index some le fits =
@@ -77,7 +78,7 @@ two_bytes (a ∷ b ∷ c ∷ rest) d e =
     let long : eqb (length (a ∷ b ∷ c ∷ rest)) 2 ≡ false = ne_eqb (length (a ∷ b ∷ c ∷ rest)) 2 (λ (s : length (a ∷ b ∷ c ∷ rest) ≡ 2). omega (arith, s)) in
     ap (λ (t : Bool). eqb a d && t) (and_false (eqb b e)) ∙ and_false (eqb a d) ∙ sym (ap (λ (t : Bool). t && (eqb a d && eqb b e)) long)
 
--- the name is that of an index of two digits just where it is these
+-- the name is that of an index of two digits exactly if it is those two
 pub digits_name : (bytes : List ℕ) (index : ℕ) → 10 ≤ index → index < 100
     → bytes_eq bytes (decimal index) ≡ (eqb (length bytes) 2 && (eqb (get_or bytes 0 0) (48 + index / 10) && eqb (get_or bytes 1 0) (48 + index % 10)))
 digits_name bytes index low high =
@@ -96,7 +97,7 @@ no_zero (c ∷ cs) d = let r = digit_from_value c d.0 in (λ e. omega (arith, e,
 pub decimal_is_name : (index : ℕ) → index < 2 ^ 64 → IsName (decimal index)
 decimal_is_name index small = record { is_text = IsUtf8-from_ascii (decimal index) (IsAscii-decimal index small); no_zero = no_zero (decimal index) (decimal_is_IsNumeral index small).0.1 }
 
--- where the name of an index and a 00 stand at the front, that name is read
+-- if the name of an index and a 00 are at the front, that name is read
 pub read_decimal : (bytes : List ℕ) (n index : ℕ) → n < length bytes → index < 2 ^ 64 → get_or bytes n 0 ≡ 0 → bytes_eq (take n bytes) (decimal index) ≡ true → cstring_at bytes ≡ Ok (decimal index, drop (n + 1) bytes)
 read_decimal bytes n index lt small zero same =
     let name : take n bytes ≡ decimal index = (bytes_eq-Decides (take n bytes) (decimal index)).0 same in

@@ -1,4 +1,4 @@
--- That a number is NaN just where its bits are a NaN's, and that its bytes are of it.
+-- A number is NaN exactly if its bits are those of a NaN, and its bytes are read as that number.
 use Rattle.std.proofs.Common.{◌≡◌, ℕ, ◌<◌, ◌%◌, ◌^◌, T, refl, sym, ap, ◌∙◌, arith}
 use Rattle.std.specs.Prelude.{true, false, is_nan, to_bits, from_bits}
 use Rattle.std.specs.Int.{w64, to_le_bytes, from_le_bytes}

@@ -32,7 +32,7 @@ spelled_by bytes whole rest canonical fits read split least tree =
     let body_is : elements_of whole ≡ elements tree.0 = ap (λ (k : ℕ). take k (drop 4 whole)) n ∙ tree.2 in
     record { parts = w ∙ ap document body_is; short = omega (arith, d.1, w_size whole least); fits = tree.1 }
 
--- what was told of its names holds of every tree that the whole spells
+-- whether its names are canonical is the same for every tree that the whole spells
 pub named_by : (whole : List ℕ) (canonical : Bool) → IsTree 1 false (slice_range whole 4 (length whole - 1)) canonical → (t : Tree) → Spells t whole → canonical ≡ is_plain false 0 t
 named_by whole canonical tree t s = tree.3 ∙ ap (is_plain false 0) (one_tree tree.0 t 1 tree.1 s.fits (sym tree.2 ∙ (all_left whole t s).1))
 

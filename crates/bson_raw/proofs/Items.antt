@@ -14,12 +14,12 @@ use Rattle.bson_raw.specs.Held.{IsItemOf, HoldsSpelled}
 use Rattle.bson_raw.proofs.Inner.{fits_shallower}
 use Rattle.bson_raw.proofs.Walks.{IsPartOf}
 
--- where a part is a leaf, so is the value
+-- if a part is a leaf, so is the value
 pub leaf_is : (k : Kind) (leaf : Leaf) (v : TreeValue) → IsPartOf k (a_leaf leaf) v → v ≡ leaf_value k leaf
 leaf_is k leaf (leaf_value k' leaf') p = cc
 leaf_is k leaf (document_value k' b inner) p = absurd (let no : a_leaf leaf ≡ opens p.1.0 b (elements inner) = p.1.1 in cc)
 
--- where a part is a document, its bytes spell the tree that the value holds
+-- if a part is a document, its bytes spell the tree that the value holds
 pub inner_is : (k : Kind) (q : ℕ) (b : Beside) (bytes : List ℕ) (v : TreeValue) → IsFramed bytes → IsPartOf k (opens q b (elements_of bytes)) v → (inner : Tree) × (v ≡ document_value k b inner) × Spells inner bytes
 inner_is k q b bytes (leaf_value k' leaf) framed p = absurd cc
 inner_is k q b bytes (document_value k' b' inner) framed p =

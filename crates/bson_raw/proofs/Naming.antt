@@ -1,4 +1,4 @@
--- The names of pairs that stand one after another.
+-- The names of pairs, one after another.
 use Rattle.std.proofs.Common.{eqb, Some, ◌≡◌, ℕ, suc, ◌+◌, Bool, true, false, ◌&&◌, List, ◌∷◌, [], length, refl, sym, ap, ◌∙◌, arith, add-zero, zero-add}
 use Rattle.bson_elem.specs.declared.kinds.Kind.{Kind}
 use Rattle.bson_elem.specs.declared.kinds.Kind.TheVariants as kinds
@@ -47,7 +47,7 @@ pub is_plain-inner : (before named inside canonical within : Bool) → canonical
 is_plain-inner before named inside canonical within is is' =
     ap (λ (b : Bool). b && within) is ∙ sym (and_assoc before named within) ∙ ap (λ (b : Bool). before && (named && b)) (is' ∙ sym (and_true inside))
 
--- a pair more
+-- the names with one more pair
 pub named_more : (in_array canonical more : Bool) (index : ℕ) (t u : Tree) → canonical ≡ is_plain in_array 0 t → length (names_of t) ≡ index → more ≡ (canonical && is_plain in_array index u) → more ≡ is_plain in_array 0 (joined t u)
 named_more in_array canonical more index t u is count both =
     let after : 0 + length (names_of t) ≡ index = omega (arith, count) in

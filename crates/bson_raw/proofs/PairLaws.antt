@@ -18,7 +18,7 @@ pub among_here : (name n : List ℕ) (ns : List (List ℕ)) (left : ℕ) → lef
 among_here name n ns zero some eq = absurd (some refl)
 among_here name n ns (suc k) some eq = rw eq refl
 
--- or it is sought among the others
+-- otherwise the name is sought among the others
 pub among_later : (name n : List ℕ) (ns : List (List ℕ)) (left : ℕ) → left ≢ 0 → bytes_eq n name ≡ false → is_among name (take left (n ∷ ns)) ≡ is_among name (take (left - 1) ns)
 among_later name n ns zero some eq = absurd (some refl)
 among_later name n ns (suc k) some eq =

@@ -19,7 +19,7 @@ pub AreDocuments-append : (ts us : List Tree) → AreDocuments ts → AreDocumen
 AreDocuments-append [] us fit others = others
 AreDocuments-append (t ∷ ts) us fit others = (fit.0, AreDocuments-append ts us fit.1 others)
 
--- what spells a tree is the document of its elements
+-- bytes that spell a tree are the document of its elements
 pub is_document : (t : Tree) (b : List ℕ) → Spells t b → IsDocument t
 is_document t b s = subst (Spells t) s.parts s
 
@@ -33,7 +33,7 @@ pub record Walked (bytes : List ℕ) (documents : List Tree) (rest : List ℕ) :
 pub none_walked : (bytes : List ℕ) → Walked bytes [] bytes
 none_walked bytes = record { parts = refl; documents_fit = tt }
 
--- a document more
+-- one more document
 pub one_more : (bytes : List ℕ) (ts : List Tree) (rest : List ℕ) (t : Tree) (b after : List ℕ) → Walked bytes ts rest → Spells t b → rest ≡ b ++ after → Walked bytes (ts ++ t ∷ []) after
 one_more bytes ts rest t b after w s is =
     let last : documents_bytes (t ∷ []) ≡ document (elements t) = append-nil (document (elements t)) in

@@ -1,4 +1,4 @@
--- The steps of the check: a pair more, a fault, a document inside.
+-- The steps of the check: one more pair, a fault, a document inside.
 use Rattle.std.proofs.Common.{◌≡◌, ◌≢◌, ℕ, suc, ◌+◌, ◌-◌, ◌<◌, ◌≤◌, Bool, ◌&&◌, List, [], ◌∷◌, ◌++◌, length, get_or, take, drop, Option, Some, None, Result, Ok, Err, refl, sym, ap, subst, ◌∙◌, append_assoc, arith, add-zero, add-one, drop-cons}
 use Rattle.std.specs.Prelude.{slice_range}
 use Rattle.std.proofs.lemmas.List.{length-append, append-nil, take_at, take-take, drop_at, length-take, length-drop}
@@ -83,7 +83,7 @@ fault_after {depth} {s} {at} {room} {f} p whole t before offset (in_document u r
     in_document (joined t u) rest e q b body (Before-joined depth whole room rest t u before r)
     (subst (λ (k : ℕ). element_at depth s k rest ≡ Ok e) (ap (λ (k : ℕ). k + length (elements u)) (sym offset) ∙ joined_offset p t u) read) is chain
 
--- ---- where a document inside stands
+-- ---- the offset of an inner document
 
 front_of : (name : List ℕ) (k : ℕ) (b : Beside) (body rest : List ℕ) → (front : List ℕ) × ((k ∷ (cstring name ++ inner_bytes b body)) ++ rest ≡ front ++ (body ++ (0 ∷ rest))) × ((at : ℕ) → at + length front ≡ offset_beside (at + length name + 2) b + 4)
 front_of name k no_code body rest =
@@ -104,7 +104,7 @@ front_of name k (with_code words) body rest =
       λ at. omega (arith, length-append (cstring name) (lengths ++ (string words ++ size)), length-append name (0 ∷ []), length-append lengths (string words ++ size), length-append (string words) size, length-append (little (length words + 1)) (cstring words), length-append words (0 ∷ [])),
     )
 
--- The document in an element, and that it stands in the whole at q.
+-- The document in the element begins at offset q of the bytes.
 pub record StandsAt (bytes : List ℕ) (at end : ℕ) (e : ElementRead) (q : ℕ) (body : List ℕ) : Type 0 where
   pub low : at < q
   pub high : q + 5 ≤ end - length e.rest
@@ -144,8 +144,8 @@ stands_at bytes depth s at end e q b body fits lt whole read is =
 
 -- ---- an element that the code went over
 
--- What was read at the front of the bytes between two offsets: a type byte of this kind, and a name of which this was
--- told. The value begins in front of the bytes from.
+-- What was read at the front of the bytes between two offsets: a type byte of this kind, and a name that is canonical
+-- or not, as told. The value is at the front of the bytes from.
 pub record IsHead (bytes : List ℕ) (at end : ℕ) (in_array : Bool) (index : ℕ) (named : Bool) (k : Kind) (from : List ℕ) : Type 0 where
   pub name : List ℕ
   pub some : get_or bytes at 0 ≢ 0
@@ -191,31 +191,31 @@ is_head bytes at end in_array index named k from fits lt whole some kind is =
 at_room : (bytes : List ℕ) (depth s at end : ℕ) (r : Result ElementRead BsonFault) → at < end → end < length bytes → element_at depth s at (get_or bytes at 0 ∷ slice_range bytes (at + 1) end) ≡ r → element_at depth s at (slice_range bytes at end) ≡ r
 at_room bytes depth s at end r lt whole is = ap (element_at depth s at) (room_is bytes at end lt whole) ∙ is
 
--- no type byte
+-- the fault of an element whose type byte is 0
 pub end_failed : (bytes : List ℕ) (depth s at end : ℕ) → at < end → end < length bytes → get_or bytes at 0 ≡ 0 → element_at depth s at (slice_range bytes at end) ≡ Err (fault s End)
 end_failed bytes depth s at end lt whole none =
     at_room bytes depth s at end (Err (fault s End)) lt whole (ap (λ (b : ℕ). element_at depth s at (b ∷ slice_range bytes (at + 1) end)) none ∙ end_fault depth s at (slice_range bytes (at + 1) end))
 
--- one of no kind
+-- the fault of an element whose type byte is of no kind
 pub kind_failed : (bytes : List ℕ) (depth s at end : ℕ) → at < end → end < length bytes → get_or bytes at 0 ≢ 0 → kind_of (get_or bytes at 0) ≡ None → element_at depth s at (slice_range bytes at end) ≡ Err (fault at causes.Kind)
 kind_failed bytes depth s at end lt whole some none =
     at_room bytes depth s at end (Err (fault at causes.Kind)) lt whole (kind_fault depth s at (get_or bytes at 0) (slice_range bytes (at + 1) end) some none)
 
--- a name that cannot be read
+-- the fault of an element whose name can't be read
 pub name_failed : (bytes : List ℕ) (depth s at end : ℕ) (in_array : Bool) (index : ℕ) (k : Kind) (c : BsonCause) → at < end → end < length bytes → get_or bytes at 0 ≢ 0 → kind_of (get_or bytes at 0) ≡ Some k
     → named_at in_array index (cstring_at (slice_range bytes (at + 1) end)) ≡ Err c → element_at depth s at (slice_range bytes at end) ≡ Err (fault at c)
 name_failed bytes depth s at end in_array index k c lt whole some kind is =
     at_room bytes depth s at end (Err (fault at c)) lt whole (name_fault depth s at (get_or bytes at 0) (slice_range bytes (at + 1) end) k c some kind (named_err (cstring_at (slice_range bytes (at + 1) end)) in_array index c is))
 
--- and a value
+-- the fault of an element whose value can't be read
 pub value_failed : (bytes : List ℕ) (depth s at end : ℕ) (in_array : Bool) (index : ℕ) (named : Bool) (k : Kind) (from : List ℕ) (f : BsonFault) → at < end → end < length bytes → IsHead bytes at end in_array index named k from
     → value_extent (value_at depth at (end - length from) (form_of k) from) ≡ Err f → element_at depth s at (slice_range bytes at end) ≡ Err f
 value_failed bytes depth s at end in_array index named k from f lt whole h is =
     at_room bytes depth s at end (Err f) lt whole
     (value_fault depth s at (get_or bytes at 0) (slice_range bytes (at + 1) end) h.name from k f h.some h.kind_is h.name_read (ap (λ (q : ℕ). value_extent (value_at depth at q (form_of k) from)) (sym h.value_is) ∙ is))
 
--- The element between two offsets of the bytes, where the next one stands, and what was told of it: its kind, whether its
--- name is canonical, and the offset of a document in its value.
+-- The element between two offsets of the bytes, the offset of the next one, and what was told of it: its kind, whether
+-- its name is canonical, and the offset of a document in its value.
 pub record IsPassed (bytes : List ℕ) (depth s at end : ℕ) (in_array : Bool) (index : ℕ) (named : Bool) (k : Kind) (document : Option ℕ) (next : ℕ) : Type 0 where
   pub element : ElementRead
   pub is_read : element_at depth s at (slice_range bytes at end) ≡ Ok element

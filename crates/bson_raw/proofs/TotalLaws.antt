@@ -1,4 +1,4 @@
--- What stands in a document takes no more than its bytes.
+-- The elements of a document, and their names, texts and data, take no more bytes than it has.
 use Rattle.std.proofs.Common.{◌≡◌, ℕ, ◌+◌, ◌≤◌, ◌^◌, ◌==◌, Bool, true, false, List, [], ◌∷◌, ◌++◌, length, refl, ap, arith, length-append, Fits, w64}
 use Rattle.std.specs.Prelude.{if◌then◌else◌}
 use Rattle.std.proofs.lemmas.Grind.{not_there}
@@ -43,13 +43,13 @@ totals_le (leaf_pair name k v ps) =
 totals_le (inner_pair name k b inner ps) =
     omega (arith, totals_le inner, totals_le ps, beside_len b (elements inner), length-append (byte_of k ∷ (cstring name ++ inner_bytes b (elements inner))) (elements ps), length-append (cstring name) (inner_bytes b (elements inner)), length-append name (0 ∷ []))
 
--- What is at most that sum of a document is at most its length,
+-- A number that is at most that sum of a document is at most its length,
 pub within_document : (n : ℕ) (bytes : List ℕ) → ∥ IsSpelled bytes ∥₁ → ((t : Tree) → Spells t bytes → n ≤ elements_in t + sizes_in t) → n ≤ length bytes
 within_document n bytes spelled below =
     let no : length bytes + 1 ≤ n → ⊥ = λ le. not_there spelled (λ s. omega (arith, le, below s.0 s.1, totals_le s.0, ap length s.1.parts, length-document (elements s.0))) in
     omega (arith, no)
 
--- and fits a number of 64 bits.
+-- and fits 64 bits.
 pub totals_fit : (n : ℕ) (bytes : List ℕ) → ∥ IsSpelled bytes ∥₁ → ((t : Tree) → Spells t bytes → n ≤ elements_in t + sizes_in t) → Fits w64 n
 totals_fit n bytes spelled below =
     let no : 2 ^ 31 ≤ n → ⊥ = λ le. not_there spelled (λ s. omega (arith, le, below s.0 s.1, totals_le s.0, ap length s.1.parts, length-document (elements s.0), s.1.short)) in
@@ -65,7 +65,7 @@ pub sizes_in-with_first : (name : List ℕ) (v : TreeValue) (ps : Tree) → size
 sizes_in-with_first name (leaf_value k leaf) ps = refl
 sizes_in-with_first name (document_value k b inner) ps = omega arith
 
--- What was counted, and the pair after it, is within what stands in the whole document.
+-- The counts so far, with those of the next pair, are at most those of the whole document.
 pub pair_within : (whole rest others : Tree) (name : List ℕ) (v : TreeValue) (elements sizes elements_of sizes_of : ℕ)
     → elements_in whole ≡ elements + elements_in rest → sizes_in whole ≡ sizes + sizes_in rest → rest ≡ with_first name v others
     → elements_of ≡ elements_held v → sizes_of ≡ sizes_held v

@@ -1,4 +1,4 @@
--- A value that is lent, and the pairs that it stands in.
+-- A value that is lent, and the pairs that it is one of.
 use Rattle.std.proofs.Common.{◌≡◌, ℕ, ◌-◌, ◌<◌, ◌≤◌, List, ◌∷◌, ◌++◌, length, ap, arith, length-append}
 use Rattle.std.proofs.lemmas.Grind.{not_there}
 use Rattle.bson_elem.specs.declared.kinds.Kind.{Kind}
@@ -24,7 +24,7 @@ pub inner_lt : (name : List ℕ) (v : TreeValue) (ps : Tree) (k : Kind) (b : Bes
 inner_lt name v ps k b bytes shown =
     omega (arith, document_lt name k b shown.0 ps, ap length shown.2.parts, ap (λ (x : TreeValue). length (elements (with_first name x ps))) shown.1)
 
--- what a value holds is shorter than the pairs that it is the first of
+-- a document in a value is shorter than the pairs of which the value is the first
 pub held_lt : (value : RawBson) (name : List ℕ) (v : TreeValue) (ps : Tree) → Shows value v → held_len value < length (elements (with_first name v ps))
 held_lt (values.Document d) name v ps shown = inner_lt name v ps _ _ _ shown
 held_lt (values.Array a) name v ps shown = inner_lt name v ps _ _ _ shown

@@ -58,7 +58,7 @@ none_is_no_pairs no_pairs e = refl
 none_is_no_pairs (leaf_pair n k v ps) e = absurd (omega (arith, e))
 none_is_no_pairs (inner_pair n k b inner ps) e = absurd (omega (arith, e))
 
--- how many bytes stand between two offsets
+-- how many bytes are between two offsets
 pub room_size : (bytes : List ℕ) (at end : ℕ) → end ≤ length bytes → length (slice_range bytes at end) ≡ end - at
 room_size bytes at end le = omega (arith, length-take (end - at) (drop at bytes), length-drop at bytes, le)
 
@@ -74,7 +74,7 @@ has_left bytes t s =
     let size : length bytes ≡ length (elements t) + 5 = ap length s.parts ∙ length-document (elements t) in
     (omega (arith, size), s.short, (t, all_left bytes t s))
 
--- the pairs from an offset on, the element that was read there, and where the next one stands
+-- the pairs from an offset on, the element that was read there, and the offset of the next one
 pub record IsRead (bytes : List ℕ) (at : ℕ) (e : ElementRead) (next : ℕ) : Type 0 where
   pub before : at < length bytes - 1
   pub read : element_at 1 0 at (slice_range bytes at (length bytes - 1)) ≡ Ok e

@@ -9,12 +9,13 @@ use Rattle.bson_elem.specs.{with_code}
 use Rattle.bson_raw.specs.Pairs.{TreeValue, leaf_value, document_value}
 use Rattle.bson_raw.specs.Spelled.{IsSpelled}
 
--- the value is of this kind, and this leaf
+-- the value of the tree is this leaf, of this kind
 abbrev pub IsLeafOf : Kind → Value → TreeValue → Type 0
 IsLeafOf kind (a_leaf leaf) v = v ≡ leaf_value kind leaf
 IsLeafOf kind (opens q b body) v = ⊥
 
--- the item lends the value, and the bytes of a document spell the tree that it holds
+-- The item lends this value of the tree. The bytes of a document, an array or a scope spell the
+-- tree that the value holds.
 abbrev pub IsItemOf : Item → TreeValue → Type 0
 IsItemOf (items.Document d) v =
     (inner : Tree) × (v ≡ document_value kinds.Document no_code inner) × Spells inner d.now
@@ -25,7 +26,7 @@ IsItemOf (items.CodeWithScope s d) v =
     × Spells inner d.now
 IsItemOf item v = IsLeafOf (item_kind item) (item_value 0 item) v
 
--- what the item holds is spelled
+-- if the item holds a document, its bytes spell a tree
 abbrev pub HoldsSpelled : Item → Type 0
 HoldsSpelled (items.Document d) = ∥ IsSpelled d.now ∥₁
 HoldsSpelled (items.Array d) = ∥ IsSpelled d.now ∥₁

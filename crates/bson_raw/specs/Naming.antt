@@ -11,8 +11,8 @@ abbrev pub is_array_kind : Kind → Bool
 is_array_kind Array = true
 is_array_kind _ = false
 
--- the canonical name of the pair at an index, counted from 0: the index in decimal in an array,
--- its own elsewhere
+-- the canonical name of the pair at an index, counted from 0: in an array the index in decimal,
+-- elsewhere the name that it has
 abbrev pub name_at : Bool → ℕ → List ℕ → List ℕ
 name_at in_array index name = if in_array then decimal index else name
 
@@ -29,8 +29,7 @@ is_plain in_array index (inner_pair name k b inner ps) =
     is_named in_array index name
     && (is_plain (is_array_kind k) 0 inner && is_plain in_array (index + 1) ps)
 
--- what was read as the name of the pair at an index of a container: whether it is canonical, and
--- what follows it
+-- of the name read for the pair at this index: whether it is canonical, and the bytes after it
 abbrev pub named_at : Bool → ℕ → Read (List ℕ) → Read Bool
 named_at in_array index (Ok name) = Ok (is_named in_array index name.0, name.1)
 named_at in_array index (Err c) = Err c

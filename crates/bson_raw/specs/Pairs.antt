@@ -6,18 +6,18 @@ use Rattle.std.specs.Str.{bytes_eq}
 use Rattle.bson_elem.specs.declared.kinds.Kind.{Kind}
 use Rattle.bson_elem.specs.{Beside, Leaf, Tree, inner_pair, leaf_pair, no_pairs}
 
--- the value of a pair: a kind and a leaf; or a kind, what the value has beside its document, and
--- the document's tree
+-- the value of a pair: a kind and a leaf; or a kind, what is beside the value's document, and the
+-- document's tree
 pub data TreeValue : Type 0 where
   leaf_value : Kind → Leaf → TreeValue
   document_value : Kind → Beside → Tree → TreeValue
 
--- a pair of this name and value, and the other pairs after it
+-- a pair with this name and value, and the other pairs after it
 abbrev pub with_first : List ℕ → TreeValue → Tree → Tree
 with_first name (leaf_value k v) others = leaf_pair name k v others
 with_first name (document_value k b inner) others = inner_pair name k b inner others
 
--- the value of the first pair of a name
+-- the value of the first pair with this name
 abbrev pub first_named : List ℕ → Tree → Option TreeValue
 first_named name no_pairs = None
 first_named name (leaf_pair n k v ps) =
@@ -43,7 +43,7 @@ names_of (inner_pair n k b inner ps) = n ∷ names_of ps
 abbrev pub is_among : List ℕ → List (List ℕ) → Bool
 is_among name names = list_any (λ n. bytes_eq n name) names
 
--- the first name that is one of these or the name of an earlier pair
+-- the first name of a pair that is one of these names, or the name of an earlier pair
 abbrev pub first_repeated : List (List ℕ) → Tree → Option (List ℕ)
 first_repeated seen no_pairs = None
 first_repeated seen (leaf_pair n k v ps) =

@@ -49,7 +49,7 @@ Shows (values.Decimal128 bytes) v = v ≡ leaf_value kinds.Decimal128 (raw_value
 Shows values.MinKey v = v ≡ leaf_value kinds.MinKey (raw_value [])
 Shows values.MaxKey v = v ≡ leaf_value kinds.MaxKey (raw_value [])
 
--- the value is there, and is lent
+-- a value was found in the tree, and this lends it
 abbrev pub ShowsFound : RawBson → Option TreeValue → Type 0
 ShowsFound value found = (v : TreeValue) × (found ≡ Some v) × Shows value v
 
@@ -84,7 +84,7 @@ kind_of_value (values.Decimal128 _) = kinds.Decimal128
 kind_of_value values.MinKey = kinds.MinKey
 kind_of_value values.MaxKey = kinds.MaxKey
 
--- ---- the part of a value of one kind
+-- ---- the text, number, document or data of a value, if it is of the kind asked for
 
 abbrev pub as_str : RawBson → Option (Bor (List ℕ))
 as_str (values.String text) = Some text

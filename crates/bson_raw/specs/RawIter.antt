@@ -13,7 +13,7 @@ use Rattle.bson_raw.specs.RawBson.{Shows, held_len}
 use Rattle.bson_raw.specs.Left.{LeftIs}
 use Rattle.bson_raw.specs.Pairs.{TreeValue, with_first}
 
--- The tree is a pair of this name and value and other pairs, and those are left.
+-- The tree begins with a pair of this name and value, and the pairs after it are left.
 pub record GivesFirst (t : Tree) (name : List ℕ) (value : RawBson)
     (IsLeft : Tree → Type 0) : Type 0 where
   pub tree_value : TreeValue
@@ -24,11 +24,11 @@ pub record GivesFirst (t : Tree) (name : List ℕ) (value : RawBson)
 
 -- ---- the pairs of a document
 
--- the pairs that are left are those of the tree
+-- the pairs that the iterator has left are those of the tree
 abbrev pub PairsLeft : RawIter → Tree → Type 0
 PairsLeft s t = LeftIs s.bytes.now s.offset t
 
--- the number of bytes of the document that is walked
+-- the number of bytes of the document that the iterator goes over
 abbrev pub walked_len : RawIter → ℕ
 walked_len s = length s.bytes.now
 
@@ -42,8 +42,8 @@ BeginsAtFirstPair d s =
 abbrev pub pairs_bound : RawIter → ℕ
 pairs_bound s = length s.bytes.now - s.offset
 
--- Whatever pairs are left, the first of them is returned, or there is none. A document inside its
--- value is shorter than the document that is walked.
+-- The first of the pairs left is returned, or `None` if none is left. A document in its value is
+-- shorter than the document that the iterator goes over.
 abbrev pub GivesPair : RawIter → Option (Bor (List ℕ) × RawBson) → RawIter → Type 0
 GivesPair s None after = (t : Tree) → PairsLeft s t → t ≡ no_pairs
 GivesPair s (Some x) after =
@@ -57,11 +57,11 @@ StepsTo s given after =
 
 -- ---- the values of an array
 
--- the values that are left are those of the tree's pairs
+-- the values that the iterator has left are those of the tree's pairs
 abbrev pub ValuesLeft : RawArrayIter → Tree → Type 0
 ValuesLeft s t = PairsLeft s.pairs t
 
--- the number of bytes of the array that is walked
+-- the number of bytes of the array that the iterator goes over
 abbrev pub walked_array_len : RawArrayIter → ℕ
 walked_array_len s = walked_len s.pairs
 
@@ -75,8 +75,8 @@ BeginsAtFirstValue a s =
 abbrev pub values_bound : RawArrayIter → ℕ
 values_bound s = pairs_bound s.pairs
 
--- Whatever values are left, the first of them is returned, or there is none. A document inside it
--- is shorter than the array that is walked.
+-- The first of the values left is returned, or `None` if none is left. A document in it is shorter
+-- than the array that the iterator goes over.
 abbrev pub GivesValue : RawArrayIter → Option RawBson → RawArrayIter → Type 0
 GivesValue s None after = (t : Tree) → ValuesLeft s t → t ≡ no_pairs
 GivesValue s (Some value) after =

@@ -3,7 +3,7 @@ use Rattle.std.specs.Prelude.{◌≡◌, ◌⊎◌, ℕ, List, [], ◌∷◌, �
 use Rattle.bson_elem.specs.declared.fault.BsonFault.{BsonFault}
 use Rattle.bson_elem.specs.{FrontFault, Spells, Tree, document, elements}
 
--- the tree is that of a document
+-- the tree is that of a document: it has a spelling
 abbrev pub IsDocument : Tree → Type 0
 IsDocument t = Spells t (document (elements t))
 

@@ -9,9 +9,9 @@ use crate::name::skip_name;
 use bson_elem::{BsonCause, BsonFault, Kind, fault_at, skip_value};
 
 /// Checks the pair at `offset`, and everything inside it. Returns the offset after it, and whether
-/// every name so far is canonical, where `canonical` says so of the `index` pairs before it.
-// The arguments stay apart: with the container's four as one struct, a check of small documents
-// takes 13 % more instructions, and of nested ones 20 %.
+/// every name so far is canonical. `canonical` says that of the `index` pairs before it.
+// The arguments stay separate: with the four of the container in one struct, a check of small
+// documents takes 13 % more instructions, and of nested ones 20 %.
 #[cycle(check)]
 #[inline(always)]
 fn check_pair(
@@ -49,8 +49,8 @@ fn check_pair(
     let (document, rest) = skip_value(depth, offset, end - rest.len(), kind, rest)?;
     let next = end - rest.len();
     if let Some(inner) = document {
-        // Looks at the byte: a test of the kind would turn its table of sizes into a jump for each
-        // kind.
+        // Tests the byte, not `kind`: a test of `kind` would turn the table of sizes into a jump
+        // for each kind.
         let is_array = bytes[offset] == Kind::Array.byte();
         let within = check(bytes, inner, next - 1, depth + 1, is_array)?;
         return Ok((next, canonical && within));

@@ -39,8 +39,8 @@ fn spells_canonical(bytes: &[u8]) -> bool
     }
 }
 
-/// Returns true if the length at the front is that of the bytes, or if there are fewer than four
-/// bytes.
+/// Returns true if the length at the front is the number of the bytes, or if there are fewer than
+/// four bytes.
 fn is_length_of(bytes: &[u8]) -> bool
     ensures { IsTrue result ↔ IsLengthOf bytes.now }
 {
@@ -72,7 +72,7 @@ pub struct Front<'a> {
 impl<'a> RawDocument<'a> {
     ghost use Rattle.bson_raw.specs.RawDocument.{document_bytes};
 
-    /// Checks the document at the front of the bytes. Returns it, and what follows it.
+    /// Checks the document at the front of `bytes`, and returns it and the bytes after it.
     ///
     /// # Errors
     ///
@@ -92,8 +92,8 @@ impl<'a> RawDocument<'a> {
         }
     }
 
-    /// Checks the document at the front of the bytes, as `front` does. In the same walk it also
-    /// finds out whether the document is in canonical form.
+    /// Checks the document at the front of `bytes`, as `front` does. Finds out in the same pass
+    /// whether it is in canonical form.
     ///
     /// # Errors
     ///
@@ -123,12 +123,12 @@ impl<'a> RawDocument<'a> {
         }
     }
 
-    /// Checks that all of the bytes are one document, and returns it.
+    /// Checks that `bytes` is one document, and returns it.
     ///
     /// # Errors
     ///
-    /// Returns `Length` at 0 if the length at the front isn't that of the bytes, and otherwise the
-    /// fault that `front` returns.
+    /// Returns `Length` at 0 if the length in the first four bytes isn't the number of `bytes`, and
+    /// otherwise the fault that `front` returns.
     pub fn from_bytes(bytes: &'a [u8]) -> Result<RawDocument<'a>, BsonFault>
         ensures found { IfOk result (λ d. (document_bytes d ≡ bytes.now) × IsSpelled bytes.now) }
         ensures only { IsSpelled bytes.now → IsOk result }
@@ -148,7 +148,7 @@ impl<'a> RawDocument<'a> {
         }
     }
 
-    /// Returns the document that the bytes are known to spell, without a check.
+    /// Returns the document that `bytes` is known to spell, without a check.
     pub fn from_spelled(bytes: &'a [u8]) -> RawDocument<'a>
         requires { ∥ IsSpelled bytes.now ∥₁ }
         ensures { document_bytes result ≡ bytes.now }
@@ -164,8 +164,8 @@ impl<'a> RawDocument<'a> {
         self.bytes
     }
 
-    /// Returns true if the document is in canonical form: if the names of each array in it are
-    /// "0", "1" and so on. This checks the whole document once more.
+    /// Returns true if the document is in canonical form: if the names of each array in it are "0",
+    /// "1" and so on. Reads the whole document again.
     pub fn is_canonical(self) -> bool
         ensures { (t : Tree) → Spells t (document_bytes self.entry) → result ≡ is_plain false 0 t }
     {

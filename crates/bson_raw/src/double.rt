@@ -5,13 +5,14 @@ ghost use Rattle.std.specs.Float.{Float};
 ghost use Rattle.bson_elem.specs.{IsBytes};
 ghost use Rattle.bson_raw.specs.Doubles.{double_bytes, double_of};
 
-/// The bits of infinity, the largest ones without a sign that aren't a NaN's.
+/// The bits of infinity. Without the sign, the bits of a NaN are greater, and those of all other
+/// numbers are not.
 const INFINITY: u64 = 0x7ff0_0000_0000_0000;
 
 /// The bits of the quiet NaN without a payload.
 const QUIET_NAN: u64 = 0x7ff8_0000_0000_0000;
 
-/// Returns the number of a double's bytes. For each NaN that is `f64::NAN`.
+/// Returns the number that the bytes of a double stand for: for each NaN, `f64::NAN`.
 pub fn double_from_bytes(bytes: [u8; 8]) -> f64
     ensures { result ≡ double_of bytes }
 {

@@ -1,4 +1,5 @@
-//! Laws of documents back to back, and of the numbers of doubles. The contract of each function is the law.
+//! Laws of documents back to back, and of the numbers of doubles. The contract of each function is
+//! the law.
 
 ghost use Rattle.std.specs.Prelude.{◌≡◌, ℕ, List};
 ghost use Rattle.bson_elem.specs.{IsBytes, Tree};
@@ -14,8 +15,8 @@ pub fn one_document_split()
         → (documents ≡ others) × (rest ≡ after) }
 {}
 
-/// Walks over the documents at the front of the bytes, and returns the rest. So any bytes can be
-/// split into documents and a rest.
+/// Returns the bytes after the documents at the front of `bytes`. So any bytes split into documents
+/// and a rest.
 pub fn documents_split(bytes: &[u8]) -> &[u8]
     ensures { (documents : List Tree) × DocumentSplit bytes.now documents result.now }
 {
@@ -29,7 +30,7 @@ pub fn documents_split(bytes: &[u8]) -> &[u8]
     rest
 }
 
-/// Proves that the bytes of a number as a double are of that number. Does nothing.
+/// Proves that a number written as a double is read as that number. Does nothing.
 pub fn double_keeps_its_number(number: f64)
     ensures { double_of (double_bytes number) ≡ number }
 {}

@@ -61,7 +61,7 @@ fn is_index(name: &[u8], index: usize) -> bool
     is_decimal(name, index)
 }
 
-/// Returns what follows the name of `n` bytes at the front, if that is `index` in decimal.
+/// Returns the bytes after the name of `n` bytes at the front, if that name is `index` in decimal.
 #[inline(always)]
 fn after_name(bytes: &[u8], n: usize, index: usize) -> Option<&[u8]>
     ensures read { IfSome result (λ rest. cstring_at bytes.now ≡ Ok (decimal index, rest.now)) }
@@ -73,8 +73,8 @@ fn after_name(bytes: &[u8], n: usize, index: usize) -> Option<&[u8]>
     None
 }
 
-/// Returns what follows the name at the front, if that is `index` in decimal and has at most five
-/// digits.
+/// Returns the bytes after the name at the front, if that name is `index` in decimal and has at
+/// most five digits.
 #[inline(always)]
 fn after_index(bytes: &[u8], index: usize) -> Option<&[u8]>
     ensures read { IfSome result (λ rest. cstring_at bytes.now ≡ Ok (decimal index, rest.now)) }
@@ -104,8 +104,8 @@ fn skip_any_name(bytes: &[u8], index: usize) -> Result<(bool, &[u8]), BsonCause>
     Ok((is_decimal(name.as_bytes(), index), rest))
 }
 
-/// Reads the name at the front, of the pair at `index` of a container. Returns whether it is
-/// canonical, and what follows it. In a document or a scope each name is canonical.
+/// Reads the name at the front, that of the pair at `index` of a container. Returns whether it is
+/// canonical, and the bytes after it. In a document or a scope every name is canonical.
 #[inline(always)]
 pub(crate) fn skip_name(
     bytes: &[u8],

@@ -29,7 +29,8 @@ impl DocumentTotals {
     }
 }
 
-/// Counts what the value holds, without its own name.
+/// Counts the elements inside the value, and the bytes of its names, texts and data, without its
+/// own name.
 #[cycle(totals)]
 fn value_totals(value: RawBson<'_>) -> DocumentTotals
     ensures { (v : TreeValue) → Shows value.entry v
@@ -57,7 +58,7 @@ fn value_totals(value: RawBson<'_>) -> DocumentTotals
     }
 }
 
-/// Counts what the document holds.
+/// Counts the elements of the document, and the bytes of its names, texts and data, at all depths.
 #[cycle(totals)]
 fn document_totals(document: RawDocument<'_>) -> DocumentTotals
     ensures all { (t : Tree) → Spells t (document_bytes document.entry)

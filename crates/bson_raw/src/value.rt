@@ -58,7 +58,7 @@ impl<'a> RawBson<'a> {
     ghost use Rattle.bson_raw.specs.Held.{IsItemOf, HoldsSpelled};
     ghost use Rattle.bson_raw.specs.RawBson.{Shows};
 
-    /// Makes the value of an item of a checked document.
+    /// Returns the value of an item of a checked document.
     pub(crate) fn of_item(item: Item<'a>) -> RawBson<'a>
         requires { HoldsSpelled item }
         ensures { (v : TreeValue) → IsItemOf item.entry v → Shows result v }
@@ -135,7 +135,7 @@ impl<'a> RawBson<'a> {
         }
     }
 
-    /// Returns the number, if the value is a double. For each NaN that is `f64::NAN`.
+    /// Returns the number, if the value is a double: for each NaN, `f64::NAN`.
     pub fn as_f64(self) -> Option<f64>
         ensures { result ≡ shown.as_f64 self.entry }
     {

@@ -7,7 +7,8 @@ const EMPTY: [u8; 5] = *b"\x05\0\0\0\0";
 /// A number that no fault has.
 const OTHER: u8 = 255;
 
-/// Returns the number of the fault at 0 that `from_bytes` finds, 0 where there is none, and else `OTHER`.
+/// Returns the number of the fault that `from_bytes` finds at offset 0, or 0 if it returns a
+/// document of these bytes, or else `OTHER`.
 fn document_fault(bytes: &[u8]) -> u8 {
     match RawDocument::from_bytes(bytes) {
         Ok(document) if document.as_bytes() == bytes => 0,
@@ -16,7 +17,7 @@ fn document_fault(bytes: &[u8]) -> u8 {
     }
 }
 
-/// Returns how many of the altered documents have the fault of this number.
+/// Returns how many of the altered documents have the fault with this number.
 fn documents_with(number: u8) -> usize {
     let mut count = 0usize;
     for at in 0..5 {

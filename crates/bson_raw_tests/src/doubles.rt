@@ -20,7 +20,7 @@ const ROWS: [([u8; 8], f64); 8] = [
 /// The bytes of the quiet NaN without a payload.
 const NAN: [u8; 8] = [0, 0, 0, 0, 0, 0, 0xf8, 0x7f];
 
-/// The bytes of one with a payload.
+/// The bytes of a NaN with a payload.
 const NAN_WITH_PAYLOAD: [u8; 8] = [0x12, 0, 0, 0, 0, 0, 0xf8, 0x7f];
 
 fn is_of(bytes: [u8; 8], number: f64) -> bool {

@@ -1,5 +1,5 @@
-//! Documents of one element for each kind of value that holds no document, worked out by hand from the standard
-//! (bsonspec.org, version 1.1) and the table of kinds.
+//! Documents of one element for each kind of value that holds no document, worked out by hand from
+//! the standard (bsonspec.org, version 1.1) and the table of kinds.
 
 use bson_raw::RawBson;
 

@@ -18,7 +18,8 @@ fn pack(text: &mut Vec<u8>)
 ///
 /// # Errors
 ///
-/// Those of `hex::decode`: an odd number of digits, a character that is no digit, and out of memory.
+/// Returns the errors of `hex::decode`: an odd number of digits, a character that is no digit, and
+/// out of memory.
 pub fn read_digits(alloc: Global, digits: &str) -> Result<Vec<u8>, FromHexError>
     ensures read { IfOk result (λ bytes. decode_of (without_spaces digits.now) ≡ Ok bytes.items) }
     ensures refused { IfErr result (λ e. (e ≡ FromHexError.OutOfMemory)

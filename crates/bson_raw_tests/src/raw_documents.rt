@@ -24,7 +24,8 @@ fn is_front(bytes: &[u8], value: RawBson<'_>) -> bool {
     }
 }
 
-/// Returns true if both calls take the bytes of these digits as a document whose first value, named "v", is this one.
+/// Returns true if both calls take the bytes of these digits as a document whose first value, named
+/// "v", is this one.
 fn is_seen(alloc: Global, hex: &str, value: RawBson<'_>) -> bool {
     match read_digits(alloc, hex) {
         Ok(bytes) => is_whole(&bytes, value) && is_front(&bytes, value),
@@ -129,7 +130,8 @@ fn faults(rt: HostRuntime) {
     }
 }
 
-// A length that isn't that of the bytes is the first fault of `from_bytes`, and to `front` they end too early.
+// A length that isn't the number of the bytes is the first fault for `from_bytes`. For `front`
+// there are too few bytes.
 #[test]
 fn lengths(rt: HostRuntime) {
     let bytes = b"\x06\x00\x00\x00\x00";
@@ -218,7 +220,7 @@ fn array_values_go_by_their_order(rt: HostRuntime) {
     }
 }
 
-/// What is given of a value as text, as either integer, as a boolean and as a binary.
+/// What `as_str`, `as_i32`, `as_i64`, `as_bool` and `as_binary` return for a value.
 type Parts<'a> = (
     Option<&'a str>,
     Option<i32>,
@@ -247,7 +249,7 @@ const PARTS: [(RawBson<'static>, Parts<'static>); 11] = [
     (RawBson::MinKey, (None, None, None, None, None)),
 ];
 
-/// Returns true if these parts are given of the value, and no document.
+/// Returns true if those methods return `parts` for the value, and it is no document or array.
 fn gives(value: RawBson<'_>, parts: Parts<'_>) -> bool {
     value.as_str() == parts.0
         && value.as_i32() == parts.1
@@ -266,7 +268,7 @@ fn a_part_is_given_for_its_kind_alone(rt: HostRuntime) {
     assert!(rt; RawBson::MinKey.kind() == Kind::MinKey);
 }
 
-/// Fills `bytes` with `count` documents, each in the one before, in an element named "a".
+/// Fills `bytes` with `count` documents, each in the one before it, in an element named "a".
 fn nest(bytes: &mut [u8; 1605], count: usize)
     requires { count ≤ 201 }
 {

@@ -11,7 +11,7 @@ use lib.Count.{count_trailing_zeros}
 use lib.Lanes.{chunk, mask_l, top, zip2}
 use Rattle.bson_text.specs.Text.{NeedsNoEscapeBefore, needs_escape}
 
--- a byte to escape behind plain ones is the first
+-- a byte to escape after plain bytes is the first one
 pub first_at : (d : List ℕ) (m : ℕ) → m < length d → NeedsNoEscapeBefore d m → needs_escape (get_or d m 0) ≡ true
     → position needs_escape d ≡ Some m
 first_at d m lt plain stop =
@@ -19,14 +19,14 @@ first_at d m lt plain stop =
     let below : ltb m (length d) ≡ true = lt-ltb _ _ lt in
     rw (here, below) refl
 
--- bytes that are all plain hold none
+-- in bytes that are all plain there is none
 pub none_at : (d : List ℕ) → NeedsNoEscapeBefore d (length d) → position needs_escape d ≡ None
 none_at d plain =
     let past : position_or_len needs_escape d ≡ length d = position_or_len_is needs_escape d (length d) 0 (omega arith) plain (λ lt. absurd (omega (arith, lt))) in
     let over : ltb (length d) (length d) ≡ false = le-ltb _ _ (omega arith) in
     rw (past, over) refl
 
--- a look that reaches the end tells the offset
+-- a look at the last bytes gives the offset, or there is none
 pub last_look : (r : Option ℕ) (d : List ℕ) (n : ℕ) → n ≡ length d
     → MatchOption r (NeedsNoEscapeBefore d n) (λ m. position needs_escape d ≡ Some m) → r ≡ position needs_escape d
 last_look None d n end h = sym (none_at d (subst (NeedsNoEscapeBefore d) end h))
@@ -64,12 +64,12 @@ unset : (b : Bool) (n l m : ℕ) → n ≤ l → cond (not b) (1 + n) 0 ≡ 1 + 
 unset true n l m le e rest = absurd (omega arith)
 unset false n l m le e rest = omega (arith, rest (omega arith))
 
--- where no byte passes p, no bit is set
+-- if p holds of no byte, no bit is set
 empty_mask : (p : ℕ → Bool) (xs : List ℕ) → prefix_len (λ x. not (p x)) xs ≡ length xs → mask_l (map p xs) ≡ 0
 empty_mask p [] e = refl
 empty_mask p (x ∷ xs) e = unset (p x) _ (length xs) _ (prefix_len-le-length (λ y. not (p y)) xs) (omega arith) (empty_mask p xs)
 
--- where the mask of n bytes is empty, they are plain
+-- if the mask of n bytes is empty, they are plain
 pub none_in_lanes : (d : List ℕ) (i n : ℕ) → i + n ≤ length d → n ≤ 64 → ((k : ℕ) → Fits w8 (get_or d k 0)) → NeedsNoEscapeBefore d i
     → mask_l (map (top 7) (lanes_of n (chunk i n d))) % 2 ^ 64 ≡ 0 → NeedsNoEscapeBefore d (i + n)
 none_in_lanes d i n room few fits plain none k lt =
@@ -79,7 +79,7 @@ none_in_lanes d i n room few fits plain none k lt =
       | inr late ↦ sym (tells (get_or d k 0) (fits k)) ∙ none_from_empty_mask is_set d i n 0 room (sym mask ∙ none) k late lt
     ]
 
--- where it is not, its lowest bit is the first byte to escape
+-- if it isn't, its lowest bit is at the first byte to escape
 pub first_in_lanes : (d : List ℕ) (i n : ℕ) → i + n ≤ length d → n ≤ 64 → ((k : ℕ) → Fits w8 (get_or d k 0)) → NeedsNoEscapeBefore d i
     → mask_l (map (top 7) (lanes_of n (chunk i n d))) % 2 ^ 64 ≢ 0
     → (count_trailing_zeros 64 (mask_l (map (top 7) (lanes_of n (chunk i n d))) % 2 ^ 64) < n)

@@ -12,11 +12,11 @@ use Rattle.std.proofs.lemmas.List.Sums.{prefix_len_passes}
 use Rattle.bson_text.specs.Text.{needs_escape, escaped, quoted}
 use Rattle.bson_text.proofs.Progress.{last_written, piece_written}
 
--- a byte that needs no escape stands as it is
+-- a byte that needs no escape is written as it is
 pub escaped-plain : (b : ℕ) → needs_escape b ≡ false → escaped b ≡ b ∷ []
 escaped-plain b h = grind (arith)
 
--- a text with no byte that needs an escape stands as it is
+-- a text with no byte that needs an escape is written as it is
 pub flat_map-plain : (xs : List ℕ) → ((k : ℕ) → k < length xs → needs_escape (get_or xs k 0) ≡ false)
     → flat_map escaped xs ≡ xs
 flat_map-plain [] h = refl
@@ -25,14 +25,14 @@ flat_map-plain (x ∷ xs) h =
     let rest = flat_map-plain xs (λ k lt. h (suc k) (omega arith)) in
     ap (λ l. l ++ flat_map escaped xs) here ∙ ap (λ l. x ∷ l) rest
 
--- the bytes before the first that needs an escape stand as they are
+-- the bytes before the first that needs an escape are written as they are
 pub run_before : (xs : List ℕ) (at : ℕ) → position needs_escape xs ≡ Some at → flat_map escaped (take at xs) ≡ take at xs
 run_before xs at h =
     let found = position-Some needs_escape xs at 0 h in
     flat_map-plain (take at xs)
     (λ k lt. let below : k < at = omega (arith, length-take at xs) in rw (get_or-take at xs k 0 below) (found.2 k below))
 
--- a choice of nothing
+-- a choice that gives `None` had a false test
 none_chosen : (b : Bool) (m : ℕ) → cond b (Some m) None ≡ None → b ≡ false
 none_chosen true m h = cc h
 none_chosen false m h = refl
@@ -42,7 +42,7 @@ not_true : (b : Bool) → not b ≡ true → b ≡ false
 not_true true h = sym h
 not_true false h = refl
 
--- a text in which no byte is found that needs an escape stands as it is
+-- a text in which no byte to escape is found is written as it is
 pub run_alone : (xs : List ℕ) → position needs_escape xs ≡ None → flat_map escaped xs ≡ xs
 run_alone xs h =
     let test = none_chosen _ _ h in
@@ -50,7 +50,7 @@ run_alone xs h =
     flat_map-plain xs
     (λ k lt. not_true _ (prefix_len_passes (λ x. not (needs_escape x)) xs k 0 (omega arith)))
 
--- bytes of which there are some are the first and the others
+-- bytes that aren't empty are the first and the others
 first_and_others : (xs : List ℕ) → 0 < length xs → xs ≡ get_or xs 0 0 ∷ take (length xs - 1) (drop 1 xs)
 first_and_others [] h = absurd (omega arith)
 first_and_others (x ∷ xs) h = let fewer : length (x ∷ xs) - 1 ≡ length xs = omega arith in rw (fewer, take-length) refl

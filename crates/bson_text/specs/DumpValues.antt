@@ -18,9 +18,9 @@ held_tree (document_value k b inner) = Some inner
 abbrev pub IsHeld : TreeValue → List ℕ → Type 0
 IsHeld v bytes = (inner : Tree) × (held_tree v ≡ Some inner) × Spells inner bytes
 
--- The lines of the pairs of t are written, up to that of the first pair whose value holds pairs of
--- its own; these bytes spell those. Still to be written are the lines of those pairs, and of the
--- others that are left.
+-- The lines of the pairs of t are written, up to and with that of the first pair whose value holds
+-- pairs of its own. These bytes spell those inner pairs. The lines of the inner pairs, and those of
+-- the other pairs of t, are still to be written.
 pub record StopsAt (deep : ℕ) (t : Tree) (bytes : List ℕ) (IsLeft : Tree → Type 0)
     (IsWritten : List ℕ → Type 0) : Type 0 where
   pub inner : Tree

@@ -16,7 +16,7 @@ inner_document_text size = codes " document " ++ decimal size
 abbrev pub array_text : ℕ → List ℕ
 array_text size = codes " array " ++ decimal size
 
--- the data after their number: nothing if there are none
+-- a space and the data, or nothing if there is no data
 abbrev pub data_text : List ℕ → List ℕ
 data_text [] = []
 data_text (b ∷ rest) = codes " " ++ encode_lower (b ∷ rest)

@@ -87,9 +87,9 @@ fn held_document(value: RawBson<'_>) -> Option<RawDocument<'_>>
     }
 }
 
-/// Writes the lines of the next elements, up to the first that holds a document, and that one's
-/// too. Returns that document, or `None` after the last element. Not inlined, so that a level of
-/// nesting takes little of the stack.
+/// Writes the lines of the next elements, up to and with the first that holds a document. Returns
+/// that document, or `None` after the last element. Not inlined, so that each level of nesting
+/// takes little stack.
 #[inline(never)]
 fn write_to_held<'a, W: Write>(
     pairs: &mut RawIter<'a>,

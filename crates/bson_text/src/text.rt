@@ -13,7 +13,7 @@ use itoa::{Buffer, Integer};
 use std::io::Write;
 use std::simd::prelude::*;
 
-/// The most bytes that are written as digits at a time.
+/// The most bytes that are written as digits in one call.
 const HEX_CHUNK: usize = 128;
 
 /// The most bytes that a number or an id has.
@@ -162,7 +162,7 @@ pub(crate) fn write_quoted<W: Write>(text: &str, out: &mut TextWriter<W>) -> Res
 {
     let bytes = text.as_bytes();
     out.write_all(b"\"")?;
-    // Few texts hold a byte to escape.
+    // Most texts have no byte to escape.
     match first_escaped(bytes) {
         None => out.write_all(bytes)?,
         Some(_) => write_runs(bytes, out)?,
@@ -189,7 +189,7 @@ fn write_hex_few<W: Write>(few: &[u8], out: &mut TextWriter<W>) -> Result<(), Fa
 {
     let mut buffer = [0u8; 2 * HEX_FEW];
     let digits = &mut buffer[..2 * few.len()];
-    // It errs only where the digits don't fill the slice.
+    // Can't fail: the digits just fill the slice.
     let _ = hex::encode_to_slice(few, digits);
     out.write_all(digits)
 }
@@ -202,7 +202,7 @@ fn write_hex_chunk<W: Write>(chunk: &[u8], out: &mut TextWriter<W>) -> Result<()
 {
     let mut buffer = [0u8; 2 * HEX_CHUNK];
     let digits = &mut buffer[..2 * chunk.len()];
-    // It errs only where the digits don't fill the slice.
+    // Can't fail: the digits just fill the slice.
     let _ = hex::encode_to_slice(chunk, digits);
     out.write_all(digits)
 }

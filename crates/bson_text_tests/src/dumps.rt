@@ -1,5 +1,5 @@
-//! Texts of documents that were worked out by hand from the standard (bsonspec.org, version 1.1) and the table of kinds,
-//! and writers that fail.
+//! Texts of documents that were worked out by hand from the standard (bsonspec.org, version 1.1)
+//! and the table of kinds, and writers that fail.
 
 ghost use Rattle.std.specs.Prelude.{◌≤◌};
 
@@ -28,7 +28,8 @@ fn is_dumped_as(alloc: Global, digits: &str, text: &str) -> bool {
     }
 }
 
-// The empty document, a name of five letters, and containers in containers, whose elements follow their line.
+// The empty document, a name of five letters, and containers in containers, whose elements follow
+// their line.
 const ROWS: [(&str, &str); 4] = [
     ("05000000 00", "document 5\n"),
     (
@@ -59,7 +60,7 @@ fn containers_in_containers(rt: HostRuntime) {
     }
 }
 
-/// Returns true if the text of the document's elements, so deep, is this one.
+/// Returns true if `text` is what `dump_elements` writes for the document at depth `deep`.
 fn has_lines(alloc: Global, document: RawDocument<'_>, deep: u32, text: &str) -> bool
     requires { (1 ≤ deep) × (deep ≤ 2) }
 {
@@ -91,7 +92,7 @@ fn has_lines_at(alloc: Global, deep: u32, text: &str) -> bool
 const DEEP: &str =
     "28000000 0a 6100 03 6200 08000000 0a 6300 00 0f 6400 0f000000 02000000 7800 0500000000 ff 6500 00";
 
-// Elements after an inner document stand as deep as those before it.
+// Elements after an inner document are indented as deep as those before it.
 #[test]
 fn lines_of_elements(rt: HostRuntime) {
     let text =
@@ -102,7 +103,8 @@ fn lines_of_elements(rt: HostRuntime) {
     assert!(rt; has_lines_at(rt.alloc(), 2, text));
 }
 
-/// A writer that takes `room` bytes and then fails, with an error of a kind that no other part of a dump makes.
+/// A writer that takes `room` bytes and then fails, with an error of a kind that no other part of a
+/// dump makes.
 #[derive(Drop)]
 struct Short {
     room: usize,
@@ -123,7 +125,8 @@ impl Write for Short {
     }
 }
 
-/// Returns true if the document's text fills this room, and the dump ends with the writer's own error.
+/// Returns true if the document's text fills this room, and the dump ends with the writer's own
+/// error.
 fn fails_in(document: RawDocument<'_>, room: usize) -> bool {
     let mut out = Short { room };
     match dump_to(document, &mut out) {

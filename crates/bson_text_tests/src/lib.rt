@@ -1,5 +1,6 @@
-//! Tests of the text of documents, by what no contract says: texts that were worked out by hand, and writers that fail. They
-//! stand in a crate of their own, since a crate is proved once more with its tests.
+//! Tests of what no contract of texts of documents says: texts that were worked out by hand, and
+//! writers that fail. They are in a crate of their own, since a crate is proved once more with its
+//! tests.
 //!
 //! Stands on bson_text and bson_raw_tests. Read first: `dumps`.
 #![tactic(auto)]

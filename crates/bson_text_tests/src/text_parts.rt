@@ -1,4 +1,5 @@
-//! Texts in quotes and bytes in hexadecimal that were worked out by hand, and how a text reaches its writer, whole or cut short.
+//! Tests of quoted texts and bytes in hexadecimal that were worked out by hand, and of how a text
+//! reaches its writer, whole or cut short.
 
 ghost use Rattle.std.specs.Prelude.{◌<◌, ◌≤◌};
 
@@ -52,7 +53,7 @@ fn has_escape(alloc: Global, text: &str, at: usize) -> bool
         && out.get(at + 1) == Some(&b'\\')
 }
 
-/// Returns true if a quote at this offset of so many characters is escaped.
+/// Returns true if a quote at offset `at` of a text of `len` characters is escaped.
 fn is_escaped(alloc: Global, at: usize, len: usize) -> bool
     requires inside { at < len }
     requires short { len ≤ 40 }
@@ -74,13 +75,13 @@ fn finds_an_escape_at_each_offset(rt: HostRuntime) {
     }
 }
 
-/// Returns true if the bytes are spelled as `hex::encode` spells them.
+/// Returns true if `hex_to` spells the bytes as `expected`.
 fn spells(alloc: Global, bytes: &[u8], expected: &[u8]) -> bool {
     let mut out = Vec::new(alloc);
     hex_to(bytes, &mut out).is_ok() && out.as_slice() == expected
 }
 
-/// Returns true if so many bytes are spelled as `hex::encode` spells them.
+/// Returns true if `hex_to` spells the bytes as `hex::encode` does.
 fn is_spelled(alloc: Global, bytes: &[u8]) -> bool {
     match hex::encode(alloc, bytes) {
         Ok(expected) => spells(alloc, bytes, expected.as_bytes()),
@@ -95,7 +96,7 @@ fn count_up(data: &mut [u8; 300]) {
     }
 }
 
-// The counts are those where 16, 128 and 256 bytes, whose digits fill the buffers, are reached and passed.
+// The counts reach and pass 16, 128 and 256 bytes, whose digits fill the buffers.
 #[test]
 fn spells_bytes_of_any_number(rt: HostRuntime) {
     let mut data = [0u8; 300];
@@ -126,7 +127,7 @@ impl Write for Calls {
     }
 }
 
-/// Returns true if a quoted text reaches its writer by one call, and 600 digits by two.
+/// Returns true if a quoted text reaches its writer in one call, and 600 digits in two.
 fn takes_few_calls() -> bool {
     let mut calls = Calls { limit: 9, count: 0 };
     quoted_to("two runs\\and an escape", &mut calls).is_ok()
@@ -141,7 +142,8 @@ fn passes_on_many_parts_by_one_call(rt: HostRuntime) {
     assert!(rt; takes_few_calls());
 }
 
-/// Returns true if a writer that fails after so many calls ends the digits with its error.
+/// Returns true if writing digits to a writer that fails after `limit` calls returns the writer's
+/// error.
 fn ends_after(limit: usize) -> bool {
     let mut calls = Calls { limit, count: 0 };
     match hex_to(&[7; 300], &mut calls) {

@@ -35,7 +35,7 @@ check_elements-loop-offset-preserved t c =
       ),
     )
 
--- what cannot be passed has the same fault
+-- an element that can't be read gives the container the same fault
 fault_of : (bytes : List ℕ) (depth start at end : ℕ) (f : BsonFault) → at < end → end < length bytes → element_at depth start at (slice_range bytes at end) ≡ Err f → FaultIn depth start at (slice_range bytes at end) f
 fault_of bytes depth start at end f lt whole is =
     fault_here depth start at (slice_range bytes at end) f (omega (arith, length-take (end - at) (drop at bytes), length-drop at bytes, lt, whole)) is

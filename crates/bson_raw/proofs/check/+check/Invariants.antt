@@ -22,7 +22,7 @@ decreases-check_elements l = 4 * (201 - l.depth) + 1
 abbrev pub decreases-check_pair : goal.decreases-check_pair
 decreases-check_pair l = 4 * (201 - l.depth)
 
--- whole pairs stand before the offset, as many as were counted, and it is known whether their names are canonical
+-- before the offset are whole pairs, as many as were counted, and it is known whether their names are canonical
 abbrev pub invariant-check_elements-loop-offset : goal.invariant-check_elements-loop-offset
 invariant-check_elements-loop-offset l =
     (l.start + 4 ≤ l.offset) × (l.offset ≤ l.end) × (l.index ≤ l.offset) ×

@@ -13,7 +13,7 @@ decreases-document_totals l = 2 * length (document_bytes l.document)
 abbrev pub decreases-value_totals : goal.decreases-value_totals
 decreases-value_totals l = 2 * held_len l.value + 1
 
--- what was counted, and what stands in the pairs that are left, is what stands in all; and the walk is in this document
+-- the counts so far, with those of the pairs that are left, are those of all; and the iterator is over this document
 abbrev pub invariant-document_totals-loop-name : goal.invariant-document_totals-loop-name
 invariant-document_totals-loop-name l = record {
   can_next : (goal.iterator-document_totals-loop-name).can_next l.name-iterator;
