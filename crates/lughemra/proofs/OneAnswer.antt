@@ -1,4 +1,4 @@
--- Of bytes, one answer at most is told.
+-- There is at most one answer for given bytes.
 use Rattle.std.proofs.Common.{◌≡◌, ◌+◌, [], ℕ, List, Option, Some, length, sym, ap, subst, ◌∙◌, append-nil, arith}
 use Rattle.bson_elem.specs.declared.fault.BsonFault.{BsonFault}
 use Rattle.bson_elem.specs.Trees.{Tree}
@@ -45,7 +45,7 @@ one_end offset rest x y fits (is_nothing none is) (is_bad f some bad is') = absu
 one_end offset rest x y fits (is_bad f some bad is) (is_nothing none is') = absurd (some none)
 one_end offset rest x y fits (is_bad f some bad is) (is_bad g some' bad' is') = is ∙ ap (λ (z : BsonFault). Some (fault (offset + z.at) z.cause)) (one_front rest f g fits bad bad') ∙ sym is'
 
--- the documents, and the first fault behind them
+-- the documents, and the first fault after them
 one_told : (bytes : List ℕ) (ts us : List Tree) (rest after : List ℕ) (x y : Option BsonFault) → IsBytes bytes → DocumentSplit bytes ts rest → DocumentSplit bytes us after
     → EndsAs (length (documents_bytes ts)) rest x → EndsAs (length (documents_bytes us)) after y → (ts ≡ us) × (x ≡ y)
 one_told bytes ts us rest after x y fits s s' ends ends' =

@@ -1,4 +1,4 @@
--- Of bytes as messages, one answer at most is told.
+-- There is at most one answer for given bytes as messages.
 use Rattle.std.proofs.Common.{◌≡◌, ◌+◌, [], ℕ, List, length, sym, ap, subst, ◌∙◌, arith, length-append}
 use Rattle.bson_elem.specs.Spelling.{IsBytes}
 use Rattle.bson_elem.proofs.Lemmas.{IsBytes-after}

@@ -40,11 +40,11 @@ pub record Seen (limit : ℕ) (bytes : List ℕ) (messages : List Message) (rest
 pub nothing_seen : (limit : ℕ) (bytes : List ℕ) → Seen limit bytes [] bytes
 nothing_seen limit bytes = record { joined = []; spelled = refl; parts = refl }
 
--- a message takes twenty bytes at least
+-- a message takes at least twenty bytes
 pub message_takes : (limit : ℕ) (rest after : List ℕ) (m : Message) → IsWhole limit rest m after → length after + 20 ≤ length rest
 message_takes limit rest after m w = omega (arith, (msg_read m w.front w.spelled).long, ap length w.parts, length-append w.front after)
 
--- a message more
+-- one more message
 pub one_more : (limit : ℕ) (bytes rest after : List ℕ) (ms : List Message) (m : Message) → IsWhole limit rest m after → Seen limit bytes ms rest → Seen limit bytes (ms ++ m ∷ []) after
 one_more limit bytes rest after ms m w i = record {
   joined = i.joined ++ w.front;
@@ -52,11 +52,11 @@ one_more limit bytes rest after ms m w i = record {
   parts = i.parts ∙ ap (λ (x : List ℕ). i.joined ++ x) w.parts ∙ sym (append_assoc i.joined w.front after);
 }
 
--- a message in front, and what is behind it
+-- a message in front, and what follows it
 pub whole_of : (limit : ℕ) (bytes front rest : List ℕ) → bytes ≡ front ++ rest → (is : IsMessage limit front) → IsWhole limit bytes is.1.0 rest
 whole_of limit bytes front rest parts is = record { front = front; parts = parts; spelled = is.1.1; within = is.0 }
 
--- no message begins a rest that ends so
+-- no message begins a rest that ends in this way
 none_begins : (limit offset : ℕ) (rest : List ℕ) (ending : Ending) → IsBytes rest → EndsAs limit offset rest ending → (m : Message) (after : List ℕ) → IsWhole limit rest m after → ⊥
 none_begins limit offset rest ending fits (is_nothing none is) m after w = open_not_whole limit rest after m (in_header (omega (arith, ap length none))) w
 none_begins limit offset rest ending fits (is_open some cut is) m after w = open_not_whole limit rest after m cut w

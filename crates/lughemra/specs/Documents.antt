@@ -22,7 +22,7 @@ IsCanonical bytes = (t : Tree) × Spells t bytes × (is_plain false 0 t ≡ true
 
 -- ---- documents one after another
 
--- The rest, which begins at this offset, is nothing, or has a first fault.
+-- The rest, which begins at this offset, is empty, or has a first fault.
 pub data EndsAs (offset : ℕ) (rest : List ℕ) : Option BsonFault → Type 0 where
   is_nothing : {last : Option BsonFault} → rest ≡ [] → last ≡ None → EndsAs offset rest last
   is_bad : {last : Option BsonFault} (f : BsonFault) → rest ≢ [] → FrontFault rest f
@@ -37,7 +37,8 @@ documents_check documents last =
       fault = first_fault last;
     }
 
--- the check is that of the documents at the front of the bytes, and of the rest after them
+-- the check tells the documents at the front of the bytes, and the first fault of the rest after
+-- them
 abbrev pub IsDocumentsCheck : List ℕ → DocumentsCheck → Type 0
 IsDocumentsCheck bytes check =
     (documents : List Tree) × (rest : List ℕ) × DocumentSplit bytes documents rest

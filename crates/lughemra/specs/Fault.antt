@@ -8,7 +8,7 @@ use Rattle.wire_msg.specs.declared.fault.MsgFault.{MsgFault}
 use Rattle.wire_msg.specs.Causes as msg_causes
 use Rattle.lughemra.specs.declared.fault.FirstFault.{FirstFault}
 
--- the number of its cause and its offset, or 0 and 0
+-- the number of the fault's cause and its offset, or 0 and 0 if there is no fault
 abbrev pub first_fault : Option BsonFault → FirstFault
 first_fault None = record { number = 0; offset = 0 }
 first_fault (Some f) = record { number = cause_number f.cause; offset = f.at }
@@ -22,10 +22,10 @@ abbrev pub document_fault : MsgCause → FirstFault
 document_fault (Document f) = first_fault (Some f)
 document_fault _ = first_fault None
 
--- the bytes end inside the message that begins at this offset
+-- the fault of bytes that end inside the message that begins at this offset
 abbrev pub ended_inside_fault : ℕ → FirstFault
 ended_inside_fault offset = record { number = 14; offset = offset }
 
--- the limit on a message's length is too large
+-- the fault of a limit on messages that is too large
 abbrev pub limit_fault : FirstFault
 limit_fault = record { number = 255; offset = 0 }

@@ -40,7 +40,7 @@ pub data EndsAs (limit offset : ℕ) (rest : List ℕ) : Ending → Type 0 where
       → ending ≡ at_fault (msg_fault (offset + f.at) f.cause) → EndsAs limit offset rest ending
 
 -- the number of messages, the number of bytes that they take, the first fault after them, and the
--- fault of the document inside the message, if that is it
+-- fault of the document inside the message, if that is the cause
 abbrev pub messages_check : List Message → ℕ → Ending → MessagesCheck
 messages_check messages n all_read =
     record {
@@ -64,7 +64,7 @@ messages_check messages n (at_fault f) =
       document_fault = document_fault f.cause;
     }
 
--- the check is that of the messages at the front of the bytes, and of the rest after them
+-- the check tells the messages at the front of the bytes, and how the rest after them ends
 abbrev pub IsMessagesCheck : ℕ → List ℕ → MessagesCheck → Type 0
 IsMessagesCheck limit bytes check =
     (messages : List Message) × (rest : List ℕ) × (s : Split limit bytes messages rest)

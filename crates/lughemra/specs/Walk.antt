@@ -1,4 +1,4 @@
--- What a C program is told of all that documents hold.
+-- What a C program is told of everything in documents.
 use Rattle.std.specs.Prelude.{◌≡◌, List, ℕ, length, Option}
 use Rattle.std.specs.List.{sum_by}
 use Rattle.bson_elem.specs.declared.fault.BsonFault.{BsonFault}
@@ -8,7 +8,7 @@ use Rattle.lughemra.specs.declared.walk.DocumentsWalk.{DocumentsWalk}
 use Rattle.lughemra.specs.Documents.{EndsAs}
 use Rattle.lughemra.specs.Fault.{first_fault}
 
--- the number of documents, the number of bytes that they take, what all of them hold, and the
+-- the number of documents, the number of bytes that they take, the totals of all of them, and the
 -- first fault after them
 abbrev pub documents_walk : List Tree → Option BsonFault → DocumentsWalk
 documents_walk documents last = record {
@@ -19,7 +19,8 @@ documents_walk documents last = record {
   fault = first_fault last;
 }
 
--- the walk is that of the documents at the front of the bytes, and of the rest after them
+-- the walk tells the documents at the front of the bytes, their totals, and the first fault of the
+-- rest after them
 abbrev pub IsDocumentsWalk : List ℕ → DocumentsWalk → Type 0
 IsDocumentsWalk bytes walk =
     (documents : List Tree) × (rest : List ℕ) × DocumentSplit bytes documents rest

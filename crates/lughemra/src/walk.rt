@@ -1,4 +1,4 @@
-//! Counts all that documents hold, at all depths.
+//! Counts the elements of documents, and the bytes of their names, texts and data, at all depths.
 
 ghost use Rattle.lughemra.specs.Walk.{IsDocumentsWalk};
 
@@ -21,7 +21,8 @@ pub struct DocumentsWalk {
     pub fault: FirstFault,
 }
 
-/// Checks the documents that `bytes` hold one after another, and counts all that they hold.
+/// Checks the documents that `bytes` hold one after another, and counts their elements and the
+/// bytes of their names, texts and data, at all depths.
 #[unsafe(no_mangle)]
 pub extern "C" fn lughemra_walk_documents_nonnull(bytes: &[u8]) -> DocumentsWalk
     ensures { IsDocumentsWalk bytes.now result }

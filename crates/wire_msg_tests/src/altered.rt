@@ -8,7 +8,8 @@ const LEAST: [u8; 26] = *b"\x1a\0\0\0\x01\0\0\0\0\0\0\0\xdd\x07\0\0\0\0\0\0\0\x0
 /// A number that no fault has.
 const OTHER: u8 = 255;
 
-/// Returns the number of the fault that `parse` finds, 0 where the message is these bytes, and else `OTHER`.
+/// Returns the number of the fault that `parse` finds, or 0 if it returns a message of these bytes,
+/// or else `OTHER`.
 fn message_fault(bytes: &[u8]) -> u8 {
     match RawMsg::parse(bytes, MAX_MESSAGE_LEN) {
         Ok(message) if message.as_bytes() == bytes => 0,
@@ -17,7 +18,7 @@ fn message_fault(bytes: &[u8]) -> u8 {
     }
 }
 
-/// Returns how many of the altered messages have the fault of this number.
+/// Returns how many of the altered messages have the fault with this number.
 fn messages_with(number: u8) -> usize {
     let mut count = 0usize;
     for at in 0..26 {
@@ -32,7 +33,7 @@ fn messages_with(number: u8) -> usize {
     count
 }
 
-/// The number of a fault, or 0 for none, and how often it comes: 6,630 in all.
+/// The number of a fault, or 0 for none, and how often it occurs: 6,630 in all.
 const COUNTS: [(u8, usize); 8] = [
     (0, 2551),
     (1, 1020),

@@ -1,6 +1,6 @@
-//! Tests of messages, by what no contract says: rows that were worked out by hand from the manual, that calls succeed where
-//! memory is there, and what stays where it is refused. They stand in a crate of their own, since a crate is proved once more
-//! with its tests.
+//! Tests of what no contract of messages says: rows that were worked out by hand from the manual,
+//! that calls succeed if there is memory, and that nothing changes if it is refused. They are in a
+//! crate of their own, since a crate is proved once more with its tests.
 //!
 //! Stands on wire_msg and bson_raw_tests. Read first: `messages`.
 #![tactic(auto)]

@@ -1,14 +1,14 @@
-//! That a message is told the same whether memory is refused or not. `scripts/checks/try-refusals` runs this test
-//! with each of its allocations refused in turn. No other one is refused then, so bytes are read when
-//! they are read again.
+//! A test that a message is read the same whether memory is refused or not.
+//! `scripts/checks/try-refusals` runs it with each of its allocations refused in turn. Only one is
+//! refused in a run, so bytes that are read again are read.
 
 use crate::messages::{INSERT, LIMIT, PING, both_tell};
 use bson_raw_tests::hex_bytes::read_digits;
 use std::alloc::Global;
 use wire_msg::RawMsg;
 
-/// Messages, and bytes whose names are at fault: a name of the body that stands twice, and an
-/// identifier among its names, behind the body and before it.
+/// Messages, and bytes whose names are at fault: a repeated name of the body, and an identifier
+/// that is a name of the body, after the body and before it.
 const ROWS: [&str; 5] = [
     PING,
     INSERT,
@@ -20,12 +20,12 @@ const ROWS: [&str; 5] = [
      01 06000000 6100 00 0c000000 10610001000000 00",
 ];
 
-/// Returns true if `front` and `front_with` tell the same of `bytes`.
+/// Returns true if `front` and `front_with` return the same for `bytes`.
 fn both_find(alloc: Global, bytes: &[u8]) -> bool {
     RawMsg::front(bytes, LIMIT) == RawMsg::front_with(alloc, bytes, LIMIT)
 }
 
-/// Returns the bytes of the digits, which are read again where memory is refused.
+/// Returns the bytes of the digits. Reads them again if memory is refused.
 fn bytes_again(alloc: Global, hex: &str) -> Option<Vec<u8>> {
     match read_digits(alloc, hex) {
         Ok(bytes) => Some(bytes),
@@ -33,7 +33,7 @@ fn bytes_again(alloc: Global, hex: &str) -> Option<Vec<u8>> {
     }
 }
 
-/// Returns true if the calls that take memory tell the same as those that take none.
+/// Returns true if the calls that take memory return the same as those that take none.
 fn is_told_alike(alloc: Global, hex: &str) -> bool {
     match bytes_again(alloc, hex) {
         Some(bytes) => both_tell(alloc, &bytes) && both_find(alloc, &bytes),

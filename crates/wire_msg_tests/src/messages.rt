@@ -1,4 +1,5 @@
-//! Messages and their faults by rows that were worked out by hand from the Wire Protocol manual, and what faults display as.
+//! Tests of messages and their faults, by rows that were worked out by hand from the Wire Protocol
+//! manual, and of the texts of faults.
 
 ghost use Rattle.std.specs.Prelude.{◌<◌};
 
@@ -20,7 +21,7 @@ pub(crate) const INSERT: &str = "45000000 02000000 00000000 dd070000 00000000 \
     01 1c000000 646f63756d656e747300 0e000000 105f69640001000000 00 \
     00 13000000 02696e73657274000200000063 00 00";
 
-/// Returns true if `parse` and `parse_with` tell the same of `bytes`.
+/// Returns true if `parse` and `parse_with` return the same for `bytes`.
 pub(crate) fn both_tell(alloc: Global, bytes: &[u8]) -> bool {
     RawMsg::parse(bytes, LIMIT) == RawMsg::parse_with(alloc, bytes, LIMIT)
 }
@@ -143,7 +144,7 @@ fn a_sequence_before_the_body(rt: HostRuntime) {
     assert!(rt; reads_insert(rt.alloc()));
 }
 
-/// Returns true if the header's check ends with this line, which is "good" where there is no fault.
+/// Returns true if the check of the header gives this line, which is "good" if there is no fault.
 fn header_has_line(alloc: Global, header: MsgHeader, line: &str) -> bool {
     match header.check(LIMIT) {
         Ok(()) => line == "good",
@@ -193,8 +194,8 @@ fn headers(rt: HostRuntime) {
     assert!(rt; header == read);
 }
 
-/// Returns true if the bytes are a message and `line` is "good", or they are refused with this line, by `parse` and by
-/// `parse_with`.
+/// Returns true if the bytes are a message and `line` is "good", or they are refused with this
+/// line, by `parse` and by `parse_with`.
 fn bytes_have_line(alloc: Global, bytes: &[u8], line: &str) -> bool {
     match RawMsg::parse(bytes, LIMIT) {
         Ok(_) => line == "good" && both_tell(alloc, bytes),
@@ -298,12 +299,12 @@ fn one_fault_each(rt: HostRuntime) {
 }
 
 const WHOLE: [(&str, &str); 5] = [
-    // the opcode before a length unlike the bytes
+    // the opcode comes before a length unlike the bytes
     (
         "33000000 01000000 00000000 d4070000 00",
         "fault 2 Opcode 2004 at 12",
     ),
-    // a length unlike the bytes before the flags that are wanting, and before others
+    // a length unlike the bytes comes before missing flags, and before unknown ones
     (
         "13000000 01000000 00000000 dd070000 0400",
         "fault 1 Length at 0",
@@ -318,7 +319,7 @@ const WHOLE: [(&str, &str); 5] = [
 ];
 
 const TWO_FAULTS: [(&str, &str, &str); 16] = [
-    // an unknown flag before the checksum, and either before the sections
+    // an unknown flag comes before the checksum, and either comes before the sections
     ("14000000", "05000000", "fault 3 Flags at 16"),
     ("15000000", "04000000 02", "fault 3 Flags at 16"),
     ("15000000", "01000000 02", "fault 4 Checksum at 16"),
@@ -354,14 +355,14 @@ const TWO_FAULTS: [(&str, &str, &str); 16] = [
         "00000000 01 0b000000 ff00 0500000001",
         "fault 11 SequenceName at 20",
     ),
-    // a fault of a section before the body that is wanting
+    // a fault of a section comes before a missing body
     ("15000000", "00000000 02", "fault 5 SectionKind at 20"),
     (
         "1a000000",
         "00000000 01 05000000 00",
         "fault 8 NoBody at 26",
     ),
-    // sections before names
+    // sections come before names
     (
         "29000000",
         "00000000 00 13000000 10610001000000 10610002000000 00 02",
@@ -372,7 +373,8 @@ const TWO_FAULTS: [(&str, &str, &str); 16] = [
         "00000000 00 13000000 10610001000000 10610002000000 00 00 0500000000",
         "fault 9 TwoBodies at 40",
     ),
-    // a repeated name of the body before an identifier, and of these the first
+    // a repeated name of the body comes before an identifier, and the first identifier before
+    // others
     (
         "2f000000",
         "00000000 01 06000000 6100 00 13000000 10610001000000 10610002000000 00",
@@ -395,7 +397,8 @@ fn the_first_of_two_faults_is_told(rt: HostRuntime) {
     }
 }
 
-/// Returns true if `PING` with this bit alone among its flags is read or refused as the manual says.
+/// Returns true if `PING` with this bit alone among its flags is read or refused as the manual
+/// says.
 fn bytes_have_flag(bytes: &[u8], bit: u32) -> bool {
     match RawMsg::parse(bytes, LIMIT) {
         Ok(msg) => {
@@ -445,7 +448,7 @@ fn each_flag_bit(rt: HostRuntime) {
     }
 }
 
-/// Returns true if the sequence has this identifier and so many documents.
+/// Returns true if the sequence has this identifier and this number of documents.
 fn is_sequence(sequence: Option<(&str, Documents<'_>)>, wanted: (&str, usize)) -> bool {
     match sequence {
         Some((identifier, documents)) => {
@@ -474,7 +477,8 @@ fn has_two(alloc: Global, hex: &str, first: (&str, usize), second: (&str, usize)
     }
 }
 
-// The empty body, the sequence "a" of one document, and the sequence "" of none, in different orders.
+// The empty body, the sequence "a" of one document, and the sequence "" of none, in different
+// orders.
 const SEQUENCES: [(&str, (&str, usize), (&str, usize)); 4] = [
     (
         "2c000000 01000000 00000000 dd070000 00000000 \
@@ -532,7 +536,8 @@ fn push_body(alloc: Global, last: &str, bytes: &mut Vec<u8>) -> Result<(), Alloc
     Ok(())
 }
 
-/// Returns true if `parse_with` comes to this of the message that begins so and has 2,000 fields, the last of this name.
+/// Returns true if `parse_with` returns `fault`, or a message if that is `None`, for `bytes` and
+/// 2,000 fields after them, the last of which is named `last`.
 fn many_are_told(alloc: Global, mut bytes: Vec<u8>, last: &str, fault: Option<MsgFault>) -> bool {
     if push_body(alloc, last, &mut bytes).is_err() {
         return false;
@@ -543,7 +548,7 @@ fn many_are_told(alloc: Global, mut bytes: Vec<u8>, last: &str, fault: Option<Ms
     }
 }
 
-/// Like `many_are_told`, for the beginning in these digits.
+/// Like `many_are_told`, for the bytes of the digits `head`.
 fn fields_are_told(alloc: Global, head: &str, last: &str, fault: Option<MsgFault>) -> bool {
     match read_digits(alloc, head) {
         Ok(bytes) => many_are_told(alloc, bytes, last, fault),

@@ -1,5 +1,6 @@
-//! Tests of what stays of payloads after a refused allocation. `scripts/checks/try-refusals` runs them with each of their allocations refused
-//! in turn. No other one is refused then, so what is asked for again is granted.
+//! Tests that payloads stay the same after a refused allocation. `scripts/checks/try-refusals` runs
+//! them with each of their allocations refused in turn. Only one is refused in a run, so what is
+//! tried again succeeds.
 
 use bson_raw::RawDocument;
 use std::alloc::Global;
@@ -8,7 +9,7 @@ use wire_msg::{MsgFlags, MsgRefusal, Payload, PayloadBuf, write_msg};
 /// `{"insert": "c"}`
 const BODY: &[u8] = b"\x13\0\0\0\x02insert\0\x02\0\0\0c\0\0";
 
-/// `BODY` as request 2, with the empty sequence "documents", behind two bytes.
+/// Two bytes, and then `BODY` as request 2, with the empty sequence "documents".
 const WRITTEN: &[u8] = b"ab\x37\0\0\0\x02\0\0\0\0\0\0\0\xdd\x07\0\0\0\0\0\0\
     \0\x13\0\0\0\x02insert\0\x02\0\0\0c\0\0\x01\x0e\0\0\0documents\0";
 
@@ -18,7 +19,7 @@ fn payload(alloc: Global) -> Option<PayloadBuf> {
     PayloadBuf::new(alloc, body).ok()
 }
 
-/// Returns a payload of `BODY` alone, which is made again where memory is refused.
+/// Returns a payload of `BODY` alone. Makes it again if memory is refused.
 fn payload_again(alloc: Global) -> Option<PayloadBuf> {
     match payload(alloc) {
         Some(made) => Some(made),
@@ -26,7 +27,7 @@ fn payload_again(alloc: Global) -> Option<PayloadBuf> {
     }
 }
 
-/// Begins the sequence "documents", again where memory is refused.
+/// Begins the sequence "documents". Tries again if memory is refused.
 fn begin(payload: &mut PayloadBuf) -> bool {
     payload.begin_sequence("documents").is_ok() || payload.begin_sequence("documents").is_ok()
 }
@@ -41,12 +42,12 @@ fn begun(alloc: Global) -> Option<PayloadBuf> {
     }
 }
 
-/// Returns true if the payload has a message of so many bytes.
+/// Returns true if the message of the payload has `len` bytes.
 fn has_len(payload: &PayloadBuf, len: u64) -> bool {
     payload.as_payload().msg_len() == len
 }
 
-/// Returns true if the payload of `BODY` is made, or refused where memory runs out and made then.
+/// Returns true if the payload of `BODY` is made, at the second try if memory runs out.
 fn is_made(alloc: Global, body: RawDocument<'_>) -> bool {
     match PayloadBuf::new(alloc, body) {
         Ok(made) => has_len(&made, 40),
@@ -63,19 +64,19 @@ fn a_refused_payload_is_not_made(rt: HostRuntime) {
     assert!(rt; is_made(rt.alloc(), body));
 }
 
-/// Returns whether a copy by `to_buf` is equal to the payload, or none where memory is refused.
+/// Returns whether a copy by `to_buf` is equal to the payload, or `None` if memory is refused.
 fn copies(alloc: Global, payload: &PayloadBuf) -> Option<bool> {
     let copy = payload.as_payload().to_buf(alloc).ok()?;
     Some(copy == *payload)
 }
 
-/// Returns whether a copy by `try_clone` is equal to the payload, or none where memory is refused.
+/// Returns whether a copy by `try_clone` is equal to the payload, or `None` if memory is refused.
 fn clones(payload: &PayloadBuf) -> Option<bool> {
     let copy = payload.try_clone().ok()?;
     Some(copy == *payload)
 }
 
-/// Returns true if what was tried twice came right both times, or once where memory was refused the other time.
+/// Returns true if both tries came right, or one did and memory was refused to the other.
 fn comes_right(first: Option<bool>, second: Option<bool>) -> bool {
     match (first, second) {
         (Some(right), Some(again)) => right && again,
@@ -101,8 +102,8 @@ fn a_payload_that_is_copied_stays(rt: HostRuntime) {
     assert!(rt; stays(rt.alloc()));
 }
 
-/// Returns true if a sequence is begun; or is refused where memory runs out, the payload is `before`, and the sequence is begun
-/// then.
+/// Returns true if a sequence is begun; or memory runs out, the payload is still `before`, and the
+/// sequence is begun at the second try.
 fn begins(changed: &mut PayloadBuf, before: &PayloadBuf) -> bool {
     match changed.begin_sequence("documents") {
         Ok(()) => has_len(changed, 55),
@@ -136,8 +137,8 @@ fn begin_sequence_leaves_the_payload(rt: HostRuntime) {
     assert!(rt; leaves_at_begin(rt.alloc()));
 }
 
-/// Returns true if the document is added; or is refused where memory runs out, the payload is `before`, and the document is added
-/// then.
+/// Returns true if the document is added; or memory runs out, the payload is still `before`, and
+/// the document is added at the second try.
 fn pushes(changed: &mut PayloadBuf, document: RawDocument<'_>, before: &PayloadBuf) -> bool {
     match changed.push_document(document) {
         Ok(()) => has_len(changed, 74),
@@ -175,8 +176,8 @@ fn push_document_leaves_the_payload(rt: HostRuntime) {
     assert!(rt; leaves_at_push(rt.alloc(), document));
 }
 
-/// Returns true if the message is written behind two bytes; or is refused where memory runs out, the bytes are still these two,
-/// and it is written then.
+/// Returns true if the message is appended to two bytes; or memory runs out, the bytes are still
+/// these two, and it is appended at the second try.
 fn is_written(out: &mut Vec<u8>, payload: Payload<'_>) -> bool {
     match write_msg(out, 2, 0, MsgFlags::NONE, payload, 55) {
         Ok(()) => out.as_slice() == WRITTEN,
@@ -189,7 +190,7 @@ fn is_written(out: &mut Vec<u8>, payload: Payload<'_>) -> bool {
     }
 }
 
-/// Returns the two bytes, which are copied again where memory is refused.
+/// Returns the two bytes. Copies them again if memory is refused.
 fn two_bytes(alloc: Global) -> Option<Vec<u8>> {
     match Vec::from_slice(alloc, b"ab") {
         Ok(bytes) => Some(bytes),
@@ -197,7 +198,7 @@ fn two_bytes(alloc: Global) -> Option<Vec<u8>> {
     }
 }
 
-/// Returns true if `is_written` holds behind two bytes.
+/// Returns true if `is_written` holds of two bytes.
 fn is_written_behind(alloc: Global, payload: Payload<'_>) -> bool {
     match two_bytes(alloc) {
         Some(mut out) => is_written(&mut out, payload),

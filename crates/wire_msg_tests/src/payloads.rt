@@ -1,5 +1,5 @@
-//! Payloads that sequences and documents are added to, with rows that were worked out by hand from
-//! the manual.
+//! Tests of payloads to which sequences and documents are added, with rows that were worked out by
+//! hand from the manual.
 
 use crate::messages::LIMIT;
 use crate::written_messages::BODY_FIRST;
@@ -8,7 +8,7 @@ use bson_raw_tests::hex_bytes::read_digits;
 use std::alloc::Global;
 use wire_msg::{MsgFlags, MsgRefusal, Payload, PayloadBuf, RawMsg, write_msg};
 
-/// The sequence "a" of one document before an empty body, and the empty sequence "b" behind it.
+/// The sequence "a" of one document before an empty body, and the empty sequence "b" after it.
 const TWO_SEQUENCES: &str = "36000000 02000000 00000000 dd070000 00000000 \
     01 14000000 6100 0e000000 105f69640001000000 00 00 0500000000 01 06000000 6200";
 
@@ -17,7 +17,8 @@ const ONE_MORE: &str = "44000000 02000000 00000000 dd070000 00000000 00 05000000
     01 14000000 6100 0e000000 105f69640001000000 00 \
     01 14000000 6200 0e000000 105f69640002000000 00";
 
-/// Returns true if what can't be added to a payload of `{"ping": 1}` is refused and leaves it, and what may be is added.
+/// Returns true if a payload of `{"ping": 1}` refuses what can't be added and stays the same then,
+/// and takes what can be added.
 fn refuses(payload: &mut PayloadBuf, document: RawDocument<'_>) -> bool {
     payload.push_document(document) == Err(MsgRefusal::NoSequence)
         && payload.begin_sequence("ping") == Err(MsgRefusal::SequenceInBody)
@@ -25,7 +26,7 @@ fn refuses(payload: &mut PayloadBuf, document: RawDocument<'_>) -> bool {
         && payload.as_payload().msg_len() == 36
 }
 
-/// Returns true if an identifier may be empty, and stand twice.
+/// Returns true if an identifier may be empty, and be that of two sequences.
 fn takes_no_identifier_twice(payload: &mut PayloadBuf) -> bool {
     payload.begin_sequence("").is_ok()
         && payload.begin_sequence("").is_ok()
@@ -65,7 +66,8 @@ fn is_written_as(alloc: Global, payload: Payload<'_>, limit: u32, hex: &str) -> 
     }
 }
 
-/// Returns true if the message of this body, with one document in the sequence "documents", is `BODY_FIRST`.
+/// Returns true if the message of this body, with one document in the sequence "documents", is
+/// `BODY_FIRST`.
 fn builds(alloc: Global, body: RawDocument<'_>, document: RawDocument<'_>) -> bool {
     match PayloadBuf::new(alloc, body) {
         Ok(mut payload) => {
@@ -95,7 +97,8 @@ fn an_insert_is_built(rt: HostRuntime) {
     assert!(rt; builds(rt.alloc(), body, document));
 }
 
-/// Returns true if a copy of the payload takes the document into its last sequence, and is then `ONE_MORE`.
+/// Returns true if a copy of the payload takes the document into its last sequence, and is then
+/// `ONE_MORE`.
 fn copy_takes(alloc: Global, payload: Payload<'_>, document: RawDocument<'_>) -> bool {
     match payload.to_buf(alloc) {
         Ok(mut copy) => {

@@ -1,5 +1,5 @@
-//! Messages written: rows that were worked out by hand from the manual, limits, memory that runs out,
-//! and payloads in bytes of their own.
+//! Tests of messages that are written: rows that were worked out by hand from the manual, limits,
+//! memory that runs out, and payloads in bytes of their own.
 
 use crate::messages::{INSERT, LIMIT, PING};
 use bson_raw::RawDocument;
@@ -12,7 +12,7 @@ pub(crate) const BODY_FIRST: &str = "45000000 02000000 00000000 dd070000 0000000
     00 13000000 02696e73657274000200000063 00 00 \
     01 1c000000 646f63756d656e747300 0e000000 105f69640001000000 00";
 
-/// Writes the message again behind the bytes of `out`.
+/// Writes the message again after the bytes of `out`.
 fn write_again(out: &mut Vec<u8>, msg: RawMsg<'_>, limit: u32) -> Result<(), MsgRefusal> {
     write_msg(
         out,
@@ -41,7 +41,7 @@ fn digits_are_written_as(alloc: Global, hex: &str, wanted: &[u8]) -> bool {
     }
 }
 
-/// Returns true if the message of some digits is written again as other digits spell.
+/// Returns true if the message of the digits `hex` is written again as the digits `written` spell.
 fn is_written_as(alloc: Global, hex: &str, written: &str) -> bool {
     match read_digits(alloc, written) {
         Ok(wanted) => digits_are_written_as(alloc, hex, &wanted),
@@ -90,13 +90,14 @@ fn messages_are_written_canonically(rt: HostRuntime) {
     }
 }
 
-/// Returns true if the message is too large behind two bytes, which stay.
+/// Returns true if appending the message to two bytes is refused as too large, and the two bytes
+/// stay.
 fn is_too_large(out: &mut Vec<u8>, msg: RawMsg<'_>, limit: u32) -> bool {
     write_again(out, msg, limit) == Err(MsgRefusal::TooLarge)
         && out.as_slice() == b"\xaa\xbb".as_slice()
 }
 
-/// Returns true if the message is written behind two bytes, or refused where memory runs out, and they stay.
+/// Returns true if the message is appended to two bytes, or memory runs out and they stay.
 fn is_written_behind(out: &mut Vec<u8>, msg: RawMsg<'_>, limit: u32, wanted: &[u8]) -> bool {
     match write_again(out, msg, limit) {
         Ok(()) => out.as_slice() == wanted,
@@ -106,11 +107,12 @@ fn is_written_behind(out: &mut Vec<u8>, msg: RawMsg<'_>, limit: u32, wanted: &[u
     }
 }
 
-/// Returns true if the message of 69 bytes is refused behind two bytes under a limit of 68, and written under its own.
+/// Returns true if the message of 69 bytes isn't appended to two bytes under a limit of 68, and is
+/// under a limit of 69.
 fn adds_all_or_nothing(alloc: Global, msg: RawMsg<'_>, wanted: &[u8]) -> bool {
     match Vec::from_slice(alloc, b"\xaa\xbb") {
         Ok(mut out) => {
-            // TooLarge takes no memory, and is told before want of it
+            // `TooLarge` takes no memory, and comes before `OutOfMemory`
             is_too_large(&mut out, msg, 68) && is_written_behind(&mut out, msg, 69, wanted)
         }
         Err(_) => false,
@@ -128,12 +130,13 @@ fn insert_adds_all_or_nothing(alloc: Global, wanted: &[u8]) -> bool {
     }
 }
 
-/// Two bytes, and `BODY_FIRST` behind them.
+/// Two bytes, and then `BODY_FIRST`.
 const BEHIND: &str = "aabb 45000000 02000000 00000000 dd070000 00000000 \
     00 13000000 02696e73657274000200000063 00 00 \
     01 1c000000 646f63756d656e747300 0e000000 105f69640001000000 00";
 
-/// Returns true if the bytes behind which `INSERT` is written are those of `BEHIND`, and stay where it is refused.
+/// Returns true if two bytes to which `INSERT` is appended are then those of `BEHIND`, and stay if
+/// it is refused.
 fn writes_behind(alloc: Global) -> bool {
     match read_digits(alloc, BEHIND) {
         Ok(wanted) => insert_adds_all_or_nothing(alloc, &wanted),
@@ -171,7 +174,8 @@ fn digits_copy_writes(alloc: Global, hex: &str, wanted: &[u8]) -> bool {
     }
 }
 
-/// Returns true if a copy of the payload of some digits is written as other digits spell.
+/// Returns true if a copy of the payload of the digits `hex` is written as the digits `written`
+/// spell.
 fn copy_is_written_as(alloc: Global, hex: &str, written: &str) -> bool {
     match read_digits(alloc, written) {
         Ok(wanted) => digits_copy_writes(alloc, hex, &wanted),
@@ -179,7 +183,7 @@ fn copy_is_written_as(alloc: Global, hex: &str, written: &str) -> bool {
     }
 }
 
-/// Returns true if a payload of this body alone has no sequence, and its message 26 bytes.
+/// Returns true if a payload of this body alone has no sequence, and its message has 26 bytes.
 fn stands_alone(alloc: Global, body: RawDocument<'_>) -> bool {
     match PayloadBuf::new(alloc, body) {
         Ok(alone) => {

@@ -1,4 +1,4 @@
--- The first fault of some checks: there is one at most, a query has none, and its offset is within the bytes.
+-- The first fault: there is at most one, a query has none, and its offset is within the bytes.
 use Rattle.std.proofs.Common.{◌≡◌, ℕ, ◌+◌, ◌≤◌, List, [], ◌∷◌, length, drop, Result, Ok, Err, None, sym, ap, subst, ◌∙◌, arith, length-append, length-drop}
 use Rattle.std.proofs.lemmas.List.{append-nil}
 use Rattle.bson_elem.specs.declared.fault.BsonCause.{BsonCause}
@@ -37,7 +37,7 @@ within at c last low later (holds p a) = later p a
 
 -- ---- the command
 
--- the checks behind a document
+-- the checks after a document
 abbrev Behind : ℕ → Tree → List ℕ → QueryFault → Type 0
 Behind p body rest f = Check (rest ≡ []) (query_fault (p + length (document (elements body))) causes.TrailingBytes) f (Check (first_repeated [] body ≡ None) (query_fault p causes.RepeatedField) f ⊥)
 
@@ -87,7 +87,7 @@ read_ok name rest = Ok (name, rest)
 abbrev read_err : BsonCause → Result (List ℕ × List ℕ) BsonCause
 read_err c = Err c
 
--- the checks behind a name
+-- the checks after a name
 abbrev Named : List ℕ → List ℕ → QueryFault → Type 0
 Named name rest f = Check (IsOfCommands name) (query_fault 20 causes.Collection) f (NumbersFault (21 + length name) rest f)
 

@@ -1,4 +1,4 @@
--- What most faults display as.
+-- The text of most faults.
 use Rattle.std.proofs.Common.{◌≡◌, ℕ, ℤ, ◌++◌, refl}
 use Rattle.std.specs.Prelude.{codes}
 use Rattle.std.specs.Fmt.{decimal}

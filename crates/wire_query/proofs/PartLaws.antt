@@ -42,7 +42,7 @@ numbered bytes fits eight skip =
     let b : take 4 (drop 4 bytes) ≡ little (number_at bytes 4) = sym (four_bytes bytes 4 fits (omega (arith, eight))) in
     split_at bytes 0 ∙ ap (λ (x : List ℕ). take 4 bytes ++ x) (split_at bytes 4 ∙ ap (λ (x : List ℕ). x ++ drop 8 bytes) b) ∙ ap (λ (x : List ℕ). x ++ (little (number_at bytes 4) ++ drop 8 bytes)) a
 
--- what stands behind the flags
+-- what follows the flags
 commanded : (bytes database command : List ℕ) → IsBytes bytes → (h : HasName bytes database command) → bytes ≡ command_bytes database (number_at h.rest 4) h.inner.inner.body
 unfolding command_bytes
 commanded bytes database command fits h =
@@ -70,13 +70,13 @@ has_parts limit bytes database command least fits header room flags name =
     } in
     record { query = q; spelled = spelled; within = header.0.most; database_is = refl; command_is = sym name.inner.inner.parts }
 
--- they are those of whatever query the bytes spell
+-- they are the parts of whatever query the bytes spell
 pub parts_of : (limit : ℕ) (bytes database command : List ℕ) → HasParts limit bytes database command → ArePartsOf bytes database command
 parts_of limit bytes database command h q s =
     let same = one_query q h.query bytes s h.spelled in
     (ap (λ (x : Query). x.database) same ∙ h.database_is, ap (λ (x : Query). document (elements x.body)) same ∙ h.command_is)
 
--- ---- what the checks tell, by what those of the parts behind tell
+-- ---- the result of each check, from that of the checks after it
 
 pub numbers_told : (at : ℕ) (bytes behind : List ℕ) (r : Result RawDocument QueryFault) → behind ≡ drop 8 bytes → 8 ≤ length bytes → number_at bytes 0 ≡ 0 → IsOneDocument (number_at bytes 4)
     → MatchResult r (λ d. (document_bytes d ≡ behind) × HasCommand behind) (λ f. CommandFault (at + 8) behind f)

@@ -1,4 +1,4 @@
--- The numbers and the parts of a message, added one after another; a byte list is one reply at most.
+-- The numbers and the parts of a message, added one after another; a byte list is at most one reply.
 use Rattle.std.proofs.Common.{◌≡◌, ℕ, ℤ, List, [], ◌++◌, length, take, drop, refl, sym, ap, ◌∙◌, arith, FitsSigned}
 use Rattle.std.specs.Int.{w32, w64, from_le_bytes, cast_signed, cast_unsigned}
 use Rattle.std.proofs.Math.Facts.{Fits-of_z}
@@ -46,7 +46,7 @@ long_is bytes rest z f is =
     ap (λ (x : List ℕ). cast_signed w64 (from_le_bytes w64 x)) (ap (take 8) is ∙ take_at (long z) rest 8 refl)
     ∙ ap (cast_signed w64) (from_le_bytes-to_le_bytes_8 (cast_unsigned w64 z) (Fits-of_z {w = w64} {z = z} f).fits) ∙ to_z-of_z w64 z f
 
--- what stands behind the flags
+-- what follows the flags
 abbrev tail : ReplyHead → Tree → List ℕ
 tail h t = long h.cursor_id ++ (signed h.starting_from ++ (little 1 ++ document (elements t)))
 

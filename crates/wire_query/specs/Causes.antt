@@ -1,4 +1,4 @@
--- The causes of a fault as fault lines give them, and the offset of each.
+-- The number and the name of each cause, as fault lines give them.
 use Rattle.std.specs.Prelude.{ℕ, List, codes}
 use Rattle.wire_query.specs.declared.fault.QueryCause.{QueryCause}
 use Rattle.wire_query.specs.declared.fault.QueryCause.TheVariants.{Length, Opcode, Truncated, Flags}
@@ -33,5 +33,6 @@ cause_name (Document _) = codes "Document"
 cause_name TrailingBytes = codes "TrailingBytes"
 cause_name RepeatedField = codes "RepeatedField"
 
+-- the fault with this cause, at this offset
 abbrev pub query_fault : ℕ → QueryCause → QueryFault
 query_fault p c = record { at = p; cause = c }

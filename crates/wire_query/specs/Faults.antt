@@ -54,7 +54,7 @@ pub data NameFault (bytes : List ℕ) (f : QueryFault) : Type 0 where
 
 -- ---- queries
 
--- the length in the header is that of the bytes, and within the limit
+-- the length in the header is the number of the bytes, and within the limit
 pub record IsWholeLength (limit : ℕ) (bytes : List ℕ) : Type 0 where
   pub header : 16 ≤ length bytes
   pub whole : number_at bytes 0 ≡ length bytes
@@ -63,7 +63,7 @@ pub record IsWholeLength (limit : ℕ) (bytes : List ℕ) : Type 0 where
 abbrev pub opcode_of : List ℕ → ℤ
 opcode_of bytes = (header_of bytes).opcode
 
--- no flag is set that is unknown
+-- no flag but SlaveOk is set
 abbrev pub IsFlagWord : ℕ → Type 0
 IsFlagWord word = (secondary_ok : Bool) × (word ≡ flag_word secondary_ok)
 

@@ -30,7 +30,7 @@ pub record IsCommand (body : Tree) : Type 0 where
   pub document : IsDocument body
   pub unique : first_repeated [] body ≡ None
 
--- the message of the same id and body
+-- the message with the same ids and body
 abbrev pub message_of : Query → Message
 message_of q =
     record {

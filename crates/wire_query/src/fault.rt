@@ -85,7 +85,7 @@ pub struct QueryFault {
     pub cause: QueryCause,
 }
 
-/// Makes the fault of this cause, at offset `at`.
+/// Returns the fault with this `cause`, at offset `at`.
 pub(crate) fn fault_at(at: usize, cause: QueryCause) -> QueryFault
     ensures { result ≡ query_fault at cause }
 {

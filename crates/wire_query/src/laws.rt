@@ -1,5 +1,4 @@
-//! Proves the laws of the older spelling, which everything that turns it into messages needs. The
-//! contract of each function is the law.
+//! Proves the laws of queries and replies. The contract of each function is the law.
 
 ghost use Rattle.std.specs.Prelude.{◌≡◌, ◌<◌, ◌≤◌, ℕ, List, length};
 ghost use Rattle.bson_elem.specs.{IsBytes, Tree};
@@ -42,7 +41,7 @@ pub fn message_of_a_query()
         × (length (canonical (message_of q)) < length bytes) }
 {}
 
-/// Proves that a byte list is one reply at most, and that its length is known beforehand.
+/// Proves that a byte list is at most one reply, and what the length of a reply is.
 pub fn one_reply()
     ensures one { (h k : ReplyHead) (t u : Tree) → IsReply h t → IsReply k u
         → reply_bytes h t ≡ reply_bytes k u → (h ≡ k) × (t ≡ u) }

@@ -82,7 +82,7 @@ impl<'a> RawQuery<'a> {
         self.bytes
     }
 
-    /// Reads the header of the query.
+    /// Returns the header of the query.
     fn header(self) -> MsgHeader
         ensures { result ≡ header_of (raw_query_bytes self.entry) }
     {

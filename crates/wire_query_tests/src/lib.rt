@@ -1,6 +1,6 @@
-//! Tests of queries and replies, by what no contract says: the bytes that drivers send, rows that
-//! were worked out by hand from the Wire Protocol manual, and that calls succeed where memory is
-//! there. They stand in a crate of their own, since a crate is proved once more with its tests.
+//! Tests of what no contract of queries and replies says: the bytes that drivers send, rows that
+//! were worked out by hand from the Wire Protocol manual, and that calls succeed if there is
+//! memory. They are in a crate of their own, since a crate is proved once more with its tests.
 #![tactic(auto)]
 
 #[cfg(test)]

@@ -11,8 +11,8 @@ const LIMIT: u32 = 65_536;
 const ISMASTER: [u8; 58] = *b"\x3a\0\0\0\x03\0\0\0\0\0\0\0\xd4\x07\0\0\0\0\0\0admin.$cmd\0\
     \0\0\0\0\xff\xff\xff\xff\x13\0\0\0\x10ismaster\0\x01\0\0\0\0";
 
-/// What drivers send: SlaveOk, numberToReturn and the command are what differs. The first field of
-/// the command stands behind each.
+/// Queries as drivers send them, which differ in SlaveOk, numberToReturn and the command. With each
+/// are its SlaveOk and the name of the command's first field.
 const SENT: [(&[u8], bool, &str); 5] = [
     (&ISMASTER, false, "ismaster"),
     (

@@ -1,30 +1,31 @@
-//! Tests of what is appended where memory is refused. `scripts/checks/try-refusals` runs them with each of their
-//! allocations refused in turn. No other one is refused then, so what is asked for again is granted.
+//! Tests that nothing is appended if memory is refused. `scripts/checks/try-refusals` runs them
+//! with each of their allocations refused in turn. Only one is refused in a run, so what is tried
+//! again succeeds.
 
 use bson_raw::RawDocument;
 use std::alloc::Global;
 use wire_msg::MsgRefusal;
 use wire_query::{RawQuery, ReplyHead, write_reply};
 
-/// What stands in front.
+/// The bytes to which others are appended.
 const TWO: &[u8] = b"ab";
 
 /// `{"ismaster": 1}` as query 3 to `admin.$cmd`.
 const QUERY: &[u8] = b"\x3a\0\0\0\x03\0\0\0\0\0\0\0\xd4\x07\0\0\0\0\0\0admin.$cmd\0\
     \0\0\0\0\xff\xff\xff\xff\x13\0\0\0\x10ismaster\0\x01\0\0\0\0";
 
-/// Its message, behind two bytes.
+/// Two bytes, and then the message of the query.
 const MESSAGE: &[u8] = b"ab\x28\0\0\0\x03\0\0\0\0\0\0\0\xdd\x07\0\0\0\0\0\0\0\
     \x13\0\0\0\x10ismaster\0\x01\0\0\0\0";
 
 /// `{"ok": 1.0}`
 const OK: &[u8] = b"\x11\0\0\0\x01ok\0\0\0\0\0\0\0\xf0\x3f\0";
 
-/// `OK` as reply 7 to query 3, behind two bytes.
+/// Two bytes, and then `OK` as reply 7 to query 3.
 const REPLY: &[u8] = b"ab\x35\0\0\0\x07\0\0\0\x03\0\0\0\x01\0\0\0\0\0\0\0\0\0\0\0\0\0\0\0\
     \0\0\0\0\x01\0\0\0\x11\0\0\0\x01ok\0\0\0\0\0\0\0\xf0\x3f\0";
 
-/// Returns two bytes, or none where memory is refused twice.
+/// Returns two bytes, or `None` if memory is refused twice.
 fn two_bytes(alloc: Global) -> Option<Vec<u8>> {
     match Vec::from_slice(alloc, TWO) {
         Ok(bytes) => Some(bytes),
@@ -32,7 +33,7 @@ fn two_bytes(alloc: Global) -> Option<Vec<u8>> {
     }
 }
 
-/// Returns true if the message is appended, or nothing is and then the message.
+/// Returns true if the message is appended; or nothing is, and the message is at the second try.
 fn is_written(query: RawQuery<'_>, out: &mut Vec<u8>) -> bool {
     match query.write_msg(out) {
         Ok(()) => out.as_slice() == MESSAGE,
@@ -54,7 +55,8 @@ fn a_refused_message_adds_nothing(rt: HostRuntime) {
     }
 }
 
-/// Returns true if the reply is appended, or nothing is where memory runs out and then the reply.
+/// Returns true if the reply is appended; or memory runs out, nothing is appended, and the reply is
+/// at the second try.
 fn is_answered(document: RawDocument<'_>, out: &mut Vec<u8>) -> bool {
     let head = ReplyHead::of_command(7, 3);
     match write_reply(out, head, document, 53) {

@@ -1,4 +1,4 @@
--- The lemmas that proofs of other crates stand on.
+-- The lemmas that proofs of other crates use.
 
 -- a text that is written in two pieces
 pub use Rattle.wire_text.proofs.MessageTexts.{two_written}

@@ -31,7 +31,7 @@ message_line m =
 abbrev pub body_text : Tree → List ℕ
 body_text t = codes "body " ++ (decimal (document_size t) ++ (codes "\n" ++ element_lines 1 t))
 
--- a document of a sequence, one deeper
+-- a document of a sequence, indented one level deeper than the body
 abbrev pub member_text : Tree → List ℕ
 member_text t =
     codes "  document " ++ (decimal (document_size t) ++ (codes "\n" ++ element_lines 2 t))

@@ -58,7 +58,7 @@ fn write_body<W: Write>(body: RawDocument<'_>, out: &mut W) -> io::Result<()>
     dump_elements(body, 1, out)
 }
 
-/// Writes a document of a sequence, one deeper than the body.
+/// Writes a document of a sequence, indented one level deeper than the body.
 fn write_member<W: Write>(document: RawDocument<'_>, out: &mut W) -> io::Result<()>
     ensures { (t : Tree) → Spells t (document_bytes document.entry) → OnOk result
         (WritesOut W.contents out.old out.new (member_text t)) }

@@ -5,7 +5,7 @@ use Rattle.bson_raw.proofs.Lemmas.{Walked}
 use Rattle.bson_raw.specs.Totals.{elements_in, sizes_in}
 use Rattle.lughemra.proofs.walk.lughemra_walk_documents_nonnull.Given as goal
 
--- the documents that were seen, and what stands in them
+-- the documents that were seen, and their totals
 abbrev pub invariant-loop-rest : goal.invariant-loop-rest
 invariant-loop-rest l = record {
   room : l.documents + length l.rest ≤ length l.bytes;
