@@ -1,5 +1,6 @@
-//! Tests of what a client is after a refused allocation. `scripts/checks/try-refusals` runs them with each of their allocations refused
-//! in turn. No other one is refused then, so what is asked for again is granted.
+//! Tests that a client stays the same after a refused allocation. `scripts/checks/try-refusals`
+//! runs them with each of their allocations refused in turn. Only one is refused in a run, so what
+//! is tried again succeeds.
 
 use crate::refused_calls::{CallEnd, again, at_once, both, goes_on};
 use bson_raw::RawDocument;
@@ -15,10 +16,10 @@ const ONE: &[u8] = b"\x0c\0\0\0\x10a\0\x01\0\0\0\0";
 const REPLY: &[u8; 33] =
     b"\x21\0\0\0\x05\0\0\0\x01\0\0\0\xdd\x07\0\0\0\0\0\0\0\x0c\0\0\0\x10a\0\x01\0\0\0\0";
 
-/// How a client stands: how many calls are outstanding, and how many bytes wait to be sent.
+/// The state of a client: how many calls are outstanding, and how many bytes wait to be sent.
 type Standing = (usize, usize);
 
-/// A call: its kind, its number and id, and how the client stands before it and after it.
+/// A call: its kind, its number and id, and the state of the client before it and after it.
 type Row = (CallKind, CallNo, Standing, Standing);
 
 /// The first call, and the second one.
@@ -26,7 +27,7 @@ const FIRST: CallNo = CallNo { number: 0, id: 1 };
 
 const SECOND: CallNo = CallNo { number: 1, id: 2 };
 
-/// Calls of each kind, each of which comes first once and second once.
+/// Calls of each kind; each kind is first once and second once.
 const PLAIN_FIRST: [Row; 2] = [
     (CallKind::Plain, FIRST, (0, 0), (1, 33)),
     (CallKind::Exhaust, SECOND, (1, 33), (2, 66)),
@@ -42,7 +43,7 @@ const UNACKNOWLEDGED_FIRST: [Row; 2] = [
     (CallKind::Plain, SECOND, (0, 33), (1, 66)),
 ];
 
-/// What they put out.
+/// The bytes that they put out.
 const PLAIN_FIRST_BYTES: &[u8] =
     b"\x21\0\0\0\x01\0\0\0\0\0\0\0\xdd\x07\0\0\0\0\0\0\0\x0c\0\0\0\x10a\0\x01\0\0\0\0\x21\0\0\0\x02\0\0\0\0\0\0\0\xdd\x07\0\0\0\0\x01\0\0\x0c\0\0\0\x10a\0\x01\0\0\0\0";
 
@@ -65,7 +66,7 @@ fn call_as(
     }
 }
 
-/// Returns the payload of the document above alone, which is made again where memory is refused.
+/// Returns the payload of the document above alone. Makes it again if memory is refused.
 fn one_again(alloc: Global) -> Option<PayloadBuf> {
     let body = RawDocument::from_bytes(ONE).ok()?;
     match PayloadBuf::new(alloc, body) {
@@ -74,8 +75,8 @@ fn one_again(alloc: Global) -> Option<PayloadBuf> {
     }
 }
 
-/// Returns true if the client is open and without a reply, so many calls are outstanding, and so many first ones of these bytes
-/// wait to be sent.
+/// Returns true if the client is open and without a reply, `outstanding` calls are outstanding, and
+/// the first `unsent` of these bytes wait to be sent.
 fn stands(client: &Client, (outstanding, unsent): Standing, bytes: &[u8]) -> bool {
     client.state() == ClientState::Open
         && client.outstanding() == outstanding
@@ -84,7 +85,7 @@ fn stands(client: &Client, (outstanding, unsent): Standing, bytes: &[u8]) -> boo
         && bytes.starts_with(client.output())
 }
 
-/// Makes a call, and makes it again where it is refused, which has to change nothing.
+/// Makes a call. If it is refused, which has to change nothing, makes it again.
 fn calls(client: &mut Client, payload: &PayloadBuf, row: &Row, bytes: &[u8]) -> CallEnd {
     let (kind, call, before, after) = *row;
     match call_as(client, kind, payload) {
@@ -98,7 +99,7 @@ fn calls(client: &mut Client, payload: &PayloadBuf, row: &Row, bytes: &[u8]) -> 
     }
 }
 
-/// Makes the calls one after the other.
+/// Makes the calls one after another.
 fn calls_all(client: &mut Client, payload: &PayloadBuf, rows: &[Row], bytes: &[u8]) -> CallEnd {
     let mut all = CallEnd::AtOnce;
     for row in rows {
@@ -110,7 +111,7 @@ fn calls_all(client: &mut Client, payload: &PayloadBuf, rows: &[Row], bytes: &[u
     all
 }
 
-/// Like `calls_all`, of a client that is made for it.
+/// Like `calls_all`, with a client that is made for it.
 fn calls_of_one(alloc: Global, payload: &PayloadBuf, rows: &[Row], bytes: &[u8]) -> CallEnd {
     match Client::new(alloc, 1, 8, 48_000_000) {
         Ok(mut client) => calls_all(&mut client, payload, rows, bytes),
@@ -118,7 +119,8 @@ fn calls_of_one(alloc: Global, payload: &PayloadBuf, rows: &[Row], bytes: &[u8])
     }
 }
 
-/// Returns true if the calls are made, each at once; or one of them at its second try, and each at once then by another client.
+/// Returns true if each call is made at the first try; or one of them at the second, and then each
+/// by another client at the first.
 fn calls_at_last(alloc: Global, rows: &[Row], bytes: &[u8]) -> bool {
     match one_again(alloc) {
         Some(payload) => match calls_of_one(alloc, &payload, rows, bytes) {
@@ -156,7 +158,8 @@ fn has_reply(client: &Client) -> bool {
     }
 }
 
-/// Returns true if the reply to the first call has come whole, or none yet if `whole` is false.
+/// Returns true if the reply to the first call has come whole, or, if `whole` is false, none has
+/// come yet.
 fn has_come(client: &Client, whole: bool) -> bool {
     if whole {
         client.state() == ClientState::Open && client.outstanding() == 0 && has_reply(client)
@@ -165,8 +168,8 @@ fn has_come(client: &Client, whole: bool) -> bool {
     }
 }
 
-/// Feeds a piece, behind which the reply is whole or isn't, and feeds it again where it is refused, which has to change
-/// nothing.
+/// Feeds a piece, after which the reply is `whole` or not. If it is refused, which has to change
+/// nothing, feeds it again.
 fn feeds(client: &mut Client, piece: &[u8], whole: bool) -> CallEnd {
     match client.feed(piece) {
         Ok(taken) => at_once(taken == piece.len() && has_come(client, whole)),
@@ -176,7 +179,7 @@ fn feeds(client: &mut Client, piece: &[u8], whole: bool) -> CallEnd {
     }
 }
 
-/// Makes the first call, and feeds its reply in two pieces, of which the first has this many bytes.
+/// Makes the first call, and feeds its reply in two pieces, cut at offset `cut`.
 fn feeds_all(client: &mut Client, payload: &PayloadBuf, cut: usize) -> CallEnd {
     let Some((first, rest)) = REPLY.split_at_checked(cut) else {
         return CallEnd::Otherwise;
@@ -186,7 +189,7 @@ fn feeds_all(client: &mut Client, payload: &PayloadBuf, cut: usize) -> CallEnd {
     both(begun, feeds(client, rest, true))
 }
 
-/// Like `feeds_all`, of a client that is made for it.
+/// Like `feeds_all`, with a client that is made for it.
 fn feeds_one(alloc: Global, payload: &PayloadBuf, cut: usize) -> CallEnd {
     match Client::new(alloc, 1, 8, 48_000_000) {
         Ok(mut client) => feeds_all(&mut client, payload, cut),
@@ -194,7 +197,8 @@ fn feeds_one(alloc: Global, payload: &PayloadBuf, cut: usize) -> CallEnd {
     }
 }
 
-/// Returns true if the reply comes, each piece at once; or one of them at its second try, and each at once then by another client.
+/// Returns true if each piece of the reply is taken at the first try; or one of them at the second,
+/// and then each by another client at the first.
 fn feeds_at_last(alloc: Global, cut: usize) -> bool {
     match one_again(alloc) {
         Some(payload) => match feeds_one(alloc, &payload, cut) {

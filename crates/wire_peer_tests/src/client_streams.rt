@@ -1,14 +1,15 @@
-//! Replies that belong to one call until it is complete, beside other calls.
+//! Tests of replies that belong to one call until it is complete, beside other calls.
 
 use crate::clients::{call_as, calls};
 use std::alloc::Global;
 use wire_peer::{CallKind, Client, ClientCause, ClientState};
 
-/// A reply: its id, the id that it answers, and whether another one follows; then the call that it belongs to.
+/// A reply: its id, the id that it answers, and whether another one follows; then the call that it
+/// belongs to.
 type Row = (u8, i32, bool, u64);
 
-/// The replies to calls of the ids 1, 2 and 3, the second an exhaust call. Each part answers the one before it, and the
-/// second bears the first call's id as responseTo.
+/// The replies to calls of the ids 1, 2 and 3, the second an exhaust call. Each part answers the
+/// one before it, and the responseTo of the second is the id of the first call, too.
 const CHAINED: [Row; 5] = [
     (1, 2, true, 1),
     (2, 1, true, 1),
@@ -40,8 +41,8 @@ fn reply(id: u8, to: i32, more: bool) -> [u8; 33] {
     bytes
 }
 
-/// Returns true if the reply is taken and ready, belongs to this call, is its last unless another one follows, and is let
-/// go of.
+/// Feeds the reply to the client, and releases it. Returns true if it was taken and ready, belonged
+/// to this call, and was its last one unless `more`.
 fn is_given(client: &mut Client, id: u8, to: i32, more: bool, call: u64) -> bool {
     let fed = client.feed(&reply(id, to, more)) == Ok(33);
     let given = match client.reply() {
@@ -62,7 +63,7 @@ fn are_given(client: &mut Client, rows: &[Row]) -> bool {
     client.outstanding() == 0
 }
 
-/// Returns true if the replies are given to their calls, of three that are made before.
+/// Returns true if three calls are made, and the replies are given to those that they belong to.
 fn belong(alloc: Global, rows: &[Row]) -> bool {
     match Client::new(alloc, 1, 8, 48_000_000) {
         Ok(mut client) => {
@@ -81,8 +82,8 @@ fn streams_beside_other_calls(rt: HostRuntime) {
     assert!(rt; belong(rt.alloc(), &REPEATED));
 }
 
-/// Returns true if a client of one exhaust call is given its part 7, unless none is to come first, and then the reply 8 to
-/// this id closes it with this cause.
+/// Returns true if reply 8 to the id `to` closes a client with one exhaust call, for this cause. If
+/// `part` is true, part 7 of that call comes before.
 fn breaks(alloc: Global, part: bool, to: i32, cause: ClientCause) -> bool {
     match Client::new(alloc, 1, 8, 33) {
         Ok(mut client) => {
@@ -103,7 +104,8 @@ fn a_broken_stream(rt: HostRuntime) {
     assert!(rt; breaks(rt.alloc(), false, 9, ClientCause::UnknownReply(9)));
 }
 
-/// Returns true if an exhaust call of the greatest id is given its part 7 and the last reply, which answers that.
+/// Returns true if an exhaust call with the greatest id is given its part 7, and its last reply,
+/// which answers the id `last_to`.
 fn is_chained(alloc: Global, last_to: i32) -> bool {
     match Client::new(alloc, 2147483647, 1, 33) {
         Ok(mut client) => {

@@ -1,4 +1,4 @@
-//! A client: its ids, what it puts out, to which call a reply is given, and why it closes.
+//! Tests of a client: its ids, what it puts out, to which call a reply is given, and why it closes.
 
 use bson_raw::RawDocument;
 use std::alloc::Global;
@@ -17,7 +17,7 @@ const THREE: &[u8] = b"\x0c\0\0\0\x10s\0\x03\0\0\0\0";
 const REPLY: &[u8; 33] =
     b"\x21\0\0\0\x05\0\0\0\x01\0\0\0\xdd\x07\0\0\0\0\0\0\0\x0c\0\0\0\x10a\0\x01\0\0\0\0";
 
-/// The same to request 9.
+/// The same as the reply 5 to request 9.
 const STRANGE: &[u8; 33] =
     b"\x21\0\0\0\x05\0\0\0\x09\0\0\0\xdd\x07\0\0\0\0\0\0\0\x0c\0\0\0\x10a\0\x01\0\0\0\0";
 
@@ -36,7 +36,7 @@ const SILENT: &[u8; 33] =
 /// A header of opcode 2004.
 const QUERY: &[u8; 16] = b"\x21\0\0\0\x01\0\0\0\0\0\0\0\xd4\x07\0\0";
 
-/// First ids, windows and limits, and why no client has them.
+/// First ids, windows and limits, and why no client is made with them.
 const REFUSED: [(i32, usize, u32, ClientRefusal); 8] = [
     (0, 8, 26, ClientRefusal::BadFirstId),
     (-1, 0, 25, ClientRefusal::BadFirstId),
@@ -101,7 +101,7 @@ pub(crate) fn calls(
     call_as(alloc, client, kind, ONE) == Ok(CallNo { number, id })
 }
 
-/// Returns true if no client has these numbers, for this reason.
+/// Returns true if no client is made with these numbers, for this reason.
 fn is_refused(
     alloc: Global,
     first_id: i32,
@@ -174,7 +174,8 @@ fn is_full(alloc: Global, client: &mut Client, kind: CallKind) -> bool {
     call_as(alloc, client, kind, ONE) == Err(CallRefusal::WindowFull)
 }
 
-/// Returns true if a window of one call has room for one, and for any number of those without a reply.
+/// Returns true if a window of one call has room for one, and for any number of those without a
+/// reply.
 fn window_fills(alloc: Global) -> bool {
     match Client::new(alloc, 1, 1, 33) {
         Ok(mut client) => {
@@ -212,7 +213,8 @@ fn calling(alloc: Global) -> Option<Client> {
     Some(client)
 }
 
-/// Returns true if a client with the outstanding call 1 takes all these bytes and comes to this state.
+/// Returns true if a client with the outstanding call 1 takes all these bytes and is in this state
+/// then.
 fn comes_to(alloc: Global, bytes: &[u8], state: ClientState) -> bool {
     match calling(alloc) {
         Some(mut client) => {
@@ -231,7 +233,7 @@ fn bytes_close_a_client(rt: HostRuntime) {
     }
 }
 
-/// Returns true if the bytes of the reply, one by one, make it ready with the last.
+/// Returns true if the bytes of the reply are taken one by one, and it is ready with the last one.
 fn comes_in_bytes(client: &mut Client) -> bool {
     for byte in REPLY {
         if client.reply().is_some() || client.feed(&[*byte]) != Ok(1) {
@@ -241,7 +243,8 @@ fn comes_in_bytes(client: &mut Client) -> bool {
     client.feed(REPLY) == Ok(0)
 }
 
-/// Returns true if the last reply to call 0 is ready and carries the body, and is gone when it is let go of.
+/// Returns true if the last reply to call 0 is ready and has the body `ONE`, and is gone when it is
+/// released.
 fn is_lent(client: &mut Client) -> bool {
     let ready = match client.reply() {
         Some(reply) => reply.call == 0 && reply.last && reply.payload.body().as_bytes() == ONE,
@@ -251,7 +254,7 @@ fn is_lent(client: &mut Client) -> bool {
     ready && client.reply().is_none()
 }
 
-/// Returns true if both are so, and then the end closes the client.
+/// Returns true if a reply comes in bytes and is lent, and then the end closes the client.
 fn is_read(alloc: Global) -> bool {
     match calling(alloc) {
         Some(mut client) => {
@@ -268,7 +271,8 @@ fn a_reply_comes_byte_by_byte(rt: HostRuntime) {
     assert!(rt; is_read(rt.alloc()));
 }
 
-/// Returns true if the end behind these bytes closes the client with this cause, and no call is made any more.
+/// Returns true if the end after these bytes closes the client with this cause, and no call is made
+/// any more.
 fn ends_so(alloc: Global, bytes: &[u8], cause: ClientCause) -> bool {
     match calling(alloc) {
         Some(mut client) => {

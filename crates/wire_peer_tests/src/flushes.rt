@@ -1,4 +1,4 @@
-//! What a client and a server put out, flushed over a link in memory.
+//! Tests of what a client and a server put out, flushed over a link in memory.
 
 use crate::clients::call_as;
 use bson_raw::RawDocument;
@@ -16,15 +16,15 @@ const S3: &[u8] = b"\x0c\0\0\0\x10s\0\x03\0\0\0\0";
 /// `{"a": 2}`.
 const A2: &[u8] = b"\x0c\0\0\0\x10a\0\x02\0\0\0\0";
 
-/// Their requests 1 to 3, of which the second allows more.
+/// The requests 1 to 3 with these bodies, of which the second allows more replies.
 const REQUESTS: [&[u8; 33]; 3] = [
     b"\x21\0\0\0\x01\0\0\0\0\0\0\0\xdd\x07\0\0\0\0\0\0\0\x0c\0\0\0\x10a\0\x01\0\0\0\0",
     b"\x21\0\0\0\x02\0\0\0\0\0\0\0\xdd\x07\0\0\0\0\x01\0\0\x0c\0\0\0\x10s\0\x03\0\0\0\0",
     b"\x21\0\0\0\x03\0\0\0\0\0\0\0\xdd\x07\0\0\0\0\0\0\0\x0c\0\0\0\x10a\0\x02\0\0\0\0",
 ];
 
-/// The replies with ids 1 to 5: `{"n": 1}` to `{"n": 3}` to request 2, each but the first answering the one before it, and
-/// `{"n": 0}` to the requests 1 and 3.
+/// The replies with ids 1 to 5: `{"n": 1}` to `{"n": 3}` to request 2, each but the first answering
+/// the one before it, and `{"n": 0}` to the requests 1 and 3.
 const REPLIES: [&[u8; 33]; 5] = [
     b"\x21\0\0\0\x01\0\0\0\x02\0\0\0\xdd\x07\0\0\x02\0\0\0\0\x0c\0\0\0\x10n\0\x01\0\0\0\0",
     b"\x21\0\0\0\x02\0\0\0\x01\0\0\0\xdd\x07\0\0\x02\0\0\0\0\x0c\0\0\0\x10n\0\x02\0\0\0\0",
@@ -45,7 +45,8 @@ fn are_messages(bytes: &[u8], messages: &[&[u8; 33]]) -> bool {
     rest.is_empty()
 }
 
-/// Returns true if all that waits goes out over a link that moves at most 20 bytes a call, and is these messages.
+/// Returns true if all that waits is these messages, and goes out over a link that moves at most 20
+/// bytes a call.
 fn goes_out<O: Outlet>(alloc: Global, outlet: &mut O, messages: &[&[u8; 33]]) -> bool {
     match MemLink::new(alloc, Vec::new(alloc), 165) {
         Ok(link) => {
@@ -90,7 +91,8 @@ fn takes_requests(server: &mut Server) -> bool {
     server.waiting() == 3
 }
 
-/// Returns true if the first request that waits has this body, allows more so, and isn't silent.
+/// Returns true if the first request that waits has this body and this `exhaust_allowed`, and wants
+/// a reply.
 fn is_first(server: &Server, body: &[u8], exhaust_allowed: bool) -> bool {
     match server.request(0) {
         Some(request) => {

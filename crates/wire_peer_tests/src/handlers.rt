@@ -1,4 +1,4 @@
-//! What handlers answer: rows of bodies and flags, and the answers.
+//! Tests of what handlers answer: rows of bodies and flags, and the answers.
 
 use bson_raw::RawDocument;
 use std::alloc::Global;
@@ -8,7 +8,8 @@ use wire_peer::{Answers, Count, Echo, Handler, HandlerStop, Request, StopAt};
 /// `{"s": 3}`.
 const THREE: &[u8] = b"\x0c\0\0\0\x10s\0\x03\0\0\0\0";
 
-/// Bodies, whether the request allows more and is silent, and up to which number is counted.
+/// Bodies, whether the request allows more replies, whether it wants none, and up to which number
+/// is counted.
 const COUNTED: [(&[u8], bool, bool, u8); 11] = [
     (b"\x0c\0\0\0\x10s\0\x01\0\0\0\0", true, false, 1),
     (b"\x0c\0\0\0\x10s\0\x03\0\0\0\0", true, false, 3),
@@ -56,7 +57,7 @@ fn count_to(answers: &[PayloadBuf], number: u8) -> bool {
     next == number
 }
 
-/// Returns true if a request of this payload is counted up to this number.
+/// Returns true if the answers to a request with this payload count up to this number.
 fn is_counted(
     alloc: Global,
     payload: &PayloadBuf,
@@ -105,7 +106,7 @@ fn is_alone(answers: &[PayloadBuf], payload: &PayloadBuf) -> bool {
     }
 }
 
-/// Returns true if the handler answers the request by its payload.
+/// Returns true if the handler answers the request with its own payload.
 fn echoes<H: Handler>(alloc: Global, handler: &mut H, payload: &PayloadBuf) -> bool {
     let request = Request {
         payload: payload.as_payload(),
@@ -132,7 +133,8 @@ fn stops<H: Handler>(
     handler.respond(&request, &mut answers) == Err(stop)
 }
 
-/// Returns true if `Echo` echoes, and stops at its second request alone where it is to stop there.
+/// Returns true if `Echo` answers with the payload, and a `StopAt` over it stops at its second
+/// request only.
 fn echo_echoes(alloc: Global, stop: HandlerStop) -> bool {
     let Some(payload) = payload_of(alloc, THREE) else {
         return false;

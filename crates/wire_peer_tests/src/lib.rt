@@ -1,5 +1,6 @@
-//! Tests of peers, by what no contract says: that calls succeed where memory is there, what is sent byte for byte, and that
-//! the definitions mean the protocol. They stand in a crate of their own, since a crate is proved once more with its tests.
+//! Tests of what no contract of peers says: that calls succeed if there is memory, what is sent
+//! byte for byte, and that the definitions mean the protocol. They are in a crate of their own,
+//! since a crate is proved once more with its tests.
 //!
 //! Stands on wire_peer. Read first: `clients` and `servers`.
 #![tactic(auto)]

@@ -1,5 +1,6 @@
-//! Tests of what stays of answers, replies and logs after a refused allocation. `scripts/checks/try-refusals` runs them with each of their
-//! allocations refused in turn. No other one is refused then, so what is asked for again is granted.
+//! Tests of answers, replies and logs after a refused allocation. `scripts/checks/try-refusals`
+//! runs them with each of their allocations refused in turn. Only one is refused in a run, so what
+//! is tried again succeeds.
 
 use crate::log_rows::{Noted, are_bodies, is_log};
 use crate::refused_calls::{CallEnd, again, at_once, both, goes_on, to_an_end};
@@ -21,7 +22,7 @@ const COUNTED: &[&[u8]] = &[
     b"\x0c\0\0\0\x10n\0\x03\0\0\0\0",
 ];
 
-/// The replies to request 7 that count to 3, and those to the next one.
+/// The replies to request 7 that count to 3, and those to the same request asked again.
 const REPLIES: [&[u8; 33]; 6] = [
     b"\x21\0\0\0\x01\0\0\0\x07\0\0\0\xdd\x07\0\0\x02\0\0\0\0\x0c\0\0\0\x10n\0\x01\0\0\0\0",
     b"\x21\0\0\0\x02\0\0\0\x01\0\0\0\xdd\x07\0\0\x02\0\0\0\0\x0c\0\0\0\x10n\0\x02\0\0\0\0",
@@ -39,7 +40,7 @@ const PUSHED: [&[u8; 33]; 4] = [
     b"\x21\0\0\0\x04\0\0\0\x03\0\0\0\xdd\x07\0\0\0\0\0\0\0\x0c\0\0\0\x10s\0\x03\0\0\0\0",
 ];
 
-/// Returns a payload of `THREE` alone, which is made again where memory is refused.
+/// Returns a payload of `THREE` alone. Makes it again if memory is refused.
 fn three(alloc: Global) -> Option<PayloadBuf> {
     let body = RawDocument::from_bytes(THREE).ok()?;
     match PayloadBuf::new(alloc, body) {
@@ -48,7 +49,7 @@ fn three(alloc: Global) -> Option<PayloadBuf> {
     }
 }
 
-/// Returns the request of this payload that allows more.
+/// Returns the request with this payload, which allows more replies.
 fn asking(payload: &PayloadBuf) -> Request<'_> {
     Request {
         payload: payload.as_payload(),
@@ -57,7 +58,7 @@ fn asking(payload: &PayloadBuf) -> Request<'_> {
     }
 }
 
-/// Returns true if the bytes are the first of these messages, up to their end.
+/// Returns true if the bytes are the first of these messages, and are `count` bytes.
 fn are_messages(bytes: &[u8], messages: &[&[u8; 33]], count: usize) -> bool {
     let mut rest = bytes;
     for message in messages {
@@ -100,7 +101,7 @@ fn hold(answers: &Answers, bodies: &[&[u8]]) -> bool {
     answers.len() == bodies.len() && are_bodies(answers.as_slice(), bodies)
 }
 
-/// Appends an answer to these, and appends it again where that is refused, which has to change nothing.
+/// Appends an answer to these. If that is refused, which has to change nothing, appends it again.
 fn pushes(
     answers: &mut Answers,
     payload: &PayloadBuf,
@@ -130,7 +131,8 @@ fn pushes_two(alloc: Global, payload: &PayloadBuf, way: Way) -> CallEnd {
     pushes_both(&mut answers, payload, way)
 }
 
-/// Returns true if two answers are appended in this way, at once or with a second try, and at once then to other answers.
+/// Returns true if two answers are appended in this way at the first try; or one of them at the
+/// second, and then both to other answers at the first.
 fn leaves_answers(alloc: Global, way: Way) -> bool {
     match three(alloc) {
         Some(payload) => match pushes_two(alloc, &payload, way) {
@@ -149,7 +151,7 @@ fn a_refused_answer_is_not_appended(rt: HostRuntime) {
     assert!(rt; leaves_answers(rt.alloc(), Way::Moved));
 }
 
-/// Returns whether the handler gives these answers, or none where it stops where memory runs out.
+/// Returns whether the handler gives these answers, or `None` if it stops because memory runs out.
 fn responds<H: Handler>(
     alloc: Global,
     handler: &mut H,
@@ -164,7 +166,7 @@ fn responds<H: Handler>(
     }
 }
 
-/// Returns true if the handler gives these answers, or stops where memory runs out and gives them when it is asked again.
+/// Returns true if the handler gives these answers, when it is asked again if memory runs out.
 fn responds_at_last<H: Handler>(
     alloc: Global,
     handler: &mut H,
@@ -202,10 +204,11 @@ fn handlers_stop_for_memory_alone(rt: HostRuntime) {
     assert!(rt; handlers_respond_to_three(rt.alloc()));
 }
 
-/// A handler that answers two requests and stops at the third, so that it tells whether it was asked for nothing.
+/// A handler that answers two requests and stops at the third. So it shows if it was asked once too
+/// often.
 type Twice = StopAt<Count>;
 
-/// Returns it, with an empty log.
+/// Returns such a handler, with an empty log.
 fn twice(alloc: Global) -> Logged<Twice> {
     Logged::new(alloc, StopAt::new(Count, 2, HandlerStop::Failed))
 }
@@ -215,7 +218,7 @@ const ANSWERED: Noted<'_> = (THREE, Some(COUNTED));
 
 const FAILED: Noted<'_> = (THREE, None);
 
-/// The logs behind one request, two and three, of which the handler stops at the last.
+/// The logs after one request, two and three. The handler stops at the third.
 const ONE_LOG: &[Noted<'_>] = &[ANSWERED];
 
 const TWO_LOG: &[Noted<'_>] = &[ANSWERED, ANSWERED];
@@ -225,20 +228,20 @@ const THREE_LOG: &[Noted<'_>] = &[ANSWERED, ANSWERED, FAILED];
 /// The log where the handler stopped at the second request.
 const SECOND_FAILED: &[Noted<'_>] = &[ANSWERED, FAILED];
 
-/// A request, and what stands before it and after it.
+/// A request, and the log and the replies before it and after it.
 struct Row<'a> {
     log_before: &'a [Noted<'a>],
     log_after: &'a [Noted<'a>],
-    /// The log after it where the handler stops where memory runs out.
+    /// The log after it if the handler stops because memory runs out.
     log_stopped: &'a [Noted<'a>],
-    /// Whether the handler answers it where memory is there.
+    /// Whether the handler answers it if there is memory.
     answers: bool,
     /// How many bytes of replies are put out before it.
     bytes_before: usize,
     bytes_after: usize,
 }
 
-/// Three requests, of which the handler stops at the last.
+/// Three requests. The handler stops at the last.
 const ROWS: [Row<'_>; 3] = [
     Row {
         log_before: &[],
@@ -271,7 +274,7 @@ fn notes(logged: &Logged<Twice>, rows: &[Noted<'_>]) -> bool {
     is_log(logged.entries(), 5, rows)
 }
 
-/// Returns what asking comes to where memory is there.
+/// Returns the result of asking if there is memory.
 fn end_of_ask(answers: bool) -> Result<(), AskRefusal> {
     if answers {
         Ok(())
@@ -280,8 +283,8 @@ fn end_of_ask(answers: bool) -> Result<(), AskRefusal> {
     }
 }
 
-/// Asks a request, and asks it again where the handler wasn't asked, which has to change nothing. Where the handler stops for
-/// out of memory its entry has to stand.
+/// Asks a request. If the handler wasn't asked, which has to change nothing, asks it again. If the
+/// handler stops because memory runs out, the log has to have its entry.
 fn enters(logged: &mut Logged<Twice>, request: &Request<'_>, row: &Row<'_>) -> CallEnd {
     let came = logged.ask(5, request);
     if came == end_of_ask(row.answers) {
@@ -318,8 +321,8 @@ fn enters_one(alloc: Global, request: &Request<'_>) -> CallEnd {
     enters_all(&mut logged, request)
 }
 
-/// Returns true if the requests get their entries; or memory runs out for one of them, and they get them at once then in another
-/// log.
+/// Returns true if the requests get their entries; or memory runs out for one of them, and then all
+/// get theirs in another log at the first try.
 fn leaves_the_log(alloc: Global) -> bool {
     match three(alloc) {
         Some(payload) => match enters_one(alloc, &asking(&payload)) {
@@ -336,7 +339,7 @@ fn a_refused_entry_is_not_made(rt: HostRuntime) {
     assert!(rt; leaves_the_log(rt.alloc()));
 }
 
-/// Returns what replying comes to where memory is there.
+/// Returns the result of replying if there is memory.
 fn end_of_reply(answers: bool) -> Result<(), NoReplies> {
     if answers {
         Ok(())
@@ -345,13 +348,15 @@ fn end_of_reply(answers: bool) -> Result<(), NoReplies> {
     }
 }
 
-/// Returns true if the log holds these entries, and so many bytes of replies are put out.
+/// Returns true if the log holds these entries, and the first `put_out` bytes of the replies are
+/// put out.
 fn stands(logged: &Logged<Twice>, out: &ReplyBuf, rows: &[Noted<'_>], put_out: usize) -> bool {
     notes(logged, rows) && are_messages(out.output(), &REPLIES, put_out)
 }
 
-/// Asks a request for its replies, and asks it again where the handler wasn't asked, which has to change nothing. Where the
-/// handler stops where memory runs out or the replies find none, the entry has to stand, and no byte of them.
+/// Asks a request for its replies. If the handler wasn't asked, which has to change nothing, asks
+/// it again. If memory runs out for the handler or for the replies, the log has to have the entry,
+/// and no byte of the replies is put out.
 fn replies(
     logged: &mut Logged<Twice>,
     out: &mut ReplyBuf,
@@ -397,8 +402,8 @@ fn replies_one(alloc: Global, request: &Request<'_>) -> CallEnd {
     replies_all(&mut logged, &mut out, request)
 }
 
-/// Returns true if the requests get their replies; or memory runs out for one of them, and they get them at once then from
-/// another log.
+/// Returns true if the requests get their replies; or memory runs out for one of them, and then all
+/// get theirs from another log at the first try.
 fn leaves_the_replies(alloc: Global) -> bool {
     match three(alloc) {
         Some(payload) => match replies_one(alloc, &asking(&payload)) {
@@ -415,8 +420,8 @@ fn refused_replies_leave_no_byte(rt: HostRuntime) {
     assert!(rt; leaves_the_replies(rt.alloc()));
 }
 
-/// Appends the answers as two replies behind so many bytes, and appends them again where that is refused, which has to change
-/// nothing.
+/// Appends the answers as two replies after `before` bytes. If that is refused, which has to change
+/// nothing, appends them again.
 fn puts(out: &mut ReplyBuf, answers: &Answers, before: usize, after: usize) -> CallEnd {
     match out.push(7, answers) {
         Ok(()) => at_once(are_messages(out.output(), &PUSHED, after)),
@@ -441,7 +446,8 @@ fn puts_one(alloc: Global, answers: &Answers) -> CallEnd {
     puts_both(&mut out, answers)
 }
 
-/// Returns true if the answers are appended, at once or with a second try, and at once then in another buffer.
+/// Returns true if the answers are appended at the first try; or at the second, and then to another
+/// buffer at the first.
 fn puts_at_last(alloc: Global, answers: &Answers) -> bool {
     match puts_one(alloc, answers) {
         CallEnd::AtOnce => true,

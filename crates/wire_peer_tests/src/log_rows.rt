@@ -1,9 +1,9 @@
-//! What a log is to hold.
+//! Rows that say what a log is to hold.
 
 use wire_msg::PayloadBuf;
 use wire_peer::{Entry, Outcome};
 
-/// An entry as it is to stand: the request's body, and the bodies of its answers, unless it failed.
+/// An expected entry: the request's body, and the bodies of its answers, or `None` if it failed.
 pub(crate) type Noted<'a> = (&'a [u8], Option<&'a [&'a [u8]]>);
 
 /// Returns true if the payload is the body alone.
@@ -24,7 +24,7 @@ pub(crate) fn are_bodies(payloads: &[PayloadBuf], bodies: &[&[u8]]) -> bool {
     true
 }
 
-/// Returns true if this became of a request.
+/// Returns true if the outcome is these answers, or a failure if that is `None`.
 fn is_outcome(outcome: &Outcome, answers: Option<&[&[u8]]>) -> bool {
     match (outcome, answers) {
         (Outcome::Answered(given), Some(bodies)) => are_bodies(given.as_slice(), bodies),

@@ -1,4 +1,4 @@
-//! What stands in a log, and the bytes of the replies.
+//! Tests of the entries of a log, and of the bytes of the replies.
 
 use bson_raw::RawDocument;
 use std::alloc::Global;
@@ -11,7 +11,8 @@ use wire_peer::{
 /// `{"s": 3}`.
 const THREE: &[u8] = b"\x0c\0\0\0\x10s\0\x03\0\0\0\0";
 
-/// The replies to request 7 that count to 3: with ids 1 to 3, to 7, 1 and 2, and moreToCome on the first two.
+/// The replies to request 7 that count to 3: with ids 1 to 3, to 7, 1 and 2, and moreToCome on the
+/// first two.
 const REPLIES: [&[u8; 33]; 3] = [
     b"\x21\0\0\0\x01\0\0\0\x07\0\0\0\xdd\x07\0\0\x02\0\0\0\0\x0c\0\0\0\x10n\0\x01\0\0\0\0",
     b"\x21\0\0\0\x02\0\0\0\x01\0\0\0\xdd\x07\0\0\x02\0\0\0\0\x0c\0\0\0\x10n\0\x02\0\0\0\0",
@@ -24,7 +25,7 @@ fn three(alloc: Global) -> Option<PayloadBuf> {
     PayloadBuf::new(alloc, body).ok()
 }
 
-/// Returns the request of this payload that allows more.
+/// Returns the request with this payload, which allows more replies.
 fn asking(payload: &PayloadBuf, more_to_come: bool) -> Request<'_> {
     Request {
         payload: payload.as_payload(),
@@ -33,7 +34,8 @@ fn asking(payload: &PayloadBuf, more_to_come: bool) -> Request<'_> {
     }
 }
 
-/// Returns true if the entry is that of the payload over connection 5, with so many answers, or failed if `None`.
+/// Returns true if the entry is that of the payload over connection 5, with `count` answers, or
+/// failed if that is `None`.
 fn is_entry(entry: &Entry, payload: &PayloadBuf, count: Option<usize>) -> bool {
     let same = match &entry.outcome {
         Outcome::Answered(answers) => count == Some(answers.len()),
@@ -42,7 +44,7 @@ fn is_entry(entry: &Entry, payload: &PayloadBuf, count: Option<usize>) -> bool {
     same && entry.connection == 5 && &entry.payload == payload
 }
 
-/// Returns true if the entries are those of the payload, each with so many answers.
+/// Returns true if the entries are those of the payload, each with its number of answers.
 fn are_entries(entries: &[Entry], payload: &PayloadBuf, counts: &[Option<usize>]) -> bool {
     if entries.len() != counts.len() {
         return false;
@@ -55,7 +57,7 @@ fn are_entries(entries: &[Entry], payload: &PayloadBuf, counts: &[Option<usize>]
     true
 }
 
-/// Returns true if asking comes to this result.
+/// Returns true if asking returns `wanted`.
 fn asks<H: Handler>(
     logged: &mut Logged<H>,
     payload: &PayloadBuf,
@@ -64,7 +66,7 @@ fn asks<H: Handler>(
     logged.ask(5, &asking(payload, false)) == wanted
 }
 
-/// Returns true if three requests make three entries, of which the second failed.
+/// Returns true if three requests make three entries, the second of which failed.
 fn enters(alloc: Global) -> bool {
     let Some(payload) = three(alloc) else {
         return false;
@@ -97,7 +99,8 @@ fn are_replies(bytes: &[u8]) -> bool {
     rest.is_empty()
 }
 
-/// Returns true if the replies to request 7 come to this result, and wait.
+/// Returns true if asking for the replies to request 7 returns `wanted`, and `count` bytes wait
+/// then.
 fn replies<H: Handler>(
     logged: &mut Logged<H>,
     out: &mut ReplyBuf,
@@ -108,7 +111,8 @@ fn replies<H: Handler>(
     logged.reply(5, 7, request, out) == wanted && out.output().len() == count
 }
 
-/// Returns true if a counted request has the replies above, and a silent one before it none.
+/// Returns true if a counted request has the replies above, and one before it that wants no reply
+/// has none.
 fn counted(alloc: Global) -> bool {
     let Some(payload) = three(alloc) else {
         return false;
@@ -126,7 +130,8 @@ fn replies_are_chained(rt: HostRuntime) {
     assert!(rt; counted(rt.alloc()));
 }
 
-/// Returns true if a reply of 33 bytes is too large for 32, but a silent request isn't.
+/// Returns true if a reply of 33 bytes is too large for a limit of 32, and a request that wants no
+/// reply isn't.
 fn too_large(alloc: Global) -> bool {
     let Some(payload) = three(alloc) else {
         return false;
@@ -171,7 +176,7 @@ fn a_stop_leaves_a_failed_entry(rt: HostRuntime) {
     assert!(rt; stopped(rt.alloc(), HandlerStop::OutOfMemory));
 }
 
-/// Returns true if sent bytes are taken off, and the ids go on.
+/// Returns true if sent bytes are dropped, and the ids go on.
 fn goes_on(alloc: Global) -> bool {
     let Some(payload) = three(alloc) else {
         return false;

@@ -1,19 +1,19 @@
-//! What calls come to while one allocation of a run is refused.
+//! How calls end in a run in which one allocation is refused.
 
 /// How a call ended.
 #[derive(Clone, Copy, Debug, PartialEq)]
 pub(crate) enum CallEnd {
-    /// As wanted.
+    /// As expected.
     AtOnce,
-    /// Out of memory, with nothing changed; and the same call after it as wanted.
+    /// Out of memory, with nothing changed; and the same call after it ended as expected.
     Again,
-    /// Out of memory, with what that leaves, after which nothing goes on.
+    /// Out of memory, with what that has to leave, after which no call follows.
     ToAnEnd,
     Otherwise,
 }
 
-/// Returns what a call came to for which memory ran out: nothing changed, and the same call came to its end then, if this
-/// is true.
+/// Returns the end of a call for which memory ran out. If `holds`, nothing changed and the same
+/// call then ended as expected.
 pub(crate) fn again(holds: bool) -> CallEnd {
     if holds {
         CallEnd::Again
@@ -22,7 +22,7 @@ pub(crate) fn again(holds: bool) -> CallEnd {
     }
 }
 
-/// Returns what a call came to that ran out of memory and left what it was to leave, if this is true.
+/// Returns the end of a call for which memory ran out. If `holds`, it left what it had to leave.
 pub(crate) fn to_an_end(holds: bool) -> CallEnd {
     if holds {
         CallEnd::ToAnEnd
@@ -31,7 +31,7 @@ pub(crate) fn to_an_end(holds: bool) -> CallEnd {
     }
 }
 
-/// Returns what a call came to that was granted all memory.
+/// Returns the end of a call that got all its memory. If `holds`, it ended as expected.
 pub(crate) fn at_once(holds: bool) -> CallEnd {
     if holds {
         CallEnd::AtOnce
@@ -40,7 +40,8 @@ pub(crate) fn at_once(holds: bool) -> CallEnd {
     }
 }
 
-/// Returns what two calls came to, of which at most one met a refusal, since no more than one allocation is refused.
+/// Returns the end of two calls. At most one of them met a refusal, since only one allocation is
+/// refused in a run.
 pub(crate) fn both(first: CallEnd, second: CallEnd) -> CallEnd {
     match (first, second) {
         (CallEnd::AtOnce, came) => came,

@@ -1,5 +1,6 @@
-//! Tests of what stays of a server after a refused allocation. `scripts/checks/try-refusals` runs them with each of their allocations
-//! refused in turn. No other one is refused then, so what is asked for again is granted.
+//! Tests of a server after a refused allocation. `scripts/checks/try-refusals` runs them with each
+//! of their allocations refused in turn. Only one is refused in a run, so what is tried again
+//! succeeds.
 
 use crate::log_rows::{Noted, is_log};
 use crate::refused_calls::{CallEnd, again, at_once, both, goes_on, to_an_end};
@@ -34,7 +35,7 @@ fn server(alloc: Global) -> Result<Server, ServerRefusal> {
     Server::new(alloc, 1, 8, 33)
 }
 
-/// Returns a server, which is made again where memory is refused.
+/// Returns a server. Makes it again if memory is refused.
 fn server_again(alloc: Global) -> Option<Server> {
     match server(alloc) {
         Ok(server) => Some(server),
@@ -42,7 +43,7 @@ fn server_again(alloc: Global) -> Option<Server> {
     }
 }
 
-/// Returns true if a server is made; or refused where memory runs out, and made then.
+/// Returns true if a server is made, at the second try if memory runs out.
 fn is_made(alloc: Global) -> bool {
     match server(alloc) {
         Ok(server) => stands(&server, &[], 0),
@@ -55,7 +56,8 @@ fn a_refused_server_is_not_made(rt: HostRuntime) {
     assert!(rt; is_made(rt.alloc()));
 }
 
-/// Returns true if the request that waits there is this body, wants a reply, and allows no more.
+/// Returns true if the waiting request of index `k` has this body, wants a reply, and allows no
+/// more than one.
 fn is_request(server: &Server, k: usize, body: &[u8]) -> bool {
     match server.request(k) {
         Some(request) => {
@@ -77,12 +79,13 @@ fn wait(server: &Server, bodies: &[&[u8]]) -> bool {
     server.waiting() == bodies.len()
 }
 
-/// Returns true if these requests wait, and so many first bytes of the replies are put out.
+/// Returns true if these requests wait, and the first `put_out` bytes of the replies are put out.
 fn holds(server: &Server, bodies: &[&[u8]], put_out: usize) -> bool {
     wait(server, bodies) && server.output().len() == put_out && REPLIES.starts_with(server.output())
 }
 
-/// Returns true if the server is open, these requests wait, and so many first bytes of the replies are put out.
+/// Returns true if the server is open, these requests wait, and the first `put_out` bytes of the
+/// replies are put out.
 fn stands(server: &Server, bodies: &[&[u8]], put_out: usize) -> bool {
     server.state() == ServerState::Open && holds(server, bodies, put_out)
 }
@@ -97,7 +100,7 @@ const PIECES: [Piece<'_>; 3] = [
     (SECOND_REST, &[ONE], &[ONE, TWO]),
 ];
 
-/// Feeds a piece, and feeds it again where it is refused, which has to change nothing.
+/// Feeds a piece. If it is refused, which has to change nothing, feeds it again.
 fn feeds(server: &mut Server, piece: &Piece<'_>) -> CallEnd {
     let (bytes, before, after) = *piece;
     match server.feed(bytes) {
@@ -119,7 +122,7 @@ fn feeds_all(server: &mut Server) -> CallEnd {
     all
 }
 
-/// Like `feeds_all`, of a server that is made for it.
+/// Like `feeds_all`, with a server that is made for it.
 fn feeds_one(alloc: Global) -> CallEnd {
     match server_again(alloc) {
         Some(mut server) => feeds_all(&mut server),
@@ -127,8 +130,8 @@ fn feeds_one(alloc: Global) -> CallEnd {
     }
 }
 
-/// Returns true if the requests come, each piece at once; or one of them at its second try, and each at once then to another
-/// server.
+/// Returns true if each piece of the requests is taken at the first try; or one of them at the
+/// second, and then each by another server at the first.
 fn feeds_at_last(alloc: Global) -> bool {
     match feeds_one(alloc) {
         CallEnd::AtOnce => true,
@@ -142,10 +145,11 @@ fn a_refused_feed_takes_nothing(rt: HostRuntime) {
     assert!(rt; feeds_at_last(rt.alloc()));
 }
 
-/// A handler that answers two requests and stops at the third, so that it tells whether it was asked for nothing.
+/// A handler that answers two requests and stops at the third. So it shows if it was asked once too
+/// often.
 type Twice = StopAt<Echo>;
 
-/// How a server and its log stand.
+/// The state of a server and its log.
 struct Standing<'a> {
     /// The bodies of the requests that wait.
     waiting: &'a [&'a [u8]],
@@ -154,7 +158,7 @@ struct Standing<'a> {
     log: &'a [Noted<'a>],
 }
 
-/// How they stand before the first answer, behind it, and behind the second one.
+/// Their state before the first answer, after it, and after the second one.
 const UNANSWERED: Standing<'_> = Standing {
     waiting: &[ONE, TWO],
     put_out: 0,
@@ -173,7 +177,7 @@ const ALL_ANSWERED: Standing<'_> = Standing {
     log: &[(ONE, Some(&[ONE])), (TWO, Some(&[TWO]))],
 };
 
-/// An answer, and how all stands before it and after it.
+/// An answer, and the state before it and after it.
 struct Row<'a> {
     before: Standing<'a>,
     after: Standing<'a>,
@@ -195,21 +199,21 @@ const ROWS: [Row<'_>; 2] = [
     },
 ];
 
-/// Returns true if the server is open, and it and its log stand so.
+/// Returns true if the server is open, and it and its log are in this state.
 fn both_stand(server: &Server, logged: &Logged<Twice>, standing: &Standing<'_>) -> bool {
     stands(server, standing.waiting, standing.put_out) && is_log(logged.entries(), 1, standing.log)
 }
 
-/// Returns true if the server closed after the handler was asked: the entry stands, answered or failed, the request has left, and
-/// nothing was put out for it.
+/// Returns true if the server closed after the handler was asked: the log has the entry, answered
+/// or failed, the request doesn't wait any more, and nothing was put out for it.
 fn is_closed(server: &Server, logged: &Logged<Twice>, row: &Row<'_>) -> bool {
     server.state() == ServerState::Closed(ServerCause::NoMemory)
         && holds(server, row.after.waiting, row.before.put_out)
         && (is_log(logged.entries(), 1, row.after.log) || is_log(logged.entries(), 1, row.stopped))
 }
 
-/// Answers the first request that waits, and answers it again where that is refused before the handler is asked, which has to
-/// change nothing.
+/// Answers the first request that waits. If that is refused before the handler is asked, which has
+/// to change nothing, answers it again.
 fn answers(server: &mut Server, logged: &mut Logged<Twice>, row: &Row<'_>) -> CallEnd {
     let number = row.before.log.len();
     match server.answer(0, logged) {
@@ -246,7 +250,7 @@ fn answers_fed(server: &mut Server, logged: &mut Logged<Twice>) -> CallEnd {
     }
 }
 
-/// Like `answers_fed`, of a server that is made for it.
+/// Like `answers_fed`, with a server that is made for it.
 fn answers_of_one(alloc: Global) -> CallEnd {
     let mut logged = Logged::new(alloc, StopAt::new(Echo, 2, HandlerStop::Failed));
     match server_again(alloc) {
@@ -255,7 +259,8 @@ fn answers_of_one(alloc: Global) -> CallEnd {
     }
 }
 
-/// Returns true if the requests are answered; or memory runs out for one of them, and another server answers them at once then.
+/// Returns true if the requests are answered; or memory runs out for one of them, and then another
+/// server answers all at the first try.
 fn answers_at_last(alloc: Global) -> bool {
     match answers_of_one(alloc) {
         CallEnd::AtOnce => true,

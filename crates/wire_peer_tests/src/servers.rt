@@ -1,4 +1,4 @@
-//! A server: what it takes, what waits, what it answers and puts out, and why it closes.
+//! Tests of a server: what it takes, what waits, what it answers and puts out, and why it closes.
 
 use std::alloc::Global;
 use wire_msg::{MsgCause, MsgFault};
@@ -31,8 +31,8 @@ const SILENT: &[u8; 33] =
 const COUNTED: &[u8; 33] =
     b"\x21\0\0\0\xff\xff\xff\x7f\0\0\0\0\xdd\x07\0\0\0\0\x01\0\0\x0c\0\0\0\x10s\0\x03\0\0\0\0";
 
-/// `{"n": 1}` to `{"n": 3}` as the answers to request 2,147,483,647, with ids 1 to 3; each but the first answers the
-/// one before it, and each but the last has moreToCome.
+/// `{"n": 1}` to `{"n": 3}` as the answers to request 2,147,483,647, with ids 1 to 3; each but the
+/// first answers the one before it, and each but the last has moreToCome.
 const COUNTS: &[u8; 99] =
     b"\x21\0\0\0\x01\0\0\0\xff\xff\xff\x7f\xdd\x07\0\0\x02\0\0\0\0\x0c\0\0\0\x10n\0\x01\0\0\0\0\x21\0\0\0\x02\0\0\0\x01\0\0\0\xdd\x07\0\0\x02\0\0\0\0\x0c\0\0\0\x10n\0\x02\0\0\0\0\x21\0\0\0\x03\0\0\0\x02\0\0\0\xdd\x07\0\0\0\0\0\0\0\x0c\0\0\0\x10n\0\x03\0\0\0\0";
 
@@ -42,7 +42,7 @@ const QUERY: &[u8; 16] = b"\x33\0\0\0\x01\0\0\0\0\0\0\0\xd4\x07\0\0";
 /// An empty body as request 1.
 const EMPTY: &[u8; 26] = b"\x1a\0\0\0\x01\0\0\0\0\0\0\0\xdd\x07\0\0\0\0\0\0\0\x05\0\0\0\0";
 
-/// Windows and limits, and why no server has them.
+/// Windows and limits, and why no server is made with them.
 const REFUSED: [(usize, u32, ServerRefusal); 6] = [
     (0, 26, ServerRefusal::BadWindow),
     (1025, 26, ServerRefusal::BadWindow),
@@ -52,7 +52,7 @@ const REFUSED: [(usize, u32, ServerRefusal); 6] = [
     (1024, 48_000_001, ServerRefusal::BadLimit),
 ];
 
-/// Returns true if a server of this window and limit is refused so.
+/// Returns true if no server is made with this window and limit, for this reason.
 fn is_refused(alloc: Global, window: usize, limit: u32, refusal: ServerRefusal) -> bool {
     match Server::new(alloc, 1, window, limit) {
         Ok(_) => false,
@@ -95,7 +95,8 @@ fn takes_each(server: &mut Server, bytes: &[u8]) -> bool {
     true
 }
 
-/// Returns true if the first request is answered as entry `number`, and all that is put out then is `output`.
+/// Returns true if the first request is answered as entry `number`, and all that is put out then is
+/// `output`.
 fn puts_out<H: Handler>(
     server: &mut Server,
     logged: &mut Logged<H>,
@@ -158,7 +159,7 @@ fn fed_both(alloc: Global, first: &[u8], second: &[u8]) -> Option<Server> {
     }
 }
 
-/// Returns true if of two requests the second is answered first, and then the other one.
+/// Returns true if the second of two requests is answered first, and then the other one.
 fn answers_in_any_order(alloc: Global) -> bool {
     const REPLIES: &[u8; 66] =
         b"\x21\0\0\0\x01\0\0\0\x02\0\0\0\xdd\x07\0\0\0\0\0\0\0\x0c\0\0\0\x10a\0\x02\0\0\0\0\x21\0\0\0\x02\0\0\0\x01\0\0\0\xdd\x07\0\0\0\0\0\0\0\x0c\0\0\0\x10a\0\x01\0\0\0\0";
@@ -178,7 +179,7 @@ fn requests_are_answered_in_any_order(rt: HostRuntime) {
     assert!(rt; answers_in_any_order(rt.alloc()));
 }
 
-/// Returns true if the replies to a request that allows more are a chain.
+/// Returns true if the replies to a request that allows more than one are a chain.
 fn counts(alloc: Global) -> bool {
     let mut logged = Logged::new(alloc, Count);
     match Server::new(alloc, 1, 8, 48_000_000) {
@@ -202,8 +203,8 @@ fn is_closed(alloc: Global, server: &mut Server, cause: ServerCause) -> bool {
         && server.answer(0, &mut logged) == Err(AnswerRefusal::Closed)
 }
 
-/// Returns true if a request that came before a bad header still waits behind the close, and the end of the bytes
-/// changes nothing.
+/// Returns true if a request that came before a bad header still waits after the close, and the end
+/// of the bytes changes nothing.
 fn closes_at_a_fault(alloc: Global) -> bool {
     let fault = ServerCause::Message(MsgFault {
         at: 12,
@@ -244,7 +245,8 @@ fn bytes_and_their_end_close(rt: HostRuntime) {
     );
 }
 
-/// Returns true if answering the first request closes the server for this cause, without a byte more than `output`.
+/// Returns true if answering the first request closes the server for this cause, without a byte
+/// more than `output`.
 fn closes_now<H: Handler>(
     server: &mut Server,
     logged: &mut Logged<H>,
@@ -278,8 +280,9 @@ fn has_failed(entries: &[Entry]) -> bool {
     }
 }
 
-/// Returns true if a handler's stop at the second of two requests closes the server for this cause, and the first reply
-/// is still given. The request's entry has failed, and nothing more is answered.
+/// Returns true if a handler's stop at the second of two requests closes the server for this cause,
+/// and the first reply is still given. The request's entry has failed, and nothing more is
+/// answered.
 fn closes_at_a_stop(alloc: Global, stop: HandlerStop, cause: ServerCause) -> bool {
     const REPLY: &[u8; 33] =
         b"\x21\0\0\0\x01\0\0\0\x01\0\0\0\xdd\x07\0\0\0\0\0\0\0\x0c\0\0\0\x10a\0\x01\0\0\0\0";

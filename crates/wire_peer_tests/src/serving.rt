@@ -1,4 +1,5 @@
-//! Serving a connection over a link in memory: whole, in pieces, cut short, at fault, and with one call that fails.
+//! Tests of serving a connection over a link in memory: whole, in pieces, cut short, at fault, and
+//! with one call that fails.
 
 ghost use Rattle.std.specs.Prelude.{◌<◌, ◌≤◌};
 
@@ -23,8 +24,8 @@ const OTHER_OPCODE: &[u8; 102] =
 const COUNT_TO_3: &[u8; 33] =
     b"\x21\0\0\0\x07\0\0\0\0\0\0\0\xdd\x07\0\0\0\0\x01\0\0\x0c\0\0\0\x10s\0\x03\0\0\0\0";
 
-/// The answers `{"n": 1}`, `{"n": 2}` and `{"n": 3}` to request 7, with ids 1 to 3, each behind the first to the one before
-/// it, and moreToCome on all but the last.
+/// The answers `{"n": 1}`, `{"n": 2}` and `{"n": 3}` to request 7, with ids 1 to 3; each after the
+/// first answers the one before it, and all but the last have moreToCome.
 const COUNTED: &[u8; 99] =
     b"\x21\0\0\0\x01\0\0\0\x07\0\0\0\xdd\x07\0\0\x02\0\0\0\0\x0c\0\0\0\x10n\0\x01\0\0\0\0\x21\0\0\0\x02\0\0\0\x01\0\0\0\xdd\x07\0\0\x02\0\0\0\0\x0c\0\0\0\x10n\0\x02\0\0\0\0\x21\0\0\0\x03\0\0\0\x02\0\0\0\xdd\x07\0\0\0\0\0\0\0\x0c\0\0\0\x10n\0\x03\0\0\0\0";
 
@@ -37,7 +38,7 @@ fn link_of(alloc: Global, input: &[u8]) -> Option<MemLink> {
     MemLink::new(alloc, bytes, 99).ok()
 }
 
-/// What serving is to come to: its end, how many entries the log has then, and what was sent.
+/// The expected outcome of serving: its end, how many entries the log has then, and what was sent.
 #[derive(Clone, Copy)]
 struct Outcome<'a> {
     end: ServeEnd,
@@ -45,7 +46,7 @@ struct Outcome<'a> {
     sent: &'a [u8],
 }
 
-/// Returns true if serving over `link` with this handler comes to `outcome`.
+/// Returns true if serving over `link` with this handler has this `outcome`.
 fn comes_to<H: Handler + Drop>(
     alloc: Global,
     link: &mut MemLink,
@@ -62,7 +63,8 @@ fn comes_to<H: Handler + Drop>(
         && link.sent_bytes() == outcome.sent
 }
 
-/// Returns true if serving these bytes with `Echo` comes to `outcome`, in pieces of at most `most` bytes.
+/// Returns true if serving these bytes with `Echo`, in pieces of at most `most` bytes, has this
+/// `outcome`.
 fn echoes(alloc: Global, input: &[u8], most: usize, budget: u64, outcome: Outcome<'_>) -> bool {
     match link_of(alloc, input) {
         Some(link) => {
@@ -80,7 +82,7 @@ fn echoes(alloc: Global, input: &[u8], most: usize, budget: u64, outcome: Outcom
     }
 }
 
-/// What `Echo` comes to with the pings, or a part of them that has the first.
+/// Returns the outcome of serving with `Echo` the pings, or a part of them that has the first one.
 fn after(end: ServeEnd, entries: usize) -> Outcome<'static> {
     Outcome {
         end,
@@ -152,8 +154,9 @@ fn a_fault_ends_serving(rt: HostRuntime) {
     }
 }
 
-/// Returns true if serving at most `budget` pings, in pieces of at most `most` bytes, ends so where the call after `calls`
-/// others fails, and these many first bytes of the reply were sent.
+/// Returns true if serving at most `budget` pings, in pieces of at most `most` bytes and over a
+/// link whose call after `calls` others fails, ends with `end` after the first `count` bytes of the
+/// reply were sent.
 fn fails(alloc: Global, most: usize, budget: u64, calls: u64, end: ServeEnd, count: usize) -> bool
     requires { 0 < most }
 {
@@ -177,8 +180,8 @@ fn a_failed_call_ends_serving(rt: HostRuntime) {
     assert!(rt; fails(rt.alloc(), 102, 10, 3, ServeEnd::Ended, 51));
 }
 
-/// Returns true if serving the pings, in pieces of at most `most` bytes, ends so where the call after `calls` others fails, and
-/// what was sent is a beginning of the reply.
+/// Returns true if serving the pings, in pieces of at most `most` bytes and over a link whose call
+/// after `calls` others fails, ends with `end` after a beginning of the reply was sent.
 fn sends_a_beginning(alloc: Global, most: usize, calls: u64, end: ServeEnd) -> bool {
     let Some(link) = link_of(alloc, PINGS) else {
         return false;
@@ -189,7 +192,7 @@ fn sends_a_beginning(alloc: Global, most: usize, calls: u64, end: ServeEnd) -> b
     ended == end && REPLY.starts_with(link.sent_bytes())
 }
 
-/// How many calls serving the pings makes, where each moves at most so many bytes.
+/// The most bytes that a call of the link moves, and how many calls serving the pings then makes.
 const CALLS: [(usize, u64); 4] = [(102, 3), (51, 4), (20, 10), (1, 154)];
 
 #[test]
@@ -217,7 +220,7 @@ fn replies_are_sent_before_the_next_message_is_taken(rt: HostRuntime) {
     assert!(rt; fails(rt.alloc(), 20, 10, 6, ServeEnd::Link, 51));
 }
 
-/// Returns true if serving these bytes with this handler, under a limit, comes to `outcome`.
+/// Returns true if serving these bytes with this handler, under a limit, has this `outcome`.
 fn answers<H: Handler + Drop>(
     alloc: Global,
     input: &[u8],
@@ -253,7 +256,7 @@ fn a_long_reply_ends_serving(rt: HostRuntime) {
     assert!(rt; answers(rt.alloc(), EMPTY, Count, 26, outcome));
 }
 
-/// Returns the handler that stops so at the second request.
+/// Returns the handler that stops at the second request, for this reason.
 fn stop_at_second(stop: HandlerStop) -> StopAt<Echo> {
     StopAt::new(Echo, 1, stop)
 }

@@ -1,5 +1,6 @@
-//! A test of what stands after serving that wanted memory. `scripts/checks/try-refusals` runs it with each of its allocations refused in
-//! turn. No other one is refused then, so a connection that is served again is served to its end.
+//! A test of serving where memory is refused. `scripts/checks/try-refusals` runs it with each of
+//! its allocations refused in turn. Only one is refused in a run, so a connection that is served
+//! again is served to its end.
 
 use crate::log_rows::{Noted, is_log};
 use std::alloc::Global;
@@ -20,11 +21,11 @@ const REQUESTS: &[u8] =
 const REPLIES: &[u8; 66] =
     b"\x21\0\0\0\x01\0\0\0\x01\0\0\0\xdd\x07\0\0\0\0\0\0\0\x0c\0\0\0\x10a\0\x01\0\0\0\0\x21\0\0\0\x02\0\0\0\x02\0\0\0\xdd\x07\0\0\0\0\0\0\0\x0c\0\0\0\x10a\0\x02\0\0\0\0";
 
-/// A log as it may stand where memory ran out, and how many bytes were sent then.
+/// A log as it may be after memory ran out, and how many bytes were sent then.
 type Stopped<'a> = (&'a [Noted<'a>], usize);
 
-/// The logs of all requests, of the first one, and of none, whose replies were sent; and those whose last entry met the want, and
-/// has no reply.
+/// Logs of all requests, of the first one, and of none, whose replies were sent; and logs for whose
+/// last entry memory ran out, so that it has no reply.
 const STOPPED: [Stopped<'_>; 7] = [
     (&[(ONE, Some(&[ONE])), (TWO, Some(&[TWO]))], 66),
     (&[(ONE, Some(&[ONE]))], 33),
@@ -35,13 +36,14 @@ const STOPPED: [Stopped<'_>; 7] = [
     (&[(ONE, Some(&[ONE])), (TWO, Some(&[TWO]))], 33),
 ];
 
-/// Returns true if the log is this one, and so many first bytes of the replies were sent.
+/// Returns true if the log is that of `stopped`, and as many first bytes of the replies were sent
+/// as it says.
 fn stands(entries: &[Entry], sent: &[u8], stopped: &Stopped<'_>) -> bool {
     let (log, count) = *stopped;
     is_log(entries, 1, log) && sent.len() == count && REPLIES.starts_with(sent)
 }
 
-/// Returns true if serving may have stopped so where memory runs out.
+/// Returns true if serving may stop with this log and these bytes sent if memory runs out.
 fn may_stop(entries: &[Entry], sent: &[u8]) -> bool {
     for row in &STOPPED {
         if stands(entries, sent, row) {
@@ -51,8 +53,8 @@ fn may_stop(entries: &[Entry], sent: &[u8]) -> bool {
     false
 }
 
-/// Returns whether all was answered; or none where memory ran out, and the entries, or those before the last one, have their
-/// replies.
+/// Returns whether all was answered; or `None` if memory ran out, and the entries, or those before
+/// the last one, have their replies.
 fn outcome(end: ServeEnd, entries: &[Entry], sent: &[u8]) -> Option<bool> {
     match end {
         ServeEnd::Ended => Some(stands(entries, sent, &STOPPED[0])),
@@ -74,13 +76,13 @@ fn link_of(alloc: Global) -> Option<MemLink> {
     MemLink::new(alloc, bytes, 66).ok()
 }
 
-/// Returns the outcome of serving the requests, or none if there was no memory for a link.
+/// Returns the outcome of serving the requests, or `None` if there was no memory for a link.
 fn serves_requests(alloc: Global) -> Option<bool> {
     let mut link = link_of(alloc)?;
     serves(alloc, &mut link)
 }
 
-/// Returns true if the requests are served; or memory runs out, and they are when they come again.
+/// Returns true if the requests are served, at the second try if memory runs out.
 fn serves_at_last(alloc: Global) -> bool {
     match serves_requests(alloc) {
         Some(holds) => holds,

@@ -1,4 +1,4 @@
-//! What causes and refusals are printed as.
+//! Tests of the texts of causes and refusals.
 
 use std::alloc::Global;
 use std::error::Error;

@@ -15,7 +15,7 @@ use Rattle.wire_pool.proofs.PoolLaws.{given_upto, nothing, still_given}
 
 -- ---- loans
 
--- no loan more than before
+-- taking one loan out leaves no connection lent more often
 left : (k id : ℕ) (lent : List Loan) → times_lent k (without id lent) ≤ times_lent k lent
 left k id [] = omega arith
 left k id (l ∷ lent) = by (l.id == id) (left k id lent)
@@ -24,7 +24,7 @@ left k id (l ∷ lent) = by (l.id == id) (left k id lent)
     by true rest = omega (arith, rest)
     by false rest = omega (arith, rest)
 
--- the connection itself isn't lent any more
+-- the connection that was taken out isn't lent any more
 gone : (id : ℕ) (lent : List Loan) → times_lent id (without id lent) ≡ 0
 gone id [] = refl
 gone id (l ∷ lent) = by (l.id == id) refl (gone id lent)
@@ -33,7 +33,7 @@ gone id (l ∷ lent) = by (l.id == id) refl (gone id lent)
     by true e rest = rest
     by false e rest = rw e (omega (arith, rest))
 
--- it was
+-- a connection whose loan is found is lent
 found_once : (id : ℕ) (lent : List Loan) (loan : Loan) → loan_of id lent ≡ Some loan → 1 ≤ times_lent id lent
 found_once id [] loan e = absurd (nothing loan e)
 found_once id (l ∷ lent) loan e = by (l.id == id) refl e (found_once id lent loan)
@@ -42,7 +42,7 @@ found_once id (l ∷ lent) loan e = by (l.id == id) refl e (found_once id lent l
     by true is found rest = rw is (omega arith)
     by false is found rest = let once : 1 ≤ times_lent id lent = rest found in omega (arith, once)
 
--- what comes back is known no more often than before
+-- a connection that comes back is known no more often than before
 back : (k id : ℕ) (idle : List ℕ) (lent : List Loan) (loan : Loan) → loan_of id lent ≡ Some loan
     → times_idle k (id ∷ idle) + times_lent k (without id lent) ≤ times_idle k idle + times_lent k lent
 back k id idle lent loan e = by (id == k) refl
@@ -66,7 +66,7 @@ marked k (l ∷ lent) = ap (λ (n : ℕ). (if l.id == k then 1 else 0) + n) (mar
 
 -- ---- calls
 
--- each connection is known once at most, and was given
+-- each connection is known once at most, and the id of each was given
 record IsSound (p : PoolSeen) : Type 0 where
   pub once : (k : ℕ) → times_known k p ≤ 1
   pub given : (k : ℕ) → 1 ≤ times_known k p → IsGiven p.next k

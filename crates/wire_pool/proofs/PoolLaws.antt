@@ -8,7 +8,7 @@ use Rattle.wire_pool.specs.declared.pool_answers.CheckOut.TheVariants.{Use, Open
 use Rattle.wire_pool.specs.Loans.{loan_of, without}
 use Rattle.wire_pool.specs.Pools.{IsGiven, id_after}
 
--- an id up to this one was given, once this one was
+-- after this id is given, each id up to it was given
 pub given_upto : (id k : ℕ) → k ≤ id → IsGiven (id_after id) k
 given_upto id k le = by (id == 2 ^ 64 - 1)
   where
@@ -36,7 +36,7 @@ of_loan P id (l ∷ lent) loan e all = by (l.id == id) refl e (λ found. of_loan
     by true is found rest = subst P (eqb-true l.id id is) (All-head (λ (x : Loan). P x.id) l lent all)
     by false is found rest = rest found
 
--- no more loans are left than there were
+-- taking one loan out leaves no more loans
 pub no_more : (id : ℕ) (lent : List Loan) → length (without id lent) ≤ length lent
 no_more id [] = omega arith
 no_more id (l ∷ lent) = by (l.id == id) (no_more id lent)
@@ -45,7 +45,7 @@ no_more id (l ∷ lent) = by (l.id == id) (no_more id lent)
     by true rest = omega (arith, rest)
     by false rest = omega (arith, rest)
 
--- one fewer at least is left where one was found
+-- taking out a loan that is found leaves at least one loan fewer
 pub one_fewer : (id : ℕ) (lent : List Loan) (loan : Loan) → loan_of id lent ≡ Some loan → length (without id lent) < length lent
 one_fewer id [] loan e = absurd (nothing loan e)
 one_fewer id (l ∷ lent) loan e = by (l.id == id) e (no_more id lent) (one_fewer id lent loan)

@@ -16,7 +16,7 @@ data GivesOne (next : Option ℕ) (ids : List ℕ) (after : Option ℕ) : Type 0
   none : ids ≡ [] → after ≡ next → GivesOne next ids after
   one : (id : ℕ) → next ≡ Some id → ids ≡ id ∷ [] → after ≡ id_after id → GivesOne next ids after
 
--- what a check out answers gives no new id, or the next one
+-- a check out gives no new id, or the next one
 abbrev Answers : PoolSeen → CheckOut × PoolSeen → Type 0
 Answers p r = GivesOne p.next (opened r.0) r.1.next
 
@@ -86,11 +86,11 @@ join next after ids later (one id is e f) r =
     ) in
     subst (λ (g : List ℕ). RisesFrom next (g ++ later)) (sym e) (subst (λ (n : Option ℕ). RisesFrom n (id ∷ later)) (sym is) rises)
 
--- what a pool gives rises from its next id on
+-- the ids that a pool gives rise from its next id on
 pub rises : (calls : List PoolCall) (p : PoolSeen) → RisesFrom p.next (given_by p calls)
 rises [] p = (All-nil (IsFrom p.next), tt)
 rises (call ∷ calls) p = join p.next (after_call p call).next (given p call) (given_by (after_call p call) calls) (by_call p call) (rises calls (after_call p call))
 
--- a pool without a new id is full where nothing is idle
+-- a pool without a next id is full if nothing is idle
 pub spent : (p : PoolSeen) → p.closed ≡ false → p.idle ≡ [] → p.next ≡ None → checked_out p ≡ (outs.Full, p)
 spent p unclosed idle next = rw (unclosed, idle, next) refl

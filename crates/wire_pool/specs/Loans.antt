@@ -3,7 +3,7 @@ use Rattle.std.specs.Prelude.{ℕ, true, false, not, ◌==◌, List, Option}
 use Rattle.std.specs.List.{filter, find}
 use Rattle.wire_pool.specs.declared.loans.Loan.{Loan}
 
--- the loan of this connection, as it begins
+-- a new loan of this connection
 abbrev pub lending : ℕ → Loan
 lending id = record { id = id; cleared = false }
 

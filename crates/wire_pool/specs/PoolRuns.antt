@@ -1,4 +1,4 @@
--- What a pool gives over many calls.
+-- The ids that a pool gives over many calls.
 use Rattle.std.specs.Prelude.{ℕ, ◌+◌, ◌<◌, ◌==◌, ⊤, All, Bool, if◌then◌else◌, List, [], ◌∷◌, ◌++◌}
 use Rattle.std.specs.Prelude.{Option, Some, None}
 use Rattle.wire_pool.specs.declared.loans.Loan.{Loan}

@@ -14,8 +14,8 @@ pub struct Loan {
 }
 
 impl Loan {
-    /// Returns true if the connection is kept when it is returned, `healthy` or not, to a pool
-    /// that is `closed` or not.
+    /// Returns true if the connection, `healthy` or not, is kept when it is returned to a pool that
+    /// is `closed` or not.
     pub(crate) fn is_kept(self, healthy: bool, closed: bool) -> bool
         ensures { result ≡ (healthy && (not closed && not self.cleared)) }
     {

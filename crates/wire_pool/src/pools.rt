@@ -176,7 +176,7 @@ impl Pool {
         self.lent.clear();
     }
 
-    /// Gives the next new id without lending anything, or `None` if the greatest was given. Works
+    /// Returns the next new id without lending anything, or `None` if the greatest was given. Works
     /// however many are lent, and on a closed pool. Takes no memory.
     pub fn draw(&mut self) -> Option<u64>
         ensures given { result ≡ self.old.next }

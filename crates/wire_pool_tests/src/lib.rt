@@ -1,5 +1,6 @@
-//! Tests of many connections, by what no contract says: that calls succeed where memory is there, and that the definitions mean
-//! a pool. They stand in a crate of their own, since a crate is proved once more with its tests.
+//! Tests of what no contract of pools says: that calls succeed if there is memory, and that the
+//! definitions mean a pool. They are in a crate of their own, since a crate is proved once more
+//! with its tests.
 //!
 //! Stands on wire_pool. Read first: `pools`.
 #![tactic(auto)]

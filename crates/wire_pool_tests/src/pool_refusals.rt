@@ -1,5 +1,5 @@
-//! A test of pools where memory is refused. `scripts/checks/try-refusals` runs it with each of its allocations refused in turn. No other one
-//! is refused then, so a pool is made when it is asked for again.
+//! A test of pools where memory is refused. `scripts/checks/try-refusals` runs it with each of its
+//! allocations refused in turn. Only one is refused in a run, so a second try makes a pool.
 
 use std::alloc::Global;
 use wire_pool::{CheckIn, CheckOut, Pool, PoolRefusal};
@@ -20,7 +20,7 @@ fn is_made(alloc: Global) -> bool {
     }
 }
 
-/// Returns true if a pool is made, and lends one; or is refused where memory runs out, and made then.
+/// Returns true if a pool is made, and lends one, at the second try if memory runs out.
 fn is_made_at_last(alloc: Global) -> bool {
     match Pool::new(alloc, 1) {
         Ok(mut pool) => lends_one(&mut pool),

@@ -1,4 +1,4 @@
-//! A pool: which connections it lends, keeps and drops, and the ids that it gives.
+//! Tests of a pool: which connections it lends, keeps and drops, and the ids that it gives.
 
 use std::alloc::Global;
 use wire_pool::{CheckIn, CheckOut, Pool, PoolRefusal};
@@ -30,7 +30,8 @@ const ONE: [Step; 12] = [
     Step::Out(CheckOut::PoolClosed),
 ];
 
-/// A pool of 3: the connection that came back last goes first, and one that isn't healthy is dropped.
+/// A pool of 3: the connection that came back last goes first, and one that isn't healthy is
+/// dropped.
 const THREE: [Step; 15] = [
     Step::Out(CheckOut::Open(1)),
     Step::Out(CheckOut::Open(2)),
@@ -66,7 +67,7 @@ const DRAWN: [Step; 13] = [
     Step::Out(CheckOut::PoolClosed),
 ];
 
-/// Returns true if the call answers so.
+/// Returns true if the call has the answer of `step`.
 fn answers(pool: &mut Pool, step: Step) -> bool {
     match step {
         Step::Out(answer) => pool.peek() == answer && pool.check_out() == answer,
@@ -91,7 +92,7 @@ fn answers(pool: &mut Pool, step: Step) -> bool {
     }
 }
 
-/// Returns true if each call in turn answers so.
+/// Returns true if each call in turn has its answer.
 fn answer_all(pool: &mut Pool, steps: &[Step]) -> bool {
     for step in steps {
         if !answers(pool, *step) {
@@ -101,7 +102,7 @@ fn answer_all(pool: &mut Pool, steps: &[Step]) -> bool {
     true
 }
 
-/// Returns true if a pool of this greatest number is made, and the calls answer so.
+/// Returns true if a pool of at most `max` connections is made, and each call has its answer.
 fn holds(alloc: Global, max: usize, steps: &[Step]) -> bool {
     match Pool::new(alloc, max) {
         Ok(mut pool) => answer_all(&mut pool, steps),
@@ -124,7 +125,7 @@ fn drawn_ids_are_never_lent(rt: HostRuntime) {
     assert!(rt; holds(rt.alloc(), 1, &DRAWN));
 }
 
-/// Returns true if no pool of this greatest number is made, for refusal 1.
+/// Returns true if a pool of at most `max` connections is refused as `BadMax`.
 fn is_refused(alloc: Global, max: usize) -> bool {
     match Pool::new(alloc, max) {
         Ok(_) => false,

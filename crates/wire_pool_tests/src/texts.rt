@@ -1,4 +1,4 @@
-//! What the refusals of a pool are printed as.
+//! Tests of the texts of a pool's refusals.
 
 use std::alloc::Global;
 use wire_pool::PoolRefusal;

@@ -1,4 +1,4 @@
--- Messages that are gathered out of pieces are those of the split.
+-- The messages that are gathered from pieces are those of the split.
 use Rattle.std.proofs.Common.{◌≡◌, ◌≢◌, Bool, Bor, true, false, ℕ, ◌+◌, ◌-◌, ◌<◌, ◌≤◌, List, [], ◌∷◌, ◌++◌, length, take, drop, refl, sym, ap, subst, ◌∙◌, arith, append_assoc, append-nil, length-append, length-drop, length-take, take-add, take-append-drop, take_all, get_or}
 use Rattle.std.proofs.Math.Seq.{take-append_seam, take-length}
 use Rattle.std.proofs.lemmas.Grind.{flat_map-append}
@@ -29,7 +29,7 @@ each-push limit [] (x ∷ found) m b each s le = absurd each
 each-push limit (n ∷ ms) [] m b each s le = absurd each
 each-push limit (n ∷ ms) (x ∷ found) m b each s le = (each.0, each.1, each-push limit ms found m b each.2 s le)
 
--- messages spelled one by one are spelled by what is joined
+-- messages that are spelled one by one are spelled by the joined bytes
 each_spelled : (limit : ℕ) (ms : List Message) (found : List (List ℕ)) → SpellEach limit ms found → AreSpelled limit ms (joined found)
 each_spelled limit [] [] each = refl
 each_spelled limit [] (x ∷ found) each = absurd each
@@ -63,7 +63,7 @@ moved_out limit bytes held m new found more is same none i g = record {
 
 -- ---- one more feed
 
--- what a reader that wants more was fed of what is left of a piece
+-- a reader that needs more was fed what is left of a piece
 pub fed_at : (l limit : ℕ) (held piece new : List ℕ) (fed : Fed) → l ≡ limit → IsOpen limit held → (IsOpen l held → Feeds l held piece new fed) → Feeds limit held piece new fed
 fed_at l limit held piece new fed e o f = subst (λ (x : ℕ). Feeds x held piece new fed) e (f (subst (λ (x : ℕ). IsOpen x held) (sym e) o))
 
@@ -103,7 +103,8 @@ smaller limit held piece new m rest at fed le f same s none =
 abbrev NoneBegins : ℕ → List ℕ → Type 0
 NoneBegins limit rest = (m : Message) (after : List ℕ) → IsWhole limit rest m after → ⊥
 
--- Bytes are split in one way at most. What messages spell are bytes, and the rests needn't be.
+-- Bytes split in one way at most. Only the bytes of the messages have to be below 256, not those of
+-- the rests.
 split_once : (limit : ℕ) (ms ns : List Message) (j k rest after : List ℕ) → AreSpelled limit ms j → AreSpelled limit ns k → j ++ rest ≡ k ++ after → NoneBegins limit rest → NoneBegins limit after → (ms ≡ ns) × (rest ≡ after)
 split_once limit [] [] j k rest after a b is none none' = (refl, ap (λ (x : List ℕ). x ++ rest) (sym a) ∙ is ∙ ap (λ (x : List ℕ). x ++ after) b)
 split_once limit [] (n ∷ ns) j k rest after a b is none none' =
@@ -152,7 +153,7 @@ cuts_open limit bytes held found g o =
       of_rest = all o refl;
     }
 
--- bad bytes stay bad, whatever comes behind them
+-- bad bytes stay bad, whatever follows them
 pub cuts_bad : (limit : ℕ) (bytes taken untaken held : List ℕ) (found : List (List ℕ)) (f : MsgFault) → bytes ≡ taken ++ untaken → Gathered limit taken found held → IsBad limit held f → HoldsNoMore limit held → Cuts limit bytes found held
 cuts_bad limit bytes taken untaken held found f is g at no_more =
     let parts : bytes ≡ joined found ++ (held ++ untaken) = is ∙ ap (λ (x : List ℕ). x ++ untaken) g.parts ∙ append_assoc (joined found) held untaken in
@@ -172,9 +173,9 @@ cuts_bad limit bytes taken untaken held found f is g at no_more =
       of_rest = bad f untaken at no_more refl;
     }
 
--- ---- want of memory
+-- ---- out of memory
 
--- a good header behind what was gathered
+-- a good header after what was gathered
 announces : (limit : ℕ) (bytes held more : List ℕ) (found : List (List ℕ)) → Gathered limit bytes found held → 16 ≤ length (held ++ more) → IsGoodHeader limit (header_of (held ++ more)) → AnnouncesMore limit (bytes ++ more)
 announces limit bytes held more found g long good = record {
   messages = g.messages;
@@ -189,13 +190,13 @@ announces limit bytes held more found g long good = record {
 cut_at : (bytes piece : List ℕ) (at : ℕ) → (bytes ++ take at piece) ++ drop at piece ≡ bytes ++ piece
 cut_at bytes piece at = append_assoc bytes (take at piece) (drop at piece) ∙ ap (λ (x : List ℕ). bytes ++ x) (take-append-drop at piece)
 
--- the reader was refused memory for a message
+-- there was no memory for a message
 pub none_for_message : (l limit : ℕ) (bytes held piece : List ℕ) (found : List (List ℕ)) (at : ℕ) → l ≡ limit → Gathered limit (bytes ++ take at piece) found held → CompletesHeader l held (take (length piece - at) (drop at piece)) → AnnouncesMore limit (bytes ++ piece)
 none_for_message l limit bytes held piece found at e g h =
     let c : CompletesHeader limit held (drop at piece) = subst (λ (x : List ℕ). CompletesHeader limit held x) (tail_is at piece) (subst (λ (k : ℕ). CompletesHeader k held (take (length piece - at) (drop at piece))) e h) in
     subst (AnnouncesMore limit) (cut_at bytes piece at) (announces limit (bytes ++ take at piece) held (drop at piece) found g c.after c.good)
 
--- the list of messages was refused memory
+-- there was no memory for the list of messages
 pub none_for_list : (limit : ℕ) (bytes held m piece : List ℕ) (found : List (List ℕ)) (at : ℕ) → Gathered limit (bytes ++ take at piece) found held → m ≡ held → IsMessage limit m → AnnouncesMore limit (bytes ++ piece)
 none_for_list limit bytes held m piece found at g same i =
     let more : List ℕ = drop at piece in
@@ -203,7 +204,7 @@ none_for_list limit bytes held m piece found at g same i =
     let r = whole_read limit (held ++ more) more i.1.0 w in
     subst (AnnouncesMore limit) (cut_at bytes piece at) (announces limit (bytes ++ take at piece) held more found g (omega (arith, r.least, r.sum)) r.good)
 
--- more bytes leave the header there
+-- the header is still there if more bytes follow
 announces_longer : (limit : ℕ) (bytes more : List ℕ) → AnnouncesMore limit bytes → AnnouncesMore limit (bytes ++ more)
 announces_longer limit bytes more a = record {
   messages = a.messages;
@@ -224,11 +225,11 @@ Piece = Bor (List ℕ)
 abbrev told : List Piece → List ℕ
 told pieces = flat_map (λ piece. piece.now) pieces
 
--- the pieces before one, and it
+-- the pieces up to and with one
 up_to : (pieces : List Piece) (i : ℕ) (d : Piece) → i < length pieces → told (take (i + 1) pieces) ≡ told (take i pieces) ++ (get_or pieces i d).now
 up_to pieces i d lt = ap told (take_more pieces i d lt) ∙ flat_map-append (λ piece. piece.now) (take i pieces) (get_or pieces i d ∷ []) ∙ ap (λ (q : List ℕ). told (take i pieces) ++ q) (append-nil (get_or pieces i d).now)
 
--- those before it and some of it, the rest of it and those behind it
+-- the pieces before it and some of it, the rest of it, and the pieces after it
 around : (pieces : List Piece) (i n : ℕ) (d : Piece) → i < length pieces → told pieces ≡ (told (take i pieces) ++ take n (get_or pieces i d).now) ++ (drop n (get_or pieces i d).now ++ told (drop (i + 1) pieces))
 around pieces i n d lt =
     let before : List ℕ = told (take i pieces) in
@@ -248,7 +249,7 @@ whole_piece l limit pieces i d found more held new fed e lt before g need =
     let whole : take fed.taken x ≡ x = ap (λ (k : ℕ). take k x) (g.all need) ∙ take-length x in
     subst (λ (b : List ℕ). Gathered limit b more new) (ap (λ (q : List ℕ). told (take i pieces) ++ q) whole ∙ sym (up_to pieces i d lt)) on
 
--- the reader wants more then
+-- then the reader needs more
 pub wants_on : (l limit : ℕ) (found more : List (List ℕ)) (held piece new : List ℕ) (fed : Fed) → l ≡ limit → Gathers l found held piece more new fed → fed.state ≡ Need → IsOpen limit new
 wants_on l limit found more held piece new fed e g need = subst (λ (k : ℕ). IsOpen k new) e (subst (StandsAt l new) need g.state)
 
@@ -257,7 +258,7 @@ stands_bad limit b Need at wants ready = absurd (wants refl)
 stands_bad limit b Ready at wants ready = absurd (ready refl)
 stands_bad limit b (Bad f) at wants ready = (f, at)
 
--- a piece shows bad bytes
+-- in a piece the bytes turn out to be bad
 pub bad_piece : (l limit : ℕ) (pieces : List Piece) (i : ℕ) (d : Piece) (found more : List (List ℕ)) (held new : List ℕ) (fed : Fed) → l ≡ limit → i < length pieces → Gathered limit (told (take i pieces)) found held → Gathers l found held (get_or pieces i d).now more new fed → fed.state ≢ Need → Cuts limit (told pieces) more new
 bad_piece l limit pieces i d found more held new fed e lt before g wants =
     let x : List ℕ = (get_or pieces i d).now in
@@ -269,7 +270,7 @@ bad_piece l limit pieces i d found more held new fed e lt before g wants =
 pub no_more_pieces : (limit : ℕ) (pieces : List Piece) (i : ℕ) (found : List (List ℕ)) (held : List ℕ) → length pieces ≤ i → Gathered limit (told (take i pieces)) found held → IsOpen limit held → Cuts limit (told pieces) found held
 no_more_pieces limit pieces i found held le g o = cuts_open limit (told pieces) held found (subst (λ (x : List Piece). Gathered limit (told x) found held) (take_all i pieces le) g) o
 
--- memory was wanting in a piece
+-- memory ran out in a piece
 pub none_in_piece : (l limit : ℕ) (pieces : List Piece) (i : ℕ) (d : Piece) (found : List (List ℕ)) (held : List ℕ) → l ≡ limit → i < length pieces → Gathered limit (told (take i pieces)) found held → ((bytes : List ℕ) → Gathered l bytes found held → AnnouncesMore l (bytes ++ (get_or pieces i d).now)) → AnnouncesMore limit (told pieces)
 none_in_piece l limit pieces i d found held e lt before refused =
     let x : List ℕ = (get_or pieces i d).now in

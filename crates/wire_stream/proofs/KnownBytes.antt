@@ -1,16 +1,16 @@
--- How what calls did to known bytes goes together.
+-- What several calls did to known bytes, taken together.
 use Rattle.std.proofs.Common.{◌≡◌, ℕ, ◌+◌, ◌-◌, ◌≤◌, List, ◌++◌, length, take, drop, Option, sym, ap, ◌∙◌, arith, append_assoc, take-add, take-append-drop, length-take}
 use Rattle.std.proofs.lemmas.List.{drop-take, drop-drop}
 use Rattle.std.proofs.Math.Seq.{take-append_seam}
 use Rattle.std.proofs.KnownBytes.{Appends-trans}
 use Rattle.std.specs.Io.KnownBytes.{Appends}
 
--- what a copy put in front
+-- a copy of n bytes to the front of a buffer
 pub copied : (input buf new : List ℕ) (at n : ℕ) → new ≡ take n (drop at input) → length new ≡ n → take (at + n) input ≡ take at input ++ take n (new ++ drop n buf)
 copied input buf new at n e l =
     take-add at n input ∙ ap (λ q. take at input ++ q) (sym e ∙ sym (take-append_seam new (drop n buf)) ∙ ap (λ k. take k (new ++ drop n buf)) l)
 
--- one more send
+-- what was sent, with one more send
 pub sent_on : (a b c : Option (List ℕ)) (all gone rest out rest' : List ℕ) (n : ℕ) → Appends a b gone → all ≡ gone ++ rest → out ≡ rest → Appends b c (take n out) → rest' ≡ drop n rest
     → (more : List ℕ) × Appends a c more × (all ≡ more ++ rest')
 sent_on a b c all gone rest out rest' n k e o l f = (

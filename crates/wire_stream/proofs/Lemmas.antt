@@ -1,3 +1,3 @@
--- The lemmas that proofs of other crates stand on.
+-- The lemmas that proofs of other crates use.
 
 pub use Rattle.wire_stream.proofs.Turns.{AddsTurns-nil, AddsTurns-trans}

@@ -1,17 +1,17 @@
--- What an output holds once a message was written behind its bytes.
+-- What an output holds after a message was appended.
 use Rattle.std.proofs.Common.{◌≡◌, ℕ, ℤ, ◌≤◌, List, ◌++◌, length, drop, Result, Ok, Err, OnOk, OnErr, arith, length-append, ◌∙◌, ap}
 use Rattle.std.proofs.lemmas.List.{drop-append-le}
 use Rattle.wire_msg.specs.declared.flags.MsgFlags.{MsgFlags}
 use Rattle.wire_msg.specs.Messages.{Content}
 use Rattle.wire_msg.specs.Spelling.{canonical}
 
--- bytes that grew or stayed have at least the place that they had
+-- bytes that grew or stayed the same are at least as long as they were
 pub start_stays : {A E : Type 0} (r : Result A E) (old new added : List ℕ) (start : ℕ)
     → start ≤ length old → OnOk r (new ≡ old ++ added) → OnErr r (new ≡ old) → start ≤ length new
 start_stays (Ok x) old new added start le grown kept = omega (arith, ap length grown, length-append old added)
 start_stays (Err e) old new added start le grown kept = omega (arith, ap length kept)
 
--- what is added behind the bytes is added behind those that weren't sent
+-- what is appended to all the bytes is appended to those that weren't sent
 pub added_behind : {A E : Type 0} (r : Result A E) (old new added same : List ℕ) (start : ℕ)
     → start ≤ length old → added ≡ same → OnOk r (new ≡ old ++ added) → OnOk r (drop start new ≡ drop start old ++ same)
 added_behind (Ok x) old new added same start le e grown = ap (drop start) grown ∙ drop-append-le start old added le ∙ ap (λ (a : List ℕ). drop start old ++ a) e

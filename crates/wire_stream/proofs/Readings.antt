@@ -1,4 +1,4 @@
--- How the bytes that a reader holds stand.
+-- The bytes that a reader holds, and its state.
 use Rattle.std.proofs.Common.{◌≡◌, ◌≢◌, ℕ, ◌+◌, ◌-◌, ◌<◌, ◌≤◌, inl, inr, List, [], ◌++◌, Option, Some, None, IfNone, IfSome, Result, Ok, Err, OnErr, Vec, length, take, drop, min, vec_capacity, refl, sym, ap, subst, ◌∙◌, arith, append_assoc, append-nil, length-append, length-take, length-drop, take-append-drop, take-add}
 use Rattle.std.specs.declared.alloc.Global.{Global}
 use Rattle.std.proofs.Math.Seq.{take-length}
@@ -14,7 +14,7 @@ use Rattle.wire_stream.specs.declared.reader_state.ReaderState.TheVariants.{Need
 use Rattle.wire_stream.specs.Holding.{IsBegun, IsKept, held_of}
 use Rattle.wire_stream.specs.Readers.{CompletesHeader, Feeds, IsRoom, announced, bad_header as no_room_bad, in_header as no_room, StandsAt}
 
--- what holds anyway holds of an error
+-- what holds in any case holds for an error
 pub on_err : {A E : Type 0} (r : Result A E) (P : Type 0) → P → OnErr r P
 on_err (Ok x) P p = tt
 on_err (Err e) P p = p
@@ -87,7 +87,7 @@ IsNeed (Bad f) = ⊥
 bad_not_need : (f : MsgFault) → Bad f ≡ Need → ⊥
 bad_not_need f e = subst IsNeed (sym e) tt
 
--- what a header has in front stays when more of it is filled
+-- the bytes that a header has stay when more of it is filled
 pub front_kept : (old new piece : List ℕ) (len n : ℕ) → len ≤ length old → take (len + n) new ≡ take len old ++ take n piece → take len new ≡ take len old
 front_kept old new piece len n le is =
     let size : length (take len old) ≡ len = omega (arith, length-take len old, le) in
@@ -95,7 +95,7 @@ front_kept old new piece len n le is =
     let b : take len (take len old ++ take n piece) ≡ take len old = take-append-le len (take len old) (take n piece) (omega (arith, size)) ∙ take-take len len old (omega arith) in
     sym a ∙ ap (take len) is ∙ b
 
--- a header that is filled whole begins what was there and the piece
+-- a header that was filled whole is at the front of what was there and the piece
 pub header_in_front : (old new piece : List ℕ) (len n : ℕ) → length new ≡ 16 → len + n ≡ 16 → take (len + n) new ≡ take len old ++ take n piece → new ++ drop n piece ≡ take len old ++ piece
 header_in_front old new piece len n size sum is =
     let whole : take (len + n) new ≡ new = ap (λ (k : ℕ). take k new) (omega (arith, sum, size)) ∙ take-length new in
@@ -157,7 +157,7 @@ still_open limit b x Need at le o = o
 still_open limit b x Ready at le o = absurd (omega (arith, long_message limit b at, le))
 still_open limit b x (Bad f) at le o = absurd (omega (arith, bad_long limit b f at, le))
 
--- what stands after a piece, where the reader goes on to keep these
+-- after a piece, where the reader keeps these from then on
 pub record IsFed (limit : ℕ) (old piece : List ℕ) (header : List ℕ) (len : ℕ) (message : Option (Vec ℕ Global)) (fed : Fed) : Type 0 where
   pub kept : IsKept limit header len message
   pub state : StandsAt limit (held_of header len message) fed.state
@@ -182,7 +182,7 @@ bad_fed limit old new piece len n None f kept le size full count is fault =
     record { kept = inr (sum, (f, fault)); state = feeds.state; feeds = feeds }
 bad_fed limit old new piece len n (Some message) f kept le size full count is fault = absurd (omega (arith, kept.header, le))
 
--- the same is held where memory is wanting
+-- if memory runs out, the same bytes are held
 pub record IsRefused (limit : ℕ) (old new piece : List ℕ) (len : ℕ) (message : Option (Vec ℕ Global)) : Type 0 where
   pub kept : IsKept limit new len message
   pub same : held_of new len message ≡ held_of old len message
@@ -199,7 +199,7 @@ refused_fed limit old new piece len n None kept le before size full count is goo
     }
 refused_fed limit old new piece len n (Some message) kept le before size full count is good = absurd (omega (arith, kept.header, le))
 
--- what stands from an offset on
+-- the bytes from an offset on
 pub tail_is : (n : ℕ) (xs : List ℕ) → take (length xs - n) (drop n xs) ≡ drop n xs
 tail_is n xs = ap (λ (k : ℕ). take k (drop n xs)) (sym (length-drop n xs)) ∙ take-length (drop n xs)
 
@@ -249,12 +249,12 @@ message_room limit header len None v n kept is e = absurd (some_not_none v (sym 
 message_room limit header len (Some message) v n kept is e =
     announced kept.header kept.good (e ∙ ap (λ (x : Option (Vec ℕ Global)). number_at (held_of header len x) 0) (sym is))
 
--- no message is ready where there is no more than a header
+-- no message is ready if there are no more bytes than a header
 pub header_no_message : (limit : ℕ) (header : List ℕ) (len : ℕ) (message : Option (Vec ℕ Global)) → IsKept limit header len message → length header ≡ 16 → message ≡ None → IsMessage limit (held_of header len message) → ⊥
 header_no_message limit header len message kept size is i =
     absurd (omega (arith, long_message limit (held_of header len message) i, header_len limit header len message kept size is, held_in_header limit header len message kept is))
 
--- the header isn't complete where more bytes are wanted and there is no message
+-- the header isn't complete if more bytes are needed and there is no message
 pub header_open : (limit : ℕ) (header : List ℕ) (len : ℕ) (message : Option (Vec ℕ Global)) (s : ReaderState) → IsKept limit header len message → length header ≡ 16 → StandsAt limit (held_of header len message) s → s ≡ Need → message ≡ None → length (held_of header len message) < 16
 header_open limit header len None s (inl lt) size at is none = omega (arith, lt, size, length-take len header)
 header_open limit header len None s (inr e) size at is none =
@@ -262,7 +262,7 @@ header_open limit header len None s (inr e) size at is none =
     absurd (open_not_bad limit (take len header) e.1.0 (subst (StandsAt limit (take len header)) is at) (subst (λ (x : List ℕ). IsBad limit x e.1.0) (sym whole) (bad_header (omega (arith, size)) e.1.1)))
 header_open limit header len (Some message) s kept size at is none = absurd (some_not_none message none)
 
--- nothing is let go where no message is ready
+-- nothing is dropped if no message is ready
 pub kept_all : (limit : ℕ) (held : List ℕ) (r : Option (List ℕ)) (Same Gone : Type 0) → IfSome r (λ m. (m ≡ held) × IsMessage limit m × Gone) → IfNone r Same → (IsMessage limit held → ⊥) → Same
 kept_all limit held None Same Gone some none unready = none
 kept_all limit held (Some m) Same Gone some none unready = absurd (unready (subst (IsMessage limit) some.0 some.1))

@@ -1,4 +1,4 @@
--- How turns that were added go together.
+-- Turns that were added in several calls, taken together.
 use Rattle.std.proofs.Common.{List, [], ◌++◌, Option, Some, None, sym, ap, ◌∙◌, append_assoc, append-nil}
 use Rattle.wire_stream.specs.{AddsTurns, Turn}
 

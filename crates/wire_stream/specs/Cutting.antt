@@ -16,16 +16,16 @@ SpellEach limit [] [] = Unit {0}
 SpellEach limit (m ∷ ms) (b ∷ bs) = SpellsMsg m b × (length b ≤ limit) × SpellEach limit ms bs
 SpellEach limit messages found = ⊥
 
--- What is held of a rest: all of it if it is open; otherwise the 16 bytes of a bad header, or the
--- bytes that a good header announces.
+-- What a reader holds of a rest: all of it if it is open; otherwise the 16 bytes of a bad header,
+-- or the bytes that a good header announces.
 pub data IsHeldOf : ℕ → List ℕ → List ℕ → Type 0 where
   all : {limit : ℕ} {rest held : List ℕ} → IsOpen limit rest → held ≡ rest
       → IsHeldOf limit rest held
   bad : {limit : ℕ} {rest held : List ℕ} (f : MsgFault) (untaken : List ℕ) → IsBad limit held f
       → HoldsNoMore limit held → rest ≡ held ++ untaken → IsHeldOf limit rest held
 
--- The bytes split into messages and a rest, in one way. The messages were found, in the spellings
--- that they have there, and this is held of the rest.
+-- The bytes split into messages and a rest, in exactly one way. Found are the bytes of each
+-- message, in order, and held is what a reader holds of the rest.
 pub record Cuts (limit : ℕ) (bytes : List ℕ) (found : List (List ℕ)) (held : List ℕ) : Type 0 where
   pub messages : List Message
   pub rest : List ℕ

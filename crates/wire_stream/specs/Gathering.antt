@@ -13,8 +13,8 @@ pub record Gathered (limit : ℕ) (bytes : List ℕ) (found : List (List ℕ))
   pub spelled : SpellEach limit messages found
   pub parts : bytes ≡ joined found ++ held
 
--- A reader that held the old bytes was fed the piece until it needed more or met bad bytes. It
--- holds the new bytes now.
+-- A reader that held the old bytes was fed the piece until it needed more or met bad bytes, and
+-- each message that became whole was moved out. It holds the new bytes now.
 pub record Gathers (limit : ℕ) (found : List (List ℕ)) (old piece : List ℕ) (more : List (List ℕ))
     (new : List ℕ) (fed : Fed) : Type 0 where
   pub taken : fed.taken ≤ length piece

@@ -20,14 +20,13 @@ count_of (Err fault) = Err tt
 abbrev pub Rose : ℕ → ℕ → Type 0
 Rose old new = new ≡ min (old + 1) (2 ^ 64 - 1)
 
--- A `recv` with room for this many bytes had this result. The count of ends rose if it gave none of
--- the bytes that it had room for, and otherwise stayed the same.
+-- A `recv` with room for this many bytes had this result. The count of ends rose if there was room
+-- and it gave 0 bytes, and otherwise stayed the same.
 abbrev pub TellsEnd : ℕ → Result Moved LinkFault → ℕ → ℕ → Type 0
 TellsEnd (suc room) (Ok (Bytes zero)) old new = Rose old new
 TellsEnd room result old new = new ≡ old
 
--- The count of waits rose if the call returned that no byte can be moved now, and otherwise stayed
--- the same.
+-- The count of waits rose if the call returned `Later`, and otherwise stayed the same.
 abbrev pub TellsLater : Result Moved LinkFault → ℕ → ℕ → Type 0
 TellsLater (Ok Later) old new = Rose old new
 TellsLater result old new = new ≡ old
@@ -37,7 +36,7 @@ pub record Turn : Type 0 where
   pub received : Option (List ℕ)
   pub sent : Option (List ℕ)
 
--- The turns that a link showed stay, and these follow them.
+-- If the link shows its turns, these were added to them.
 abbrev pub AddsTurns : Option (List Turn) → Option (List Turn) → List Turn → Type 0
 AddsTurns None new more = Unit {0}
 AddsTurns (Some old) None more = ⊥

@@ -2,9 +2,9 @@
 use Rattle.std.specs.Prelude.{ℕ, zero, suc, List, min, Option, Some, None, Bool, true, false}
 
 -- What a caller sees of a link in memory: the bytes that were received, those that are left to
--- receive, the bytes that were sent, how many more there is room for, how many bytes a call moves
--- at most, how many calls come before the one that fails, if one does, how many calls failed, and
--- how many returned the end.
+-- receive, the bytes that were sent, how many more may be sent, how many bytes a call moves at
+-- most, after how many more calls one fails, if one does, how many calls failed, and how many
+-- returned the end.
 pub record Memory : Type 0 where
   pub received : List ℕ
   pub left : List ℕ
@@ -15,7 +15,8 @@ pub record Memory : Type 0 where
   pub failures : ℕ
   pub ends : ℕ
 
--- the number of bytes that a call moves, by the most that it may, those asked for, and those there
+-- the number of bytes that a call moves: the least of how many it may move, how many are asked for,
+-- and how many are there
 abbrev pub moved : ℕ → ℕ → ℕ → ℕ
 moved most wanted there = min (min wanted there) most
 

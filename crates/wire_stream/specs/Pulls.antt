@@ -5,15 +5,16 @@ use Rattle.wire_stream.specs.declared.inlet.Pulled.{Pulled}
 use Rattle.wire_stream.specs.declared.inlet.Pulled.TheVariants.{Bytes, End, Later}
 use Rattle.wire_stream.specs.Links.{Rose}
 
--- The pull came to this result, holds these bytes now, and the link told its end in it or didn't:
--- bytes are held, or the end was told in this pull, or none came, or the link failed.
+-- After a pull with this result the inlet holds these bytes. With `Bytes` it holds some. With `End`
+-- it holds none, and the link's count of ends rose; otherwise that count stayed the same. With
+-- `Later` it holds none.
 abbrev pub IsPulled : Result Pulled LinkFault → List ℕ → ℕ → ℕ → Type 0
 IsPulled (Ok Bytes) held old new = (held ≢ []) × (new ≡ old)
 IsPulled (Ok End) held old new = (held ≡ []) × Rose old new
 IsPulled (Ok Later) held old new = (held ≡ []) × (new ≡ old)
 IsPulled (Err fault) held old new = new ≡ old
 
--- The pull told that none can come now, or didn't.
+-- The link's count of waits rose if the pull returned `Later`, and otherwise stayed the same.
 abbrev pub PullsLater : Result Pulled LinkFault → ℕ → ℕ → Type 0
 PullsLater (Ok Later) old new = Rose old new
 PullsLater result old new = new ≡ old

@@ -3,7 +3,7 @@
 //! A `MsgReader` makes messages of bytes that come in pieces. A `Link` moves bytes both ways, may
 //! fail, and may have none to move yet. An `Inlet` holds the piece that a link gave last, and
 //! `flush` sends what an `Outlet`, such as an `OutBuf`, has waiting. Nothing here looks into a
-//! message, but at its length, except by the contract of wire_msg.
+//! message beyond its length, except by calls of wire_msg.
 //!
 //! Uses wire_msg. Used by wire_peer. Read first: `reader`, and then `link`.
 #![tactic(auto)]

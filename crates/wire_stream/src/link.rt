@@ -16,7 +16,7 @@ pub struct LinkFault {
     pub kind: ErrorKind,
 }
 
-/// What a call of a link did that didn't fail.
+/// What a call of a link did, if it didn't fail.
 #[derive(Clone, Copy, Debug, PartialEq, Eq)]
 pub enum Moved {
     /// This many bytes were moved.
@@ -31,13 +31,13 @@ pub trait Link {
     ghost received: { Self → Option (List ℕ) };
     // The bytes sent since the link was made, if the link shows them.
     ghost sent: { Self → Option (List ℕ) };
-    // What had been received and sent before each call of `recv`, if the link shows it.
+    // What had been received and sent before each call of `recv`, in order, if the link shows it.
     ghost turns: { Self → Option (List Turn) };
     // The number of calls that failed, counted up to 2 ^ 64 - 1.
     ghost failures: { Self → ℕ };
     // The number of calls of `recv` that returned the end of the link, counted up to 2 ^ 64 - 1.
     ghost ends: { Self → ℕ };
-    // How often a call told `Later`, counted up to 2 ^ 64 - 1.
+    // The number of calls that returned `Later`, counted up to 2 ^ 64 - 1.
     ghost waits: { Self → ℕ };
 
     /// Receives bytes into the front of `buffer`, and returns how many. 0 means that the link has

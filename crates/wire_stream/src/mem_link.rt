@@ -139,7 +139,7 @@ impl MemLink {
         LinkFault { kind }
     }
 
-    /// Moves bytes of the input to the front of `buffer`, as many as a call may, and returns how
+    /// Moves as many bytes of the input as a call may to the front of `buffer`, and returns how
     /// many.
     fn give(&mut self, buffer: &mut [u8]) -> usize
         ensures count { result ≡ moved self.old.most (length buffer.old) (length self.old.left) }

@@ -25,23 +25,23 @@ pub trait Outlet {
         requires { n ≤ length (waiting self.old) }
         ensures { self.new ≡ with_waiting self.old (drop n (waiting self.old)) };
 
-    // Bytes that were put in are waiting.
+    // The bytes that are put in are the waiting ones.
     ghost waits: { (o : Self) (bytes : List ℕ) → waiting (with_waiting o bytes) ≡ bytes };
 
-    // Putting in the waiting bytes again changes nothing.
+    // Putting in the bytes that are waiting changes nothing.
     ghost unchanged: { (o : Self) → with_waiting o (waiting o) ≡ o };
 
-    // Only what was put in last counts.
+    // The bytes that are put in last replace those that were put in before.
     ghost last: { (o : Self) (first then : List ℕ)
         → with_waiting (with_waiting o first) then ≡ with_waiting o then };
 }
 
-/// What `flush` came to.
+/// The outcome of `flush`.
 #[derive(Clone, Copy, Debug, PartialEq, Eq)]
 pub enum Flushed {
     /// All bytes were sent.
     All,
-    /// The link takes no more bytes now. Those that weren't sent still wait.
+    /// The link takes no more bytes now. Those that weren't sent are still waiting.
     Later,
 }
 

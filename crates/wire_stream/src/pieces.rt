@@ -25,8 +25,8 @@ pub struct PiecesRead {
 ///
 /// # Errors
 ///
-/// Returns `OutOfMemory` if memory runs out, for a message that a good header announces or for the
-/// list of them.
+/// Returns `OutOfMemory` if memory runs out: for a message that a good header announces, or for the
+/// list of messages.
 pub fn read_pieces(alloc: Global, limit: u32, pieces: &[&[u8]]) -> Result<PiecesRead, ReadRefusal>
     requires { limit ≤ 48_000_000 }
     ensures limit { IfOk result (λ read. read.reader.limit ≡ limit) }

@@ -7,10 +7,11 @@ ghost use Rattle.wire_stream.specs.Links.{Rose, TellsEnd, TellsLater, bytes_move
 use crate::link::{Link, LinkFault, Moved};
 use std::io::{ErrorKind, Read, Write};
 
-/// A link over a stream such as `TcpStream`. It leaves its bytes untold, since no contract can say
-/// what a socket carries; of a stream that tells its own, it gives the bytes that were read, and
-/// writes those that it counts. A call that was interrupted is made again, and one that would block
-/// moves no byte and is no failure. A call that sends nothing of some bytes counts as a failure.
+/// A link over a stream such as `TcpStream`. As a `Link` it shows no bytes, since no contract can
+/// say what a socket carries. Of a stream that shows its bytes, `recv` gives those that were read,
+/// and `send` writes as many as it returns. A call that was interrupted is made again. One that
+/// would block returns `Later` and is no failure. A `write` that takes none of some bytes is a
+/// failure.
 #[derive(Drop)]
 pub struct TcpLink<S: Read + Write + Drop> {
     stream: S,
@@ -35,8 +36,8 @@ impl<S: Read + Write + Drop> TcpLink<S> {
         }
     }
 
-    /// Returns what a call comes to that the stream failed for this reason. A call that would block
-    /// is no failure.
+    /// Returns the result of a call for which the stream gave an error of this `kind`: `Later` if
+    /// it would block, and else a failure. Either is counted.
     fn failed(&mut self, kind: ErrorKind) -> Result<Moved, LinkFault>
         ensures later { IfOk result (λ moved. moved ≡ Moved.Later) }
         ensures never { IfErr result (λ fault. fault.kind ≢ ErrorKind.WouldBlock) }

@@ -1,5 +1,6 @@
-//! Tests of readers, links and outputs, by what no contract says: that calls succeed where memory is there, and what a TCP link does
-//! over a stream. They stand in a crate of their own, since a crate is proved once more with its tests.
+//! Tests of what no contract of readers, links and outputs says: that calls succeed if there is
+//! memory, and what a TCP link does over a stream. They are in a crate of their own, since a crate
+//! is proved once more with its tests.
 //!
 //! Stands on wire_stream. Read first: `readers`.
 #![tactic(auto)]

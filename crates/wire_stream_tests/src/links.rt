@@ -1,4 +1,4 @@
-//! Links in memory: whole, in pieces of one byte, with one call that fails, and full.
+//! Tests of links in memory: whole, in pieces of one byte, with one call that fails, and full.
 
 use bson_raw::RawDocument;
 use std::alloc::Global;
@@ -27,7 +27,7 @@ pub(crate) const REPLY: &[u8; 33] =
 ///
 /// # Errors
 ///
-/// As `push_msg`.
+/// Returns the errors of `push_msg`.
 pub(crate) fn push_payload(out: &mut OutBuf, payload: &PayloadBuf) -> Result<(), MsgRefusal> {
     let flags = MsgFlags {
         more_to_come: true,
@@ -50,7 +50,8 @@ pub(crate) fn push_reply(alloc: Global, out: &mut OutBuf) -> bool {
     }
 }
 
-/// Returns true if flushing the reply over `link` comes to `flushed`, and the link has sent its first `count` bytes then.
+/// Returns true if flushing the reply over `link` returns `flushed`, and the link has then sent the
+/// first `count` bytes of the reply.
 fn sends(
     alloc: Global,
     link: &mut MemLink,
@@ -89,8 +90,8 @@ fn a_message_goes_out_whole(rt: HostRuntime) {
     }
 }
 
-/// Returns true if flushing fails once `count` bytes went out, where at most 10 go out a call and the call after `calls`
-/// others fails.
+/// Returns true if flushing fails after `count` bytes, over a link that moves at most 10 bytes a
+/// call and whose call after `calls` others fails.
 fn stops(alloc: Global, calls: u64, count: usize) -> bool {
     match link_of(alloc, b"", 33) {
         Some(link) => {
@@ -108,7 +109,7 @@ fn a_failed_call_leaves_what_was_not_sent(rt: HostRuntime) {
     }
 }
 
-/// Returns true if flushing fails where there is room for `room` bytes, after these.
+/// Returns true if flushing over a link with room for `room` bytes fails after these.
 fn fills(alloc: Global, room: usize) -> bool {
     match link_of(alloc, b"", room) {
         Some(mut link) => sends(alloc, &mut link, Err(FULL), room),
@@ -123,7 +124,7 @@ fn a_full_link_fails(rt: HostRuntime) {
     }
 }
 
-/// Returns true if the pieces that are pulled are those bytes, one at a time, and then the end twice.
+/// Returns true if pulls give these bytes, one at a time, and then the end twice.
 fn pulls(inlet: &mut Inlet, link: &mut MemLink, bytes: &[u8]) -> bool {
     for byte in bytes {
         if inlet.pull(link) != Ok(Pulled::Bytes) || inlet.bytes() != [*byte].as_slice() {
@@ -159,7 +160,7 @@ fn recovers(link: &mut MemLink) -> bool {
         && link.recv(&mut buffer) == Ok(Moved::Bytes(0))
 }
 
-/// Returns true if a link that fails at its first call goes on.
+/// Returns true if a link whose first call fails goes on after it.
 fn goes_on(alloc: Global) -> bool {
     match link_of(alloc, b"abc", 0) {
         Some(link) => recovers(&mut link.failing_after(0)),
@@ -172,7 +173,7 @@ fn a_link_goes_on_after_a_failure(rt: HostRuntime) {
     assert!(rt; goes_on(rt.alloc()));
 }
 
-/// Returns true if keeping 5 of the reply's bytes leaves these.
+/// Returns true if `keep(5)` leaves the first 5 bytes of the reply.
 fn keeps(alloc: Global) -> bool {
     let mut out = OutBuf::new(alloc);
     if !push_reply(alloc, &mut out) || out.output().len() < 5 {

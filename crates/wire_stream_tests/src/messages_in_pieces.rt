@@ -1,4 +1,5 @@
-//! Messages one behind the other: what a reader leaves in a piece, and how each is let go of or moved out.
+//! Tests of messages one after another: what a reader leaves in a piece, and how each message is
+//! released or moved out.
 
 use crate::readers::{INSERT, LIMIT, PING, has, lends, takes};
 use std::alloc::Global;
@@ -16,7 +17,8 @@ fn reads(reader: &mut MsgReader, piece: &[u8], message: &[u8]) -> bool {
     takes(reader, piece, message.len(), ReaderState::Ready) && lends(reader, message)
 }
 
-/// Returns true if a reader of `PING` takes nothing more until it lets go of it, and holds nothing then.
+/// Returns true if a reader with `PING` ready takes nothing more until it is released, and then
+/// holds nothing.
 fn is_let_go_of(reader: &mut MsgReader) -> bool {
     let waits = takes(reader, INSERT, 0, ReaderState::Ready)
         && has(reader, 51, 51)
@@ -40,7 +42,8 @@ fn two_messages_in_a_piece(rt: HostRuntime) {
     assert!(rt; reads_two(rt.alloc()));
 }
 
-/// Returns true if the reader takes these bytes in two pieces, cut there, as one message that it lets go of.
+/// Returns true if the reader takes `message` in two pieces, cut at offset `at`, as one message,
+/// which is then released.
 fn reads_in_two_pieces(reader: &mut MsgReader, message: &[u8], at: usize) -> bool {
     let Some((first, last)) = message.split_at_checked(at) else {
         return false;
@@ -52,7 +55,7 @@ fn reads_in_two_pieces(reader: &mut MsgReader, message: &[u8], at: usize) -> boo
     read && has(reader, 0, 0)
 }
 
-/// Returns true if one reader reads the message over and over, cut at each place.
+/// Returns true if one reader reads the message over and over, cut at each offset.
 fn reads_each_cut(alloc: Global, message: &[u8]) -> bool {
     let mut reader = MsgReader::new(alloc, LIMIT);
     for at in 0..message.len() {
@@ -77,7 +80,7 @@ fn is_moved_out(taken: Option<MsgBuf>, message: &[u8]) -> bool {
     }
 }
 
-/// Returns true if the reader gives a ready message out once, and goes on with the next one.
+/// Returns true if the reader moves a ready message out once, and goes on with the next one.
 fn gives_out(reader: &mut MsgReader) -> bool {
     is_moved_out(reader.take(), PING)
         && reader.take().is_none()
@@ -85,7 +88,8 @@ fn gives_out(reader: &mut MsgReader) -> bool {
         && reads(reader, INSERT, INSERT)
 }
 
-/// Returns true if a reader gives nothing out of 50 bytes of `PING`, and the message with the last one.
+/// Returns true if a reader moves nothing out after 50 bytes of `PING`, and the message after the
+/// last one.
 fn gives_out_when_ready(alloc: Global) -> bool {
     let (first, last) = PING.split_at(50);
     let mut reader = MsgReader::new(alloc, LIMIT);
@@ -102,7 +106,7 @@ fn a_message_is_moved_out(rt: HostRuntime) {
     assert!(rt; gives_out_when_ready(rt.alloc()));
 }
 
-/// Returns true if a reader of such a limit reads `PING`.
+/// Returns true if a reader with this limit reads `PING`.
 fn reads_within(alloc: Global, limit: u32) -> bool {
     limit <= LIMIT && reads(&mut MsgReader::new(alloc, limit), PING, PING)
 }

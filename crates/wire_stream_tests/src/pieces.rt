@@ -1,4 +1,5 @@
-//! Messages of bytes that come in pieces: two pings cut at every place, and bad bytes behind a ping.
+//! Tests of messages from bytes that come in pieces: two pings cut at every offset, and bad bytes
+//! after a ping.
 
 use std::alloc::Global;
 use wire_msg::{MsgCause, MsgFault};
@@ -31,7 +32,7 @@ fn are_pings(messages: &[MsgBuf]) -> bool {
     true
 }
 
-/// Returns true if these are two pings and nothing behind them.
+/// Returns true if these are two pings, and nothing after them.
 pub(crate) fn is_two_pings(read: &PiecesRead) -> bool {
     read.messages.len() == 2 && are_pings(&read.messages) && read.reader.end() == ReadEnd::Ended
 }
@@ -44,7 +45,7 @@ pub(crate) fn reads_two(alloc: Global, pieces: &[&[u8]]) -> bool {
     }
 }
 
-/// Returns true if two pings are read as two messages where they are cut at this place.
+/// Returns true if two pings are read as two messages if they are cut at this offset.
 fn reads_cut(alloc: Global, at: usize) -> bool {
     let Some(bytes) = two_pings(alloc) else {
         return false;
@@ -87,7 +88,8 @@ fn two_pings_are_read_byte_by_byte(rt: HostRuntime) {
     assert!(rt; reads_bytes(rt.alloc()));
 }
 
-/// Returns true if the last 3 bytes of a ping that ends inside are wanted.
+/// Returns true if a reader of a ping and 48 bytes of another one has one message, and ends inside
+/// the other.
 fn reads_inside(alloc: Global) -> bool {
     match read_pieces(alloc, 48_000_000, [PING, &PING[..48]].as_slice()) {
         Ok(read) => {
@@ -104,7 +106,8 @@ fn a_ping_ends_inside(rt: HostRuntime) {
     assert!(rt; reads_inside(rt.alloc()));
 }
 
-/// Returns true if the reader stands at the header with opcode 2004.
+/// Returns true if one ping was read, and the reader holds the header with opcode 2004 as bad
+/// bytes.
 fn stands_at_old(read: &PiecesRead) -> bool {
     let fault = MsgFault {
         cause: MsgCause::Opcode(2004),
@@ -116,7 +119,7 @@ fn stands_at_old(read: &PiecesRead) -> bool {
         && read.reader.state() == ReaderState::Bad(fault)
 }
 
-/// Returns true if nothing is taken behind a bad header, in its own piece or a later one.
+/// Returns true if nothing is taken after a bad header, from its own piece or a later one.
 fn stops_at_old(alloc: Global) -> bool {
     let pieces: [&[u8]; 4] = [PING, OLD_FRONT, OLD_REST, PING];
     match read_pieces(alloc, 48_000_000, pieces.as_slice()) {

@@ -1,11 +1,11 @@
-//! Tests of what stands after a refused allocation of `read_pieces`. They pass with each of their allocations refused in
-//! turn. No other one is refused then, so the pieces are read when they are read again.
+//! Tests of `read_pieces` where memory is refused. They pass with each of their allocations refused
+//! in turn. Only one is refused in a run, so pieces that are read again are read.
 
 use crate::pieces::{PING, is_two_pings, reads_two};
 use std::alloc::Global;
 use wire_stream::{ReadRefusal, read_pieces};
 
-/// Returns true if two pings are read, or memory is refused and they are read the next time.
+/// Returns true if two pings are read, at the second try if memory is refused.
 fn reads_at_last(alloc: Global) -> bool {
     let pieces: [&[u8]; 2] = [PING, PING];
     match read_pieces(alloc, 48_000_000, pieces.as_slice()) {

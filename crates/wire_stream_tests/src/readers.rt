@@ -1,4 +1,5 @@
-//! A reader of messages: byte by byte, cut at each place, with a bad header, and with more than one message in a piece.
+//! Tests of a reader of messages: byte by byte, cut at each offset, with a bad header, and with
+//! more than one message in a piece.
 
 use std::alloc::Global;
 use wire_msg::{MsgCause, MsgFault, RawMsg};
@@ -32,7 +33,7 @@ const BAD_LENGTH: ReaderState = ReaderState::Bad(MsgFault {
     cause: MsgCause::Length,
 });
 
-/// Returns true if the reader takes so many bytes of `piece` and stands there then.
+/// Returns true if the reader takes `taken` bytes of `piece` and is in `state` then.
 pub(crate) fn takes(
     reader: &mut MsgReader,
     piece: &[u8],
@@ -42,7 +43,7 @@ pub(crate) fn takes(
     reader.feed(piece) == Ok(Fed { taken, state })
 }
 
-/// Returns true if the reader holds so many bytes and has room for so many.
+/// Returns true if the reader holds `held` bytes, and its `room` is this.
 pub(crate) fn has(reader: &MsgReader, held: usize, room: usize) -> bool {
     reader.held() == held && reader.room() == room
 }
@@ -65,7 +66,8 @@ fn needs_more(reader: &mut MsgReader, bytes: &[u8]) -> bool {
     true
 }
 
-/// Returns true if a reader that takes these bytes one by one is ready with the last one, and not before.
+/// Returns true if a reader that takes these bytes one by one is ready with the last one, and not
+/// before.
 fn comes_byte_by_byte(alloc: Global, bytes: &[u8]) -> bool {
     let Some((last, first)) = bytes.split_last() else {
         return false;
@@ -91,7 +93,8 @@ fn is_short(bytes: &[u8]) -> bool {
     RawMsg::parse(bytes, LIMIT) == Err(fault)
 }
 
-/// Returns true if a reader needs more after these bytes of a message, which are none yet, and they end so.
+/// Returns true if a reader needs more after these first bytes of a message, and `end` is what it
+/// returns if no more come.
 fn ends(alloc: Global, bytes: &[u8], end: ReadEnd) -> bool {
     let mut reader = MsgReader::new(alloc, LIMIT);
     is_short(bytes)
@@ -99,7 +102,8 @@ fn ends(alloc: Global, bytes: &[u8], end: ReadEnd) -> bool {
         && reader.end() == end
 }
 
-/// Returns true if no bytes of the message end between messages, and all other proper beginnings of it end inside.
+/// Returns true if a reader that holds nothing ends between messages, and one that holds any other
+/// proper beginning of the message ends inside it.
 fn is_open_until_its_end(alloc: Global, bytes: &[u8]) -> bool {
     for len in 1..bytes.len() {
         if !ends(alloc, &bytes[..len], ReadEnd::EndedInside) {
@@ -115,7 +119,7 @@ fn each_beginning_needs_more(rt: HostRuntime) {
     assert!(rt; is_open_until_its_end(rt.alloc(), INSERT));
 }
 
-/// Headers, where a reader stands that is fed each, and the bytes that it has room for then.
+/// Headers, the state of a reader that is fed each, and how many bytes it has room for then.
 const HEADERS: [(&[u8; 16], ReaderState, usize); 5] = [
     (
         b"\x33\0\0\0\x01\0\0\0\0\0\0\0\xdd\x07\0\0",
@@ -140,7 +144,8 @@ const HEADERS: [(&[u8; 16], ReaderState, usize); 5] = [
     (b"\x33\0\0\0\x01\0\0\0\0\0\0\0\xd4\x07\0\0", BAD_OPCODE, 0),
 ];
 
-/// Returns true if a reader that takes 15 bytes of the header, and then the last one, stands and has room so.
+/// Returns true if a reader that takes 15 bytes of the header, and then the last one, is in `state`
+/// and has this `room` then.
 fn is_judged_by_its_last_byte(
     alloc: Global,
     header: &[u8; 16],

@@ -1,5 +1,6 @@
-//! Tests of what stands after a refused allocation. `scripts/checks/try-refusals` runs them with each of their allocations refused in
-//! turn. No other one is refused then, so what is asked for again is granted.
+//! Tests that readers and outputs stay the same after a refused allocation.
+//! `scripts/checks/try-refusals` runs them with each of their allocations refused in turn. Only one
+//! is refused in a run, so what is tried again succeeds.
 
 use crate::links::{FULL, REPLY, body_payload, link_of, push_payload};
 use crate::readers::{INSERT, LIMIT, PING, has, lends, takes};
@@ -14,8 +15,8 @@ const REPLIES: &[u8; 66] =
     b"\x21\0\0\0\x03\0\0\0\x07\0\0\0\xdd\x07\0\0\x02\0\0\0\0\x0c\0\0\0\x10a\0\x01\0\0\0\0\
     \x21\0\0\0\x03\0\0\0\x07\0\0\0\xdd\x07\0\0\x02\0\0\0\0\x0c\0\0\0\x10a\0\x01\0\0\0\0";
 
-/// Returns true if the reader takes the whole piece and is ready, or is refused memory and holds so many bytes as before;
-/// it takes the piece then, when it is fed again.
+/// Returns true if the reader takes the whole piece and is ready; or is refused memory and still
+/// holds `held` bytes, and takes the piece when it is fed again.
 fn is_fed(reader: &mut MsgReader, piece: &[u8], held: usize) -> bool {
     let ready = Fed {
         taken: piece.len(),
@@ -31,7 +32,7 @@ fn is_fed(reader: &mut MsgReader, piece: &[u8], held: usize) -> bool {
     }
 }
 
-/// Returns true if the reader reads the message, of which it takes so many bytes first.
+/// Returns true if the reader reads the message, in two pieces of which the first has `held` bytes.
 fn reads(reader: &mut MsgReader, message: &[u8], held: usize) -> bool {
     let Some((first, rest)) = message.split_at_checked(held) else {
         return false;
@@ -41,7 +42,7 @@ fn reads(reader: &mut MsgReader, message: &[u8], held: usize) -> bool {
         && lends(reader, message)
 }
 
-/// Returns true if a reader reads both messages, the second one after it let go of the first.
+/// Returns true if a reader reads both messages, the second one after the first is released.
 fn reads_both(alloc: Global, held: usize) -> bool {
     let mut reader = MsgReader::new(alloc, LIMIT);
     let first = reads(&mut reader, PING, held);
@@ -56,8 +57,8 @@ fn a_reader_can_be_fed_again(rt: HostRuntime) {
     }
 }
 
-/// Returns true if the reply is appended to the output, or is refused memory and leaves the bytes of `before`; it is
-/// appended then, when it is pushed again.
+/// Returns true if the reply is appended to the output; or memory is refused, the bytes are still
+/// `before`, and the reply is appended when it is pushed again.
 fn is_pushed(out: &mut OutBuf, payload: &PayloadBuf, before: &[u8], after: &[u8]) -> bool {
     match push_payload(out, payload) {
         Ok(()) => out.output() == after,
@@ -76,7 +77,7 @@ fn is_pushed_twice(alloc: Global, payload: &PayloadBuf) -> bool {
     is_pushed(&mut out, payload, b"", REPLY) && is_pushed(&mut out, payload, REPLY, REPLIES)
 }
 
-/// Returns the payload, which is made again where memory is refused.
+/// Returns the payload. Makes it again if memory is refused.
 fn payload_again(alloc: Global) -> Option<PayloadBuf> {
     match body_payload(alloc) {
         Some(payload) => Some(payload),
@@ -107,7 +108,7 @@ fn moves(link: &mut MemLink) -> bool {
         && link.send(b"g") == Err(FULL)
 }
 
-/// Returns a link that gives these bytes. It is made again where the first one is refused memory.
+/// Returns a link that gives these bytes. Makes it again if memory is refused.
 fn link_again(alloc: Global, input: &[u8], room: usize) -> Option<MemLink> {
     match link_of(alloc, input, room) {
         Some(link) => Some(link),
@@ -137,7 +138,7 @@ fn pulls(inlet: &mut Inlet, link: &mut MemLink) -> bool {
     inlet.pull(link) == Ok(Pulled::End)
 }
 
-/// Returns an inlet, which is made again where the first one is refused memory.
+/// Returns an inlet. Makes it again if memory is refused.
 fn inlet_again(alloc: Global) -> Option<Inlet> {
     match Inlet::new(alloc) {
         Ok(inlet) => Some(inlet),

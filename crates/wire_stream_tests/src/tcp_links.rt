@@ -1,5 +1,6 @@
-//! A TCP link over a stream that is made up: it counts failures and ends, sending nothing is a failure, a call that was
-//! interrupted is made again, and one that would block is no failure.
+//! Tests of a TCP link over a made-up stream: it counts failures and ends, a write that takes
+//! nothing is a failure, a call that was interrupted is made again, and one that would block is no
+//! failure.
 
 ghost use Rattle.std.specs.Prelude.{◌≤◌, IfOk};
 
@@ -10,7 +11,8 @@ use std::io::{ErrorKind, Read, Write};
 use std::net::TcpStream;
 use wire_stream::{Flushed, Inlet, Link, LinkFault, Moved, OutBuf, Pulled, TcpLink, flush};
 
-/// A stream whose reads and writes move so many bytes, or fail, once so many of them were interrupted.
+/// A stream whose first reads and writes are interrupted, as many as `interrupted`. Later ones move
+/// as many bytes as `moves` says, or fail with its error.
 #[derive(Drop)]
 struct Stream {
     interrupted: u32,
@@ -18,7 +20,7 @@ struct Stream {
 }
 
 impl Stream {
-    /// Returns how many bytes a call moves that may move so many.
+    /// Returns how many bytes a call moves that may move at most `most`.
     fn moved(&mut self, most: usize) -> io::Result<usize>
         ensures { IfOk result (λ count. count ≤ most) }
     {
@@ -54,12 +56,13 @@ fn over_tcp(stream: TcpStream) -> TcpLink<TcpStream> {
     TcpLink::new(stream)
 }
 
-/// Returns what a link comes to that fails so.
+/// Returns the result of a link's call that fails with this kind of error.
 fn failed(kind: ErrorKind) -> Result<Moved, LinkFault> {
     Err(LinkFault { kind })
 }
 
-/// Returns true if a link over a stream that moves so many bytes, once two calls were interrupted, receives and sends so.
+/// Returns true if `recv` returns `received` and `send` returns `sent` over a stream that moves
+/// `count` bytes a call, or fails, after two interrupted calls.
 fn moves(
     count: Result<usize, ErrorKind>,
     received: Result<Moved, LinkFault>,
@@ -97,7 +100,8 @@ fn a_call_that_would_block_is_no_failure(rt: HostRuntime) {
     );
 }
 
-/// Returns true if nothing is pulled from a link that would block, and a flush over it leaves what waits.
+/// Returns true if nothing is pulled from a link that would block, and a flush over it leaves the
+/// bytes that wait.
 fn waits(alloc: Global) -> bool {
     let mut link = TcpLink::new(Stream {
         interrupted: 0,

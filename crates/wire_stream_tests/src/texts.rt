@@ -1,4 +1,4 @@
-//! What faults and refusals are printed as.
+//! Tests of the texts of faults and refusals.
 
 use std::alloc::Global;
 use std::error::Error;
