@@ -26,13 +26,14 @@ use Rattle.wire_model.proofs.Shuts.{Shuts, stays, up, down, down_is_shut, down_s
 abbrev pub not_raw : Bool → Bool
 not_raw b = if b then false else true
 
--- connection c is as the machine has it; of a raw one, these bytes were taken and given
+-- connection c is as the machine has it; if it is raw, its server took and gave these bytes
 pub record Here {H : Type 0} (limit c : ℕ) (k : Conn) (m : Machine H) (taken given : List ℕ) : Type 0 where
   pub route : Route
   pub fits : Fits limit c k m route
   pub raw : k.raw ≡ true → RawFits limit c k m route.waiting taken given
 
--- each connection is as the machine has it, and of those to come there is nothing
+-- each connection is as the machine has it, and the machine has nothing of connections that aren't
+-- made yet
 pub record Ways {H : Type 0} (limit : ℕ) (taken given : ℕ → List ℕ) (ks : List Conn) (m : Machine H) : Type 0 where
   pub conns : (c : ℕ) (k : Conn) → conn_at ks c ≡ Some k → Here limit c k m (taken c) (given c)
   pub lives : (c : ℕ) → length ks < c → (m.client_lives c ≡ not_raw (m.raw c)) × (m.server_lives c ≡ true)
@@ -137,7 +138,7 @@ module _ (H : Type 0) (does : Does H) (stops : Stops H) where
     raw = λ is. raw_kept limit c k (cut_down k) (client_gone m c) h.route.waiting t g refl refl refl refl (raw_lost limit c c k m h.route.waiting t g (h.raw is));
   }
 
-  -- the machine has lost these ends; where their clients are closed, the records are settled as before
+  -- the machine has lost these ends, and the records settle as they did before
   pub record Lost (limit : ℕ) (t g : ℕ → List ℕ) (js : List Conn) (m : Machine H) : Type 0 where
     pub next : Machine H
     pub steps : Steps H does stops m next

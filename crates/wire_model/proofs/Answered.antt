@@ -27,7 +27,7 @@ module _ (H : Type 0) (does : Does H) (stops : Stops H) where
     handler_is = left.handler_is;
   }
 
-  -- from a handler and a log that are the machine's
+  -- an answer from a handler and a log that are those of the machine
   step_ours : (i : ℕ) (result : Result ℕ AnswerRefusal) (k : Conn) (m : Machine H) (handler : H) (old : List LogEntry) (s : ServerView) (h : H) (log : List LogEntry) → m.handler ≡ handler → m.log ≡ old
       → AnswerStep does stops i result k.server handler old s h log → AnswerStep does stops i result k.server m.handler m.log s h log
   step_ours i result k m handler old s h log same_handler same_log step =

@@ -15,7 +15,7 @@ use Rattle.wire_model.proofs.Ranks.{rank-set}
 use Rattle.wire_model.proofs.Routes.{AreRequests, Bears, IsRequest, Tag, Due, Route, TagIs, DueIs, WaitFits, UpFits, DownFits, Fits, Fair, IsMade, Streams, OnWayAt, WaitingAt, DueAt, server_lives, tag_calls, due_messages, due_calls, spelled}
 use Rattle.wire_model.proofs.Wires.{same_request}
 
--- what the taken out one leaves are still the requests of the tags, one by one
+-- with one taken out of both, the bytes are still the requests of the tags, one by one
 pub AreRequests-remove : (bytes : List (List ℕ)) (ts : List Tag) (i : ℕ) → AreRequests bytes ts → AreRequests (remove bytes i) (remove ts i)
 AreRequests-remove [] [] zero a = tt
 AreRequests-remove [] [] (suc i) a = tt
@@ -24,14 +24,14 @@ AreRequests-remove (b ∷ bytes) [] i a = absurd a
 AreRequests-remove (b ∷ bytes) (t ∷ ts) zero a = a.1
 AreRequests-remove (b ∷ bytes) (t ∷ ts) (suc i) a = (a.0, AreRequests-remove bytes ts i a.1)
 
--- a request that waits is a tag's
+-- a request that waits is that of a tag
 pub waits_is : (requests : List (List ℕ)) (ts : List Tag) (i : ℕ) (bytes : List ℕ) → AreRequests requests ts → slice_get requests i ≡ Some bytes → (t : Tag) × (slice_get ts i ≡ Some t) × IsRequest bytes t
 waits_is [] ts i bytes a g = absurd (none-some bytes g)
 waits_is (b ∷ requests) [] i bytes a g = absurd a
 waits_is (b ∷ requests) (t ∷ ts) zero bytes a g = (t, refl, subst (λ z. IsRequest z t) (same_Some b bytes g) a.0)
 waits_is (b ∷ requests) (t ∷ ts) (suc i) bytes a g = waits_is requests ts i bytes a.1 g
 
--- the message that its bytes spell has the tag's id and asks what it asks
+-- the message that its bytes spell has the id of the tag, and asks what the tag asks
 pub asks_that : (m : Message) (bytes : List ℕ) (t : Tag) → IsRequest bytes t → SpellsMsg m bytes → (m.id ≡ t.id) × (asked_by m ≡ t.asked)
 asks_that m bytes t is s =
     let same : m ≡ is.message = same_request m is.message bytes s is.spells in
@@ -52,7 +52,7 @@ streams_end : (os : Table) (due : List Due) (d : Due) → d.last ≡ None → St
 streams_end os [] d n s = (rw n s, tt)
 streams_end os (a ∷ due) d n s = (s.0, Each-push (λ b. b.last ≡ None) due d s.1 n)
 
--- what stays of the server that answered the i-th of its waiting requests
+-- what an answer to the i-th waiting request leaves of the server
 pub record IsAnswered (i : ℕ) (old new : ServerView) : Type 0 where
   pub held : new.held ≡ old.held
   pub waiting : new.waiting ≡ remove old.waiting i

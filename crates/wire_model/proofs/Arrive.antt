@@ -1,4 +1,4 @@
--- The server takes a piece: nothing changes, or the first request on the way up is off it.
+-- The server takes a piece: nothing changes, or the first request on the way up arrives.
 use Rattle.std.proofs.Common.{◌≡◌, ℕ, ◌<◌, ◌^◌, true, false, List, [], ◌∷◌, ◌++◌, length, refl, sym, ◌∙◌, ap, append_assoc, None, inl, inr}
 use Rattle.std.specs.Prelude.{slice_get, slice_set}
 use Rattle.std.specs.List.{flat_map}
@@ -30,7 +30,7 @@ requests_push [] (u ∷ ts) b t all is = absurd all
 requests_push (a ∷ bs) [] b t all is = absurd all
 requests_push (a ∷ bs) (u ∷ ts) b t all is = (all.0, requests_push bs ts b t all.1 is)
 
--- what a write of one call's place leaves of the replies that are due
+-- replies that are due stay due when the place of an unanswered call changes
 pub due_set : {H : Type 0} (m : Machine H) (i : ℕ) (x : Call) (p : Place) → CallIs m.calls i x → ((e : ℕ) → x.place ≡ Answered e → ⊥) → (d : Due) → DueIs m d → DueIs (with_call m i (placed x p)) d
 due_set m i x p at n d is = elim (same_or_not d.tag.call i) [
   | inl s ↦ absurd (let same : is.tag.x ≡ x = same_Some is.tag.x x (sym is.tag.at ∙ ap (slice_get m.calls) s ∙ at) in n d.entry (ap (λ (z : Call). z.place) (sym same) ∙ is.place))

@@ -1,4 +1,4 @@
--- Who bears an id, as calls are made, have parts and are complete.
+-- Which call has an id in the table, as calls are made, get parts and are complete.
 use Rattle.std.proofs.Common.{◌≡◌, suc, ℤ, Bool, true, false, cond, List, [], ◌∷◌, ◌++◌, refl, sym, ◌∙◌, ap, arith, Option, Some, None, Contains}
 use Rattle.std.specs.Prelude.{if◌then◌else◌}
 use Rattle.std.specs.List.{AllByRecursion, IsDistinct}
@@ -22,7 +22,7 @@ other_int x y n = grind (arith, Decides-int_eq x y)
 
 -- ---- bearers
 
--- who bore an id bears it still
+-- a call that has an id keeps it when another call is added
 pub bearer-push : (t : Table) (o : ℤ × Outstanding) (a : Outstanding) (id : ℤ) → bearer id t ≡ Some a → bearer id (t ++ o ∷ []) ≡ Some a
 bearer-push [] o a id e = absurd (none-some a e)
 bearer-push (p ∷ t) o a id e = elim (int_eq id p.0) as (λ b. cond b (Some p.1) (bearer id t) ≡ Some a → cond b (Some p.1) (bearer id (t ++ o ∷ [])) ≡ Some a) [
@@ -30,7 +30,7 @@ bearer-push (p ∷ t) o a id e = elim (int_eq id p.0) as (λ b. cond b (Some p.1
   | false ↦ λ h. bearer-push t o a id h
 ] e
 
--- a free id is borne by the call that is added under it
+-- a call that is added under a free id has that id
 pub bearer-last : (t : Table) (id : ℤ) (o : Outstanding) → bearer id t ≡ None → bearer id (t ++ (id, o) ∷ []) ≡ Some o
 bearer-last [] id o e = ap (λ (b : Bool). cond b (Some o) None) (eq_int id id refl)
 bearer-last (p ∷ t) id o e = elim (int_eq id p.0) as (λ b. cond b (Some p.1) (bearer id t) ≡ None → cond b (Some p.1) (bearer id (t ++ (id, o) ∷ [])) ≡ Some o) [
@@ -38,7 +38,7 @@ bearer-last (p ∷ t) id o e = elim (int_eq id p.0) as (λ b. cond b (Some p.1) 
   | false ↦ λ h. bearer-last t id o h
 ] e
 
--- another id is borne by whom it was
+-- without one id, the calls of the other ids are the same
 pub bearer-without_other : (id other : ℤ) (t : Table) → (other ≡ id → ⊥) → bearer other (without id t) ≡ bearer other t
 bearer-without_other id other [] n = refl
 bearer-without_other id other (o ∷ t) n = by (int_eq id o.0) refl (bearer-without_other id other t n)
@@ -57,7 +57,7 @@ bearer-noted_other id other w (o ∷ t) n = by (int_eq id o.0) refl (bearer-note
         ap (λ (b : Bool). cond b (Some w) (bearer other t)) no_other ∙ sym (ap (λ (b : Bool). cond b (Some o.1) (bearer other t)) no_other)
     by false same later = ap (λ (z : Option Outstanding). cond (int_eq other o.0) (Some o.1) z) later
 
--- what is written under an id is there
+-- what is written under an id is found under it
 pub bearer-noted : (id : ℤ) (w : Outstanding) (t : Table) (a : Outstanding) → bearer id t ≡ Some a → bearer id (set_value (int_eq id) t w) ≡ Some w
 bearer-noted id w [] a e = absurd (none-some a e)
 bearer-noted id w (o ∷ t) a e = by (int_eq id o.0) refl e (λ h. bearer-noted id w t a h)
@@ -67,7 +67,7 @@ bearer-noted id w (o ∷ t) a e = by (int_eq id o.0) refl e (λ h. bearer-noted 
     by true same e later = ap (λ (b : Bool). cond b (Some w) (bearer id t)) same
     by false same e later = ap (λ (b : Bool). cond b (Some o.1) (bearer id (set_value (int_eq id) t w))) same ∙ later e
 
--- two bearers for two calls have two ids
+-- two different calls of the table have different ids
 pub ids_apart : (t : Table) (id other : ℤ) (a b : Outstanding) → bearer id t ≡ Some a → bearer other t ≡ Some b → (b.call ≡ a.call → ⊥) → other ≡ id → ⊥
 ids_apart t id other a b ea eb n same =
     let one : b ≡ a = same_Some b a (sym eb ∙ ap (λ (i : ℤ). bearer i t) same ∙ ea) in n (ap (λ (z : Outstanding). z.call) one)
@@ -82,7 +82,7 @@ pub stream-idle : (t : Table) → Idle t → stream t ≡ None
 stream-idle [] e = refl
 stream-idle (o ∷ t) e = rw e.0 (stream-idle t e.1)
 
--- the one that has had a part
+-- the one call that has had a part
 pub stream-one : (id last : ℤ) (t : Table) (a : Outstanding) → bearer id t ≡ Some a → a.last ≡ Some last → Idle (without id t) → stream t ≡ Some (id, a)
 stream-one id last [] a e l idle = absurd (none-some a e)
 stream-one id last (o ∷ t) a e l idle = by (int_eq id o.0) refl e idle (λ h i. stream-one id last t a h l i)
@@ -122,9 +122,9 @@ without-noted id w (o ∷ t) = by (int_eq id o.0) refl (without-noted id w t)
     by true same later = ap (λ (b : Bool). cond b t ((o.0, w) ∷ without id t)) same
     by false same later = ap (λ (b : Bool). cond b (set_value (int_eq id) t w) (o ∷ without id (set_value (int_eq id) t w))) same ∙ ap (λ (z : Table). o ∷ z) later
 
--- ---- no two calls bear one id
+-- ---- no two calls have the same id
 
--- a free id has no bearer
+-- no call has a free id
 pub no_bearer : (id : ℤ) (t : Table) → (Contains (ids t) id → ⊥) → bearer id t ≡ None
 no_bearer id [] free = refl
 no_bearer id (e ∷ t) free = by (int_eq id e.0) refl (no_bearer id t (λ c. free (suc c.0, omega (arith, c.1), c.2)))
@@ -133,7 +133,7 @@ no_bearer id (e ∷ t) free = by (int_eq id e.0) refl (no_bearer id t (λ c. fre
     by true eq rest = absurd (free (0, omega arith, sym (same_int id e.0 eq)))
     by false eq rest = rest
 
--- no call of the table bears this id
+-- no call of the table has this id
 abbrev NoneBears : ℤ → Table → Type 0
 NoneBears id t = AllByRecursion (λ y. int_eq id y ≡ false) (ids t)
 
@@ -145,7 +145,7 @@ none_without : (id other : ℤ) (t : Table) → NoneBears id t → NoneBears id 
 none_without id other [] n = tt
 none_without id other (o ∷ t) n = elim (int_eq other o.0) as (λ b. NoneBears id (cond b t (o ∷ without other t))) [ true ↦ n.1 | false ↦ (n.0, none_without id other t n.1) ]
 
--- a write leaves the ids
+-- a write leaves the ids as they are
 pub ids-noted : (id : ℤ) (w : Outstanding) (t : Table) → ids (set_value (int_eq id) t w) ≡ ids t
 ids-noted id w [] = refl
 ids-noted id w (o ∷ t) = elim (int_eq id o.0) as (λ b. ids (cond b ((o.0, w) ∷ t) (o ∷ set_value (int_eq id) t w)) ≡ o.0 ∷ ids t) [
@@ -171,7 +171,7 @@ distinct-without id (o ∷ t) d = elim (int_eq id o.0) as (λ b. IsDistinct int_
 pub distinct-noted : (id : ℤ) (w : Outstanding) (t : Table) → IsDistinct int_eq (ids t) → IsDistinct int_eq (ids (set_value (int_eq id) t w))
 distinct-noted id w t d = rw (ids-noted id w t) d
 
--- after a reply too
+-- the ids are distinct after a reply, too
 pub distinct-reply : (t : Table) (o : ℤ × Outstanding) (part : ℤ) (more : Bool) → IsDistinct int_eq (ids t) → IsDistinct int_eq (ids (after_reply t o part more))
 distinct-reply t o part true d = distinct-noted o.0 (after_part o.1 part) t d
 distinct-reply t o part false d = distinct-without o.0 t d

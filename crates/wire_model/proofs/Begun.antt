@@ -1,4 +1,4 @@
--- A connection that is made has nothing on its ways.
+-- A new connection has nothing on its ways.
 use Rattle.std.proofs.Common.{◌≡◌, ℕ, ℤ, zero, suc, ◌<◌, Bool, true, false, List, [], ◌∷◌, ◌++◌, length, refl, sym, ◌∙◌, ap, subst, arith, Some, inl, inr}
 use Rattle.std.specs.Prelude.{pos, ◌≤ℤ◌, FitsSigned}
 use Rattle.std.specs.Int.{w32}

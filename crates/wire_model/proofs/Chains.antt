@@ -35,7 +35,7 @@ pub reply_id_after : (n : ℕ) (answers : List Content) → IsReplyId n → IsRe
 reply_id_after n [] r = r
 reply_id_after n (a ∷ answers) r = reply_id_after (id_after_one n) answers (reply_id_next n r)
 
--- after the replies to a request too, which may want none
+-- the id after the replies to a request, which may want none, is one too
 pub reply_id_behind : (n : ℕ) (a : Asked) (answers : List Content) → IsReplyId n → IsReplyId (next_id n a answers)
 reply_id_behind n a answers r = elim a.more_to_come as (λ b. IsReplyId (if b then n else id_after n answers)) [
   | true ↦ r

@@ -7,11 +7,11 @@ use Rattle.wire_peer.specs.{LogEntry}
 use Rattle.wire_model.specs.Machines.{Call, CallIs}
 use Rattle.wire_model.specs.Hostile.{calls_of, entries_of}
 
--- how many calls of the connection stand before call i
+-- how many calls of the connection are before call i
 abbrev pub calls_before : ℕ → List Call → ℕ → ℕ
 calls_before c calls i = length (calls_of c (take i calls))
 
--- how many entries of the connection stand before entry e
+-- how many entries of the connection are before entry e
 abbrev pub entries_before : ℕ → List LogEntry → ℕ → ℕ
 entries_before c log e = length (entries_of c (take e log))
 
@@ -40,7 +40,7 @@ pub calls-push_other : (c : ℕ) (calls : List Call) (y : Call) → (y.connectio
 calls-push_other c [] y n = ap (λ b. kept_if b y []) (is_elsewhere c y.connection n)
 calls-push_other c (x ∷ xs) y n = ap (kept_if (x.connection == c) x) (calls-push_other c xs y n)
 
--- of a call that was there before as many stand before it as before
+-- a new call at the end doesn't change how many calls are before an old one
 pub before-push : (c : ℕ) (calls : List Call) (i : ℕ) (x y : Call) → CallIs calls i x → calls_before c (calls ++ y ∷ []) i ≡ calls_before c calls i
 before-push c [] i x y g = absurd (none-some x g)
 before-push c (a ∷ calls) zero x y g = refl
@@ -49,7 +49,7 @@ before-push c (a ∷ calls) (suc i) x y g = elim (a.connection == c) as (λ b. l
   | false ↦ before-push c calls i x y g
 ]
 
--- all calls of the connection stand before the new one
+-- all calls of the connection are before the new one
 pub before-last : (c : ℕ) (calls : List Call) (y : Call) → calls_before c (calls ++ y ∷ []) (length calls) ≡ length (calls_of c calls)
 before-last c [] y = refl
 before-last c (a ∷ calls) y = elim (a.connection == c) as (λ b. length (kept_if b a (calls_of c (take (length calls) (calls ++ y ∷ [])))) ≡ length (kept_if b a (calls_of c calls))) [
@@ -76,7 +76,7 @@ calls-set_other c (a ∷ calls) zero x y g n o =
     ap (λ b. kept_if b y (calls_of c calls)) (is_elsewhere c y.connection o) ∙ ap (λ b. kept_if b a (calls_of c calls)) (sym there)
 calls-set_other c (a ∷ calls) (suc i) x y g n o = ap (kept_if (a.connection == c) a) (calls-set_other c calls i x y g n o)
 
--- a change that leaves the connection leaves what stands before
+-- a change of a call that keeps its connection doesn't change how many calls are before another
 pub before-set : (c : ℕ) (calls : List Call) (i j : ℕ) (x y : Call) → CallIs calls i x → y.connection ≡ x.connection → calls_before c (slice_set calls i y) j ≡ calls_before c calls j
 before-set c [] i j x y g e = refl
 before-set c (a ∷ calls) i zero x y g e = by i
@@ -103,7 +103,7 @@ calls-map c f (x ∷ calls) e = ap (λ d. kept_if (d == c) (f x) (calls_of c (ma
       | false ↦ calls-map c f calls e
     ])
 
--- a change that leaves the calls of the connection
+-- a change of all calls that keeps each one's connection and the calls of this one
 pub calls-map_other : (c : ℕ) (f : Call → Call) (calls : List Call) → ((x : Call) → (f x).connection ≡ x.connection) → ((x : Call) → x.connection ≡ c → f x ≡ x) → calls_of c (map f calls) ≡ calls_of c calls
 calls-map_other c f [] e s = refl
 calls-map_other c f (x ∷ calls) e s = ap (λ d. kept_if (d == c) (f x) (calls_of c (map f calls))) (e x) ∙ by (x.connection == c) refl (calls-map_other c f calls e s)
@@ -121,7 +121,7 @@ before-map c f (x ∷ calls) (suc i) e = ap (λ d. length (kept_if (d == c) (f x
       | false ↦ before-map c f calls i e
     ])
 
--- ---- calls by how many stand before
+-- ---- calls, told apart by how many are before them
 
 pub call_by_before : (c : ℕ) (calls : List Call) (i : ℕ) (x : Call) → CallIs calls i x → x.connection ≡ c → slice_get (calls_of c calls) (calls_before c calls i) ≡ Some x
 call_by_before c [] i x g e = absurd (none-some x g)
@@ -132,7 +132,7 @@ call_by_before c (a ∷ calls) (suc i) x g e = elim (a.connection == c) as (λ b
   | false ↦ call_by_before c calls i x g e
 ]
 
--- as many stand before two calls of the connection only where they are one
+-- two calls of the connection with as many before them are the same call
 pub before_once : (c : ℕ) (calls : List Call) (i j : ℕ) (x y : Call) → CallIs calls i x → CallIs calls j y → x.connection ≡ c → y.connection ≡ c → calls_before c calls i ≡ calls_before c calls j → i ≡ j
 before_once c [] i j x y g h e f s = absurd (none-some x g)
 before_once c (a ∷ calls) zero zero x y g h e f s = refl
@@ -165,7 +165,7 @@ pub entries-push_other : (c : ℕ) (log : List LogEntry) (en : LogEntry) → (en
 entries-push_other c [] en n = ap (λ b. kept_if b en []) (is_elsewhere c en.connection n)
 entries-push_other c (a ∷ log) en n = ap (kept_if (a.connection == c) a) (entries-push_other c log en n)
 
--- of an entry that was there before as many stand before it as before
+-- new entries at the end don't change how many entries are before an old one
 pub entries_before-more : (c : ℕ) (log more : List LogEntry) (e : ℕ) (en : LogEntry) → slice_get log e ≡ Some en → entries_before c (log ++ more) e ≡ entries_before c log e
 entries_before-more c [] more e en g = absurd (none-some en g)
 entries_before-more c (a ∷ log) more zero en g = refl

@@ -1,4 +1,4 @@
--- What payloads carry, and what answers of a log are, are contents of messages.
+-- Payloads carry contents of messages, and the answers of a log are such contents.
 use Rattle.std.proofs.Common.{◌≡◌, Some, List, [], ◌∷◌, ◌++◌, map, subst}
 use Rattle.std.specs.Prelude.{All}
 use Rattle.std.specs.Option.{ForSome}

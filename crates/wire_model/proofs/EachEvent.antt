@@ -63,7 +63,7 @@ module _ (H : Type 0) (does : Does H) (stops : Stops H) (limit : ℕ) (short : l
     };
   }
 
-  -- where the world shows what the machine shows
+  -- the machine goes on from what it shows, which is what the world shows
   reached : (w : World H) (m : Machine H) (c : ℕ) (k' : Conn) (t g t' g' : ℕ → List ℕ) → Agrees limit t g w m → Reaches H does stops limit c k' m (shown_calls m.calls) m.log m.handler (t' c) (g' c) → Reaches H does stops limit c k' m w.calls w.log w.handler (t' c) (g' c)
   reached w m c k' t g t' g' a r = record { next = r.next; steps = r.steps; here = r.here; others = r.others; calls_are = r.calls_are ∙ a.calls; log_is = r.log_is ∙ a.log; handler_is = r.handler_is ∙ a.handler }
 

@@ -70,7 +70,7 @@ ok_arrived m i x at on ok = ok_written m i x (placed x Waiting) at (λ e is. abs
 
 -- ---- a call gets a part
 
--- parts don't end with more
+-- no list is itself with more after it
 too_long : (parts : List Content) (part : Content) (rest : List Content) → parts ≡ parts ++ part ∷ rest → ⊥
 too_long parts part rest e = let l : length parts ≡ length (parts ++ part ∷ rest) = ap length e in omega (arith, length-append parts (part ∷ rest))
 
@@ -185,7 +185,7 @@ module _ {H : Type 0} (m : Machine H) (i : ℕ) (x : Call) (h : H) (waits : x.pl
       only e (inl q) = let r : Answered (length m.log) ≡ Answered e = q in cc
       only e (inr q) = absurd (let r : Answered (length m.log) ≡ Mute e = q in cc)
 
-  -- without an answer: a silent one, or the server half is lost
+  -- without an answer: the request wants none, or the server half is lost
   pub mute_ok : (answers : Option (List Content)) → (x.asked.more_to_come ≡ true) ⊎ (m.server_lives x.connection ≡ false) → CallOk (logged m i (placed x (Mute (length m.log))) (entry_for x answers) h) (placed x (Mute (length m.log)))
   mute_ok answers why = record {
     entry = λ e is. (entry_for x answers, rw (only e is) (get-push_new m.log (entry_for x answers)), refl, refl);

@@ -57,7 +57,7 @@ exact_set Q calls is i x y at to from e = exact_kept Q calls (slice_set calls i 
     ])
     e
 
--- a write after which the call is no more of the kind
+-- a write after which the call is no longer of the kind
 pub exact_out : (Q : Call → Type 0) (calls : List Call) (is : List ℕ) (i k : ℕ) (x y : Call) → CallIs calls i x → (Q y → ⊥) → slice_get is k ≡ Some i → Exact Q calls is → Exact Q (slice_set calls i y) (remove is k)
 exact_out Q calls is i k x y at n place e = record {
   each = λ j h. elim (same_or_not j i) [

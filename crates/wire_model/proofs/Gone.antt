@@ -55,7 +55,7 @@ with_client_down k client cut = record k { client = client; down_cut = cut }
 abbrev pub with_server_up : Conn → ServerView → Bool → Conn
 with_server_up k server cut = record k { server = server; up_cut = cut }
 
--- the client is closed, what was on its way up stays there
+-- the client is closed; what was on the way up stays there
 pub client_shut_fits : {H : Type 0} (limit c : ℕ) (k : Conn) (m : Machine H) (r : Route) (client : ClientSeen) (cut : Bool) → client.requests ≡ k.client.requests → lives client.state ≡ false
     → (k.raw ≡ false → cut ≡ false → client.state ≡ clients.Open) → Fits limit c k m r → Fits limit c (with_client_down k client cut) (client_gone m c) r
 client_shut_fits limit c k m r client cut same shut uncut f = record {
@@ -87,7 +87,7 @@ client_shut_fits limit c k m r client cut same shut uncut f = record {
 pub client_gone_fits : {H : Type 0} (limit c : ℕ) (k : Conn) (m : Machine H) (r : Route) → Fits limit c k m r → Fits limit c (cut_down k) (client_gone m c) r
 client_gone_fits limit c k m r f = client_shut_fits limit c k m r (ended k.client) true refl (client_shut k.client.state _) (λ raw e. cc) f
 
--- the server is closed, what was on its way down stays there
+-- the server is closed; what was on the way down stays there
 pub server_gone_fits : {H : Type 0} (limit c : ℕ) (k : Conn) (m : Machine H) (r : Route) (server : ServerView) (cut : Bool) → server.output ≡ k.server.output → server_lives server.state ≡ false
     → IsMade limit c (with_server_up k server cut) → (k.raw ≡ false → cut ≡ false → IsOpenOrStopped server.state) → Fits limit c k m r
     → Fits limit c (with_server_up k server cut) (server_gone m c) r

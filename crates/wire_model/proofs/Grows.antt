@@ -54,11 +54,11 @@ grows_shuts ks js (down {js = is} c k s at e) = grows_then ks is js (grows_shuts
 
 -- ---- the pool's next number
 
--- the next number is the one after so many
+-- the next number is one more than the number of connections
 abbrev pub NextIs : {H : Type 0} → World H → Type 0
 NextIs w = w.pool.next ≡ id_after (length w.conns)
 
--- the number after so many is one more
+-- the number after n is n + 1
 pub after_is : (n c : ℕ) → id_after n ≡ Some c → c ≡ suc n
 after_is n c e = by (n == 2 ^ 64 - 1) e
   where
@@ -132,7 +132,7 @@ returned_next p c healthy = by (loan_of c p.lent)
 
 -- ---- events
 
--- so many connections as before, and the same next number
+-- as many connections as before, and the same next number
 pub record Keeps {H : Type 0} (w n : World H) : Type 0 where
   pub many : length n.conns ≡ length w.conns
   pub next : n.pool.next ≡ w.pool.next
@@ -287,7 +287,7 @@ module _ {H : Type 0} (does : Does H) (stops : Stops H) (l : WorldLimits) where
   raw_step m n (machine.server_lost c' e) c = ap (λ (z : Machine H). z.raw c) e
   raw_step m n (machine.appear c' ask raw l e) c = ap (λ (z : Machine H). z.raw c) e
 
-  -- which connections are raw stays
+  -- it stays the same which connections are raw
   pub raw_steps : (m n : Machine H) → machine.Steps H does stops m n → (c : ℕ) → n.raw c ≡ m.raw c
   raw_steps m n machine.stay c = refl
   raw_steps m n (machine.go {n = mid} ss s) c = raw_step mid n s c ∙ raw_steps m mid ss c

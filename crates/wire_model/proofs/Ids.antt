@@ -1,4 +1,4 @@
--- No two outstanding calls of one client bear one id, whatever events come.
+-- No two outstanding calls of one client have the same id, whatever events come.
 use Rattle.std.proofs.Common.{◌≡◌, ℕ, zero, suc, Bool, true, false, List, [], ◌∷◌, ◌++◌, length, map, take, refl, sym, ◌∙◌, ap, subst, Option, Some, None, inl, inr}
 use Rattle.std.specs.Prelude.{ℤ, Result, Ok, Err, ◌||◌, if◌then◌else◌}
 use Rattle.std.specs.List.{IsDistinct}

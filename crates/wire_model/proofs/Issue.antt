@@ -42,7 +42,7 @@ new_id : (os : Table) (id : ℤ) (o : Outstanding) (awaits : Bool) → bearer id
 new_id os id o true e s = bearer-last os id o e
 new_id os id o false e s = cc
 
--- who bore an id bears it still, and its record is where it was
+-- a call keeps its id, and its record stays where it was
 kept_bears : (os : Table) (o : ℤ × Outstanding) (awaits : Bool) (indexes : List ℕ) (index : ℕ) (t : Tag) (last : Option ℤ) → Bears os indexes t last → Bears (if awaits then os ++ o ∷ [] else os) (indexes ++ index ∷ []) t last
 kept_bears os o awaits indexes index t last b = record {
   bearer_is = kept_id os o awaits t.id (as_outstanding t last) b.bearer_is;

@@ -1,4 +1,4 @@
--- What a change of the machine leaves of the ways of a connection.
+-- What stays on the ways of a connection when the machine changes.
 use Rattle.std.proofs.Common.{◌≡◌, ℕ, ◌<◌, List, [], ◌∷◌, ◌++◌, length, map, take, refl, sym, ◌∙◌, ap, arith, append_assoc, Option, Some, inl, inr}
 use Rattle.std.specs.Prelude.{slice_get, slice_set}
 use Rattle.std.specs.List.{flat_map}
@@ -76,7 +76,7 @@ due_there m n d is at r log = record {
   fair = is.fair;
 }
 
--- For connection c the two machines are the same, but that the log may go on.
+-- For connection c the two machines are the same, except that the second may have more entries.
 pub record SameAt {H : Type 0} (c : ℕ) (m n : Machine H) : Type 0 where
   pub there : (i : ℕ) (x : Call) → CallIs m.calls i x → x.connection ≡ c → CallIs n.calls i x
   pub back : (i : ℕ) (x : Call) → CallIs n.calls i x → x.connection ≡ c → CallIs m.calls i x

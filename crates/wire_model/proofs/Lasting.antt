@@ -94,7 +94,7 @@ stays_given x part more pending = record {
 abbrev AllStay : List Call → List Call → Type 0
 AllStay xs ys = (i : ℕ) (x : Call) → CallIs xs i x → (y : Call) × CallIs ys i y × Stays x y
 
--- an entry that a call names was named before, or stands behind so many
+-- an entry that a call names was named before, or its index is at least this one
 abbrev AreFresh : ℕ → List Call → List Call → Type 0
 AreFresh n xs ys = (j e : ℕ) (y : Call) → CallIs ys j y → EntryOf y e → (n ≤ e) ⊎ ((x : Call) × CallIs xs j x × EntryOf x e)
 
@@ -127,7 +127,7 @@ fresh_map n f back xs j e y g is = let p = get-map_back f xs j y g in inr (p.0, 
 
 -- ---- states of the machine
 
--- the later state has all that the earlier one had
+-- the later state keeps all calls and entries of the earlier one
 record Onward {H : Type 0} (m n : Machine H) : Type 0 where
   pub calls : AllStay m.calls n.calls
   pub log : LogGrows m.log n.log
@@ -228,7 +228,7 @@ module _ (H : Type 0) (does : Does H) (stops : Stops H) where
   onward_steps m n ok machine.stay = onward_same m
   onward_steps m n ok (machine.go {n = mid} ss s) = onward_then m mid n (onward_steps m mid ok ss) (onward_step mid n (ok_steps H does stops m mid ok ss) s)
 
--- ---- what it comes to
+-- ---- what follows
 
 abbrev shown_by : Bool → Record → List Record → List Record
 shown_by b r rs = if b then r ∷ rs else rs

@@ -1,4 +1,4 @@
--- The lemmas that proofs of other crates stand on.
+-- The lemmas that proofs of other crates use.
 
 -- what holds of every run
 pub use Rattle.wire_model.proofs.Main.{headline, headline_alone, own_entries}
@@ -12,14 +12,15 @@ pub use Rattle.wire_model.proofs.Places.{conn_set-same, conn_within, length-push
 pub use Rattle.wire_model.proofs.ConnCalls.{is_elsewhere, is_here}
 -- a message is spelled in one way
 pub use Rattle.wire_model.proofs.Wires.{same_request}
--- how a world stands with a state of the machine, and how the machine goes on as one of its connections does
+-- that a world agrees with a state of the machine, and that the machine goes on when one of its connections
+-- does
 pub use Rattle.wire_model.proofs.Agreeing.{Agrees, Follows, Here, down_here, up_here}
 pub use Rattle.wire_model.proofs.Reaches.{Reaches, steps_then}
 pub use Rattle.wire_model.proofs.EachEvent.{follow, followed_calls}
 pub use Rattle.wire_model.proofs.Begun.{agrees_opening, new_here, ways_opened}
 pub use Rattle.wire_model.proofs.Grows.{raw_steps}
 pub use Rattle.wire_model.proofs.Frames.{same_client_gone, same_server_gone}
--- what each move of one connection comes to
+-- what each move of one connection does
 pub use Rattle.wire_model.proofs.Arrive.{conn_up}
 pub use Rattle.wire_model.proofs.MovesUp.{take_all_up}
 pub use Rattle.wire_model.proofs.Return.{conn_down, released_none}

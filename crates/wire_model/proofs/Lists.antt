@@ -1,4 +1,4 @@
--- Lists by place: what is where after a push, a write or a map.
+-- Lists by index: what is at an index after a push, a write or a map.
 use Rattle.std.proofs.Common.{◌≡◌, ℕ, zero, suc, List, [], ◌∷◌, ◌++◌, length, map, refl, sym, ◌∙◌, ap, arith, Some, ◌⊎◌, inl, inr}
 use Rattle.std.specs.Prelude.{remove, slice_get, slice_set}
 use Rattle.std.proofs.lemmas.Option.{none-some, same_Some}
@@ -87,7 +87,7 @@ Has-other (a ∷ is) zero i j g (inr h) n = h
 Has-other (a ∷ is) (suc k) i j g (inl e) n = inl e
 Has-other (a ∷ is) (suc k) i j g (inr h) n = inr (Has-other is k i j g h n)
 
--- the number taken out is there no more
+-- the number that was taken out isn't in the list any more
 pub Has-removed : (is : List ℕ) (k j : ℕ) → Distinct is → slice_get is k ≡ Some j → Has j (remove is k) → ⊥
 Has-removed [] k j d g h = none-some j g
 Has-removed (a ∷ is) zero j d g h = let e = same_Some a j g in d.0 (rw e h)

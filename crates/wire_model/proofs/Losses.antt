@@ -100,7 +100,8 @@ ok_client_gone m c ok = ok_kept m (client_gone m c) refl (λ d raw. dead_stays (
       owned = λ w. o.owned (sym (ours-lost c x) ∙ w);
     }
 
--- the server half is lost in two parts: it lives no more, and then what hasn't come never comes
+-- the server half is lost in two steps: it is no longer alive, and then requests without an entry
+-- never get one
 abbrev shut : {H : Type 0} → Machine H → ℕ → Machine H
 shut m c = record { calls = m.calls; log = m.log; handler = m.handler; raw = m.raw; client_lives = m.client_lives; server_lives = all_but m.server_lives c }
 

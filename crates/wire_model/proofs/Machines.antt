@@ -10,7 +10,7 @@ use Rattle.wire_model.proofs.Ranks.{ours}
 
 -- ---- what is promised
 
--- it has nothing and isn't done
+-- the call has no parts and isn't done
 abbrev pub Early : Call → Type 0
 Early x = (x.parts ≡ []) × (x.state ≡ Done → ⊥)
 
@@ -140,7 +140,7 @@ still_pending m x all ok loud l undone = by x.state refl
 pub waiting_early : {H : Type 0} (m : Machine H) (x : Call) → CallOk m x → x.place ≡ Waiting → Early x
 waiting_early m x ok w = holds_as m x Waiting ok w
 
--- where the client lives, all is ours
+-- if the client half is alive, the connection's calls are ours
 pub ours_here : {H : Type 0} (m : Machine H) (x : Call) → Ok m → CallOk m x → m.client_lives x.connection ≡ true → ours x ≡ true
 ours_here m x all ok l = by x.state refl
   where

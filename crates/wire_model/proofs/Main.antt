@@ -41,7 +41,8 @@ module _ (H : Type 0) (does : Does H) (stops : Stops H) where
     uncut = uncut_of limit t g w f.next f.agrees;
   }
 
-  -- what the world shows, and what its raw connections took and gave, is of one state of the machine
+  -- one state of the machine explains what the world shows and what its raw connections took and
+  -- gave
   pub headline : (l : WorldLimits) (first : H) (es : List Event) (w : World H) → AreGood l → (run : Run does stops l (opening l first) es w) → (h : Headline does stops first w) × RawGiveOwn does stops l first es w run h.m
   headline l first es w good run =
       let f = follows l first es w good run in

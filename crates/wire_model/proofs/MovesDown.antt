@@ -160,7 +160,7 @@ module _ (H : Type 0) (does : Does H) (stops : Stops H) where
       by (is_bad fault bad e) = absurd (Return.never_bad limit short c k m h.route f alive raw p rest output h.route.due fault (f.down alive)
           (subst (λ z. IsBad z (k.client.held ++ p) fault) f.made.limit_down (subst (λ b. IsBad k.client.requests.limit b fault) all bad)))
 
-  -- piece after piece
+  -- the client takes pieces, one after another
   pub take_all_down : (limit : ℕ) → limit < 2 ^ 31 → (c : ℕ) (pieces : List (List ℕ)) (k : Conn) (m : Machine H) (t g : List ℕ) (rest : List ℕ) (client : ClientSeen) (calls : List Record) → Ok m → Here limit c k m t g → k.raw ≡ false → k.server.output ≡ joined pieces ++ rest
       → ClientTakesAll k.calls k.client (shown_calls m.calls) pieces client calls → Reaches H does stops limit c (conn_down k client rest) m calls m.log m.handler t g
   take_all_down limit short c [] k m t g rest client calls ok h raw output takes = rw (takes.0, takes.1, ← output) (still H does stops limit c k m t g h)

@@ -82,7 +82,7 @@ module _ (H : Type 0) (does : Does H) (stops : Stops H) where
             handler_is = refl;
           })
 
-  -- piece after piece
+  -- the server takes pieces, one after another
   pub take_all_raw : (limit c : ℕ) (pieces : List (List ℕ)) (k : Conn) (m : Machine H) (t g : List ℕ) (server : ServerView) → Ok m → Here limit c k m t g → k.raw ≡ true → ServerTakesAll k.server pieces server
       → Reaches H does stops limit c (with_server k server) m (shown_calls m.calls) m.log m.handler (t ++ joined pieces) g
   take_all_raw limit c [] k m t g server ok h raw takes = rw (takes, append-nil t) (still H does stops limit c k m t g h)

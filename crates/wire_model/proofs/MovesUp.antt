@@ -20,7 +20,7 @@ use Rattle.wire_model.proofs.Ranks.{shows-set_same}
 use Rattle.wire_model.proofs.Reaches.{Reaches, reaches_then, still}
 use Rattle.wire_model.proofs.Routes.{Fits, OnWayAt, Tag, UpFits, sent, server_lives, tag_message}
 
--- the whole piece went to what is held
+-- the whole piece was added to the held bytes
 pub all_taken : (s : ServerView) (p : List ℕ) (server : ServerView) (t : TakesBytes s p (length p) server) → t.bytes ≡ s.held ++ p
 all_taken s p server t = t.fed.held ∙ ap (λ b. s.held ++ b) (take_all (length p) p (omega arith))
 
@@ -70,7 +70,7 @@ module _ (H : Type 0) (does : Does H) (stops : Stops H) where
           rw e (arrives msg first.0 first.1 spells first.2 first.3 first.4 u' (u'.are.each first.0.call (inl refl)))
       by (Bad fault) bad e = absurd (Arrive.never_bad limit short c k m h.route f alive raw p rest output h.route.onway fault (f.up alive raw) (subst (λ z. IsBad z (k.server.held ++ p) fault) f.made.limit_up bad))
 
-  -- piece after piece
+  -- the server takes pieces, one after another
   pub take_all_up : (limit : ℕ) → limit < 2 ^ 31 → (c : ℕ) (pieces : List (List ℕ)) (k : Conn) (m : Machine H) (t g rest : List ℕ) (server : ServerView) → Here limit c k m t g → k.raw ≡ false → k.client.requests.output ≡ joined pieces ++ rest → ServerTakesAll k.server pieces server
       → Reaches H does stops limit c (conn_up k server rest) m (shown_calls m.calls) m.log m.handler t g
   take_all_up limit short c [] k m t g rest server h raw output takes = rw (takes, ← output) (still H does stops limit c k m t g h)

@@ -1,4 +1,4 @@
--- What an answer of a server is in the machine: a step, and ways that fit after it.
+-- An answer of a server is a step of the machine, and the ways fit after it.
 use Rattle.std.proofs.Common.{◌≡◌, ℕ, Bool, true, false, true≢false, FitsSigned, List, [], ◌∷◌, ◌++◌, append-nil, length, refl, sym, subst, ◌∙◌, ap, arith, Option, Some, None, inl, inr, Ok, Err}
 use Rattle.std.specs.Prelude.{All, if◌then◌else◌, remove, slice_get}
 use Rattle.std.specs.Int.{w32}
@@ -81,7 +81,7 @@ asked_at {H} limit c i k m r msg ok f alive waits = with_t (waits_is k.server.wa
     with_t : ((t : Tag) × (slice_get r.waiting i ≡ Some t) × IsRequest waits.bytes t) → AskedAt c i k m r msg
     with_t (t, there, request) = with_x t there request ((f.wait alive).are.each t.call (Has-at (tag_calls r.waiting) i t.call (get-map (λ (a : Tag). a.call) r.waiting i t there)))
 
--- as many answers as the request takes
+-- there are as many answers as the request allows
 pub fair_of : (a : Asked) (answers : List Content) → a.more_to_come ≡ false → IsCount a (length answers) → Fair a.exhaust_allowed answers
 fair_of a [] loud count = absurd (omega (arith, count.0))
 fair_of a (b ∷ answers) loud count = by a.exhaust_allowed refl answers (count.1)
@@ -94,7 +94,7 @@ fair_of a (b ∷ answers) loud count = by a.exhaust_allowed refl answers (count.
 
 -- ---- what an answer leaves
 
--- The request's entry is logged, and its server lives on or is gone; the ways fit.
+-- The request's entry is logged, and its server is still alive or lost; the ways fit.
 pub record Leaves {H : Type 0} (does : Does H) (stops : Stops H) (limit c i : ℕ) (k : Conn) (server : ServerView) (m : Machine H) (r : Route) (msg : Message) (log : List LogEntry) (h : H) : Type 0 where
   pub asks : AskedAt c i k m r msg
   pub next : Machine H
@@ -182,7 +182,7 @@ module _ {H : Type 0} (does : Does H) (stops : Stops H) (limit c i : ℕ) (k : C
             (λ taken given. raw_gives limit c k (record k { server = after }) m r.waiting taken given i a.t a.x answers h alive is_open a.there a.at a.is.0 a.is.1 (ap (λ (z : Asked). z.more_to_come) a.asked ∙ loud) refl all
             (ap (λ b. if b then k.server.next_id else id_after k.server.next_id answers) loud) refl)
 
-  -- ---- the server closes: nothing is put out, the entry stands
+  -- ---- the server closes: nothing is put out, and the entry stays
 
   pub closes : (cause : ServerCause) → IsStopped (Closed cause) → (answers : Option (List Content)) (h : H) (log : List LogEntry) → log ≡ m.log ++ entered k.server.connection (asked_by msg) answers ∷ []
       → ((n : Machine H) → n ≡ server_gone (logged m a.t.call (placed a.x (Mute (length m.log))) (entry_for a.x answers) h) a.x.connection → Step H does stops m n)
@@ -216,7 +216,7 @@ module _ {H : Type 0} (does : Does H) (stops : Stops H) (limit c i : ℕ) (k : C
 
 -- ---- the server's answer
 
--- with a message that waits
+-- an answer to some message that waits
 abbrev pub LeavesSome : {H : Type 0} → Does H → Stops H → (limit c i : ℕ) → Conn → ServerView → Machine H → Route → List LogEntry → H → Type 0
 LeavesSome does stops limit c i k server m r log h = (msg : Message) × WaitsAt k.server i msg × Leaves does stops limit c i k server m r msg log h
 
@@ -253,7 +253,7 @@ module _ {H : Type 0} (does : Does H) (stops : Stops H) (limit c i : ℕ) (k : C
         by true e = absurd (true≢false (sym long ∙ ap (λ b. is_longer k.server.limit (if b then [] else chain k.server.next_id msg.id answers)) e))
         by false e = e
 
-    -- for this reason, and so for this cause
+    -- for this reason there are no replies, and so the server closes for this cause
     closed_by : (why : NoReplies) (cause : ServerCause) (h : H) (log : List LogEntry) → cause_of why ≡ Some cause → ReplyStep does stops k.server.connection msg.id (asked_by msg) (Err why) m.handler m.log (replies_of k.server) h log (replies_of k.server)
         → Leaves does stops limit c i k (closed_at k.server i cause) m r msg log h
     closed_by reasons.NotAsked cause h log e d = absurd (none-some cause e)

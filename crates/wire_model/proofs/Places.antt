@@ -1,4 +1,4 @@
--- Connections by number: what is where after a connection is made, changed or mapped.
+-- Connections by number: which has a number after one is made, changed or mapped.
 use Rattle.std.proofs.Common.{◌≡◌, ℕ, zero, suc, ◌<◌, ◌≤◌, List, [], ◌∷◌, ◌++◌, length, map, refl, ap, arith, Some, None, ◌⊎◌, inl, inr}
 use Rattle.std.specs.Prelude.{slice_set}
 use Rattle.std.proofs.lemmas.Option.{none-some, slice_get_past, slice_get_within}
@@ -18,7 +18,7 @@ slice_set-twice (a ∷ xs) (suc i) x y = ap (λ zs. a ∷ zs) (slice_set-twice x
 
 -- ---- where connections are
 
--- the connection of a number is one of so many
+-- the number of a connection is from 1 to how many there are
 pub conn_within : (ks : List Conn) (c : ℕ) (k : Conn) → conn_at ks c ≡ Some k → (1 ≤ c) × (c ≤ length ks)
 conn_within ks zero k g = absurd (none-some k g)
 conn_within ks (suc i) k g = let lt = slice_get_within ks i k g in (omega arith, omega arith)

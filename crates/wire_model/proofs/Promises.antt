@@ -47,7 +47,7 @@ ok_empty h raw = record {
   raws = λ c e. ap (λ b. if b then false else true) e;
 }
 
--- ---- what it comes to
+-- ---- what follows
 pub done_whole : {H : Type 0} (m : Machine H) → Ok m → DoneIsWhole m
 done_whole m ok i x at d = by x.place refl
   where

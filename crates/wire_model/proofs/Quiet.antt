@@ -1,4 +1,5 @@
--- What is seen of a world that agrees with the machine: quiet connections, uncut ones, and raw ones.
+-- What follows for a world that agrees with the machine: for quiet connections, uncut ones, and raw
+-- ones.
 use Rattle.std.proofs.Common.{◌≡◌, ℕ, ◌^◌, ◌<◌, true, false, List, [], ◌∷◌, ◌++◌, refl, sym, ◌∙◌, ap, subst, append_assoc, Some, inl, inr}
 use Rattle.std.specs.Prelude.{slice_get}
 use Rattle.std.specs.List.{flat_map}

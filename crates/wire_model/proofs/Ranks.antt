@@ -1,4 +1,4 @@
--- The numbers of the calls: their places among the records, which show no strangers.
+-- The numbers of the calls: their indexes among the records, where there are no strangers.
 use Rattle.std.proofs.Common.{◌≡◌, ℕ, zero, suc, Bool, true, false, eqb, List, [], ◌∷◌, ◌++◌, length, map, refl, sym, ◌∙◌, ap, Some}
 use Rattle.std.specs.Prelude.{slice_get, slice_set, if◌then◌else◌, ◌==◌}
 use Rattle.std.proofs.lemmas.Option.{none-some, same_Some}
@@ -10,7 +10,7 @@ abbrev pub more_by : Bool → ℕ → ℕ
 more_by true n = suc n
 more_by false n = n
 
--- how many calls of ours stand before
+-- how many calls of ours are before
 abbrev pub rank : List Call → ℕ → ℕ
 rank [] i = zero
 rank (x ∷ xs) zero = zero
@@ -76,7 +76,7 @@ shows-push_other (a ∷ calls) y e = elim (ours a) as (λ b. (if b then shown a 
 abbrev shows_by : Bool → Record → List Record → List Record
 shows_by b r rs = if b then r ∷ rs else rs
 
--- a write that isn't seen
+-- a write that doesn't change the record
 pub shows-set_same : (calls : List Call) (i : ℕ) (x y : Call) → CallIs calls i x → shown y ≡ shown x → shown_calls (slice_set calls i y) ≡ shown_calls calls
 shows-set_same [] i x y g e = refl
 shows-set_same (a ∷ calls) zero x y g e =

@@ -95,7 +95,7 @@ module _ {H : Type 0} (limit c : ℕ) (k k' : Conn) (m : Machine H) (waiting : L
     | inr new ↦ subst (λ (v : RawEntry). slice_get r.messages v.index ≡ Some v.message) new.1 stands.at
   ]
 
-  -- the others that wait do so still
+  -- the other requests still wait
   others : (u : Tag) → StandsFor c m.calls r.messages u → StandsFor c calls' r.messages u
   others u a = elim (same_or_not u.call t.call) [
     | inl same ↦ other (placed x p) (ap (slice_get calls') same ∙ get-set_same m.calls t.call x (placed x p) there) here
@@ -170,7 +170,7 @@ raw_silent limit c k k' m waiting taken given place t x answers h lives was wait
     raw_entry_fits limit c k k' m waiting taken given r place t x (logged_place x (length m.log)) (Some answers) h false lives was waits there here waiting_is (place_names x (length m.log)) held (output ∙ sym (append-nil k.server.output)) next
     (λ many i u gives has more last. inr (inl (gives, more ∙ silent)))
 
--- it closes over its answers, or the handler stopped: the entry stands, and nothing is put out
+-- it closes at its answers, or the handler stopped: the entry stays, and nothing is put out
 pub raw_stops : {H : Type 0} (limit c : ℕ) (k k' : Conn) (m : Machine H) (waiting waiting' : List Tag) (taken given : List ℕ) (place : ℕ) (t : Tag) (x : Call) (answers : Option (List Content)) (h : H) (cause : ServerCause)
     → IsStopped (Closed cause) → m.server_lives c ≡ true → k.server.state ≡ Open → slice_get waiting place ≡ Some t → CallIs m.calls t.call x → x.connection ≡ c → x.place ≡ Waiting
     → k'.server.held ≡ k.server.held → k'.server.output ≡ k.server.output → k'.server.next_id ≡ k.server.next_id → k'.server.state ≡ Closed cause

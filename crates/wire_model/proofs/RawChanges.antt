@@ -111,7 +111,7 @@ raw_same limit c k m n waiting taken given s r = record {
     named i t a = subst (λ log. IsNamed c n.calls log i t) (sym s.more.1)
         (named_by c m.calls n.calls m.log s.more.0 i t a a.stranger (ap (λ xs. slice_get xs t.index) s.calls ∙ a.at) a.names)
 
--- its server is lost; of what waits nothing is known any more
+-- its server is lost; nothing more is said of what waits
 pub raw_gone : {H : Type 0} (limit c : ℕ) (k : Conn) (m : Machine H) (waiting waiting' : List Tag) (taken given : List ℕ) → RawFits limit c k m waiting taken given → RawFits limit c k (server_gone m c) waiting' taken given
 raw_gone limit c k m waiting waiting' taken given r = record {
   messages = r.messages;

@@ -71,7 +71,7 @@ entries-length c (t ∷ ts) = ap suc (entries-length c ts)
 
 -- ---- which strangers name them
 
--- the stranger may have changed, and entries come behind the old ones
+-- the stranger may have changed, and there may be more entries
 pub named_by : (c : ℕ) (calls calls' : List Call) (log more : List LogEntry) (i : ℕ) (t : RawEntry) (n : IsNamed c calls log i t) (y : Call) → slice_get (calls_of c calls') t.index ≡ Some y → EntryOf y n.e → IsNamed c calls' (log ++ more) i t
 named_by c calls calls' log more i t n y at names = record {
   stranger = y;
@@ -93,7 +93,7 @@ pub named_map : (c : ℕ) (f : Call → Call) (calls : List Call) (log : List Lo
 named_map c f calls log i t s k n = named_stays c calls (map f calls) log i t n (f n.stranger)
     (ap (λ xs. slice_get xs t.index) (calls-map c f calls s) ∙ get-map f (calls_of c calls) t.index n.stranger n.at) (k n.stranger n.e n.names)
 
--- the entry of a request stays its entry when the server is lost
+-- a request keeps its entry when the server is lost
 pub entry_never : (c : ℕ) (x : Call) (e : ℕ) → EntryOf x e → EntryOf (never c x) e
 entry_never c x e (inl s) = inl (by (x.connection == c))
   where
@@ -156,7 +156,7 @@ right_stays s s' many i t on back (inl r) = inl (r.0, r.1, r.2, λ last stopped.
 right_stays s s' many i t on back (inr (inl r)) = inr (inl r)
 right_stays s s' many i t on back (inr (inr r)) = inr (inr (r.0, r.1, on r.2))
 
--- those at an open server stay so whatever comes
+-- those at an open server still do, whatever comes
 pub was_right : (s s' : ServerState) (many many' i : ℕ) (t : RawEntry) → s ≡ Open → (suc i ≡ many' → ⊥) → GivesReplies s many i t → GivesReplies s' many' i t
 was_right s s' many many' i t e early (inl r) = inl (r.0, r.1, r.2, λ last stopped. early last)
 was_right s s' many many' i t e early (inr (inl r)) = inr (inl r)

@@ -17,11 +17,11 @@ use Rattle.wire_model.proofs.Routes.{Tag}
 use Rattle.wire_model.proofs.ConnCalls.{calls_before}
 use Rattle.wire_model.proofs.RawEntries.{next_by}
 
--- nothing whole is held
+-- the held bytes are no whole message
 abbrev pub IsLeft : ℕ → List ℕ → Type 0
 IsLeft limit held = IsOpen limit held ⊎ ((f : MsgFault) × IsBad limit held f)
 
--- The call of the tag is one of the connection's, and of the messages the one with as many before it has the tag's id.
+-- The call of the tag is one of the connection's, and the message with its index among them has the id of the tag.
 pub record StandsFor (c : ℕ) (calls : List Call) (messages : List Message) (t : Tag) : Type 0 where
   pub x : Call
   pub there : CallIs calls t.call x

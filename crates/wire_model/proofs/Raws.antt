@@ -1,4 +1,4 @@
--- Raw connections of a world, new and told the end.
+-- Raw connections of a world: a new one, and one that is told the end.
 use Rattle.std.proofs.Common.{◌≡◌, ℕ, [], refl, sym, ◌∙◌, ap}
 use Rattle.std.proofs.lemmas.Option.{same_Some}
 use Rattle.wire_peer.specs.{LogEntry}

@@ -11,7 +11,7 @@ use Rattle.wire_model.specs.Machines as machine
 use Rattle.wire_model.proofs.Lists.{get-push_old, get-push_new, get-push_cases, get-set_same, get-set_other, same_or_not, get-map_back}
 use Rattle.wire_model.proofs.Promises.{not_waiting, not_onway, never_entry_from}
 
--- what names an entry named it before, and asks the same
+-- a call that names an entry named it before, and asks the same
 abbrev NamedBefore : List Call → List Call → Type 0
 NamedBefore calls calls' = (i : ℕ) (y : Call) (e : ℕ) → CallIs calls' i y → EntryOf y e → (x : Call) × CallIs calls i x × EntryOf x e × (x.asked ≡ y.asked)
 

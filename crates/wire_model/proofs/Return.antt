@@ -1,4 +1,4 @@
--- The client takes a piece: nothing changes, or the first reply on the way down is off it.
+-- The client takes a piece: nothing changes, or the first reply on the way down arrives.
 use Rattle.std.proofs.Common.{◌≡◌, ℕ, ℤ, pos, ◌<◌, ◌^◌, Bool, true, false, List, [], ◌∷◌, ◌++◌, refl, sym, ◌∙◌, ap, append_assoc, Option, Some, None, Result, Ok, Err, inr}
 use Rattle.std.specs.Prelude.{slice_get, if◌then◌else◌, not, ◌&&◌, ◌||◌}
 use Rattle.std.specs.List.{flat_map}
@@ -44,7 +44,7 @@ ready k held tag last next more = record k {
 abbrev pub conn_down : Conn → ClientSeen → List ℕ → Conn
 conn_down k client output = record k { client = client; server = with_server_output k.server output }
 
--- without a reply there is none to let go of
+-- a release without a reply changes nothing
 pub released_none : (k : ClientSeen) → k.reply ≡ None → released k ≡ k
 released_none k e = ap (λ r. after_release r k) e
 
@@ -54,7 +54,7 @@ of_tag tag last = Ok (tag.id, as_outstanding tag last)
 
 -- ---- what is due
 
--- replies of which the first is of this answer
+-- due replies whose first answer is this one
 abbrev pub due_of : Tag → Option ℤ → ℕ → Content → List Content → ℕ → Due
 due_of tag last next a bs entry = record { tag = tag; last = last; next = next; left = a ∷ bs; entry = entry }
 
@@ -160,7 +160,7 @@ module _ {H : Type 0} (limit : ℕ) (short : limit < 2 ^ 31) (c : ℕ) (k : Conn
         | false ↦ ap (λ b. if b then of_tag tag (Some n) else Err StreamBroken) (eq_int n n refl)
       ]
 
-  -- more come only to a call that allows them
+  -- more replies come only to a call that allows them
   allowed_is : (tag : Tag) (last : Option ℤ) (more : Bool) → (more ≡ true → tag.asked.exhaust_allowed ≡ true) → allows_more tag.kind ≡ tag.asked.exhaust_allowed → allowed more (of_tag tag last) ≡ of_tag tag last
   allowed_is tag last true fair same = ap (λ b. if true && not b then Err MoreNotAllowed else of_tag tag last) (same ∙ fair refl)
   allowed_is tag last false fair same = refl
@@ -191,7 +191,7 @@ module _ {H : Type 0} (limit : ℕ) (short : limit < 2 ^ 31) (c : ℕ) (k : Conn
     connection_in : (Q : Call → Type 0) (is' : List ℕ) → ((y : Call) → Q y → y.connection ≡ c) → Exact Q m.calls is' → (i : ℕ) → Has i is' → (y : Call) → CallIs m.calls i y → y.connection ≡ c
     connection_in Q is' here e i h y g = let q = e.each i h in here y (rw (same_Some y q.0 (sym g ∙ q.1)) q.2)
 
-    -- a request keeps its bearer in the other table
+    -- a request has the same call in the other table
     bears_in : (os' : Table) (t : Tag) (l : Option ℤ) → bearer t.id os' ≡ bearer t.id os → Bears os k.calls t l → Bears os' k.calls t l
     bears_in os' t l same b = record { bearer_is = same ∙ b.bearer_is; at = b.at; exhaust_allowed = b.exhaust_allowed }
 

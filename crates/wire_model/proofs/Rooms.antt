@@ -1,4 +1,4 @@
--- Memory is never wanting where a server has room for what is moved to it.
+-- A server never runs out of memory for bytes that it has room for.
 use Rattle.std.proofs.Common.{◌≡◌, ℕ, ◌+◌, ◌-◌, ◌<◌, ◌≤◌, ◌⊎◌, List, [], ◌∷◌, ◌++◌, length, take, sym, ◌∙◌, ap, subst, arith, length-append, length-take, Some, inl, inr}
 use Rattle.std.specs.Prelude.{Err}
 use Rattle.std.proofs.lemmas.List.{append-nil, take_all}
@@ -19,7 +19,7 @@ use Rattle.wire_model.specs.Moves.{ServerTakesAll, joined}
 use Rattle.wire_model.specs.Rooms.{HasRoomFor}
 use Rattle.wire_model.specs.Happening.{Happens, PartDone, WantsRoom}
 
--- so many more bytes end before a header does, or inside the message that the header announces
+-- n more bytes end before the header does, or inside the message that the header announces
 abbrev EndsInside : (limit : ℕ) → List ℕ → ℕ → Type 0
 EndsInside limit held n = (length held + n < 16) ⊎ ((16 ≤ length held) × IsGoodHeader limit (header_of held) × (length held + n ≤ number_at held 0))
 
@@ -71,7 +71,7 @@ wants_none (p ∷ ps) s server n piece inside took le wants =
     let are : one.bytes ≡ s.held ++ p = one.fed.held ∙ ap (λ x. s.held ++ x) (take_all (length p) p (omega arith)) in
     wants_none ps took.0 server (n - length p) piece (after_piece s took.0 n p one.bytes one.found inside le' are one.fed.state one.is) took.2 (omega (arith, le, length-append p (joined ps))) wants
 
--- memory isn't wanting for what is moved up
+-- memory doesn't run out for what is moved up
 pub up_wants_none : {H : Type 0} (does : Does H) (stops : Stops H) (l : WorldLimits) (old new : World H) (c n : ℕ) (k : Conn) → conn_at old.conns c ≡ Some k → HasRoomFor k.server n → Happens does stops l old (Up c n) (Err OutOfMemory) new → ⊥
 up_wants_none does stops l old new c n k at room (before, inl (same, making)) = making
 up_wants_none {H} does stops l old new c n k at room (before, inr out) =

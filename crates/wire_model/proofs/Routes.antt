@@ -1,4 +1,4 @@
--- What of the machine's calls lies on the ways of one connection.
+-- Which of the machine's calls are on the ways of one connection.
 use Rattle.std.proofs.Common.{◌≡◌, ℕ, ◌<◌, Bool, true, false, List, [], ◌∷◌, ◌++◌, length, map, Option, Some, None, ap, subst, sym, ◌∙◌}
 use Rattle.std.specs.Prelude.{ℤ, pos, slice_get}
 use Rattle.std.specs.List.{flat_map}
@@ -29,8 +29,8 @@ abbrev pub server_lives : ServerState → Bool
 server_lives servers.Open = true
 server_lives (servers.Closed cause) = false
 
--- A request on its way or waiting: its place among the machine's calls, its index among the records, its number among its
--- client's calls, its id, its kind and what it asks. A stranger has no kind and no number that matter.
+-- A request on its way or waiting: its index among the machine's calls, its index among the records, its number among its
+-- client's calls, its id, its kind and what it asks. The kind and the number of a stranger don't matter.
 pub record Tag : Type 0 where
   pub call : ℕ
   pub index : ℕ
@@ -39,7 +39,8 @@ pub record Tag : Type 0 where
   pub kind : CallKind
   pub asked : Asked
 
--- the replies of one entry that are due: those to come, the id of the next one, and of the last one if there was one
+-- the replies of one entry that are due: the answers to come, the id of the next reply, and that of the last one if
+-- there was one
 pub record Due : Type 0 where
   pub tag : Tag
   pub last : Option ℤ
@@ -122,12 +123,12 @@ pub record DueIs {H : Type 0} (m : Machine H) (d : Due) : Type 0 where
   pub answers : entry.answers ≡ Some (tag.x.parts ++ d.left)
   pub fair : Fair d.tag.asked.exhaust_allowed d.left
 
--- the first is the least, and so on
+-- each number is less than all after it
 abbrev pub Rising : List ℕ → Type 0
 Rising [] = Unit {0}
 Rising (i ∷ is) = ((j : ℕ) → Has j is → i < j) × Rising is
 
--- what waits at the server; this is all of a raw connection
+-- what waits at the server; a raw connection has nothing else
 pub record WaitFits {H : Type 0} (c : ℕ) (requests : List (List ℕ)) (m : Machine H) (waiting : List Tag) : Type 0 where
   pub same : AreRequests requests waiting
   pub are : Exact (WaitingAt c) m.calls (tag_calls waiting)
@@ -141,13 +142,13 @@ pub record UpFits {H : Type 0} (limit c : ℕ) (held output : List ℕ) (m : Mac
   pub tags : Each (TagIs m.calls) onway
   pub rising : Rising (tag_calls onway)
 
--- the request is outstanding under its id, and its record is where its number says
+-- the request is outstanding under its id, and its number gives the index of its record
 pub record Bears (os : Table) (indexes : List ℕ) (t : Tag) (last : Option ℤ) : Type 0 where
   pub bearer_is : bearer t.id os ≡ Some (as_outstanding t last)
   pub at : slice_get indexes t.number ≡ Some t.index
   pub exhaust_allowed : allows_more t.kind ≡ t.asked.exhaust_allowed
 
--- only the first of the replies that are due may be of a stream that has begun
+-- no call has had a part, except perhaps the one of the first replies that are due
 abbrev pub IdleBut : Option ℤ → ℤ → Table → Type 0
 IdleBut None id os = Idle os
 IdleBut (Some last) id os = Idle (without id os)
@@ -171,7 +172,7 @@ pub record DownFits {H : Type 0} (limit c : ℕ) (held output : List ℕ) (reply
 abbrev pub IdsFit : Table → List ℕ → List Tag → Type 0
 IdsFit os indexes ts = Each (λ t. t.asked.more_to_come ≡ false → Bears os indexes t None) ts
 
--- what the two ends of connection c are made with, and where their ids stand
+-- the numbers with which the two ends of connection c were made, and their next ids
 pub record IsMade (limit c : ℕ) (k : Conn) : Type 0 where
   pub limit_up : k.server.limit ≡ limit
   pub limit_down : k.client.requests.limit ≡ limit

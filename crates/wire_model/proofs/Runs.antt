@@ -109,7 +109,7 @@ module _ (H : Type 0) (does : Does H) (stops : Stops H) (l : WorldLimits) (good 
     left_alone w n m e r s p a is = as_said t (λ c. t c ++ taken_in does stops l c w n e (Err r) s) g (λ c. g c ++ given_in does stops l c w n e (Err r) s) m n (nothing_done w n m a is)
         (λ c. ap (λ b. t c ++ b) (none_taken c w n e r s p) ∙ append-nil (t c)) (λ c. ap (λ b. g c ++ b) (none_given c w n e r s) ∙ append-nil (g c))
 
-    -- ---- want of memory
+    -- ---- out of memory
 
     -- an event that makes a connection changes nothing
     not_made : (w n : World H) (m : Machine H) (e : Event) (before : _) (s : (n ≡ w) × IsMaking w e) → Agrees l.limit t g w m
@@ -128,7 +128,7 @@ module _ (H : Type 0) (does : Does H) (stops : Stops H) (l : WorldLimits) (good 
     not_made w n m (events.Raw c bytes) before s a = absurd s.1
     not_made w n m (events.RawTake c many) before s a = absurd s.1
 
-    -- what is done is done, and then the connection is dropped
+    -- the event does what it can, and then the connection is dropped
     drops : (t' : ℕ → List ℕ) (done n : World H) (m : Machine H) (c : ℕ) → Follows H does stops l.limit t' g m done → n ≡ dropped done c → Follows H does stops l.limit t' g m n
     drops t' done n m c f e = and_then t' t' t' g g g m done n f (followed_dropped H does stops l.limit short t' g done n f.next c f.agrees e) (λ d. refl) (λ d. refl)
 

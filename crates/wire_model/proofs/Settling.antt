@@ -57,7 +57,7 @@ settled_lost ks c x shut = by (x.connection == c) refl
 abbrev shown_by : Bool → Record → List Record → List Record
 shown_by b r rs = if b then r ∷ rs else rs
 
--- where no pending call's client is closed nothing is left to settle
+-- if no pending call has a closed client, nothing is left to settle
 pub settled_are : (ks : List Conn) (calls : List Call) → ((i : ℕ) (x : Call) → CallIs calls i x → x.state ≡ Pending → IsShut ks x.connection → ⊥) → map (settled_record ks) (shown_calls calls) ≡ shown_calls calls
 settled_are ks [] n = refl
 settled_are ks (x ∷ calls) n = elim (is_ours x.state) as (λ b. map (settled_record ks) (shown_by b (shown x) (shown_calls calls)) ≡ shown_by b (shown x) (shown_calls calls)) [
@@ -65,7 +65,7 @@ settled_are ks (x ∷ calls) n = elim (is_ours x.state) as (λ b. map (settled_r
   | false ↦ settled_are ks calls (λ j y g. n (suc j) y g)
 ]
 
--- the calls of a closed client may be lost before
+-- it makes no difference if the calls of a closed client are lost before
 pub settled_shut : (ks : List Conn) (c : ℕ) (calls : List Call) → IsShut ks c → map (settled_record ks) (shown_calls (map (lost c) calls)) ≡ map (settled_record ks) (shown_calls calls)
 settled_shut ks c [] shut = refl
 settled_shut ks c (x ∷ calls) shut =

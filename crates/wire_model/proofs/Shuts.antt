@@ -1,4 +1,4 @@
--- Connections some of whose ends are told the end, one after another.
+-- Connections in which some ends are told the end, one after another.
 use Rattle.std.proofs.Common.{◌≡◌, ℕ, suc, Bool, true, false, List, [], ◌∷◌, ◌++◌, length, map, refl, sym, ◌∙◌, ap, subst, append_assoc, Option, Some, None, inl, inr}
 use Rattle.std.specs.Prelude.{◌||◌, if◌then◌else◌}
 use Rattle.wire_peer.specs.declared.client_state.ClientState.{ClientState}

@@ -1,4 +1,4 @@
--- A connection that is dropped for want of memory.
+-- A connection that is dropped because memory ran out.
 use Rattle.std.proofs.Common.{map, ◌≡◌, ℕ, true, false, List, ◌++◌, length, refl, sym, ◌∙◌, ap, Some, Result, Ok, Err}
 use Rattle.std.specs.Prelude.{take}
 use Rattle.wire_peer.specs.{ClientSeen, Does, Settles, Stops, allowed, holding, owner}
@@ -20,7 +20,7 @@ use Rattle.wire_model.proofs.Routes.{Fits, made_alike}
 use Rattle.wire_model.proofs.Settling.{IsShut, settled_shut}
 use Rattle.wire_model.proofs.Shuts.{shut_after}
 
--- what a client that takes bytes keeps of its requests
+-- what taking bytes leaves of a client's requests
 record KeepsRequests (old new : ClientSeen) : Type 0 where
   limit : new.requests.limit ≡ old.requests.limit
   next_id : new.requests.next_id ≡ old.requests.next_id

@@ -1,4 +1,4 @@
--- What the world needs of the format.
+-- The facts about bytes and messages that worlds need.
 use Rattle.std.proofs.Common.{◌≡◌, inl, inr, ℕ, ℤ, ◌<◌, ◌≤◌, ◌^◌, FitsSigned, List, [], ◌∷◌, ◌++◌, length, take, refl, sym, ap, subst, ◌∙◌, arith}
 use Rattle.std.specs.Coded.{Coded, code_by, coded_ℕ, coded_ℤ, coded_bool, coded_list, coded×}
 use Rattle.std.specs.Int.{w32}
@@ -23,7 +23,7 @@ pub record Fit (limit : ℕ) (m : Message) : Type 0 where
   pub response_to : FitsSigned w32 m.response_to
   pub content : ∥ IsContent m.content ∥₁
 
--- ---- what is proved of bytes and messages has one proof
+-- ---- equalities of bytes and of messages have one proof each
 
 abbrev coded_bytes : Coded (List ℕ)
 coded_bytes = coded_list coded_ℕ
@@ -80,7 +80,8 @@ spells_first limit m n b c d lt f s e =
 pub open_first : (limit : ℕ) (n : Message) (b d : List ℕ) → limit < 2 ^ 31 → Fit limit n → IsOpen limit b → b ≡ canonical n ++ d → ⊥
 open_first limit n b d lt f o e = ∥∥₁_elim (fit_spells limit n lt f) absurd_prop (λ s. open_not_whole limit b d n o (whole_first limit n b d f e s))
 
--- bytes that are bad and meet a spelling within the limit make that spelling bad
+-- if bad bytes are at the front of a spelling within the limit, or that is at theirs, the spelling
+-- is bad
 bad_spelling : (limit : ℕ) (n : Message) (b c d : List ℕ) (fault : MsgFault) → SpellsMsg n (canonical n) → IsBad limit b fault → b ++ c ≡ canonical n ++ d → IsBad limit (canonical n) fault
 bad_spelling limit n b c d fault s (bad_header room h) e =
     let long : 16 ≤ length (canonical n) = omega (arith, least_length n (canonical n) s) in
@@ -99,23 +100,23 @@ pub bad_begins : (limit : ℕ) (n : Message) (b c d : List ℕ) (fault : MsgFaul
 bad_begins limit n b c d fault lt f bad e = ∥∥₁_elim (fit_spells limit n lt f) absurd_prop (λ s.
     bad_not_whole limit (canonical n) [] n fault (fit_bytes limit n lt f) (bad_spelling limit n b c d fault s bad e) (whole_first limit n (canonical n) [] f (sym (append-nil (canonical n))) s))
 
--- ---- nothing
+-- ---- no bytes
 
 pub open_nil : (limit : ℕ) → IsOpen limit []
 open_nil limit = in_header (omega arith)
 
--- nothing is no message
+-- no bytes are no message
 pub spells_some : (m : Message) (b c : List ℕ) → SpellsMsg m b → b ++ c ≡ [] → ⊥
 spells_some m [] c s e = no_message m s
 spells_some m (x ∷ b) c s e = cc
 
--- nothing isn't bad
+-- no bytes aren't bad
 pub bad_some : (limit : ℕ) (b c : List ℕ) (f : MsgFault) → IsBad limit b f → b ++ c ≡ [] → ⊥
 bad_some limit [] c f bad e = open_not_bad limit [] f (open_nil limit) bad
 bad_some limit (x ∷ b) c f bad e = cc
 
 -- ---- any spelling
 
--- the message that bytes spell is one
+-- bytes spell at most one message
 pub same_request : (m n : Message) (b : List ℕ) → SpellsMsg m b → SpellsMsg n b → m ≡ n
 same_request m n b s t = one_message m n b (msg_are_bytes m b s) s t

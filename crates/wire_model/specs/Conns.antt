@@ -20,9 +20,9 @@ pub record Record : Type 0 where
   pub parts : List Content
   pub state : State
 
--- A connection: its two ends, the index among the world's calls of each call of its client, by the
--- call's number, and which ways are cut. A raw connection has no client of ours: what stands in its
--- place is closed from the start and has put nothing out.
+-- A connection: its two ends, its client's calls in order, each by its index among the world's
+-- calls, and which ways are cut. A raw connection has no client of ours: in its place is one that
+-- was closed from the start and has no output.
 pub record Conn : Type 0 where
   pub raw : Bool
   pub client : ClientSeen
@@ -46,7 +46,7 @@ opening l h =
 
 -- ---- connections, numbered from 1
 
--- the connection of a number
+-- the connection with this number
 abbrev pub conn_at : List Conn → ℕ → Option Conn
 conn_at ks zero = None
 conn_at ks (suc i) = slice_get ks i
@@ -85,13 +85,13 @@ new_raw_conn l c = record {
 
 -- ---- records
 
--- a call that was made; an unacknowledged one is sent, and that is all
+-- the record of a new call: sent if it is unacknowledged, and else pending
 abbrev pub new_record : ℕ → Asked → Record
 new_record c a =
     record
     { connection = c; asked = a; parts = []; state = if a.more_to_come then Sent else Pending }
 
--- one more part; with the last one the call is done
+-- the record with one more part; with the last part the call is done
 abbrev pub given_record : Record → Content → Bool → Record
 given_record x part last =
     record {
@@ -123,7 +123,7 @@ settled w = record w { calls = map (settled_record w.conns) w.calls }
 
 -- ---- limits
 
--- the numbers with which a world is made are within their ranges
+-- each of a world's limits is within its range
 pub record AreGood (l : WorldLimits) : Type 0 where
   pub first_id : pos 1 ≤ℤ l.first_id
   pub first_fits : FitsSigned w32 l.first_id

@@ -23,7 +23,7 @@ abbrev pub change : (Conn → Conn) → Option Conn → ℕ → List Conn → Li
 change f None c ks = ks
 change f (Some k) c ks = conn_set ks c (f k)
 
--- the connection of this number is cut both ways
+-- the connections, with the one of this number cut both ways
 abbrev pub cut_at : ℕ → List Conn → List Conn
 cut_at c ks = change cut_both (conn_at ks c) c ks
 
@@ -40,7 +40,8 @@ abbrev pub cleared_world : {H : Type 0} → World H → World H
 cleared_world w =
     settled (record w { pool = cleared_pool w.pool; conns = all_cut w.pool.idle w.conns })
 
--- each client that isn't told the end yet is told it; raw connections are left alone
+-- the way down is cut if it wasn't yet, so the client is told the end; a raw connection stays as it
+-- is
 abbrev pub restarted : Conn → Conn
 restarted k = if k.raw || k.down_cut then k else cut_down k
 

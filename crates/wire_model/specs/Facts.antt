@@ -4,8 +4,8 @@ use Rattle.wire_peer.specs.{Asked, Does, LogEntry, RunOf, Stops}
 use Rattle.wire_model.specs.Machines.{Call, CallIs, Done, EntryOf, Lost, Machine, Mute, Never}
 use Rattle.wire_model.specs.Machines.{Answered, Owes, Pending, Sent, is_ours}
 
--- The log is a run of the handler, entry by entry; each request is asked as the call asks whose
--- place names the entry.
+-- The log is a run of the handler, entry by entry. Each entry's request is what its call asks: the
+-- call whose place names the entry.
 pub record LogIsRun {H : Type 0} (does : Does H) (stops : Stops H) (first : H) (m : Machine H) :
     Type 0 where
   pub requests : List Asked
@@ -19,8 +19,8 @@ DoneIsWhole m = (i : ℕ) (x : Call) → CallIs m.calls i x → x.state ≡ Done
     → (e : ℕ) × (en : LogEntry) × (x.place ≡ Answered e) × (slice_get m.log e ≡ Some en)
     × (en.connection ≡ x.connection) × (en.payload ≡ x.asked.payload) × (en.answers ≡ Some x.parts)
 
--- each entry is named by the place of one call or stranger of its connection and payload, and by no
--- other
+-- the place of exactly one call or stranger names each entry, and that one has the entry's
+-- connection and payload
 abbrev pub EntryHasOneCall : {H : Type 0} → Machine H → Type 0
 EntryHasOneCall m =
     ((i j e : ℕ) (x y : Call) → CallIs m.calls i x → CallIs m.calls j y → EntryOf x e → EntryOf y e
@@ -29,14 +29,14 @@ EntryHasOneCall m =
     → (i : ℕ) × (x : Call) × CallIs m.calls i x × EntryOf x e × (en.connection ≡ x.connection)
     × (en.payload ≡ x.asked.payload))
 
--- an unacknowledged call holds none
+-- an unacknowledged call is sent, and holds no parts
 abbrev pub SilentHoldsNone : {H : Type 0} → Machine H → Type 0
 SilentHoldsNone m =
     (i : ℕ) (x : Call) → CallIs m.calls i x → is_ours x.state ≡ true → x.asked.more_to_come ≡ true
     → (x.state ≡ Sent) × (x.parts ≡ [])
 
--- a beginning of its entry's answers and not all of them; nothing where it has no entry or a failed
--- one
+-- the call holds a beginning of its entry's answers, but not all of them; it holds nothing if it
+-- has no entry, or one without answers
 abbrev pub HoldsBeginning : {H : Type 0} → Machine H → Call → Type 0
 HoldsBeginning m x =
     ((e : ℕ) × (en : LogEntry) × EntryOf x e × (slice_get m.log e ≡ Some en)
@@ -45,6 +45,7 @@ HoldsBeginning m x =
     ((x.parts ≡ [])
     × ((e : ℕ) (en : LogEntry) → EntryOf x e → slice_get m.log e ≡ Some en → en.answers ≡ None))
 
+-- a call that is pending or lost holds a beginning of its entry's answers, but not all of them
 abbrev pub PendingHoldsBeginning : {H : Type 0} → Machine H → Type 0
 PendingHoldsBeginning m =
     (i : ℕ) (x : Call) → CallIs m.calls i x → (x.state ≡ Pending) ⊎ (x.state ≡ Lost)

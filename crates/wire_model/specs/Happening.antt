@@ -39,13 +39,13 @@ use Rattle.wire_model.specs.Refusing.{RefusesCall, first_reason}
 abbrev pub with_pool : {H : Type 0} → World H → PoolSeen → World H
 with_pool w p = record w { pool = p }
 
--- the connection is the world's last one
+-- the world with this pool, and one more connection, this one
 abbrev pub opened : {H : Type 0} → World H → PoolSeen → Conn → World H
 opened w p k = record w { pool = p; conns = w.conns ++ k ∷ [] }
 
 -- ---- the pool
 
--- a connection is checked out, used or new
+-- a connection is checked out of the pool: an idle one, or a new one
 abbrev pub Opens : {H : Type 0} → WorldLimits → World H → (connection : ℕ) → (new : Bool) → World H
     → Type 0
 Opens l old c false new =
@@ -53,7 +53,7 @@ Opens l old c false new =
 Opens l old c true new =
     (p : PoolSeen) × (checked_out old.pool ≡ (outs.Open c, p)) × (new ≡ opened old p (new_conn l c))
 
--- a connection of ours that was lent is checked in, and kept or dropped
+-- a lent connection that isn't raw is checked in, and kept or dropped
 pub record Returns {H : Type 0} (old : World H) (c : ℕ) (kept : Bool) (new : World H) : Type 0 where
   pub k : Conn
   pub at : conn_at old.conns c ≡ Some k
@@ -65,12 +65,14 @@ pub record Returns {H : Type 0} (old : World H) (c : ℕ) (kept : Bool) (new : W
 
 -- ---- cuts
 
+-- the way up of the connection is cut
 pub record CutsUp {H : Type 0} (old : World H) (c : ℕ) (new : World H) : Type 0 where
   pub k : Conn
   pub at : conn_at old.conns c ≡ Some k
   pub uncut : k.up_cut ≡ false
   pub after : new ≡ with_conn old c (cut_up k)
 
+-- the way down of a connection that isn't raw is cut, and the pending calls of its client are lost
 pub record CutsDown {H : Type 0} (old : World H) (c : ℕ) (new : World H) : Type 0 where
   pub k : Conn
   pub at : conn_at old.conns c ≡ Some k
@@ -85,7 +87,7 @@ abbrev pub AreContents : List LogEntry → Type 0
 AreContents log =
     All (λ (e : LogEntry). ForSome e.answers (All (λ (c : Content). ∥ IsContent c ∥₁))) log
 
--- the server answers a waiting request, with this result
+-- the server of connection c answers its waiting request of index i, with this result
 pub record Answers {H : Type 0} (does : Does H) (stops : Stops H) (old : World H) (c i : ℕ)
     (result : Result ℕ AnswerRefusal) (new : World H) : Type 0 where
   pub k : Conn
@@ -100,24 +102,25 @@ pub record Answers {H : Type 0} (does : Does H) (stops : Stops H) (old : World H
 
 -- ---- how many bytes were moved
 
--- so many bytes were to be moved; fewer were only where there were no more, or the server takes
--- none
+-- This many bytes were moved up: n, or fewer if there were no more or the server takes no more.
 pub record AllUp {H : Type 0} {old new : World H} {c n : ℕ} (s : MovesUp old c n new) (moved : ℕ) :
     Type 0 where
   pub moved_are : moved ≡ length (joined s.pieces)
   pub fewer : moved < n → (s.rest ≡ []) ⊎ TakesNone s.server
 
--- the same of those that the client takes, unless it is closed
+-- This many bytes were moved down: n, or fewer if there were no more or the client is closed.
 pub record AllDown {H : Type 0} {old new : World H} {c n : ℕ} (s : MovesDown old c n new)
     (moved : ℕ) : Type 0 where
   pub moved_are : moved ≡ length (joined s.pieces)
   pub fewer : moved < n → (s.rest ≡ []) ⊎ (s.client.state ≢ clients.Open)
 
--- the cause for which a server closed, if it did in between
+-- why a server closed that was open before and is closed after
 abbrev pub closed_now : ServerState → ServerState → Option ServerCause
 closed_now servers.Open (servers.Closed cause) = Some cause
 closed_now before after = None
 
+-- This many bytes were fed to the server of a raw connection: all, or fewer if it takes no more.
+-- This is why the server closed, if it did.
 pub record AllTaken {H : Type 0} {old new : World H} {c : ℕ} {bytes : List ℕ}
     (s : TakesRaw old c bytes new) (moved : ℕ) (closed : Option ServerCause) : Type 0 where
   pub moved_are : moved ≡ length (joined s.pieces)
@@ -163,26 +166,27 @@ Succeeds does stops l old (RawTake c n) report new =
 
 -- ---- out of memory
 
--- a server that takes bytes is given a piece that completes the header of a message, for which
--- there is no room
+-- A server that may take bytes is given a piece that completes a good header, so it needs memory
+-- for the message.
 pub record WantsRoom (s : ServerView) (piece : List ℕ) : Type 0 where
   pub is_open : s.state ≡ servers.Open
   pub has_room : length s.waiting < s.window
   pub header : CompletesHeader s.limit s.held piece
 
--- and so a client
+-- A client that may take bytes is given a piece that completes a good header, so it needs memory
+-- for the message.
 pub record ClientWantsRoom (k : ClientSeen) (piece : List ℕ) : Type 0 where
   pub may : MayTake k
   pub header : CompletesHeader k.requests.limit k.held piece
 
--- some of the n first bytes of the connection's server are there to be taken
+-- at least one of the first n bytes of the output of the connection's server is there
 pub record HasOutput {H : Type 0} (w : World H) (c n : ℕ) : Type 0 where
   pub k : Conn
   pub at : conn_at w.conns c ≡ Some k
   pub some : take n k.server.output ≢ []
 
--- The part of an event that is done where memory runs out. Of what is to be moved a part may have
--- been; a reply that isn't copied is none.
+-- What an event has done when memory runs out. Some of the bytes that it was to move were moved. A
+-- reply that wasn't copied is part of no record.
 abbrev pub PartDone : {H : Type 0} → WorldLimits → World H → Event → World H → Type 0
 PartDone {H} l old (Call c kind payload) new = new ≡ old
 PartDone {H} l old (Up c n) new =
@@ -200,7 +204,7 @@ PartDone {H} l old (Raw c bytes) new =
 PartDone {H} l old (RawTake c n) new = (new ≡ old) × HasOutput old c n
 PartDone {H} l old e new = ⊥
 
--- the events that make a connection, which change nothing where memory runs out
+-- the event would make a connection; if memory runs out, it changes nothing
 abbrev pub IsMaking : {H : Type 0} → World H → Event → Type 0
 IsMaking old Open = (c : ℕ) × ((checked_out old.pool).0 ≡ outs.Open c)
 IsMaking old RawOpen = Unit {0}
@@ -215,8 +219,8 @@ pub record RunsOut {H : Type 0} (l : WorldLimits) (old : World H) (e : Event) (n
   pub part : PartDone l old e done
   pub after : new ≡ dropped done c
 
--- The event is refused for the first check that it fails; where it fails none, by the client that
--- is to call, or memory runs out. Nothing changes then, unless memory ran out.
+-- The event is refused for the first check that it fails. If it fails none, the client may refuse
+-- the call, or memory may run out. Nothing changes, unless memory ran out.
 abbrev pub IsRefused : {H : Type 0} → WorldLimits → World H → Event → WorldRefusal → World H
     → Type 0
 IsRefused l old e (refusals.Call refusal) new =
@@ -225,15 +229,16 @@ IsRefused l old e refusals.OutOfMemory new =
     (first_reason old e ≡ None) × (((new ≡ old) × IsMaking old e) ⊎ RunsOut l old e new)
 IsRefused l old e refusal new = (new ≡ old) × (first_reason old e ≡ Some refusal)
 
--- An event happens in a world, with this result, and this is the world after it: the event does
--- what it is for (`Succeeds`), or is refused (`IsRefused`).
+-- The event has this result in the old world, and leaves the new one: it does what it is for
+-- (`Succeeds`), or is refused (`IsRefused`).
 abbrev pub Happens : {H : Type 0} → Does H → Stops H → WorldLimits → World H → Event
     → Result Report WorldRefusal → World H → Type 0
 Happens does stops l old e (Ok report) new =
     (first_reason old e ≡ None) × Succeeds does stops l old e report new
 Happens does stops l old e (Err refusal) new = IsRefused l old e refusal new
 
--- the events of a list happen one after the other, each with some result, from one world to another
+-- the events happen one after another, each with some result, and lead from the old world to the
+-- new one
 abbrev pub Run : {H : Type 0} → Does H → Stops H → WorldLimits → World H → List Event → World H
     → Type 0
 Run does stops l old [] new = new ≡ old

@@ -20,7 +20,7 @@ use Rattle.wire_model.specs.Happening.{Happens, Run}
 
 -- ---- along a run
 
--- the bytes that the server of connection c took in an event of a raw connection
+-- the bytes that the server of raw connection c took in this event
 abbrev pub taken_in :
     {H : Type 0} (does : Does H) (stops : Stops H) (l : WorldLimits) (c : ℕ) (old new : World H)
     (e : Event) (r : Result Report WorldRefusal)
@@ -31,7 +31,7 @@ taken_in does stops l c old new (events.Raw d bytes) (Err refusals.OutOfMemory) 
     if d == c then joined s.part.0.pieces else []
 taken_in does stops l c old new e r s = []
 
--- the bytes that were taken away from it
+-- the bytes that were taken away from its output in this event
 abbrev pub given_in :
     {H : Type 0} (does : Does H) (stops : Stops H) (l : WorldLimits) (c : ℕ) (old new : World H)
     (e : Event) (r : Result Report WorldRefusal)
@@ -40,6 +40,7 @@ given_in does stops l c old new (events.RawTake d n) (Ok report) s =
     if d == c then s.1.0.bytes else []
 given_in does stops l c old new e r s = []
 
+-- the bytes that the server of raw connection c took in a run
 abbrev pub taken :
     {H : Type 0} (does : Does H) (stops : Stops H) (l : WorldLimits) (c : ℕ) (old new : World H)
     (es : List Event)
@@ -48,6 +49,7 @@ taken does stops l c old new [] run = []
 taken does stops l c old new (e ∷ es) run =
     taken_in does stops l c old run.0 e run.1.0 run.1.1 ++ taken does stops l c run.0 new es run.2
 
+-- the bytes that were taken away from its output in a run
 abbrev pub given :
     {H : Type 0} (does : Does H) (stops : Stops H) (l : WorldLimits) (c : ℕ) (old new : World H)
     (es : List Event)
@@ -63,7 +65,7 @@ abbrev pub calls_of : ℕ → List Call → List Call
 calls_of c [] = []
 calls_of c (x ∷ xs) = if x.connection == c then x ∷ calls_of c xs else calls_of c xs
 
--- the strangers of a raw connection ask what the messages ask that its server took, one by one
+-- the strangers of a raw connection ask, one by one, what the messages ask
 abbrev pub AreMessages : ℕ → List Message → List Call → Type 0
 AreMessages c ms calls = map (λ (x : Call). x.asked) (calls_of c calls) ≡ map asked_by ms
 
@@ -89,7 +91,7 @@ abbrev pub all_of : Option (List Content) → List Content
 all_of None = []
 all_of (Some answers) = answers
 
--- the replies of entry after entry, their ids one after the other
+-- the replies of these entries, in order, with ids from this one on
 abbrev pub raw_replies : ℕ → List RawEntry → List Message
 raw_replies id [] = []
 raw_replies id (t ∷ ts) =
@@ -97,8 +99,8 @@ raw_replies id (t ∷ ts) =
     then chain id t.message.id (all_of t.answers) ++ raw_replies (id_after id (all_of t.answers)) ts
     else raw_replies id ts
 
--- An entry gives its replies where it has answers and its message isn't silent; but the last one
--- gives none where the server closed in it.
+-- An entry gives its replies if it has answers and its message wants a reply, unless it is the last
+-- entry and an answer closed the server. The entry is the one of index i among this many.
 abbrev pub GivesReplies : ServerState → ℕ → ℕ → RawEntry → Type 0
 GivesReplies s many i t =
     ((t.gives ≡ true) × (t.message.flags.more_to_come ≡ false) × (t.answers ≢ None)
@@ -107,8 +109,9 @@ GivesReplies s many i t =
     (((t.gives ≡ false) × (t.message.flags.more_to_come ≡ true))
     ⊎ ((t.gives ≡ false) × (suc i ≡ many) × IsStopped s))
 
--- The stranger that the entry's message is, the one with as many of the connection before it, names
--- the log's entry: the one with as many of the connection before it.
+-- The stranger of the entry's message names the entry in the log. The stranger has the index of the
+-- message among the calls of connection c, and the entry has index i among the entries of
+-- connection c.
 pub record IsNamed (c : ℕ) (calls : List Call) (log : List LogEntry) (i : ℕ) (t : RawEntry) :
     Type 0 where
   pub stranger : Call
@@ -118,8 +121,9 @@ pub record IsNamed (c : ℕ) (calls : List Call) (log : List LogEntry) (i : ℕ)
   pub entry : slice_get log e ≡ Some (entry_by c t)
   pub before : length (entries_of c (take e log)) ≡ i
 
--- The entries of a raw connection answer, in log order, messages of the Split of what its server
--- took, each of them once at most, and each is named by the stranger that its message is.
+-- What the server of raw connection c took splits into messages and a rest. Its entries, in log
+-- order, answer some of these messages, each at most once, and the stranger of each such message
+-- names its entry.
 pub record AnswersOwn (limit c : ℕ) (taken : List ℕ) (calls : List Call) (log : List LogEntry) :
     Type 0 where
   pub messages : List Message
@@ -135,8 +139,8 @@ pub record AnswersOwn (limit c : ℕ) (taken : List ℕ) (calls : List Call) (lo
   pub once : (i j : ℕ) (t u : RawEntry) → slice_get raw_entries i ≡ Some t
       → slice_get raw_entries j ≡ Some u → t.index ≡ u.index → i ≡ j
 
--- What the server gave is the replies to its own entries, each by the message that it answers, in
--- log order, ids from 1.
+-- What the server gave is exactly the replies of its own entries, each to the message that its
+-- entry answers, in log order and with ids from 1.
 pub record GivesOwn (limit c : ℕ) (taken given : List ℕ) (state : ServerState) (calls : List Call)
     (log : List LogEntry) : Type 0 where
   pub own : AnswersOwn limit c taken calls log
@@ -146,10 +150,11 @@ pub record GivesOwn (limit c : ℕ) (taken given : List ℕ) (state : ServerStat
 
 -- ---- of all raw connections
 
+-- each raw connection of the world has the property
 abbrev pub OfEachRaw : {H : Type 0} → World H → (ℕ → Conn → Type 0) → Type 0
 OfEachRaw w P = (c : ℕ) (k : Conn) → conn_at w.conns c ≡ Some k → k.raw ≡ true → P c k
 
--- each raw connection has answered its own messages only
+-- in this run each raw connection has answered only messages of its own
 abbrev pub RawAnswerOwn :
     {H : Type 0} (does : Does H) (stops : Stops H) (l : WorldLimits) (first : H) (es : List Event)
     (w : World H)
@@ -158,8 +163,8 @@ RawAnswerOwn does stops l first es w run m =
     OfEachRaw w
     (λ c k. AnswersOwn l.limit c (taken does stops l c (opening l first) w es run) m.calls w.log)
 
--- each raw connection has given the replies to its own entries only; what it gave was taken away,
--- or is its server's output
+-- In this run each raw connection has given only the replies of its own entries. What it gave is
+-- what was taken away, followed by its server's output.
 abbrev pub RawGiveOwn :
     {H : Type 0} (does : Does H) (stops : Stops H) (l : WorldLimits) (first : H) (es : List Event)
     (w : World H)

@@ -1,4 +1,4 @@
--- What lasts: of the machine, whatever steps it takes, and of a world, whatever happens in it.
+-- What stays true of the machine, whatever steps it takes, and of a world, whatever happens in it.
 use Rattle.std.specs.Prelude.{◌≡◌, ℕ, ◌<◌, ◌≤◌, List, ◌++◌, Some, length, slice_get}
 use Rattle.wire_msg.specs.{Content}
 use Rattle.wire_peer.specs.{Does, LogEntry, Stops}
@@ -17,7 +17,7 @@ pub record IsKept (old new : Record) : Type 0 where
   pub parts : (more : List Content) × (new.parts ≡ old.parts ++ more)
   pub settled : (old.state ≡ Pending → ⊥) → new ≡ old
 
--- each call is still there, and kept
+-- each call is still at its index, with its connection, what it asks and its parts
 abbrev pub CallsAreKept : (old new : List Record) → Type 0
 CallsAreKept old new =
     (i : ℕ) (x : Record) → slice_get old i ≡ Some x
@@ -34,8 +34,9 @@ DoneIsEarlier old new =
     → EntryOf y e
     → length old.calls ≤ j → CallIs new.calls j z → EntryOf z e' → e < e'
 
--- The later world shows a state of the machine that its steps reach from one that the earlier world
--- shows.
+-- The new world shows a state of the machine that steps reach from a state that the old world
+-- shows. Calls are kept, the log only grows, and a call that was done before another was made has
+-- the earlier entry.
 pub record GoesOn {H : Type 0} (does : Does H) (stops : Stops H) (first : H) (old new : World H) :
     Type 0 where
   pub m : Machine H
@@ -47,7 +48,8 @@ pub record GoesOn {H : Type 0} (does : Does H) (stops : Stops H) (first : H) (ol
   pub log : LogGrows old.log new.log
   pub order : DoneIsEarlier m later.m
 
--- whichever of the events came first, the world that they made goes on to this one
+-- However the events are cut in two, the first part led to a world that goes on to this one
+-- (`GoesOn`).
 abbrev pub GoesOnFromEach : {H : Type 0} → Does H → Stops H → WorldLimits → (first : H) → List Event
     → World H → Type 0
 GoesOnFromEach {H} does stops l first events w =

@@ -16,8 +16,8 @@ asked_as kind payload =
       more_to_come = if awaits_reply kind then false else true;
     }
 
--- where a request is: on its way, waiting at the server, answered or not by an entry, or never to
--- come
+-- Where a request is: on its way, waiting at the server, answered by an entry, at an entry that
+-- gives no reply, or never to have an entry.
 pub data Place : Type 0 where
   OnWay : Place
   Waiting : Place
@@ -25,7 +25,7 @@ pub data Place : Type 0 where
   Mute : (entry : ℕ) → Place
   Never : Place
 
--- how a call stands with its caller; a stranger has no caller here
+-- the state of a call for its caller; a stranger has no caller here
 pub data State : Type 0 where
   Pending : State
   Done : State
@@ -41,8 +41,8 @@ pub record Call : Type 0 where
   pub parts : List Content
   pub state : State
 
--- The calls, the strangers among them, in the order in which they appeared; the log; the handler;
--- and of each connection whether it is raw, and whether its client half and its server half live.
+-- The calls and strangers, in the order in which they appeared; the log; the handler; and for each
+-- connection whether it is raw, and whether its client half and its server half are alive.
 pub record Machine (H : Type 0) : Type 0 where
   pub calls : List Call
   pub log : List LogEntry
@@ -76,7 +76,7 @@ placed x p =
     record
     { connection = x.connection; asked = x.asked; place = p; parts = x.parts; state = x.state }
 
--- one more part; with the last one the call is done
+-- the call with one more part; with the last part it is done
 abbrev pub with_part : Call → Content → Bool → Call
 with_part x part more =
     record {
@@ -87,7 +87,7 @@ with_part x part more =
       state = if more then x.state else Done;
     }
 
--- a pending call whose client is lost
+-- the state of a call once its client is lost: a pending call is lost with it
 abbrev pub lost_state : State → State
 lost_state Pending = Lost
 lost_state Done = Done
@@ -181,20 +181,20 @@ abbrev pub entry_for : Call → Option (List Content) → LogEntry
 entry_for x answers =
     record { connection = x.connection; payload = x.asked.payload; answers = answers }
 
--- where a request is once entry e answers it
+-- where a request is after entry e: answered by it, or at it without a reply if it wants none
 abbrev pub logged_place : Call → ℕ → Place
 logged_place x e = if x.asked.more_to_come then Mute e else Answered e
 
--- request i is x
+-- the call of index i is x
 abbrev pub CallIs : List Call → ℕ → Call → Type 0
 CallIs calls i x = slice_get calls i ≡ Some x
 
--- the answers go on after these parts
+-- the answers begin with these parts, and have more after them
 abbrev pub Owes : Option (List Content) → List Content → Type 0
 Owes answers parts =
     (part : Content) × (rest : List Content) × (answers ≡ Some (parts ++ part ∷ rest))
 
--- answered, with fewer parts than answers
+-- the call is answered by entry e, and has fewer parts than the entry has answers
 pub record IsDue (log : List LogEntry) (x : Call) (e : ℕ) : Type 0 where
   pub place : x.place ≡ Answered e
   pub entry : LogEntry
@@ -246,12 +246,12 @@ module _ (H : Type 0) (does : Does H) (stops : Stops H) where
     appear : (c : ℕ) (a : Asked) → m.raw c ≡ true → m.server_lives c ≡ true
         → n ≡ with_new m (stranger c a) → Step m n
 
-  -- step after step
+  -- the machine goes from the first state to the second by steps
   pub data Steps (m : Machine H) : Machine H → Type 0 where
     stay : Steps m m
     go : {n o : Machine H} → Steps m n → Step n o → Steps m o
 
--- no calls, no entries; a raw connection has no client half from the start
+-- the machine without calls and entries; a raw connection has no client half from the start
 abbrev pub empty : {H : Type 0} → H → (ℕ → Bool) → Machine H
 empty h raw =
     record {

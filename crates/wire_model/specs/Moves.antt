@@ -1,4 +1,4 @@
--- Bytes that move from one end of a connection to the other, and what a call puts out.
+-- Bytes that move from one end of a connection to the other, and calls that are made.
 use Rattle.std.specs.Prelude.{◌≡◌, ◌≢◌, ℕ, ◌<◌, ◌≤◌, ◌⊎◌, Bool, true, false, Option, None, Some}
 use Rattle.std.specs.Prelude.{List, [], ◌∷◌, ◌++◌, length, slice_get, slice_set, take, drop}
 use Rattle.std.specs.List.{flat_map}
@@ -41,7 +41,7 @@ with_client_output k output = record k { requests = record (k.requests) { output
 abbrev pub with_server_output : ServerView → List ℕ → ServerView
 with_server_output s output = record s { output = output }
 
--- pieces of the client's output, at most n bytes, go into the server
+-- at most n bytes of the client's output go into the server, piece by piece
 pub record MovesUp {H : Type 0} (old : World H) (c n : ℕ) (new : World H) : Type 0 where
   pub k : Conn
   pub at : conn_at old.conns c ≡ Some k
@@ -56,7 +56,7 @@ pub record MovesUp {H : Type 0} (old : World H) (c n : ℕ) (new : World H) : Ty
   pub after : new
       ≡ with_conn old c (record k { client = with_client_output k.client rest; server = server })
 
--- pieces of these bytes go into the server of a raw connection
+-- some of these bytes, from the first on, go into the server of a raw connection, piece by piece
 pub record TakesRaw {H : Type 0} (old : World H) (c : ℕ) (bytes : List ℕ) (new : World H) :
     Type 0 where
   pub k : Conn
@@ -89,7 +89,7 @@ pub record ClientTakes (old : ClientSeen) (piece : List ℕ) (new : ClientSeen) 
   pub may : MayTake old
   pub takes : Takes old piece (length piece) new
 
--- a part of the call of this index is put in its record
+-- the records, with one more part in the one of this index
 abbrev pub put_part : Option Record → ℕ → Content → Bool → List Record → List Record
 put_part None i part last calls = calls
 put_part (Some x) i part last calls = slice_set calls i (given_record x part last)
@@ -105,7 +105,8 @@ CopiesReply indexes held (Some reply) old new =
     (m : Message) × SpellsMsg m held
     × (new ≡ put_at (slice_get indexes reply.call) m.content reply.last old)
 
--- piece after piece; each reply goes into its record, and is let go of
+-- The client takes these pieces, one after another. Each reply goes into the record of its call,
+-- and is released.
 abbrev pub ClientTakesAll : List ℕ → ClientSeen → List Record → List (List ℕ) → ClientSeen
     → List Record → Type 0
 ClientTakesAll indexes old calls [] new calls' = (new ≡ old) × (calls' ≡ calls)
@@ -114,7 +115,7 @@ ClientTakesAll indexes old calls (p ∷ ps) new calls' =
     × ((copied : List Record) × CopiesReply indexes mid.held mid.reply calls copied
     × ClientTakesAll indexes (released mid) copied ps new calls')
 
--- pieces of the server's output, at most n bytes, go into the client
+-- at most n bytes of the server's output go into the client, piece by piece
 pub record MovesDown {H : Type 0} (old : World H) (c n : ℕ) (new : World H) : Type 0 where
   pub k : Conn
   pub at : conn_at old.conns c ≡ Some k
@@ -133,7 +134,8 @@ pub record MovesDown {H : Type 0} (old : World H) (c n : ℕ) (new : World H) : 
       (record k { client = client; server = with_server_output k.server rest }))
       { calls = calls }
 
--- one more piece goes into the client, and makes a reply ready that isn't copied
+-- one more piece of at most n bytes goes into the client, and makes a reply ready that isn't copied
+-- into its record
 pub record TakesUncopied {H : Type 0} (old : World H) (c n : ℕ) (new : World H) : Type 0 where
   pub k : Conn
   pub at : conn_at old.conns c ≡ Some k
@@ -149,7 +151,7 @@ pub record TakesUncopied {H : Type 0} (old : World H) (c n : ℕ) (new : World H
 
 -- ---- calls
 
--- a call is accepted, and is the world's last one
+-- the client accepts a call, and its record is added to the world's
 pub record Calls {H : Type 0} (old : World H) (c : ℕ) (kind : CallKind) (payload : Content)
     (id : CallNo) (new : World H) : Type 0 where
   pub k : Conn

@@ -6,12 +6,13 @@ use Rattle.wire_model.specs.declared.events.Event.TheVariants.{CutUp, CutDown, C
 use Rattle.wire_model.specs.declared.events.Event.TheVariants.{RawOpen, Raw, RawTake}
 use Rattle.wire_model.specs.declared.needs.Needs.{Needs}
 
--- no more than that the connection is there
+-- the event needs only that the connection is there
 abbrev pub no_needs : ℕ → Needs
 no_needs c =
     record { connection = c; client = false; raw = false; loan = false; up = false; down = false }
 
--- a client of ours, or that it is raw; that it is lent; and which ways must not be cut
+-- What the event needs of its connection, if it has one: a client of ours, or that it is raw; that
+-- it is lent; and which ways must not be cut.
 abbrev pub needs_of : Event → Option Needs
 needs_of Open = None
 needs_of (Return c) = Some (record (no_needs c) { client = true; loan = true })
@@ -28,6 +29,6 @@ needs_of RawOpen = None
 needs_of (Raw c bytes) = Some (record (no_needs c) { raw = true; up = true })
 needs_of (RawTake c n) = Some (record (no_needs c) { raw = true; down = true })
 
--- the connection of an event, if it is of one
+-- the number of the event's connection, if it has one
 abbrev pub connection_of : Event → Option ℕ
 connection_of e = option_map (λ (n : Needs). n.connection) (needs_of e)

@@ -23,13 +23,13 @@ abbrev pub is_full : CheckOut → Bool
 is_full pools.Full = true
 is_full out = false
 
--- the pool has nothing to lend, or no number is left
+-- the pool has nothing to lend, or no number is left for a raw connection
 abbrev pub is_full_for : {H : Type 0} → World H → Event → Bool
 is_full_for w Open = is_full (checked_out w.pool).0
 is_full_for w RawOpen = is_none w.pool.next
 is_full_for w e = false
 
--- a server that is closed answers nothing, nor does an open one what doesn't wait
+-- a closed server answers nothing, and an open one only a request that waits
 abbrev pub answer_reason : ServerState → (waiting i : ℕ) → Option WorldRefusal
 answer_reason (servers.Closed cause) waiting i = Some (refusals.Answer answers.Closed)
 answer_reason servers.Open waiting i =
@@ -42,7 +42,7 @@ core_reason e k = None
 abbrev pub is_lent : ℕ → List Loan → Bool
 is_lent c lent = is_some (loan_of c lent)
 
--- a way that must not be cut is
+-- a way that the event needs is cut
 abbrev pub is_cut_for : Needs → Conn → Bool
 is_cut_for needs k = (needs.up && k.up_cut) || (needs.down && k.down_cut)
 
@@ -60,11 +60,11 @@ abbrev pub reason_of : {H : Type 0} → World H → Event → Option Needs → O
 reason_of w e None = if is_full_for w e then Some refusals.Full else None
 reason_of w e (Some needs) = reason_at w e needs (conn_at w.conns needs.connection)
 
--- the first check that the event fails, but for those of a client that is to call
+-- the first check that the event fails, apart from the client's own checks of a call
 abbrev pub first_reason : {H : Type 0} → World H → Event → Option WorldRefusal
 first_reason w e = reason_of w e (needs_of e)
 
--- the client refuses the call, for another cause than memory
+-- the event is a call that its client refuses for this reason, which isn't that memory ran out
 abbrev pub RefusesCall : {H : Type 0} → World H → Event → CallRefusal → Type 0
 RefusesCall w (Call c kind payload) refusal =
     (k : Conn) × (conn_at w.conns c ≡ Some k) × (refusal ≢ calls.OutOfMemory)

@@ -1,9 +1,10 @@
--- Where a server has room for what is moved to it.
+-- The bytes for which a server needs no memory.
 use Rattle.std.specs.Prelude.{ℕ, ◌+◌, ◌<◌, ◌≤◌, ◌⊎◌, length}
 use Rattle.wire_stream.specs.{IsRoom}
 use Rattle.wire_peer.specs.{ServerView}
 
--- The next n bytes end before a header does, or inside the message that a good header announces.
+-- The server needs no memory for the next n bytes: they end before the header of the current
+-- message is complete, or inside the message that this header announced.
 abbrev pub HasRoomFor : ServerView → ℕ → Type 0
 HasRoomFor s n =
     (length s.held + n < 16)

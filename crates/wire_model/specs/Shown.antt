@@ -14,10 +14,11 @@ use Rattle.wire_model.specs.Facts.{DoneIsWhole, EntryHasOneCall, LogIsRun, MuteI
 use Rattle.wire_model.specs.Facts.{PendingHoldsBeginning, SilentHoldsNone}
 use Rattle.wire_model.specs.Machines.{Call, Done, Machine, Steps, empty, is_ours}
 
--- what the world shows of the calls; of strangers nothing
+-- what the world shows of a call
 abbrev pub shown : Call → Record
 shown x = record { connection = x.connection; asked = x.asked; parts = x.parts; state = x.state }
 
+-- what the world shows of the calls; of strangers it shows nothing
 abbrev pub shown_calls : List Call → List Record
 shown_calls [] = []
 shown_calls (x ∷ xs) = if is_ours x.state then shown x ∷ shown_calls xs else shown_calls xs
@@ -28,7 +29,7 @@ pub record Shows {H : Type 0} (w : World H) (m : Machine H) : Type 0 where
   pub log : w.log ≡ m.log
   pub handler : w.handler ≡ m.handler
 
--- the raw connections of a world
+-- which connections of a world are raw
 abbrev pub is_raw : Option Conn → Bool
 is_raw None = false
 is_raw (Some k) = k.raw
@@ -36,15 +37,15 @@ is_raw (Some k) = k.raw
 abbrev pub raws : {H : Type 0} → World H → ℕ → Bool
 raws w c = is_raw (conn_at w.conns c)
 
--- closed by an answer: it is too large, memory runs out, or the handler failed
+-- the server was closed by an answer: it was too large, memory ran out, or the handler failed
 abbrev pub IsStopped : ServerState → Type 0
 IsStopped s = (s ≡ Closed ReplyTooLarge) ⊎ ((s ≡ Closed NoMemory) ⊎ (s ≡ Closed HandlerFailed))
 
 abbrev pub IsOpenOrStopped : ServerState → Type 0
 IsOpenOrStopped s = (s ≡ Open) ⊎ IsStopped s
 
--- on a connection that isn't raw or cut the client is open, and so is the server, but where an
--- answer closed it
+-- on a connection that isn't raw or cut the client is open, and the server is open or was closed by
+-- an answer
 abbrev pub UncutIsOpen : {H : Type 0} → World H → Type 0
 UncutIsOpen w =
     (c : ℕ) (k : Conn) → conn_at w.conns c ≡ Some k → k.raw ≡ false → k.up_cut ≡ false
@@ -69,15 +70,15 @@ QuietIsDone w =
     (c : ℕ) → IsQuiet w c → (i : ℕ) (x : Record) → slice_get w.calls i ≡ Some x → x.connection ≡ c
     → x.asked.more_to_come ≡ false → x.state ≡ Done
 
--- no two outstanding calls of one client bear one id
+-- no two outstanding calls of one client have the same id
 abbrev pub IdsApart : {H : Type 0} → World H → Type 0
 IdsApart w =
     (c : ℕ) (k : Conn) → conn_at w.conns c ≡ Some k
     → IsDistinct int_eq (ids k.client.requests.outstanding)
 
--- The world shows a state of the machine that its steps reach from the empty one. In it each call
--- that is done holds exactly the answers of its own entry, no two calls share one, and an
--- unacknowledged call holds none; and on a quiet connection every acknowledged call is done.
+-- The world shows a state that the machine reaches by steps from the empty one. In it each call
+-- that is done holds exactly the answers of its own entry, no two calls share an entry, and an
+-- unacknowledged call holds no answers. On a quiet connection every acknowledged call is done.
 pub record Headline {H : Type 0} (does : Does H) (stops : Stops H) (first : H) (w : World H) :
     Type 0 where
   pub m : Machine H

@@ -4,7 +4,7 @@ use wire_msg::Payload;
 use wire_peer::CallKind;
 
 /// One thing that happens in a world. Connections are numbered from 1, in the order in which they
-/// are made, and what waits at a server from 0.
+/// are made, and the requests that wait at a server from 0.
 #[derive(Clone, Copy)]
 pub enum Event<'a> {
     /// A connection is checked out of the pool.
@@ -17,7 +17,7 @@ pub enum Event<'a> {
     Up(u64, usize),
     /// Bytes of the server's output go into the client, at most this many.
     Down(u64, usize),
-    /// The server answers the request of this index among those that wait.
+    /// The server answers the waiting request of this index.
     Answer(u64, usize),
     /// Nothing more moves up, and the server is told the end.
     CutUp(u64),

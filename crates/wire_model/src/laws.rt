@@ -15,23 +15,23 @@ ghost use Rattle.wire_model.specs.Happening.{Happens, Run};
 
 use wire_peer::Handler;
 
-/// Proves that memory never runs out for what is moved up to a server that has room for it.
+/// Proves that memory never runs out in `Up` if the server needs none for the bytes.
 pub fn up_finds_room<H: Handler>()
     ensures { (l : Limits) (old new : World H) (c n : ℕ) (k : Conn)
         → conn_at old.conns c ≡ Some k → HasRoomFor k.server n
         → Happens H.does H.stops l old (Up c n) (Err OutOfMemory) new → ⊥ }
 {}
 
-/// Proves that whatever events come, the world shows a state of the machine that its steps reach,
-/// and all that holds there.
+/// Proves that after any events the world shows a state of the machine that steps reach, and that
+/// all that `Headline` says holds there.
 pub fn headline_holds<H: Handler>()
     ensures { (l : Limits) (first : H) (events : List Happening) (w : World H)
         → AreGood l → Run H.does H.stops l (opening l first) events w
         → Headline H.does H.stops first w }
 {}
 
-/// Proves that whatever events come, each raw connection has answered its own messages only, each
-/// once at most. The strangers are those of the state that the world shows.
+/// Proves that after any events each raw connection has answered only messages of its own, each at
+/// most once. The strangers are those of the machine's state that the world shows.
 pub fn raw_entries_are_own<H: Handler>()
     ensures { (l : Limits) (first : H) (events : List Happening) (w : World H)
         → AreGood l → (run : Run H.does H.stops l (opening l first) events w)
@@ -39,8 +39,8 @@ pub fn raw_entries_are_own<H: Handler>()
         × RawAnswerOwn H.does H.stops l first events w run shown.m }
 {}
 
-/// Proves that whatever events come, all that the server of a raw connection gave is the replies to
-/// its own entries.
+/// Proves that after any events all that the server of a raw connection gave is the replies of its
+/// own entries.
 pub fn raw_replies_are_own<H: Handler>()
     ensures { (l : Limits) (first : H) (events : List Happening) (w : World H)
         → AreGood l → (run : Run H.does H.stops l (opening l first) events w)
@@ -48,7 +48,7 @@ pub fn raw_replies_are_own<H: Handler>()
         × RawGiveOwn H.does H.stops l first events w run shown.m }
 {}
 
-/// Proves that whatever events come, no two outstanding calls of one client bear one id.
+/// Proves that after any events no two outstanding calls of one client have the same id.
 pub fn ids_stay_apart<H: Handler>()
     ensures { (l : Limits) (first : H) (events : List Happening) (w : World H)
         → Run H.does H.stops l (opening l first) events w → IdsApart w }
@@ -76,9 +76,9 @@ pub fn done_is_earlier<H: Handler>()
         → DoneIsEarlier m n }
 {}
 
-/// Proves that whatever events come in a world, what it shows of the machine is reached by steps
-/// from what it showed before: calls are kept, the log only grows, and a call that was done before
-/// another was made has the earlier entry.
+/// Proves that after any further events a world shows a state of the machine that steps reach from
+/// the one that it showed before: calls are kept, the log only grows, and a call that was done
+/// before another was made has the earlier entry.
 pub fn worlds_go_on<H: Handler>()
     ensures { (l : Limits) (first : H) (before after : List Happening) (old new : World H)
         → AreGood l → Run H.does H.stops l (opening l first) before old

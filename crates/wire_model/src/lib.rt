@@ -2,9 +2,9 @@
 //! after any of them.
 //!
 //! A world has a pool, connections, the calls that were made over them, and one handler with its
-//! log. `specs` says how each event changes it, and has the machine of calls and entries that a
-//! world shows. The laws say that every run shows a run of the machine, and what holds in each
-//! state of that.
+//! log. `specs` says how each event changes it, and defines the machine of calls and entries, whose
+//! states worlds show. The laws say that every run of a world shows a run of the machine, and what
+//! holds in each state of the machine.
 //!
 //! Stands on wire_peer and wire_pool. wire_world and wire_script stand on it. Read first: `events`,
 //! then `specs/Happening.antt` and `specs/Machines.antt`, and then `laws`.

@@ -1,4 +1,4 @@
-//! With what a world is made.
+//! The limits with which a world is made.
 
 /// The numbers with which each client, each server and the pool of a world are made.
 #[derive(Clone, Copy, Debug, PartialEq, Eq)]

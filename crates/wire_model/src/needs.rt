@@ -22,7 +22,7 @@ pub struct Needs {
     pub down: bool,
 }
 
-/// Returns the needs of an event that needs no more than that the connection is there.
+/// Returns the needs of an event that needs only that the connection is there.
 fn no_needs(connection: u64) -> Needs
     ensures { result ≡ no_needs connection }
 {
@@ -37,7 +37,7 @@ fn no_needs(connection: u64) -> Needs
 }
 
 impl Needs {
-    /// Returns the same for a connection with a client of ours.
+    /// Returns these needs, and that the connection has a client of ours.
     fn of_ours(self) -> Needs
         ensures { result ≡ record self { client = true } }
     {
@@ -47,28 +47,28 @@ impl Needs {
         }
     }
 
-    /// Returns the same for a raw connection.
+    /// Returns these needs, and that the connection is raw.
     fn of_raw(self) -> Needs
         ensures { result ≡ record self { raw = true } }
     {
         Needs { raw: true, ..self }
     }
 
-    /// Returns the same for a connection that is lent.
+    /// Returns these needs, and that the connection is lent.
     fn lent(self) -> Needs
         ensures { result ≡ record self { loan = true } }
     {
         Needs { loan: true, ..self }
     }
 
-    /// Returns the same with the way up.
+    /// Returns these needs, and that the way up isn't cut.
     fn way_up(self) -> Needs
         ensures { result ≡ record self { up = true } }
     {
         Needs { up: true, ..self }
     }
 
-    /// Returns the same with the way down.
+    /// Returns these needs, and that the way down isn't cut.
     fn way_down(self) -> Needs
         ensures { result ≡ record self { down = true } }
     {
@@ -77,7 +77,7 @@ impl Needs {
 }
 
 impl Event<'_> {
-    /// Returns what the event needs of its connection, if it is of one.
+    /// Returns what the event needs of its connection, or `None` if it has none.
     pub fn needs(&self) -> Option<Needs>
         ensures { result ≡ needs_of self.now }
     {

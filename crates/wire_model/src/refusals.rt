@@ -2,7 +2,7 @@
 
 use wire_peer::{AnswerRefusal, CallRefusal};
 
-/// Why an event is refused. But for `OutOfMemory` nothing changes then.
+/// Why an event is refused. Nothing changes then, except with `OutOfMemory`.
 #[derive(Clone, Copy, Debug, PartialEq, Eq)]
 pub enum WorldRefusal {
     /// There is no connection of this number.
@@ -17,8 +17,8 @@ pub enum WorldRefusal {
     Call(CallRefusal),
     /// The server refuses to answer.
     Answer(AnswerRefusal),
-    /// Out of memory. Where a connection was to be made, nothing changes; else the event's
-    /// connection is then cut both ways, and part of what was to be moved may have been.
+    /// Out of memory. If a connection was to be made, nothing changes. Otherwise some of the bytes
+    /// may have been moved, and the event's connection is cut both ways.
     OutOfMemory,
     /// The connection is raw.
     Raw,

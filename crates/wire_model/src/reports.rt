@@ -29,7 +29,7 @@ pub enum Report {
     Entry(usize),
     /// The request was taken, and the server closed.
     ClosedBy(ServerCause),
-    /// It is done.
+    /// The event is done.
     Done,
     /// The raw connection of this number was made.
     RawOpened(u64),

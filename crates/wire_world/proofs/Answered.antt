@@ -1,4 +1,4 @@
--- A request that is answered, or isn't for want of memory.
+-- A request that is answered, or isn't because memory ran out.
 use Rattle.std.specs.Prelude.{◌≡◌, ℕ, zero, suc, ◌-◌, ◌<◌, Bool, true, false, if◌then◌else◌, nat_le, List, [], ◌∷◌, length, Option, None, Some, Result, Err, slice_set}
 use Rattle.std.proofs.Common.{◌∙◌, ap, arith, refl, subst, sym}
 use Rattle.std.proofs.lemmas.Bool.Decides.{nat_tests}
@@ -68,7 +68,7 @@ is_unanswered does stops {v = v} c i k k' h entries seen at others (live, less, 
     let conns : slice_set v.state.conns (c - 1) k' ≡ v.state.conns = sym (conn_set_place v.state.conns c k' (numbered v.state.conns c k at).0) ∙ ap (conn_set v.state.conns c) conn ∙ conn_set_same v.state.conns c k at in
     rw (conns, log, kept) (ap (λ (u : WorldSeen _). u.state) seen)
 
--- an open server at which the request waits refuses for want of memory alone
+-- an open server at which the request waits refuses only if memory runs out
 pub not_closed : {H : Type 0} (does : Does H) (stops : Stops H) (i : ℕ) (s s' : ServerView) (h h' : H) (log log' : List LogEntry) → s.state ≡ Open → AnswerStep does stops i (Err answers.Closed) s h log s' h' log' → ⊥
 not_closed does stops i s s' h h' log log' live told = told.0 live
 

@@ -1,4 +1,4 @@
--- What cuts and returns do, from what the code has done.
+-- Cuts and returns in the world, by what the code has done.
 use Rattle.std.proofs.Common.{◌≡◌, ℕ, ◌-◌, ◌&&◌, ◌||◌, Bool, true, false, not, if◌then◌else◌, get_or, List, map, Option, None, Some, ap, refl, sym, subst, ◌∙◌}
 use Rattle.std.specs.Prelude.{slice_set, unwrap_or}
 use Rattle.std.proofs.lemmas.Option.{none-some}

@@ -1,4 +1,4 @@
--- What holds of a world that a list of events made, by the laws of runs.
+-- What the laws of runs say of a world after a list of events.
 use Rattle.std.specs.Prelude.{◌≡◌, IfOk, MatchResult, Result, Ok, Err, List}
 use Rattle.wire_peer.specs.{Does, Stops}
 use Rattle.wire_model.specs.{AreGood, GoesOnFromEach, Headline, IdsApart, QuietIsDone, RawAnswerOwn, RawGiveOwn, Run, UncutIsOpen, opening}

@@ -1,4 +1,4 @@
--- The parts of a world that belong together still do after replies went into the records.
+-- The parts of a world still belong together after replies went into the records.
 use Rattle.std.specs.Prelude.{length, ◌≡◌, ℕ, zero, suc, ◌≤◌, All, Bool, true, false, if◌then◌else◌, List, [], ◌∷◌, map, Option, None, Some, Result, Ok, Err, slice_get}
 use Rattle.std.proofs.Common.{◌∙◌, ap, arith, inl, inr, refl, subst, sym, true≢false}
 use Rattle.std.proofs.lemmas.List.Elements.{All-cons, All-head, All-set, All-tail, All-weaker}
@@ -16,7 +16,7 @@ use Rattle.wire_model.specs.declared.limits.WorldLimits.{WorldLimits}
 use Rattle.wire_world.specs.Moving.{DownResult}
 use Rattle.wire_world.specs.Worlds.{AreParts}
 
--- a record of a connection that is made, which stays as it is when records are settled
+-- the record is of a connection that exists, and settling leaves it as it is
 abbrev Fine : ℕ → List Conn → Record → Type 0
 Fine many ks x = (x.connection ≤ many) × (settled_record ks x ≡ x)
 
@@ -86,7 +86,7 @@ copied_parts l p ks indexes old xs pieces new ys takes a =
 
 -- ---- what moves down
 
--- the records are as settled as they were
+-- records that were settled still are
 pub moved_parts : {E : Type 0} (l : WorldLimits) (p : PoolSeen) (ks : List Conn) (k k' : Conn) (n : ℕ) (xs ys : List Record) (r : Result ℕ E) → DownResult k n xs k' ys r → AreParts l p ks xs → AreParts l p ks ys
 moved_parts l p ks k k' n xs ys (Ok moved) (m, are, fewer) a = copied_parts l p ks k.calls k.client xs m.pieces m.client ys m.takes a
 moved_parts l p ks k k' n xs ys (Err e) (done, inl (m, wants), cut) a = copied_parts l p ks k.calls k.client xs m.pieces m.client ys m.takes a

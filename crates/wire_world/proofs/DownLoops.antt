@@ -62,7 +62,7 @@ moved_down old new n calls d moved client server le g e = record {
   after = e ∙ ap (λ (s : ServerView). let x : Conn = record old { client = client; server = s } in x) g.server_is;
 }
 
--- memory was wanting in between
+-- memory ran out on the way
 pub stopped : (old done : Conn) (n : ℕ) (calls d : List Record) (moved : ℕ) (client next : ClientSeen) (server after : ServerView) (piece : List ℕ) (m taken : ℕ) → moved ≤ n → m ≤ n - moved → piece ≡ take m server.output
     → GoneDown old.calls old.client old.server calls moved client server d → Unfed client piece taken next → after ≡ with_server_output server (drop taken server.output) → done ≡ record old { client = next; server = after } → Stopped old n calls done d
 stopped old done n calls d moved client next server after piece m taken le small is g (inl u) e at =
@@ -101,7 +101,7 @@ no_error (clients.Closed c) cause e = true≢false (ap is_closed e)
 pub ended_closed : (k : ClientSeen) → (ended k).state ≡ clients.Open → ⊥
 ended_closed k e = no_error k.state _ e
 
--- a loop's end says how the move ends, where memory was there
+-- a loop's end says how the move ends, if memory didn't run out
 pub down_ok : (E : Type 0) (old : Conn) (inside : Option ClientSeen) (k client : ClientSeen) (s server : ServerView) (indexes : List ℕ) (u d : Bool) (n moved : ℕ) (calls calls' : List Record) → conn_of inside s indexes u d ≡ old → inside ≡ Some k
     → DownEnd {E = E} indexes k s calls n client server calls' (Ok moved) → DownResult {E = E} old n calls (record { raw = false; client = client; server = server; calls = indexes; up_cut = u; down_cut = d }) calls' (Ok moved)
 down_ok E old inside k client s server indexes u d n moved calls calls' view is p =

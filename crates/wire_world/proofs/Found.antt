@@ -31,13 +31,13 @@ numbered ks (suc i) k at = let within = slice_get_within ks i k at in (omega ari
 pub is_from_1 : {H : Type 0} (w : World H) (e : Event) (c : ℕ) → connection_of e ≡ Some c → first_reason w e ≡ None → 0 < c
 is_from_1 w e c is passes = (numbered w.conns c (is_there w e c is passes).0 (is_there w e c is passes).1).0
 
--- what is read at its place is it
+-- the connection that is read at its index is that one
 pub is_read : {H : Type 0} (w : World H) (e : Event) (c : ℕ) (k : Conn) → connection_of e ≡ Some c → first_reason w e ≡ None → k ≡ get_or w.conns (c - 1) k → conn_at w.conns c ≡ Some k
 is_read w e c k is passes read =
     let place = numbered w.conns c (is_there w e c is passes).0 (is_there w e c is passes).1 in
     conn_at_place w.conns c place.0 ∙ slice_get_read w.conns (length w.conns) (c - 1) k refl place.1 read
 
--- the same, of the world that the parts of one are seen as
+-- the same, of the world that the parts show
 pub read_by : {H : Type 0} {v now : WorldSeen H} (e : Event) (c : ℕ) (k : Conn) → v ≡ now → connection_of e ≡ Some c → first_reason now.state e ≡ None → k ≡ get_or v.state.conns (c - 1) k → conn_at v.state.conns c ≡ Some k
 read_by {v = v} e c k seen is passes read = is_read v.state e c k is (subst (λ (u : WorldSeen _). first_reason u.state e ≡ None) (sym seen) passes) read
 

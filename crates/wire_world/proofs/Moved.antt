@@ -31,7 +31,7 @@ sure_raw : (b : Bool) → (true && not b) ≡ false → b ≡ true
 sure_raw true e = refl
 sure_raw false e = sym e
 
--- the connection at its place is changed
+-- the world with this connection at its index
 abbrev pub placed : {H : Type 0} → World H → ℕ → Conn → World H
 placed w c k = record w { conns = slice_set w.conns (c - 1) k }
 
@@ -92,12 +92,12 @@ gives_raw w c n k k' at p is = record {
 as_before : {H : Type 0} (w : World H) (c : ℕ) (k k' : Conn) → conn_at w.conns c ≡ Some k → k' ≡ k → placed w c k' ≡ w
 as_before {H} w c k k' at same = is_placed w c k k' k at same ∙ ap (λ (ks : List Conn). let u : World H = record w { conns = ks } in u) (conn_set_same w.conns c k at)
 
--- the server that the parts of a connection are seen as
+-- the server that the parts of a connection show
 pub server_seen : (o : Option ClientSeen) (s : ServerView) (calls : List ℕ) (up down : Bool) (k : Conn) → conn_of o s calls up down ≡ k → s.state ≡ k.server.state
 server_seen None s calls up down k e = ap (λ (z : Conn). z.server.state) e
 server_seen (Some client) s calls up down k e = ap (λ (z : Conn). z.server.state) e
 
--- what happens in the world that the parts of one are seen as
+-- what happens in the world that the parts show
 module _ {H : Type 0} {v now : WorldSeen H} (seen : v ≡ now) where
   pub in_seen : (does : Does H) (stops : Stops H) (e : Event) (r : Result Report WorldRefusal) (new : World H) → (first_reason v.state e ≡ None → Happens does stops v.limits v.state e r new)
       → first_reason now.state e ≡ None → Happens does stops now.limits now.state e r new

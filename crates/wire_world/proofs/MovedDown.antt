@@ -114,7 +114,7 @@ module _ {H : Type 0} {v now : WorldSeen H} (seen : v ≡ now) (c n : ℕ) (k k'
             after = settles ∙ ap (λ (ks : List Conn). settled (changed v.state ks ys)) (at_its_place at ∙ ap (conn_set v.state.conns c) cut ∙ sym (cut_set v.state.conns c k done at));
           }
 
-  -- either way: so many bytes were moved, or memory was wanting
+  -- either way: this many bytes were moved, or memory ran out
   pub down_ends : {E : Type 0} (does : Does H) (stops : Stops H) → first_reason now.state (events.Down c n) ≡ None → (r : Result ℕ E) → DownResult k n xs k' ys r
       → MatchResult r
       (λ moved. Happens does stops now.limits now.state (events.Down c n) (Ok (reports.Moved moved)) new)

@@ -6,7 +6,7 @@ use Rattle.std.proofs.lemmas.List.Edits.{map_over_more}
 use Rattle.std.proofs.Math.ListN as math
 use Rattle.wire_model.specs.{Conn, all_cut, conn_at, conn_set, cut_at}
 
--- a loop that writes over each element, whose value is so and so
+-- a loop that writes over each element, with one more element written
 pub values_over_more : {A B : Type 0} (g : A → B) (f : B → B) (xs items : List A) (i : ℕ) (x new : A) → i < length xs → x ≡ get_or items i x
     → map g items ≡ map f (take i (map g xs)) ++ drop i (map g xs) → g new ≡ f (g x) → map g (slice_set items i new) ≡ map f (take (i + 1) (map g xs)) ++ drop (i + 1) (map g xs)
 values_over_more g f xs items i x new lt at so is =

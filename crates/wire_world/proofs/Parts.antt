@@ -64,7 +64,7 @@ all_settled ks (x ∷ xs) = ap (λ (y : Record). y ∷ map (settled_record ks) (
 abbrev IsMade : ℕ → Record → Type 0
 IsMade many x = x.connection ≤ many
 
--- the records are settled, whatever became of the connections and of what the pool holds
+-- the records are settled, however the connections and the pool's lists have changed
 pub settled_parts : (l : WorldLimits) (p p' : PoolSeen) (ks ks' : List Conn) (calls : List Record) → AreParts l p ks calls → SamePool p p' → length ks' ≡ length ks
     → AreParts l p' ks' (map (settled_record ks') calls)
 settled_parts l p p' ks ks' calls parts next same = record {

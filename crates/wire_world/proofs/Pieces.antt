@@ -44,7 +44,7 @@ pub split_output : (output ps rest : List ℕ) (a : List ℕ) (m n : ℕ) → a 
 split_output output ps rest a m n e le = e ∙ ap (λ (b : List ℕ). ps ++ b) (sym (take-append-drop n output) ∙ ap (λ (b : List ℕ). b ++ drop n output) (sym (take_front n m output le)))
     ∙ sym (append_assoc ps (take n (take m output)) (drop n output))
 
--- where a piece of the output is empty and more may move, the output is
+-- if a piece of the output is empty and more may move, the output is empty
 pub left_none : (out piece : List ℕ) (m room : ℕ) → m ≡ min (length out) room → 0 < room → piece ≡ take m out → piece ≡ [] → out ≡ []
 left_none [] piece m room least lt is e = refl
 left_none (x ∷ out) piece m room least lt is e = no_front m (x ∷ out) (omega (arith, least, lt)) (sym is ∙ e)
@@ -58,7 +58,7 @@ pub takes_after : (ps qs : List (List ℕ)) (old mid new : ServerView) → Serve
 takes_after [] qs old mid new all more = subst (λ (s : ServerView). ServerTakesAll s qs new) all more
 takes_after (p ∷ ps) qs old mid new all more = (all.0, all.1, takes_after ps qs all.0 mid new all.2 more)
 
--- of open bytes that are held nothing else can be found with no more
+-- open bytes stay open if no more come
 stays_open : (limit : ℕ) (held : List ℕ) (found : ReaderState) → IsOpen limit held → StandsAt limit held found → found ≡ Need
 stays_open limit held Need live at = refl
 stays_open limit held Ready live at = absurd (open_not_whole limit held [] at.1.0 live (record { front = held; parts = sym (append-nil held); spelled = at.1.1; within = at.0 }))
@@ -71,7 +71,7 @@ empty : (xs : List ℕ) → 0 ≡ length xs → xs ≡ []
 empty [] e = refl
 empty (x ∷ xs) e = absurd (omega (arith, e))
 
--- an open server with room took so many
+-- an open server with room took n bytes
 pub fed_open : (s : ServerView) (piece : List ℕ) (n : ℕ) (new : ServerView) → s.state ≡ servers.Open → IsOpen s.limit s.held → length s.waiting < s.window → TakesBytes s piece n new → FedServer s piece n new
 fed_open s piece n new is live lt t = record {
   within = t.fed.taken;

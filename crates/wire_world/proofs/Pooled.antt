@@ -1,4 +1,4 @@
--- What the pool's answers say of its next id.
+-- What the pool's answers mean for its next id.
 use Rattle.std.proofs.Common.{◌≡◌, ℕ, Bool, true, false, if◌then◌else◌, nat_lt, List, [], ◌∷◌, ◌++◌, length, Option, None, Some, ap, refl, sym, ◌∙◌}
 use Rattle.wire_pool.specs.{PoolSeen, checked_out, drawn, id_after, lending, next_after}
 use Rattle.wire_pool.specs.declared.pool_answers.CheckOut.{CheckOut}
@@ -33,7 +33,7 @@ gave p = by p.closed refl
     by true e = e
     by false e = gave_lent p p.idle
 
--- what was peeked at is what is given
+-- the pool answers what `peek` returned
 pub given_as : (p q : PoolSeen) (peeked out is : CheckOut) → peeked ≡ (checked_out p).0 → peeked ≡ is → (out, q) ≡ checked_out p → checked_out p ≡ (is, q)
 given_as p q peeked out is at was step =
     let same : out ≡ is = ap (λ (r : CheckOut × PoolSeen). r.0) step ∙ sym at ∙ was in

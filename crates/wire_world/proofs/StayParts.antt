@@ -1,4 +1,4 @@
--- The parts of a world that belong together still do after a connection has changed, or a call was made.
+-- The parts of a world still belong together after a connection has changed, or a call was made.
 use Rattle.std.specs.Prelude.{◌≡◌, ℕ, zero, suc, ◌-◌, ◌≤◌, Bool, false, All, if◌then◌else◌, List, [], ◌∷◌, ◌++◌, length, map, Some, slice_set}
 use Rattle.std.proofs.Common.{◌∙◌, ap, arith, refl, subst, sym}
 use Rattle.std.proofs.lemmas.Option.{none-some}
@@ -73,13 +73,13 @@ parts_called l p ks xs x k at live a = record {
   settled_are = map_push (settled_record ks) xs x ∙ ap (λ ys. ys ++ settled_record ks x ∷ []) a.settled_are ∙ ap (λ y. xs ++ y ∷ []) (open_settled ks x k at live);
 }
 
--- what was set is there
+-- the connection that was set is found
 pub conn_at_set : (ks : List Conn) (c : ℕ) (k k' : Conn) → conn_at ks c ≡ Some k → conn_at (conn_set ks c k') c ≡ Some k'
 conn_at_set ks zero k k' at = absurd (none-some k at)
 conn_at_set [] (suc i) k k' at = absurd (none-some k at)
 conn_at_set (z ∷ zs) (suc zero) k k' at = refl
 conn_at_set (z ∷ zs) (suc (suc i)) k k' at = conn_at_set zs (suc i) k k' at
 
--- the same, where the connection is put at its place
+-- the same, where the connection is written at its index
 pub parts_placed : (l : WorldLimits) (p : PoolSeen) (ks : List Conn) (xs : List Record) (c : ℕ) (k k' : Conn) → conn_at ks c ≡ Some k → is_closed k'.client.state ≡ is_closed k.client.state → AreParts l p ks xs → AreParts l p (slice_set ks (c - 1) k') xs
 parts_placed l p ks xs c k k' at same a = subst (λ (ys : List Conn). AreParts l p ys xs) (conn_set_place ks c k' (numbered ks c k at).0) (parts_changed l p ks xs c k k' at same a)

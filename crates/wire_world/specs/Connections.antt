@@ -8,7 +8,7 @@ use Rattle.wire_peer.specs.declared.server_state.ServerState.{ServerState}
 use Rattle.wire_peer.specs.declared.server_state.ServerState.TheVariants as servers
 use Rattle.wire_model.specs.{Conn, is_empty, no_client}
 
--- a connection without a client is raw
+-- the connection with these parts; without a client it is raw
 abbrev pub conn_of : Option ClientSeen → ServerView → List ℕ → (up_cut down_cut : Bool) → Conn
 conn_of None server calls up_cut down_cut =
     record {
@@ -41,7 +41,8 @@ is_stopped (servers.Closed NoMemory) = true
 is_stopped (servers.Closed HandlerFailed) = true
 is_stopped s = false
 
--- not cut, nor closed by an answer, with nothing on its ways, and nothing that waits
+-- neither way of the connection is cut, no answer closed its server, nothing is on the ways, and no
+-- request waits
 abbrev pub is_quiet : Conn → Bool
 is_quiet k =
     not k.up_cut

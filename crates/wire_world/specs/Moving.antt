@@ -7,7 +7,7 @@ use Rattle.wire_model.specs.{Conn, Record, ClientTakes, CopiesReply, ClientTakes
 use Rattle.wire_model.specs.{TakesNone, joined, with_client_output, with_server_output, cut_both}
 use Rattle.wire_model.specs.{ClientWantsRoom, WantsRoom}
 
--- pieces of the client's output, at most n bytes, went into the server
+-- at most n bytes of the client's output went into the server, piece by piece
 pub record MovedUp (old : Conn) (n : ℕ) (new : Conn) : Type 0 where
   pub pieces : List (List ℕ)
   pub rest : List ℕ
@@ -17,7 +17,7 @@ pub record MovedUp (old : Conn) (n : ℕ) (new : Conn) : Type 0 where
   pub takes : ServerTakesAll old.server pieces server
   pub after : new ≡ record old { client = with_client_output old.client rest; server = server }
 
--- with this result: how many bytes were moved, or that there was no room for a message
+-- the result of the move: how many bytes were moved, or that there was no memory for a message
 abbrev pub UpResult : {E : Type 0} {old new : Conn} {n : ℕ} → MovedUp old n new → Result ℕ E
     → Type 0
 UpResult {n = n} m (Ok moved) =
@@ -25,7 +25,7 @@ UpResult {n = n} m (Ok moved) =
 UpResult {n = n} m (Err e) =
     (k : ℕ) × (k + length (joined m.pieces) ≤ n) × WantsRoom m.server (take k m.rest)
 
--- pieces of these bytes went into the server of a raw connection
+-- some of these bytes, from the first on, went into the server of a raw connection, piece by piece
 pub record TakenRaw (old : Conn) (bytes : List ℕ) (new : Conn) : Type 0 where
   pub pieces : List (List ℕ)
   pub rest : List ℕ
@@ -34,13 +34,14 @@ pub record TakenRaw (old : Conn) (bytes : List ℕ) (new : Conn) : Type 0 where
   pub takes : ServerTakesAll old.server pieces server
   pub after : new ≡ record old { server = server }
 
+-- the result of that: how many bytes were taken, or that there was no memory for a message
 abbrev pub RawResult : {E : Type 0} {old new : Conn} {bytes : List ℕ} → TakenRaw old bytes new
     → Result ℕ E → Type 0
 RawResult m (Ok moved) = (moved ≡ length (joined m.pieces)) × ((m.rest ≡ []) ⊎ TakesNone m.server)
 RawResult m (Err e) = WantsRoom m.server m.rest
 
--- pieces of the server's output, at most n bytes, went into the client, and its replies into the
--- records
+-- at most n bytes of the server's output went into the client, piece by piece, and the replies into
+-- the records
 pub record MovedDown (old : Conn) (n : ℕ) (calls : List Record) (new : Conn) (calls' : List Record)
     : Type 0 where
   pub pieces : List (List ℕ)
@@ -51,7 +52,7 @@ pub record MovedDown (old : Conn) (n : ℕ) (calls : List Record) (new : Conn) (
   pub takes : ClientTakesAll old.calls old.client calls pieces client calls'
   pub after : new ≡ record old { client = client; server = with_server_output old.server rest }
 
--- one more piece, and a reply that isn't copied
+-- one more piece went into the client, and made a reply ready that wasn't copied
 pub record Uncopied (old : Conn) (n : ℕ) (new : Conn) : Type 0 where
   pub piece : List ℕ
   pub rest : List ℕ
@@ -62,7 +63,7 @@ pub record Uncopied (old : Conn) (n : ℕ) (new : Conn) : Type 0 where
   pub ready : client.reply ≢ None
   pub after : new ≡ record old { client = client; server = with_server_output old.server rest }
 
--- the last piece's reply isn't copied, or there was no room for a message
+-- memory ran out, for a message or for the copy of the last piece's reply
 abbrev pub Stopped : (old : Conn) (n : ℕ) (calls : List Record) (new : Conn) (calls' : List Record)
     → Type 0
 Stopped old n calls new calls' =
@@ -72,8 +73,7 @@ Stopped old n calls new calls' =
     ((mid : Conn) × (m : MovedDown old n calls mid calls')
     × Uncopied mid (n - length (joined m.pieces)) new)
 
--- with this result: how many bytes were moved; where memory ran out, both ways are cut
--- afterwards
+-- the result of the move: how many bytes were moved; or memory ran out, and both ways were cut then
 abbrev pub DownResult :
     {E : Type 0} (old : Conn) (n : ℕ) (calls : List Record) (new : Conn) (calls' : List Record)
     → Result ℕ E → Type 0
@@ -85,7 +85,8 @@ DownResult old n calls new calls' (Err e) =
 
 -- ---- one piece
 
--- a server took the first bytes of a piece: none only where there are none, or it takes no more
+-- a server took the first bytes of a piece: at least one, unless the piece is empty or the server
+-- takes no more
 pub record FedServer (old : ServerView) (piece : List ℕ) (taken : ℕ) (new : ServerView) :
     Type 0 where
   pub within : taken ≤ length piece
@@ -104,7 +105,7 @@ pub record FedClient (indexes : List ℕ) (old : ClientSeen) (calls : List Recor
   pub after : new ≡ released mid
   pub none : taken ≡ 0 → piece ≡ []
 
--- a client took nothing, or the first bytes of a piece, which made a reply ready
+-- memory ran out: a client took nothing, or the first bytes of a piece, which made a reply ready
 abbrev pub Unfed : (old : ClientSeen) (piece : List ℕ) (taken : ℕ) (new : ClientSeen) → Type 0
 Unfed old piece taken new =
     ((taken ≡ 0) × (new ≡ old) × ClientWantsRoom old piece)
@@ -121,7 +122,7 @@ pub record GoneUp (kc : ClientSeen) (ks : ServerView) (moved : ℕ) (client : Cl
   pub takes : ServerTakesAll ks pieces server
   pub client_is : client ≡ with_client_output kc client.requests.output
 
--- at the end: how many, or that there was no room for a message
+-- the result of that: how many bytes, or that there was no memory for a message
 abbrev pub UpEnd : {E : Type 0} (n moved : ℕ) (client : ClientSeen) (server : ServerView)
     → Result ℕ E → Type 0
 UpEnd n moved client server (Ok k) =
@@ -137,6 +138,7 @@ pub record GoneRaw (old : ServerView) (bytes : List ℕ) (moved : ℕ) (server :
   pub input : bytes ≡ joined pieces ++ drop moved bytes
   pub takes : ServerTakesAll old pieces server
 
+-- the result of that, likewise
 abbrev pub RawEnd : {E : Type 0} (bytes : List ℕ) (moved : ℕ) (server : ServerView) → Result ℕ E
     → Type 0
 RawEnd bytes moved server (Ok k) = (k ≡ moved) × ((drop moved bytes ≡ []) ⊎ TakesNone server)
@@ -151,7 +153,7 @@ pub record GoneDown (indexes : List ℕ) (kc : ClientSeen) (ks : ServerView) (ca
   pub takes : ClientTakesAll indexes kc calls pieces client calls'
   pub server_is : server ≡ with_server_output ks server.output
 
--- then there was no room for a message, or a reply wasn't copied
+-- some bytes were moved, and then memory ran out: for a message, or for the copy of a reply
 pub record PartDown (indexes : List ℕ) (kc : ClientSeen) (ks : ServerView) (calls : List Record)
     (n : ℕ) (client : ClientSeen) (server : ServerView) (calls' : List Record) : Type 0 where
   pub moved : ℕ
@@ -165,7 +167,7 @@ pub record PartDown (indexes : List ℕ) (kc : ClientSeen) (ks : ServerView) (ca
   pub unfed : Unfed mid (take many half.output) taken client
   pub after : server ≡ with_server_output half (drop taken half.output)
 
--- at the end of a loop: how many were moved; or only a part, where memory ran out
+-- the result of that: how many bytes were moved; or memory ran out after some of them
 abbrev pub DownEnd :
     {E : Type 0} (indexes : List ℕ) (kc : ClientSeen) (ks : ServerView) (calls : List Record)
     (n : ℕ) (client : ClientSeen) (server : ServerView) (calls' : List Record)

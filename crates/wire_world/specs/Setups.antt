@@ -10,11 +10,11 @@ use Rattle.wire_model.specs.declared.refusals.SetupRefusal.TheVariants.{BadLimit
 use Rattle.wire_model.specs.declared.refusals.SetupRefusal.TheVariants.{OutOfMemory}
 use Rattle.wire_world.specs.Worlds.{WorldSeen}
 
--- the numbers for the ends of a connection are within their ranges
+-- the limits of the ends of a connection are within their ranges
 abbrev pub AreGoodForEnds : WorldLimits → Type 0
 AreGoodForEnds l = (pos 1 ≤ℤ l.first_id) × IsWindow l.window × IsLimit l.limit
 
--- the first number that is outside its range; none is, where memory runs out
+-- the first limit that is outside its range; or memory ran out, and each limit is within its range
 abbrev pub IsSetupRefusal : WorldLimits → SetupRefusal → Type 0
 IsSetupRefusal l BadFirstId = l.first_id <ℤ pos 1
 IsSetupRefusal l BadWindow = (pos 1 ≤ℤ l.first_id) × (IsWindow l.window → ⊥)
@@ -22,7 +22,7 @@ IsSetupRefusal l BadLimit = (pos 1 ≤ℤ l.first_id) × IsWindow l.window × (I
 IsSetupRefusal l BadMax = AreGoodForEnds l × (IsPoolMax l.connections → ⊥)
 IsSetupRefusal l OutOfMemory = AreGood l
 
--- what became of making a world
+-- the result of making a world
 abbrev pub IsNewWorld : {H : Type 0} → WorldLimits → H → Result (WorldSeen H) SetupRefusal → Type 0
 IsNewWorld l h (Ok w) = AreGood l × (w ≡ record { limits = l; state = opening l h })
 IsNewWorld l h (Err refusal) = IsSetupRefusal l refusal

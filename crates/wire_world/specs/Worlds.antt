@@ -4,13 +4,13 @@ use Rattle.wire_pool.specs.{PoolSeen, id_after}
 use Rattle.wire_model.specs.{AreGood, Conn, Record, World, settled_record}
 use Rattle.wire_model.specs.declared.limits.WorldLimits.{WorldLimits}
 
--- What a caller sees of a world: the numbers with which it was made, and its state.
+-- What a caller sees of a world: the limits with which it was made, and its state.
 pub record WorldSeen (H : Type 0) : Type 0 where
   pub limits : WorldLimits
   pub state : World H
 
 -- The parts belong together: the pool is open, as many connections were made as ids were given,
--- each call is of one of them, and no call is pending whose client is closed.
+-- each call is over one of them, and no pending call has a closed client.
 pub record AreParts (limits : WorldLimits) (pool : PoolSeen) (conns : List Conn)
     (calls : List Record) : Type 0 where
   pub limits_are : AreGood limits

@@ -25,7 +25,7 @@ use wire_peer::{
 pub(crate) struct Connection {
     pub(crate) client: Option<Client>,
     pub(crate) server: Server,
-    /// The index among the world's calls of each call of the client.
+    /// For each call of the client, by its number, its index among the world's calls.
     pub(crate) calls: Vec<usize>,
     pub(crate) up_cut: bool,
     pub(crate) down_cut: bool,
@@ -126,8 +126,8 @@ impl Connection {
         }
     }
 
-    /// Returns true if the connection was not cut nor closed by an answer, and nothing is on its
-    /// ways or waits.
+    /// Returns true if neither way is cut, no answer closed the server, nothing is on the ways, and
+    /// no request waits.
     pub(crate) fn is_quiet(&self) -> bool
         ensures { result ≡ is_quiet self.now }
     {
@@ -149,7 +149,7 @@ impl Connection {
         }
     }
 
-    /// Returns true if a way is cut that must not be.
+    /// Returns true if a way that `needs` names is cut.
     pub(crate) fn is_cut_for(&self, needs: Needs) -> bool
         ensures { result ≡ is_cut_for needs self.now }
     {
@@ -195,7 +195,7 @@ impl Connection {
     ///
     /// # Errors
     ///
-    /// The client's refusal, or that memory runs out. Nothing changes then.
+    /// Returns why the client refuses the call, or `OutOfMemory`. Nothing changes then.
     pub(crate) fn call(
         &mut self,
         kind: CallKind,
@@ -224,7 +224,7 @@ impl Connection {
         Ok(call)
     }
 
-    /// Returns why the server wouldn't answer the `k`-th request that waits, if it wouldn't.
+    /// Returns why the server would refuse to answer the waiting request of index `k`, if it would.
     pub(crate) fn answer_refusal(&self, k: usize) -> Option<AnswerRefusal>
         ensures { option_map WorldRefusal.Answer result
             ≡ answer_reason self.now.server.state (length self.now.server.waiting) k }
@@ -238,7 +238,7 @@ impl Connection {
         None
     }
 
-    /// Has the server answer the `k`-th request that waits.
+    /// Has the server answer the waiting request of index `k`.
     pub(crate) fn answer<H: Handler>(
         &mut self,
         k: usize,

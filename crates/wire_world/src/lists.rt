@@ -1,4 +1,4 @@
-//! What is done to each connection of a list, and to each record.
+//! Finds connections by their numbers, and changes lists of connections and of records.
 
 ghost use Rattle.std.specs.Prelude.{◌≡◌, map, option_map};
 ghost use Rattle.wire_model.specs.{all_cut, conn_at, cut_at, restarted, settled_record};
@@ -38,7 +38,7 @@ pub(crate) fn cut_all(connections: &mut [Connection], numbers: &VecDeque<u64>)
     }
 }
 
-/// Tells each client that isn't told the end yet that it is.
+/// Cuts the way down of each connection, unless it is cut or the connection is raw.
 pub(crate) fn restart_all(connections: &mut [Connection])
     ensures { connections.new ≡ map restarted connections.old }
 {
@@ -47,7 +47,7 @@ pub(crate) fn restart_all(connections: &mut [Connection])
     }
 }
 
-/// Notes of a call, where it is pending and its client is closed, that it is lost.
+/// Marks the call as lost, if it is pending and its client is closed.
 fn settle_one(call: &mut CallRecord, connections: &[Connection])
     ensures { record_of call.new ≡ settled_record connections.now (record_of call.old) }
 {
@@ -58,7 +58,7 @@ fn settle_one(call: &mut CallRecord, connections: &[Connection])
     }
 }
 
-/// Notes of each pending call whose client is closed that it is lost.
+/// Marks each pending call whose client is closed as lost.
 pub(crate) fn settle(calls: &mut [CallRecord], connections: &[Connection])
     ensures { map record_of calls.new
         ≡ map (settled_record connections.now) (map record_of calls.old) }

@@ -17,13 +17,13 @@ use wire_peer::{Client, ClientState, Server, ServerCause, ServerState};
 use wire_stream::ReadRefusal;
 
 impl Connection {
-    /// Moves the first bytes of the client's output into the server, at most `n`, and returns how
-    /// many. Fewer are moved only where there are no more, or the server takes none.
+    /// Moves the first bytes of the client's output into the server, and returns how many: `n`, or
+    /// fewer if there are no more or the server takes no more.
     ///
     /// # Errors
     ///
-    /// Out of memory for a message whose header is complete now. Part of the bytes may have
-    /// been moved.
+    /// Returns `OutOfMemory` if there is no memory for a message whose header is now complete. Some
+    /// bytes may have been moved.
     pub(crate) fn move_up(&mut self, n: usize) -> Result<usize, ReadRefusal>
         requires { self.old.raw ≡ false }
         ensures { (m : MovedUp self.old n self.new) × UpResult m result }
@@ -34,14 +34,15 @@ impl Connection {
         pass_up(client, &mut self.server, n)
     }
 
-    /// Moves the first bytes of the server's output into the client, at most `n`, and returns how
-    /// many. Fewer are moved only where there are no more, or the client is closed. Each reply goes
-    /// into the record of its call.
+    /// Moves the first bytes of the server's output into the client, and returns how many: `n`, or
+    /// fewer if there are no more or the client is closed. Each reply goes into the record of its
+    /// call.
     ///
     /// # Errors
     ///
-    /// Out of memory, for a message whose header is complete now or for the copy of a reply.
-    /// Part of the bytes may have been moved, and the connection is cut both ways.
+    /// Returns `AllocError` if there is no memory for a message whose header is now complete, or
+    /// for the copy of a reply. Some bytes may have been moved, and the connection is cut both
+    /// ways.
     pub(crate) fn move_down(
         &mut self,
         n: usize,
@@ -66,13 +67,13 @@ impl Connection {
         }
     }
 
-    /// Feeds the server of a raw connection, and returns how many of the bytes it took: all, but
-    /// where it takes no more.
+    /// Feeds `bytes` to the server of a raw connection, and returns how many it took: all, or fewer
+    /// if it takes no more.
     ///
     /// # Errors
     ///
-    /// Out of memory for a message whose header is complete now. Part of the bytes may have
-    /// been taken.
+    /// Returns `OutOfMemory` if there is no memory for a message whose header is now complete. Some
+    /// bytes may have been taken.
     pub(crate) fn take_raw(&mut self, bytes: &[u8]) -> Result<usize, ReadRefusal>
         requires { self.old.raw ≡ true }
         ensures { (m : TakenRaw self.old bytes.now self.new) × RawResult m result }
@@ -80,11 +81,11 @@ impl Connection {
         pass_raw(&mut self.server, bytes)
     }
 
-    /// Takes the first bytes of the server's output away, at most `n`.
+    /// Takes away the first bytes of the server's output, at most `n`.
     ///
     /// # Errors
     ///
-    /// Out of memory. Nothing changes then.
+    /// Returns `AllocError` if memory runs out. Nothing changes then.
     pub(crate) fn give_raw(&mut self, alloc: Global, n: usize) -> Result<Vec<u8>, AllocError>
         ensures given { IfOk result (λ v. (v.items ≡ take n self.old.server.output)
             ×
@@ -105,12 +106,13 @@ impl Connection {
     }
 }
 
-/// Feeds a server, and returns how many of the bytes it took: none only where there are none, or it
-/// takes no more.
+/// Feeds `piece` to a server, and returns how many bytes it took: at least one, unless `piece` is
+/// empty or the server takes no more.
 ///
 /// # Errors
 ///
-/// Out of memory for a message whose header is complete now. Nothing is taken then.
+/// Returns `OutOfMemory` if there is no memory for a message whose header is now complete. Nothing
+/// is taken then.
 fn feed_server(server: &mut Server, piece: &[u8]) -> Result<usize, ReadRefusal>
     ensures fed { MatchResult result (λ taken. FedServer server.old piece.now taken server.new)
         (λ _. WantsRoom server.old piece.now) }
@@ -122,12 +124,12 @@ fn feed_server(server: &mut Server, piece: &[u8]) -> Result<usize, ReadRefusal>
     server.feed(piece)
 }
 
-/// Moves the first bytes of the client's output into the server, at most `n`, and returns how many.
+/// Moves the first bytes of the client's output into the server, and returns how many, at most `n`.
 ///
 /// # Errors
 ///
-/// Out of memory for a message whose header is complete now. Part of the bytes may have been
-/// moved.
+/// Returns `OutOfMemory` if there is no memory for a message whose header is now complete. Some
+/// bytes may have been moved.
 fn pass_up(client: &mut Client, server: &mut Server, n: usize) -> Result<usize, ReadRefusal>
     ensures { (moved : ℕ) × (moved ≤ n) × GoneUp client.old server.old moved client.new server.new
         × UpEnd n moved client.new server.new result }
@@ -146,12 +148,12 @@ fn pass_up(client: &mut Client, server: &mut Server, n: usize) -> Result<usize, 
     Ok(moved)
 }
 
-/// Feeds a server, and returns how many of the bytes it took: all, but where it takes no more.
+/// Feeds `bytes` to a server, and returns how many it took: all, or fewer if it takes no more.
 ///
 /// # Errors
 ///
-/// Out of memory for a message whose header is complete now. Part of the bytes may have been
-/// taken.
+/// Returns `OutOfMemory` if there is no memory for a message whose header is now complete. Some
+/// bytes may have been taken.
 fn pass_raw(server: &mut Server, bytes: &[u8]) -> Result<usize, ReadRefusal>
     ensures { (moved : ℕ) × GoneRaw server.old bytes.now moved server.new
         × RawEnd bytes.now moved server.new result }
@@ -167,13 +169,12 @@ fn pass_raw(server: &mut Server, bytes: &[u8]) -> Result<usize, ReadRefusal>
     Ok(moved)
 }
 
-/// Moves the first bytes of the server's output into the client, at most `n`, and returns how many.
-/// Fewer are moved only where there are no more, or the client is closed. Each reply goes into the
-/// record of its call.
+/// Moves the first bytes of the server's output into the client, and returns how many: `n`, or
+/// fewer if there are no more or the client is closed. Each reply goes into the record of its call.
 ///
 /// # Errors
 ///
-/// Out of memory. Part of the bytes may have been moved.
+/// Returns `AllocError` if memory runs out. Some bytes may have been moved.
 fn pass_down(
     client: &mut Client,
     server: &mut Server,
@@ -207,12 +208,12 @@ fn pass_down(
     Ok(moved)
 }
 
-/// Feeds a client, which takes the first bytes, copies the reply that is ready then, if one is, and
-/// lets go of it. Returns how many bytes it took: none only where there are none.
+/// Feeds `piece` to a client. If that makes a reply ready, copies it into the record of its call
+/// and releases it. Returns how many bytes the client took: at least one, unless `piece` is empty.
 ///
 /// # Errors
 ///
-/// Out of memory: how many bytes were taken. The reply that is ready stays so.
+/// Returns how many bytes were taken, if memory runs out. A reply that is ready stays ready.
 fn feed_client(
     client: &mut Client,
     indexes: &[usize],
@@ -241,7 +242,7 @@ fn feed_client(
 ///
 /// # Errors
 ///
-/// Out of memory. Nothing changes then.
+/// Returns `AllocError` if memory runs out. Nothing changes then.
 fn copy_reply(
     client: &Client,
     indexes: &[usize],
@@ -266,7 +267,8 @@ fn copy_reply(
     calls[index].give(reply.payload, reply.last)
 }
 
-/// Returns the cause for which a server closed, if it did so in between.
+/// Returns why the server closed, if it is open in the state `before` and closed in the state
+/// `after`.
 pub(crate) fn closed_now(before: ServerState, after: ServerState) -> Option<ServerCause>
     ensures { result ≡ closed_now before after }
 {

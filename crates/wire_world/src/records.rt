@@ -11,7 +11,7 @@ use std::alloc::{AllocError, Global};
 use wire_msg::{Payload, PayloadBuf};
 use wire_peer::CallKind;
 
-/// How a call stands.
+/// The state of a call.
 #[derive(Clone, Copy, Debug, PartialEq, Eq)]
 pub enum CallState {
     /// It awaits a part.
@@ -35,7 +35,7 @@ pub struct CallRecord {
     pub payload: PayloadBuf,
     /// The payloads of the replies that came, in order.
     pub parts: Vec<PayloadBuf>,
-    /// How it stands.
+    /// Its state.
     pub state: CallState,
 }
 
@@ -65,11 +65,11 @@ impl CallRecord {
         })
     }
 
-    /// Adds a copy of a part, and with the last one the call is done.
+    /// Adds a copy of a part. With the last one the call is done.
     ///
     /// # Errors
     ///
-    /// Out of memory. Nothing changes then.
+    /// Returns `AllocError` if memory runs out. Nothing changes then.
     pub(crate) fn give(&mut self, part: Payload<'_>, last: bool) -> Result<(), AllocError>
         ensures given { OnOk result
             (record_of self.new ≡ given_record (record_of self.old) (content_of part.entry) last) }
@@ -87,7 +87,7 @@ impl CallRecord {
         Ok(())
     }
 
-    /// Notes that the client of the call was closed.
+    /// Marks the call as lost, if it is pending: its client was closed.
     pub(crate) fn lose(&mut self)
         ensures { record_of self.new ≡ lost_record (record_of self.old) }
     {

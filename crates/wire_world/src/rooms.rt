@@ -6,7 +6,7 @@ ghost use Rattle.wire_peer.specs.{IsGrown};
 
 use std::alloc::AllocError;
 
-/// Takes room for one more entry where there is none: as much again, and for four at least.
+/// Takes room for more elements if the list is full: for as many again, and at least four.
 pub(crate) fn make_room<T>(list: &mut Vec<T>) -> Result<(), AllocError>
     ensures items { list.new.items ≡ list.old.items }
     ensures len { vec_len list.new ≡ vec_len list.old }

@@ -74,8 +74,8 @@ impl<H> Model for World<H> {
     } };
 }
 
-/// Returns why no world is made with these limits, if none is. The number of connections is the
-/// pool's to check.
+/// Returns the refusal of the first limit that is outside its range, if one is. The pool checks the
+/// number of connections.
 fn limits_refusal(limits: WorldLimits) -> Option<SetupRefusal>
     ensures refused { IfSome result (λ refusal. IsSetupRefusal limits refusal) }
     ensures none { IfNone result (AreGoodForEnds limits) }
@@ -97,8 +97,8 @@ impl<H: Handler + Drop> World<H> {
     ///
     /// # Errors
     ///
-    /// The first of the limits that is outside its range, or `OutOfMemory`. The handler is dropped
-    /// then.
+    /// Returns the refusal of the first limit that is outside its range, or `OutOfMemory`. The
+    /// handler is dropped then.
     pub fn new(alloc: Global, handler: H, limits: WorldLimits) -> Result<World<H>, SetupRefusal>
         ensures { IsNewWorld limits handler result }
     {
@@ -145,11 +145,12 @@ impl<H> World<H> {
         }
     }
 
-    /// Returns the index of the event's connection, or 0 if it is of none.
+    /// Returns the index of the event's connection, or 0 if it has none.
     ///
     /// # Errors
     ///
-    /// The first reason to refuse the event. A call that passes may still be refused by its client.
+    /// Returns the first reason to refuse the event. A call that passes may still be refused by its
+    /// client.
     fn check(&self, event: &Event<'_>) -> Result<usize, WorldRefusal>
         ensures reason { MatchResult result
             (λ _. first_reason self.now.state event.now ≡ None)
@@ -185,8 +186,8 @@ impl<H> World<H> {
         Ok((needs.connection - 1) as usize)
     }
 
-    /// Returns true if the event makes a connection, and the pool has nothing to lend, or no number
-    /// is left.
+    /// Returns true if the event is `Open` and the pool has nothing to lend, or `RawOpen` and no
+    /// number is left.
     fn is_full_for(&self, event: &Event<'_>) -> bool
         ensures { result ≡ is_full_for self.now.state event.now }
     {
@@ -197,7 +198,7 @@ impl<H> World<H> {
         }
     }
 
-    /// Cuts both ways of a connection, and notes that its pending calls are lost.
+    /// Cuts both ways of a connection, and marks its pending calls as lost.
     fn drop_connection(&mut self, number: u64)
         ensures { self.new ≡ record self.old { state = dropped self.old.state number } }
     {
@@ -205,8 +206,7 @@ impl<H> World<H> {
         settle(&mut self.calls, &self.connections);
     }
 
-    /// Checks a connection in that was lent. Returns true if it is kept, and false if it is
-    /// dropped.
+    /// Checks in a lent connection. Returns true if it is kept, and false if it is dropped.
     fn give_back(&mut self, number: u64, at: usize) -> bool
         requires passes { first_reason self.old.state (events.Return number) ≡ None }
         requires place { at ≡ number - 1 }
@@ -268,11 +268,11 @@ impl<H> World<H> {
 }
 
 impl<H: Handler> World<H> {
-    /// Checks a connection out.
+    /// Checks out a connection.
     ///
     /// # Errors
     ///
-    /// Out of memory. Nothing changes then.
+    /// Returns `OutOfMemory` if memory runs out. Nothing changes then.
     fn open(&mut self) -> Result<Report, WorldRefusal>
         requires { first_reason self.old.state events.Open ≡ None }
         ensures limits { self.new.limits ≡ self.old.limits }
@@ -310,7 +310,7 @@ impl<H: Handler> World<H> {
     ///
     /// # Errors
     ///
-    /// Out of memory. Nothing changes then.
+    /// Returns `OutOfMemory` if memory runs out. Nothing changes then.
     fn open_raw(&mut self) -> Result<Report, WorldRefusal>
         requires { first_reason self.old.state events.RawOpen ≡ None }
         ensures limits { self.new.limits ≡ self.old.limits }
@@ -336,7 +336,7 @@ impl<H: Handler> World<H> {
     ///
     /// # Errors
     ///
-    /// Why the client refuses, or that memory runs out. Nothing changes then.
+    /// Returns why the client refuses the call, or `OutOfMemory`. Nothing changes then.
     fn make_call(
         &mut self,
         number: u64,
@@ -370,7 +370,8 @@ impl<H: Handler> World<H> {
     ///
     /// # Errors
     ///
-    /// Why the client refuses, and nothing changes then; or that memory runs out.
+    /// Returns why the client refuses the call, and nothing changes then; or `OutOfMemory`, and the
+    /// connection is cut both ways then.
     fn call(
         &mut self,
         number: u64,
@@ -398,11 +399,12 @@ impl<H: Handler> World<H> {
         }
     }
 
-    /// Has a request answered.
+    /// Has a waiting request answered.
     ///
     /// # Errors
     ///
-    /// Out of memory, and the handler wasn't asked.
+    /// Returns `OutOfMemory` if memory runs out before the handler is asked. The connection is cut
+    /// both ways then.
     fn answer(&mut self, number: u64, at: usize, k: usize) -> Result<Report, WorldRefusal>
         requires passes { first_reason self.old.state (events.Answer number k) ≡ None }
         requires place { at ≡ number - 1 }
@@ -427,7 +429,7 @@ impl<H: Handler> World<H> {
     ///
     /// # Errors
     ///
-    /// Out of memory. The connection is cut both ways then.
+    /// Returns `OutOfMemory` if memory runs out. The connection is cut both ways then.
     fn up(&mut self, number: u64, at: usize, n: usize) -> Result<Report, WorldRefusal>
         requires passes { first_reason self.old.state (events.Up number n) ≡ None }
         requires place { at ≡ number - 1 }
@@ -445,12 +447,12 @@ impl<H: Handler> World<H> {
         }
     }
 
-    /// Moves bytes down, and notes which calls are lost if the client is closed then. Returns how
-    /// many bytes were moved.
+    /// Moves bytes down, and marks the pending calls as lost if the client is closed then. Returns
+    /// how many bytes were moved.
     ///
     /// # Errors
     ///
-    /// Out of memory. The connection is cut both ways then.
+    /// Returns `OutOfMemory` if memory runs out. The connection is cut both ways then.
     fn move_down(&mut self, number: u64, at: usize, n: usize) -> Result<usize, AllocError>
         requires passes { first_reason self.old.state (events.Down number n) ≡ None }
         requires place { at ≡ number - 1 }
@@ -473,7 +475,7 @@ impl<H: Handler> World<H> {
     ///
     /// # Errors
     ///
-    /// Out of memory. The connection is cut both ways then.
+    /// Returns `OutOfMemory` if memory runs out. The connection is cut both ways then.
     fn down(&mut self, number: u64, at: usize, n: usize) -> Result<Report, WorldRefusal>
         requires passes { first_reason self.old.state (events.Down number n) ≡ None }
         requires place { at ≡ number - 1 }
@@ -491,7 +493,7 @@ impl<H: Handler> World<H> {
     ///
     /// # Errors
     ///
-    /// Out of memory. The connection is cut both ways then.
+    /// Returns `OutOfMemory` if memory runs out. The connection is cut both ways then.
     fn feed_raw(&mut self, number: u64, at: usize, bytes: &[u8]) -> Result<Report, WorldRefusal>
         requires passes { first_reason self.old.state (events.Raw number bytes) ≡ None }
         requires place { at ≡ number - 1 }
@@ -513,11 +515,11 @@ impl<H: Handler> World<H> {
         }
     }
 
-    /// Takes bytes of the output of a raw connection's server away.
+    /// Takes away bytes of the output of a raw connection's server.
     ///
     /// # Errors
     ///
-    /// Out of memory. The connection is cut both ways then.
+    /// Returns `OutOfMemory` if memory runs out. The connection is cut both ways then.
     fn take_raw(&mut self, number: u64, at: usize, n: usize) -> Result<Report, WorldRefusal>
         requires passes { first_reason self.old.state (events.RawTake number n) ≡ None }
         requires place { at ≡ number - 1 }
@@ -540,9 +542,9 @@ impl<H: Handler> World<H> {
     ///
     /// # Errors
     ///
-    /// The first reason to refuse the event. Nothing changes then, but after
-    /// `OutOfMemory` the event's connection is cut both ways, and part of what was to be moved may
-    /// have been.
+    /// Returns the first reason to refuse the event. Nothing changes then, except with
+    /// `OutOfMemory`: some bytes may have been moved, and the event's connection, if it has one, is
+    /// cut both ways.
     pub fn step(&mut self, event: &Event<'_>) -> Result<Report, WorldRefusal>
         ensures limits { self.new.limits ≡ self.old.limits }
         ensures state { Happens H.does H.stops self.old.limits self.old.state event.now result
@@ -584,7 +586,7 @@ impl<H: Handler> World<H> {
 }
 
 impl<H: Handler + Drop> World<H> {
-    /// Makes a world, and has the events happen in it, one after the other.
+    /// Makes a world, and makes the events happen in it, one after another.
     fn run_events(
         alloc: Global,
         handler: H,
@@ -603,12 +605,12 @@ impl<H: Handler + Drop> World<H> {
         Ok(world)
     }
 
-    /// Makes a world, and has the events happen in it, one after the other. An event that is
+    /// Makes a world, and makes the events happen in it, one after another. An event that is
     /// refused doesn't stop the run.
     ///
     /// # Errors
     ///
-    /// As for `World::new`.
+    /// Returns what `World::new` returns.
     pub fn run(
         alloc: Global,
         handler: H,

@@ -1,4 +1,4 @@
-//! Replies that come byte by byte, and streams that are begun beside other calls.
+//! Tests of replies that come byte by byte, and of streams that begin beside other calls.
 
 use crate::rows::{End, ONE, THREE, TWO, ample, calls_stand, good_steps, log_stands, payload_of};
 use crate::runs::comes_to;
@@ -7,7 +7,8 @@ use wire_msg::Payload;
 use wire_peer::{CallKind, Count, Echo};
 use wire_world::{CallState, Event, Report, World};
 
-/// Returns how many of so many events move one byte down each.
+/// Moves one byte down, `count` times or until an event moves none. Returns how often a byte was
+/// moved.
 fn moved_one_by_one(world: &mut World<Echo>, count: usize) -> usize {
     let mut moved = 0usize;
     for _ in 0..count {

@@ -1,5 +1,6 @@
-//! Tests of worlds, by what no contract says: that events succeed where memory is there, and that the definitions mean the
-//! protocol. They stand in a crate of their own, since a crate is proved once more with its tests.
+//! Tests of what no contract of worlds says: that events succeed if there is memory, and that the
+//! definitions mean the protocol. They are in a crate of their own, since a crate is proved once
+//! more with its tests.
 //!
 //! Stands on wire_world. Read first: `runs`.
 #![tactic(auto)]

@@ -1,13 +1,13 @@
-//! Limits with which no world is made.
+//! Tests of limits with which no world is made.
 
 use std::alloc::Global;
 use wire_peer::Echo;
 use wire_world::{Event, SetupRefusal, World, WorldLimits};
 
-/// Limits as a row tells them: the first id, the window, the connections, and the limit of a message.
+/// Limits in a row: the first id, the window, the connections, and the limit on messages.
 type Numbers = (i32, usize, usize, u32);
 
-/// Limits, and why no world has them.
+/// Limits, and why no world is made with them.
 const REFUSED: [(Numbers, SetupRefusal); 8] = [
     ((0, 8, 8, 26), SetupRefusal::BadFirstId),
     ((-1, 0, 0, 25), SetupRefusal::BadFirstId),

@@ -1,4 +1,4 @@
-//! A raw connection beside one of ours.
+//! A test of a raw connection beside one of ours.
 
 use crate::rows::{End, ONE, ample, payload_of};
 use crate::runs::comes_to;
@@ -18,7 +18,7 @@ const REPLY: &[u8] =
 /// A header of opcode 2004.
 const QUERY: &[u8] = b"\x10\0\0\0\x01\0\0\0\0\0\0\0\xd4\x07\0\0";
 
-/// Each connection gets the reply to its own request, and a fault of the one leaves the other as it is.
+/// Each connection gets the reply to its own request, and a fault on one leaves the other as it is.
 fn beside_a_stranger(alloc: Global, one: Payload<'_>) -> bool {
     let fault = ServerCause::Message(MsgFault {
         at: 12,

@@ -1,4 +1,4 @@
-//! Quiet connections, of which each acknowledged call is done.
+//! Tests of quiet connections, on which each acknowledged call is done.
 
 use crate::rows::{End, ONE, TWO, ample, good_steps, payload_of};
 use std::alloc::Global;
@@ -6,10 +6,11 @@ use wire_msg::Payload;
 use wire_peer::{CallKind, Echo, Handler, HandlerStop, ServerCause, StopAt};
 use wire_world::{CallState, Event, World};
 
-/// A number of a connection, and whether that is quiet.
+/// The number of a connection, and whether it is quiet.
 type Quiet = (u64, bool);
 
-/// Returns true if each connection is as quiet as its row says, and each acknowledged call of a quiet one is done.
+/// Returns true if each connection is as quiet as its row says, and each acknowledged call of a
+/// quiet one is done.
 fn stands_so<H>(world: &World<H>, rows: &[Quiet]) -> bool {
     for row in rows {
         if world.is_quiet(row.0) != row.1 {
@@ -25,7 +26,8 @@ fn stands_so<H>(world: &World<H>, rows: &[Quiet]) -> bool {
     true
 }
 
-/// Returns true if in a world over this handler each event comes to its end, and the connections are as quiet as the rows say.
+/// Returns true if in a world over this handler each event ends as it should, and the connections
+/// are then as quiet as the rows say.
 fn comes_to_rest<H: Handler + Drop>(
     alloc: Global,
     handler: H,
@@ -38,8 +40,9 @@ fn comes_to_rest<H: Handler + Drop>(
     }
 }
 
-/// The first connection is cut, the second has bytes to send, of the third a request waits, the fourth's reply isn't taken,
-/// the fifth's call is done, and over the sixth none was made. There is no connection 0, and no seventh.
+/// The first connection is cut, the second has bytes to send, a request of the third waits, the
+/// reply of the fourth isn't taken, the call of the fifth is done, and over the sixth no call was
+/// made. There is no connection 0, and no seventh.
 const SIX: [Quiet; 8] = [
     (0, false),
     (1, false),
@@ -78,7 +81,8 @@ fn six_connections(alloc: Global, one: Payload<'_>) -> bool {
     )
 }
 
-/// A server that an answer closed has nothing on its ways and no request that waits, and isn't quiet.
+/// A connection whose server was closed by an answer isn't quiet, with nothing on its ways and no
+/// request waiting.
 fn stopped<'p>(alloc: Global, one: Payload<'p>, two: Payload<'p>) -> bool {
     comes_to_rest(
         alloc,

@@ -1,4 +1,4 @@
-//! What a run of events is to come to.
+//! Rows that say what a run of events is to come to.
 
 use bson_raw::RawDocument;
 use std::alloc::Global;
@@ -18,7 +18,7 @@ pub(crate) const PING: &[u8] = b"\x1e\0\0\0\x10ping\0\x01\0\0\0\x02$db\0\x06\0\0
 /// `{"s": 3}`.
 pub(crate) const THREE: &[u8] = b"\x0c\0\0\0\x10s\0\x03\0\0\0\0";
 
-/// What an event is to come to.
+/// How an event is to end.
 #[derive(Clone, Copy, Debug)]
 pub(crate) enum End<'a> {
     Opened(u64, bool),
@@ -35,13 +35,14 @@ pub(crate) enum End<'a> {
     Refused(WorldRefusal),
 }
 
-/// A call as it is to stand: its connection, how it stands, and the bodies of its parts.
+/// An expected call: its connection, its state, and the bodies of its parts.
 pub(crate) type Standing<'a> = (u64, CallState, &'a [&'a [u8]]);
 
-/// An entry as it is to stand: its connection, how many answers it has, unless it failed, and the request's body.
+/// An expected entry: its connection, how many answers it has, or `None` if it failed, and the
+/// request's body.
 pub(crate) type Logging<'a> = (u64, Option<usize>, &'a [u8]);
 
-/// Limits with this first id, and ample ones else.
+/// Returns limits with this first id, and otherwise ample ones.
 pub(crate) fn ample(first_id: i32) -> WorldLimits {
     WorldLimits {
         first_id,
@@ -86,7 +87,7 @@ fn is_report(report: &Report, end: End<'_>) -> bool {
     }
 }
 
-/// Returns true if this event comes to this end.
+/// Returns true if the event ended as `end` says.
 pub(crate) fn ends_so(ended: &Result<Report, WorldRefusal>, end: End<'_>) -> bool {
     match ended {
         Ok(report) => is_report(report, end),
@@ -97,7 +98,8 @@ pub(crate) fn ends_so(ended: &Result<Report, WorldRefusal>, end: End<'_>) -> boo
     }
 }
 
-/// Returns how many of the events come to their ends, one after the other.
+/// Makes the events happen, one after another, up to the first that doesn't end as it should.
+/// Returns how many ended so.
 pub(crate) fn good_steps<H: Handler + Drop>(
     world: &mut World<H>,
     steps: &[(Event<'_>, End<'_>)],
@@ -127,7 +129,7 @@ fn are_parts(parts: &[PayloadBuf], bodies: &[&[u8]]) -> bool {
     true
 }
 
-/// Returns true if the calls stand so.
+/// Returns true if the calls are those of the rows.
 pub(crate) fn calls_stand(calls: &[CallRecord], rows: &[Standing<'_>]) -> bool {
     if calls.len() != rows.len() {
         return false;
@@ -148,7 +150,7 @@ fn count_of(answers: &Answers) -> usize {
     answers.as_slice().len()
 }
 
-/// Returns true if the log stands so.
+/// Returns true if the entries of the log are those of the rows.
 pub(crate) fn log_stands(log: &[Entry], rows: &[Logging<'_>]) -> bool {
     if log.len() != rows.len() {
         return false;

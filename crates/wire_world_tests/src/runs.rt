@@ -1,4 +1,4 @@
-//! Calls and their answers over connections that move, are cut, and are lent again.
+//! Tests of calls and their answers over connections that move bytes, are cut, and are lent again.
 
 use crate::rows::{
     End, Logging, ONE, PING, Standing, TWO, ample, calls_stand, good_steps, log_stands, payload_of,
@@ -8,7 +8,8 @@ use wire_msg::Payload;
 use wire_peer::{AnswerRefusal, CallKind, Echo, Handler, HandlerStop, ServerCause, StopAt};
 use wire_world::{CallState, Event, World, WorldLimits, WorldRefusal};
 
-/// Returns true if in a world over this handler each event comes to its end, and the calls and the log stand so then.
+/// Returns true if in a world over this handler each event ends as it should, and the calls and the
+/// log are then those of the rows.
 pub(crate) fn comes_to<H: Handler + Drop>(
     alloc: Global,
     handler: H,
@@ -57,7 +58,7 @@ fn a_silent_request_gets_no_reply(rt: HostRuntime) {
     assert!(rt; silent_call(rt.alloc(), ping.as_payload()));
 }
 
-/// Two requests are answered the later one first.
+/// Two requests are answered, the later one first.
 fn other_order<'p>(alloc: Global, one: Payload<'p>, two: Payload<'p>) -> bool {
     comes_to(
         alloc,

@@ -1,4 +1,4 @@
-//! Calls with more than one reply.
+//! Tests of calls with more than one reply.
 
 use crate::rows::{End, ONE, THREE, TWO, ample, payload_of};
 use crate::runs::comes_to;
@@ -15,7 +15,7 @@ const COUNTS: [&[u8]; 4] = [
     b"\x0c\0\0\0\x10n\0\x03\0\0\0\0",
 ];
 
-/// Three replies come, and then another call is made, with the id behind the greatest.
+/// Three replies come, and then another call is made, with the id after the greatest.
 fn whole_stream<'p>(alloc: Global, three: Payload<'p>, one: Payload<'p>) -> bool {
     comes_to(
         alloc,
@@ -62,8 +62,8 @@ fn cut_stream(alloc: Global, three: Payload<'_>) -> bool {
     )
 }
 
-/// A stream and two other calls are outstanding at a time. The second reply of the stream answers its first, whose id is
-/// that of the first call's request.
+/// A stream and two other calls are outstanding at the same time. The second reply of the stream
+/// answers its first, whose id is that of the first call's request.
 fn beside_calls<'p>(alloc: Global, one: Payload<'p>, three: Payload<'p>, two: Payload<'p>) -> bool {
     comes_to(
         alloc,

@@ -1,5 +1,6 @@
-//! Tests of what a world is after a refused allocation. `scripts/checks/try-refusals` runs them with each of their allocations refused
-//! in turn. No other one is refused then, so what comes again, in this world or in another one, comes to its end.
+//! Tests of a world after a refused allocation. `scripts/checks/try-refusals` runs them with each
+//! of their allocations refused in turn. Only one is refused in a run, so what is tried again, in
+//! this world or in another one, ends as it should.
 
 use crate::rows::{
     End, Logging, ONE, Standing, ample, calls_stand, ends_so, good_steps, log_stands, payload_of,
@@ -46,10 +47,10 @@ fn all_are_cut(world: &mut World<Echo>, events: &[Event<'_>]) -> bool {
     true
 }
 
-/// How a world stands: its calls, and the entries of its log.
+/// What a world holds: its calls, and the entries of its log.
 type Holding<'a> = (&'a [Standing<'a>], &'a [Logging<'a>]);
 
-/// Returns true if the world stands so.
+/// Returns true if the world holds these calls and entries.
 fn holds(world: &World<Echo>, (calls, log): Holding<'_>) -> bool {
     calls_stand(world.calls(), calls) && log_stands(world.log(), log)
 }
@@ -73,14 +74,14 @@ const OF_2: Logging<'_> = (2, Some(1), ONE);
 
 const OF_3: Logging<'_> = (3, Some(1), ONE);
 
-/// How a world stands behind an event, and how it stands when connection 2 has gone on from there.
+/// What a world holds after an event, and what it holds when connection 2 has gone on from there.
 #[derive(Clone, Copy)]
 struct Going<'a> {
     first: Holding<'a>,
     then: Holding<'a>,
 }
 
-/// Where there is no call over connection 1 and no entry, or one of connection 3.
+/// There is no call over connection 1, and no entry, or one of connection 3.
 const ALONE: Going<'_> = Going {
     first: (&[WAITING], &[]),
     then: (&[DONE, WAITING], &[OF_2]),
@@ -91,7 +92,7 @@ const ALONE_ASKED: Going<'_> = Going {
     then: (&[DONE, WAITING], &[OF_3, OF_2]),
 };
 
-/// Where the call over connection 1 is lost, before its request has an entry and behind it.
+/// The call over connection 1 is lost, before its request has an entry, or after that.
 const LOST_UNASKED: Going<'_> = Going {
     first: (&[WAITING, LOST], &[]),
     then: (&[DONE, LOST, WAITING], &[OF_2]),
@@ -102,7 +103,8 @@ const LOST_ASKED: Going<'_> = Going {
     then: (&[DONE, LOST, WAITING], &[OF_1, OF_2]),
 };
 
-/// Where the server of connection 1 has closed, since its replies found no memory or its handler stopped.
+/// The server of connection 1 has closed, since there was no memory for its replies, or its handler
+/// stopped.
 const CLOSED: [Going<'_>; 2] = [
     Going {
         first: (&[WAITING, BEGUN], &[OF_1]),
@@ -114,8 +116,8 @@ const CLOSED: [Going<'_>; 2] = [
     },
 ];
 
-/// Returns true if the call over connection 2 is completed and another one is made there, and a new connection has this number, all
-/// as if nothing had been.
+/// Returns true if the call over connection 2 is completed, another one is made there, and a new
+/// connection has this number, all as if memory had never run out.
 fn all_goes_on(world: &mut World<Echo>, one: Payload<'_>, next: u64) -> bool {
     let steps = [
         (Event::Answer(2, 0), End::Entry(world.log().len())),
@@ -130,7 +132,8 @@ fn all_goes_on(world: &mut World<Echo>, one: Payload<'_>, next: u64) -> bool {
     good_steps(world, &steps) == 5
 }
 
-/// Returns true if the world stands as it does before and behind what goes on.
+/// Returns true if the world holds `going.first`, all goes on, and it holds `going.then` after
+/// that.
 fn goes_on_so(world: &mut World<Echo>, one: Payload<'_>, next: u64, going: &Going<'_>) -> bool {
     holds(world, going.first) && all_goes_on(world, one, next) && holds(world, going.then)
 }
@@ -166,7 +169,7 @@ enum StepEnd {
     Otherwise,
 }
 
-/// Returns what an event came to that was to have this end.
+/// Makes an event happen that should have this end. Returns how it ended.
 fn end_of_step(world: &mut World<Echo>, event: &Event<'_>, end: End<'_>) -> StepEnd {
     let ended = world.step(event);
     if ends_so(&ended, end) {
@@ -180,8 +183,8 @@ fn end_of_step(world: &mut World<Echo>, event: &Event<'_>, end: End<'_>) -> Step
     }
 }
 
-/// Returns a world in which a request over connection 2 waits, and these events have happened then, or `None` where memory runs
-/// out before.
+/// Returns a world in which a request over connection 2 waits and then these events have happened,
+/// or `None` if memory runs out on the way.
 fn prepared(alloc: Global, one: Payload<'_>, events: &[Event<'_>]) -> Option<World<Echo>> {
     let Ok(mut world) = World::new(alloc, Echo, ample(1)) else {
         return None;
@@ -199,8 +202,8 @@ fn prepared(alloc: Global, one: Payload<'_>, events: &[Event<'_>]) -> Option<Wor
     }
 }
 
-/// An event that is tried: those before it, itself and its end, the ones that are refused where its connection is cut, how all
-/// stands then, and the number of the next connection.
+/// An event that is tried: the events before it, the event and its end, the events that are refused
+/// if its connection is cut, what the world holds then, and the number of the next connection.
 #[derive(Clone, Copy)]
 struct Trial<'a, 'c, 'e> {
     before: &'a [Event<'a>],
@@ -211,13 +214,14 @@ struct Trial<'a, 'c, 'e> {
     next: u64,
 }
 
-/// Returns none, which tells that memory ran out, if all stands as it is to then.
+/// Returns `None` if `holds`: memory ran out, and left what it should.
 fn out_of_memory(holds: bool) -> Option<bool> {
     if holds { None } else { Some(false) }
 }
 
-/// Returns true if the event comes to its end; or none if memory runs out for it. Its connection is cut then, there is no other
-/// call or entry, and all else goes on; or its server closed, and its entry stands.
+/// Returns true if the event ends as it should; or `None` if memory runs out for it. Then its
+/// connection is cut, there is no other call or entry, and all else goes on; or its server closed,
+/// and the log has its entry.
 fn stands(world: &mut World<Echo>, one: Payload<'_>, trial: &Trial<'_, '_, '_>) -> Option<bool> {
     match end_of_step(world, &trial.event, trial.end) {
         StepEnd::ToItsEnd => Some(true),
@@ -231,13 +235,14 @@ fn stands(world: &mut World<Echo>, one: Payload<'_>, trial: &Trial<'_, '_, '_>) 
     }
 }
 
-/// Like `stands`, in a world that is prepared by the events before.
+/// Like `stands`, in a world in which the events before have happened.
 fn tries(alloc: Global, one: Payload<'_>, trial: &Trial<'_, '_, '_>) -> Option<bool> {
     let mut world = prepared(alloc, one, trial.before)?;
     stands(&mut world, one, trial)
 }
 
-/// Returns true if the event comes to its end; or memory runs out, and it comes to its end in another world.
+/// Returns true if the event ends as it should; or memory runs out, and it does so in another
+/// world.
 fn tries_at_last(alloc: Global, one: Payload<'_>, trial: &Trial<'_, '_, '_>) -> bool {
     match tries(alloc, one, trial) {
         Some(holds) => holds,
@@ -245,7 +250,8 @@ fn tries_at_last(alloc: Global, one: Payload<'_>, trial: &Trial<'_, '_, '_>) -> 
     }
 }
 
-/// Returns true if an event of connection 1 comes to its end, or cuts its own connection alone where memory runs out.
+/// Returns true if an event of connection 1 ends as it should, or, if memory runs out, cuts its own
+/// connection and no other.
 fn cuts_connection_1<'a>(
     alloc: Global,
     one: Payload<'a>,
@@ -270,7 +276,7 @@ fn cuts_connection_1<'a>(
     tries_at_last(alloc, one, &trial)
 }
 
-/// What is refused where the raw connection 3 is cut.
+/// Events that are refused if the raw connection 3 is cut.
 const CUT_RAW: [Event<'_>; 2] = [Event::Raw(3, REQUEST), Event::RawTake(3, 1)];
 
 /// Like `cuts_connection_1`, for an event of the raw connection 3.
@@ -293,7 +299,7 @@ fn cuts_connection_3<'a>(
     tries_at_last(alloc, one, &trial)
 }
 
-/// Returns the payload of `ONE`, which is made again where memory is refused.
+/// Returns the payload of `ONE`. Makes it again if memory is refused.
 fn one_again(alloc: Global) -> Option<PayloadBuf> {
     match payload_of(alloc, ONE) {
         Some(payload) => Some(payload),
@@ -315,8 +321,8 @@ fn happens_again(
         && goes_on_so(world, one, 4, &ALONE)
 }
 
-/// Returns true if the event, which makes a connection, comes to its end; or none where memory runs out for it, which has to
-/// change nothing, or before it.
+/// Returns true if the event, which makes a connection, ends as it should; or `None` if memory runs
+/// out for it, which has to change nothing, or before it.
 fn happens(alloc: Global, one: Payload<'_>, event: &Event<'_>, end: End<'_>) -> Option<bool> {
     let mut world = prepared(alloc, one, &[])?;
     match end_of_step(&mut world, event, end) {
@@ -326,7 +332,7 @@ fn happens(alloc: Global, one: Payload<'_>, event: &Event<'_>, end: End<'_>) -> 
     }
 }
 
-/// Returns true if the event comes to its end at last.
+/// Returns true if the event ends as it should, in another world if memory runs out.
 fn happens_at_last(alloc: Global, one: Payload<'_>, event: Event<'_>, end: End<'_>) -> bool {
     match happens(alloc, one, &event, end) {
         Some(holds) => holds,
@@ -470,7 +476,7 @@ fn bytes_taken_away_cut_their_own_connection(rt: HostRuntime) {
     );
 }
 
-/// Returns why no world is made, if none is.
+/// Returns why no world is made, or `None` if one is.
 fn setup_refusal(alloc: Global) -> Option<SetupRefusal> {
     match World::new(alloc, Echo, ample(1)) {
         Ok(_) => None,
@@ -478,7 +484,7 @@ fn setup_refusal(alloc: Global) -> Option<SetupRefusal> {
     }
 }
 
-/// Returns true if a world is made; or refused where memory runs out, and made then.
+/// Returns true if a world is made, at the second try if memory runs out.
 fn is_made(alloc: Global) -> bool {
     match setup_refusal(alloc) {
         None => true,
@@ -491,18 +497,19 @@ fn a_refused_world_is_not_made(rt: HostRuntime) {
     assert!(rt; is_made(rt.alloc()));
 }
 
-/// The complete call over connection 1, and what came of the one over connection 2 else.
+/// The complete call over connection 1, and the lost one over connection 2 with its failed entry.
 const DONE_1: Standing<'_> = (1, CallState::Done, &[ONE]);
 
 const LOST_2: Standing<'_> = (2, CallState::Lost, &[]);
 
 const FAILED_2: Logging<'_> = (2, None, ONE);
 
-/// How a run stands to which no memory ran out: a call over each connection is complete.
+/// What a run leaves for which memory didn't run out: a complete call over each connection.
 const RUN: Holding<'_> = (&[DONE_1, DONE], &[OF_1, OF_2]);
 
-/// How it stands where memory ran out for one event: one call is complete. The other one wasn't made, was lost before its
-/// request had an entry or behind it, or is pending, since the server closed when its entry stood.
+/// What it leaves if memory ran out for one event: one call is complete. The other one wasn't made;
+/// or was lost, before its request had an entry or after that; or is pending, since the server
+/// closed when the log had its entry.
 const BROKEN_RUNS: [Holding<'_>; 10] = [
     (&[DONE_1], &[OF_1]),
     (&[DONE_1, LOST_2], &[OF_1]),
@@ -516,7 +523,8 @@ const BROKEN_RUNS: [Holding<'_>; 10] = [
     (&[BEGUN, DONE], &[FAILED_1, OF_2]),
 ];
 
-/// Returns true if one event of a run was refused, or its server closed, and all others happened that could.
+/// Returns true if one event of a run was refused, or its server closed, and all others that could
+/// happen did.
 fn is_broken(world: &World<Echo>) -> bool {
     for holding in &BROKEN_RUNS {
         if holds(world, *holding) {
@@ -526,8 +534,8 @@ fn is_broken(world: &World<Echo>) -> bool {
     false
 }
 
-/// Returns true if both calls of a run are complete; or none if memory ran out for one of its events, and the others came to
-/// what they come to behind it.
+/// Returns true if both calls of a run are complete; or `None` if memory ran out for one of its
+/// events, and the others did what they should after it.
 fn is_run(world: &World<Echo>) -> Option<bool> {
     if holds(world, RUN) {
         Some(true)
@@ -536,7 +544,8 @@ fn is_run(world: &World<Echo>) -> Option<bool> {
     }
 }
 
-/// Returns how the run of two calls and their replies stands, or none where memory ran out.
+/// Returns `is_run` of a run of two calls and their replies, or `None` if there was no memory for a
+/// world.
 fn runs(alloc: Global, one: Payload<'_>) -> Option<bool> {
     let events = [
         Event::Open,
@@ -557,7 +566,7 @@ fn runs(alloc: Global, one: Payload<'_>) -> Option<bool> {
     }
 }
 
-/// Returns true if the run completes its calls, at once or when it is made again.
+/// Returns true if the run completes its calls, at the second try if memory runs out.
 fn runs_at_last(alloc: Global, one: Payload<'_>) -> bool {
     match runs(alloc, one) {
         Some(holds) => holds,
