@@ -6,7 +6,7 @@ use Rattle.std.proofs.KnownBytes.{Appends-nil, Appends-trans}
 use Rattle.std.proofs.lemmas.List.{at_drop_more, append-nil}
 use Rattle.wire_play.specs.Closing.{numbered}
 
--- a text was written, and with what is left it is all
+-- what was written, with the texts that are left, is the whole text
 pub record Listed (old new : Option (List ℕ)) (all left : List ℕ) : Type 0 where
   pub text : List ℕ
   pub written : Appends old new text

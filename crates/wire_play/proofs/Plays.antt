@@ -18,8 +18,8 @@ use Rattle.wire_play.specs.Scripts.{LinesText, Plays, PlaysIn, LineHappens, Writ
 use Rattle.wire_play.specs.Played.{LinePlayed, LinesPlayed, OverText, SetupText}
 use Rattle.wire_script.proofs.Lemmas.{one_setup}
 
--- From one world to another lines were played, with these results, and their lines were written: what follows the lines that are
--- left follows all.
+-- Lines were played from one world to another, with these results, and the results' lines were written. Playing the lines that
+-- are left then completes the playing of all.
 pub record SoFar {H : Type 0} (does : Does H) (stop : Stops H) (l : WorldLimits) (old : World H) (all : List (ℕ × List ℕ)) (now : World H) (left : List (ℕ × List ℕ)) (out out' : Option (List ℕ)) : Type 0 where
   pub results : List (Result Report WorldRefusal)
   pub follows : (others : List (Result Report WorldRefusal)) (new : World H) (fault : Option ℕ)

@@ -1,4 +1,4 @@
--- Which line is at fault is told by the lines alone.
+-- The lines alone decide which of them is at fault.
 use Rattle.std.proofs.Common.{◌≡◌, inl, inr, ◌++◌, [], ◌∷◌, ℕ, List, codes, Option, None, Some, Result, refl, sym, ap, ◌∙◌}
 use Rattle.std.specs.Prelude.{flat_map}
 use Rattle.wire_peer.specs.{Does, Stops}
@@ -12,7 +12,7 @@ use Rattle.wire_play.specs.Closing.{closing_text}
 use Rattle.wire_play.specs.Reports.{result_line}
 use Rattle.wire_play.specs.Scripts.{LinesText, Plays, PlaysBy, ending, world_text}
 
--- of lines that are played, in whatever worlds
+-- the same line is at fault, in whatever worlds lines are played
 pub plays_fault : {H K : Type 0} (does : Does H) (stop : Stops H) (does' : Does K) (stop' : Stops K) (l l' : WorldLimits) (lines : List (ℕ × List ℕ))
     (old new : World H) (old' new' : World K) (results results' : List (Result Report WorldRefusal)) (fault fault' : Option ℕ)
     → Plays does stop l old lines results new fault → Plays does' stop' l' old' lines results' new' fault' → fault ≡ fault'
@@ -23,7 +23,7 @@ plays_fault does stop does' stop' l l' (line ∷ lines) old new old' new' result
 plays_fault does stop does' stop' l l' (line ∷ lines) old new old' new' results results' fault fault' (inr p) (inl q) = absurd (p.0 q.3.what q.3.named)
 plays_fault does stop does' stop' l l' (line ∷ lines) old new old' new' results results' fault fault' (inr p) (inr q) = p.3 ∙ sym q.3
 
--- over whatever handlers
+-- and over whatever handlers
 played_fault : (name name' : HandlerName) (l l' : WorldLimits) (lines : List (ℕ × List ℕ)) (text text' : List ℕ) (fault fault' : Option ℕ)
     → PlaysBy name l lines text fault → PlaysBy name' l' lines text' fault' → fault ≡ fault'
 played_fault Echo Echo l l' lines text text' fault fault' p q = plays_fault _ _ _ _ l l' lines _ _ _ _ _ _ fault fault' p.1.2 q.1.2

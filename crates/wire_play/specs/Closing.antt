@@ -12,7 +12,7 @@ use Rattle.wire_model.specs.{Done, Foreign, Lost, Pending, Record, Sent, State, 
 abbrev pub body_hex : Content → List ℕ
 body_hex c = encode_lower (document (elements c.body))
 
--- the texts of the elements of a list, one after another, which are counted from this number on
+-- the texts of a list's elements, one after another; the elements are numbered from this number on
 abbrev pub numbered : {A : Type 0} → (ℕ → A → List ℕ) → ℕ → List A → List ℕ
 numbered text n [] = []
 numbered text n (x ∷ xs) = text n x ++ numbered text (n + 1) xs

@@ -39,8 +39,8 @@ pub record LinesPlayed {H : Type 0} (does : Does H) (stop : Stops H) (l : WorldL
   pub plays : Plays does stop l old lines results new fault
   pub written : Appends out out' (flat_map result_line results)
 
--- the text of lines in a world over this handler, which the line with this number makes; or a
--- limit is out of range
+-- the text of lines that are played in a world over this handler, which the line of this number
+-- makes; if a limit is out of range, that line is at fault
 abbrev pub OverText : {H : Type 0} → Does H → Stops H → H → WorldLimits → ℕ → List (ℕ × List ℕ)
     → List ℕ → Option ℕ → Type 0
 OverText does stop h l number lines text fault =

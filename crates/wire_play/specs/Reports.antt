@@ -25,9 +25,9 @@ cause_text causes.HandlerFailed = codes "6 HandlerFailed"
 
 -- ---- refusals
 
--- Why an event is refused. A client or server has two more reasons, which an event of a world
--- never has: running out of memory, which the world reports itself, and closing in an answer,
--- where the server has answered.
+-- The text of a refusal. A world never gives three of these: out of memory in a call or an answer,
+-- which it reports as its own `OutOfMemory`, and a server that closes in an answer, which is no
+-- refusal there.
 abbrev pub refusal_text : WorldRefusal → List ℕ
 refusal_text NoConnection = codes "1 NoConnection"
 refusal_text Cut = codes "2 Cut"

@@ -25,8 +25,7 @@ use Rattle.wire_play.specs.Reports.{result_line}
 abbrev pub NamesNoEvent : List ℕ → Type 0
 NamesNoEvent line = (e : Event) → Names line (event e) → ⊥
 
--- the line names an event, which happens with this result; a result that says memory ran out has
--- no text here
+-- the line names an event, which happens with this result, and memory doesn't run out in it
 pub record LineHappens {H : Type 0} (does : Does H) (stop : Stops H) (l : WorldLimits)
     (old : World H) (line : List ℕ) (result : Result Report WorldRefusal)
     (new : World H) : Type 0 where
@@ -35,9 +34,9 @@ pub record LineHappens {H : Type 0} (does : Does H) (stop : Stops H) (l : WorldL
   pub happens : Happens does stop l old what result new
   pub done : result ≢ Err OutOfMemory
 
--- Line after line, the event that the line names happens, from the old world to the new one and
--- with these results, up to the first line that names no event, if there is one. That line is at
--- fault.
+-- The events that the lines name happen one after another, with these results, and lead from the
+-- old world to the new one. The first line that names no event, if there is one, is at fault, and
+-- the lines after it aren't played.
 abbrev pub Plays : {H : Type 0} → Does H → Stops H → WorldLimits → World H → List (ℕ × List ℕ)
     → List (Result Report WorldRefusal) → World H → Option ℕ → Type 0
 Plays does stop l old [] results new fault = (results ≡ []) × (new ≡ old) × (fault ≡ None)
@@ -49,12 +48,12 @@ Plays {H} does stop l old (line ∷ lines) results new fault =
 
 -- ---- texts
 
--- the lists that end a text, unless a line is at fault
+-- the lists at the end of a text; there are none if a line is at fault
 abbrev pub ending : {H : Type 0} → World H → Option ℕ → List ℕ
 ending w None = closing_text w
 ending w (Some line) = []
 
--- the text of a world: its own line, one for each result, and the lists at the end
+-- the text of a world: its own line, a line for each result, and the lists at the end
 abbrev pub world_text : {H : Type 0} → List (Result Report WorldRefusal) → World H → Option ℕ
     → List ℕ
 world_text results w fault = codes "world\n" ++ (flat_map result_line results ++ ending w fault)
@@ -104,10 +103,10 @@ LinesText (line ∷ lines) text fault =
     ((s : Setup) × MakesWorld line.1 s × PlaysBy s.handler s.limits lines text fault)
     ⊎ (((s : Setup) → MakesWorld line.1 s → ⊥) × (text ≡ []) × (fault ≡ Some line.0))
 
--- the text of a script up to a line at fault, and its number
+-- the text of a script, up to the line at fault if there is one, and the number of that line
 abbrev pub TextUpTo : List ℕ → List ℕ → Option ℕ → Type 0
 TextUpTo script text fault = LinesText (script_lines script) text fault
 
--- known bytes grow by such a text
+-- a text with this property is appended to the bytes, if they are known
 abbrev pub Writes : (List ℕ → Type 0) → Option (List ℕ) → Option (List ℕ) → Type 0
 Writes IsText out out' = (text : List ℕ) × IsText text × Appends out out' text

@@ -1,4 +1,5 @@
-//! Runs that are cut behind each number of bytes: two calls, the later one answered first, on one connection.
+//! Tests of runs that are cut after each number of bytes: two calls on one connection, the later
+//! one answered first.
 
 use crate::rows::is_text;
 use std::alloc::{AllocError, Global};
@@ -8,7 +9,8 @@ const ENTRIES: &str = "entries 2\n\
                        entry 0 connection 1 answers 1 body 0c0000001061000200000000\n\
                        entry 1 connection 1 answers 1 body 0c0000001061000100000000\n";
 
-/// Returns the calls and the entries where so many bytes came down before the cut. Each reply has 33 bytes.
+/// Returns the text of the calls and the entries if `down` bytes came down before the cut. Each
+/// reply has 33 bytes.
 fn listed(down: usize) -> &'static str {
     if down < 33 {
         "calls 2\n\
@@ -28,7 +30,7 @@ fn listed(down: usize) -> &'static str {
     }
 }
 
-/// Returns true if a cut of the way down behind so many bytes leaves the calls so.
+/// Returns true if a cut of the way down after `down` bytes leaves the calls as `listed` says.
 fn is_cut_down(alloc: Global, down: usize) -> Result<bool, AllocError> {
     let script = format!(in alloc;
         "world echo 1 8 8 48000000\n\
@@ -66,7 +68,8 @@ fn the_way_down_is_cut_anywhere(rt: HostRuntime) -> Result<(), AllocError> {
     Ok(())
 }
 
-/// Returns true if a cut of the way up behind so many bytes, before an answer, leaves both calls pending.
+/// Returns true if a cut of the way up after `up` bytes, before an answer, leaves both calls
+/// pending.
 fn is_cut_up(alloc: Global, up: usize) -> Result<bool, AllocError> {
     let script = format!(in alloc;
         "world echo 1 8 8 48000000\n\

@@ -1,9 +1,10 @@
-//! Lines of another form than those of events: each ends the text, and its number is told.
+//! Tests of lines of another form than those of events: each ends the text, and its number is
+//! returned.
 
 use crate::rows::is_text;
 use std::alloc::{AllocError, Global};
 
-/// Lines that name no event, behind a world and a connection.
+/// Lines that name no event. Each comes after a world and a connection.
 const LINES: [&[u8]; 85] = [
     // open with a word too many
     b"open 1\nopen",
@@ -237,7 +238,7 @@ const FIRST_LINES: [&[u8]; 28] = [
     b"\xef\xbb\xbfworld echo 1 8 8 48000000\nopen\n",
 ];
 
-/// Returns true if the line is at fault behind a world and a connection.
+/// Returns true if the line is at fault after a world and a connection.
 fn is_third_at_fault(alloc: Global, line: &[u8]) -> Result<bool, AllocError> {
     let mut script = Vec::from_slice(alloc, b"world echo 1 8 8 48000000\nopen\n")?;
     script.extend_from_slice(line)?;

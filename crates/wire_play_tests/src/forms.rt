@@ -1,4 +1,4 @@
-//! Scripts that are read in another form than the plainest, or hold no line at all.
+//! Tests of scripts in another form than the plainest, and of scripts without a line.
 
 use crate::rows::is_text;
 
@@ -99,7 +99,7 @@ const SCRIPTS: [(&[u8], &str, Option<usize>); 12] = [
          connection 1 new\n",
         Some(4),
     ),
-    // what went well before a fault stands
+    // what went well before a fault stays
     (
         b"world echo 1 8 8 48000000\nopen\ncall 1 0c0000001061000100000000\ncall 1 0c0000001061000200000000\nup 1 66\nanswer 1 1\nanswer 1 0\ndown 1 66\nshut",
         "world\n\

@@ -24,7 +24,7 @@ pub const WHOLE: &[u8] = b"world\n\
     entries 1\n\
     entry 0 connection 1 answers 1 body 0c0000001061000100000000\n";
 
-/// Its text where the handler finds no memory.
+/// Its text if there is no memory for the handler.
 const STOPPED: &[u8] = b"world\n\
     connection 1 new\n\
     call 0 id 1\n\
@@ -36,7 +36,7 @@ const STOPPED: &[u8] = b"world\n\
     entries 1\n\
     entry 0 connection 1 failed body 0c0000001061000100000000\n";
 
-/// Its text where the reply finds none.
+/// Its text if there is none for the reply.
 const UNSENT: &[u8] = b"world\n\
     connection 1 new\n\
     call 0 id 1\n\
@@ -90,7 +90,8 @@ impl Kept {
     }
 }
 
-/// Returns true if the script was played; none if it was up to a server that closed where memory runs out.
+/// Returns true if the script was played, or `None` if it was and a server closed because memory
+/// ran out.
 pub fn is_played(text: &[u8]) -> Option<bool> {
     if text == STOPPED || text == UNSENT {
         None
@@ -99,7 +100,8 @@ pub fn is_played(text: &[u8]) -> Option<bool> {
     }
 }
 
-/// Returns true if the text ends with the line that memory was refused to an event, behind those of the events before.
+/// Returns true if the text ends with the line that memory ran out in an event, after those of the
+/// events before it.
 pub fn ends_refused(text: &[u8]) -> bool {
     match text.strip_suffix(b"refused 7 OutOfMemory\n".as_slice()) {
         Some(lines) => WHOLE.starts_with(lines) && lines.ends_with(b"\n"),

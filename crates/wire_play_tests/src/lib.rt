@@ -1,5 +1,6 @@
-//! Tests of scripts of events, by what no contract says: that their runs succeed where memory is there, and that the texts are
-//! those that were worked out by hand. They stand in a crate of their own, since a crate is proved once more with its tests.
+//! Tests of what no contract of scripts of events says: that their runs succeed if there is memory,
+//! and that the texts are those that were worked out by hand. They are in a crate of their own,
+//! since a crate is proved once more with its tests.
 //!
 //! Stands on wire_play. engines_tests stands on it, for `kept`. Read first: `runs`.
 #![tactic(auto)]

@@ -1,10 +1,11 @@
-//! Scripts of raw connections beside those of clients, with their texts, which were worked out by hand.
+//! Tests of scripts of raw connections beside those of clients, with their texts, which were worked
+//! out by hand.
 
 use crate::rows::{Row, are_played};
 
 /// Raw connections.
 const NEIGHBOURS: [Row; 4] = [
-    // a raw connection stands beside one of ours
+    // a raw connection is beside one of ours
     (
         "world echo 1 8 8 48000000\n\
          open\n\

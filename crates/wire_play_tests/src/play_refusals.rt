@@ -1,12 +1,14 @@
-//! A test of a script where memory is refused. `scripts/checks/try-refusals` runs it with each of its allocations refused in turn. No
-//! other one is refused then, so the script is played when it comes again.
+//! A test of a script where memory is refused. `scripts/checks/try-refusals` runs it with each of
+//! its allocations refused in turn. Only one is refused in a run, so a script that is played again
+//! is played to its end.
 
 use crate::kept::{SCRIPT, WHOLE, empty, ends_refused, is_played};
 use std::alloc::Global;
 use wire_play::{PlayStop, play};
 
-/// Returns true if `play` writes the whole text; or none where memory runs out: where that is in an event, the line of its refusal is
-/// the last one then, and else the lines of the events before stand.
+/// Returns true if `play` writes the whole text; or `None` if memory runs out. If that is in an
+/// event, the line of its refusal is then the last one, and else the lines of the events before are
+/// there.
 fn plays(alloc: Global) -> Option<bool> {
     let mut writer = empty();
     match play(alloc, SCRIPT, &mut writer) {

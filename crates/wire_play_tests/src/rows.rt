@@ -1,4 +1,4 @@
-//! How the row of a script is tried.
+//! Rows of scripts, and how they are tried.
 
 use std::alloc::Global;
 use wire_play::play;
@@ -6,7 +6,8 @@ use wire_play::play;
 /// A script, and its text.
 pub(crate) type Row<'a> = (&'a str, &'a str);
 
-/// Returns true if the script has this text, up to the line of this number, which is at fault, or up to its end.
+/// Returns true if the script has this text, up to the line of this number, which is at fault, or
+/// up to its end.
 pub(crate) fn is_text(alloc: Global, script: &[u8], text: &str, fault: Option<usize>) -> bool {
     let mut writer = Vec::new(alloc);
     let played = play(alloc, script, &mut writer);

@@ -1,4 +1,5 @@
-//! Scripts of calls, cuts and connections that are lent, with their texts, which were worked out by hand.
+//! Tests of scripts of calls, cuts and connections that are lent, with their texts, which were
+//! worked out by hand.
 
 use crate::rows::{Row, are_played};
 

@@ -1,4 +1,5 @@
-//! Scripts of streams, and of what limits refuse, with their texts, which were worked out by hand.
+//! Tests of scripts of streams, and of what limits refuse, with their texts, which were worked out
+//! by hand.
 
 use crate::rows::{Row, are_played};
 
@@ -37,7 +38,7 @@ const STREAMS: [Row; 3] = [
          call 2 connection 1 unacknowledged sent 0\n\
          entries 0\n",
     ),
-    // a stream stands between other replies
+    // a stream is between other replies
     (
         "world count 1 8 8 48000000\n\
          open\n\

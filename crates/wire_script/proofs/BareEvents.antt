@@ -1,4 +1,4 @@
--- Events that name no bytes: a keyword and operands name one at most.
+-- Events that name no bytes: a keyword and operands name at most one.
 use Rattle.std.proofs.Common.{◌≡◌, ◌∙◌, ℕ, List, [], ◌∷◌, refl, sym, ap}
 use Rattle.std.specs.Str.Parse.{digits_value}
 use Rattle.wire_model.specs.declared.events.Event.{Event}

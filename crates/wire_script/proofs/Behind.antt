@@ -10,7 +10,7 @@ pub some_word : (rest : Option (Bor (List ℕ))) → is_some rest ≡ true → w
 some_word None some e = cc
 some_word (Some rest) some e = some_part is_blank rest.now e
 
--- there is none just where no space follows
+-- there are no words exactly if no space follows
 pub no_word : (rest : Option (Bor (List ℕ))) (none : Bool) → is_some rest ≡ not none → (IsTrue none → words_behind rest ≡ []) × (words_behind rest ≡ [] → IsTrue none)
 no_word None true e = (λ _. refl, λ _. refl)
 no_word None false e = absurd cc

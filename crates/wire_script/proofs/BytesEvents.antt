@@ -1,4 +1,4 @@
--- Calls and raw bytes: operands name one at most, but for where its bytes are borrowed from.
+-- Calls and raw bytes: operands name at most one, wherever its bytes are borrowed from.
 use Rattle.std.proofs.Common.{◌≡◌, ◌∙◌, ℕ, List, [], ◌∷◌, Bor, refl, sym, ap, subst, append-nil}
 use Rattle.bson_elem.specs.{Spells, Tree}
 use Rattle.bson_elem.proofs.Lemmas.{same_front}

@@ -1,4 +1,4 @@
--- The lemmas that proofs of other crates stand on: a line names one thing at most.
+-- The lemmas that proofs of other crates use: a line names at most one thing.
 use Rattle.std.proofs.Common.{◌≡◌, ℕ, List}
 use Rattle.wire_model.specs.declared.events.Event.{Event}
 use Rattle.wire_script.specs.declared.named.Setup.{Setup}
@@ -16,10 +16,10 @@ setup_or_event line s e names names' =
 one_inside : (s t : Setup) → setup s ≡ setup t → s ≡ t
 one_inside s t same = cc
 
--- a line names one setup at most
+-- a line names at most one setup
 pub one_setup : (line : List ℕ) (s t : Setup) → Names line (setup s) → Names line (setup t) → t ≡ s
 one_setup line s t names names' = one_inside t s (one_named line (setup s) (setup t) names names')
 
--- and one event, but for where its bytes are borrowed from
+-- and at most one event, wherever its bytes are borrowed from
 pub one_event : (line : List ℕ) (e f : Event) → Names line (event e) → Names line (event f) → IsSame (event e) (event f)
 one_event line e f = one_named line (event e) (event f)

@@ -12,7 +12,7 @@ use Rattle.std.proofs.lemmas.Str.Parse.{digit_at}
 pub numeral_is_text : (word : List ℕ) → IsNumeral 10 word → IsUtf8 word
 numeral_is_text word numeral = IsUtf8-from_ascii word (IsAscii-from_reads word (length word) (omega arith) (λ k lt. omega (arith, digit_at word k numeral.1 lt)))
 
--- bytes of which no text was made aren't one
+-- bytes that weren't read as a text aren't one
 pub no_text : {E : Type 0} (word : List ℕ) (r : Result (Bor (List ℕ)) E) (V : E → Type 0) → MatchResult r (λ s. (s.now ≡ word) × IsUtf8 word) (λ e. ¬ (IsUtf8 word) × V e) → result_ok r ≡ None → ¬ (IsUtf8 word)
 no_text word (Ok s) V h none = absurd cc
 no_text word (Err e) V h none = h.0

@@ -12,7 +12,7 @@ use Rattle.wire_script.proofs.BareEvents.{same_bare}
 use Rattle.wire_script.proofs.BytesEvents.{same_call, same_raw}
 use Rattle.wire_script.proofs.Setups.{same_setup}
 
--- an event of such a keyword names no bytes
+-- an event with the keyword of one without bytes names no bytes
 bare_too : (e f : Event) → IsBare e → event_kind e ≡ event_kind f → IsBare f
 bare_too e (events.Call c kind p) none kinds = bytes_kind e none kind kinds
   where

@@ -18,7 +18,7 @@ use Rattle.wire_script.specs.Naming.{Names, event}
 use Rattle.wire_script.specs.Same.{IsSame}
 use Rattle.wire_script.proofs.Readings.{one_named}
 
--- payloads of which one carries all that the other does have one content
+-- two payloads have the same content if one carries all that the other does
 one_carried : (p q : Payload) → ((content : Content) → Carries p content → Carries q content) → content_of p ≡ content_of q
 one_carried p q carried = sym (of_content p {P = λ content. content_of q ≡ content} (content_set _ _) (λ content k. content_is q content (carried content k)))
 
@@ -44,7 +44,7 @@ module _ {H : Type 0} (does : Does H) (stops : Stops H) (l : WorldLimits) (old n
 
   -- ---- the same raw bytes
 
-  -- wherever they are borrowed from
+  -- the same bytes, wherever they are borrowed from
   same_place : (c : ℕ) (a b : Bor (List ℕ)) → (r : Result Report WorldRefusal) → Happens does stops l old (events.Raw c a) r new → Happens does stops l old (events.Raw c (record b { now = a.now })) r new
   same_place c a b (Ok report) h = h
   same_place c a b (Err refusals.OutOfMemory) h = (h.0, elim h.1 [ inl m ↦ absurd m.1 | inr m ↦ inr (runs m) ])

@@ -8,11 +8,11 @@ use Rattle.wire_script.specs.Lines.{lines_from}
 abbrev pub lines_left : Lines → List (ℕ × List ℕ)
 lines_left s = lines_from (s.last + 1) s.rest.now
 
--- a bound on how many are left
+-- a bound on how many lines are left
 abbrev pub lines_bound : Lines → ℕ
 lines_bound s = length s.rest.now
 
--- the first line that was left is returned, or none was left
+-- the first of the lines left is returned, or `None` if none is left
 abbrev pub GivesLine : Lines → Option NumberedLine → Lines → Type 0
 GivesLine s None after = (lines_left s ≡ []) × (lines_left after ≡ [])
 GivesLine s (Some line) after = lines_left s ≡ (line.number, line.text.now) ∷ lines_left after

@@ -11,8 +11,8 @@ use Rattle.wire_script.specs.declared.named.ScriptEvent.{ScriptEvent}
 use Rattle.wire_script.specs.declared.named.ScriptEvent.TheVariants.{Bare, Call, Raw}
 use Rattle.wire_script.specs.Naming.{Names, event, setup}
 
--- the event borrows from the one that owns its bytes: they have the same payload, or the same
--- bytes
+-- the event borrows from the one that owns its bytes: it is the same event, with the same payload
+-- or bytes
 abbrev pub Lends : ScriptEvent → Event → Type 0
 Lends (Bare e) lent = lent ≡ e
 Lends (Call c kind owned) lent =
@@ -21,7 +21,7 @@ Lends (Call c kind owned) lent =
 Lends (Raw c owned) lent =
     (bytes : Bor (List ℕ)) × (lent ≡ events.Raw c bytes) × (bytes.now ≡ owned.items)
 
--- the line names what was read
+-- the line names the world or the event that was read
 abbrev pub IsLine : List ℕ → Line → Type 0
 IsLine line (lines.World s) = Names line (setup s)
 IsLine line (lines.Event owned) = (e : Event) → Lends owned e → Names line (event e)

@@ -8,7 +8,7 @@ use Rattle.std.specs.List.{filter, slice_split}
 abbrev pub is_lf : ℕ → Bool
 is_lf b = b == 10
 
--- a line as it is before its LF, without the CR at its end, if there is one
+-- the bytes of a line before its LF, without the CR at their end, if there is one
 abbrev pub without_cr : List ℕ → List ℕ
 without_cr line =
     if slice_index line (length line - 1) == 13 then take (length line - 1) line else line
@@ -40,8 +40,8 @@ abbrev pub numbered : ℕ → List (List ℕ) → List (ℕ × List ℕ)
 numbered n [] = []
 numbered n (line ∷ lines) = (n, line) ∷ numbered (n + 1) lines
 
--- the lines of a text that aren't passed over, each with its number, where the first line of all
--- has this number
+-- the lines of a text that aren't passed over, each with its number among all lines, which count
+-- from this number
 abbrev pub lines_from : ℕ → List ℕ → List (ℕ × List ℕ)
 lines_from n text = filter (λ x. not (is_passed_over x.1)) (numbered n (lines_of text))
 

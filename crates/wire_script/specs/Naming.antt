@@ -16,7 +16,7 @@ use Rattle.wire_script.specs.declared.named.HandlerName.TheVariants.{Echo, Count
 use Rattle.wire_script.specs.declared.named.Setup.{Setup}
 use Rattle.wire_script.specs.Words.{IsDocumentHex, IsHex, IsNumber, words_of}
 
--- the handler and the limits of a world, or an event in it
+-- what a line can name: a world, by its handler and its limits, or an event in it
 pub data Named : Type 0 where
   setup : Setup → Named
   event : Event → Named
@@ -154,7 +154,8 @@ Names line named =
 abbrev pub IsBytesKeyword : List ℕ → Type 0
 IsBytesKeyword word = (word ≡ codes "raw") ⊎ ((kind : CallKind) × (word ≡ call_keyword kind))
 
--- the first word is such a keyword, and after it come a number and one more word
+-- the first word is the keyword of a call or of raw bytes, and after it come a number and one more
+-- word
 pub record NamesBytes (line : List ℕ) : Type 0 where
   pub keyword : List ℕ
   pub operands : List (List ℕ)

@@ -6,8 +6,8 @@ use Rattle.wire_msg.specs.{Carries, Content}
 use Rattle.wire_msg.specs.declared.payloads.Payload.{Payload}
 use Rattle.wire_script.specs.Naming.{Named, event}
 
--- Two readings are the same, except for where payloads and bytes are borrowed from: the payloads
--- carry the same, and the bytes are the same.
+-- The two readings are the same. Payloads and bytes may be borrowed from different places, but have
+-- the same content.
 abbrev pub IsSame : Named → Named → Type 0
 IsSame (event (Call c kind payload)) n =
     (other : Payload) × (n ≡ event (Call c kind other))

@@ -1,4 +1,4 @@
-//! Scripts, cut into lines.
+//! Tests of scripts that are cut into lines.
 
 use wire_script::{Lines, NumberedLine};
 
@@ -29,7 +29,7 @@ fn is_line(line: NumberedLine<'_>, number: usize, text: &[u8]) -> bool {
     line.number == number && line.text == text
 }
 
-/// Returns true if these are the lines of the script, and nothing comes behind them.
+/// Returns true if these are the lines of the script, and no more come after them.
 fn has_lines(script: &[u8], wanted: &[(usize, &[u8])]) -> bool {
     let mut lines = Lines::new(script);
     for (number, text) in wanted {

@@ -1,4 +1,4 @@
-//! A line of each form.
+//! Tests of a line of each form.
 
 use crate::readings::{Reading, reads};
 use std::alloc::Global;
@@ -12,10 +12,11 @@ const ONE: &[u8] = b"\x0c\0\0\0\x10a\0\x01\0\0\0\0";
 /// `{"a": {"b": 1, "b": 2}}`: only top-level names have to be unique.
 const INNER: &[u8] = b"\x1b\0\0\0\x03a\0\x13\0\0\0\x10b\0\x01\0\0\0\x10b\0\x02\0\0\0\0\0";
 
-/// The first line of a script, its handler, and the first id, the window, the number of connections and the limit.
+/// The first line of a script, its handler, and the first id, the window, the number of connections
+/// and the limit.
 type World<'a> = (&'a [u8], HandlerName, i32, usize, usize, u32);
 
-/// Numbers that no world is made with are read, too.
+/// First lines. Numbers with which no world is made are read, too.
 const WORLDS: [World<'static>; 4] = [
     (
         b"world echo 1 8 8 48000000",
@@ -90,7 +91,7 @@ const BYTES: [(&[u8], Reading<'static>); 7] = [
     ),
 ];
 
-/// Returns true if each line is read so.
+/// Returns true if each line is read as its row says.
 fn all_read(alloc: Global, rows: &[(&[u8], Reading<'_>)]) -> bool {
     for (line, reading) in rows {
         if !reads(alloc, line, *reading) {
@@ -100,7 +101,7 @@ fn all_read(alloc: Global, rows: &[(&[u8], Reading<'_>)]) -> bool {
     true
 }
 
-/// Returns true if the first line of a script is read so.
+/// Returns true if the first line of a script is read as the row says.
 fn world_reads(alloc: Global, row: World<'_>) -> bool {
     let (line, handler, first_id, window, connections, limit) = row;
     let limits = WorldLimits {

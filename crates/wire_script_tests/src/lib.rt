@@ -1,5 +1,6 @@
-//! Tests of the lines of scripts, by what no contract says: that a line of each form is read where memory is there, and that the
-//! definitions mean the forms. They stand in a crate of their own, since a crate is proved once more with its tests.
+//! Tests of what no contract of the lines of scripts says: that a line of each form is read if
+//! there is memory, and that the definitions mean the forms. They are in a crate of their own,
+//! since a crate is proved once more with its tests.
 //!
 //! Stands on wire_script. Read first: `forms`.
 #![tactic(auto)]

@@ -1,12 +1,12 @@
-//! A test of lines where memory is refused. `scripts/checks/try-refusals` runs it with each of its allocations refused in turn. No other one
-//! is refused then, so a line is read when it is read again.
+//! A test of lines where memory is refused. `scripts/checks/try-refusals` runs it with each of its
+//! allocations refused in turn. Only one is refused in a run, so a line that is read again is read.
 
 use crate::readings::{Reading, is_reading, reads};
 use std::alloc::Global;
 use wire_peer::CallKind;
 use wire_script::{LineError, parse_line};
 
-/// Returns true if the line is read so; or isn't where memory runs out, and is then.
+/// Returns true if the line is read as `reading`, at the second try if memory runs out.
 fn reads_at_last(alloc: Global, line: &[u8], reading: Reading<'_>) -> bool {
     match parse_line(alloc, line) {
         Ok(line) => is_reading(&line, reading),

@@ -1,4 +1,4 @@
-//! Lines of no form.
+//! Tests of lines of no form.
 
 use crate::readings::is_malformed;
 use std::alloc::Global;
@@ -16,7 +16,7 @@ const KEYWORDS: [&[u8]; 9] = [
     b"\xffopen",
 ];
 
-/// Lines whose words don't stand one space apart.
+/// Lines whose words aren't one space apart.
 const SPACES: [&[u8]; 9] = [
     b" open",
     b"open ",
@@ -29,7 +29,7 @@ const SPACES: [&[u8]; 9] = [
     b"up 1\r2",
 ];
 
-/// Lines with an operand too few, or one too many.
+/// Lines with one operand too few, or one too many.
 const COUNTS: [&[u8]; 12] = [
     b"open 1",
     b"clear 1",

@@ -1,4 +1,4 @@
-//! What a line is to be read as.
+//! Rows that say what a line is to be read as.
 
 use std::alloc::Global;
 use wire_model::Event;
@@ -62,7 +62,7 @@ pub(crate) fn is_reading(line: &Line, reading: Reading<'_>) -> bool {
     }
 }
 
-/// Returns true if the line is read so.
+/// Returns true if the line is read as `reading`.
 pub(crate) fn reads(alloc: Global, line: &[u8], reading: Reading<'_>) -> bool {
     match parse_line(alloc, line) {
         Ok(line) => is_reading(&line, reading),

@@ -3,7 +3,7 @@ use Rattle.wire_script.specs.{lines_left}
 use Rattle.wire_play.proofs.Plays.{SoFar}
 use Rattle.wire_play.proofs.playing.play_lines.Given as goal
 
--- what the lines that are left come to is what all come to
+-- playing the lines that are left completes the playing of all
 abbrev pub invariant-loop-line : goal.invariant-loop-line
 invariant-loop-line g l =
     (goal.iterator-loop-line g).can_next l.line-iterator ×
