@@ -1,4 +1,4 @@
--- An act before the others, and a whole message that is taken at once.
+-- One act in front of others, and a whole message that is taken in one act.
 use Rattle.std.proofs.Common.{◌≡◌, ℕ, ◌≤◌, ℤ, List, [], ◌∷◌, ◌++◌, length, take, refl, sym, ◌∙◌, ap, subst, arith, Option, Some, None, inr}
 use Rattle.std.proofs.Math.Seq.{take-length}
 use Rattle.std.proofs.lemmas.List.{append-nil}
@@ -86,7 +86,7 @@ serves_on deeds old new act s s' log at does run = (
   run,
 )
 
--- ---- a whole message is taken at once
+-- ---- a whole message is taken in one act
 
 pub whole_no_more : (limit : ℕ) (m : Message) (b : List ℕ) → SpellsMsg m b → length b ≤ limit
     → HoldsNoMore limit b

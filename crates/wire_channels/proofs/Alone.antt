@@ -27,7 +27,7 @@ use Rattle.wire_channels.proofs.Records.{put_is}
 use Rattle.wire_channels.proofs.Tells.{Tells, low_front, new_not_done, ready_low, tells_given, tells_lost, tells_made}
 use Rattle.wire_channels.specs.Alone.{ClosesBy, Got, Heard, Hearing, Hears, HoldsAlone, IsMessageOf, IsReadyWith, Made, NoneBehind, got, handed, hear, hear_all, replied, silence}
 
--- how a client stands with what it heard, where these replies were handed out
+-- how a client fits what it heard, if these replies were handed out
 record Past (limit : ℕ) (records : List Record) (k : ClientSeen) (h : Hearing)
     (out : List (ReadyReply × Message)) : Type 0 where
   limit_is : k.requests.limit ≡ limit
@@ -167,7 +167,7 @@ module _ (limit : ℕ) (records : List Record) (k : ClientSeen) (h : Hearing)
     refl,
   )
 
--- ---- the reply is let go of
+-- ---- the reply is released
 
 past_released : (limit : ℕ) (records records' : List Record) (k : ClientSeen) (h : Hearing)
     (out : List (ReadyReply × Message))
@@ -205,7 +205,7 @@ past_released limit records records' k h out reply m p many told is spells =
 -- ---- act after act
 
 module _ (limit c : ℕ) where
-  -- what a run comes to
+  -- what holds after a run
   record Come (rest : List ℕ) (h : Hearing) (all : List (ReadyReply × Message))
       (acts : List ClientAct) (new : ClientEnd) : Type 0 where
     heard : List Heard

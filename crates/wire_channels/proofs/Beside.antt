@@ -402,7 +402,7 @@ module _ (H : Type 0) (does : Does H) (stops : Stops H) (strange : ℕ → Bool)
     arrive : (up down : ℕ → List ℕ) → Arrive up down (deeds_beside strange deeds)
         → Arrive up down deeds'
 
-  -- connections of which one is strange aren't one
+  -- a strange connection and one that isn't strange are different ones
   apart : (c d : ℕ) → strange c ≡ true → strange d ≡ false → (c == d) ≡ false
   apart c d s n = is_elsewhere d c (λ e. true_is (strange d) (ap strange (sym e) ∙ s) n)
 

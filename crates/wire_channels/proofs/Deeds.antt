@@ -18,7 +18,7 @@ use Rattle.wire_channels.specs.Owners.{Answers, Calls, Collects, EndsDown, EndsU
 use Rattle.wire_channels.specs.Deeds.{at_one}
 use Rattle.wire_channels.proofs.Fits.{Fit, FitStep, PairFits, Stay, end_far, end_here, end_one, free_way, get_within, goes, one_far, one_here, server_set-other, server_set-same}
 
--- the reply is let go of, and these are the records
+-- the reply is released, and these are the records
 abbrev taken_with : {H : Type 0} → System H → ℕ → Pair → List Record → System H
 taken_with s c p calls = record {
   pairs = pair_set s.pairs c (record p { client = released p.client });

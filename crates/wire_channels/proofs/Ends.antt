@@ -1,4 +1,4 @@
--- What each end's call does to what the end is seen as.
+-- What each call at an end does to the end as it is seen.
 use Rattle.std.proofs.Common.{◌≡◌, ℕ, ℤ, true, List, [], ◌++◌, length, take, drop, refl, sym, ◌∙◌, ap, subst, append_assoc, Option, Some, None, Result, Ok, Err}
 use Rattle.std.proofs.lemmas.List.{take-append-drop}
 use Rattle.std.proofs.lemmas.Option.{none-some}
@@ -35,9 +35,9 @@ client_of requests held reply state = record {
   state = state;
 }
 
--- ---- letting go of a reply
+-- ---- releasing a reply
 
--- what was to be sent has no part in it
+-- it doesn't matter what was to be sent
 shown_output : (r : RequestState) (h : List ℕ) (reply : Option ReadyReply) (s : ClientState)
     (a b : List ℕ)
     → with_client_output (released (with_client_output (client_of r h reply s) a)) b
@@ -261,7 +261,7 @@ took_with k piece o n new t = let u = client_own k piece n new t in record {
 abbrev front : ReplyState → List ℕ → ReplyState
 front r o = record { output = o ++ r.output; next = r.next; limit = r.limit }
 
--- replies are put behind whatever is to be sent before them
+-- replies are put after whatever has to be sent before them
 reply_front : {H : Type 0} (does : Does H) (stops : Stops H) (connection : ℕ) (id : ℤ) (a : Asked)
     (h h' : H) (log log' : List LogEntry) (s s' : ReplyState) (o : List ℕ)
     → ReplyStep does stops connection id a (Ok tt) h log s h' log' s'

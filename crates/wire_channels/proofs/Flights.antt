@@ -1,4 +1,4 @@
--- What was sent on a way is what was taken, and then what is in flight.
+-- What was sent on a way is what was taken from it, followed by what is in flight.
 use Rattle.std.proofs.Common.{◌≡◌, ℕ, Bool, true, false, List, [], ◌∷◌, ◌++◌, refl, sym, ◌∙◌, ap, append_assoc, inl, inr}
 use Rattle.std.specs.Prelude.{◌==◌, if◌then◌else◌}
 use Rattle.wire_model.proofs.Lemmas.{is_elsewhere, is_here, same_or_not}
@@ -6,7 +6,7 @@ use Rattle.wire_channels.specs.Owners.{ClientAct, ServerAct, SendsDown, SendsUp,
 use Rattle.wire_channels.specs.Deeds.{AtClient, AtServer, Deed, acts_at, at_one, server_acts_at}
 use Rattle.wire_channels.proofs.Fits.{one_far, one_here}
 
--- on the ways of each connection, from these bytes in flight to those
+-- for each connection: from these bytes in flight up and down to those
 abbrev pub Balanced : (up down up' down' : ℕ → List ℕ) → List Deed → Type 0
 Balanced up down up' down' deeds =
     (c : ℕ) → (up c ++ bytes_sent (acts_at c deeds)
@@ -57,7 +57,7 @@ takes_way f c d bytes rest sent taken after first e = elim (same_or_not d c) [
 
 -- ---- deed after deed
 
--- what the acts at connection d send and take, with one more that is done at c
+-- the bytes that the acts at connection d send and take, with one more act at connection c
 sent_at : (c d : ℕ) (act : ClientAct) (acts : List ClientAct)
     → bytes_sent (if c == d then act ∷ acts else acts)
     ≡ (if c == d then sent_by act ++ bytes_sent acts else bytes_sent acts)
@@ -78,7 +78,7 @@ taken_up_at : (c d : ℕ) (act : ServerAct) (acts : List ServerAct)
     ≡ (if c == d then taken_up_by act ++ bytes_taken_up acts else bytes_taken_up acts)
 taken_up_at c d act acts = if_of bytes_taken_up (c == d) (act ∷ acts) acts
 
--- where the act sends or takes nothing
+-- the same, if the act sends or takes nothing
 none_by : (b : Bool) (by bytes : List ℕ) → by ≡ [] → (if b then by ++ bytes else bytes) ≡ bytes
 none_by b by bytes e = ap (λ z. if b then z ++ bytes else bytes) e ∙ if_same b bytes
 

@@ -1,4 +1,4 @@
--- What an owner did, and then what it did from there on, is one list of acts.
+-- The acts of an owner, and those that it did from there on, are one list of acts.
 use Rattle.std.proofs.Common.{◌≡◌, ℕ, List, [], ◌∷◌, ◌++◌, refl, sym, ◌∙◌, ap, subst, append_assoc}
 use Rattle.wire_peer.specs.{Does, Stops}
 use Rattle.wire_channels.specs.Owners.{ClientAct, ClientEnd, ClientRun, ServerEnds, bytes_sent, bytes_taken, sent_by, taken_by}

@@ -36,7 +36,7 @@ set_length ss zero t = refl
 set_length ss (suc i) t = length-slice_set ss i t
 
 module _ (H : Type 0) (does : Does H) (stops : Stops H) (limit : ℕ) (made : ℕ → Made) where
-  -- the servers from the one behind n on, so many
+  -- m servers, from the one after n on
   abbrev later : ℕ → ℕ → List ServerView
   later n zero = []
   later n (suc m) = new_server (suc n) (made (suc n)).server_window limit ∷ later (suc n) m

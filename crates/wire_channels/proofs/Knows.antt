@@ -74,7 +74,7 @@ owned_of {H} k ends ss s m of o =
     let v = of.no_other i x at in
     ((x.connection, v.1), (v.2, v.3, v.6), ap (λ z. call_at z v.1) v.4 ∙ ap index_by v.5)) o
   where
-    -- where the record of a call stands
+    -- the index of the record of a call
     there : (j : ℕ × ℕ) (x : Record) → IsCallOf k ends j x → (p : Pair)
         × (pair_at s.pairs j.0 ≡ Some p) × (slice_get s.calls (index s j) ≡ Some x)
         × (slice_get p.calls j.1 ≡ Some (index s j)) × (x.connection ≡ j.0)

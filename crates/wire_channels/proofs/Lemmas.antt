@@ -1,4 +1,4 @@
--- The lemmas that proofs of other crates stand on.
+-- The lemmas that proofs of other crates use.
 
--- what an owner did, and then did from there on, is one run
+-- a run of an owner, and one that goes on from where it ended, are one run
 pub use Rattle.wire_channels.proofs.GoingOn.{client_on, sent_on, servers_on, taken_on}

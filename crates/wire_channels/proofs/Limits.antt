@@ -63,7 +63,7 @@ no_client : (c d : ℕ) (more : List ServerAct) (deeds : List Deed)
 no_client c d [] deeds = refl
 no_client c d (act ∷ more) deeds = no_client c d more deeds
 
--- bytes of one act more, which are those of the acts in its place
+-- the bytes with one more act are those with the acts in its place
 more_bytes : {A : Type 0} (f : List A → List ℕ) (g : A → List ℕ) (b : Bool) (act : A)
     (more acts acts' : List A)
     → ((xs ys : List A) → f (xs ++ ys) ≡ f xs ++ f ys)
@@ -101,7 +101,7 @@ clients_only does stops c (act ∷ more) deeds old new run =
 
 module _ (H : Type 0) (does : Does H) (stops : Stops H) (wide : ℕ) (finals : ℕ → ClientEnd)
     (last : ServerEnds H) where
-  -- what ends with the greater limit do where these deeds are done, and what comes of it
+  -- what ends with the greater limit do while these deeds are done, and what holds then
   pub record Found (deeds : List Deed) (ends0 : ℕ → ClientEnd) (ss0 : ServerEnds H) : Type 0 where
     pub deeds' : List Deed
     pub finals0 : ℕ → ClientEnd

@@ -29,14 +29,14 @@ short_limit limit is = let most = is.1 in omega arith
 
 module _ (H : Type 0) (does : Does H) (stops : Stops H) (limit : ℕ) (short : limit < 2 ^ 31)
     (first : H) where
-  -- limits with this limit of a message
+  -- limits of a world, with this limit on messages
   abbrev no_limits : WorldLimits
   no_limits = record { first_id = pos 1; window = 1; connections = 1; limit = limit }
 
   abbrev start : Machine H
   start = empty first (λ c. false)
 
-  -- a state of the machine stands for the system, with the world's records
+  -- the system shows a state of the machine, with the world's records
   pub record Holds (s : System H) : Type 0 where
     pub ys : List Record
     pub m : Machine H
@@ -198,7 +198,7 @@ module _ (H : Type 0) (does : Does H) (stops : Stops H) (limit : ℕ) (short : l
   all_hold s channels.stay = begins
   all_hold s (channels.go {mid = mid} more one) = step_holds mid s (all_hold mid more) one
 
-  -- ---- what it comes to
+  -- ---- what follows
 
   pub raws_are : (s : System H) (ys : List Record) (c : ℕ) → raws (world_of s ys) c ≡ false
   raws_are s ys c = by (conn_at (map seen_as s.pairs) c) refl

@@ -1,4 +1,4 @@
--- Call numbers go up, so no reply to a call stands behind its last one.
+-- Call numbers go up, so no reply to a call follows its last one.
 use Rattle.std.proofs.Common.{◌≡◌, ℕ, suc, ◌+◌, ◌-◌, ◌^◌, ◌<◌, ℤ, Bool, true, false, cond, List, [], ◌∷◌, ◌++◌, refl, sym, ◌∙◌, ap, subst, arith, Contains, Option, Some, None, Result, Ok, Err}
 use Rattle.std.specs.Prelude.{◌==◌, ◌&&◌, ◌||◌, not, if◌then◌else◌}
 use Rattle.std.specs.Map.{set_value}
@@ -54,7 +54,7 @@ eq_int x y e = grind (arith, Decides-int_eq x y)
 true_false : (b : Bool) → b ≡ true → b ≡ false → ⊥
 true_false b t f = let no_ : true ≡ false = sym t ∙ f in cc
 
--- a call that bears an id has what each has
+-- what holds of each entry of the table holds of the call with an id
 each_bearer : (P : Entry → Type 0) (id : ℤ) (t : Table) (o : Outstanding) → Each P t
     → bearer id t ≡ Some o → (i : ℤ) × (int_eq id i ≡ true) × P (i, o)
 each_bearer P id [] o p is = absurd (none-some o is)
@@ -66,7 +66,7 @@ each_bearer P id (e ∷ t) o p is = by (int_eq id e.0) refl is (λ g. each_beare
     by true eq g later = (e.0, eq, subst (λ z. P (e.0, z)) (same_Some e.1 o g) p.0)
     by false eq g later = later g
 
--- ---- the owner bears its id
+-- ---- the owner of a reply has the id that it answers
 
 stream_differs : (e : Entry) (t : Table) (o : Entry) → Each (Differs e) t → stream t ≡ Some o
     → int_eq o.0 e.0 ≡ false
@@ -128,7 +128,7 @@ owner_bears t to more o a is = by (stream t) refl (unallowed (owner t to) is)
         stream_bears t o a (g ∙ ap (λ z. Some z)
         (streams x (int_eq x.0 to || is_last_part x.1.last to) e))
 
--- ---- a call more, another part, or a call fewer
+-- ---- one more call, another part, or one call fewer
 
 apart_push : (t : Table) (e : Entry) → Apart t
     → Each (λ (f : Entry). (int_eq e.0 f.0 ≡ false) × (e.1.call ≡ f.1.call → ⊥)) t
@@ -229,7 +229,7 @@ none_push (r ∷ rs) x n e =
 abbrev IsOver : Table → ℕ → Type 0
 IsOver t c = Each (λ (e : Entry). e.1.call ≡ c → ⊥) t
 
--- what holds of a client that heard this, where so many calls were made
+-- what holds of a client that heard this, after it made this many calls
 pub record Tidy (h : Hearing) (count : ℕ) : Type 0 where
   pub apart : Apart h.table
   pub below : Each (λ (e : Entry). e.1.call < count) h.table

@@ -1,4 +1,4 @@
--- Lists of indexes in which each stands once, and what goes along with them.
+-- Lists of indexes in which each is once, and lists beside them.
 use Rattle.std.proofs.Common.{◌≡◌, ℕ, zero, suc, List, [], ◌∷◌, ◌++◌, refl, sym, ◌∙◌, ap, subst, Some}
 use Rattle.std.specs.Prelude.{remove, slice_get}
 use Rattle.std.proofs.lemmas.Option.{none-some, same_Some}
@@ -73,7 +73,7 @@ once_there (m ∷ ns) (suc i) zero n d at at' =
     absurd (each_at (λ x. x ≡ m → ⊥) ns i n d.0 at (sym (same_Some m n at')))
 once_there (m ∷ ns) (suc i) (suc j) n d at at' = ap suc (once_there ns i j n d.1 at at')
 
--- ---- what goes along with indexes
+-- ---- lists beside indexes
 
 abbrev pub Along : {X : Type 0} → (ℕ → X → Type 0) → List ℕ → List X → Type 0
 Along P [] [] = Unit {0}

@@ -70,7 +70,7 @@ record Apart (messages : List Message) (waiting indexes : List ℕ) : Type 0 whe
   once_waiting : Distinct waiting
   apart : Each (λ n. NotIn n indexes) waiting
 
--- how the server of the connection stands with these
+-- how the server of the connection fits these
 record Stands (limit : ℕ) (s : ServerView) (messages : List Message) (rest : List ℕ)
     (waiting : List ℕ) : Type 0 where
   limit_is : s.limit ≡ limit
@@ -153,7 +153,7 @@ module _ (limit : ℕ) (taken : List ℕ) (messages : List Message) (rest : List
         (differs waiting i n a.once_waiting at));
   }
 
--- a message more leaves the others where they are
+-- one more message leaves the others at their indexes
 still_spells : (ms : List Message) (m : Message) (ns : List ℕ) (bs : List (List ℕ))
     → Along (Spells ms) ns bs → Along (Spells (ms ++ m ∷ [])) ns bs
 still_spells ms m ns bs a =

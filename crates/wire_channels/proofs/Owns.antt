@@ -189,7 +189,7 @@ module _ {H : Type 0} (m : Machine H) (ok : Ok m) (unraw : (c : ℕ) → m.raw c
       let p = (ok.each (nth_of m.calls i) b.z b.at).entry e (named_by i x b e n) in
       entry_is i x b e p.0 p.1 p.2 p.3
 
-  -- a call that is done with its owner is so in the machine
+  -- a call that is done in its owner's records is done in the machine
   done_same : (i : ℕ) (x y : Record) → Agree ps i x y → x.state ≡ Done → y ≡ x
   done_same i x y (inl e) done = e.0
   done_same i x y (inr a) done = absurd (elim a.not_done [
@@ -273,7 +273,7 @@ module _ {H : Type 0} (m : Machine H) (ok : Ok m) (unraw : (c : ℕ) → m.raw c
       names e (inl q) = inl (sym b.place ∙ q)
       names e (inr q) = inr (sym b.place ∙ q)
 
-      -- what the machine's call holds, where the record holds the same or less
+      -- what the machine's call holds, if the record holds the same or less
       from : (b.z.state ≡ Pending) ⊎ (b.z.state ≡ Lost)
           → ((answers : _) → Owes answers b.z.parts → Owes answers x.parts)
           → (b.z.parts ≡ [] → x.parts ≡ []) → HoldsBeginning m.log (place_of i) x

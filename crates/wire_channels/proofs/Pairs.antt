@@ -1,4 +1,4 @@
--- Pairs by number, and the connections that they are seen as.
+-- Pairs by number, and the connections as which they are seen.
 use Rattle.std.proofs.Common.{◌≡◌, ℕ, zero, suc, false, List, [], ◌∷◌, ◌++◌, map, refl, sym, ◌∙◌, ap, Some, ◌⊎◌, inl, inr}
 use Rattle.std.specs.Prelude.{slice_get, slice_set}
 use Rattle.std.proofs.lemmas.Option.{none-some, same_Some}
@@ -58,7 +58,7 @@ pub seen_set : (ps : List Pair) (c : ℕ) (q : Pair)
 seen_set ps zero q = refl
 seen_set ps (suc i) q = map-set seen_as ps i q
 
--- where a pair is seen as before, nothing is seen
+-- if a pair is seen as before, so are all pairs
 pub seen_alike : (ps : List Pair) (c : ℕ) (p q : Pair) → pair_at ps c ≡ Some p
     → seen_as q ≡ seen_as p → map seen_as (pair_set ps c q) ≡ map seen_as ps
 seen_alike ps zero p q at e = refl

@@ -42,7 +42,7 @@ agree_still i ps qs x y f b (inr a) = let j = f x.connection a.is in inr (record
   given = a.given ∙ ap (λ (r : ReadyReply). given_record x a.m.content r.last) (sym j.1);
 })
 
--- what is ready to call i at one pair is ready to it at another one
+-- a reply that is ready to call i at one pair is ready to it at another
 abbrev pub ReadyAlike : ℕ → Pair → Pair → Type 0
 ReadyAlike i p q =
     (reply : ReadyReply) → p.client.reply ≡ Some reply → slice_get p.calls reply.call ≡ Some i
@@ -131,7 +131,7 @@ ToSome c p =
     (reply : ReadyReply) → p.client.reply ≡ Some reply → (i : ℕ)
     × (slice_get p.calls reply.call ≡ Some i)
 
--- ---- a step that no record sees
+-- ---- a step that changes no record
 
 pub kept_alike : (ps : List Pair) (xs ys : List Record) (c : ℕ) (p q : Pair)
     → pair_at ps c ≡ Some p → q.calls ≡ p.calls → q.client.reply ≡ p.client.reply

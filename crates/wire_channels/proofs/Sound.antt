@@ -1,5 +1,5 @@
--- What holds of every system that a trace comes to: each record is of a call of its pair's client, and who
--- was told that no more bytes come is closed.
+-- What holds of every system that a trace leads to: each record is that of a call of its pair's client,
+-- and an end that was told that no more bytes come is closed.
 use Rattle.std.proofs.Common.{◌≡◌, ℕ, zero, suc, true, List, [], length, map, refl, sym, ◌∙◌, ap, Option, Some, None, ◌⊎◌, inl, inr, Result, Ok, Err}
 use Rattle.std.specs.Prelude.{slice_get, slice_set}
 use Rattle.std.proofs.lemmas.Option.{none-some, same_Some}
@@ -71,7 +71,7 @@ lost_comes xs c d q i y at = let b = get-map_back (lost_at d) xs i y at in inl (
   ap (λ (r : Record). r.connection) b.2,
 )
 
--- ---- who is told is shut
+-- ---- an end that was told is closed
 
 shut_client : (s : ClientState) (cause : ClientCause) → state_after s cause ≡ clients.Open → ⊥
 shut_client clients.Open cause e = cc

@@ -76,7 +76,7 @@ module _ (H : Type 0) (does : Does H) (stops : Stops H) (limit : ℕ) where
         (ap (λ c. paired (begun n) (new_pair (suc c) limit (made (suc n)).first_id
         (made (suc n)).client_window (made (suc n)).server_window)) (sym (many_pairs made n))))
 
-    -- the pair of this number is at its place
+    -- the pair with this number is at its index
     begun_at : (n c : ℕ) → 1 ≤ c → c ≤ n
         → pair_at (pairs_of made n) c ≡ Some (new_pair c limit (made c).first_id
         (made c).client_window (made c).server_window)
@@ -139,7 +139,8 @@ module _ (H : Type 0) (does : Does H) (stops : Stops H) (limit : ℕ) where
       handler = refl;
     }
 
-    -- what is common to the owners, and how what was sent stands to what was taken
+    -- what is common to the owners, and that what was sent is what was taken and then what is in
+    -- flight
     pub met : (k : ℕ) (deeds : List Deed) (ends : ℕ → ClientEnd) (servers : ServerEnds H)
         → ((c : ℕ) → ClientRun c (first_end limit made c) (acts_at c deeds) (ends c))
         → ServersRun does stops (first_servers_of limit made k first) deeds servers
@@ -154,7 +155,7 @@ module _ (H : Type 0) (does : Does H) (stops : Stops H) (limit : ℕ) where
           all = λ c least most. (_, begun_at k c least most);
         }) runs served arrive
 
-    -- servers stay as many
+    -- the number of servers stays the same
     as_many : (deeds : List Deed) (old new : ServerEnds H) → ServersRun does stops old deeds new
         → length new.servers ≡ length old.servers
     as_many [] old new same = ap (λ (z : ServerEnds H). length z.servers) same

@@ -1,4 +1,4 @@
--- How bytes stand under a greater limit of a message.
+-- The state of bytes under a greater limit on messages.
 use Rattle.std.proofs.Common.{◌≡◌, ◌≢◌, ℕ, ◌<◌, ◌≤◌, ℤ, pos, Bool, true, false, List, [], ◌∷◌, length, take, drop, refl, sym, ◌∙◌, ap, subst, arith, ◌⊎◌, inl, inr, nat_lt}
 use Rattle.std.specs.Prelude.{if◌then◌else◌}
 use Rattle.std.specs.Ordering.{int_eq}
@@ -44,8 +44,8 @@ module _ (l wide : ℕ) (least : 26 ≤ l) (le : l ≤ wide) where
       by true e = inl (grind (arith, Decides-int_eq x y))
       by false e = inr (λ same. (let no_ : true ≡ false = grind (arith, Decides-int_eq x y) in cc))
 
-  -- Bytes that are bad, and no more of them than show it, are bad under the greater limit too, or the
-  -- beginning of a message there.
+  -- Bytes that are bad, with no more of them than show it, are bad under the greater limit too, or
+  -- the beginning of a message there.
   pub bad_wider : (b : List ℕ) (f : MsgFault) → IsBad l b f → HoldsNoMore l b
       → IsOpen wide b ⊎ ((g : MsgFault) × IsBad wide b g)
   bad_wider b f (bad_header room (of_length (inl low) e)) more =

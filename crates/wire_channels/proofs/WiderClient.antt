@@ -39,7 +39,7 @@ both_ended Open (Closed d) a b x = absurd x
 both_ended (Closed c) Open a b x = absurd x
 both_ended (Closed c) (Closed d) a b x = tt
 
--- who is closed and who is told the end are both closed
+-- a client that is closed, and one that is told the end, are both closed
 pub shut_ended : (s t : ClientState) (b : ClientCause) → s ≢ Open
     → BothOpen s (state_after t b)
 shut_ended Open t b n = absurd (n refl)
@@ -118,7 +118,7 @@ LikeOf None (Some y) = ⊥
 LikeOf (Some x) None = ⊥
 LikeOf (Some x) (Some y) = Like x y
 
--- each of the ones is there where the other one is
+-- for each record of one list there is one in the other
 pub like_at : (xs ys : List Record) (i : ℕ) → AreLike xs ys
     → LikeOf (slice_get xs i) (slice_get ys i)
 like_at [] [] i a = tt
@@ -281,7 +281,7 @@ module _ (wide : ℕ) where
                   (inl (subst (λ z. BothOpen z (Closed (causes.Message g.0))) (sym shut) tt))
             ]
 
-  -- the reply is let go of
+  -- the reply is released
   pub lets_go : (k : ClientSeen) (state : ClientState)
       → released (widened k state) ≡ widened (released k) state
   lets_go k state = by k.reply refl

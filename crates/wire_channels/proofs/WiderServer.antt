@@ -159,7 +159,7 @@ module _ (wide : ℕ) where
   module _ {H : Type 0} (does : Does H) (stops : Stops H) (i : ℕ) (s s' : ServerView)
       (state : ServerState) (h h' : H) (log log' : List LogEntry) (w : Within s)
       (alike : AsOpen s.state state) where
-    -- with this result where the limit is the greater one
+    -- the result under the greater limit
     pub record Answered : Type 0 where
       pub result : Result ℕ AnswerRefusal
       pub state' : ServerState

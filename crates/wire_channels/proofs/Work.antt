@@ -1,4 +1,4 @@
--- The work that is left falls with each step that does some of it, and some can be done.
+-- The work that is left falls with each step that does some of it, and some of it can be done.
 use Rattle.std.proofs.Common.{◌≡◌, ◌≢◌, ℕ, suc, zero, ◌+◌, ◌<◌, ◌≤◌, ◌^◌, ℤ, pos, true, false, List, [], ◌∷◌, ◌++◌, length, take, drop, refl, sym, ◌∙◌, ap, subst, arith, Option, Some, None, ◌⊎◌, inl, inr, Result, Ok, Err, length-append, length-drop, length-take}
 use Rattle.std.specs.Prelude.{remove, slice_get}
 use Rattle.std.proofs.lemmas.List.{append-nil}
@@ -80,7 +80,7 @@ client_takes_some k piece (suc n) new o some t = omega arith
 
 -- ---- what a step leaves
 
--- of what is in flight, so much fewer
+-- n bytes fewer are in flight
 fewer_in_flight : (w way : Way) (piece : List ℕ) (n : ℕ) → Taken w piece n way
     → length way.bytes + n ≡ length w.bytes
 fewer_in_flight w way piece n t =
@@ -285,7 +285,7 @@ module _ (H : Type 0) (does : Does H) (stops : Stops H) (limit : ℕ) where
     some_behind [] ys zs y e = cc
     some_behind (x ∷ xs) ys zs y e = cc
 
-    -- one byte of those in flight comes
+    -- one byte of those in flight arrives
     one_came : (way : Way) (b : ℕ) (rest : List ℕ) → way.bytes ≡ b ∷ rest → way.left ≡ None
         → Taken way (b ∷ []) 1 (record { bytes = rest; left = fewer way.left 1 })
     one_came way b rest is uncut = record {

@@ -1,4 +1,4 @@
--- A client by itself, whoever answers it: over any calls, and any pieces of any bytes.
+-- What holds of a client alone, whoever answers it: for any calls, and any pieces of any bytes.
 use Rattle.std.specs.Prelude.{◌≡◌, ℕ, ◌≤◌, ℤ, ◌⊎◌, true, ◌==◌, if◌then◌else◌, slice_get, Option}
 use Rattle.std.specs.Prelude.{None, Some, List, [], ◌∷◌, ◌++◌, length, Result, Ok, Err}
 use Rattle.wire_msg.specs.{Content, IsBad, IsOpen, Message, SpellsMsg, Split}
@@ -17,7 +17,7 @@ use Rattle.wire_channels.specs.Owners.{TakesDown, bytes_taken}
 
 -- ---- what a client hears
 
--- that a call is made, or a whole message
+-- what a client hears: a call that it makes, or a whole message
 pub data Heard : Type 0 where
   Made : (kind : CallKind) → (call : CallNo) → Heard
   Got : (m : Message) → Heard
@@ -32,8 +32,8 @@ got (Got m ∷ hs) = m ∷ got hs
 abbrev pub IsMessageOf : ℕ → List ℕ → Message → Type 0
 IsMessageOf limit bytes m = SpellsMsg m bytes × (length bytes ≤ limit)
 
--- What a client hears by its acts, where it holds these bytes of a message: a call when it makes
--- it, and a message when it takes the last of its bytes.
+-- What a client hears in these acts, if it holds these bytes of a message before them: a call when
+-- it makes it, and a message when it takes the last byte of it.
 abbrev pub Hears : ℕ → List ℕ → List ClientAct → List Heard → Type 0
 Hears limit held [] hs = hs ≡ []
 Hears limit held (Calls kind payload number ∷ acts) hs =
@@ -49,8 +49,8 @@ Hears limit held (EndsDown ∷ acts) hs = Hears limit held acts hs
 
 -- ---- what comes of it
 
--- the calls that are outstanding; the replies so far, each with its message; and the cause of the
--- message that was nobody's, if one was
+-- What follows from what a client heard: the outstanding calls; the replies so far, each with its
+-- message; and, if a message belonged to no call, the cause for which that closes the client.
 pub record Hearing : Type 0 where
   pub table : Table
   pub replies : List (ReadyReply × Message)
@@ -60,7 +60,7 @@ pub record Hearing : Type 0 where
 abbrev pub silence : Hearing
 silence = record { table = []; replies = []; cause = None }
 
--- the message is a reply to this call, or is nobody's
+-- what follows after a message that is a reply to this call, or that belongs to none
 abbrev pub replied : Hearing → Message → Result (ℤ × Outstanding) ClientCause → Hearing
 replied h m (Ok o) = record {
   table = after_reply h.table o m.id m.flags.more_to_come;
@@ -69,21 +69,21 @@ replied h m (Ok o) = record {
 }
 replied h m (Err cause) = record { table = h.table; replies = h.replies; cause = Some cause }
 
--- A call is outstanding where it awaits a reply, and a message is a reply to the call that owns it
--- by its responseTo.
+-- What follows after one more thing is heard: a call becomes outstanding if it awaits a reply, and
+-- a message is a reply to the call that owns it by its responseTo.
 abbrev pub hear : Hearing → Heard → Hearing
 hear h (Made kind call) =
     record { table = awaiting h.table kind call; replies = h.replies; cause = h.cause }
 hear h (Got m) = replied h m (allowed m.flags.more_to_come (owner h.table m.response_to))
 
--- one after the other
+-- what follows after all of these, one after another
 abbrev pub hear_all : Hearing → List Heard → Hearing
 hear_all h [] = h
 hear_all h (x ∷ xs) = hear_all (hear h x) xs
 
 -- ---- what the owner of the client sees
 
--- the replies that were handed out, each with its message
+-- the replies that were handed out in these acts, each with its message
 abbrev pub handed : List ClientAct → List (ReadyReply × Message)
 handed [] = []
 handed (Calls kind payload number ∷ acts) = handed acts
@@ -113,14 +113,14 @@ abbrev pub NoneTo : ℕ → List (ReadyReply × Message) → Type 0
 NoneTo call [] = Unit {0}
 NoneTo call (r ∷ rs) = (r.0.call ≡ call → ⊥) × NoneTo call rs
 
--- no reply to a call stands behind its last one
+-- no reply to a call follows its last one
 abbrev pub NoneBehind : List (ReadyReply × Message) → Type 0
 NoneBehind [] = Unit {0}
 NoneBehind (r ∷ rs) = (r.0.last ≡ true → NoneTo r.0.call rs) × NoneBehind rs
 
--- Where no message was nobody's, the client is open or was told the end, and more of the rest may
--- come; or it was closed by the rest, which is bad. Else it was closed by that message, the last
--- one that it took.
+-- The state of a client after what it took. If no message closed it, it is open or was told the
+-- end, and the rest may still become a message; or the rest is bad, and closed it. If a message
+-- that belongs to no call closed it, that was the last one that it took.
 abbrev pub ClosesBy : ℕ → List ℕ → Option ClientCause → ClientState → Type 0
 ClosesBy limit rest None Open = IsOpen limit rest
 ClosesBy limit rest None (Closed causes.Ended) = IsOpen limit rest
@@ -131,11 +131,11 @@ ClosesBy limit rest None (Closed causes.MoreNotAllowed) = ⊥
 ClosesBy limit rest None (Closed causes.StreamBroken) = ⊥
 ClosesBy limit rest (Some cause) state = (state ≡ Closed cause) × (rest ≡ [])
 
--- What a client heard are its calls and the messages of the one split of what it received. The
--- replies that it handed out, and the one that is ready, are those messages, in order, each once,
--- each to the call that owns it, and none behind a call's last; the record of a call has the
--- contents of those that were handed out to it, and is done just where its last one was; and the
--- client is closed by the first message that is bad or nobody's, with that cause.
+-- What a client received splits into messages and a rest, in exactly one way. The replies that it
+-- handed out, and then the one that is ready, are these messages in order, each once, each to the
+-- call that owns it, and none after a call's last one. The record of a call has the contents of the
+-- replies that were handed out to it, and is done exactly if the last one was. The first message
+-- that is bad or belongs to no call closes the client, with that cause.
 pub record HoldsAlone (limit : ℕ) (acts : List ClientAct) (new : ClientEnd) : Type 0 where
   pub heard : List Heard
   pub hears : Hears limit [] acts heard

@@ -19,14 +19,14 @@ use Rattle.wire_model.specs.{put_at, with_client_output, with_server_output}
 
 -- ---- what there is
 
--- One way of a connection: the bytes in flight, in order, and, once it is cut, how many of them
--- still come.
+-- One way of a connection: the bytes in flight, in order; and, if it is cut, how many of them still
+-- arrive.
 pub record Way : Type 0 where
   pub bytes : List ℕ
   pub left : Option ℕ
 
--- A client, a server, and the two ways between them; the index among the records of each call of
--- the client, by the call's number; and which of the two was told that no more bytes come.
+-- A client, a server, and the two ways between them; for each call of the client, by its number,
+-- the index of its record; and whether each end was told that no more bytes come.
 pub record Pair : Type 0 where
   pub client : ClientSeen
   pub server : ServerView
@@ -44,11 +44,13 @@ pub record System (H : Type 0) : Type 0 where
   pub log : List LogEntry
   pub handler : H
 
+-- a system without pairs, calls and entries
 abbrev pub no_pairs : {H : Type 0} → H → System H
 no_pairs h = record { pairs = []; calls = []; log = []; handler = h }
 
 -- ---- pairs, numbered from 1
 
+-- the pair with this number
 abbrev pub pair_at : List Pair → ℕ → Option Pair
 pair_at ps zero = None
 pair_at ps (suc i) = slice_get ps i
@@ -80,11 +82,11 @@ paired s p = record { pairs = s.pairs ++ p ∷ []; calls = s.calls; log = s.log;
 
 -- ---- ways
 
--- these bytes are in flight behind the others
+-- the way with these bytes in flight after the others
 abbrev pub put_in : Way → List ℕ → Way
 put_in w bytes = record { bytes = w.bytes ++ bytes; left = w.left }
 
--- so many bytes still come
+-- n more bytes can still arrive
 abbrev pub Comes : Option ℕ → ℕ → Type 0
 Comes None n = Unit {0}
 Comes (Some left) n = n ≤ left
@@ -93,7 +95,7 @@ abbrev pub fewer : Option ℕ → ℕ → Option ℕ
 fewer None n = None
 fewer (Some left) n = Some (left - n)
 
--- a piece of what is in flight came, and its first n bytes were taken
+-- a piece of the bytes in flight arrived, and its first n bytes were taken
 pub record Taken (old : Way) (piece : List ℕ) (n : ℕ) (new : Way) : Type 0 where
   pub rest : List ℕ
   pub first : old.bytes ≡ piece ++ rest
@@ -101,7 +103,8 @@ pub record Taken (old : Way) (piece : List ℕ) (n : ℕ) (new : Way) : Type 0 w
   pub within : n ≤ length piece
   pub after : new ≡ record { bytes = drop n piece ++ rest; left = fewer old.left n }
 
--- Of the bytes in flight only the first n still come, and nothing that is put in from now on.
+-- The way is cut: only the first n of the bytes in flight still arrive, and none that are put in
+-- later.
 pub record IsCut (old : Way) (n : ℕ) (new : Way) : Type 0 where
   pub comes : Comes old.left n
   pub within : n ≤ length old.bytes
@@ -130,7 +133,7 @@ client_ended p = record p { client = ended p.client; client_told = true }
 
 -- ---- what a step leaves of the system
 
--- the client made a call, which is the last of the records
+-- the system after the client made a call, whose record is the last one
 abbrev pub issued : {H : Type 0} → System H → ℕ → Pair → CallKind → Content → CallNo → System H
 issued s c p kind payload number = record {
   pairs = pair_set s.pairs c (record p {
@@ -142,7 +145,7 @@ issued s c p kind payload number = record {
   handler = s.handler;
 }
 
--- the server is as it is now, and so are the handler and its log
+-- the system after an answer, with the server, the handler and the log that it left
 abbrev pub answered : {H : Type 0} → System H → ℕ → Pair → ServerView → H → List LogEntry → System H
 answered s c p server handler log = record {
   pairs = pair_set s.pairs c (record p { server = server });
@@ -151,7 +154,7 @@ answered s c p server handler log = record {
   handler = handler;
 }
 
--- the reply that is ready went into the record of its call, and was let go of
+-- the system after the ready reply went into the record of its call, and was released
 abbrev pub collected : {H : Type 0} → System H → ℕ → Pair → ReadyReply → Content → System H
 collected s c p reply part = record {
   pairs = pair_set s.pairs c (record p { client = released p.client });
@@ -160,7 +163,7 @@ collected s c p reply part = record {
   handler = s.handler;
 }
 
--- a pending call of this connection is lost
+-- the record, in which a pending call of this connection is lost
 abbrev pub lost_at : ℕ → Record → Record
 lost_at c x = record {
   connection = x.connection;
@@ -179,8 +182,7 @@ given_up s c p = record s {
 
 module _ (H : Type 0) (does : Does H) (stops : Stops H) (limit : ℕ) where
   pub data Step (old new : System H) : Type 0 where
-    -- a client and a server are made, for messages of at most so many bytes, and two ways between
-    -- them
+    -- a client and a server are made, with this limit on messages, and two ways between them
     pairs : (first_id : ℤ) (client_window server_window : ℕ) → pos 1 ≤ℤ first_id
         → FitsSigned w32 first_id
         → new ≡ paired old
@@ -195,7 +197,7 @@ module _ (H : Type 0) (does : Does H) (stops : Stops H) (limit : ℕ) where
     sends_up : (c : ℕ) (p : Pair) (n : ℕ) → pair_at old.pairs c ≡ Some p
         → n ≤ length p.client.requests.output → new ≡ with_pair old c (client_sent p n)
         → Step old new
-    -- the server is fed a piece that came, and takes n bytes
+    -- the server is fed a piece that arrived, and takes n bytes
     feeds_up : (c : ℕ) (p : Pair) (piece : List ℕ) (n : ℕ) (server : ServerView) (way : Way)
         → pair_at old.pairs c ≡ Some p
         → p.server.state ≡ servers.Open → length p.server.waiting < p.server.window
@@ -210,31 +212,31 @@ module _ (H : Type 0) (does : Does H) (stops : Stops H) (limit : ℕ) where
     -- the server's first n bytes are sent
     sends_down : (c : ℕ) (p : Pair) (n : ℕ) → pair_at old.pairs c ≡ Some p
         → n ≤ length p.server.output → new ≡ with_pair old c (server_sent p n) → Step old new
-    -- the client is fed a piece that came, and takes n bytes
+    -- the client is fed a piece that arrived, and takes n bytes
     feeds_down : (c : ℕ) (p : Pair) (piece : List ℕ) (n : ℕ) (client : ClientSeen) (way : Way)
         → pair_at old.pairs c ≡ Some p
         → MayTake p.client → Takes p.client piece n client → Taken p.down piece n way
         → new ≡ with_pair old c (record p { client = client; down = way }) → Step old new
-    -- the client's owner takes the reply that is ready
+    -- the client's owner collects the reply that is ready
     collects : (c : ℕ) (p : Pair) (reply : ReadyReply) (m : Message)
         → pair_at old.pairs c ≡ Some p → p.client.reply ≡ Some reply → SpellsMsg m p.client.held
         → new ≡ collected old c p reply m.content → Step old new
-    -- the server is told that no more bytes come, and the client is
+    -- an end is told that no more bytes come: the server, or the client
     ends_up : (c : ℕ) (p : Pair) → pair_at old.pairs c ≡ Some p
         → new ≡ with_pair old c (server_ended p) → Step old new
     ends_down : (c : ℕ) (p : Pair) → pair_at old.pairs c ≡ Some p → new ≡ given_up old c p
         → Step old new
-    -- a way is cut, and neither end knows
+    -- a way is cut, and neither end is told
     cuts_up : (c : ℕ) (p : Pair) (n : ℕ) (way : Way) → pair_at old.pairs c ≡ Some p
         → IsCut p.up n way → new ≡ with_pair old c (record p { up = way }) → Step old new
     cuts_down : (c : ℕ) (p : Pair) (n : ℕ) (way : Way) → pair_at old.pairs c ≡ Some p
         → IsCut p.down n way → new ≡ with_pair old c (record p { down = way }) → Step old new
 
-  -- step after step
+  -- steps lead from the first system to the last one
   pub data Steps (first : System H) : System H → Type 0 where
     stay : Steps first first
     go : {mid last : System H} → Steps first mid → Step mid last → Steps first last
 
--- what may come of a system, where messages have at most so many bytes
+-- steps lead from the first system to the last one, with this limit on messages
 abbrev pub Trace : {H : Type 0} → Does H → Stops H → ℕ → System H → System H → Type 0
 Trace {H} does stops limit first last = Steps H does stops limit first last

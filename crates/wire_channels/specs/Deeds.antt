@@ -10,12 +10,12 @@ use Rattle.wire_channels.specs.Owners.{Answers, EndsUp, SendsDown, TakesUp}
 
 -- ---- both
 
--- what happened, at the end of a connection: at its client or at its server
+-- what was done at an end of connection c: at its client, or at its server
 pub data Deed : Type 0 where
   AtClient : (c : ℕ) → (act : ClientAct) → Deed
   AtServer : (c : ℕ) → (act : ServerAct) → Deed
 
--- the deeds at the servers, one after the other
+-- the deeds at servers, one after another, lead from the old servers to the new ones
 abbrev pub ServersRun : {H : Type 0} → Does H → Stops H → ServerEnds H → List Deed → ServerEnds H
     → Type 0
 ServersRun does stops old [] new = new ≡ old
@@ -36,13 +36,13 @@ deeds_of [] = []
 deeds_of (Opens ∷ turns) = deeds_of turns
 deeds_of (Is deed ∷ turns) = deed ∷ deeds_of turns
 
--- how many servers are made
+-- how many servers are made in these turns
 abbrev pub opened_in : List Turn → ℕ
 opened_in [] = 0
 opened_in (Opens ∷ turns) = suc (opened_in turns)
 opened_in (Is deed ∷ turns) = opened_in turns
 
--- the servers, and the next one before its first request
+-- the servers, and one more before its first request
 abbrev pub opened : {H : Type 0} → (limit : ℕ) → (ℕ → Made) → ServerEnds H → ServerEnds H
 opened limit made old = record {
   servers = old.servers ++ new_server (suc (length old.servers))
@@ -51,7 +51,8 @@ opened limit made old = record {
   handler = old.handler;
 }
 
--- what the owner of the servers does, who makes them one after the other
+-- the turns of an owner who makes its servers one after another lead from the old ones to the new
+-- ones
 abbrev pub ServersGrow : {H : Type 0} → Does H → Stops H → (limit : ℕ) → (ℕ → Made) → ServerEnds H
     → List Turn → ServerEnds H → Type 0
 ServersGrow does stops limit made old [] new = new ≡ old
@@ -65,25 +66,25 @@ ServersGrow {H} does stops limit made old (Is (AtServer c act) ∷ turns) new =
 
 -- ---- what was done at each end
 
--- what the client of a connection did
+-- the acts at the client of connection c, in order
 abbrev pub acts_at : ℕ → List Deed → List ClientAct
 acts_at c [] = []
 acts_at c (AtClient d act ∷ deeds) = if d == c then act ∷ acts_at c deeds else acts_at c deeds
 acts_at c (AtServer d act ∷ deeds) = acts_at c deeds
 
--- what was done with the server of a connection
+-- the acts at the server of connection c, in order
 abbrev pub server_acts_at : ℕ → List Deed → List ServerAct
 server_acts_at c [] = []
 server_acts_at c (AtClient d act ∷ deeds) = server_acts_at c deeds
 server_acts_at c (AtServer d act ∷ deeds) =
     if d == c then act ∷ server_acts_at c deeds else server_acts_at c deeds
 
--- these bytes at one connection, and what was at the others
+-- these bytes for connection c, and the same as before for the others
 abbrev pub at_one : (ℕ → List ℕ) → ℕ → List ℕ → ℕ → List ℕ
 at_one f c bytes d = if d == c then bytes else f d
 
--- What an end takes are the first bytes in flight to it, where these are in flight up and down:
--- what was put in and not taken yet, in order.
+-- Bytes arrive in order: what an end takes in these deeds are the first bytes in flight to it. Up
+-- and down are the bytes in flight before the deeds, for each connection; what is sent joins them.
 abbrev pub Arrive : (up down : ℕ → List ℕ) → List Deed → Type 0
 Arrive up down [] = Unit {0}
 Arrive up down (AtClient c (Calls kind payload number) ∷ deeds) = Arrive up down deeds
@@ -102,8 +103,8 @@ Arrive up down (AtServer c EndsUp ∷ deeds) = Arrive up down deeds
 
 -- ---- what comes of it
 
--- Each record that the owner of a client has is the system's, under its own index, and the system
--- has no other one. So is the log.
+-- The system has these ends, exactly the records that the owners of the clients have, each at an
+-- index of its own, and the log of the servers.
 pub record AreOf {H : Type 0} (k : ℕ) (ends : ℕ → ClientEnd) (servers : ServerEnds H) (s : System H)
     : Type 0 where
   pub pair : (c : ℕ) → 1 ≤ c → c ≤ k → (p : Pair) × (pair_at s.pairs c ≡ Some p)
@@ -120,7 +121,7 @@ pub record AreOf {H : Type 0} (k : ℕ) (ends : ℕ → ClientEnd) (servers : Se
       × (slice_get p.calls n ≡ Some i) × (slice_get (ends x.connection).records n ≡ Some x)
   pub log : s.log ≡ servers.log
 
--- the owners of the ends have a run in common
+-- the owners of the ends have one run of a system in common
 pub record Common {H : Type 0} (does : Does H) (stops : Stops H) (limit k : ℕ) (first : H)
     (ends : ℕ → ClientEnd) (servers : ServerEnds H) : Type 0 where
   pub s : System H

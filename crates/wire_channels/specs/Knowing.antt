@@ -12,7 +12,7 @@ use Rattle.wire_channels.specs.Deeds.{Deed, acts_at, server_acts_at}
 
 -- ---- calls, by whatever they are numbered
 
--- the entry that a place names
+-- the place names this entry
 abbrev pub Names : Place → ℕ → Type 0
 Names p e = (p ≡ Answered e) ⊎ (p ≡ Mute e)
 
@@ -23,18 +23,19 @@ pub record IsEntry (log : List LogEntry) (e : ℕ) (x : Record) : Type 0 where
   pub connection : entry.connection ≡ x.connection
   pub payload : entry.payload ≡ x.asked.payload
 
--- The record holds a beginning of the answers of the entry that the place names, and not all of
--- them; or nothing, where no entry is named, or one with no answers.
+-- The record holds a beginning of the answers of the entry that the place names, but not all of
+-- them; or nothing, if the place names no entry, or one without answers.
 abbrev pub HoldsBeginning : List LogEntry → Place → Record → Type 0
 HoldsBeginning log p x =
     ((e : ℕ) × (is : IsEntry log e x) × Names p e × Owes is.entry.answers x.parts)
     ⊎ ((x.parts ≡ []) × ((e : ℕ) → Names p e → (is : IsEntry log e x) × (is.entry.answers ≡ None)))
 
--- Calls with these records keep the headline, as calls of the machine: each is one of its calls,
--- and the place of that one tells where its request is. One that is done holds exactly the answers
--- of its own entry; no two have one entry, and each entry is one's; an unacknowledged one holds
--- none; a pending or lost one holds a beginning of its answers and not all of them, or nothing; one
--- that is mute, or never comes, holds none and is never done.
+-- The headline holds of calls with these records. Each of them is a call of the machine, whose
+-- place tells where its request is. A call that is done holds exactly the answers of its own entry.
+-- No two calls share an entry, and each entry is that of a call. An unacknowledged call is sent,
+-- and holds no answers. A pending or lost call holds a beginning of its entry's answers but not all
+-- of them, or nothing. A call whose entry gives no reply, or that never has an entry, holds nothing
+-- and is never done.
 pub record Owned {H : Type 0} {I : Type 0} (m : Machine H) (IsCall : I → Record → Type 0)
     : Type 0 where
   pub number : I → ℕ
@@ -59,7 +60,8 @@ pub record Owned {H : Type 0} {I : Type 0} (m : Machine H) (IsCall : I → Recor
 
 -- ---- what the owners of the ends know
 
--- call n of the client of a connection, of which there are k, has this record with its owner
+-- call n of the client of connection c has this record with its owner; connections are numbered
+-- from 1 to k
 abbrev pub IsCallOf : ℕ → (ℕ → ClientEnd) → ℕ × ℕ → Record → Type 0
 IsCallOf k ends (c, n) x = (1 ≤ c) × (c ≤ k) × (slice_get (ends c).records n ≡ Some x)
 
@@ -68,7 +70,7 @@ pub record NoneInFlight (c : ℕ) (deeds : List Deed) : Type 0 where
   pub up : bytes_taken_up (server_acts_at c deeds) ≡ bytes_sent (acts_at c deeds)
   pub down : bytes_taken (acts_at c deeds) ≡ bytes_sent_down (server_acts_at c deeds)
 
--- Both ends are open, nothing is in flight or has yet to be sent, nothing waits, and no reply is
+-- Both ends are open, nothing is in flight or has yet to be sent, no request waits, and no reply is
 -- ready.
 pub record AreQuiet (c : ℕ) (deeds : List Deed) (client : ClientEnd) (server : ServerView)
     : Type 0 where
@@ -80,8 +82,8 @@ pub record AreQuiet (c : ℕ) (deeds : List Deed) (client : ClientEnd) (server :
   pub none_waits : server.waiting ≡ []
   pub none_ready : client.client.reply ≡ None
 
--- After these deeds the records that the owners of the clients have keep the headline, over the log
--- of the servers; and where both ends of a connection are quiet, each of its acknowledged calls is
+-- After these deeds the headline holds of the records that the owners of the clients have, with the
+-- log of the servers. If both ends of a connection are quiet, each of its acknowledged calls is
 -- done.
 pub record OwnersKnow {H : Type 0} (does : Does H) (stops : Stops H) (k : ℕ) (first : H)
     (deeds : List Deed) (ends : ℕ → ClientEnd) (servers : ServerEnds H) : Type 0 where

@@ -1,9 +1,9 @@
--- Ends that are told their limits apart.
+-- Ends with limits of their own.
 use Rattle.std.specs.Prelude.{ℕ, zero, suc, List, [], ◌∷◌, ◌++◌}
 use Rattle.wire_peer.specs.{ServerView, new_server}
 use Rattle.wire_channels.specs.Owners.{Made, ServerEnds}
 
--- servers before their first requests, each with a limit of a message of its own
+-- servers before their first requests, each with its own limit on messages
 abbrev pub servers_with : (limits : ℕ → ℕ) → (ℕ → Made) → ℕ → List ServerView
 servers_with limits made zero = []
 servers_with limits made (suc k) =

@@ -22,7 +22,8 @@ pub record ClientEnd : Type 0 where
   pub client : ClientSeen
   pub records : List Record
 
--- what the owner of a client does
+-- an act of a client's owner: it makes a call, sends bytes, feeds bytes, collects a reply, or tells
+-- the end
 pub data ClientAct : Type 0 where
   Calls : (kind : CallKind) → (payload : Payload) → (number : CallNo) → ClientAct
   SendsUp : (bytes : List ℕ) → ClientAct
@@ -30,8 +31,8 @@ pub data ClientAct : Type 0 where
   Collects : (reply : ReadyReply) → (m : Message) → ClientAct
   EndsDown : ClientAct
 
--- the client of this connection is called, its first bytes are sent, it takes bytes, its reply is
--- recorded and let go of, or it is told the end
+-- The act leads from the old end to the new one: the client makes a call, its first output bytes
+-- are sent, it takes bytes, its ready reply is recorded and released, or it is told the end.
 abbrev pub ClientDoes : ℕ → ClientAct → ClientEnd → ClientEnd → Type 0
 ClientDoes c (Calls kind payload number) old new =
     IsCalled old.client kind (content_of payload) number
@@ -54,13 +55,13 @@ ClientDoes c (Collects reply m) old new =
 ClientDoes c EndsDown old new =
     new ≡ record { client = ended old.client; records = map lost_record old.records }
 
--- the acts of a client's owner, one after the other
+-- the acts of a client's owner, one after another, lead from the old end to the new one
 abbrev pub ClientRun : ℕ → ClientEnd → List ClientAct → ClientEnd → Type 0
 ClientRun c old [] new = new ≡ old
 ClientRun c old (a ∷ acts) new =
     (mid : ClientEnd) × ClientDoes c a old mid × ClientRun c mid acts new
 
--- what an act sends, and what it takes
+-- the bytes that an act sends, and those that it takes
 abbrev pub sent_by : ClientAct → List ℕ
 sent_by (Calls kind payload number) = []
 sent_by (SendsUp bytes) = bytes
@@ -86,20 +87,21 @@ bytes_taken (act ∷ acts) = taken_by act ++ bytes_taken acts
 
 -- ---- the owner of the servers
 
--- servers by the numbers of their connections, from 1, and one handler with its log
+-- the servers, by the numbers of their connections, from 1, and one handler with its log
 pub record ServerEnds (H : Type 0) : Type 0 where
   pub servers : List ServerView
   pub log : List LogEntry
   pub handler : H
 
--- what the owner of the servers does with one of them
+-- an act with one of the servers: its owner feeds bytes, has a request answered, sends bytes, or
+-- tells the end
 pub data ServerAct : Type 0 where
   TakesUp : (bytes : List ℕ) → ServerAct
   Answers : (i : ℕ) → (result : Result ℕ AnswerRefusal) → ServerAct
   SendsDown : (bytes : List ℕ) → ServerAct
   EndsUp : ServerAct
 
--- what an act of a server's owner sends, and what it takes
+-- the bytes that such an act sends, and those that it takes
 abbrev pub sent_down_by : ServerAct → List ℕ
 sent_down_by (TakesUp bytes) = []
 sent_down_by (Answers i result) = []
@@ -143,7 +145,7 @@ ServerDoes does stops (SendsDown bytes) s log h s' log' h' =
     × (h' ≡ h)
 ServerDoes does stops EndsUp s log h s' log' h' = (s' ≡ ended_server s) × (log' ≡ log) × (h' ≡ h)
 
--- one of the servers does, and the others stay
+-- the act is done with the server of connection c, and the other servers stay as they are
 pub record ServersDo {H : Type 0} (does : Does H) (stops : Stops H) (c : ℕ) (act : ServerAct)
     (old new : ServerEnds H) : Type 0 where
   pub s : ServerView
@@ -154,12 +156,13 @@ pub record ServersDo {H : Type 0} (does : Does H) (stops : Stops H) (c : ℕ) (a
 
 -- ---- connections that are made before anything happens
 
--- what a client and its server are made with
+-- the numbers with which a client and its server are made
 pub record Made : Type 0 where
   pub first_id : ℤ
   pub client_window : ℕ
   pub server_window : ℕ
 
+-- each first id is from 1 to the greatest int32
 abbrev pub AreMade : (ℕ → Made) → Type 0
 AreMade made = (c : ℕ) → (pos 1 ≤ℤ (made c).first_id) × FitsSigned w32 (made c).first_id
 

@@ -10,8 +10,8 @@ use Rattle.wire_model.specs.{given_record, with_client_output, with_server_outpu
 use Rattle.wire_channels.specs.Channels.{Pair, System, pair_at}
 use Rattle.wire_channels.specs.Knowing.{Owned}
 
--- What is in flight is as if its sender had it yet, and a reply that is ready as if it had been let
--- go of.
+-- A pair, seen as a connection of a world: bytes in flight are in their sender's output still, and
+-- a reply that is ready is released already.
 abbrev pub seen_client : Pair → ClientSeen
 seen_client p = with_client_output (released p.client) (p.up.bytes ++ p.client.requests.output)
 
@@ -28,7 +28,7 @@ seen_as p = record {
   down_cut = p.client_told;
 }
 
--- the world, with these records; its pool has no part in it
+-- the world that a system shows, with these records; its pool doesn't matter
 abbrev pub world_of : {H : Type 0} → System H → List Record → World H
 world_of s calls = record {
   pool = new_pool 1;
@@ -40,8 +40,7 @@ world_of s calls = record {
 
 -- ---- the records
 
--- the client of the connection has a reply ready, to the call of this index, that its owner hasn't
--- taken
+-- the client of connection c has a reply ready to call i, which its owner hasn't collected
 pub record IsReady (ps : List Pair) (i c : ℕ) : Type 0 where
   pub p : Pair
   pub at : pair_at ps c ≡ Some p
@@ -49,7 +48,7 @@ pub record IsReady (ps : List Pair) (i c : ℕ) : Type 0 where
   pub ready : p.client.reply ≡ Some reply
   pub index : slice_get p.calls reply.call ≡ Some i
 
--- the world's record has that reply too
+-- the world's record is the owner's, with that reply added
 pub record IsAhead (ps : List Pair) (i : ℕ) (x y : Record) : Type 0 where
   pub is : IsReady ps i x.connection
   pub m : Message
@@ -57,12 +56,12 @@ pub record IsAhead (ps : List Pair) (i : ℕ) (x y : Record) : Type 0 where
   pub not_done : (x.state ≡ Pending) ⊎ (x.state ≡ Lost)
   pub given : y ≡ given_record x m.content is.reply.last
 
--- The world's record of call i is its owner's one, except for a reply that is ready.
+-- The world's record of call i is its owner's, with a reply added if one is ready.
 abbrev pub Agree : List Pair → ℕ → Record → Record → Type 0
 Agree ps i x y = ((y ≡ x) × (IsReady ps i x.connection → ⊥)) ⊎ IsAhead ps i x y
 
 -- Neither end of the pair was told that no more bytes come, and its server wasn't closed by an
--- answer; nothing is in flight or has yet to be sent, nothing waits, and no reply is ready.
+-- answer; nothing is in flight or has yet to be sent, no request waits, and no reply is ready.
 pub record IsQuietPair (ps : List Pair) (c : ℕ) : Type 0 where
   pub p : Pair
   pub at : pair_at ps c ≡ Some p
@@ -76,9 +75,9 @@ pub record IsQuietPair (ps : List Pair) (c : ℕ) : Type 0 where
   pub none_waits : p.server.waiting ≡ []
   pub none_ready : p.client.reply ≡ None
 
--- The world that the system shows keeps the headline, where its records are the owners' ones but
--- for replies that are ready; and so do the owners' records themselves. On a quiet pair each
--- acknowledged call is done with its owner.
+-- The headline holds of the world that the system shows, whose records are those of the owners with
+-- ready replies added. It holds of the owners' own records, too. On a quiet pair each acknowledged
+-- call is done in its owner's records.
 pub record Channelled {H : Type 0} (does : Does H) (stops : Stops H) (first : H) (s : System H)
     : Type 0 where
   pub calls : List Record

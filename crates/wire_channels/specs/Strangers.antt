@@ -1,5 +1,5 @@
--- Servers by themselves, whoever asks them, and pairs beside strangers: connections at whose other
--- ends there may be anything.
+-- What holds of servers alone, whoever asks them, and of pairs beside strangers: connections whose
+-- client ends may be anything.
 use Rattle.std.specs.Prelude.{◌≡◌, ℕ, Bool, false, if◌then◌else◌, Option, Some, List, [], ◌∷◌}
 use Rattle.std.specs.Prelude.{slice_get}
 use Rattle.wire_msg.specs.{Content, Message, Split}
@@ -13,9 +13,9 @@ use Rattle.wire_channels.specs.Knowing.{AreQuiet, IsCallOf, Owned}
 
 -- ---- servers by themselves
 
--- The bytes that the server of a connection took are messages and a rest, in one way. Each entry of
--- the connection, in the order of the log, is of the payload of one of these messages, the one of
--- this index; and no two entries are of one message.
+-- What the server of connection c took splits into messages and a rest, in exactly one way. Each
+-- entry of the connection has the payload of one of these messages, and no two entries are of the
+-- same message. The indexes are those of the messages, entry by entry.
 pub record OwnEntries (limit c : ℕ) (taken : List ℕ) (log : List LogEntry) : Type 0 where
   pub messages : List Message
   pub rest : List ℕ
@@ -30,7 +30,7 @@ pub record OwnEntries (limit c : ℕ) (taken : List ℕ) (log : List LogEntry) :
 
 -- ---- pairs beside strangers
 
--- the deeds at connections that aren't strangers'
+-- the deeds at connections that are no strangers
 abbrev pub deeds_beside : (ℕ → Bool) → List Deed → List Deed
 deeds_beside strange [] = []
 deeds_beside strange (AtClient c act ∷ deeds) =
@@ -38,21 +38,21 @@ deeds_beside strange (AtClient c act ∷ deeds) =
 deeds_beside strange (AtServer c act ∷ deeds) =
     if strange c then deeds_beside strange deeds else AtServer c act ∷ deeds_beside strange deeds
 
--- the entries of such connections
+-- the entries of connections that are no strangers
 abbrev pub log_beside : (ℕ → Bool) → List LogEntry → List LogEntry
 log_beside strange [] = []
 log_beside strange (en ∷ log) =
     if strange en.connection then log_beside strange log else en ∷ log_beside strange log
 
 module _ {H : Type 0} (does : Does H) (stops : Stops H) where
-  -- strangers asked the handler, so many times
+  -- strangers asked the handler any number of times, from the first state to the last one
   pub data Strayed (h : H) : H → Type 0 where
     none : Strayed h h
     once_more : {mid last : H} → Strayed h mid → (a : Asked) (answers : Option (List Content))
         → LogStep does stops mid a answers last → Strayed h last
 
--- To the pairs what strangers ask is a change of the handler's state: it answers, or stops, after
--- that.
+-- How the handler answers, or stops, as the pairs see it: what strangers ask may change its state
+-- before.
 abbrev pub does_beside : {H : Type 0} → Does H → Stops H → Does H
 does_beside {H} does stops h a answers h' =
     (mid : H) × Strayed does stops h mid × does mid a answers h'
@@ -61,12 +61,13 @@ abbrev pub stops_beside : {H : Type 0} → Does H → Stops H → Stops H
 stops_beside {H} does stops h a stop h' =
     (mid : H) × Strayed does stops h mid × stops mid a stop h'
 
--- call n of the client of a connection that isn't a stranger's
+-- call n of the client of connection c, which is no stranger, has this record with its owner
 abbrev pub IsPairCall : (ℕ → Bool) → ℕ → (ℕ → ClientEnd) → ℕ × ℕ → Record → Type 0
 IsPairCall strange k ends (c, n) x = (strange c ≡ false) × IsCallOf k ends (c, n) x
 
--- After these deeds the records that the owners of the pairs' clients have keep the headline, over
--- the log without the strangers' entries, as they do where there are none (`OwnersKnow`).
+-- After these deeds the headline holds of the records that the owners of the pairs' clients have,
+-- with the log without the strangers' entries. It is what `OwnersKnow` says where there are no
+-- strangers.
 pub record PairsKnow {H : Type 0} (does : Does H) (stops : Stops H) (strange : ℕ → Bool) (k : ℕ)
     (first : H) (deeds : List Deed) (ends : ℕ → ClientEnd) (servers : ServerEnds H) : Type 0 where
   pub m : Machine H

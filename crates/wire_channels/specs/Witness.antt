@@ -30,7 +30,8 @@ record_with payload kind parts state = record {
   state = state;
 }
 
--- Over one connection, the client's calls with this payload, one of each kind, are done or sent.
+-- There is a run over one connection in which the client's calls with this payload, one of each
+-- kind, get done or are sent.
 pub record GetDone (limit : ℕ) (payload : Payload) : Type 0 where
   pub deeds : List Deed
   pub ends : ℕ → ClientEnd

@@ -12,8 +12,9 @@ use Rattle.wire_channels.specs.Channels as channels
 
 -- ---- how much is left
 
--- Of the requests: each byte that has yet to be sent, or to be taken, and each one that waits. A
--- byte counts less once it is sent, and no more than one request comes of it.
+-- The work left on requests: 3 for each byte that has yet to be sent, 2 for each byte in flight,
+-- and 1 for each request that waits. It falls with each byte that is sent or taken, since a byte
+-- completes at most one request.
 abbrev pub up_work : Pair → ℕ
 up_work p =
     3 * length p.client.requests.output + 2 * length p.up.bytes + length p.server.waiting
@@ -22,13 +23,13 @@ abbrev pub ready_work : Option ReadyReply → ℕ
 ready_work None = 0
 ready_work (Some reply) = 1
 
--- of the replies, one that is ready among them
+-- the work left on replies, likewise, and 1 for a reply that is ready
 abbrev pub down_work : Pair → ℕ
 down_work p =
     3 * length p.server.output + 2 * length p.down.bytes + ready_work p.client.reply
 
--- Less of the requests is left, or as much of them and less of the replies: an answer may put out
--- as many bytes as it likes.
+-- Less work on requests is left, or as much of it and less work on replies. An answer may put out
+-- any number of bytes, so it may add work on replies.
 abbrev pub IsLess : (new old : Pair) → Type 0
 IsLess new old =
     (up_work new < up_work old)
@@ -36,7 +37,7 @@ IsLess new old =
 
 -- ---- steps that do some of it
 
--- a request was answered, or its server closed over it
+-- a request was answered, or its server closed at it
 abbrev pub IsAnswered : Result ℕ AnswerRefusal → Type 0
 IsAnswered (Ok n) = Unit {0}
 IsAnswered (Err (refusals.NowClosed cause)) = Unit {0}
@@ -64,7 +65,7 @@ module _ (H : Type 0) (does : Does H) (stops : Stops H) (limit : ℕ) where
   IsWork c old new (channels.cuts_up d p n way at t e) = ⊥
   IsWork c old new (channels.cuts_down d p n way at t e) = ⊥
 
-  -- less is left of pair c, and the other pairs are as they were
+  -- less work is left at pair c, and the other pairs are as they were
   pub record Falls (old new : System H) (c : ℕ) (p : Pair) : Type 0 where
     pub q : Pair
     pub at : pair_at new.pairs c ≡ Some q
@@ -73,8 +74,8 @@ module _ (H : Type 0) (does : Does H) (stops : Stops H) (limit : ℕ) where
 
   -- ---- what can be done
 
-  -- Requests wait at an open server. Whatever comes of answering one of them, it is answered, or
-  -- its server closes over it, or memory runs out.
+  -- Requests wait at an open server. Whenever the server is to answer one of them, it does, or it
+  -- closes at it, or memory runs out.
   pub record MayAnswer (s : System H) (p : Pair) : Type 0 where
     pub is_open : p.server.state ≡ servers.Open
     pub some_wait : p.server.waiting ≢ []
@@ -83,7 +84,7 @@ module _ (H : Type 0) (does : Does H) (stops : Stops H) (limit : ℕ) where
         → AnswerStep does stops i result p.server s.handler s.log server handler log
         → IsAnswered result ⊎ (result ≡ Err refusals.OutOfMemory)
 
-  -- There is a step that does some of the work, or a request to answer.
+  -- There is a step that does some of the work at pair c, or a request there to answer.
   abbrev pub CanGoOn : (s : System H) (c : ℕ) (p : Pair) → Type 0
   CanGoOn s c p =
       ∥ ((s' : System H) × (step : Step H does stops limit s s') × IsWork c s s' step) ∥₁

@@ -1,4 +1,4 @@
-//! The laws of pairs. The contract of a function is the law.
+//! Proves the laws of pairs. The contract of each function is the law.
 
 ghost use Rattle.std.specs.Prelude.{◌≡◌, ◌≤◌, [], ◌++◌, ℕ, ℤ, Bool, false, List, Some};
 ghost use Rattle.bson_elem.specs.{IsBytes};
@@ -21,24 +21,24 @@ ghost use Rattle.wire_channels.specs.Work.{CanGoOn, Falls, IsLive, IsWork};
 
 use wire_peer::Handler;
 
-/// Proves that these laws speak of something: that there is a run in which a plain call, an exhaust
-/// call with two replies and an unacknowledged one are done or sent, whatever their payload is.
+/// Proves that the other laws speak of something: for any payload there is a run in which a plain
+/// call and an exhaust call with two replies get done, and an unacknowledged call is sent.
 pub fn calls_get_done()
     ensures { (limit : ℕ) (payload : Carried) → IsLimit limit
         → message_len (content_of payload) ≤ limit → ∥ GetDone limit payload ∥₁ }
 {}
 
-/// Proves that whatever public calls are made at the ends of pairs, and whatever of the bytes in
-/// flight comes, the headline holds.
+/// Proves that whatever public calls are made at the ends of pairs, and however many of the bytes
+/// in flight arrive, the headline holds.
 pub fn channels_hold<H: Handler>()
     ensures { (limit : ℕ) (first : H) (s : System H)
         → IsLimit limit → Trace H.does H.stops limit (no_pairs first) s
         → Channelled H.does H.stops first s }
 {}
 
-/// Proves that where the owners of clients and the owner of their servers do what they do in some
-/// order, in which what each end takes are the first bytes in flight to it, all of them have one
-/// run of pairs in common.
+/// Proves that the owners of clients and the owner of their servers have one run of pairs in
+/// common, if there is an order of all that they did in which each end takes the first bytes in
+/// flight to it.
 pub fn halves_meet<H: Handler>()
     ensures { (limit k : ℕ) (first : H) (made : ℕ → Made) (deeds : List Deed)
         (ends : ℕ → ClientEnd) (servers : ServerEnds H)
@@ -49,9 +49,9 @@ pub fn halves_meet<H: Handler>()
         → Common H.does H.stops limit k first ends servers }
 {}
 
-/// Proves that after what all owners did the records that the owners of the clients have keep the
-/// headline, over the log of the servers, and that on a connection whose ends are quiet every
-/// acknowledged call is done.
+/// Proves that after all that the owners did the headline holds of the records that the owners of
+/// the clients have, with the log of the servers, and that on a connection whose ends are quiet
+/// every acknowledged call is done.
 pub fn owners_know<H: Handler>()
     ensures { (limit k : ℕ) (first : H) (made : ℕ → Made) (deeds : List Deed)
         (ends : ℕ → ClientEnd) (servers : ServerEnds H)
@@ -62,8 +62,8 @@ pub fn owners_know<H: Handler>()
         → OwnersKnow H.does H.stops k first deeds ends servers }
 {}
 
-/// Proves that what the owner of a client did, and then did from there on, is one run, and so are
-/// the bytes.
+/// Proves that a run of a client's owner, and one that goes on from where it ended, are one run,
+/// which sends and takes the bytes of both.
 pub fn runs_go_on()
     ensures { (c : ℕ) (acts more : List ClientAct) (old mid new : ClientEnd)
         → ClientRun c old acts mid → ClientRun c mid more new
@@ -72,15 +72,15 @@ pub fn runs_go_on()
         × (bytes_taken (acts ++ more) ≡ bytes_taken acts ++ bytes_taken more) }
 {}
 
-/// Proves that what the owner of the servers did, and then did from there on, is one run.
+/// Proves that a run of the servers' owner, and one that goes on from where it ended, are one run.
 pub fn servers_go_on<H: Handler>()
     ensures { (deeds more : List Deed) (old mid new : ServerEnds H)
         → ServersRun H.does H.stops old deeds mid → ServersRun H.does H.stops mid more new
         → ServersRun H.does H.stops old (deeds ++ more) new }
 {}
 
-/// Proves that where the owner of the servers makes them one after the other, as connections come,
-/// what it did is a run with all of them there from the start.
+/// Proves that if the owner of the servers makes them one after another, as connections come, what
+/// it does is also a run in which all of them are there from the start.
 pub fn servers_may_come<H: Handler>()
     ensures { (limit : ℕ) (first : H) (made : ℕ → Made) (turns : List Turn) (new : ServerEnds H)
         → ServersGrow H.does H.stops limit made (first_servers_of limit made 0 first) turns new
@@ -88,12 +88,14 @@ pub fn servers_may_come<H: Handler>()
         (deeds_of turns) new }
 {}
 
-/// Proves what holds of a client, whoever answers it, over any calls and any pieces of any bytes.
+/// Proves what holds of a client alone, whoever answers it, for any calls and any pieces of any
+/// bytes.
 ///
-/// The replies that it handed out are messages of the one split of what it received, in order, each
-/// once, each to the call that owns it, and none behind a call's last. The record of a call has the
-/// contents of those to it, and is done just where the last one was. The client is closed by the
-/// first message that is bad or nobody's, with that cause.
+/// What it received splits into messages and a rest, in exactly one way. The replies that it handed
+/// out are these messages in order, each once, each to the call that owns it, and none after a
+/// call's last one. The record of a call has the contents of the replies to it, and is done exactly
+/// if it got the last one. The first message that is bad or belongs to no call closes the client,
+/// with that cause.
 pub fn a_client_holds_alone()
     ensures { (c limit window : ℕ) (first_id : ℤ) (acts : List ClientAct) (new : ClientEnd)
         → IsBytes (bytes_taken acts)
@@ -101,9 +103,9 @@ pub fn a_client_holds_alone()
         → HoldsAlone limit acts new }
 {}
 
-/// Proves that where both ends of a pair are open and no way is cut, there is something to do until
-/// the pair is quiet: a step that sends bytes, feeds an end or collects a reply, or a request to
-/// answer.
+/// Proves that if both ends of a pair are open and neither way is cut, there is something to do
+/// until the pair is quiet: a step that sends bytes, feeds an end or collects a reply, or a request
+/// to answer.
 pub fn pairs_go_on<H: Handler>()
     ensures { (limit : ℕ) (first : H) (s : System H) (c : ℕ) (p : Pair)
         → IsLimit limit → Trace H.does H.stops limit (no_pairs first) s
@@ -111,8 +113,8 @@ pub fn pairs_go_on<H: Handler>()
         → CanGoOn H H.does H.stops limit s c p }
 {}
 
-/// Proves that each step that does some of the work of a pair leaves less of it, so that such steps
-/// come to an end where no call is made, and that it leaves the other pairs alone.
+/// Proves that each step that does some of the work at a pair leaves less of it, and leaves the
+/// other pairs as they were. So such steps come to an end if no more calls are made.
 pub fn work_falls<H: Handler>()
     ensures { (limit : ℕ) (first : H) (s s' : System H) (c : ℕ) (p : Pair)
         → IsLimit limit → Trace H.does H.stops limit (no_pairs first) s
@@ -121,9 +123,9 @@ pub fn work_falls<H: Handler>()
         → Falls H H.does H.stops limit s s' c p }
 {}
 
-/// Proves that strangers beside the pairs, connections at whose other ends there may be anything,
-/// disturb none of them: the headline of the pairs holds as it does without strangers, whatever
-/// bytes these send. To the pairs what strangers ask is a change of the handler's state.
+/// Proves that strangers disturb no pair: whatever bytes they send, the headline of the pairs holds
+/// as it does without them. Strangers are connections whose client ends may be anything. For the
+/// pairs, what strangers ask only changes the handler's state.
 pub fn strangers_disturb_none<H: Handler>()
     ensures { (limit k : ℕ) (first : H) (made : ℕ → Made) (strange : ℕ → Bool) (deeds : List Deed)
         (ends : ℕ → ClientEnd) (servers : ServerEnds H)
@@ -135,9 +137,9 @@ pub fn strangers_disturb_none<H: Handler>()
         → PairsKnow H.does H.stops strange k first deeds ends servers }
 {}
 
-/// Proves what holds of the servers, whoever asks them, with any bytes: the entries of a connection
-/// are of messages of the one split of what its server took, each of one of them, and no two of the
-/// same one.
+/// Proves what holds of the servers alone, whoever asks them, with any bytes. What the server of a
+/// connection took splits into messages and a rest, in exactly one way. Each entry of the
+/// connection has the payload of one of these messages, and no two entries are of the same message.
 pub fn servers_hold_alone<H: Handler>()
     ensures { (limit k c : ℕ) (first : H) (made : ℕ → Made) (deeds : List Deed)
         (servers : ServerEnds H)
@@ -146,9 +148,8 @@ pub fn servers_hold_alone<H: Handler>()
         → OwnEntries limit c (bytes_taken_up (server_acts_at c deeds)) servers.log }
 {}
 
-/// Proves that the ends of a connection may be told their limits apart, each any one in its range:
-/// what holds of ends with one limit holds of these. What is lost is that an end stays open: it
-/// closes where a message is too long for it.
+/// Proves that each end of a connection may have its own limit on messages: what `owners_know` says
+/// holds of such ends, too. But an end closes at a message that is too long for it.
 pub fn limits_may_differ<H: Handler>()
     ensures { (client_limit server_limit : ℕ → ℕ) (k : ℕ) (first : H) (made : ℕ → Made)
         (deeds : List Deed) (ends : ℕ → ClientEnd) (servers : ServerEnds H)

@@ -1,13 +1,14 @@
 //! Connections whose two ends are apart: a client here, a server there, and bytes in flight between
 //! them.
 //!
-//! Neither end knows of the other but by what comes. `specs/Channels.antt` says what may be done at
-//! either end, and what may become of the bytes; `specs/Owners.antt` what the owner of one end does
-//! call by call, seen from there alone. The laws say that the headline holds of the calls as their
-//! owners have them, and that owners who each tell what they did themselves have one run in common,
-//! where bytes arrive in order. `specs/Alone.antt` says what holds of a client whoever answers it,
-//! `specs/Strangers.antt` the same of servers, and of pairs beside strangers, and `specs/Work.antt`
-//! what there is to do at a pair until it is quiet.
+//! Neither end knows more of the other than the bytes that arrive. `specs/Channels.antt` says what
+//! may be done at either end, and what may happen to the bytes. `specs/Owners.antt` says what the
+//! owner of one end does, call by call, seen from that end alone. The laws say that the headline
+//! holds of the calls as their owners record them, and that owners who each tell only what they did
+//! themselves have one run in common, if bytes arrive in order. `specs/Alone.antt` says what holds
+//! of a client whoever answers it, `specs/Strangers.antt` what holds of servers whoever asks them,
+//! and of pairs beside strangers, and `specs/Work.antt` what there is to do at a pair until it is
+//! quiet.
 //!
 //! Stands on wire_model, and on the code of wire_peer and wire_stream. wire_end stands on it.
 //! Read first: `specs/Channels.antt` and `specs/Seen.antt`, then `specs/Owners.antt`,

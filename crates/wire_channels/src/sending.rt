@@ -1,4 +1,4 @@
-//! One step of the owner of a client: bytes go over a link.
+//! Sends bytes of a client over a link, as its owner does.
 
 ghost use Rattle.std.specs.Prelude.{◌≡◌, ◌++◌, ℕ, List};
 ghost use Rattle.std.specs.Io.KnownBytes.{Appends};
@@ -8,12 +8,12 @@ ghost use Rattle.wire_channels.specs.Owners.{ClientDoes, SendsUp};
 use wire_peer::Client;
 use wire_stream::{Link, LinkFault, Moved};
 
-/// Sends the first bytes that wait in `client` over `link`, as many as it takes at once. Returns
-/// how many.
+/// Sends the first bytes that wait in `client` over `link`, as many as the link takes in one call.
+/// Returns how many.
 ///
 /// # Errors
 ///
-/// `LinkFault` where the link failed; none were sent then.
+/// Returns `LinkFault` if the link failed. No bytes were sent then.
 pub fn send_some<L: Link>(link: &mut L, client: &mut Client) -> Result<Moved, LinkFault>
     ensures { (bytes : List ℕ) × Appends (L.sent link.old) (L.sent link.new) bytes
         × ((c : ℕ) (records : List Record) → ClientDoes c (SendsUp bytes)
