@@ -12,7 +12,7 @@ use std::alloc::{AllocError, Global};
 /// The number 1 as a double.
 const ONE: [u8; 8] = [0, 0, 0, 0, 0, 0, 0xf0, 0x3f];
 
-/// The batch of a cursor that an answer has.
+/// Which batch of a cursor an answer has.
 #[derive(Clone, Copy, Debug, PartialEq, Eq)]
 pub enum Batch {
     /// The first one.
@@ -69,7 +69,7 @@ pub fn set_ok(alloc: Global, answer: &mut Document) -> Result<(), AllocError>
     set(alloc, answer, "ok", Bson::Double(ONE))
 }
 
-/// Makes the answer that says only that a command was carried out.
+/// Makes the answer with `ok` alone, which says that a command was carried out.
 pub fn ok_alone(alloc: Global) -> Result<Document, AllocError>
     ensures { IfOk result (λ d. d ≡ ok_alone) }
 {

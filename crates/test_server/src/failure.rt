@@ -49,7 +49,7 @@ impl CommandError {
         }
     }
 
-    /// Returns the name that belongs to that number.
+    /// Returns the name of the error, which goes with its number.
     pub fn code_name(self) -> &'static str
         ensures { result.now ≡ code_name_of self }
     {

@@ -1,4 +1,4 @@
-//! Answers requests: this is the server's handler.
+//! Answers requests, as the server's handler.
 
 ghost use Rattle.std.specs.Prelude.{◌≡◌, ◌++◌, ◌∷◌, [], IfErr, OnErr, OnOk};
 ghost use Rattle.bson_doc.specs.{tree_of};
@@ -12,7 +12,7 @@ use bson_doc::{DocRefusal, Document};
 use wire_msg::MsgRefusal;
 use wire_peer::{Answers, Handler, HandlerStop, Request};
 
-/// Appends an answer.
+/// Appends `answer` to the answers of a request.
 fn put_answer(answer: &Document, answers: &mut Answers) -> Result<(), HandlerStop>
     ensures put { OnOk result
         (answers_of answers.new ≡ answers_of answers.old ++ body_alone (tree_of answer.now) ∷ []) }

@@ -129,11 +129,11 @@ fn push_all(alloc: Global, payload: Payload<'_>, documents: &mut Vec<Bson>) -> R
 }
 
 /// Returns the documents of an insert: those of the array `documents` in its body, or of the
-/// sequences with this identifier.
+/// sequences with the identifier `documents`.
 ///
 /// # Errors
 ///
-/// Returns `Documents` unless they are 1 to 100,000 documents, and no name is repeated in one.
+/// Returns `Documents` if they aren't 1 to 100,000 documents, or a name is repeated in one.
 pub fn inserted_documents(alloc: Global, payload: Payload<'_>) -> Result<Vec<Bson>, Failure>
     ensures ok { (c : Content) → Carries payload.entry c
         → IfOk result (λ vs. inserted c ≡ Ok (map value_of vs.items)) }

@@ -25,8 +25,8 @@ fn inserted_answer(alloc: Global, count: i32) -> Result<Document, AllocError>
     Ok(answer)
 }
 
-/// Inserts the documents of the array `documents` in the body, or of the sequences with this
-/// identifier.
+/// Inserts the documents of the array `documents` in the body, or of the sequences with the
+/// identifier `documents`.
 pub fn insert(alloc: Global, store: &mut Store, payload: Payload<'_>) -> Result<Document, Failure>
     ensures carried { (c : Content) → Carries payload.entry c
         → IsCarriedOut (insert (store_of store.old) c) (store_of store.old) result

@@ -18,7 +18,7 @@ use bson_doc::{Bson, Document};
 use bson_raw::RawDocument;
 use std::alloc::{AllocError, Global};
 
-/// Makes what a listing says of a collection beside its name and its type.
+/// Makes the field `info` of a listing.
 fn info(alloc: Global) -> Result<Document, AllocError>
     ensures { IfOk result (λ d. d ≡ (codes "readOnly", truth false) ∷ []) }
 {
