@@ -2,7 +2,7 @@
 //! standard, that calls succeed if there is memory, and that nothing changes if it is refused. They
 //! are in a crate of their own, since a crate is proved once more with its tests.
 //!
-//! Stands on bson_doc and bson_raw_tests. Read first: `documents`.
+//! Uses bson_doc and bson_raw_tests. Read first: `documents`.
 #![tactic(auto)]
 
 #[cfg(test)]

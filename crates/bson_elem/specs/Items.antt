@@ -36,7 +36,7 @@ item_kind (items.Decimal128 _) = kinds.Decimal128
 item_kind items.MinKey = kinds.MinKey
 item_kind items.MaxKey = kinds.MaxKey
 
--- the value that the item shows, where the offset after its element is next
+-- the value that the item shows, if the offset after its element is next
 abbrev pub item_value : ℕ → Item → Value
 item_value next (items.Double b) = a_leaf (raw_value b)
 item_value next (items.String s) = a_leaf (text_value s.now)

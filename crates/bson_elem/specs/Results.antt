@@ -1,4 +1,4 @@
--- What a function of the code returns, told by a definition of it.
+-- What a function of the code returns, by a definition of it.
 use Rattle.std.specs.Prelude.{◌≡◌, Result, Ok, Err}
 
 -- The definition gives what the function returns: the value that its result shows, or the same

@@ -4,7 +4,7 @@
 //! same checks of a value without returning it, and `reread_element` reads an element of bytes that
 //! were checked before. None of them enters a document that a value holds.
 //!
-//! Stands on the kit alone. bson_raw stands on it, and all above cite its definitions. Read first:
+//! Uses the kit alone. Used by bson_raw; all crates above cite its definitions. Read first:
 //! `specs/Spelling.antt` and `specs/Checks.antt`, and then `elements`.
 #![tactic(auto)]
 

@@ -2,7 +2,7 @@
 //! and the texts of faults. They are in a crate of their own, since a crate is proved once more
 //! with its tests.
 //!
-//! Stands on bson_elem. Read first: `elements`.
+//! Uses bson_elem. Read first: `elements`.
 #![tactic(auto)]
 
 #[cfg(test)]

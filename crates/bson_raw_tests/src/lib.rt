@@ -5,8 +5,8 @@
 //! a test goes over by reference, a test asserts the `bool` that a function returns, and a function
 //! owns at most one value, which it lends to the next function.
 //!
-//! Stands on bson_raw. bson_text_tests, bson_doc_tests and wire_msg_tests stand on it, for
-//! `hex_bytes` and `each_kind`. Read first: `each_kind`.
+//! Uses bson_raw. Used by bson_text_tests, bson_doc_tests and wire_msg_tests, for `hex_bytes` and
+//! `each_kind`. Read first: `each_kind`.
 #![tactic(auto)]
 
 #[cfg(test)]

@@ -2,7 +2,7 @@
 //! writers that fail. They are in a crate of their own, since a crate is proved once more with its
 //! tests.
 //!
-//! Stands on bson_text and bson_raw_tests. Read first: `dumps`.
+//! Uses bson_text and bson_raw_tests. Read first: `dumps`.
 #![tactic(auto)]
 
 #[cfg(test)]

@@ -6,8 +6,8 @@
 //! states worlds show. The laws say that every run of a world shows a run of the machine, and what
 //! holds in each state of the machine.
 //!
-//! Stands on wire_peer and wire_pool. wire_world and wire_script stand on it. Read first: `events`,
-//! then `specs/Happening.antt` and `specs/Machines.antt`, and then `laws`.
+//! Uses wire_peer and wire_pool. Used by wire_world, wire_channels and wire_script. Read first:
+//! `events`, then `specs/Happening.antt` and `specs/Machines.antt`, and then `laws`.
 #![tactic(auto)]
 
 mod events;

@@ -2,7 +2,7 @@
 //! that calls succeed if there is memory, and that nothing changes if it is refused. They are in a
 //! crate of their own, since a crate is proved once more with its tests.
 //!
-//! Stands on wire_msg and bson_raw_tests. Read first: `messages`.
+//! Uses wire_msg and bson_raw_tests. Read first: `messages`.
 #![tactic(auto)]
 
 #[cfg(test)]

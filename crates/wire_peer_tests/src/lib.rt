@@ -2,7 +2,7 @@
 //! byte for byte, and that the definitions mean the protocol. They are in a crate of their own,
 //! since a crate is proved once more with its tests.
 //!
-//! Stands on wire_peer. Read first: `clients` and `servers`.
+//! Uses wire_peer. Read first: `clients` and `servers`.
 #![tactic(auto)]
 
 #[cfg(test)]

@@ -134,7 +134,7 @@ const LINES: [&[u8]; 85] = [
     b"call 1 0c00000010610001000000000\nopen",
     // a digit that is none
     b"call 1 0c000000106100010000000g\nopen",
-    // a digit in front of which 0x stands
+    // digits with 0x in front
     b"call 1 0x0c0000001061000100000000\nopen",
     // a space among digits
     b"call 1 0c000000 1061000100000000\nopen",

@@ -2,7 +2,7 @@
 //! and that the texts are those that were worked out by hand. They are in a crate of their own,
 //! since a crate is proved once more with its tests.
 //!
-//! Stands on wire_play. engines_tests stands on it, for `kept`. Read first: `runs`.
+//! Uses wire_play. Used by engines_tests, for `kept`. Read first: `runs`.
 #![tactic(auto)]
 
 #[cfg(test)]

@@ -46,7 +46,7 @@ given p close = []
 given p reset = []
 given p draw = drawn_id p.next
 
--- the new ids that the calls give, one after the other
+-- the new ids that the calls give, one after another
 abbrev pub given_by : PoolSeen → List PoolCall → List ℕ
 given_by p [] = []
 given_by p (call ∷ calls) = given p call ++ given_by (after_call p call) calls
@@ -56,7 +56,7 @@ abbrev pub IsRising : List ℕ → Type 0
 IsRising [] = ⊤
 IsRising (id ∷ ids) = All (λ later. id < later) ids × IsRising ids
 
--- the pool after the calls, one after the other
+-- the pool after the calls, one after another
 abbrev pub after_calls : PoolSeen → List PoolCall → PoolSeen
 after_calls p [] = p
 after_calls p (call ∷ calls) = after_calls (after_call p call) calls

@@ -2,7 +2,7 @@
 //! definitions mean a pool. They are in a crate of their own, since a crate is proved once more
 //! with its tests.
 //!
-//! Stands on wire_pool. Read first: `pools`.
+//! Uses wire_pool. Read first: `pools`.
 #![tactic(auto)]
 
 #[cfg(test)]

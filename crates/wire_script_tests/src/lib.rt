@@ -2,7 +2,7 @@
 //! there is memory, and that the definitions mean the forms. They are in a crate of their own,
 //! since a crate is proved once more with its tests.
 //!
-//! Stands on wire_script. Read first: `forms`.
+//! Uses wire_script. Read first: `forms`.
 #![tactic(auto)]
 
 #[cfg(test)]

@@ -2,7 +2,7 @@
 //! memory, and what a TCP link does over a stream. They are in a crate of their own, since a crate
 //! is proved once more with its tests.
 //!
-//! Stands on wire_stream. Read first: `readers`.
+//! Uses wire_stream. Read first: `readers`.
 #![tactic(auto)]
 
 #[cfg(test)]

@@ -5,8 +5,8 @@
 //! answered, cuts a way, or lends and takes back a connection. `step` makes one event happen, and
 //! `run` many.
 //!
-//! Stands on wire_model, and on the code of wire_peer and wire_pool. wire_play stands on it. Read
-//! first: `worlds`.
+//! Uses wire_model, and the code of wire_peer and wire_pool. Used by wire_play. Read first:
+//! `worlds`.
 #![tactic(auto)]
 
 mod connections;

@@ -2,7 +2,7 @@
 //! definitions mean the protocol. They are in a crate of their own, since a crate is proved once
 //! more with its tests.
 //!
-//! Stands on wire_world. Read first: `runs`.
+//! Uses wire_world. Read first: `runs`.
 #![tactic(auto)]
 
 #[cfg(test)]
