@@ -269,7 +269,7 @@ module _ (H : Type 0) (does : Does H) (stops : Stops H) (strange : ℕ → Bool)
         | inr was ↦ was.connection
       ]
   kept_connection (SendsDown bytes) s s' log log' h h' d =
-      ap (λ (z : ServerView). z.connection) d.2
+      ap (λ (z : ServerView). z.connection) d.0.2
   kept_connection EndsUp s s' log log' h h' d = ap (λ (z : ServerView). z.connection) d.0
 
   goes_answers : (c i : ℕ) (result : Result ℕ AnswerRefusal) (old old' mid : ServerEnds H)
@@ -332,7 +332,7 @@ module _ (H : Type 0) (does : Does H) (stops : Stops H) (strange : ℕ → Bool)
   goes c (SendsDown bytes) old old' mid n al a =
       quietly c (SendsDown bytes) old old' mid a.s a.s' n al a.at a.after
       (kept_connection (SendsDown bytes) a.s a.s' old.log mid.log old.handler mid.handler a.does_)
-      a.does_.3 a.does_.4 (a.does_.0, a.does_.1, a.does_.2, refl, refl)
+      a.does_.1 a.does_.2 (a.does_.0, refl, refl)
   goes c EndsUp old old' mid n al a =
       quietly c EndsUp old old' mid a.s a.s' n al a.at a.after
       (kept_connection EndsUp a.s a.s' old.log mid.log old.handler mid.handler a.does_)
@@ -371,7 +371,7 @@ module _ (H : Type 0) (does : Does H) (stops : Stops H) (strange : ℕ → Bool)
           → Alike mid old'
       by (TakesUp bytes) d = still d.1 d.2
           (kept_connection (TakesUp bytes) a.s a.s' old.log mid.log old.handler mid.handler d)
-      by (SendsDown bytes) d = still d.3 d.4
+      by (SendsDown bytes) d = still d.1 d.2
           (kept_connection (SendsDown bytes) a.s a.s' old.log mid.log old.handler mid.handler d)
       by EndsUp d = still d.1 d.2
           (kept_connection EndsUp a.s a.s' old.log mid.log old.handler mid.handler d)

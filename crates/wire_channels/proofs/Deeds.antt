@@ -445,19 +445,19 @@ module _ (H : Type 0) (does : Does H) (stops : Stops H) (limit : ℕ) where
           (ap (take (length bytes)) is ∙ take-append_seam bytes rest)
           ∙ ap (λ (w : Way). record { bytes = w.bytes ++ bytes; left = w.left }) fits.down_is
           ∙ ap free_way (sym (one_here down c (down c ++ bytes))))
-          (λ d n. (refl, one_far down c d (down c ++ bytes) n)) (f.log ∙ sym a.does_.3) (f.handler
-          ∙ sym a.does_.4)
+          (λ d n. (refl, one_far down c d (down c ++ bytes) n)) (f.log ∙ sym a.does_.1) (f.handler
+          ∙ sym a.does_.2)
           (channels.sends_down c p (length bytes) at within refl)
         where
           rest : List ℕ
-          rest = a.does_.0
+          rest = a.does_.0.0
 
           is : p.server.output ≡ bytes ++ rest
-          is = ap (λ (z : ServerView). z.output) (sym (same_server a.s a.at)) ∙ a.does_.1
+          is = ap (λ (z : ServerView). z.output) (sym (same_server a.s a.at)) ∙ a.does_.0.1
 
           sent : a.s' ≡ with_server_output p.server (drop (length bytes) p.server.output)
           sent =
-              a.does_.2 ∙ ap (λ (z : ServerView). with_server_output z rest) (same_server a.s a.at)
+              a.does_.0.2 ∙ ap (λ (z : ServerView). with_server_output z rest) (same_server a.s a.at)
               ∙ ap (with_server_output p.server)
               (sym (ap (drop (length bytes)) is ∙ drop-append_seam bytes rest))
 

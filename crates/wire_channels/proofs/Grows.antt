@@ -6,7 +6,7 @@ use Rattle.std.proofs.lemmas.Option.{none-some}
 use Rattle.wire_peer.specs.{Does, ServerView, Stops, new_server}
 use Rattle.wire_model.proofs.Lemmas.{length-push, length-slice_set}
 use Rattle.wire_channels.specs.Owners.{Made, ServerEnds, first_servers, first_servers_of, server_at, server_set}
-use Rattle.wire_channels.specs.Deeds.{AtClient, AtServer, Is, Opens, ServersGrow, ServersRun, Turn, deeds_of, opened, opened_in}
+use Rattle.wire_channels.specs.Deeds.{AtClient, AtServer, Is, Opens, ServersGrow, ServersRun, Turn, deeds_of, opened, opened_in, server_turns}
 
 get_front : {A : Type 0} (xs more : List A) (i : ℕ) (x : A) → slice_get xs i ≡ Some x
     → slice_get (xs ++ more) i ≡ Some x
@@ -34,6 +34,14 @@ set_length : (ss : List ServerView) (c : ℕ) (t : ServerView) → length (serve
     ss
 set_length ss zero t = refl
 set_length ss (suc i) t = length-slice_set ss i t
+
+-- one more server is made, and any of them is another one
+pub grown_length : {H : Type 0} (limit : ℕ) (made : ℕ → Made) (mid : ServerEnds H) (c : ℕ)
+    (s : ServerView)
+    → length (server_set (opened limit made mid).servers c s) ≡ suc (length mid.servers)
+grown_length limit made mid c s =
+    set_length (opened limit made mid).servers c s
+    ∙ length-push mid.servers (new_server (suc (length mid.servers)) (made (suc (length mid.servers))).server_window limit)
 
 module _ (H : Type 0) (does : Does H) (stops : Stops H) (limit : ℕ) (made : ℕ → Made) where
   -- m servers, from the one after n on
@@ -100,3 +108,13 @@ module _ (H : Type 0) (does : Does H) (stops : Stops H) (limit : ℕ) (made : �
       (deeds_of turns) new)
       (first_later 0 (opened_in turns) ∙ ap (first_servers limit made) none)
       (grow turns (first_servers_of limit made 0 first) new 0 refl run)
+
+  -- what was done at the clients meanwhile changes nothing
+  pub grown_beside : (turns : List Turn) (old new : ServerEnds H)
+      → ServersGrow does stops limit made old (server_turns turns) new
+      → ServersGrow does stops limit made old turns new
+  grown_beside [] old new run = run
+  grown_beside (Opens ∷ turns) old new run = grown_beside turns (opened limit made old) new run
+  grown_beside (Is (AtClient c act) ∷ turns) old new run = grown_beside turns old new run
+  grown_beside (Is (AtServer c act) ∷ turns) old new (mid, a, run) =
+      (mid, a, grown_beside turns mid new run)

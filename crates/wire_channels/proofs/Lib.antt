@@ -13,6 +13,7 @@ pub mod Meets
 pub mod Starts
 pub mod Knows
 pub mod GoingOn
+pub mod OneServer
 pub mod Numbers
 pub mod Tells
 pub mod Alone

@@ -233,7 +233,7 @@ module _ (H : Type 0) (does : Does H) (stops : Stops H) (limit c : ℕ) where
                 (λ e. n (sym (k.conns d a.s a.at) ∙ e)))
           ]
       by (SendsDown bytes) x =
-          so (ap (λ (z : ServerView). z.connection) x.2) (ap (entries_of c) x.3)
+          so (ap (λ (z : ServerView). z.connection) x.0.2) (ap (entries_of c) x.1)
       by EndsUp x = so (ap (λ (z : ServerView). z.connection) x.0) (ap (entries_of c) x.1)
 
   -- ---- a deed at this one
@@ -391,11 +391,11 @@ module _ (H : Type 0) (does : Does H) (stops : Stops H) (limit c : ℕ) where
         | inr was ↦ enters old mid taken k a.s a.s' a.at a.after i was
       ]
   here (SendsDown bytes) old mid taken a k =
-      let e = a.does_.2 in
+      let e = a.does_.0.2 in
       rests old mid taken k a.s a.s' a.at a.after (ap (λ (o : ServerView). o.connection) e)
       (ap (λ (o : ServerView). o.limit) e) (ap (λ (o : ServerView). o.held) e)
       (ap (λ (o : ServerView). o.waiting) e) (λ l. ap (λ (o : ServerView). o.state) (sym e) ∙ l)
-      a.does_.3
+      a.does_.1
   here EndsUp old mid taken a k =
       let e = a.does_.0 in
       rests old mid taken k a.s a.s' a.at a.after (ap (λ (o : ServerView). o.connection) e)

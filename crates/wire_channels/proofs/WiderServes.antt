@@ -214,9 +214,9 @@ module _ (wide : ℕ) where
               | inl same ↦ ap (λ (z : ServerView). z.limit) same.server
               | inr was ↦ was.limit
             ]
-        goes (SendsDown bytes) (rest, output, e, log, handler) =
+        goes (SendsDown bytes) ((rest, output, e), log, handler) =
             one (SendsDown bytes) (SendsDown bytes) l.state
-            (rest, output, ap (λ z. widened wide z l.state) e, log_is log, handler_is handler)
+            ((rest, output, ap (λ z. widened wide z l.state) e), log_is log, handler_is handler)
             (subst (λ z. AsOpen z l.state) (sym (ap (λ (z : ServerView). z.state) e)) l.alike)
             (ap (λ (z : ServerView). z.limit) e) refl refl (arrive_server c (SendsDown bytes))
         goes EndsUp (e, log, handler) =

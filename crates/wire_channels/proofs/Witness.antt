@@ -368,7 +368,7 @@ module _ (limit : ℕ) (short : limit < 2 ^ 31) (payload : Payload)
   sends_down : (log : List LogEntry) (bytes : List ℕ) (id : ℕ)
       → ServerDoes echoes never_stops (SendsDown bytes) (server_at_ [] bytes id) log tt
       (server_at_ [] [] id) log tt
-  sends_down log bytes id = ([], sym (append-nil bytes), refl, refl, refl)
+  sends_down log bytes id = (([], sym (append-nil bytes), refl), refl, refl)
 
   answers_plain : ServerDoes echoes never_stops (Answers 0 (Ok 0))
       (server_at_ (canonical plain ∷ []) [] 1) [] tt (server_at_ [] one 2) (e0 ∷ []) tt

@@ -1,6 +1,6 @@
 -- What happened at both ends, in one order, and the run that the owners have in common.
 use Rattle.std.specs.Prelude.{◌≡◌, ℕ, suc, ◌≤◌, ◌==◌, if◌then◌else◌, Some, List, [], ◌∷◌, ◌++◌}
-use Rattle.std.specs.Prelude.{length, slice_get}
+use Rattle.std.specs.Prelude.{length, map, slice_get}
 use Rattle.wire_peer.specs.{Does, Stops, new_server}
 use Rattle.wire_model.specs.{Record}
 use Rattle.wire_channels.specs.Channels.{Pair, System, Trace, no_pairs, pair_at}
@@ -22,6 +22,10 @@ ServersRun does stops old [] new = new ≡ old
 ServersRun does stops old (AtClient c act ∷ deeds) new = ServersRun does stops old deeds new
 ServersRun {H} does stops old (AtServer c act ∷ deeds) new = (mid : ServerEnds H)
     × ServersDo does stops c act old mid × ServersRun does stops mid deeds new
+
+-- these acts of the owner of the servers, with the server of this connection
+abbrev pub at_server : ℕ → List ServerAct → List Deed
+at_server c acts = map (AtServer c) acts
 
 -- ---- servers that are made as connections come
 
@@ -63,6 +67,17 @@ ServersGrow does stops limit made old (Is (AtClient c act) ∷ turns) new =
 ServersGrow {H} does stops limit made old (Is (AtServer c act) ∷ turns) new =
     (mid : ServerEnds H) × ServersDo does stops c act old mid
     × ServersGrow does stops limit made mid turns new
+
+-- the turns without what was done at the clients
+abbrev pub server_turns : List Turn → List Turn
+server_turns [] = []
+server_turns (Opens ∷ turns) = Opens ∷ server_turns turns
+server_turns (Is (AtClient c act) ∷ turns) = server_turns turns
+server_turns (Is (AtServer c act) ∷ turns) = Is (AtServer c act) ∷ server_turns turns
+
+-- the next server is made, and these acts are done with it, whose number this is
+abbrev pub served_turns : ℕ → List ServerAct → List Turn
+served_turns c acts = Opens ∷ map Is (at_server c acts)
 
 -- ---- what was done at each end
 

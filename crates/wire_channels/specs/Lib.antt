@@ -11,11 +11,14 @@ pub mod Limits
 -- the words that clauses of other crates cite
 pub use Rattle.wire_channels.specs.Channels.{Pair, System, Trace, Way, no_pairs, pair_at}
 pub use Rattle.wire_channels.specs.Owners.{AreMade, ClientAct, ClientDoes, ClientEnd, ClientRun}
-pub use Rattle.wire_channels.specs.Owners.{Made, ServerAct, ServerDoes, ServerEnds, ServersDo}
-pub use Rattle.wire_channels.specs.Owners.{bytes_sent, bytes_sent_down, bytes_taken, bytes_taken_up}
-pub use Rattle.wire_channels.specs.Owners.{first_end, first_servers_of}
+pub use Rattle.wire_channels.specs.Owners.{Made, ServerAct, ServerDoes, ServerEnd, ServerEnds}
+pub use Rattle.wire_channels.specs.Owners.{ServerMoves, ServerMovesOn, ServerRun, ServersDo}
+pub use Rattle.wire_channels.specs.Owners.{among, bytes_sent, bytes_sent_down, bytes_taken}
+pub use Rattle.wire_channels.specs.Owners.{bytes_taken_up, first_end, first_servers_of, server_at}
+pub use Rattle.wire_channels.specs.Owners.{server_set}
 pub use Rattle.wire_channels.specs.Deeds.{AreOf, Arrive, Common, Deed, ServersGrow, ServersRun}
-pub use Rattle.wire_channels.specs.Deeds.{Turn, acts_at, deeds_of, opened_in, server_acts_at}
+pub use Rattle.wire_channels.specs.Deeds.{Turn, acts_at, at_server, deeds_of, opened_in}
+pub use Rattle.wire_channels.specs.Deeds.{opened, server_acts_at, server_turns, served_turns}
 pub use Rattle.wire_channels.specs.Knowing.{AreQuiet, IsCallOf, NoneInFlight, Owned, OwnersKnow}
 pub use Rattle.wire_channels.specs.Seen.{Agree, Channelled, IsQuietPair}
 pub use Rattle.wire_channels.specs.Alone.{Heard, Hearing, Hears, HoldsAlone, got, handed, hear_all}

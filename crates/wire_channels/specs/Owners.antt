@@ -132,18 +132,50 @@ abbrev pub server_set : List ServerView → ℕ → ServerView → List ServerVi
 server_set ss zero s = ss
 server_set ss (suc i) s = slice_set ss i s
 
--- a server takes bytes, answers a request that waits, or refuses to, has its first bytes sent, or
--- is told the end
+-- a server takes bytes, has its first bytes sent, or is told the end
+abbrev pub ServerMoves : ServerAct → ServerView → ServerView → Type 0
+ServerMoves (TakesUp bytes) s s' = ServerTakes s bytes s'
+ServerMoves (Answers i result) s s' = ⊥
+ServerMoves (SendsDown bytes) s s' =
+    (rest : List ℕ) × (s.output ≡ bytes ++ rest) × (s' ≡ with_server_output s rest)
+ServerMoves EndsUp s s' = s' ≡ ended_server s
+
+-- a server answers a request that waits, or refuses to; or it moves, and its handler and the log
+-- stay
 abbrev pub ServerDoes : {H : Type 0} → Does H → Stops H → ServerAct → ServerView → List LogEntry → H
     → ServerView → List LogEntry → H → Type 0
-ServerDoes does stops (TakesUp bytes) s log h s' log' h' =
-    ServerTakes s bytes s' × (log' ≡ log) × (h' ≡ h)
 ServerDoes does stops (Answers i result) s log h s' log' h' =
     AnswerStep does stops i result s h log s' h' log' × AreContents log'
-ServerDoes does stops (SendsDown bytes) s log h s' log' h' =
-    (rest : List ℕ) × (s.output ≡ bytes ++ rest) × (s' ≡ with_server_output s rest) × (log' ≡ log)
-    × (h' ≡ h)
-ServerDoes does stops EndsUp s log h s' log' h' = (s' ≡ ended_server s) × (log' ≡ log) × (h' ≡ h)
+ServerDoes does stops act s log h s' log' h' =
+    ServerMoves act s s' × (log' ≡ log) × (h' ≡ h)
+
+-- ---- one server
+
+-- a server, with the handler and the log
+pub record ServerEnd (H : Type 0) : Type 0 where
+  pub server : ServerView
+  pub log : List LogEntry
+  pub handler : H
+
+-- what is done with one server, act after act
+abbrev pub ServerRun : {H : Type 0} → Does H → Stops H → ServerEnd H → List ServerAct → ServerEnd H
+    → Type 0
+ServerRun does stops old [] new = new ≡ old
+ServerRun {H} does stops old (act ∷ acts) new = (mid : ServerEnd H)
+    × ServerDoes does stops act old.server old.log old.handler mid.server mid.log mid.handler
+    × ServerRun does stops mid acts new
+
+-- the same where it answers nothing
+abbrev pub ServerMovesOn : ServerView → List ServerAct → ServerView → Type 0
+ServerMovesOn old [] new = new ≡ old
+ServerMovesOn old (act ∷ acts) new =
+    (mid : ServerView) × ServerMoves act old mid × ServerMovesOn mid acts new
+
+-- ---- the servers
+
+-- the servers, with the handler and the log of one of them
+abbrev pub among : {H : Type 0} → List ServerView → ServerEnd H → ServerEnds H
+among servers one = record { servers = servers; log = one.log; handler = one.handler }
 
 -- the act is done with the server of connection c, and the other servers stay as they are
 pub record ServersDo {H : Type 0} (does : Does H) (stops : Stops H) (c : ℕ) (act : ServerAct)

@@ -1,17 +1,21 @@
 //! Proves the laws of pairs. The contract of each function is the law.
 
-ghost use Rattle.std.specs.Prelude.{◌≡◌, ◌≤◌, [], ◌++◌, ℕ, ℤ, Bool, false, List, Some};
+ghost use Rattle.std.specs.Prelude.{◌≡◌, ◌≤◌, [], ◌++◌, ℕ, ℤ, Bool, false, length, List, Some, suc};
 ghost use Rattle.bson_elem.specs.{IsBytes};
 ghost use Rattle.wire_msg.specs.{message_len};
 ghost use Rattle.wire_msg.specs.declared.payloads.Payload.{Payload as Carried};
-ghost use Rattle.wire_peer.specs.{IsLimit, content_of, new_client};
+ghost use Rattle.wire_peer.specs.{IsLimit, LogEntry, ServerView, content_of, new_client};
+ghost use Rattle.wire_peer.specs.{new_server};
 ghost use Rattle.wire_channels.specs.Alone.{HoldsAlone};
 ghost use Rattle.wire_channels.specs.Channels.{Pair, Step, System, Trace, no_pairs, pair_at};
 ghost use Rattle.wire_channels.specs.Deeds.{Arrive, Common, Deed, ServersGrow, ServersRun, Turn};
-ghost use Rattle.wire_channels.specs.Deeds.{acts_at, deeds_of, opened_in, server_acts_at};
+ghost use Rattle.wire_channels.specs.Deeds.{acts_at, at_server, deeds_of, opened, opened_in};
+ghost use Rattle.wire_channels.specs.Deeds.{server_acts_at, served_turns};
 ghost use Rattle.wire_channels.specs.Owners.{AreMade, ClientAct, ClientEnd, ClientRun, Made};
-ghost use Rattle.wire_channels.specs.Owners.{ServerEnds, bytes_sent, bytes_taken, bytes_taken_up};
-ghost use Rattle.wire_channels.specs.Owners.{first_end, first_servers_of};
+ghost use Rattle.wire_channels.specs.Owners.{ServerAct, ServerEnd, ServerEnds, ServerMovesOn};
+ghost use Rattle.wire_channels.specs.Owners.{ServerRun, among, bytes_sent, bytes_sent_down};
+ghost use Rattle.wire_channels.specs.Owners.{bytes_taken, bytes_taken_up, first_end};
+ghost use Rattle.wire_channels.specs.Owners.{first_servers_of, server_at, server_set};
 ghost use Rattle.wire_channels.specs.Knowing.{OwnersKnow};
 ghost use Rattle.wire_channels.specs.Limits.{servers_with_limits};
 ghost use Rattle.wire_channels.specs.Seen.{Channelled, IsQuietPair};
@@ -77,6 +81,50 @@ pub fn servers_go_on<H: Handler>()
     ensures { (deeds more : List Deed) (old mid new : ServerEnds H)
         → ServersRun H.does H.stops old deeds mid → ServersRun H.does H.stops mid more new
         → ServersRun H.does H.stops old (deeds ++ more) new }
+{}
+
+/// Proves that what is done with one server, and then from there on, is one run, and so are the
+/// bytes.
+pub fn a_server_goes_on<H: Handler>()
+    ensures { (acts more : List ServerAct) (old mid new : ServerEnd H)
+        → ServerRun H.does H.stops old acts mid → ServerRun H.does H.stops mid more new
+        → ServerRun H.does H.stops old (acts ++ more) new
+        × (bytes_sent_down (acts ++ more) ≡ bytes_sent_down acts ++ bytes_sent_down more)
+        × (bytes_taken_up (acts ++ more) ≡ bytes_taken_up acts ++ bytes_taken_up more) }
+{}
+
+/// Proves that what a server does by itself is a run with any handler and any log, which stay.
+pub fn moves_ask_nobody<H: Handler>()
+    ensures { (acts : List ServerAct) (old new : ServerView) (log : List LogEntry) (handler : H)
+        → ServerMovesOn old acts new
+        → ServerRun H.does H.stops (record { server = old; log = log; handler = handler }) acts
+        (record { server = new; log = log; handler = handler }) }
+{}
+
+/// Proves that what is done with one server is done with the servers that it is one of, and that
+/// the others stay.
+pub fn a_server_is_one_of_many<H: Handler>()
+    ensures { (c : ℕ) (acts : List ServerAct) (servers : List ServerView) (old new : ServerEnd H)
+        → server_at servers c ≡ Some old.server → ServerRun H.does H.stops old acts new
+        → ServersRun H.does H.stops (among servers old) (at_server c acts)
+        (among (server_set servers c new.server) new) }
+{}
+
+/// Proves that where the owner of the servers made some, and did what it did, and then makes one
+/// more and does these acts with it, all of that is what an owner does who makes them one after the
+/// other.
+pub fn one_more_is_served<H: Handler>()
+    ensures { (limit : ℕ) (made : ℕ → Made) (turns : List Turn) (acts : List ServerAct)
+        (old mid : ServerEnds H) (new : ServerEnd H)
+        → ServersGrow H.does H.stops limit made old turns mid
+        → let c = suc (length mid.servers) in
+        ServerRun H.does H.stops (record {
+          server = new_server c (made c).server_window limit;
+          log = mid.log;
+          handler = mid.handler;
+        }) acts new
+        → ServersGrow H.does H.stops limit made old (turns ++ served_turns c acts)
+        (among (server_set (opened limit made mid).servers c new.server) new) }
 {}
 
 /// Proves that if the owner of the servers makes them one after another, as connections come, what

@@ -2,9 +2,10 @@
 use Rattle.std.specs.Prelude.{◌≡◌, ℕ, Option, List, [], ◌∷◌, ◌++◌, Result, Ok, Err}
 use Rattle.std.specs.Io.KnownBytes.{Appends}
 use Rattle.wire_msg.specs.{Message}
-use Rattle.wire_peer.specs.{ClientSeen, MayTake}
+use Rattle.wire_peer.specs.{ClientSeen, MayTake, new_client}
 use Rattle.wire_peer.specs.declared.client_state.ClientState.TheVariants.{Closed}
-use Rattle.wire_channels.specs.{ClientAct, ClientEnd, ClientRun, bytes_sent, bytes_taken, handed}
+use Rattle.wire_channels.specs.{ClientAct, ClientEnd, ClientRun, Made, bytes_sent, bytes_taken}
+use Rattle.wire_channels.specs.{handed}
 use Rattle.wire_stream.specs.{Rose}
 use Rattle.wire_end.specs.declared.next.EndFault.{EndFault}
 use Rattle.wire_end.specs.declared.next.EndFault.TheVariants as faults
@@ -27,6 +28,11 @@ new_end connection client link = record {
   link = link;
   inlet = [];
 }
+
+-- the end of the client of this connection, as it is made
+abbrev pub first_client : {L : Type 0} → (limit : ℕ) → (ℕ → Made) → ℕ → L → EndSeen L
+first_client limit made c link =
+    new_end c (new_client (made c).first_id (made c).client_window limit) link
 
 -- The end did these acts. They are a run of its client and records; the link sent the bytes that
 -- they sent; and what came over the link, behind the bytes that were held, are those that they took

@@ -1,7 +1,7 @@
-//! Names what comes of waiting for a reply.
+//! Names what comes of waiting for a reply, and of waiting for a request.
 
 use thiserror::Error;
-use wire_peer::{ClientCause, ReadyReply};
+use wire_peer::{ClientCause, ReadyReply, ServerCause};
 use wire_stream::LinkFault;
 
 /// What `next_reply` found.
@@ -24,6 +24,33 @@ pub enum EndFault {
     /// The client is closed, and no more replies come. The calls that awaited one are lost.
     #[error("the client is closed: {0}")]
     Closed(ClientCause),
+    /// The allocator refused memory. Nothing is lost, and the call may be made again.
+    #[error("out of memory")]
+    OutOfMemory,
+}
+
+/// What `next_request` found.
+#[derive(Clone, Copy, Debug, PartialEq, Eq)]
+pub enum NextRequest {
+    /// One more request waits, behind the others.
+    Waits,
+    /// No whole request has come yet, and the link has no more bytes now. A link that waits never
+    /// returns it.
+    Later,
+    /// As many requests wait as may, and nothing was received.
+    Full,
+}
+
+/// Why there is no next request.
+#[derive(Clone, Copy, Debug, PartialEq, Eq, Error)]
+pub enum RequestFault {
+    /// The link failed. What came before stands.
+    #[error("{0}")]
+    Link(LinkFault),
+    /// The server is closed, and no more requests come. Those that wait still wait, and aren't
+    /// answered any more.
+    #[error("the server is closed: {0}")]
+    Closed(ServerCause),
     /// The allocator refused memory. Nothing is lost, and the call may be made again.
     #[error("out of memory")]
     OutOfMemory,

@@ -1,12 +1,15 @@
-//! Tests of what an end is after a refused allocation. `scripts/checks/try-refusals` runs them with
+//! Tests of what ends are after a refused allocation. `scripts/checks/try-refusals` runs them with
 //! each of their allocations refused in turn. No other one is refused then, so what is asked for
 //! again is granted.
 
 use crate::answered::{end_over, one};
+use crate::requests::{REQUESTS, server_over};
 use std::alloc::Global;
-use wire_end::{CallState, ClientEnd, EndFault, Next};
+use wire_end::{CallState, ClientEnd, EndFault, Next, NextRequest, RequestFault, ServerEnd};
 use wire_msg::PayloadBuf;
-use wire_peer::{CallKind, CallNo, CallRefusal, ReadyReply};
+use wire_peer::{
+    AnswerRefusal, CallKind, CallNo, CallRefusal, Echo, Logged, ReadyReply, ServerCause,
+};
 use wire_stream::{Flushed, MemLink};
 
 /// The reply `{"n": 1}` to request 1.
@@ -94,4 +97,43 @@ fn goes_on(alloc: Global) -> bool {
 #[test]
 fn a_refused_allocation_loses_nothing(rt: HostRuntime) {
     assert!(rt; goes_on(rt.alloc()));
+}
+
+/// Waits for a request, and waits again where memory was refused, which has to lose nothing.
+/// Returns true if it comes.
+fn request_comes(end: &mut ServerEnd<MemLink>) -> bool {
+    match end.next_request() {
+        Err(RequestFault::OutOfMemory) => end.next_request() == Ok(NextRequest::Waits),
+        found => found == Ok(NextRequest::Waits),
+    }
+}
+
+/// Returns whether a request comes and is answered; none if memory for its replies or for an end is
+/// refused. Where nothing changed by a refusal the same is done again.
+fn is_answered(alloc: Global) -> Option<bool> {
+    let request = [&REQUESTS[..33]];
+    let mut end = server_over(alloc, &request, 20, 1)?;
+    let mut logged = Logged::new(alloc, Echo);
+    if !request_comes(&mut end) {
+        return Some(false);
+    }
+    match end.answer(0, &mut logged) {
+        Ok(number) => Some(number == 0 && end.waiting() == 0),
+        Err(AnswerRefusal::OutOfMemory) => Some(end.answer(0, &mut logged) == Ok(0)),
+        Err(AnswerRefusal::NowClosed(ServerCause::NoMemory)) => None,
+        Err(_) => Some(false),
+    }
+}
+
+/// Returns true if a request is answered behind a refused allocation, at the second try at last.
+fn server_goes_on(alloc: Global) -> bool {
+    match is_answered(alloc) {
+        Some(holds) => holds,
+        None => is_answered(alloc) == Some(true),
+    }
+}
+
+#[test]
+fn a_refused_allocation_loses_no_request(rt: HostRuntime) {
+    assert!(rt; server_goes_on(rt.alloc()));
 }

@@ -1,4 +1,4 @@
-//! Ends over streams that would block or fail, calls of each kind, and an end that is given up.
+//! Ends over streams that would block or fail, calls of each kind, and ends that are given up.
 
 ghost use Rattle.std.specs.Prelude.{◌≤◌, IfOk};
 
@@ -6,8 +6,10 @@ use crate::answered::{end_over, one};
 use std::alloc::Global;
 use std::io;
 use std::io::{ErrorKind, Read, Write};
-use wire_end::{CallState, ClientEnd, EndFault, Next};
-use wire_peer::{CallRefusal, Client, ClientCause, ClientState, ReadyReply};
+use wire_end::{CallState, ClientEnd, EndFault, Next, NextRequest, RequestFault, ServerEnd};
+use wire_peer::{
+    CallRefusal, Client, ClientCause, ClientState, ReadyReply, Server, ServerCause, ServerState,
+};
 use wire_stream::{Flushed, LinkFault, TcpLink};
 
 /// A stream that fails each call for this reason.
@@ -119,4 +121,37 @@ fn streams(alloc: Global) -> bool {
 #[test]
 fn a_stream_of_replies_goes_to_one_call(rt: HostRuntime) {
     assert!(rt; streams(rt.alloc()));
+}
+
+/// Returns the end of a server over such a stream.
+fn server_over_failing(alloc: Global, kind: ErrorKind) -> Option<ServerEnd<TcpLink<Failing>>> {
+    let server = Server::new(alloc, 1, 2, 48_000_000).ok()?;
+    ServerEnd::new(alloc, server, TcpLink::new(Failing(kind))).ok()
+}
+
+/// Returns true if a stream that would block leaves the server open, and one that fails is told.
+fn server_waits(alloc: Global) -> bool {
+    let fault = LinkFault {
+        kind: ErrorKind::ConnectionReset,
+    };
+    let (Some(mut waits), Some(mut fails)) = (
+        server_over_failing(alloc, ErrorKind::WouldBlock),
+        server_over_failing(alloc, ErrorKind::ConnectionReset),
+    ) else {
+        return false;
+    };
+    let later = waits.next_request() == Ok(NextRequest::Later)
+        && waits.next_request() == Ok(NextRequest::Later)
+        && waits.flush() == Ok(Flushed::All)
+        && waits.state() == ServerState::Open;
+    let failed = fails.next_request() == Err(RequestFault::Link(fault))
+        && fails.state() == ServerState::Open
+        && fails.end() == ServerCause::Ended
+        && fails.next_request() == Err(RequestFault::Closed(ServerCause::Ended));
+    later && failed
+}
+
+#[test]
+fn a_server_waits_or_is_given_up(rt: HostRuntime) {
+    assert!(rt; server_waits(rt.alloc()));
 }

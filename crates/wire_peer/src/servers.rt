@@ -1,7 +1,7 @@
 //! A server of one connection: bytes come in, requests wait and are answered, and replies go out.
 
-ghost use Rattle.std.specs.Prelude.{◌≡◌, ◌≢◌, ◌≤◌, ◌<◌, ◌↔◌, All, IfOk, IfSome, IsSome, Ok, OnErr};
-ghost use Rattle.std.specs.Prelude.{Some, drop, length, refl, slice_get};
+ghost use Rattle.std.specs.Prelude.{◌≡◌, ◌≢◌, ◌≤◌, ◌<◌, ◌↔◌, All, IfOk, IfSome, IsSome, IsTrue};
+ghost use Rattle.std.specs.Prelude.{Ok, OnErr, Some, drop, length, refl, slice_get};
 ghost use Rattle.std.specs.VecDeque.{deque_capacity, deque_len};
 ghost use Rattle.wire_msg.specs.{IsMessage, IsOpen, Message, SpellsMsg, msg_bytes};
 ghost use Rattle.wire_stream.specs.{CompletesHeader, StandsAt};
@@ -224,6 +224,13 @@ impl Server {
         ensures each { All (IsMessage self.now.limit) self.now.waiting }
     {
         self.waiting.len()
+    }
+
+    /// Returns true if as many requests wait as may. The server takes no bytes then.
+    pub fn is_full(&self) -> bool
+        ensures { IsTrue result ↔ (self.now.window ≤ length self.now.waiting) }
+    {
+        self.waiting.len() >= self.window
     }
 
     /// Returns the `k`-th request that waits, counted from 0, or `None` where no more than `k`
