@@ -15,6 +15,7 @@ pub mod DocumentIter
 pub mod Repeats
 pub mod Unwritable
 pub mod Formed
+pub mod Leaves
 pub mod Same
 pub use Rattle.bson_text.specs.Text
 pub use Rattle.bson_text.specs.ValueText

@@ -5,13 +5,6 @@ use Rattle.bson_doc.specs.declared.refusal.DocRefusal.{DocRefusal}
 use Rattle.bson_doc.specs.declared.refusal.DocRefusal.TheVariants.{RepeatedName, OutOfMemory}
 use Rattle.bson_doc.specs.declared.refusal.DocRefusal.TheVariants.{TooLarge, ZeroInName, Depth}
 
-abbrev pub refusal_number : DocRefusal → ℕ
-refusal_number (RepeatedName depth) = 1
-refusal_number OutOfMemory = 2
-refusal_number TooLarge = 3
-refusal_number ZeroInName = 4
-refusal_number Depth = 5
-
 -- what a refusal displays as, without a depth
 abbrev pub refusal_words : DocRefusal → List ℕ
 refusal_words (RepeatedName depth) = codes "a name is repeated"

@@ -4,8 +4,9 @@ ghost use Rattle.std.specs.Prelude.{◌≡◌, IfOk};
 
 use crate::arrays::Array;
 use crate::documents::Document;
+use crate::lent::{Lent, lend_binary, same_bytes};
 use bson_elem::Kind;
-use bson_raw::{double_from_bytes, double_to_bytes};
+use bson_raw::{RawBson, double_from_bytes, double_to_bytes};
 use std::alloc::AllocError;
 
 /// A value: one variant for each kind.
@@ -123,6 +124,52 @@ impl Bson {
             Bson::Decimal128(_) => Kind::Decimal128,
             Bson::MinKey => Kind::MinKey,
             Bson::MaxKey => Kind::MaxKey,
+        }
+    }
+}
+
+impl Bson {
+    ghost use Rattle.bson_doc.specs.Bson.{value_of};
+    ghost use Rattle.bson_doc.specs.Leaves.{Lends};
+
+    /// Returns the value, lent.
+    pub(crate) fn lend(&self) -> Lent<'_>
+        ensures { Lends result (value_of self.now) }
+    {
+        match self {
+            Bson::Double(bytes) => Lent::Leaf(RawBson::Double(same_bytes(bytes))),
+            Bson::String(text) => Lent::Leaf(RawBson::String(text.as_str())),
+            Bson::Document(document) => Lent::Document(document),
+            Bson::Array(array) => Lent::Array(array),
+            Bson::Binary { subtype, bytes } => Lent::Leaf(lend_binary(*subtype, bytes)),
+            Bson::Undefined => Lent::Leaf(RawBson::Undefined),
+            Bson::ObjectId(bytes) => Lent::Leaf(RawBson::ObjectId(same_bytes(bytes))),
+            Bson::Boolean(truth) => Lent::Leaf(RawBson::Boolean(*truth)),
+            Bson::DateTime(millis) => Lent::Leaf(RawBson::DateTime(*millis)),
+            Bson::Null => Lent::Leaf(RawBson::Null),
+            Bson::Regex { pattern, options } => Lent::Leaf(RawBson::Regex {
+                pattern: pattern.as_str(),
+                options: options.as_str(),
+            }),
+            Bson::DbPointer { namespace, id } => Lent::Leaf(RawBson::DbPointer {
+                namespace: namespace.as_str(),
+                id: same_bytes(id),
+            }),
+            Bson::Code(text) => Lent::Leaf(RawBson::Code(text.as_str())),
+            Bson::Symbol(text) => Lent::Leaf(RawBson::Symbol(text.as_str())),
+            Bson::CodeWithScope { code, scope } => Lent::CodeWithScope {
+                code: code.as_str(),
+                scope,
+            },
+            Bson::Int32(n) => Lent::Leaf(RawBson::Int32(*n)),
+            Bson::Timestamp { increment, seconds } => Lent::Leaf(RawBson::Timestamp {
+                increment: *increment,
+                seconds: *seconds,
+            }),
+            Bson::Int64(n) => Lent::Leaf(RawBson::Int64(*n)),
+            Bson::Decimal128(bytes) => Lent::Leaf(RawBson::Decimal128(same_bytes(bytes))),
+            Bson::MinKey => Lent::Leaf(RawBson::MinKey),
+            Bson::MaxKey => Lent::Leaf(RawBson::MaxKey),
         }
     }
 }

@@ -9,10 +9,8 @@ ghost use Rattle.bson_doc.specs.Plain.{plain_from};
 ghost use Rattle.bson_doc.specs.Room.{IsRoomLeft};
 ghost use Rattle.bson_doc.specs.Values.{plain_value, value_bytes, element_bytes};
 
-use crate::room::{
-    room_after, room_after_binary, room_after_bytes, room_after_dbpointer, room_after_head,
-    room_after_regex, room_after_string,
-};
+use crate::leaf::room_after_leaf;
+use crate::room::{room_after, room_after_head};
 use bson_raw::{RawBson, RawDocument};
 
 /// Returns what is left of `room` behind the canonical bytes of a value.
@@ -22,24 +20,10 @@ fn room_after_value(value: RawBson<'_>, room: usize) -> Option<usize>
         → IsRoomLeft room (length (value_bytes (plain_value v))) result }
 {
     match value {
-        RawBson::Double(bytes) => room_after_bytes(&bytes, room),
-        RawBson::String(text) => room_after_string(text, room),
         RawBson::Document(document) => room_after_document(document, false, room),
         RawBson::Array(array) => room_after_document(array.as_document(), true, room),
-        RawBson::Binary { subtype, bytes } => room_after_binary(subtype, bytes, room),
-        RawBson::ObjectId(bytes) => room_after_bytes(&bytes, room),
-        RawBson::Boolean(_) => room_after(1, room),
-        RawBson::DateTime(_) => room_after(8, room),
-        RawBson::Regex { pattern, options } => room_after_regex(pattern, options, room),
-        RawBson::DbPointer { namespace, id } => room_after_dbpointer(namespace, &id, room),
-        RawBson::Code(text) => room_after_string(text, room),
-        RawBson::Symbol(text) => room_after_string(text, room),
         RawBson::CodeWithScope { code, scope } => room_after_scope(code, scope, room),
-        RawBson::Int32(_) => room_after(4, room),
-        RawBson::Timestamp { .. } => room_after(8, room),
-        RawBson::Int64(_) => room_after(8, room),
-        RawBson::Decimal128(bytes) => room_after_bytes(&bytes, room),
-        RawBson::Undefined | RawBson::Null | RawBson::MinKey | RawBson::MaxKey => Some(room),
+        leaf => room_after_leaf(leaf, room),
     }
 }
 
@@ -50,8 +34,8 @@ fn room_after_scope(code: &str, scope: RawDocument<'_>, room: usize) -> Option<u
         → IsRoomLeft room
         (length (inner_bytes (with_code code.now) (elements (plain_from false 0 t)))) result }
 {
-    let left = room_after_string(code, room)?;
-    room_after_document(scope, false, room_after(4, left)?)
+    let left = room_after(code.len() + 9, room)?;
+    room_after_document(scope, false, left)
 }
 
 /// Returns what is left of `room` behind the pair at `index` of a container, in canonical form.

@@ -8,10 +8,8 @@ ghost use Rattle.bson_doc.specs.Plain.{plain_from};
 ghost use Rattle.bson_doc.specs.Values.{plain_value, value_bytes, element_bytes};
 ghost use Rattle.bson_doc.specs.Refusals.{IsSizeRefusal};
 
-use crate::bytes::{
-    begin, finish, put_len, write_binary, write_bytes, write_dbpointer, write_int32, write_int64,
-    write_regex, write_string, write_timestamp,
-};
+use crate::bytes::{begin, finish, put_len, write_string};
+use crate::leaf::write_leaf;
 use crate::name::write_name;
 use crate::refusal::DocRefusal;
 use bson_elem::MAX_LEN;
@@ -28,24 +26,10 @@ fn write_value(value: RawBson<'_>, limit: usize, out: &mut Vec<u8>) -> Result<()
         → IfErr result (λ e. IsSizeRefusal limit (length (value_bytes (plain_value v))) e) }
 {
     match value {
-        RawBson::Double(bytes) => write_bytes(&bytes, out),
-        RawBson::String(text) => write_string(text, out),
         RawBson::Document(document) => write_document(document, false, limit, out),
         RawBson::Array(array) => write_document(array.as_document(), true, limit, out),
-        RawBson::Binary { subtype, bytes } => write_binary(subtype, bytes, out),
-        RawBson::ObjectId(bytes) => write_bytes(&bytes, out),
-        RawBson::Boolean(truth) => write_bytes(&[truth as u8], out),
-        RawBson::DateTime(millis) => write_int64(millis, out),
-        RawBson::Regex { pattern, options } => write_regex(pattern, options, out),
-        RawBson::DbPointer { namespace, id } => write_dbpointer(namespace, &id, out),
-        RawBson::Code(text) => write_string(text, out),
-        RawBson::Symbol(text) => write_string(text, out),
         RawBson::CodeWithScope { code, scope } => write_scope(code, scope, limit, out),
-        RawBson::Int32(n) => write_int32(n, out),
-        RawBson::Timestamp { increment, seconds } => write_timestamp(increment, seconds, out),
-        RawBson::Int64(n) => write_int64(n, out),
-        RawBson::Decimal128(bytes) => write_bytes(&bytes, out),
-        RawBson::Undefined | RawBson::Null | RawBson::MinKey | RawBson::MaxKey => Ok(()),
+        leaf => write_leaf(leaf, out),
     }
 }
 

@@ -30,6 +30,8 @@ mod element;
 mod from_raw;
 mod iter;
 pub mod laws;
+mod leaf;
+mod lent;
 mod name;
 mod name_list;
 mod refusal;

@@ -1,7 +1,7 @@
 //! Why a document isn't made or written.
 
 ghost use Rattle.std.specs.Prelude.{◌≡◌};
-ghost use Rattle.bson_doc.specs.Refusals.{refusal_number, refusal_words};
+ghost use Rattle.bson_doc.specs.Refusals.{refusal_words};
 ghost use Rattle.bson_doc.specs.declared.refusal.DocRefusal.TheVariants.{OutOfMemory};
 
 use std::alloc::{AllocError, AllocFailed};
@@ -23,19 +23,6 @@ pub enum DocRefusal {
 }
 
 impl DocRefusal {
-    /// Returns the number of the refusal, from 1 to 5.
-    pub fn number(self) -> u8
-        ensures { result ≡ refusal_number self }
-    {
-        match self {
-            DocRefusal::RepeatedName { .. } => 1,
-            DocRefusal::OutOfMemory => 2,
-            DocRefusal::TooLarge => 3,
-            DocRefusal::ZeroInName => 4,
-            DocRefusal::Depth => 5,
-        }
-    }
-
     /// Returns what the refusal displays as, without a depth.
     fn words(self) -> &'static str
         ensures { result.now ≡ refusal_words self }

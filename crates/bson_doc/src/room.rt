@@ -1,8 +1,8 @@
 //! How much room a limit leaves behind the bytes of a document, which are counted without being
 //! written. No function here takes memory.
 
-ghost use Rattle.std.specs.Prelude.{ℕ, ◌+◌, ◌++◌, length};
-ghost use Rattle.bson_elem.specs.{binary, cstring, elements, inner_bytes, string, with_code};
+ghost use Rattle.std.specs.Prelude.{ℕ, ◌+◌, length};
+ghost use Rattle.bson_elem.specs.{cstring, elements, inner_bytes, with_code};
 ghost use Rattle.bson_elem.specs.Spelling as spelling;
 ghost use Rattle.bson_raw.specs.{name_at};
 ghost use Rattle.bson_doc.specs.Array.{array_tree};
@@ -15,6 +15,8 @@ ghost use Rattle.bson_doc.specs.Values.{value_bytes, element_bytes};
 use crate::arrays::Array;
 use crate::bson_values::Bson;
 use crate::documents::Document;
+use crate::leaf::room_after_leaf;
+use crate::lent::Lent;
 use crate::refusal::DocRefusal;
 use itoa::Buffer;
 
@@ -34,45 +36,6 @@ pub(crate) fn refusal_of(left: Option<usize>) -> DocRefusal
         Some(_) => DocRefusal::OutOfMemory,
         None => DocRefusal::TooLarge,
     }
-}
-
-/// Returns what is left of `room` behind bytes as they are.
-pub(crate) fn room_after_bytes(bytes: &[u8], room: usize) -> Option<usize>
-    ensures { IsRoomLeft room (length bytes.now) result }
-{
-    room_after(bytes.len(), room)
-}
-
-/// Returns what is left of `room` behind the bytes of a string.
-pub(crate) fn room_after_string(text: &str, room: usize) -> Option<usize>
-    ensures { IsRoomLeft room (length (string text.now)) result }
-{
-    room_after(text.len() + 5, room)
-}
-
-/// Returns what is left of `room` behind a namespace and an ObjectId.
-pub(crate) fn room_after_dbpointer(namespace: &str, id: &[u8; 12], room: usize) -> Option<usize>
-    ensures { IsRoomLeft room (length (string namespace.now ++ id.now)) result }
-{
-    room_after(namespace.len() + 5 + id.len(), room)
-}
-
-/// Returns what is left of `room` behind a pattern and options.
-pub(crate) fn room_after_regex(pattern: &str, options: &str, room: usize) -> Option<usize>
-    ensures { IsRoomLeft room (length (cstring pattern.now ++ cstring options.now)) result }
-{
-    let left = room_after(pattern.len() + 1, room)?;
-    room_after(options.len() + 1, left)
-}
-
-/// Returns what is left of `room` behind the bytes of a binary.
-pub(crate) fn room_after_binary(subtype: u8, bytes: &[u8], room: usize) -> Option<usize>
-    ensures { IsRoomLeft room (length (binary subtype bytes.now)) result }
-{
-    if subtype == 2 {
-        return room_after(bytes.len() + 9, room);
-    }
-    room_after(bytes.len() + 5, room)
 }
 
 /// Returns what is left of `room` behind the type byte and the canonical name of the pair at
@@ -97,27 +60,11 @@ pub(crate) fn room_after_head(
 fn room_after_value(value: &Bson, room: usize) -> Option<usize>
     ensures { IsRoomLeft room (length (value_bytes (value_of value.now))) result }
 {
-    match value {
-        Bson::Double(bytes) => room_after_bytes(bytes, room),
-        Bson::String(text) => room_after_string(text.as_str(), room),
-        Bson::Document(document) => room_after_document(document, room),
-        Bson::Array(array) => room_after_array(array, room),
-        Bson::Binary { subtype, bytes } => room_after_binary(*subtype, bytes, room),
-        Bson::ObjectId(bytes) => room_after_bytes(bytes, room),
-        Bson::Boolean(_) => room_after(1, room),
-        Bson::DateTime(_) => room_after(8, room),
-        Bson::Regex { pattern, options } => {
-            room_after_regex(pattern.as_str(), options.as_str(), room)
-        }
-        Bson::DbPointer { namespace, id } => room_after_dbpointer(namespace.as_str(), id, room),
-        Bson::Code(text) => room_after_string(text.as_str(), room),
-        Bson::Symbol(text) => room_after_string(text.as_str(), room),
-        Bson::CodeWithScope { code, scope } => room_after_scope(code.as_str(), scope, room),
-        Bson::Int32(_) => room_after(4, room),
-        Bson::Timestamp { .. } => room_after(8, room),
-        Bson::Int64(_) => room_after(8, room),
-        Bson::Decimal128(bytes) => room_after_bytes(bytes, room),
-        Bson::Undefined | Bson::Null | Bson::MinKey | Bson::MaxKey => Some(room),
+    match value.lend() {
+        Lent::Document(document) => room_after_document(document, room),
+        Lent::Array(array) => room_after_array(array, room),
+        Lent::CodeWithScope { code, scope } => room_after_scope(code, scope, room),
+        Lent::Leaf(leaf) => room_after_leaf(leaf, room),
     }
 }
 
@@ -127,8 +74,8 @@ fn room_after_scope(code: &str, scope: &Document, room: usize) -> Option<usize>
     ensures { IsRoomLeft room
         (length (inner_bytes (with_code code.now) (elements (tree_of scope.now)))) result }
 {
-    let left = room_after_string(code, room)?;
-    room_after_document(scope, room_after(4, left)?)
+    let left = room_after(code.len() + 9, room)?;
+    room_after_document(scope, left)
 }
 
 /// Returns what is left of `room` behind the pair at `index` of a container.

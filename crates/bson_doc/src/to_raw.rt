@@ -1,10 +1,10 @@
 //! Writing owned documents to bytes.
 
 ghost use Rattle.std.specs.Prelude.{◌≡◌, ◌++◌, ◌∷◌, IsUtf8, IfErr, IfOk, OnErr, OnOk, None, Some};
-ghost use Rattle.std.specs.Prelude.{length, ◌≤◌, ◌<◌};
+ghost use Rattle.std.specs.Prelude.{length, ◌≤◌};
 ghost use Rattle.std.specs.Io.{StartsWith};
-ghost use Rattle.bson_elem.specs.{AreBytes, IsBytes, Spells, byte_of, cstring, elements};
-ghost use Rattle.bson_elem.specs.{inner_bytes, string, with_code};
+ghost use Rattle.bson_elem.specs.{Spells, byte_of, cstring, elements};
+ghost use Rattle.bson_elem.specs.{inner_bytes, with_code};
 ghost use Rattle.bson_elem.specs.Spelling as spelling;
 ghost use Rattle.bson_doc.specs.Array.{array_tree};
 ghost use Rattle.bson_doc.specs.Bson.{value_of};
@@ -21,11 +21,10 @@ ghost use Rattle.bson_doc.specs.Values.{value_bytes};
 use crate::arrays::Array;
 use crate::bson_values::Bson;
 use crate::buf::RawDocumentBuf;
-use crate::bytes::{
-    begin, finish, put_len, write_binary, write_bytes, write_int32, write_int64, write_regex,
-    write_string, write_timestamp,
-};
+use crate::bytes::{begin, finish, put_len, write_string};
 use crate::documents::Document;
+use crate::leaf::write_leaf;
+use crate::lent::Lent;
 use crate::name::write_name;
 use crate::refusal::DocRefusal;
 use crate::room::{refusal_of, room_after_document};
@@ -55,50 +54,6 @@ fn write_head(
     write_name(name, in_array, index, out)
 }
 
-/// Appends bytes as they are.
-fn write_slice(bytes: &[u8], out: &mut Vec<u8>) -> Result<(), DocRefusal>
-    ensures added { OnOk result (out.new.items ≡ out.old.items ++ bytes.now) }
-    ensures formed { OnOk result (IsBytes bytes.now) }
-    ensures refused { IfErr result (λ e. IsSizeRefusal MAX_LEN (length bytes.now) e) }
-    ensures kept { OnErr result (StartsWith out.new.items out.old.items) }
-{
-    write_bytes(bytes, out)
-}
-
-/// Appends `N` bytes as they are.
-fn write_raw<const N: usize>(bytes: &[u8; N], out: &mut Vec<u8>) -> Result<(), DocRefusal>
-    ensures added { OnOk result (out.new.items ≡ out.old.items ++ bytes.now) }
-    ensures formed { OnOk result (AreBytes N bytes.now) }
-    ensures refused { IfErr result (λ e. IsSizeRefusal MAX_LEN (length bytes.now) e) }
-    ensures kept { OnErr result (StartsWith out.new.items out.old.items) }
-{
-    write_slice(bytes, out)
-}
-
-/// Appends a subtype and data.
-fn write_data(subtype: u8, bytes: &[u8], out: &mut Vec<u8>) -> Result<(), DocRefusal>
-    ensures added { OnOk result
-        (out.new.items ≡ out.old.items ++ spelling.binary subtype bytes.now) }
-    ensures formed { OnOk result ((subtype < 256) × IsBytes bytes.now) }
-    ensures refused { IfErr result
-        (λ e. IsSizeRefusal MAX_LEN (length (spelling.binary subtype bytes.now)) e) }
-    ensures kept { OnErr result (StartsWith out.new.items out.old.items) }
-{
-    write_binary(subtype, bytes, out)
-}
-
-/// Appends a namespace and an ObjectId.
-fn write_pointer(text: &str, id: &[u8; 12], out: &mut Vec<u8>) -> Result<(), DocRefusal>
-    ensures added { OnOk result (out.new.items ≡ out.old.items ++ (string text.now ++ id.now)) }
-    ensures formed { OnOk result (IsUtf8 text.now × AreBytes 12 id.now) }
-    ensures refused { IfErr result
-        (λ e. IsSizeRefusal MAX_LEN (length (string text.now ++ id.now)) e) }
-    ensures kept { OnErr result (StartsWith out.new.items out.old.items) }
-{
-    write_string(text, out)?;
-    write_raw(id, out)
-}
-
 /// Appends a value.
 #[cycle(write)]
 pub(crate) fn write_value(value: &Bson, out: &mut Vec<u8>) -> Result<(), DocRefusal>
@@ -109,25 +64,11 @@ pub(crate) fn write_value(value: &Bson, out: &mut Vec<u8>) -> Result<(), DocRefu
         (λ e. IsSizeRefusal MAX_LEN (length (value_bytes (value_of value.now))) e) }
     ensures kept { OnErr result (StartsWith out.new.items out.old.items) }
 {
-    match value {
-        Bson::Double(bytes) => write_raw(bytes, out),
-        Bson::String(text) => write_string(text.as_str(), out),
-        Bson::Document(document) => write_document(document, out),
-        Bson::Array(array) => write_array(array, out),
-        Bson::Binary { subtype, bytes } => write_data(*subtype, bytes, out),
-        Bson::ObjectId(bytes) => write_raw(bytes, out),
-        Bson::Boolean(truth) => write_bytes(&[*truth as u8], out),
-        Bson::DateTime(millis) => write_int64(*millis, out),
-        Bson::Regex { pattern, options } => write_regex(pattern.as_str(), options.as_str(), out),
-        Bson::DbPointer { namespace, id } => write_pointer(namespace.as_str(), id, out),
-        Bson::Code(text) => write_string(text.as_str(), out),
-        Bson::Symbol(text) => write_string(text.as_str(), out),
-        Bson::CodeWithScope { code, scope } => write_scope(code.as_str(), scope, out),
-        Bson::Int32(n) => write_int32(*n, out),
-        Bson::Timestamp { increment, seconds } => write_timestamp(*increment, *seconds, out),
-        Bson::Int64(n) => write_int64(*n, out),
-        Bson::Decimal128(bytes) => write_raw(bytes, out),
-        Bson::Undefined | Bson::Null | Bson::MinKey | Bson::MaxKey => Ok(()),
+    match value.lend() {
+        Lent::Document(document) => write_document(document, out),
+        Lent::Array(array) => write_array(array, out),
+        Lent::CodeWithScope { code, scope } => write_scope(code, scope, out),
+        Lent::Leaf(leaf) => write_leaf(leaf, out),
     }
 }
 
