@@ -1,5 +1,6 @@
 pub mod Names
 pub mod NameLists
+pub mod NameTables
 pub mod Pairs
 pub mod PlainLaws
 pub mod Naming

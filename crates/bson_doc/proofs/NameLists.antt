@@ -176,3 +176,37 @@ tree_shrinks ks i k query old without new same d lt e before updates kept q =
     let found = btree_map_updates_text query old without None updates q in
     ap (lookup (λ m. is_eq (slice_cmp nat_cmp q (string_bytes m)))) kept ∙ lookup-map_values (closed_up i) (λ m. is_eq (slice_cmp nat_cmp q (string_bytes m))) without.entries
     ∙ ap (option_map (closed_up i)) (found ∙ rw (before q, same) refl) ∙ removed q ks i k d lt e
+
+-- ---- a name whose index is known
+
+differ_false : (q k : List ℕ) → (k ≡ q → ⊥) → bytes_eq q k ≡ false
+differ_false q k other = go (bytes_eq q k) refl
+  where
+    go : (b : Bool) → bytes_eq q k ≡ b → bytes_eq q k ≡ false
+    go true e = absurd (other (sym ((bytes_eq-Decides q k).0 e)))
+    go false e = e
+
+pub nowhere_any : (q : List ℕ) (ks : Names) → ((i : ℕ) → i < length ks → get_or (map string_bytes ks) i [] ≡ q → ⊥) → list_any (is q) ks ≡ false
+nowhere_any q [] other = refl
+nowhere_any q (k ∷ ks) other = rw (differ_false q (string_bytes k) (other 0 (omega arith)), nowhere_any q ks (λ i lt e. other (suc i) (omega (arith, lt)) e)) refl
+
+pub absent_index : (q : List ℕ) (ks : Names) → list_any (is q) ks ≡ false → index_of q ks ≡ None
+absent_index q ks absent = from_zero q ks ∙ absent_at q 0 ks absent
+
+differs_bytes : (k : String Global) (ms : Names) (i : ℕ) → AllByRecursion (λ y. string_eq k y ≡ false) ms → i < length ms → bytes_eq (get_or (map string_bytes ms) i []) (string_bytes k) ≡ false
+differs_bytes k [] i a lt = absurd (omega (arith, lt))
+differs_bytes k (m ∷ ms) zero a lt = bytes_eq-sym (string_bytes m) (string_bytes k) ∙ a.0
+differs_bytes k (m ∷ ms) (suc i) a lt = differs_bytes k ms i a.1 (omega (arith, lt))
+
+found_from : (q : List ℕ) (j : ℕ) (ks : Names) (i : ℕ) → IsDistinct string_eq ks → i < length ks → get_or (map string_bytes ks) i [] ≡ q → at q j ks ≡ Some (j + i)
+unfolding IsDistinct
+found_from q j [] i d lt e = absurd (omega (arith, lt))
+found_from q j (k ∷ ks) zero d lt e = let z : j + 0 ≡ j = omega arith in rw ((bytes_eq-Decides q (string_bytes k)).1 (sym e), z) refl
+found_from q j (k ∷ ks) (suc i) d lt e =
+    let other : is q k ≡ false = ap (λ (x : List ℕ). bytes_eq x (string_bytes k)) (sym e) ∙ differs_bytes k ks i d.0 (omega (arith, lt)) in
+    let there : j + 1 + i ≡ j + suc i = omega arith in
+    rw other (found_from q (j + 1) ks i d.1 (omega (arith, lt)) e ∙ ap Some there)
+
+-- of names that are all different, the index of the one at `i` is `i`
+pub found_at : (q : List ℕ) (ks : Names) (i : ℕ) → IsDistinct string_eq ks → i < length ks → get_or (map string_bytes ks) i [] ≡ q → index_of q ks ≡ Some i
+found_at q ks i d lt e = let z : 0 + i ≡ i = omega arith in from_zero q ks ∙ found_from q 0 ks i d lt e ∙ ap Some z

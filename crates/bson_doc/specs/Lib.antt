@@ -1,4 +1,5 @@
 pub mod NameList
+pub mod NameSlots
 pub mod Plain
 pub mod Values
 pub mod Refusals

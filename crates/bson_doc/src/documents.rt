@@ -85,9 +85,9 @@ impl Document {
         self.len() == 0
     }
 
-    /// Returns the value of the pair with this name, if there is one. It compares names with at
-    /// most 64 others, or in a tree with a logarithm of their number, so that no choice of names
-    /// makes it slow.
+    /// Returns the value of the pair with this name, if there is one. It compares the name with at
+    /// most 16 others, or with a logarithm of their number, so that no choice of names makes it
+    /// slow.
     pub fn get(&self, name: &str) -> Option<&Bson>
         ensures { option_map (λ v. value_of v.now) result ≡ value_named name.now self.now }
     {

@@ -34,6 +34,7 @@ mod leaf;
 mod lent;
 mod name;
 mod name_list;
+mod name_table;
 mod refusal;
 mod room;
 mod to_raw;

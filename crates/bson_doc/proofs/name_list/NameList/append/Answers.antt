@@ -7,4 +7,4 @@ pub invariant_of-self-2 : goal.invariant_of-self-2
 invariant_of-self-2 c =
     let absent = c.requires in
     rw (c.in-Ok.ensures.items, c.try_reserve.ensures.items)
-    (IsDistinct-push string_eq_equiv c.self.inside.list.items c.args.name c.self.invariant.0 (rw c.self.view_is absent), λ many. search rules)
+    (IsDistinct-push string_eq_equiv c.self.inside.list.items c.args.name c.self.invariant.0 (rw c.self.view_is absent), search rules)
