@@ -5,3 +5,5 @@ pub mod ServerRuns
 pub mod ServerFeeds
 pub mod Turns
 pub mod Gathering
+pub mod OnePair
+pub mod Lemmas

@@ -1,6 +1,6 @@
 -- What an end did, and what it did from there on.
 use Rattle.std.proofs.Common.{◌≡◌, ℕ, List, [], ◌∷◌, ◌++◌, Option, Some, ap, refl, sym, subst, ◌∙◌, append_assoc, append-nil}
-use Rattle.std.specs.Prelude.{Err}
+use Rattle.std.specs.Prelude.{Err, Ok, map}
 use Rattle.std.specs.Io.KnownBytes.{Appends, Keeps}
 use Rattle.std.proofs.KnownBytes.{Appends-kept, Appends-nil, Appends-trans}
 use Rattle.wire_msg.specs.{Content, Message, SpellsMsg}
@@ -10,12 +10,14 @@ use Rattle.wire_peer.specs.{ClientSeen, IsCalled, called, content_of, released}
 use Rattle.wire_peer.specs.declared.call_table.ReadyReply.{ReadyReply}
 use Rattle.wire_peer.specs.declared.calls.CallKind.{CallKind}
 use Rattle.wire_peer.specs.declared.calls.CallNo.{CallNo}
-use Rattle.wire_channels.specs.{ClientAct, ClientDoes, ClientEnd, ClientRun, bytes_sent, bytes_taken, handed}
+use Rattle.wire_peer.specs.declared.client_state.ClientCause.{ClientCause}
+use Rattle.wire_channels.specs.{ClientAct, ClientDoes, ClientEnd, ClientRun, bytes_sent, bytes_taken}
 use Rattle.wire_channels.specs.Owners.{Calls, Collects, EndsDown, SendsUp, TakesDown}
 use Rattle.wire_channels.proofs.Lemmas.{client_on, sent_on, taken_on}
 use Rattle.wire_end.specs.declared.next.EndFault.{EndFault}
 use Rattle.wire_end.specs.declared.next.EndFault.TheVariants as faults
-use Rattle.wire_end.specs.Ends.{EndRuns, EndSeen, StandsAs}
+use Rattle.wire_end.specs.declared.next.Next.TheVariants.{Reply}
+use Rattle.wire_end.specs.Ends.{EndRuns, EndSeen, HandsOut, StandsAs}
 use Rattle.wire_end.specs.Steps.{ClosesNothing, Hears}
 
 -- ---- one after the other
@@ -41,38 +43,50 @@ runs_on sent received old mid new acts more r s = record {
       ∙ ap (λ (x : List ℕ). x ++ new.inlet) (sym (taken_on acts more));
 }
 
-pub handed_on : (acts more : List ClientAct) → handed (acts ++ more) ≡ handed acts ++ handed more
-handed_on [] more = refl
-handed_on (Calls kind payload number ∷ acts) more = handed_on acts more
-handed_on (SendsUp bytes ∷ acts) more = handed_on acts more
-handed_on (TakesDown bytes ∷ acts) more = handed_on acts more
-handed_on (Collects reply m ∷ acts) more =
-    ap (λ (x : List (ReadyReply × Message)). (reply, m) ∷ x) (handed_on acts more)
-handed_on (EndsDown ∷ acts) more = handed_on acts more
+-- pieces, and then more of them, are taken in one list of acts
+taking_on : (pieces more : List (List ℕ)) → map TakesDown (pieces ++ more) ≡ map TakesDown pieces ++ map TakesDown more
+taking_on [] more = refl
+taking_on (p ∷ pieces) more = ap (λ (x : List ClientAct). TakesDown p ∷ x) (taking_on pieces more)
 
 pub hears_on : {L : Type 0} (sent received : L → Option (List ℕ)) (old mid new : EndSeen L)
     → Hears sent received old mid → Hears sent received mid new → Hears sent received old new
-hears_on sent received old mid new (acts, r, none) (more, s, none') = (
-  acts ++ more,
-  runs_on sent received old mid new acts more r s,
-  handed_on acts more ∙ ap (λ (x : List (ReadyReply × Message)). x ++ handed more) none ∙ none',
+hears_on sent received old mid new (pieces, r) (more, s) = (
+  pieces ++ more,
+  subst (λ (acts : List ClientAct). EndRuns sent received old acts new) (sym (taking_on pieces more))
+      (runs_on sent received old mid new (map TakesDown pieces) (map TakesDown more) r s),
 )
 
--- no reply was handed out, and then this one
+-- pieces were taken, and then this act was done
+pub heard_then : {L : Type 0} (sent received : L → Option (List ℕ)) (old mid new : EndSeen L) (act : ClientAct)
+    → Hears sent received old mid → EndRuns sent received mid (act ∷ []) new
+    → (pieces : List (List ℕ)) × EndRuns sent received old (map TakesDown pieces ++ act ∷ []) new
+heard_then sent received old mid new act (pieces, r) s =
+    (pieces, runs_on sent received old mid new (map TakesDown pieces) (act ∷ []) r s)
+
+-- pieces were taken, and then this reply was handed out
 pub hands_on : {L : Type 0} (sent received : L → Option (List ℕ)) (old mid new : EndSeen L) (reply : ReadyReply)
     → Hears sent received old mid
     → ((m : Message) × EndRuns sent received mid (Collects reply m ∷ []) new)
-    → (acts : List ClientAct) × EndRuns sent received old acts new
-    × ((m : Message) × (handed acts ≡ (reply, m) ∷ []))
-hands_on sent received old mid new reply (acts, r, none) (m, s) = (
-  acts ++ Collects reply m ∷ [],
-  runs_on sent received old mid new acts (Collects reply m ∷ []) r s,
-  (
-    m,
-    handed_on acts (Collects reply m ∷ [])
-        ∙ ap (λ (x : List (ReadyReply × Message)). x ++ (reply, m) ∷ []) none,
-  ),
-)
+    → (acts : List ClientAct) × EndRuns sent received old acts new × HandsOut (Ok (Reply reply)) acts
+hands_on sent received old mid new reply heard (m, s) =
+    let t = heard_then sent received old mid new (Collects reply m) heard s in
+    (map TakesDown t.0 ++ Collects reply m ∷ [], t.1, (m, t.0, refl))
+
+-- pieces were taken, and then the end was told
+pub closes_on : {L : Type 0} (sent received : L → Option (List ℕ)) (old mid new : EndSeen L) (cause : ClientCause)
+    → Hears sent received old mid → EndRuns sent received mid (EndsDown ∷ []) new
+    → (acts : List ClientAct) × EndRuns sent received old acts new × HandsOut (Err (faults.Closed cause)) acts
+closes_on sent received old mid new cause heard s =
+    let t = heard_then sent received old mid new EndsDown heard s in
+    (map TakesDown t.0 ++ EndsDown ∷ [], t.1, (t.0, refl))
+
+-- pieces were taken, and nothing else was done
+pub hears_short : {L : Type 0} (sent received : L → Option (List ℕ)) (old new : EndSeen L) (fault : EndFault)
+    → ClosesNothing fault → Hears sent received old new
+    → (acts : List ClientAct) × EndRuns sent received old acts new × HandsOut (Err fault) acts
+hears_short sent received old new (faults.Link fault) short (pieces, r) = (map TakesDown pieces, r, (pieces, refl))
+hears_short sent received old new (faults.Closed cause) short (pieces, r) = absurd short
+hears_short sent received old new faults.OutOfMemory short (pieces, r) = (map TakesDown pieces, r, (pieces, refl))
 
 -- ---- no act
 
@@ -101,7 +115,6 @@ nothing sent received e = (
     receives = Appends-nil (received e.link);
     taken = append-nil e.inlet;
   },
-  refl,
 )
 
 -- ---- one act

@@ -1,11 +1,11 @@
 -- A client's end, and what is done with it.
-use Rattle.std.specs.Prelude.{◌≡◌, ℕ, Option, List, [], ◌∷◌, ◌++◌, Result, Ok, Err}
+use Rattle.std.specs.Prelude.{◌≡◌, ℕ, Option, List, [], ◌∷◌, ◌++◌, map, Result, Ok, Err}
 use Rattle.std.specs.Io.KnownBytes.{Appends}
 use Rattle.wire_msg.specs.{Message}
 use Rattle.wire_peer.specs.{ClientSeen, MayTake, new_client}
 use Rattle.wire_peer.specs.declared.client_state.ClientState.TheVariants.{Closed}
 use Rattle.wire_channels.specs.{ClientAct, ClientEnd, ClientRun, Made, bytes_sent, bytes_taken}
-use Rattle.wire_channels.specs.{handed}
+use Rattle.wire_channels.specs.Owners.{Collects, EndsDown, TakesDown}
 use Rattle.wire_stream.specs.{Rose}
 use Rattle.wire_end.specs.declared.next.EndFault.{EndFault}
 use Rattle.wire_end.specs.declared.next.EndFault.TheVariants as faults
@@ -52,12 +52,18 @@ IsWaiting e = MayTake e.own.client × (e.inlet ≡ [])
 
 -- ---- the next reply
 
--- The reply that a call returned is the one that was handed out by these acts; where it returned
--- none, none was.
+-- An end that waited for a reply took pieces of bytes. Behind them it handed out the reply that the
+-- call returned. Where the client is closed now, it was told the end, too; else nothing more was
+-- done.
 abbrev pub HandsOut : Result Next EndFault → List ClientAct → Type 0
-HandsOut (Ok (Reply reply)) acts = (m : Message) × (handed acts ≡ (reply, m) ∷ [])
-HandsOut (Ok Later) acts = handed acts ≡ []
-HandsOut (Err fault) acts = handed acts ≡ []
+HandsOut (Ok (Reply reply)) acts =
+    (m : Message) × (pieces : List (List ℕ))
+    × (acts ≡ map TakesDown pieces ++ Collects reply m ∷ [])
+HandsOut (Ok Later) acts = (pieces : List (List ℕ)) × (acts ≡ map TakesDown pieces)
+HandsOut (Err (faults.Closed cause)) acts =
+    (pieces : List (List ℕ)) × (acts ≡ map TakesDown pieces ++ EndsDown ∷ [])
+HandsOut (Err (faults.Link fault)) acts = (pieces : List (List ℕ)) × (acts ≡ map TakesDown pieces)
+HandsOut (Err faults.OutOfMemory) acts = (pieces : List (List ℕ)) × (acts ≡ map TakesDown pieces)
 
 -- Where no reply was there yet, the client takes more bytes and none is held; and where none comes
 -- any more, it is closed, with this cause.

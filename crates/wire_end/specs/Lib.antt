@@ -4,6 +4,7 @@ pub mod Steps
 pub mod ServerEnds
 pub mod ServerFeeds
 pub mod NextRequests
+pub mod OnePair
 -- the words that clauses of other crates cite
 pub use Rattle.wire_end.specs.Records.{record_of, records_of}
 pub use Rattle.wire_end.specs.Ends.{EndRuns, EndSeen, FailsAs, HandsOut, IsWaiting, NextLater}
@@ -11,3 +12,4 @@ pub use Rattle.wire_end.specs.Ends.{StandsAs, first_client, new_end}
 pub use Rattle.wire_end.specs.ServerEnds.{GoesOver, ServerEndMoves, ServerEndRuns, ServerEndSeen}
 pub use Rattle.wire_end.specs.ServerEnds.{new_server_end, with_logged}
 pub use Rattle.wire_end.specs.NextRequests.{RequestComes, RequestFails, RequestLater, TakesMore}
+pub use Rattle.wire_end.specs.OnePair.{AreAnswered, AreInOrder, PairKnows}

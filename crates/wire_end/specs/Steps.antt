@@ -1,22 +1,23 @@
 -- The steps that an end is made of.
 use Rattle.std.specs.Prelude.{◌≡◌, ℕ, ◌+◌, ◌<◌, Bool, true, false, Option, None, Some, List, []}
-use Rattle.std.specs.Prelude.{◌∷◌, ◌++◌, length, Result, Ok, Err}
+use Rattle.std.specs.Prelude.{◌∷◌, ◌++◌, length, map, Result, Ok, Err}
 use Rattle.wire_msg.specs.{Message}
 use Rattle.wire_model.specs.{ClientTakes}
 use Rattle.wire_peer.specs.{ClientSeen, MayTake}
 use Rattle.wire_peer.specs.declared.call_table.ReadyReply.{ReadyReply}
-use Rattle.wire_channels.specs.{ClientAct, handed}
-use Rattle.wire_channels.specs.Owners.{Collects}
+use Rattle.wire_channels.specs.Owners.{Collects, TakesDown}
 use Rattle.wire_stream.specs.{Rose}
+use Rattle.wire_stream.specs.declared.inlet.Pulled.{Pulled}
+use Rattle.wire_stream.specs.declared.inlet.Pulled.TheVariants as pulls
 use Rattle.wire_end.specs.declared.next.EndFault.{EndFault}
 use Rattle.wire_end.specs.declared.next.EndFault.TheVariants as faults
 use Rattle.wire_end.specs.Ends.{EndRuns, EndSeen}
 
--- the end did some acts, and handed out no reply
+-- the end took pieces of bytes, and did nothing else
 abbrev pub Hears : {L : Type 0} → (sent received : L → Option (List ℕ)) → EndSeen L → EndSeen L
     → Type 0
 Hears sent received old new =
-    (acts : List ClientAct) × EndRuns sent received old acts new × (handed acts ≡ [])
+    (pieces : List (List ℕ)) × EndRuns sent received old (map TakesDown pieces) new
 
 -- Where the client still takes bytes, it holds more of a message than before, within its limit or a
 -- header.
@@ -41,10 +42,16 @@ CollectsAs sent received (Some reply) old new =
     (m : Message) × EndRuns sent received old (Collects reply m ∷ []) new
 
 -- the count of waits rose if no more bytes came, and otherwise stayed the same
-abbrev pub StepLater : Result Bool EndFault → ℕ → ℕ → Type 0
-StepLater (Ok false) old new = Rose old new
-StepLater (Ok true) old new = new ≡ old
+abbrev pub StepLater : Result Pulled EndFault → ℕ → ℕ → Type 0
+StepLater (Ok pulls.Later) old new = Rose old new
+StepLater (Ok pulls.Bytes) old new = new ≡ old
+StepLater (Ok pulls.End) old new = new ≡ old
 StepLater (Err fault) old new = new ≡ old
+
+abbrev pub ReceiveLater : Result Bool EndFault → ℕ → ℕ → Type 0
+ReceiveLater (Ok false) old new = Rose old new
+ReceiveLater (Ok true) old new = new ≡ old
+ReceiveLater (Err fault) old new = new ≡ old
 
 -- the link failed or memory ran out, and the client isn't closed by that
 abbrev pub ClosesNothing : EndFault → Type 0

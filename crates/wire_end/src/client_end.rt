@@ -6,7 +6,8 @@ ghost use Rattle.wire_channels.specs.Owners.{Calls, ClientAct, EndsDown, SendsUp
 ghost use Rattle.wire_end.specs.Ends.{EndRuns, FailsAs, HandsOut, IsWaiting, NextLater, StandsAs};
 ghost use Rattle.wire_end.specs.Ends.{new_end};
 ghost use Rattle.wire_end.specs.Records.{record_of};
-ghost use Rattle.wire_end.specs.Steps.{ClosesNothing, CollectsAs, Hears, HoldsMore, StepLater};
+ghost use Rattle.wire_end.specs.Steps.{ClosesNothing, CollectsAs, Hears, HoldsMore, ReceiveLater};
+ghost use Rattle.wire_end.specs.Steps.{StepLater};
 ghost use Rattle.wire_peer.specs.{IsCallRefusal, MayTake, content_of};
 ghost use Rattle.wire_peer.specs.declared.calls.CallKind.TheVariants.{Exhaust, Plain};
 ghost use Rattle.wire_peer.specs.declared.calls.CallKind.TheVariants.{Unacknowledged};
@@ -189,18 +190,20 @@ impl<L: Link + Drop> ClientEnd<L> {
         }
     }
 
-    /// Receives until a reply is ready or the client is closed. Returns false if no more bytes come
-    /// now.
+    /// Receives until a reply is ready, the client is closed or the link has ended. Returns false if
+    /// no more bytes come now.
     fn receive(&mut self) -> Result<bool, EndFault>
         ensures heard { Hears L.sent L.received self.old self.new }
         ensures waits { result ≡ Ok false → IsWaiting self.new }
         ensures closes { IfErr result (λ e. ClosesNothing e) }
-        ensures later { StepLater result (L.waits self.old.link) (L.waits self.new.link) }
+        ensures later { ReceiveLater result (L.waits self.old.link) (L.waits self.new.link) }
         ensures fails { FailsAs result (L.failures self.old.link) (L.failures self.new.link) }
     {
         while self.is_receiving() {
-            if !self.step()? {
-                return Ok(false);
+            match self.step()? {
+                Pulled::Bytes => {}
+                Pulled::End => return Ok(true),
+                Pulled::Later => return Ok(false),
             }
         }
         Ok(true)
@@ -214,28 +217,25 @@ impl<L: Link + Drop> ClientEnd<L> {
         self.client.reply().is_none() && self.client.state() == ClientState::Open
     }
 
-    /// Receives a piece, where none is held, and feeds the client. At the end of the link it tells
-    /// the client. Returns false if no more bytes come now.
-    fn step(&mut self) -> Result<bool, EndFault>
+    /// Receives a piece, where none is held, and feeds the client.
+    fn step(&mut self) -> Result<Pulled, EndFault>
         requires { MayTake self.old.own.client }
         ensures heard { Hears L.sent L.received self.old self.new }
-        ensures waits { result ≡ Ok false → IsWaiting self.new }
+        ensures waits { result ≡ Ok Pulled.Later → IsWaiting self.new }
         ensures closes { IfErr result (λ e. ClosesNothing e) }
-        ensures more { result ≡ Ok true → HoldsMore self.old.own.client self.new.own.client }
+        ensures more { result ≡ Ok Pulled.Bytes
+            → HoldsMore self.old.own.client self.new.own.client }
         ensures later { StepLater result (L.waits self.old.link) (L.waits self.new.link) }
         ensures fails { FailsAs result (L.failures self.old.link) (L.failures self.new.link) }
     {
         match self.inlet.pull(&mut self.link) {
             Ok(Pulled::Bytes) => {}
-            Ok(Pulled::End) => {
-                let _ = self.end();
-                return Ok(true);
-            }
-            Ok(Pulled::Later) => return Ok(false),
+            Ok(Pulled::End) => return Ok(Pulled::End),
+            Ok(Pulled::Later) => return Ok(Pulled::Later),
             Err(fault) => return Err(EndFault::Link(fault)),
         }
         match feed(&mut self.client, &mut self.inlet) {
-            Ok(()) => Ok(true),
+            Ok(()) => Ok(Pulled::Bytes),
             Err(_) => Err(EndFault::OutOfMemory),
         }
     }

@@ -6,8 +6,9 @@ ghost use Rattle.wire_peer.specs.declared.log.Logged.{Logged as LoggedBy};
 ghost use Rattle.wire_channels.specs.{AreMade, Arrive, ClientAct, Made, OwnersKnow, ServerAct};
 ghost use Rattle.wire_channels.specs.{ServerEnds, ServersGrow, Turn, acts_at, among, deeds_of};
 ghost use Rattle.wire_channels.specs.{first_servers_of, opened, opened_in, server_set};
-ghost use Rattle.wire_channels.specs.{server_turns, served_turns};
+ghost use Rattle.wire_channels.specs.{Deed, server_turns, served_turns};
 ghost use Rattle.wire_end.specs.Ends.{EndRuns, EndSeen, first_client};
+ghost use Rattle.wire_end.specs.OnePair.{AreAnswered, AreInOrder, PairKnows};
 ghost use Rattle.wire_end.specs.ServerEnds.{ServerEndMoves, ServerEndRuns, ServerEndSeen};
 ghost use Rattle.wire_end.specs.ServerEnds.{new_server_end, with_logged};
 
@@ -69,4 +70,22 @@ pub fn programs_know<L: Link, H: Handler>()
         → Arrive (λ _. []) (λ _. []) (deeds_of turns)
         → OwnersKnow H.does H.stops (opened_in turns) first (deeds_of turns)
         (λ c. (clients c).own) servers }
+{}
+
+/// Proves the headline of one client and one server, each kept at an end over a link of its own.
+/// Where the acts of both can be put into one order in which bytes arrive in order, the records of
+/// the client's end keep the headline, over the log of the server's handler. So each call that is
+/// done has an entry of its own, with its payload, and holds exactly the answers of that.
+pub fn one_pair_knows<L: Link, H: Handler>()
+    ensures { (limit : ℕ) (made : Made) (near far : L) (acts : List ClientAct)
+        (served : List ServerAct) (client : EndSeen L) (server : ServerEndSeen L)
+        (from to : LoggedBy H) (deeds : List Deed)
+        → IsLimit limit → AreMade (λ _. made) → log_of from.entries.items ≡ []
+        → EndRuns L.sent L.received (first_client limit (λ _. made) 1 near) acts client
+        → ServerEndRuns H.does H.stops L.sent L.received
+        (new_server_end (new_server 1 made.server_window limit) far) from served server to
+        → AreInOrder acts served deeds → Arrive (λ _. []) (λ _. []) deeds
+        → PairKnows H.does H.stops limit made from.handler deeds client.own
+        (with_logged server.server to)
+        × AreAnswered client.own.records (log_of to.entries.items) }
 {}

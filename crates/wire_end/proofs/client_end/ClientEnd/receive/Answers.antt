@@ -8,8 +8,14 @@ returns-in_err-step-clause-heard g c =
     hears_on L.sent L.received c.args.self.now c.loop-self.self c.step.new.self c.loop-self.invariant.heard
     c.step.ensures.heard
 
-pub returns-then-not-branch-clause-heard : goal.returns-then-not-branch-clause-heard
-returns-then-not-branch-clause-heard g c =
+pub returns-in-End-clause-heard : goal.returns-in-End-clause-heard
+returns-in-End-clause-heard g c =
+    let L = g.L.Link in
+    hears_on L.sent L.received c.args.self.now c.loop-self.self c.step.new.self c.loop-self.invariant.heard
+    c.step.ensures.heard
+
+pub returns-in-Later-clause-heard : goal.returns-in-Later-clause-heard
+returns-in-Later-clause-heard g c =
     let L = g.L.Link in
     hears_on L.sent L.received c.args.self.now c.loop-self.self c.step.new.self c.loop-self.invariant.heard
     c.step.ensures.heard
@@ -17,7 +23,7 @@ returns-then-not-branch-clause-heard g c =
 pub loop-self-preserved : goal.loop-self-preserved
 loop-self-preserved g c =
     let L = g.L.Link in
-    let later = rw c.if-not-branch.false at c.in_ok-step.ensures.later in
+    let later = rw c.in-Bytes.is at c.in_ok-step.ensures.later in
     record {
       heard = hears_on L.sent L.received c.args.self.now c.loop-self.self c.step.new.self c.loop-self.invariant.heard
           c.step.ensures.heard;
