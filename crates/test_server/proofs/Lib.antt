@@ -9,5 +9,6 @@ pub mod Handled
 pub mod Texts
 pub mod Made
 pub mod ServingLaws
+pub mod Growing
 pub mod NumberLemmas
 pub mod ParseLemmas

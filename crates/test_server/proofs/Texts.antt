@@ -8,7 +8,7 @@ use Rattle.std.proofs.lemmas.List.{flat_map_more, map_more}
 use Rattle.std.specs.Fmt.{decimal}
 use Rattle.wire_text.proofs.Lemmas.{two_written}
 use Rattle.wire_peer.specs.{LogEntry}
-use Rattle.wire_peer.specs.declared.serving.ServeEnd.{ServeEnd}
+use Rattle.wire_end.specs.declared.serving.ServeEnd.{ServeEnd}
 use Rattle.test_server.specs.Transcript.{connection_text, end_text, entry_text}
 
 -- two proofs that a text was written are the same proof

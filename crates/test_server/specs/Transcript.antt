@@ -5,10 +5,10 @@ use Rattle.bson_text.specs.{document_text, quoted}
 use Rattle.wire_msg.specs.{Content, fault_text}
 use Rattle.wire_text.specs.{text_of_sequence}
 use Rattle.wire_text.specs.declared.messages.Detail.TheVariants.{Line}
-use Rattle.wire_peer.specs.declared.serving.ServeEnd.{ServeEnd}
-use Rattle.wire_peer.specs.declared.serving.ServeEnd.TheVariants.{Ended, EndedInside, Fault, Link}
-use Rattle.wire_peer.specs.declared.serving.ServeEnd.TheVariants.{Later, Budget, ReplyTooLarge}
-use Rattle.wire_peer.specs.declared.serving.ServeEnd.TheVariants.{OutOfMemory, HandlerFailed}
+use Rattle.wire_end.specs.declared.serving.ServeEnd.{ServeEnd}
+use Rattle.wire_end.specs.declared.serving.ServeEnd.TheVariants.{Ended, EndedInside, Fault, Link}
+use Rattle.wire_end.specs.declared.serving.ServeEnd.TheVariants.{Later, Budget, ReplyTooLarge}
+use Rattle.wire_end.specs.declared.serving.ServeEnd.TheVariants.{OutOfMemory, HandlerFailed}
 use Rattle.wire_peer.specs.{LogEntry}
 use Rattle.test_server.specs.Commands.{first_name}
 

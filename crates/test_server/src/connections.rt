@@ -2,9 +2,10 @@
 
 ghost use Rattle.std.specs.Prelude.{◌≡◌, ◌<◌, OnOk, ℕ};
 ghost use Rattle.bson_text.specs.{WritesOut};
-ghost use Rattle.wire_peer.specs.{log_of, seen};
-ghost use Rattle.test_server.specs.Serving.{IsListened, IsRun, ServesAll, ServesNext, ServesOne};
-ghost use Rattle.test_server.specs.Serving.{kept, served_line, settled};
+ghost use Rattle.wire_end.specs.{seen};
+ghost use Rattle.wire_peer.specs.{log_of};
+ghost use Rattle.test_server.specs.Serving.{Grew, IsListened, IsRun, ServesAll, ServesNext};
+ghost use Rattle.test_server.specs.Serving.{ServesOne, first_end, kept, served_line, settled};
 
 use crate::store::Store;
 use crate::transcript::write_connection;
@@ -12,13 +13,14 @@ use std::alloc::Global;
 use std::io;
 use std::io::{BufWriter, Write};
 use std::net::{Net, OpenListener, TcpListener};
+use wire_end::{ServeEnd, ServerEnd};
 use wire_msg::MAX_MESSAGE_LEN;
-use wire_peer::{Logged, ServeEnd, serve};
+use wire_peer::{Logged, Server};
 use wire_stream::{Link, TcpLink};
 
 /// Why the server ends.
 #[derive(Clone, Copy, Debug, PartialEq, Eq)]
-pub enum ServerEnd {
+pub enum RunEnd {
     /// This many connections were served.
     Served(u64),
     /// Listening, accepting a connection or writing the output failed.
@@ -27,34 +29,35 @@ pub enum ServerEnd {
     OutOfMemory,
 }
 
-/// Serves one connection, and writes and flushes its transcript. Returns how it ended.
-fn serve_one<L: Link, W: Write>(
-    alloc: Global,
+/// Serves the connection of this number at its end, and writes and flushes its transcript. Returns
+/// how it ended.
+fn serve_one<L: Link + Drop, W: Write>(
     number: u64,
-    link: &mut L,
+    end: &mut ServerEnd<L>,
     logged: &mut Logged<Store>,
     out: &mut W,
-) -> Result<ServeEnd, ServerEnd>
+) -> Result<ServeEnd, RunEnd>
+    requires { end.old ≡ first_end number end.old.link }
     ensures { ServesOne number result
-        (seen L.received L.sent L.turns L.failures L.ends L.waits logged.old link.old)
-        (seen L.received L.sent L.turns L.failures L.ends L.waits logged.new link.new)
+        (seen L.received L.sent L.turns L.failures L.ends L.waits logged.old end.old.link)
+        (seen L.received L.sent L.turns L.failures L.ends L.waits logged.new end.new.link)
         (W.contents out.old) (W.contents out.new) }
 {
     let before = logged.entries().len();
-    let end = serve(alloc, link, logged, number, MAX_MESSAGE_LEN, u64::MAX);
-    match write_connection(number, &logged.entries()[before..], end, out) {
-        Ok(()) if out.flush().is_ok() => Ok(end),
-        _ => Err(ServerEnd::InOut),
+    let why = end.serve(logged, u64::MAX);
+    match write_connection(number, &logged.entries()[before..], why, out) {
+        Ok(()) if out.flush().is_ok() => Ok(why),
+        _ => Err(RunEnd::InOut),
     }
 }
 
 /// Returns `Ok` if the server goes on after a connection that ended like this. It stops only if
 /// memory ran out.
-fn settle(end: ServeEnd) -> Result<(), ServerEnd>
+fn settle(end: ServeEnd) -> Result<(), RunEnd>
     ensures { result ≡ settled end }
 {
     match end {
-        ServeEnd::OutOfMemory => Err(ServerEnd::OutOfMemory),
+        ServeEnd::OutOfMemory => Err(RunEnd::OutOfMemory),
         _ => Ok(()),
     }
 }
@@ -70,18 +73,23 @@ fn serve_next<R: Net, W: Write>(
     number: u64,
     logged: &mut Logged<Store>,
     out: &mut W,
-) -> Result<(), ServerEnd>
+) -> Result<(), RunEnd>
     ensures { ServesNext number result
         (kept logged.old.handler (log_of logged.old.entries.items))
         (kept logged.new.handler (log_of logged.new.entries.items))
         (W.contents out.old) (W.contents out.new) }
 {
     let Ok((stream, _)) = listener.accept() else {
-        return Err(ServerEnd::InOut);
+        return Err(RunEnd::InOut);
     };
-    let mut link = TcpLink::new(stream);
-    let end = serve_one(alloc, number, &mut link, logged, out)?;
-    settle(end)
+    let Ok(server) = Server::new(alloc, number, 1, MAX_MESSAGE_LEN) else {
+        return Err(RunEnd::OutOfMemory);
+    };
+    let Ok(mut end) = ServerEnd::new(alloc, server, TcpLink::new(stream)) else {
+        return Err(RunEnd::OutOfMemory);
+    };
+    let why = serve_one(number, &mut end, logged, out)?;
+    settle(why)
 }
 
 /// Accepts `count` connections one after another, and numbers them from 1. Serves each with what
@@ -92,40 +100,36 @@ fn serve_all<R: Net, W: Write>(
     count: u64,
     logged: &mut Logged<Store>,
     out: &mut W,
-) -> ServerEnd
-    ensures { ServesAll count result
+) -> RunEnd
+    ensures served { ServesAll count result
         (kept logged.old.handler (log_of logged.old.entries.items))
         (kept logged.new.handler (log_of logged.new.entries.items))
         (W.contents out.old) (W.contents out.new) }
+    ensures grew { Grew (kept logged.old.handler (log_of logged.old.entries.items))
+        (kept logged.new.handler (log_of logged.new.entries.items)) }
 {
     for i in 0..count {
         if let Err(why) = serve_next::<R, W>(alloc, listener, i + 1, logged, out) {
             return why;
         }
     }
-    ServerEnd::Served(count)
+    RunEnd::Served(count)
 }
 
 /// Listens at `address`, writes to `out` where that is, and serves `count` connections, which are
 /// at least one.
-fn listen<R: Net, W: Write>(
-    rt: &R,
-    alloc: Global,
-    address: &str,
-    count: u64,
-    out: &mut W,
-) -> ServerEnd
+fn listen<R: Net, W: Write>(rt: &R, alloc: Global, address: &str, count: u64, out: &mut W) -> RunEnd
     requires { 0 < count }
     ensures { IsListened count result (W.contents out.old) (W.contents out.new) }
 {
     let Ok(listener) = TcpListener::bind(rt, address) else {
-        return ServerEnd::InOut;
+        return RunEnd::InOut;
     };
     let Ok(local) = listener.local_addr() else {
-        return ServerEnd::InOut;
+        return RunEnd::InOut;
     };
     if writeln!(out, "listening {local}").is_err() || out.flush().is_err() {
-        return ServerEnd::InOut;
+        return RunEnd::InOut;
     }
     let mut logged = Logged::new(alloc, Store::new(alloc));
     serve_all::<R, W>(alloc, &listener, count, &mut logged, out)
@@ -147,16 +151,16 @@ fn serve_at<R: Net, W: Write>(
     address: &str,
     count: u64,
     out: &mut W,
-) -> ServerEnd
+) -> RunEnd
     ensures { IsRun count result (W.contents out.old) (W.contents out.new) }
 {
     let end = if count == 0 {
-        ServerEnd::Served(0)
+        RunEnd::Served(0)
     } else {
         listen(rt, alloc, address, count, out)
     };
     match end {
-        ServerEnd::Served(_) if write_last(count, out).is_err() => ServerEnd::InOut,
+        RunEnd::Served(_) if write_last(count, out).is_err() => RunEnd::InOut,
         end => end,
     }
 }
@@ -168,11 +172,11 @@ pub fn run<R: Net, W: Write + Drop>(
     address: &str,
     count: u64,
     out: W,
-) -> ServerEnd
-    ensures { (n : ℕ) → result ≡ ServerEnd.Served n → n ≡ count }
+) -> RunEnd
+    ensures { (n : ℕ) → result ≡ RunEnd.Served n → n ≡ count }
 {
     match BufWriter::new(alloc, out) {
         Ok(mut out) => serve_at(rt, alloc, address, count, &mut out),
-        Err(_) => ServerEnd::OutOfMemory,
+        Err(_) => RunEnd::OutOfMemory,
     }
 }

@@ -32,7 +32,7 @@ ghost use Rattle.test_server.specs.ExitStatus.{IsStatusFor, IsStatusOf, exit_sta
 
 use choice::{Choice, choose};
 use command_words::{IN_OUT, MEMORY, Program, texts};
-use connections::{ServerEnd, run};
+use connections::{RunEnd, run};
 use std::io;
 use std::process::ExitCode;
 
@@ -83,25 +83,25 @@ fn run_choice(rt: &HostRuntime, choice: Choice<'_>) -> u8
 }
 
 /// Says on standard error why serving stopped early, if it did. Returns the exit status.
-fn tell(rt: &impl Eprint, end: ServerEnd, address: &str) -> u8
+fn tell(rt: &impl Eprint, end: RunEnd, address: &str) -> u8
     ensures { result ≡ exit_status end }
 {
     // If standard error takes no line, there is only the status.
     let _ = match end {
-        ServerEnd::InOut => eprintln!(rt; "test_server: could not serve at {address:?}"),
-        ServerEnd::OutOfMemory => eprintln!(rt; "test_server: out of memory"),
-        ServerEnd::Served(_) => Ok(()),
+        RunEnd::InOut => eprintln!(rt; "test_server: could not serve at {address:?}"),
+        RunEnd::OutOfMemory => eprintln!(rt; "test_server: out of memory"),
+        RunEnd::Served(_) => Ok(()),
     };
     status_of(end)
 }
 
 /// Returns the exit status of an end.
-fn status_of(end: ServerEnd) -> u8
+fn status_of(end: RunEnd) -> u8
     ensures { result ≡ exit_status end }
 {
     match end {
-        ServerEnd::Served(_) => 0,
-        ServerEnd::InOut => IN_OUT,
-        ServerEnd::OutOfMemory => MEMORY,
+        RunEnd::Served(_) => 0,
+        RunEnd::InOut => IN_OUT,
+        RunEnd::OutOfMemory => MEMORY,
     }
 }

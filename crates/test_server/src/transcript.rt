@@ -11,8 +11,9 @@ use crate::commands::name_of;
 use bson_text::{dump_to, quoted_to};
 use std::io;
 use std::io::Write;
+use wire_end::ServeEnd;
 use wire_msg::{Payload, PayloadBuf};
-use wire_peer::{Entry, Outcome, ServeEnd};
+use wire_peer::{Entry, Outcome};
 use wire_text::{Detail, write_sequences};
 
 /// Writes the text of a body, and the line of each sequence.

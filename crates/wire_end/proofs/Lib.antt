@@ -6,4 +6,10 @@ pub mod ServerFeeds
 pub mod Turns
 pub mod Gathering
 pub mod OnePair
+pub mod SplitFronts
+pub mod InTurn
+pub mod OneAnswer
+pub mod AnswerRuns
+pub mod Progress
+pub mod Serves
 pub mod Lemmas

@@ -2,7 +2,7 @@
 //! there, and what is sent byte for byte. They stand in a crate of their own, since a crate is
 //! proved once more with its tests.
 //!
-//! Stands on wire_end. Read first: `answered` and `requests`.
+//! Uses wire_end, and `log_rows` of wire_peer_tests. Read first: `answered`, `requests` and `serving`.
 #![tactic(auto)]
 
 #[cfg(test)]
@@ -11,5 +11,9 @@ mod answered;
 mod end_refusals;
 #[cfg(test)]
 mod requests;
+#[cfg(test)]
+mod serving;
+#[cfg(test)]
+mod serving_refusals;
 #[cfg(test)]
 mod waiting;

@@ -3,11 +3,6 @@ pub mod ChainLaws
 pub mod CountLaws
 pub mod LogLaws
 pub mod Lemmas
-pub mod SplitFronts
-pub mod Comings
-pub mod TurnLaws
-pub mod Serves
-pub mod OneAnswer
 pub mod ServerLaws
 pub mod IdLaws
 pub mod MarkLaws

@@ -8,9 +8,6 @@ pub mod Stopping
 pub mod Logs
 pub mod Chains
 pub mod Replying
-pub mod Coming
-pub mod Serving
-pub mod Answering
 pub mod Refusals
 pub mod Servers
 pub mod ServerParts
@@ -51,4 +48,3 @@ pub use Rattle.wire_peer.specs.Requests.{Asked, IsCount, asked, asked_by, takes_
 pub use Rattle.wire_peer.specs.ServerAnswers.{AnswerStep, WaitsAt}
 pub use Rattle.wire_peer.specs.Servers.{IsNewServer, ServerView, TakesBytes, closed_for, end_cause}
 pub use Rattle.wire_peer.specs.Servers.{new_server}
-pub use Rattle.wire_peer.specs.Serving.{EndsAs, Seen, Served, seen, serve_out}

@@ -8,10 +8,10 @@
 //! entry before it asks. A `ReplyBuf` holds the replies of one connection until they are sent.
 //! `Echo`, `Count` and `StopAt` are handlers. A `Server` is the whole end without a link: bytes are
 //! fed to it, requests wait in it and are answered in any order, and its output is taken off as it
-//! is sent. `serve` runs a server over a link, and answers its messages in order.
+//! is sent.
 //!
-//! Stands on wire_stream. wire_model, wire_world, engines and test_server stand on it. Read first:
-//! `handlers` and `log`, then `servers` and `clients`, and then `serving`.
+//! Stands on wire_stream. wire_model, wire_world, wire_end, engines and test_server stand on it. Read
+//! first: `handlers` and `log`, then `servers` and `clients`.
 #![tactic(auto)]
 
 mod answer_list;
@@ -19,7 +19,6 @@ mod call_table;
 mod calls;
 mod client_state;
 mod clients;
-mod coming;
 mod counting;
 mod echoing;
 mod free_id;
@@ -33,7 +32,6 @@ mod request_buf;
 mod requests;
 mod server_state;
 mod servers;
-mod serving;
 mod stop_at;
 
 pub use answer_list::Answers;
@@ -52,5 +50,4 @@ pub use reply_buf::{ReplyBuf, ReplyRefusal};
 pub use requests::Request;
 pub use server_state::{AnswerRefusal, ServerCause, ServerRefusal, ServerState};
 pub use servers::Server;
-pub use serving::{ServeEnd, serve};
 pub use stop_at::StopAt;

@@ -131,18 +131,12 @@ fn cause_of(reason: NoReplies) -> Option<ServerCause>
 }
 
 impl Server {
-    /// Like `new`, of numbers that are known to be good, but for the least limit, which isn't asked
-    /// for.
+    /// Like `new`, of numbers that are known to be good.
     ///
     /// # Errors
     ///
     /// `AllocError` where memory runs out.
-    pub(crate) fn of(
-        alloc: Global,
-        connection: u64,
-        window: usize,
-        limit: u32,
-    ) -> Result<Server, AllocError>
+    fn of(alloc: Global, connection: u64, window: usize, limit: u32) -> Result<Server, AllocError>
         requires window { IsWindow window }
         requires limit { limit ≤ 48_000_000 }
         ensures { IfOk result (λ server. server ≡ new_server connection window limit) }

@@ -2,7 +2,7 @@
 //! byte for byte, and that the definitions mean the protocol. They are in a crate of their own,
 //! since a crate is proved once more with its tests.
 //!
-//! Uses wire_peer. Read first: `clients` and `servers`.
+//! Uses wire_peer. Used by wire_end_tests, for `log_rows`. Read first: `clients` and `servers`.
 #![tactic(auto)]
 
 #[cfg(test)]
@@ -17,8 +17,7 @@ mod flushes;
 mod handlers;
 #[cfg(test)]
 mod log_refusals;
-#[cfg(test)]
-mod log_rows;
+pub mod log_rows;
 #[cfg(test)]
 mod logs;
 #[cfg(test)]
@@ -27,9 +26,5 @@ mod refused_calls;
 mod server_refusals;
 #[cfg(test)]
 mod servers;
-#[cfg(test)]
-mod serving;
-#[cfg(test)]
-mod serving_refusals;
 #[cfg(test)]
 mod texts;

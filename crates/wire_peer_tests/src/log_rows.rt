@@ -4,7 +4,7 @@ use wire_msg::PayloadBuf;
 use wire_peer::{Entry, Outcome};
 
 /// An expected entry: the request's body, and the bodies of its answers, or `None` if it failed.
-pub(crate) type Noted<'a> = (&'a [u8], Option<&'a [&'a [u8]]>);
+pub type Noted<'a> = (&'a [u8], Option<&'a [&'a [u8]]>);
 
 /// Returns true if the payload is the body alone.
 fn is_body(payload: &PayloadBuf, body: &[u8]) -> bool {
@@ -12,7 +12,7 @@ fn is_body(payload: &PayloadBuf, body: &[u8]) -> bool {
 }
 
 /// Returns true if the payloads are these bodies alone.
-pub(crate) fn are_bodies(payloads: &[PayloadBuf], bodies: &[&[u8]]) -> bool {
+pub fn are_bodies(payloads: &[PayloadBuf], bodies: &[&[u8]]) -> bool {
     if payloads.len() != bodies.len() {
         return false;
     }
@@ -34,7 +34,7 @@ fn is_outcome(outcome: &Outcome, answers: Option<&[&[u8]]>) -> bool {
 }
 
 /// Returns true if the entries are these, all of one connection.
-pub(crate) fn is_log(entries: &[Entry], connection: u64, rows: &[Noted<'_>]) -> bool {
+pub fn is_log(entries: &[Entry], connection: u64, rows: &[Noted<'_>]) -> bool {
     if entries.len() != rows.len() {
         return false;
     }
