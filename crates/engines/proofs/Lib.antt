@@ -2,5 +2,5 @@ pub mod Readings
 pub mod TextLaws
 pub mod MessageReadings
 pub mod MessageLaws
-pub mod EndLemmas
+pub mod Rounds
 pub mod LoopLemmas

@@ -1,18 +1,29 @@
--- The requests and the text of `loop`, call by call.
+-- The requests and the text of `loop`, call by call, and what was done at both ends.
 use Rattle.std.proofs.Common.{◌≡◌, ◌∙◌, ◌+◌, ◌-◌, ◌<◌, ◌≤◌, ℕ, suc, List, [], ◌++◌, add-one, append_assoc, append-nil, ap, refl, subst, sym, Option, arith, take, drop}
 use Rattle.std.specs.Io.KnownBytes.{Appends, Keeps}
 use Rattle.std.proofs.KnownBytes.{Appends-kept, Appends-nil, Appends-trans}
 use Rattle.std.proofs.lemmas.List.{take-append-drop}
-use Rattle.std.specs.Prelude.{pos}
-use Rattle.wire_msg.specs.{Content, body_alone, canonical}
-use Rattle.wire_peer.specs.{ClientSeen, request}
-use Rattle.wire_peer.specs.declared.calls.CallKind.TheVariants.{Plain}
-use Rattle.engines.specs.Ends.{IsReply, Receives, arrived}
-use Rattle.engines.specs.Loopback.{AppendsUpTo, GetsReply, call_body, call_line, call_lines, last_line, request_bytes, requests_bytes}
+use Rattle.std.specs.Prelude.{OnOk, Result, Ok, Err, pos, ◌≤ℤ◌, FitsSigned}
+use Rattle.std.specs.Int.{w32}
+use Rattle.bson_elem.specs.{IsBytes}
+use Rattle.wire_peer.specs.{LogEntry, log_of, new_server}
+use Rattle.wire_peer.specs.declared.echoing.Echo.{Echo}
+use Rattle.wire_peer.specs.declared.log.Logged.{Logged}
+use Rattle.wire_channels.specs.{AreMade, ClientAct, ClientRun, ServerAct, ServerRun, first_end}
+use Rattle.wire_end.specs.{AreAnswered, EndRuns, EndSeen, ServerEndRuns, ServerEndSeen, with_logged}
+use Rattle.wire_end.proofs.Lemmas.{are_answered, end_runs_on, pair_knows, runs_on}
+use Rattle.engines.specs.Calling.{AreComplete, IsIdle, done_calls}
+use Rattle.engines.specs.Loopback.{AppendsUpTo, AreNew, HaveRun, call_line, call_lines, echo_does, echo_stops, last_line, loop_text, made_least, message_limit, request_bytes, requests_bytes}
 
 -- nothing was written
 pub none_yet : (text : List ℕ) (old : Option (List ℕ)) → AppendsUpTo text text old old
 none_yet text old = ([], refl, Appends-nil old)
+
+-- nothing of the whole text was written
+pub none_of : (calls : ℕ) (old : Option (List ℕ)) → AppendsUpTo (call_lines 0 (calls - 0) ++ last_line calls) (loop_text calls) old old
+none_of calls old =
+    let is : calls - 0 ≡ calls = omega arith in
+    subst (λ (n : ℕ). AppendsUpTo (call_lines 0 n ++ last_line calls) (loop_text calls) old old) (sym is) (none_yet (loop_text calls) old)
 
 -- the first of what is left is written, or nothing of it
 pub some_written : (rest text : List ℕ) (n : ℕ) (old mid new : Option (List ℕ)) → AppendsUpTo rest text old mid → Appends mid new (take n rest)
@@ -66,20 +77,86 @@ last_written k calls left text old mid new all before here =
 pub one_more_sent : (k : ℕ) (a b c : Option (List ℕ)) → Appends a b (requests_bytes k) → Appends b c (request_bytes k) → Appends a c (requests_bytes (k + 1))
 one_more_sent k a b c before now = rw add-one (Appends-trans a b c (requests_bytes k) (request_bytes k) before now)
 
--- the reply of a call that came, and was let go of
-pub gets_reply : (k : ℕ) (a b c : Option (List ℕ)) (first called piece rest : List ℕ) (ready done : ClientSeen) → Keeps a b → called ≡ first
-    → Receives b c called (arrived ready piece) → IsReply (call_body k) ready.held → arrived done rest ≡ piece → GetsReply k a c first (arrived done rest)
-gets_reply k a b c first called piece rest ready done keeps same got reply is = (
-  got.0,
-  ready.held,
-  Appends-trans a b c [] got.0 (Appends-kept a a b [] (Appends-nil a) keeps) got.1,
-  reply,
-  ap (λ (x : List ℕ). x ++ got.0) (sym same) ∙ got.2 ∙ ap (λ (x : List ℕ). ready.held ++ x) (sym is),
-)
+-- ---- both ends
 
--- its request was sent, and nothing after it
-pub asks : (k : ℕ) (a b c d : Option (List ℕ)) (content : Content) → content ≡ body_alone (call_body k) → Appends a b (canonical (request (pos (k + 1)) Plain content)) → Keeps b c
-    → d ≡ c → Appends a d (request_bytes k)
-asks k a b c d content is sent keeps kept =
-    let whole : Appends a b (request_bytes k) = subst (λ (x : Content). Appends a b (canonical (request (pos (k + 1)) Plain x))) is sent in
-    subst (λ (x : Option (List ℕ)). Appends a x (request_bytes k)) (sym kept) (Appends-kept a b c (request_bytes k) whole keeps)
+pub on_any : {T E : Type 0} (r : Result T E) {P : Type 0} → P → OnOk r P
+on_any (Ok x) p = p
+on_any (Err e) p = tt
+
+-- no call is made over a new end
+pub none_complete : {L : Type 0} (near far : L) (client : EndSeen L) (server : ServerEndSeen L) (logged : Logged Echo) → AreNew near far client server logged → AreComplete 0 client
+none_complete near far client server logged new =
+    subst (AreComplete 0) (sym new.client_is) (record {
+      connection = refl;
+      idle = record { number = refl; id = refl; outstanding = refl; ready = refl; state = refl; sent = refl };
+      records = refl;
+    })
+
+one_fits : (pos 1 ≤ℤ pos 1) × FitsSigned w32 (pos 1)
+one_fits = (search, record { sfits = grind arith })
+
+made_well : AreMade (λ _. made_least)
+made_well c = one_fits
+
+no_bytes : IsBytes []
+no_bytes i = omega arith
+
+module _ {L : Type 0} (sent received : L → Option (List ℕ)) where
+  -- nothing was done yet
+  pub none_done : (client : EndSeen L) → (acts : List ClientAct) × EndRuns sent received client acts client
+  none_done client = (
+    [],
+    record { connection = refl; run = refl; sends = Appends-nil (sent client.link); came = []; receives = Appends-nil (received client.link); taken = append-nil client.inlet },
+  )
+
+  pub none_served : (server : ServerEndSeen L) (logged : Logged Echo)
+      → (acts : List ServerAct) × ServerEndRuns echo_does echo_stops sent received server logged acts server logged
+  none_served server logged = (
+    [],
+    record {
+      run = refl;
+      bytes = record { sends = Appends-nil (sent server.link); came = []; receives = Appends-nil (received server.link); taken = append-nil server.inlet; are_bytes = no_bytes };
+    },
+  )
+
+  -- more was done
+  pub client_goes_on : (old mid new : EndSeen L) → ((acts : List ClientAct) × EndRuns sent received old acts mid) → ((acts : List ClientAct) × EndRuns sent received mid acts new)
+      → (acts : List ClientAct) × EndRuns sent received old acts new
+  client_goes_on old mid new (acts, r) (more, s) = (acts ++ more, runs_on sent received old mid new acts more r s)
+
+  pub server_goes_on : (old mid new : ServerEndSeen L) (a b c : Logged Echo) → ((acts : List ServerAct) × ServerEndRuns echo_does echo_stops sent received old a acts mid b)
+      → ((acts : List ServerAct) × ServerEndRuns echo_does echo_stops sent received mid b acts new c) → (acts : List ServerAct) × ServerEndRuns echo_does echo_stops sent received old a acts new c
+  server_goes_on old mid new a b c (acts, r) (more, s) = (acts ++ more, end_runs_on sent received echo_does echo_stops old mid new a b c acts more r s)
+
+-- what was done at both ends from the start is a run
+pub have_run : {L : Type 0} (sent received : L → Option (List ℕ)) (near far : L) (client client' : EndSeen L) (server server' : ServerEndSeen L) (logged logged' : Logged Echo) (calls : ℕ)
+    (acts : List ClientAct) (served : List ServerAct) → AreNew near far client server logged → EndRuns sent received client acts client'
+    → ServerEndRuns echo_does echo_stops sent received server logged served server' logged' → AreComplete calls client' → HaveRun calls
+have_run sent received near far client client' server server' logged logged' calls acts served new ran serves complete =
+    let runs : ClientRun 1 (first_end message_limit (λ _. made_least) 1) acts client'.own =
+    (subst (λ (e : EndSeen _). EndRuns sent received e acts client') new.client_is ran).run in
+    let serves' : ServerRun echo_does echo_stops (record { server = new_server 1 1 message_limit; log = []; handler = logged.handler }) served (with_logged server'.server logged') =
+    subst (λ (log : List LogEntry). ServerRun echo_does echo_stops (record { server = new_server 1 1 message_limit; log = log; handler = logged.handler }) served (with_logged server'.server logged')) new.log_is
+    (subst (λ (s : ServerEndSeen _). ServerRun echo_does echo_stops (with_logged s.server logged) served (with_logged server'.server logged')) new.server_is serves.run) in
+    record {
+      acts = acts;
+      client = client'.own;
+      runs = runs;
+      done = complete.records;
+      served = served;
+      first = logged.handler;
+      server = with_logged server'.server logged';
+      serves = serves';
+      headline = λ deeds order arrive.
+          subst (λ (records : List _). AreAnswered records (log_of logged'.entries.items)) complete.records
+          (are_answered echo_does echo_stops message_limit made_least logged.handler deeds client'.own (with_logged server'.server logged')
+          (pair_knows echo_does echo_stops message_limit (omega arith) made_least made_well acts served deeds client'.own logged.handler (with_logged server'.server logged') runs serves' order arrive));
+    }
+
+-- the same, where all calls were made
+pub run_if : {L T E : Type 0} (sent received : L → Option (List ℕ)) (r : Result T E) (near far : L) (client client' : EndSeen L) (server server' : ServerEndSeen L) (logged logged' : Logged Echo) (calls : ℕ)
+    → AreNew near far client server logged → OnOk r (AreComplete calls client') → OnOk r ((acts : List ClientAct) × EndRuns sent received client acts client')
+    → OnOk r ((served : List ServerAct) × ServerEndRuns echo_does echo_stops sent received server logged served server' logged') → OnOk r (HaveRun calls)
+run_if sent received (Err e) near far client client' server server' logged logged' calls new complete ran serves = tt
+run_if sent received (Ok x) near far client client' server server' logged logged' calls new complete ran serves =
+    have_run sent received near far client client' server server' logged logged' calls ran.0 serves.0 new ran.1 serves.1 complete

@@ -9,14 +9,14 @@ pub mod Documents
 pub mod Check
 pub mod Canon
 pub mod Msg
-pub mod Ends
+pub mod Calling
 pub mod Loopback
 pub mod Play
 -- the words that clauses of other crates cite
 pub use Rattle.engines.specs.Canon.{CanonText}
 pub use Rattle.engines.specs.Check.{CheckText}
 pub use Rattle.engines.specs.Dump.{DumpText}
-pub use Rattle.engines.specs.Loopback.{AppendsUpTo, loop_text}
+pub use Rattle.engines.specs.Loopback.{AppendsUpTo, HaveRun, loop_text}
 pub use Rattle.engines.specs.Msg.{MsgText}
 pub use Rattle.engines.specs.Output.{AppendsText, IsOutput}
 pub use Rattle.engines.specs.Play.{ScriptText}

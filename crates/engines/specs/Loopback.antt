@@ -1,20 +1,22 @@
--- What the calls of `loop` send and receive, and what it writes: a line for each call, and a last
--- one.
-use Rattle.std.specs.Prelude.{◌≡◌, ℕ, ◌+◌, zero, suc, pos, List, [], ◌++◌, codes, Option}
+-- What the calls of `loop` send and receive, what was done at both ends, and what is written: a
+-- line for each call, and a last one.
+use Rattle.std.specs.Prelude.{◌≡◌, ℕ, ◌+◌, zero, suc, pos, List, [], ◌∷◌, ◌++◌, codes, Option, Some}
 use Rattle.std.specs.Fmt.{decimal}
 use Rattle.std.specs.Io.KnownBytes.{Appends}
-use Rattle.bson_elem.specs.{Tree, leaf_pair, no_pairs, number_value}
-use Rattle.bson_elem.specs.declared.kinds.Kind.TheVariants.{Int32}
-use Rattle.wire_msg.specs.{body_alone, canonical}
-use Rattle.wire_peer.specs.{request}
+use Rattle.bson_elem.specs.{Tree}
+use Rattle.wire_msg.specs.{Message, SpellsMsg, body_alone, canonical}
+use Rattle.wire_peer.specs.{Does, LogEntry, Stops, log_of, new_server, request}
 use Rattle.wire_peer.specs.declared.calls.CallKind.TheVariants.{Plain}
-use Rattle.engines.specs.Ends.{IsReply}
+use Rattle.wire_peer.specs.declared.echoing.Echo.{Echo}
+use Rattle.wire_peer.specs.declared.handlers.HandlerStop.TheVariants.{OutOfMemory}
+use Rattle.wire_peer.specs.declared.log.Logged.{Logged}
+use Rattle.wire_channels.specs.{Arrive, ClientAct, ClientEnd, ClientRun, Deed, Made, ServerAct}
+use Rattle.wire_channels.specs.{ServerEnd, ServerRun, first_end}
+use Rattle.wire_end.specs.{AreAnswered, AreInOrder, EndSeen, ServerEndSeen, first_client}
+use Rattle.wire_end.specs.{new_server_end}
+use Rattle.engines.specs.Calling.{call_body, done_calls}
 
--- the body of the call of this number: {"n": number}, an int32
-abbrev pub call_body : ℕ → Tree
-call_body k = leaf_pair (codes "n") Int32 (number_value (pos k)) no_pairs
-
--- the bytes of its request
+-- the bytes of the request of this call
 abbrev pub request_bytes : ℕ → List ℕ
 request_bytes k = canonical (request (pos (k + 1)) Plain (body_alone (call_body k)))
 
@@ -23,12 +25,66 @@ abbrev pub requests_bytes : ℕ → List ℕ
 requests_bytes zero = []
 requests_bytes (suc k) = requests_bytes k ++ request_bytes k
 
+-- the bytes that came and of which nothing was made yet: those of the current message, and what is
+-- held behind them
+abbrev pub arrived : {L : Type 0} → EndSeen L → List ℕ
+arrived end = end.own.client.held ++ end.inlet
+
+-- These bytes spell a message that carries this body and nothing else.
+abbrev pub IsReply : Tree → List ℕ → Type 0
+IsReply body bytes = (m : Message) × SpellsMsg m bytes × (m.content ≡ body_alone body)
+
 -- Where these bytes had arrived, known bytes grew by some that put the reply to the call of this
 -- number in front of what has arrived now.
 abbrev pub GetsReply : ℕ → Option (List ℕ) → Option (List ℕ) → List ℕ → List ℕ → Type 0
 GetsReply k old new before after =
     (got : List ℕ) × (reply : List ℕ) × Appends old new got × IsReply (call_body k) reply
     × (before ++ got ≡ reply ++ after)
+
+-- a request was asked, and answered by its own payload
+abbrev pub IsEchoed : List LogEntry → List LogEntry → Type 0
+IsEchoed old new = (e : LogEntry) × (new ≡ old ++ e ∷ []) × (e.answers ≡ Some (e.payload ∷ []))
+
+-- ---- both ends
+
+-- how the server's handler answers, and stops
+abbrev pub echo_does : Does Echo
+echo_does h a answers h' = answers ≡ a.payload ∷ []
+
+abbrev pub echo_stops : Stops Echo
+echo_stops h a stop h' = stop ≡ OutOfMemory
+
+-- the most bytes that a message has
+abbrev pub message_limit : ℕ
+message_limit = 48_000_000
+
+-- ids from 1, and room for one call and one request
+abbrev pub made_least : Made
+made_least = record { first_id = pos 1; client_window = 1; server_window = 1 }
+
+-- Nothing was done yet at the ends of connection 1, over these links; the log is empty.
+pub record AreNew {L : Type 0} (near far : L) (client : EndSeen L) (server : ServerEndSeen L)
+    (logged : Logged Echo) : Type 0 where
+  pub client_is : client ≡ first_client message_limit (λ _. made_least) 1 near
+  pub server_is : server ≡ new_server_end (new_server 1 1 message_limit) far
+  pub log_is : log_of logged.entries.items ≡ []
+
+-- What was done at the two ends: a run of acts at the client, after which so many calls are done,
+-- and one at the server. If the acts of both can be put into one order in which bytes arrive in
+-- order, each of these calls has an entry of its own in the server's log, which was asked with the
+-- call's body, and answered by what the call was given back.
+pub record HaveRun (calls : ℕ) : Type 0 where
+  pub acts : List ClientAct
+  pub client : ClientEnd
+  pub runs : ClientRun 1 (first_end message_limit (λ _. made_least) 1) acts client
+  pub done : client.records ≡ done_calls calls
+  pub served : List ServerAct
+  pub first : Echo
+  pub server : ServerEnd Echo
+  pub serves : ServerRun echo_does echo_stops
+      (record { server = new_server 1 1 message_limit; log = []; handler = first }) served server
+  pub headline : (deeds : List Deed) → AreInOrder acts served deeds
+      → Arrive (λ _. []) (λ _. []) deeds → AreAnswered (done_calls calls) server.log
 
 -- ---- the text
 

@@ -8,7 +8,7 @@
 //! to its end. `run_loop` reads nothing: it makes calls over a connection of the program with
 //! itself.
 //!
-//! Stands on bson_doc, wire_msg, wire_peer and wire_play. bsonwire stands on it. Read first: `run`,
+//! Stands on bson_doc, wire_msg, wire_end and wire_play. bsonwire stands on it. Read first: `run`,
 //! and then `dump`.
 #![tactic(auto)]
 
@@ -17,11 +17,11 @@ mod canon;
 mod check;
 mod documents;
 mod dump;
-mod ends;
 mod fault_line;
 mod hex_input;
 mod input_fault;
 pub mod laws;
+mod loop_call;
 mod loopback;
 mod messages;
 mod msg;

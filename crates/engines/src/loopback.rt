@@ -2,97 +2,21 @@
 
 ghost use Rattle.std.specs.Prelude.{◌≡◌, ◌≢◌, ◌+◌, ℕ, List, [], IfErr, IfOk, OnOk, false, pos};
 ghost use Rattle.std.specs.Io.KnownBytes.{Appends};
-ghost use Rattle.engines.specs.Ends.{IsEchoed, IsIdle, arrived};
-ghost use Rattle.engines.specs.Loopback.{AppendsUpTo, GetsReply, call_body, call_line, last_line};
-ghost use Rattle.engines.specs.Loopback.{loop_text, request_bytes, requests_bytes};
+ghost use Rattle.engines.specs.Calling.{AreComplete};
+ghost use Rattle.engines.specs.Loopback.{AppendsUpTo, HaveRun, call_line, echo_does, echo_stops};
+ghost use Rattle.engines.specs.Loopback.{last_line, loop_text, requests_bytes};
 ghost use Rattle.engines.specs.Run.{is_done};
-ghost use Rattle.wire_msg.specs.{BufCarries, body_alone};
-ghost use Rattle.wire_peer.specs.{log_of};
+ghost use Rattle.wire_channels.specs.{ClientAct, ServerAct};
+ghost use Rattle.wire_end.specs.{EndRuns, ServerEndRuns};
 
-use crate::ends::End;
+use crate::loop_call::Loopback;
 use crate::run::{RunEnd, end_of};
-use bson_doc::{Bson, RawDocumentBuf};
-use std::alloc::{AllocError, Global};
+use std::alloc::Global;
 use std::io;
 use std::io::{ErrorKind, Write};
 use std::net::{Net, OpenListener, OpenStream, SocketAddr, TcpListener, TcpStream};
-use wire_msg::{MAX_MESSAGE_LEN, PayloadBuf};
-use wire_peer::{CallNo, Client, Echo, Logged, Server};
+use wire_peer::CallNo;
 use wire_stream::{Link, TcpLink};
-
-/// The two ends of the connection, and the log of the server's handler.
-#[derive(Drop)]
-struct Loopback<L> {
-    client: End<Client, L>,
-    server: End<Server, L>,
-    logged: Logged<Echo>,
-}
-
-impl<L: Link + Drop> Loopback<L> {
-    /// Returns a client and a server that have made and answered nothing, each with its link. Errs
-    /// if memory runs out.
-    fn new(alloc: Global, near: L, far: L) -> Result<Loopback<L>, AllocError>
-        ensures { IfOk result (λ loopback. IsIdle 0 (loopback.client.peer)) }
-    {
-        let Ok(client) = Client::new(alloc, 1, 1, MAX_MESSAGE_LEN) else {
-            unreachable!()
-        };
-        let Ok(server) = Server::new(alloc, 0, 1, MAX_MESSAGE_LEN) else {
-            return Err(AllocError);
-        };
-        Ok(Loopback {
-            client: End::new(alloc, client, near)?,
-            server: End::new(alloc, server, far)?,
-            logged: Logged::new(alloc, Echo),
-        })
-    }
-
-    /// Makes the call of number `k`, answers it, and waits for its reply. Errs if the reply carries
-    /// anything but what was sent, if a link failed or ended, if an end was closed, or if memory
-    /// ran out.
-    fn call(&mut self, alloc: Global, k: u8) -> Result<CallNo, RunEnd>
-        requires { IsIdle k (self.old.client.peer) }
-        ensures number { IfOk result (λ call. (call.number ≡ k) × (call.id ≡ pos (k + 1))) }
-        ensures complete { OnOk result (IsIdle (k + 1) (self.new.client.peer)) }
-        ensures sent { OnOk result
-            (Appends (L.sent self.old.client.link) (L.sent self.new.client.link)
-            (request_bytes k)) }
-        ensures echoed { OnOk result (IsEchoed (log_of self.old.logged.entries.items)
-            (log_of self.new.logged.entries.items)) }
-        ensures reply { OnOk result
-            (GetsReply k (L.received self.old.client.link) (L.received self.new.client.link)
-            (arrived self.old.client.peer self.old.client.inlet)
-            (arrived self.new.client.peer self.new.client.inlet)) }
-        ensures stopped { IfErr result (λ end. is_done end ≡ false) }
-    {
-        let payload = payload_of(alloc, k)?;
-        let sent = payload.as_payload();
-        let call = self.client.call(sent)?;
-        self.server.receive_request()?;
-        self.server.answer(&mut self.logged)?;
-        self.client.receive_reply()?;
-        self.client.take_reply(sent.body())?;
-        Ok(call)
-    }
-}
-
-/// Returns the payload of a call, whose body is `{"n": number}`. Errs if memory runs out.
-fn payload_of(alloc: Global, number: u8) -> Result<PayloadBuf, RunEnd>
-    ensures body { IfOk result (λ payload. BufCarries payload (body_alone (call_body number))) }
-    ensures stopped { IfErr result (λ end. is_done end ≡ false) }
-{
-    let Ok(mut body) = RawDocumentBuf::new(alloc) else {
-        return Err(RunEnd::Memory);
-    };
-    // A body so short is refused only if memory runs out.
-    let Ok(()) = body.append("n", &Bson::Int32(i32::from(number))) else {
-        return Err(RunEnd::Memory);
-    };
-    match PayloadBuf::new(alloc, body.as_raw()) {
-        Ok(payload) => Ok(payload),
-        Err(_) => Err(RunEnd::Memory),
-    }
-}
 
 /// Returns the stream of an accepted connection if its other end is at `own`. Errs if not, since
 /// another program may have been there first.
@@ -175,10 +99,15 @@ fn make_calls<L: Link + Drop, W: Write>(
     calls: u8,
     out: &mut W,
 ) -> Result<(), RunEnd>
-    requires { IsIdle 0 (loopback.old.client.peer) }
+    requires { AreComplete 0 loopback.old.client }
     ensures written { (left : List ℕ) × AppendsUpTo left (loop_text calls)
         (W.contents out.old) (W.contents out.new) × OnOk result (left ≡ []) }
-    ensures made { OnOk result (IsIdle calls (loopback.new.client.peer)) }
+    ensures made { OnOk result (AreComplete calls loopback.new.client) }
+    ensures client { OnOk result ((acts : List ClientAct)
+        × EndRuns L.sent L.received loopback.old.client acts loopback.new.client) }
+    ensures server { OnOk result ((acts : List ServerAct)
+        × ServerEndRuns echo_does echo_stops L.sent L.received loopback.old.server
+        loopback.old.logged acts loopback.new.server loopback.new.logged) }
     ensures sent { OnOk result
         (Appends (L.sent loopback.old.client.link) (L.sent loopback.new.client.link)
         (requests_bytes calls)) }
@@ -195,6 +124,7 @@ fn make_calls<L: Link + Drop, W: Write>(
 fn run_calls<R: Net + AllocGlobal, W: Write>(rt: &R, calls: u8, out: &mut W) -> Result<(), RunEnd>
     ensures written { (left : List ℕ) × AppendsUpTo left (loop_text calls)
         (W.contents out.old) (W.contents out.new) × OnOk result (left ≡ []) }
+    ensures ran { OnOk result (HaveRun calls) }
     ensures stopped { IfErr result (λ end. is_done end ≡ false) }
 {
     let alloc = rt.alloc();
@@ -212,12 +142,17 @@ fn run_calls<R: Net + AllocGlobal, W: Write>(rt: &R, calls: u8, out: &mut W) -> 
 /// body `{"n": number}` and answered with the same, and writes a line for each and a last one. The
 /// calls are numbered from 0, and their ids count from 1.
 ///
-/// The line of a call is written when its reply has come and carries what was sent. What a socket
-/// carries no contract can say; so none says that the run is good.
+/// The line of a call is written when its reply has come and carries what was sent. If all went
+/// well, the acts of the client and those of its server are told, and `HaveRun` says the headline
+/// of this very run: where bytes arrived in order, each call that is reported as done has an entry
+/// of its own in the server's log, with the call's payload, and what it got back are the answers
+/// of that. No contract says that a socket moves bytes in order, nor what it carries; so this is a
+/// premise, and no clause says that the run is good.
 pub fn run_loop<R: Net + AllocGlobal, W: Write>(rt: &R, calls: u8, writer: &mut W) -> RunEnd
     ensures ends { result ≢ RunEnd.Fault }
     ensures written { (left : List ℕ) × AppendsUpTo left (loop_text calls)
         (W.contents writer.old) (W.contents writer.new) × (result ≡ RunEnd.Good → left ≡ []) }
+    ensures ran { result ≡ RunEnd.Good → HaveRun calls }
 {
     match run_calls(rt, calls, writer) {
         Ok(()) => RunEnd::Good,

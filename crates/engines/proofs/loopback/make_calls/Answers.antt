@@ -1,7 +1,8 @@
 use Rattle.std.proofs.Common.{◌++◌, ◌+◌}
+use Rattle.std.proofs.KnownBytes.{Appends-nil}
 use Rattle.std.proofs.lemmas.Result.{err_from_is_err_and}
 use Rattle.engines.specs.Loopback.{loop_text}
-use Rattle.engines.proofs.LoopLemmas.{call_written, last_written, left_from, one_more_sent}
+use Rattle.engines.proofs.LoopLemmas.{call_written, client_goes_on, last_written, left_from, none_done, none_of, none_served, one_more_sent, server_goes_on}
 use Rattle.engines.proofs.loopback.make_calls.Goals as goal
 
 pub returns-in_err-write_call-clause-written : goal.returns-in_err-write_call-clause-written
@@ -18,13 +19,16 @@ returns-in_err-write_call-clause-written g c =
 
 pub loop-k-preserved : goal.loop-k-preserved
 loop-k-preserved g c =
+    let L = g.L.Link in
     let k = c.loop-k.k in
     let calls = c.args.calls in
     let number = c.in_ok-call.ensures.number in
     let line = c.write_call.ensures.written k number.0 number.1 in
     let whole = rw c.in_ok-write_call.was at line.2 in
     record {
-      idle = c.in_ok-call.ensures.complete;
+      complete = c.in_ok-call.ensures.complete;
+      client = client_goes_on L.sent L.received _ _ _ c.loop-k.invariant.client c.in_ok-call.ensures.client;
+      server = server_goes_on L.sent L.received _ _ _ _ _ _ c.loop-k.invariant.server c.in_ok-call.ensures.server;
       sent = one_more_sent k _ _ _ c.loop-k.invariant.sent c.in_ok-call.ensures.sent;
       written = rw whole at (call_written k calls line.0 (loop_text calls) _ _ _ c.loop-k-test.true c.loop-k.invariant.written line.1);
     }
@@ -34,3 +38,14 @@ returns-clause-written g c =
     let calls = c.args.calls in
     let line = c.write_last.ensures.written in
     (line.0, last_written c.loop-k.k calls line.0 (loop_text calls) _ _ _ c.loop-k-test.false c.loop-k.invariant.written line.1, line.2)
+
+pub loop-k-init : goal.loop-k-init
+loop-k-init g c =
+    let L = g.L.Link in
+    record {
+      complete = c.requires;
+      client = none_done L.sent L.received _;
+      server = none_served L.sent L.received _ _;
+      sent = Appends-nil _;
+      written = none_of c.args.calls _;
+    }

@@ -2,8 +2,8 @@ use Rattle.std.proofs.Common.{◌≡◌, ◌∙◌, subst, sym}
 use Rattle.std.proofs.lemmas.Slice.Eq.{bytes_eq-Decides}
 use Rattle.bson_elem.specs.{Spells}
 use Rattle.bson_raw.specs.{document_bytes}
-use Rattle.engines.proofs.EndLemmas.{alone_if_none}
-use Rattle.engines.proofs.ends.is_alone.Goals as goal
+use Rattle.engines.proofs.Rounds.{alone_if_none}
+use Rattle.engines.proofs.loop_call.is_alone.Goals as goal
 
 pub returns-then-eq : goal.returns-then-eq
 returns-then-eq c = λ content t carries own.

@@ -5,8 +5,8 @@ use mir.Val.{of_z, to_z}
 use Rattle.bson_elem.specs.{Spells, leaf_pair, no_pairs, number_value}
 use Rattle.bson_elem.specs.declared.kinds.Kind.TheVariants.{Int32}
 use Rattle.bson_raw.specs.{document_bytes}
-use Rattle.engines.specs.Loopback.{call_body}
-use Rattle.engines.proofs.loopback.payload_of.Goals as goal
+use Rattle.engines.specs.Calling.{call_body}
+use Rattle.engines.proofs.loop_call.payload_of.Goals as goal
 
 pub returns-in-Ok-new-clause-body : goal.returns-in-Ok-new-clause-body
 returns-in-Ok-new-clause-body c =
