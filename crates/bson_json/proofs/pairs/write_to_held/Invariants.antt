@@ -1,0 +1,16 @@
+use Rattle.std.proofs.Common.{◌≡◌, ◌≤◌, ◌++◌, ℕ, List}
+use Rattle.std.specs.Io.KnownBytes.{Appends}
+use Rattle.bson_elem.specs.Trees.{Tree}
+use Rattle.bson_raw.specs.RawIter.{PairsLeft, pairs_bound, walked_len}
+use Rattle.text_writer.specs.{text_contents}
+use Rattle.bson_json.specs.Json.{IsPairsJson}
+use Rattle.bson_json.proofs.pairs.write_to_held.Given as goal
+
+-- with the JSON of the pairs that are left, what was written is that of all; and the walk is in the same document
+abbrev pub invariant-loop-name : goal.invariant-loop-name
+invariant-loop-name g l =
+    (goal.iterator-loop-name g).can_next l.pairs ×
+    (goal.iterator-loop-name g).is_finite l.pairs ×
+    (walked_len l.pairs ≡ walked_len l.initial.pairs) ×
+    (pairs_bound l.pairs ≤ pairs_bound l.initial.pairs) ×
+    ((t : Tree) → PairsLeft l.initial.pairs t → (left : Tree) × (text : List ℕ) × PairsLeft l.pairs left × Appends (text_contents g.W.Write.contents l.initial.out) (text_contents g.W.Write.contents l.out) text × ((rest : List ℕ) → IsPairsJson l.mode l.holder l.first left rest → IsPairsJson l.mode l.holder l.initial.first t (text ++ rest)))

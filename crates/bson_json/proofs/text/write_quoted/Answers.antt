@@ -1,0 +1,22 @@
+use Rattle.std.proofs.Common.{sym, subst}
+use Rattle.std.specs.Io.KnownBytes.{Appends}
+use Rattle.std.specs.List.{flat_map}
+use Rattle.json.specs.Print.{escape_byte}
+use Rattle.text_writer.specs.{text_contents}
+use Rattle.text_writer.proofs.Lemmas.{plain_written}
+use Rattle.bson_json.proofs.Escaped.{plain_kept, quoted_end}
+use Rattle.bson_json.proofs.text.write_quoted.Goals.{in-None+in_ok-write_all-in-None, in-Some+in_ok-write_runs-in-Some}
+use Rattle.bson_json.proofs.text.write_quoted.Goals as goal
+
+pub returns : goal.returns
+returns g c =
+    let opened = text_contents g.W.Write.contents c.write_all.new.self in
+    let after = text_contents g.W.Write.contents c.match-first_escaped.out in
+    let bytes = c.as_bytes-bytes.result.now in
+    let inside : Appends opened after (flat_map escape_byte bytes) =
+    elim c.match-first_escaped.branch [
+      | in-None+in_ok-write_all-in-None w ↦ subst (λ x. Appends opened (text_contents g.W.Write.contents x) (flat_map escape_byte bytes)) (sym w.out-is) (plain_written escape_byte plain_kept opened _ bytes (sym w.in-None.ensures) w.in_ok-write_all-in-None.ensures.bytes)
+      | in-Some+in_ok-write_runs-in-Some w ↦ subst (λ x. Appends opened (text_contents g.W.Write.contents x) (flat_map escape_byte bytes)) (sym w.out-is) w.in_ok-write_runs-in-Some.ensures
+    ] in
+    let whole = subst (λ x. Appends opened after (flat_map escape_byte x)) c.as_bytes-bytes.ensures.value inside in
+    quoted_end _ _ _ _ _ c.args.text.now c.in_ok-write_all.ensures.bytes whole c.write_all-2.ensures.bytes

@@ -1,0 +1,21 @@
+//! Writes documents as MongoDB Extended JSON v2 (the drivers' specification), canonical or
+//! relaxed.
+//!
+//! `write_json` writes a borrowed document as one JSON object, with no white space and no line
+//! feed. It takes no memory, and makes no copy of the document.
+//!
+//! Uses bson_raw and text_writer. Read first: `object`, and then `pairs`.
+#![tactic(auto)]
+
+mod date;
+mod decimal128;
+mod double;
+mod held;
+mod mode;
+mod object;
+mod pairs;
+mod text;
+mod value;
+
+pub use mode::Mode;
+pub use object::write_json;

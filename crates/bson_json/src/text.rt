@@ -1,0 +1,101 @@
+//! Writes text as a JSON string (RFC 8259, section 7), and bytes as base64 (RFC 4648, section 4).
+
+ghost use Rattle.std.specs.Prelude.{◌≡◌, ◌++◌, ◌≤◌, OnOk, flat_map, length};
+ghost use Rattle.base64.specs.Engines.{standard};
+ghost use Rattle.base64.specs.GeneralPurpose.{encode_of};
+ghost use Rattle.json.specs.Print.{escape_byte, escape_letter, quoted};
+ghost use Rattle.text_writer.specs.{WritesOut, text_contents};
+
+use base64::engine::general_purpose::STANDARD;
+use std::io::Write;
+use text_writer::{Failed, TextWriter, first_escaped, write_hex};
+
+/// The most bytes that are written as base64 in one call, a whole number of groups of three.
+const GROUPS: usize = 192;
+
+/// Writes one byte as it appears in a JSON string, if its escape has no letter.
+fn write_unnamed<W: Write>(b: u8, out: &mut TextWriter<W>) -> Result<(), Failed>
+    ensures { escape_letter b ≡ 0 → OnOk result
+        (WritesOut (text_contents W.contents) out.old out.new (escape_byte b)) }
+{
+    if b < 32 {
+        out.write_all(b"\\u00")?;
+        return write_hex(&[b], out);
+    }
+    out.write_all(&[b])
+}
+
+/// Writes one byte as it appears in a JSON string.
+fn write_escaped<W: Write>(b: u8, out: &mut TextWriter<W>) -> Result<(), Failed>
+    ensures { OnOk result (WritesOut (text_contents W.contents) out.old out.new (escape_byte b)) }
+{
+    match b {
+        b'"' => out.write_all(b"\\\""),
+        b'\\' => out.write_all(b"\\\\"),
+        8 => out.write_all(b"\\b"),
+        12 => out.write_all(b"\\f"),
+        b'\n' => out.write_all(b"\\n"),
+        b'\r' => out.write_all(b"\\r"),
+        b'\t' => out.write_all(b"\\t"),
+        _ => write_unnamed(b, out),
+    }
+}
+
+/// Writes bytes as they appear in a JSON string, each run of bytes that need no escape in one
+/// call.
+#[inline(never)]
+fn write_runs<W: Write>(bytes: &[u8], out: &mut TextWriter<W>) -> Result<(), Failed>
+    ensures { OnOk result (WritesOut (text_contents W.contents) out.old out.new
+        (flat_map escape_byte bytes.now)) }
+{
+    let mut rest = bytes;
+    while let Some(at) = first_escaped(rest) {
+        let (run, from) = rest.split_at(at);
+        out.write_all(run)?;
+        write_escaped(from[0], out)?;
+        rest = &from[1..];
+    }
+    out.write_all(rest)
+}
+
+/// Writes a text as a JSON string. In it `"` and `\` follow a backslash, 00 to 1F are `\b`, `\f`,
+/// `\n`, `\r`, `\t` or `\u` and four digits, and all other characters are as they are.
+pub(crate) fn write_quoted<W: Write>(text: &str, out: &mut TextWriter<W>) -> Result<(), Failed>
+    ensures { OnOk result (WritesOut (text_contents W.contents) out.old out.new (quoted text.now)) }
+{
+    let bytes = text.as_bytes();
+    out.write_all(b"\"")?;
+    // Most texts have no byte to escape.
+    match first_escaped(bytes) {
+        None => out.write_all(bytes)?,
+        Some(_) => write_runs(bytes, out)?,
+    }
+    out.write_all(b"\"")
+}
+
+/// Writes at most 192 bytes as base64.
+fn write_base64_chunk<W: Write>(chunk: &[u8], out: &mut TextWriter<W>) -> Result<(), Failed>
+    requires { length chunk.now ≤ GROUPS }
+    ensures { OnOk result (WritesOut (text_contents W.contents) out.old out.new
+        (encode_of standard chunk.now)) }
+{
+    let mut buffer = [0u8; GROUPS / 3 * 4];
+    let Ok(len) = STANDARD.encode_slice(chunk, &mut buffer) else {
+        unreachable!();
+    };
+    out.write_all(&buffer[..len])
+}
+
+/// Writes any count of bytes as base64.
+pub(crate) fn write_base64<W: Write>(bytes: &[u8], out: &mut TextWriter<W>) -> Result<(), Failed>
+    ensures { OnOk result (WritesOut (text_contents W.contents) out.old out.new
+        (encode_of standard bytes.now)) }
+{
+    let mut rest = bytes;
+    while rest.len() > GROUPS {
+        let (chunk, after) = rest.split_at(GROUPS);
+        write_base64_chunk(chunk, out)?;
+        rest = after;
+    }
+    write_base64_chunk(rest, out)
+}
