@@ -3,16 +3,14 @@
 
 ghost use Rattle.std.specs.Prelude.{◌≡◌, ◌+◌, ◌<◌, ◌≤◌, ◌^◌, IfOk, IfSome, MatchOption, None, OnOk};
 ghost use Rattle.std.specs.Prelude.{length};
-ghost use Rattle.bson_text.specs.Writing.{WritesOut};
 ghost use Rattle.bson_elem.specs.{Spells, Tree};
 ghost use Rattle.bson_raw.specs.{PairsLeft, Shows, TreeValue, document_bytes, held_len};
 ghost use Rattle.bson_raw.specs.{pairs_bound, walked_len};
 ghost use Rattle.bson_text.specs.Dump.{document_text, element_line, element_lines};
-ghost use Rattle.bson_text.specs.TextWriter.{text_contents};
 ghost use Rattle.bson_text.specs.DumpValues.{IsHeld, StopsAt, held_tree, value_text};
+ghost use Rattle.text_writer.specs.{WritesOut, text_contents};
 
-use crate::text::{write_indent, write_number, write_quoted};
-use crate::text_writer::{Failed, TextWriter};
+use crate::text::{write_indent, write_quoted};
 use crate::value_text::{
     write_array, write_binary, write_boolean, write_code, write_codescope, write_datetime,
     write_dbpointer, write_inner_document, write_int32, write_int64, write_raw, write_regex,
@@ -22,6 +20,7 @@ use bson_raw::{RawBson, RawDocument, RawIter};
 use core::mem::replace_with;
 use std::io;
 use std::io::Write;
+use text_writer::{Failed, TextWriter, write_number};
 
 /// Writes the word of the value's kind, and the value, as they follow an element's name.
 fn write_value<W: Write>(value: RawBson<'_>, out: &mut TextWriter<W>) -> Result<(), Failed>

@@ -5,13 +5,12 @@
 //! `to_writer` writes the parts that other texts share with it: numbers, quoted text and
 //! hexadecimal digits. No function of this crate takes memory.
 //!
-//! Uses bson_raw. Used by bson_doc, wire_text, wire_play, engines and test_server. Read first:
-//! `dump`.
+//! Uses bson_raw and text_writer. Used by bson_doc, wire_text, wire_play, engines and test_server.
+//! Read first: `dump`.
 #![tactic(auto)]
 
 mod dump;
 mod text;
-mod text_writer;
 mod to_writer;
 mod value_text;
 

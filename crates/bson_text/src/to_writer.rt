@@ -1,16 +1,16 @@
 //! Writes numbers, quoted text and hexadecimal digits, for texts that contain documents.
 
 ghost use Rattle.std.specs.Prelude.{OnOk};
-ghost use Rattle.bson_text.specs.Writing.{WritesOut};
 ghost use Rattle.hex.specs.Hex.{encode_lower};
 ghost use Rattle.bson_text.specs.Text.{quoted};
+ghost use Rattle.text_writer.specs.{WritesOut};
 
-use crate::text::{write_hex, write_quoted};
-use crate::text_writer::TextWriter;
+use crate::text::write_quoted;
 use core::mem::replace_with;
 use itoa::{Buffer, Integer};
 use std::io;
 use std::io::Write;
+use text_writer::{TextWriter, write_hex};
 
 /// Writes a number in decimal, with `-` if it is negative.
 pub fn number_to<I: Integer, W: Write>(number: I, out: &mut W) -> io::Result<()>

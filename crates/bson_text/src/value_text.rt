@@ -5,17 +5,16 @@
 //! ` null`, and has no function here. Kinds whose values are plain bytes share `write_raw`.
 
 ghost use Rattle.std.specs.Prelude.{◌++◌, OnOk};
-ghost use Rattle.bson_text.specs.Writing.{WritesOut};
 ghost use Rattle.hex.specs.Hex.{encode_lower};
-ghost use Rattle.bson_text.specs.TextWriter.{text_contents};
 ghost use Rattle.bson_text.specs.ValueText.{array_text, binary_text, boolean_text, code_text};
 ghost use Rattle.bson_text.specs.ValueText.{codescope_text, datetime_text, dbpointer_text};
 ghost use Rattle.bson_text.specs.ValueText.{inner_document_text, int32_text, int64_text};
 ghost use Rattle.bson_text.specs.ValueText.{regex_text, string_text, symbol_text, timestamp_text};
+ghost use Rattle.text_writer.specs.{WritesOut, text_contents};
 
-use crate::text::{write_hex, write_number, write_quoted};
-use crate::text_writer::{Failed, TextWriter};
+use crate::text::write_quoted;
 use std::io::Write;
+use text_writer::{Failed, TextWriter, write_hex, write_number};
 
 /// Writes `word`, which has a space before and after it, and the digits of the bytes in file order.
 #[inline(always)]

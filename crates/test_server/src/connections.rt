@@ -1,7 +1,7 @@
 //! Serves one connection after another.
 
 ghost use Rattle.std.specs.Prelude.{◌≡◌, ◌<◌, OnOk, ℕ};
-ghost use Rattle.bson_text.specs.{WritesOut};
+ghost use Rattle.text_writer.specs.{WritesOut};
 ghost use Rattle.wire_end.specs.{seen};
 ghost use Rattle.wire_peer.specs.{log_of};
 ghost use Rattle.test_server.specs.Serving.{Grew, IsListened, IsRun, ServesAll, ServesNext};

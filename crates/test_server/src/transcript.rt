@@ -1,7 +1,7 @@
 //! Writes the transcript of a connection: each request with its answer, and how it ended.
 
 ghost use Rattle.std.specs.Prelude.{◌≡◌, OnOk, codes, flat_map, map};
-ghost use Rattle.bson_text.specs.{WritesOut};
+ghost use Rattle.text_writer.specs.{WritesOut};
 ghost use Rattle.wire_msg.specs.{Carries, Content};
 ghost use Rattle.wire_peer.specs.{buf_content, entry_of, log_of, outcome_of};
 ghost use Rattle.test_server.specs.Transcript.{answer_text, connection_text, end_text, entry_text};

@@ -4,7 +4,7 @@
 //! A part returns one byte, and the writer's first error is kept until the end. No function of
 //! this crate takes memory.
 //!
-//! Uses nothing of this repository. Used by bson_json. Read first: `writer`.
+//! Uses nothing of this repository. Used by bson_text and bson_json. Read first: `writer`.
 #![tactic(auto)]
 
 mod digits;

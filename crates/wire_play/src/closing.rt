@@ -2,7 +2,7 @@
 //! function here takes memory.
 
 ghost use Rattle.std.specs.Prelude.{◌≡◌, OnOk, false, flat_map, if◌then◌else◌, map, true};
-ghost use Rattle.bson_text.specs.{WritesOut};
+ghost use Rattle.text_writer.specs.{WritesOut};
 ghost use Rattle.bson_elem.specs.{document, elements};
 ghost use Rattle.wire_peer.specs.{allows_more, awaits_reply, buf_content, entry_of, outcome_of};
 ghost use Rattle.wire_world.specs.{contents_of, record_of, state_of};

@@ -2,7 +2,7 @@
 //! takes memory.
 
 ghost use Rattle.std.specs.Prelude.{◌≡◌, ◌++◌, OnOk, codes};
-ghost use Rattle.bson_text.specs.{WritesOut};
+ghost use Rattle.text_writer.specs.{WritesOut};
 ghost use Rattle.wire_play.specs.Reports.{cause_text, hex_or_dash, refusal_line, refusal_text};
 ghost use Rattle.wire_play.specs.Reports.{report_line, result_line};
 

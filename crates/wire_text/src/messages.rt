@@ -1,7 +1,7 @@
 //! Writes the text of a message. No function here takes memory.
 
 ghost use Rattle.std.specs.Prelude.{◌≡◌, List, OnOk, flat_map};
-ghost use Rattle.bson_text.specs.{WritesOut};
+ghost use Rattle.text_writer.specs.{WritesOut};
 ghost use Rattle.bson_elem.specs.{Spells, Tree};
 ghost use Rattle.bson_raw.specs.{document_bytes};
 ghost use Rattle.wire_msg.specs.{Carries, Content, DocumentsAre, Message, Sequence, SpellsMsg};

@@ -5,7 +5,7 @@ use Rattle.bson_elem.specs.Spelling.{Spells}
 use Rattle.bson_raw.specs.RawDocument.{document_bytes}
 use Rattle.bson_raw.specs.RawIter.{PairsLeft, pairs_bound, walked_len}
 use Rattle.bson_text.specs.Dump.{element_lines}
-use Rattle.bson_text.specs.TextWriter.{text_contents}
+use Rattle.text_writer.specs.{text_contents}
 use Rattle.bson_text.proofs.dump.+write_lines.Given as goal
 
 abbrev pub decreases-write_lines : goal.decreases-write_lines

@@ -3,7 +3,7 @@ use Rattle.std.specs.Io.KnownBytes.{Appends}
 use Rattle.bson_elem.specs.Trees.{Tree}
 use Rattle.bson_raw.specs.RawIter.{PairsLeft, pairs_bound, walked_len}
 use Rattle.bson_text.specs.Dump.{element_lines}
-use Rattle.bson_text.specs.TextWriter.{text_contents}
+use Rattle.text_writer.specs.{text_contents}
 use Rattle.bson_text.proofs.dump.write_to_held.Given as goal
 
 -- what was written, and the lines of the pairs that are left, are the lines of all; and the walk is in the same document

@@ -1,6 +1,6 @@
 use Rattle.std.specs.Io.KnownBytes.{Appends}
 use Rattle.bson_text.specs.Text.{indent}
-use Rattle.bson_text.specs.TextWriter.{text_contents}
+use Rattle.text_writer.specs.{text_contents}
 use Rattle.bson_text.proofs.text.write_indent.Given as goal
 
 abbrev pub invariant-loop : goal.invariant-loop

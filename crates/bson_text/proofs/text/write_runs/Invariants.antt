@@ -2,7 +2,7 @@ use Rattle.std.proofs.Common.{length}
 use Rattle.std.specs.Io.KnownBytes.{Appends, append_known}
 use Rattle.std.specs.List.{flat_map}
 use Rattle.bson_text.specs.Text.{escaped}
-use Rattle.bson_text.specs.TextWriter.{text_contents}
+use Rattle.text_writer.specs.{text_contents}
 use Rattle.bson_text.proofs.text.write_runs.Given as goal
 
 abbrev pub invariant-loop-at : goal.invariant-loop-at

@@ -1,4 +1,4 @@
-use Rattle.bson_text.proofs.Progress.{word_first}
+use Rattle.text_writer.proofs.Lemmas.{word_first}
 use Rattle.bson_text.proofs.value_text.write_raw.Goals as goal
 
 pub returns : goal.returns
