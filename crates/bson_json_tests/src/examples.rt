@@ -1,5 +1,6 @@
 //! Examples of the standard (the BSON corpus of the drivers' specifications), and some more of the
-//! same form, whose JSON is that of another implementation (PyMongo).
+//! same form, whose JSON is that of another implementation (PyMongo). The decimal128 whose
+//! coefficient is 10^34, which isn't canonical, is 0 by IEEE 754-2008.
 
 use bson_json::{Mode, write_json};
 use bson_raw::RawDocument;
