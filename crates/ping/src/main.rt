@@ -3,15 +3,20 @@
 //! Stands on wire_end and bson_text.
 #![tactic(auto)]
 
+ghost use Rattle.std.specs.Prelude.{◌≡◌, ℕ, OnOk, Some, slice_get};
+ghost use Rattle.bson_text.specs.{document_text};
+ghost use Rattle.text_writer.specs.{WritesOut};
+ghost use Rattle.wire_model.specs.{Record};
+ghost use Rattle.wire_msg.specs.{Content};
+
 use anyhow::{Result, bail};
 use bson_raw::RawDocument;
 use bson_text::dump_to;
-use std::alloc::Global;
 use std::io::Write;
 use std::net::TcpStream;
 use std::{env, io};
 use wire_end::ClientEnd;
-use wire_msg::{MAX_MESSAGE_LEN, PayloadBuf};
+use wire_msg::{MAX_MESSAGE_LEN, Payload, PayloadBuf};
 use wire_peer::Client;
 use wire_stream::{Link, TcpLink};
 
@@ -19,20 +24,24 @@ use wire_stream::{Link, TcpLink};
 const PING: &[u8] = b"\x1e\0\0\0\x10ping\0\x01\0\0\0\x02$db\0\x06\0\0\0admin\0\0";
 
 /// Makes the call, waits for its reply, and writes the body of that.
-fn ping<L: Link + Drop>(alloc: Global, mut end: ClientEnd<L>, out: &mut impl Write) -> Result<()> {
-    let Ok(body) = RawDocument::from_bytes(PING) else {
-        bail!("PING is no document");
-    };
-    let payload = PayloadBuf::new(alloc, body)?;
-    let call = end.call(payload.as_payload())?;
+fn ping<L: Link + Drop, W: Write>(
+    end: &mut ClientEnd<L>,
+    payload: Payload<'_>,
+    out: &mut W,
+) -> Result<()>
+    ensures { OnOk result ((n : ℕ) × (x : Record) × (reply : Content)
+        × (slice_get end.new.own.records n ≡ Some x) × (slice_get x.parts 0 ≡ Some reply)
+        × WritesOut W.contents out.old out.new (document_text reply.body)) }
+{
+    let call = end.call(payload)?;
     end.flush()?;
     end.next_reply()?;
     if let Some(record) = end.record(call.number)
-        && let Some(part) = record.parts.first()
+        && let Some(reply) = record.parts.first()
     {
-        dump_to(part.as_payload().body(), out)?;
+        return Ok(dump_to(reply.as_payload().body(), out)?);
     }
-    Ok(())
+    bail!("the call has no reply")
 }
 
 fn main(rt: HostRuntime) -> Result<()> {
@@ -42,6 +51,10 @@ fn main(rt: HostRuntime) -> Result<()> {
     };
     let stream = TcpStream::connect(&rt, address.as_str())?;
     let client = Client::new(alloc, 1, 1, MAX_MESSAGE_LEN)?;
-    let end = ClientEnd::new(alloc, 1, client, TcpLink::new(stream))?;
-    ping(alloc, end, &mut io::writer(&rt))
+    let mut end = ClientEnd::new(alloc, 1, client, TcpLink::new(stream))?;
+    let Ok(body) = RawDocument::from_bytes(PING) else {
+        bail!("PING is no document");
+    };
+    let payload = PayloadBuf::new(alloc, body)?;
+    ping(&mut end, payload.as_payload(), &mut io::writer(&rt))
 }
