@@ -1,5 +1,5 @@
 -- The requests and the text of `loop`, call by call, and what was done at both ends.
-use Rattle.std.proofs.Common.{◌≡◌, ◌∙◌, ◌+◌, ◌-◌, ◌<◌, ◌≤◌, ℕ, suc, List, [], ◌++◌, add-one, append_assoc, append-nil, ap, refl, subst, sym, Option, arith, take, drop}
+use Rattle.std.proofs.Common.{◌≡◌, ◌∙◌, ◌+◌, ◌-◌, ◌<◌, ◌≤◌, ◌⊎◌, ℕ, zero, suc, inr, List, [], ◌++◌, add-one, append_assoc, append-nil, ap, refl, subst, sym, Option, arith, take, drop}
 use Rattle.std.specs.Io.KnownBytes.{Appends, Keeps}
 use Rattle.std.proofs.KnownBytes.{Appends-kept, Appends-nil, Appends-trans}
 use Rattle.std.proofs.lemmas.List.{take-append-drop}
@@ -12,8 +12,8 @@ use Rattle.wire_peer.specs.declared.log.Logged.{Logged}
 use Rattle.wire_channels.specs.{AreMade, ClientAct, ClientRun, ServerAct, ServerRun, first_end}
 use Rattle.wire_end.specs.{AreAnswered, EndRuns, EndSeen, ServerEndRuns, ServerEndSeen, with_logged}
 use Rattle.wire_end.proofs.Lemmas.{are_answered, end_runs_on, pair_knows, runs_on}
-use Rattle.engines.specs.Calling.{AreComplete, IsIdle, done_calls}
-use Rattle.engines.specs.Loopback.{AppendsUpTo, AreNew, HaveRun, call_line, call_lines, echo_does, echo_stops, last_line, loop_text, made_least, message_limit, request_bytes, requests_bytes}
+use Rattle.engines.specs.Calling.{AreComplete}
+use Rattle.engines.specs.Loopback.{AppendsUpTo, AreNew, HaveMade, HaveRun, HaveTold, call_line, call_lines, echo_does, echo_stops, last_line, loop_text, made_least, message_limit, request_bytes, requests_bytes}
 
 -- nothing was written
 pub none_yet : (text : List ℕ) (old : Option (List ℕ)) → AppendsUpTo text text old old
@@ -77,6 +77,36 @@ last_written k calls left text old mid new all before here =
 pub one_more_sent : (k : ℕ) (a b c : Option (List ℕ)) → Appends a b (requests_bytes k) → Appends b c (request_bytes k) → Appends a c (requests_bytes (k + 1))
 one_more_sent k a b c before now = rw add-one (Appends-trans a b c (requests_bytes k) (request_bytes k) before now)
 
+-- the lines of one call more
+lines_on : (from k : ℕ) → call_lines from (suc k) ≡ call_lines from k ++ call_line (from + k)
+lines_on from zero = append-nil (call_line from) ∙ ap call_line (omega arith)
+lines_on from (suc k) =
+    ap (λ xs. call_line from ++ xs) (lines_on (from + 1) k)
+    ∙ ap (λ n. call_line from ++ (call_lines (from + 1) k ++ call_line n)) (omega arith)
+    ∙ sym (append_assoc (call_line from) (call_lines (from + 1) k) (call_line (from + suc k)))
+
+pub one_line_more : (k : ℕ) → call_lines 0 (k + 1) ≡ call_lines 0 k ++ call_line k
+one_line_more k = ap (call_lines 0) (add-one k) ∙ lines_on 0 k ∙ ap (λ n. call_lines 0 k ++ call_line n) (omega arith)
+
+-- the line of one call more is written, or a beginning of it
+pub lines_written : (k : ℕ) (left : List ℕ) (old mid new : Option (List ℕ)) → Appends old mid (call_lines 0 k) → AppendsUpTo left (call_line k) mid new
+    → AppendsUpTo left (call_lines 0 (k + 1)) old new
+lines_written k left old mid new before here = (
+  call_lines 0 k ++ here.0,
+  one_line_more k ∙ ap (λ xs. call_lines 0 k ++ xs) here.1 ∙ sym (append_assoc (call_lines 0 k) here.0 left),
+  Appends-trans old mid new (call_lines 0 k) here.0 before here.2,
+)
+
+pub line_written : (k : ℕ) (old mid new : Option (List ℕ)) → Appends old mid (call_lines 0 k) → AppendsUpTo [] (call_line k) mid new
+    → Appends old new (call_lines 0 (k + 1))
+line_written k old mid new before here =
+    let whole = lines_written k [] old mid new before here in
+    subst (Appends old new) (sym (whole.1 ∙ append-nil whole.0)) whole.2
+
+-- so far all lines of these calls are written
+pub all_lines : (k : ℕ) (old new : Option (List ℕ)) → Appends old new (call_lines 0 k) → AppendsUpTo [] (call_lines 0 k) old new
+all_lines k old new is = (call_lines 0 k, sym (append-nil (call_lines 0 k)), is)
+
 -- ---- both ends
 
 pub on_any : {T E : Type 0} (r : Result T E) {P : Type 0} → P → OnOk r P
@@ -128,6 +158,24 @@ module _ {L : Type 0} (sent received : L → Option (List ℕ)) where
       → ((acts : List ServerAct) × ServerEndRuns echo_does echo_stops sent received mid b acts new c) → (acts : List ServerAct) × ServerEndRuns echo_does echo_stops sent received old a acts new c
   server_goes_on old mid new a b c (acts, r) (more, s) = (acts ++ more, end_runs_on sent received echo_does echo_stops old mid new a b c acts more r s)
 
+  -- what was made before a run ended
+  pub made_so_far : (k calls : ℕ) (client then_client : EndSeen L) (server then_server : ServerEndSeen L) (logged then_logged : Logged Echo) (old new : Option (List ℕ)) → AreComplete k then_client
+      → ((acts : List ClientAct) × EndRuns sent received client acts then_client)
+      → ((served : List ServerAct) × ServerEndRuns echo_does echo_stops sent received server logged served then_server then_logged)
+      → (k ≡ calls) ⊎ ((left : List ℕ) × AppendsUpTo left (call_lines 0 k) old new) → HaveMade sent received calls client server logged old new
+  made_so_far k calls client then_client server then_server logged then_logged old new complete (acts, asks) (served, serves) lines = record {
+    k = k;
+    then_client = then_client;
+    then_server = then_server;
+    then_logged = then_logged;
+    complete = complete;
+    acts = acts;
+    asks = asks;
+    served = served;
+    serves = serves;
+    lines = lines;
+  }
+
 -- what was done at both ends from the start is a run
 pub have_run : {L : Type 0} (sent received : L → Option (List ℕ)) (near far : L) (client client' : EndSeen L) (server server' : ServerEndSeen L) (logged logged' : Logged Echo) (calls : ℕ)
     (acts : List ClientAct) (served : List ServerAct) → AreNew near far client server logged → EndRuns sent received client acts client'
@@ -160,3 +208,40 @@ pub run_if : {L T E : Type 0} (sent received : L → Option (List ℕ)) (r : Res
 run_if sent received (Err e) near far client client' server server' logged logged' calls new complete ran serves = tt
 run_if sent received (Ok x) near far client client' server server' logged logged' calls new complete ran serves =
     have_run sent received near far client client' server server' logged logged' calls ran.0 serves.0 new ran.1 serves.1 complete
+
+-- what was made at two ends from the start is told
+pub told_of : {L : Type 0} (sent received : L → Option (List ℕ)) (near far : L) (client : EndSeen L) (server : ServerEndSeen L) (logged : Logged Echo) (calls : ℕ) (old new : Option (List ℕ))
+    → AreNew near far client server logged → HaveMade sent received calls client server logged old new → HaveTold calls old new
+told_of sent received near far client server logged calls old new are_new m =
+    record {
+      k = m.k;
+      run = have_run sent received near far client m.then_client server m.then_server logged m.then_logged m.k m.acts m.served are_new m.asks m.serves m.complete;
+      lines = m.lines;
+    }
+
+none_answered : (log : List LogEntry) → AreAnswered [] log
+none_answered log = record {
+  entry = λ n. 0;
+  answered = λ n x found done. absurd cc;
+  own = λ n k x y found done found' done' same. absurd cc;
+}
+
+-- nothing was done, and nothing written
+pub nothing_told : (calls : ℕ) (old : Option (List ℕ)) → HaveTold calls old old
+nothing_told calls old =
+    let echo : Echo = record {} in
+    record {
+      k = 0;
+      run = record {
+        acts = [];
+        client = first_end message_limit (λ _. made_least) 1;
+        runs = refl;
+        done = refl;
+        served = [];
+        first = echo;
+        server = record { server = new_server 1 1 message_limit; log = []; handler = echo };
+        serves = refl;
+        headline = λ deeds order arrive. none_answered [];
+      };
+      lines = inr ([], none_yet [] old);
+    }

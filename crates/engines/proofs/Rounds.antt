@@ -1,9 +1,9 @@
 -- One call after another over a client's end: each is asked, and its reply is taken.
-use Rattle.std.proofs.Common.{◌≡◌, ◌∙◌, ◌<◌, ◌≤◌, ◌+◌, ◌++◌, ◌^◌, ℕ, zero, suc, add-one, ap, refl, sym, subst, List, [], ◌∷◌, append_assoc, append-nil, drop, take, take-append-drop, get_or, length, length-append, map, Option, None, Some, Result, Ok, Err, arith, inl, inr}
-use Rattle.std.specs.Prelude.{ℤ, pos, Contains, Bool, true, false, ◌&&◌, ◌⊎◌, not, if◌then◌else◌, is_some, IsTrue, ◌↔◌, slice_get, slice_set}
+use Rattle.std.proofs.Common.{◌≡◌, ◌∙◌, ◌<◌, ◌≤◌, ◌+◌, ◌++◌, ◌^◌, ℕ, zero, suc, add-one, ap, refl, sym, subst, List, [], ◌∷◌, append_assoc, append-nil, take, get_or, length, length-append, map, Option, None, Some, Result, Ok, Err, arith, inl, inr}
+use Rattle.std.specs.Prelude.{ℤ, pos, Contains, Bool, true, false, ◌⊎◌, not, is_some, IsTrue, ◌↔◌, slice_get, slice_set}
 use Rattle.std.specs.Borrow.{Bor}
 use Rattle.std.specs.Ordering.{int_eq}
-use Rattle.std.specs.Io.KnownBytes.{Appends, Keeps}
+use Rattle.std.specs.Io.KnownBytes.{Appends}
 use Rattle.std.proofs.KnownBytes.{Appends-trans}
 use Rattle.std.proofs.Math.Seq.{take-length}
 use Rattle.std.proofs.lemmas.Option.{same_Some}
@@ -14,7 +14,7 @@ use Rattle.wire_msg.specs.Sequences.{GivesSequence, SequenceStepsTo, SequencesLe
 use Rattle.wire_msg.specs.declared.document_iter.Documents.{Documents}
 use Rattle.wire_msg.specs.declared.payloads.Payload.{Payload}
 use Rattle.wire_msg.specs.declared.sequence_iter.SequencesIter.{SequencesIter}
-use Rattle.wire_peer.specs.{ClientSeen, IsCalled, IsFirstFree, MayTake, Settles, Table, Takes, allowed, called, content_of, holding, id_following, id_past, ids, number_after, owner, released, reply_to, request, without}
+use Rattle.wire_peer.specs.{ClientSeen, IsFirstFree, MayTake, Settles, Table, allowed, called, content_of, holding, id_following, id_past, ids, number_after, owner, released, request, without}
 use Rattle.wire_peer.specs.ClientSteps.{after_release, received, state_after, is_open, is_message, is_bad}
 use Rattle.wire_peer.specs.declared.call_table.Outstanding.{Outstanding}
 use Rattle.wire_peer.specs.declared.call_table.ReadyReply.{ReadyReply}
@@ -24,9 +24,9 @@ use Rattle.wire_peer.specs.declared.client_state.ClientState.{ClientState}
 use Rattle.wire_peer.specs.declared.client_state.ClientState.TheVariants.{Open, Closed}
 use Rattle.wire_peer.specs.declared.calls.CallKind.TheVariants.{Plain}
 use Rattle.wire_peer.specs.declared.calls.CallNo.{CallNo}
-use Rattle.wire_model.specs.{Done, Record, asked_as, given_record, new_record, put_at}
+use Rattle.wire_model.specs.{Record, asked_as, given_record, new_record, put_at}
 use Rattle.wire_model.proofs.Lemmas.{get-push_new}
-use Rattle.wire_channels.specs.{ClientAct, ClientDoes, ClientEnd, ClientRun, bytes_sent, bytes_taken}
+use Rattle.wire_channels.specs.{ClientAct, ClientEnd, ClientRun, bytes_sent, bytes_taken}
 use Rattle.wire_channels.specs.Owners.{Calls, Collects, SendsUp, TakesDown}
 use Rattle.wire_channels.proofs.Lemmas.{taken_on}
 use Rattle.wire_end.specs.{EndRuns, EndSeen}

@@ -16,7 +16,7 @@ pub mod Play
 pub use Rattle.engines.specs.Canon.{CanonText}
 pub use Rattle.engines.specs.Check.{CheckText}
 pub use Rattle.engines.specs.Dump.{DumpText}
-pub use Rattle.engines.specs.Loopback.{AppendsUpTo, HaveRun, loop_text}
+pub use Rattle.engines.specs.Loopback.{AppendsUpTo, HaveRun, HaveTold, loop_text}
 pub use Rattle.engines.specs.Msg.{MsgText}
 pub use Rattle.engines.specs.Output.{AppendsText, IsOutput}
 pub use Rattle.engines.specs.Play.{ScriptText}

@@ -1,6 +1,7 @@
 -- What the calls of `loop` send and receive, what was done at both ends, and what is written: a
 -- line for each call, and a last one.
-use Rattle.std.specs.Prelude.{◌≡◌, ℕ, ◌+◌, zero, suc, pos, List, [], ◌∷◌, ◌++◌, codes, Option, Some}
+use Rattle.std.specs.Prelude.{◌≡◌, ◌⊎◌, ℕ, ◌+◌, zero, suc, pos, List, [], ◌∷◌, ◌++◌, codes}
+use Rattle.std.specs.Prelude.{Option, Some}
 use Rattle.std.specs.Fmt.{decimal}
 use Rattle.std.specs.Io.KnownBytes.{Appends}
 use Rattle.bson_elem.specs.{Tree}
@@ -12,9 +13,9 @@ use Rattle.wire_peer.specs.declared.handlers.HandlerStop.TheVariants.{OutOfMemor
 use Rattle.wire_peer.specs.declared.log.Logged.{Logged}
 use Rattle.wire_channels.specs.{Arrive, ClientAct, ClientEnd, ClientRun, Deed, Made, ServerAct}
 use Rattle.wire_channels.specs.{ServerEnd, ServerRun, first_end}
-use Rattle.wire_end.specs.{AreAnswered, AreInOrder, EndSeen, ServerEndSeen, first_client}
-use Rattle.wire_end.specs.{new_server_end}
-use Rattle.engines.specs.Calling.{call_body, done_calls}
+use Rattle.wire_end.specs.{AreAnswered, AreInOrder, EndRuns, EndSeen, ServerEndRuns}
+use Rattle.wire_end.specs.{ServerEndSeen, first_client, new_server_end}
+use Rattle.engines.specs.Calling.{AreComplete, call_body, done_calls}
 
 -- the bytes of the request of this call
 abbrev pub request_bytes : ℕ → List ℕ
@@ -108,3 +109,28 @@ loop_text calls = call_lines 0 calls ++ last_line calls
 -- known bytes grow by a beginning of the text, behind which this is left of it
 abbrev pub AppendsUpTo : List ℕ → List ℕ → Option (List ℕ) → Option (List ℕ) → Type 0
 AppendsUpTo left text old new = (gone : List ℕ) × (text ≡ gone ++ left) × Appends old new gone
+
+-- ---- what stands wherever a run ends
+
+-- Of so many calls, the first k were made and are done at both ends, whatever came after; and
+-- unless that is all of them, known bytes grew by a beginning of the lines of these k.
+pub record HaveTold (calls : ℕ) (old new : Option (List ℕ)) : Type 0 where
+  pub k : ℕ
+  pub run : HaveRun k
+  pub lines : (k ≡ calls) ⊎ ((left : List ℕ) × AppendsUpTo left (call_lines 0 k) old new)
+
+-- The same of two ends, at which other things may have been done since.
+pub record HaveMade {L : Type 0} (sent received : L → Option (List ℕ)) (calls : ℕ)
+    (client : EndSeen L) (server : ServerEndSeen L) (logged : Logged Echo)
+    (old new : Option (List ℕ)) : Type 0 where
+  pub k : ℕ
+  pub then_client : EndSeen L
+  pub then_server : ServerEndSeen L
+  pub then_logged : Logged Echo
+  pub complete : AreComplete k then_client
+  pub acts : List ClientAct
+  pub asks : EndRuns sent received client acts then_client
+  pub served : List ServerAct
+  pub serves : ServerEndRuns echo_does echo_stops sent received server logged
+      served then_server then_logged
+  pub lines : (k ≡ calls) ⊎ ((left : List ℕ) × AppendsUpTo left (call_lines 0 k) old new)

@@ -3,8 +3,9 @@
 ghost use Rattle.std.specs.Prelude.{◌≡◌, ◌≢◌, ◌+◌, ℕ, List, [], IfErr, IfOk, OnOk, false, pos};
 ghost use Rattle.std.specs.Io.KnownBytes.{Appends};
 ghost use Rattle.engines.specs.Calling.{AreComplete};
-ghost use Rattle.engines.specs.Loopback.{AppendsUpTo, HaveRun, call_line, echo_does, echo_stops};
-ghost use Rattle.engines.specs.Loopback.{last_line, loop_text, requests_bytes};
+ghost use Rattle.engines.specs.Loopback.{AppendsUpTo, HaveMade, HaveRun, HaveTold, call_line};
+ghost use Rattle.engines.specs.Loopback.{echo_does, echo_stops, last_line, loop_text};
+ghost use Rattle.engines.specs.Loopback.{requests_bytes};
 ghost use Rattle.engines.specs.Run.{is_done};
 ghost use Rattle.wire_channels.specs.{ClientAct, ServerAct};
 ghost use Rattle.wire_end.specs.{EndRuns, ServerEndRuns};
@@ -108,6 +109,8 @@ fn make_calls<L: Link + Drop, W: Write>(
     ensures server { OnOk result ((acts : List ServerAct)
         × ServerEndRuns echo_does echo_stops L.sent L.received loopback.old.server
         loopback.old.logged acts loopback.new.server loopback.new.logged) }
+    ensures told { HaveMade L.sent L.received calls loopback.old.client loopback.old.server
+        loopback.old.logged (W.contents out.old) (W.contents out.new) }
     ensures sent { OnOk result
         (Appends (L.sent loopback.old.client.link) (L.sent loopback.new.client.link)
         (requests_bytes calls)) }
@@ -125,6 +128,7 @@ fn run_calls<R: Net + AllocGlobal, W: Write>(rt: &R, calls: u8, out: &mut W) -> 
     ensures written { (left : List ℕ) × AppendsUpTo left (loop_text calls)
         (W.contents out.old) (W.contents out.new) × OnOk result (left ≡ []) }
     ensures ran { OnOk result (HaveRun calls) }
+    ensures told { HaveTold calls (W.contents out.old) (W.contents out.new) }
     ensures stopped { IfErr result (λ end. is_done end ≡ false) }
 {
     let alloc = rt.alloc();
@@ -146,13 +150,15 @@ fn run_calls<R: Net + AllocGlobal, W: Write>(rt: &R, calls: u8, out: &mut W) -> 
 /// well, the acts of the client and those of its server are told, and `HaveRun` says the headline
 /// of this very run: where bytes arrived in order, each call that is reported as done has an entry
 /// of its own in the server's log, with the call's payload, and what it got back are the answers
-/// of that. No contract says that a socket moves bytes in order, nor what it carries; so this is a
-/// premise, and no clause says that the run is good.
+/// of that. The same holds of the calls that were made before a run was cut short (`HaveTold`). No
+/// contract says that a socket moves bytes in order, nor what it carries; so this is a premise, and
+/// no clause says that the run is good.
 pub fn run_loop<R: Net + AllocGlobal, W: Write>(rt: &R, calls: u8, writer: &mut W) -> RunEnd
     ensures ends { result ≢ RunEnd.Fault }
     ensures written { (left : List ℕ) × AppendsUpTo left (loop_text calls)
         (W.contents writer.old) (W.contents writer.new) × (result ≡ RunEnd.Good → left ≡ []) }
     ensures ran { result ≡ RunEnd.Good → HaveRun calls }
+    ensures told { HaveTold calls (W.contents writer.old) (W.contents writer.new) }
 {
     match run_calls(rt, calls, writer) {
         Ok(()) => RunEnd::Good,

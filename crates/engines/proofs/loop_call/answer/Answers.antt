@@ -1,4 +1,4 @@
-use Rattle.std.proofs.Common.{List, ◌∷◌, [], ◌++◌}
+use Rattle.std.proofs.Common.{◌∷◌, []}
 use Rattle.wire_channels.specs.Owners.{SendsDown}
 use Rattle.wire_end.proofs.Lemmas.{end_runs_on, moves_runs}
 use Rattle.engines.specs.Loopback.{echo_does, echo_stops}

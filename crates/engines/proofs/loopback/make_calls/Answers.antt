@@ -1,8 +1,8 @@
-use Rattle.std.proofs.Common.{◌++◌, ◌+◌}
+use Rattle.std.proofs.Common.{◌++◌, ◌+◌, [], inl, inr, arith}
 use Rattle.std.proofs.KnownBytes.{Appends-nil}
 use Rattle.std.proofs.lemmas.Result.{err_from_is_err_and}
 use Rattle.engines.specs.Loopback.{loop_text}
-use Rattle.engines.proofs.LoopLemmas.{call_written, client_goes_on, last_written, left_from, none_done, none_of, none_served, one_more_sent, server_goes_on}
+use Rattle.engines.proofs.LoopLemmas.{all_lines, call_written, client_goes_on, last_written, left_from, line_written, lines_written, none_done, none_of, none_served, made_so_far, one_more_sent, server_goes_on}
 use Rattle.engines.proofs.loopback.make_calls.Goals as goal
 
 pub returns-in_err-write_call-clause-written : goal.returns-in_err-write_call-clause-written
@@ -30,6 +30,7 @@ loop-k-preserved g c =
       client = client_goes_on L.sent L.received _ _ _ c.loop-k.invariant.client c.in_ok-call.ensures.client;
       server = server_goes_on L.sent L.received _ _ _ _ _ _ c.loop-k.invariant.server c.in_ok-call.ensures.server;
       sent = one_more_sent k _ _ _ c.loop-k.invariant.sent c.in_ok-call.ensures.sent;
+      lines = line_written k _ _ _ c.loop-k.invariant.lines (rw whole at line.1);
       written = rw whole at (call_written k calls line.0 (loop_text calls) _ _ _ c.loop-k-test.true c.loop-k.invariant.written line.1);
     }
 
@@ -47,5 +48,34 @@ loop-k-init g c =
       client = none_done L.sent L.received _;
       server = none_served L.sent L.received _ _;
       sent = Appends-nil _;
+      lines = Appends-nil _;
       written = none_of c.args.calls _;
     }
+
+pub returns-in_err-call-clause-told : goal.returns-in_err-call-clause-told
+returns-in_err-call-clause-told g c =
+    let L = g.L.Link in
+    let k = c.loop-k.k in
+    let before = c.loop-k.invariant in
+    made_so_far L.sent L.received k c.args.calls _ _ _ _ _ _ _ _ before.complete before.client before.server
+    (inr ([], all_lines k _ _ before.lines))
+
+pub returns-in_err-write_call-clause-told : goal.returns-in_err-write_call-clause-told
+returns-in_err-write_call-clause-told g c =
+    let L = g.L.Link in
+    let k = c.loop-k.k in
+    let before = c.loop-k.invariant in
+    let call = c.in_ok-call.ensures in
+    let line = c.write_call.ensures.written k call.number.0 call.number.1 in
+    made_so_far L.sent L.received (k + 1) c.args.calls _ _ _ _ _ _ _ _ call.complete
+    (client_goes_on L.sent L.received _ _ _ before.client call.client)
+    (server_goes_on L.sent L.received _ _ _ _ _ _ before.server call.server)
+    (inr (line.0, lines_written k line.0 _ _ _ before.lines line.1))
+
+pub returns-clause-told : goal.returns-clause-told
+returns-clause-told g c =
+    let L = g.L.Link in
+    let k = c.loop-k.k in
+    let before = c.loop-k.invariant in
+    made_so_far L.sent L.received k c.args.calls _ _ _ _ _ _ _ _ before.complete before.client before.server
+    (inl (omega (arith, c.loop-k-test.false)))
