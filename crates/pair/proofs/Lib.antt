@@ -1,0 +1,5 @@
+pub mod Acting
+pub mod Moving
+pub mod Keeping
+pub mod Knowing
+pub mod Listing

@@ -1,0 +1,4 @@
+pub mod Asking
+pub mod Lines
+pub mod Owning
+pub mod Pairs
