@@ -8,7 +8,9 @@ use Rattle.bsonwire.specs.declared.choice.Choice.TheVariants.{Loop, Over}
 use Rattle.bsonwire.specs.declared.choice.Command.{Command}
 use Rattle.bsonwire.specs.declared.choice.Command.TheVariants.{Dump, Check, Canon, Msg, Play}
 use Rattle.bsonwire.specs.CommandLine.{command_line}
+use Rattle.bson_elem.specs.{Tree}
 use Rattle.engines.specs.{CanonText, CheckText, DumpText, IsOutput, MsgText, ScriptText}
+use Rattle.engines.specs.{canon_of, check_of, dump_of}
 
 -- ---- what the matches of a subcommand hold
 
@@ -93,8 +95,21 @@ CommandText (Canon hex) = IsOutput (CanonText 2147483647 hex) hex
 CommandText (Msg hex) = IsOutput MsgText hex
 CommandText Play = ScriptText
 
+-- what a command writes for a document, if it reads documents
+abbrev pub document_text : Command → Tree → Option (List ℕ)
+document_text (Dump hex) = dump_of
+document_text (Check hex) = check_of
+document_text (Canon hex) = canon_of 2147483647 hex
+document_text _ = λ t. None
+
+-- whether a command reads all of its input before it writes
+abbrev pub reads_first : Command → Bool
+reads_first (Dump hex) = hex
+reads_first (Check hex) = hex
+reads_first (Canon hex) = hex
+reads_first _ = true
+
 -- whether a command may run out of memory after it wrote its first byte
 abbrev pub wants_memory : Command → Bool
-wants_memory (Canon hex) = true
-wants_memory Play = true
-wants_memory _ = false
+wants_memory (Msg hex) = false
+wants_memory _ = true

@@ -5,7 +5,8 @@ use Rattle.clap.specs.declared.error.kind.ErrorKind.{ErrorKind}
 use Rattle.clap.specs.declared.error.kind.ErrorKind.TheVariants as kind
 use Rattle.command_words.specs.{words_status}
 use Rattle.engines.specs.declared.run.RunEnd.{RunEnd}
-use Rattle.engines.specs.declared.run.RunEnd.TheVariants.{Good, Fault, InOut, Memory}
+use Rattle.engines.specs.declared.run.RunEnd.TheVariants.{Good, Fault, Unread, InOut}
+use Rattle.engines.specs.declared.run.RunEnd.TheVariants.{Memory}
 use Rattle.bsonwire.specs.declared.choice.Choice.{Choice}
 use Rattle.bsonwire.specs.declared.choice.Choice.TheVariants.{Loop, Over}
 use Rattle.bsonwire.specs.Choices.{IsChosen}
@@ -15,6 +16,7 @@ use Rattle.bsonwire.specs.CommandLine.{command_line}
 abbrev pub exit_status : RunEnd → ℕ
 exit_status Good = 0
 exit_status Fault = 1
+exit_status Unread = 3
 exit_status InOut = 3
 exit_status Memory = 4
 

@@ -5,10 +5,10 @@ ghost use Rattle.std.specs.List.{list_any};
 ghost use Rattle.std.specs.Str.{chars};
 ghost use Rattle.core.specs.Char.{is_control};
 ghost use Rattle.std.specs.IoError.{error_kind, raw_os_error};
-ghost use Rattle.bsonwire.specs.Choices.{CommandText, wants_memory};
+ghost use Rattle.bsonwire.specs.Choices.{CommandText, document_text, reads_first, wants_memory};
 ghost use Rattle.bsonwire.specs.ExitStatus.{IsStatusFor, exit_status, tells_done, tells_fault};
-ghost use Rattle.engines.specs.{AppendsText, AppendsUpTo, end_of_error, is_done, is_fault};
-ghost use Rattle.engines.specs.{loop_text};
+ghost use Rattle.engines.specs.{AppendsFirst, AppendsText, AppendsUpTo, WritesAll, end_of_error};
+ghost use Rattle.engines.specs.{is_done, is_fault, loop_text};
 
 use crate::choice::{Choice, Command};
 use command_words::{IN_OUT, MEMORY};
@@ -28,7 +28,7 @@ fn status_of(end: RunEnd) -> u8
     match end {
         RunEnd::Good => 0,
         RunEnd::Fault => 1,
-        RunEnd::InOut => IN_OUT,
+        RunEnd::Unread | RunEnd::InOut => IN_OUT,
         RunEnd::Memory => MEMORY,
     }
 }
@@ -143,10 +143,13 @@ fn status_over<E: Eprint, R: Read, W: Write>(
     ensures written { IfSome (R.remaining reader.old) (λ input. tells_done result ≡ true →
         AppendsText (CommandText command input) (tells_fault result)
         (W.contents writer.old) (W.contents writer.new)) }
-    ensures late { (IsAtEnd (R.remaining reader.new)) ⊎
+    ensures late { reads_first command ≡ true → (IsAtEnd (R.remaining reader.new)) ⊎
         Keeps (W.contents writer.old) (W.contents writer.new) }
     ensures memory { result ≡ 4 → wants_memory command ≡ false →
         Keeps (W.contents writer.old) (W.contents writer.new) }
+    ensures first { result ≡ 4 → reads_first command ≡ false → IfSome (R.remaining reader.old)
+        (λ input. AppendsFirst (document_text command) input
+        (W.contents writer.old) (W.contents writer.new)) }
 {
     let end = run_over(alloc, command, reader, writer);
     tell(rt, end, input)
@@ -163,10 +166,16 @@ fn run_over<R: Read, W: Write>(
     ensures written { IfSome (R.remaining reader.old) (λ input. is_done result ≡ true →
         AppendsText (CommandText command input) (is_fault result)
         (W.contents writer.old) (W.contents writer.new)) }
-    ensures late { (IsAtEnd (R.remaining reader.new)) ⊎
+    ensures late { reads_first command ≡ true → (IsAtEnd (R.remaining reader.new)) ⊎
         Keeps (W.contents writer.old) (W.contents writer.new) }
     ensures memory { result ≡ RunEnd.Memory → wants_memory command ≡ false →
         Keeps (W.contents writer.old) (W.contents writer.new) }
+    ensures unread { result ≡ RunEnd.Unread → reads_first command ≡ false →
+        WritesAll (document_text command) (R.remaining reader.old) (R.remaining reader.new)
+        (W.contents writer.old) (W.contents writer.new) }
+    ensures first { result ≡ RunEnd.Memory → reads_first command ≡ false →
+        IfSome (R.remaining reader.old) (λ input. AppendsFirst (document_text command) input
+        (W.contents writer.old) (W.contents writer.new)) }
 {
     match command {
         Command::Dump { hex } => run_dump(alloc, hex, reader, writer),
@@ -195,7 +204,7 @@ fn tell_loop(rt: &impl Eprint, end: RunEnd) -> u8
     let _ = match end {
         RunEnd::InOut => { eprintln!(rt; "bsonwire: the connection or standard output failed") }
         RunEnd::Memory => eprintln!(rt; "bsonwire: out of memory"),
-        RunEnd::Good | RunEnd::Fault => Ok(()),
+        RunEnd::Good | RunEnd::Fault | RunEnd::Unread => Ok(()),
     };
     status_of(end)
 }
@@ -206,9 +215,8 @@ fn tell(rt: &impl Eprint, end: RunEnd, input: InputName<'_>) -> u8
 {
     // If standard error takes no line, there is only the status.
     let _ = match end {
-        RunEnd::InOut => {
-            eprintln!(rt; "bsonwire: could not read {input} or write standard output")
-        }
+        RunEnd::Unread => eprintln!(rt; "bsonwire: could not read {input}"),
+        RunEnd::InOut => eprintln!(rt; "bsonwire: could not write standard output"),
         RunEnd::Memory => eprintln!(rt; "bsonwire: {input}: out of memory"),
         RunEnd::Good | RunEnd::Fault => Ok(()),
     };

@@ -1,4 +1,5 @@
 pub mod Readings
+pub mod PieceLemmas
 pub mod TextLaws
 pub mod MessageReadings
 pub mod MessageLaws

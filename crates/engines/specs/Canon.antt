@@ -1,10 +1,10 @@
 -- What `canon` writes.
-use Rattle.std.specs.Prelude.{ℕ, nat_lt, List, [], ◌++◌, codes, Bool, true, false, Option, Some}
+use Rattle.std.specs.Prelude.{ℕ, nat_lt, List, [], codes, Bool, true, false, Option, Some}
 use Rattle.std.specs.Prelude.{None, if◌then◌else◌}
 use Rattle.hex.specs.Hex.{encode_lower}
 use Rattle.bson_elem.specs.{Tree, document, elements}
 use Rattle.bson_doc.specs.{canonical_len, plain}
-use Rattle.engines.specs.Documents.{IsWholeText, plainly}
+use Rattle.engines.specs.Documents.{IsWholeText}
 
 -- bytes as they are, or as hexadecimal text
 abbrev pub in_form : Bool → List ℕ → List ℕ
@@ -17,21 +17,17 @@ canon_of limit hex t =
     if nat_lt limit (canonical_len t) then None
     else Some (in_form hex (document (elements (plain t))))
 
--- the end of a line, where there is one
+-- the end of the line of hexadecimal text, where there is a document
 abbrev pub line_end : Bool → List ℕ
 line_end false = []
 line_end true = codes "\n"
 
--- hexadecimal text in one line, where there is a document
-abbrev pub hex_line : Bool → List ℕ → List ℕ
-hex_line any texts = texts ++ line_end any
+-- what follows the canonical forms
+abbrev pub behind_forms : Bool → Bool → List ℕ
+behind_forms false any = []
+behind_forms true any = line_end any
 
--- how the texts of the documents are joined
-abbrev pub joined_by : Bool → Bool → List ℕ → List ℕ
-joined_by false = plainly
-joined_by true = hex_line
-
--- what `canon` writes for bytes, as bytes or as hexadecimal text, and whether it ends with a fault
--- line
+-- what `canon` writes for bytes, as bytes or as hexadecimal text in one line, and whether it ends
+-- with a fault line
 abbrev pub CanonText : ℕ → Bool → List ℕ → List ℕ → Bool → Type 0
-CanonText limit hex = IsWholeText (canon_of limit hex) (joined_by hex)
+CanonText limit hex = IsWholeText (canon_of limit hex) (behind_forms hex)

@@ -6,6 +6,8 @@ pub mod Input
 pub mod Output
 pub mod InputFault
 pub mod Documents
+pub mod Source
+pub mod Walk
 pub mod Check
 pub mod Canon
 pub mod Msg
@@ -13,9 +15,10 @@ pub mod Calling
 pub mod Loopback
 pub mod Play
 -- the words that clauses of other crates cite
-pub use Rattle.engines.specs.Canon.{CanonText}
-pub use Rattle.engines.specs.Check.{CheckText}
-pub use Rattle.engines.specs.Dump.{DumpText}
+pub use Rattle.engines.specs.Canon.{CanonText, canon_of}
+pub use Rattle.engines.specs.Check.{CheckText, check_of}
+pub use Rattle.engines.specs.Documents.{AppendsFirst, WritesAll}
+pub use Rattle.engines.specs.Dump.{DumpText, dump_of}
 pub use Rattle.engines.specs.Loopback.{AppendsUpTo, HaveRun, HaveTold, loop_text}
 pub use Rattle.engines.specs.Msg.{MsgText}
 pub use Rattle.engines.specs.Output.{AppendsText, IsOutput}

@@ -1,9 +1,9 @@
 -- How a run of an engine ends.
-use Rattle.std.specs.Prelude.{ℤ, Bool, true, false, Option, None}
+use Rattle.std.specs.Prelude.{◌≡◌, ◌⊎◌, ℤ, Bool, true, false, Option, None}
 use Rattle.std.specs.declared.io.ErrorKind.{ErrorKind}
 use Rattle.std.specs.declared.io.ErrorKind.TheVariants.{OutOfMemory}
 use Rattle.engines.specs.declared.run.RunEnd.{RunEnd}
-use Rattle.engines.specs.declared.run.RunEnd.TheVariants.{Good, Fault, InOut, Memory}
+use Rattle.engines.specs.declared.run.RunEnd.TheVariants.{Good, Fault, Unread, InOut, Memory}
 
 -- the run wrote its whole text
 abbrev pub is_done : RunEnd → Bool
@@ -20,3 +20,7 @@ is_fault _ = false
 abbrev pub end_of_error : ErrorKind → Option ℤ → RunEnd
 end_of_error OutOfMemory None = Memory
 end_of_error kind code = InOut
+
+-- the run couldn't read on
+abbrev pub IsCutShort : RunEnd → Type 0
+IsCutShort end = (end ≡ Unread) ⊎ (end ≡ Memory)

@@ -3,7 +3,7 @@
 ghost use Rattle.std.specs.Prelude.{◌≡◌, ◌<◌, ◌≤◌, [], IfOk, OnOk, drop, length, min, vec_capacity};
 ghost use Rattle.std.specs.Prelude.{vec_len};
 ghost use Rattle.std.specs.Io.{WritesAtMost};
-ghost use Rattle.std.specs.Io.KnownBytes.{Appends, Keeps, WriteAppends};
+ghost use Rattle.std.specs.Io.KnownBytes.{Appends, Keeps, WriteAppends, append_known};
 ghost use Rattle.engines.specs.Buffered.{buffered_contents};
 
 use std::io;
@@ -20,12 +20,24 @@ pub struct Buffered<W> {
 }
 
 impl<W: Write> Buffered<W> {
-    /// Makes a writer of `inner` and an empty `buffer`, which takes as many bytes as its capacity.
+    /// Makes a writer of `inner` and a `buffer`, which takes as many bytes as its capacity. What is
+    /// in it waits for the writer.
     pub fn new(inner: W, buffer: Vec<u8>) -> Buffered<W>
-        requires { buffer.items ≡ [] }
-        ensures { Keeps (W.contents inner) (buffered_contents W.contents result) }
+        ensures waiting { buffered_contents W.contents result
+            ≡ append_known (W.contents inner) buffer.items }
+        ensures empty { buffer.items ≡ []
+            → Keeps (W.contents inner) (buffered_contents W.contents result) }
     {
         Buffered { inner, buffer }
+    }
+
+    /// Returns the inner writer, and the buffer with what waits for it.
+    pub fn into_parts(self) -> (W, Vec<u8>)
+        ensures { append_known (W.contents result.0) result.1.items
+            ≡ buffered_contents W.contents self }
+    {
+        let Buffered { inner, buffer } = self;
+        (inner, buffer)
     }
 
     /// Returns the inner writer. What is still in the buffer is lost.

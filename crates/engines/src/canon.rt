@@ -1,20 +1,24 @@
 //! The command `canon`: the canonical form of each document.
 
-ghost use Rattle.std.specs.Prelude.{◌≡◌, ◌⊎◌, ◌≤◌, ◌<◌, ◌^◌, IfErr, IfOk, IfSome, None, OnOk, Some};
-ghost use Rattle.std.specs.Prelude.{false, if◌then◌else◌, length, nat_lt, true};
-ghost use Rattle.std.specs.Io.KnownBytes.{Appends, IsAtEnd, Keeps};
-ghost use Rattle.engines.specs.Canon.{CanonText, canon_of, hex_line, in_form, line_end};
-ghost use Rattle.engines.specs.Documents.{IsWholeText, IsWritten};
+ghost use Rattle.std.specs.Prelude.{◌≡◌, ◌⊎◌, ◌≤◌, ◌<◌, ◌^◌, IfOk, IfSome, None, Some, false};
+ghost use Rattle.std.specs.Prelude.{if◌then◌else◌, length, nat_lt, true};
+ghost use Rattle.std.specs.Io.KnownBytes.{IsAtEnd, Keeps};
+ghost use Rattle.engines.specs.Canon.{CanonText, behind_forms, canon_of, in_form};
+ghost use Rattle.engines.specs.Documents.{AppendsFirst, WritesAll};
+ghost use Rattle.engines.specs.Input.{bytes_of};
 ghost use Rattle.engines.specs.Output.{AppendsText, IsOutput};
 ghost use Rattle.engines.specs.Run.{is_done, is_fault};
+ghost use Rattle.engines.specs.Walk.{IsWritten};
 
-use crate::documents::{EachDocument, write_documents, write_each, write_last};
-use crate::run::{Engine, RunEnd, run};
+use crate::documents::{EachDocument, Written};
+use crate::pieces::run_documents;
+use crate::run::RunEnd;
 use bson_doc::{DocRefusal, renumbered};
 use bson_elem::MAX_LEN;
 use bson_raw::RawDocument;
 use bson_text::hex_to;
 use std::alloc::Global;
+use std::io;
 use std::io::{Read, Write};
 
 /// The command `canon`.
@@ -29,91 +33,49 @@ struct Canon {
 }
 
 impl Canon {
-    /// Writes `bytes`, the canonical form of a document. Returns false, with nothing written, if
-    /// they are more than the limit.
-    fn write_bytes<W: Write>(&self, bytes: &[u8], out: &mut W) -> Result<bool, RunEnd>
-        ensures written { IfOk result (λ there. IsWritten
+    /// Writes `bytes`, the canonical form of a document, unless they are more than the limit.
+    fn write_bytes<W: Write>(&self, bytes: &[u8], out: &mut W) -> io::Result<Written>
+        ensures { IfOk result (λ written. IsWritten
             (if nat_lt self.now.limit (length bytes.now) then None
-            else Some (in_form self.now.hex bytes.now)) there
+            else Some (in_form self.now.hex bytes.now)) written
             (W.contents out.old) (W.contents out.new)) }
-        ensures stopped { IfErr result (λ end. end ≡ RunEnd.InOut) }
     {
         if bytes.len() > self.limit {
-            return Ok(false);
+            return Ok(Written::TooLarge);
         }
-        let written = if self.hex {
-            hex_to(bytes, out)
+        if self.hex {
+            hex_to(bytes, out)?;
         } else {
-            out.write_all(bytes)
-        };
-        match written {
-            Ok(()) => Ok(true),
-            Err(_) => Err(RunEnd::InOut),
+            out.write_all(bytes)?;
         }
-    }
-}
-
-/// Writes a line feed if `any` is true.
-fn write_line_end<W: Write>(any: bool, out: &mut W) -> Result<(), RunEnd>
-    ensures written { OnOk result (Appends (W.contents out.old) (W.contents out.new)
-        (line_end any)) }
-    ensures stopped { IfErr result (λ end. end ≡ RunEnd.InOut) }
-{
-    let end: &[u8] = if any { b"\n" } else { b"" };
-    match out.write_all(end) {
-        Ok(()) => Ok(()),
-        Err(_) => Err(RunEnd::InOut),
-    }
-}
-
-impl Canon {
-    /// Writes the canonical forms in one line, and then the line of the first fault. Returns true
-    /// if there is one.
-    fn write_hex_line<W: Write>(&self, bytes: &[u8], out: &mut W) -> Result<bool, RunEnd>
-        ensures written { IfOk result (λ fault.
-            AppendsText (IsWholeText (canon_of self.now.limit self.now.hex) hex_line bytes.now)
-            fault (W.contents out.old) (W.contents out.new)) }
-        ensures stopped { IfErr result (λ end. is_done end ≡ false) }
-    {
-        let walk = write_each(self, bytes, out)?;
-        write_line_end(walk.any, out)?;
-        write_last(walk.fault, out)
+        Ok(Written::Whole)
     }
 }
 
 impl EachDocument for Canon {
     ghost text_of = { λ c. canon_of c.limit c.hex };
 
-    ghost wants_memory = { λ _. true };
+    ghost closing = { λ c. behind_forms c.hex };
 
     fn write_document<W: Write>(
         &self,
         document: RawDocument<'_>,
         canonical: bool,
         out: &mut W,
-    ) -> Result<bool, RunEnd> {
+    ) -> io::Result<Written> {
         if canonical {
             return self.write_bytes(document.as_bytes(), out);
         }
         match renumbered(self.alloc, document) {
             Ok(form) => self.write_bytes(form.as_raw().as_bytes(), out),
-            Err(DocRefusal::TooLarge) => Ok(false),
-            Err(_) => Err(RunEnd::Memory),
+            Err(DocRefusal::TooLarge) => Ok(Written::TooLarge),
+            Err(_) => Ok(Written::OutOfMemory),
         }
     }
-}
 
-impl Engine for Canon {
-    ghost is_text = { λ c. CanonText c.limit c.hex };
-
-    ghost wants_memory = { λ _. true };
-
-    fn write_text<W: Write>(&self, bytes: &[u8], out: &mut W) -> Result<bool, RunEnd> {
-        if self.hex {
-            self.write_hex_line(bytes, out)
-        } else {
-            write_documents(self, bytes, out)
-        }
+    fn write_closing<W: Write>(&self, any: bool, out: &mut W) -> io::Result<()> {
+        let end: &[u8] = if self.hex && any { b"\n" } else { b"" };
+        out.write_all(end)
     }
 }
 
@@ -131,8 +93,14 @@ pub fn run_canon<R: Read, W: Write>(
     ensures written { IfSome (R.remaining reader.old) (λ input. is_done result ≡ true →
         AppendsText (IsOutput (CanonText MAX_LEN hex) hex input) (is_fault result)
         (W.contents writer.old) (W.contents writer.new)) }
-    ensures late { (IsAtEnd (R.remaining reader.new)) ⊎
+    ensures unread { hex ≡ false → result ≡ RunEnd.Unread → WritesAll (canon_of MAX_LEN hex)
+        (R.remaining reader.old) (R.remaining reader.new)
+        (W.contents writer.old) (W.contents writer.new) }
+    ensures late { hex ≡ true → (IsAtEnd (R.remaining reader.new)) ⊎
         Keeps (W.contents writer.old) (W.contents writer.new) }
+    ensures memory { result ≡ RunEnd.Memory → IfSome (R.remaining reader.old)
+        (λ input. IfOk (bytes_of hex input) (λ bytes. AppendsFirst (canon_of MAX_LEN hex) bytes
+        (W.contents writer.old) (W.contents writer.new))) }
 {
     run_canon_within(alloc, MAX_LEN, hex, reader, writer)
 }
@@ -150,9 +118,15 @@ pub fn run_canon_within<R: Read, W: Write>(
     ensures written { IfSome (R.remaining reader.old) (λ input. is_done result ≡ true →
         AppendsText (IsOutput (CanonText limit hex) hex input) (is_fault result)
         (W.contents writer.old) (W.contents writer.new)) }
-    ensures late { (IsAtEnd (R.remaining reader.new)) ⊎
+    ensures unread { hex ≡ false → result ≡ RunEnd.Unread → WritesAll (canon_of limit hex)
+        (R.remaining reader.old) (R.remaining reader.new)
+        (W.contents writer.old) (W.contents writer.new) }
+    ensures late { hex ≡ true → (IsAtEnd (R.remaining reader.new)) ⊎
         Keeps (W.contents writer.old) (W.contents writer.new) }
+    ensures memory { result ≡ RunEnd.Memory → IfSome (R.remaining reader.old)
+        (λ input. IfOk (bytes_of hex input) (λ bytes. AppendsFirst (canon_of limit hex) bytes
+        (W.contents writer.old) (W.contents writer.new))) }
 {
     let canon = Canon { alloc, hex, limit };
-    run(alloc, &canon, hex, reader, writer)
+    run_documents(alloc, &canon, hex, reader, writer)
 }

@@ -1,13 +1,16 @@
 //! The command `check`: a line for each document.
 
-ghost use Rattle.std.specs.Prelude.{◌≡◌, ◌⊎◌, IfSome, OnOk, false, true};
+ghost use Rattle.std.specs.Prelude.{◌≡◌, ◌⊎◌, IfOk, IfSome, OnOk, false, true};
 ghost use Rattle.std.specs.Io.KnownBytes.{Appends, IsAtEnd, Keeps};
 ghost use Rattle.engines.specs.Check.{CheckText, check_of, form_word, sized_line};
+ghost use Rattle.engines.specs.Documents.{AppendsFirst, WritesAll, nothing};
+ghost use Rattle.engines.specs.Input.{bytes_of};
 ghost use Rattle.engines.specs.Output.{AppendsText, IsOutput};
 ghost use Rattle.engines.specs.Run.{is_done, is_fault};
 
-use crate::documents::{EachDocument, write_documents};
-use crate::run::{Engine, RunEnd, run};
+use crate::documents::{EachDocument, Written};
+use crate::pieces::run_documents;
+use crate::run::RunEnd;
 use bson_raw::RawDocument;
 use bson_text::number_to;
 use std::alloc::Global;
@@ -41,28 +44,20 @@ fn write_check_line<W: Write>(size: usize, canonical: bool, out: &mut W) -> io::
 impl EachDocument for Check {
     ghost text_of = { λ _. check_of };
 
-    ghost wants_memory = { λ _. false };
+    ghost closing = { λ _. nothing };
 
     fn write_document<W: Write>(
         &self,
         document: RawDocument<'_>,
         canonical: bool,
         out: &mut W,
-    ) -> Result<bool, RunEnd> {
-        match write_check_line(document.as_bytes().len(), canonical, out) {
-            Ok(()) => Ok(true),
-            Err(_) => Err(RunEnd::InOut),
-        }
+    ) -> io::Result<Written> {
+        write_check_line(document.as_bytes().len(), canonical, out)?;
+        Ok(Written::Whole)
     }
-}
 
-impl Engine for Check {
-    ghost is_text = { λ _. CheckText };
-
-    ghost wants_memory = { λ _. false };
-
-    fn write_text<W: Write>(&self, bytes: &[u8], out: &mut W) -> Result<bool, RunEnd> {
-        write_documents(self, bytes, out)
+    fn write_closing<W: Write>(&self, _any: bool, _out: &mut W) -> io::Result<()> {
+        Ok(())
     }
 }
 
@@ -78,10 +73,14 @@ pub fn run_check<R: Read, W: Write>(
     ensures written { IfSome (R.remaining reader.old) (λ input. is_done result ≡ true →
         AppendsText (IsOutput CheckText hex input) (is_fault result)
         (W.contents writer.old) (W.contents writer.new)) }
-    ensures late { (IsAtEnd (R.remaining reader.new)) ⊎
+    ensures unread { hex ≡ false → result ≡ RunEnd.Unread → WritesAll check_of
+        (R.remaining reader.old) (R.remaining reader.new)
+        (W.contents writer.old) (W.contents writer.new) }
+    ensures late { hex ≡ true → (IsAtEnd (R.remaining reader.new)) ⊎
         Keeps (W.contents writer.old) (W.contents writer.new) }
-    ensures memory { result ≡ RunEnd.Memory →
-        Keeps (W.contents writer.old) (W.contents writer.new) }
+    ensures memory { result ≡ RunEnd.Memory → IfSome (R.remaining reader.old)
+        (λ input. IfOk (bytes_of hex input) (λ bytes. AppendsFirst check_of bytes
+        (W.contents writer.old) (W.contents writer.new))) }
 {
-    run(alloc, &Check, hex, reader, writer)
+    run_documents(alloc, &Check, hex, reader, writer)
 }

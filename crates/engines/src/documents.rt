@@ -1,91 +1,108 @@
-//! Documents back to back, for each of which a command writes a text.
+//! Documents out of a piece of an input, for each of which a command writes a text.
 
-ghost use Rattle.std.specs.Prelude.{◌≡◌, ℕ, Bool, List, Option, IfErr, IfOk, false, true};
+ghost use Rattle.std.specs.Prelude.{◌≡◌, ℕ, Bool, List, Option, IfErr, IfOk};
+ghost use Rattle.std.specs.Prelude.{OnOk, false};
 ghost use Rattle.std.specs.Io.KnownBytes.{Appends};
 ghost use Rattle.bson_elem.specs.{Spells, Tree};
 ghost use Rattle.bson_raw.specs.{document_bytes, is_plain};
-ghost use Rattle.engines.specs.Documents.{IsWholeText, IsWritten, TextsAre, is_there, or_nothing};
-ghost use Rattle.engines.specs.Documents.{plainly};
+ghost use Rattle.bson_stream.specs.{IsOpen};
+ghost use Rattle.engines.specs.Documents.{is_there, or_nothing};
 ghost use Rattle.engines.specs.InputFault.{line_of};
-ghost use Rattle.engines.specs.Output.{AppendsText};
-ghost use Rattle.engines.specs.Run.{is_done};
+ghost use Rattle.engines.specs.Walk.{IsWritten, Walks};
 
 use crate::input_fault::InputFault;
 use crate::run::RunEnd;
-use bson_elem::BsonFault;
 use bson_raw::RawDocument;
-use bson_raw::laws::documents_split;
+use bson_stream::{DocumentReader, ReaderState};
+use std::io;
 use std::io::Write;
 
-/// What a command writes for a document.
+/// What became of the text of a document.
+#[derive(Clone, Copy)]
+pub enum Written {
+    /// It was written.
+    Whole,
+    /// There is none, since the document's canonical form has too many bytes. Nothing was written.
+    TooLarge,
+    /// Memory ran out. Nothing was written.
+    OutOfMemory,
+}
+
+/// What a command writes for documents.
 pub trait EachDocument {
     // The text of a document, if it has one.
     ghost text_of: { Self → Tree → Option (List ℕ) };
-    // Whether it may want memory.
-    ghost wants_memory: { Self → Bool };
+    // What follows the texts of all documents, by whether there are any.
+    ghost closing: { Self → Bool → List ℕ };
 
-    /// Writes the text of `document`, where `canonical` says whether it is in canonical form.
-    /// Returns false, with nothing written, if the document has no text.
+    /// Writes the text of `document`, where `canonical` says whether it is in canonical form. Errs
+    /// if the writer does.
     fn write_document<W: Write>(
         &self,
         document: RawDocument<'_>,
         canonical: bool,
         out: &mut W,
-    ) -> Result<bool, RunEnd>
+    ) -> io::Result<Written>
         requires { (t : Tree) → Spells t (document_bytes document)
             → canonical ≡ is_plain false 0 t }
-        ensures written { (t : Tree) → Spells t (document_bytes document.entry)
-            → IfOk result (λ there. IsWritten (text_of self.now t) there
-            (W.contents out.old) (W.contents out.new)) }
-        ensures stopped { IfErr result (λ end. (is_done end ≡ false)
-            × (end ≡ RunEnd.Memory → wants_memory self.now ≡ true)) };
+        ensures { (t : Tree) → Spells t (document_bytes document.entry) → IfOk result
+            (λ written. IsWritten (text_of self.now t) written
+            (W.contents out.old) (W.contents out.new)) };
+
+    /// Writes what follows the texts of all documents. `any` says whether there are any.
+    fn write_closing<W: Write>(&self, any: bool, out: &mut W) -> io::Result<()>
+        ensures { OnOk result (Appends (W.contents out.old) (W.contents out.new)
+            (closing self.now any)) };
 }
 
-/// The result of a walk over documents back to back.
+/// Why no more documents are read.
 #[derive(Clone, Copy)]
-pub struct Walk {
-    /// True if the text of a document was written.
-    pub any: bool,
-    /// The first fault, which ended the walk.
-    pub fault: Option<InputFault>,
+pub enum Stop {
+    /// The input has this fault, whatever follows the piece.
+    Fault(InputFault),
+    /// Memory ran out.
+    OutOfMemory,
 }
 
-/// Writes the texts of the documents in `bytes`, up to the first fault.
-pub fn write_each<E: EachDocument, W: Write>(
+/// Feeds `piece` to `documents`, and writes the text of each document that becomes whole. Returns
+/// why no more documents are read, if none are: then the reader stands where that is. Errs if the
+/// writer does.
+pub fn write_piece<E: EachDocument, W: Write>(
     each: &E,
-    bytes: &[u8],
+    documents: &mut DocumentReader,
+    piece: &[u8],
     out: &mut W,
-) -> Result<Walk, RunEnd>
-    ensures written { IfOk result (λ walk.
-        (texts : List ℕ)
-        × TextsAre (E.text_of each.now) bytes.now walk.any texts (line_of walk.fault)
-        × Appends (W.contents out.old) (W.contents out.new) texts) }
-    ensures stopped { IfErr result (λ end. (is_done end ≡ false)
-        × (end ≡ RunEnd.Memory → E.wants_memory each.now ≡ true)) }
+) -> io::Result<Option<Stop>>
+    requires { IsOpen documents.old.held }
+    ensures { IfOk result (λ stop.
+        Walks (E.text_of each.now) documents.old piece.now documents.new stop
+        (W.contents out.old) (W.contents out.new)) }
 {
-    let mut rest = bytes;
-    let mut any = false;
-    while !rest.is_empty() {
-        let offset = bytes.len() - rest.len();
-        let front = match RawDocument::front_with_form(rest) {
-            Ok(front) => front,
-            Err(fault) => {
-                let at = offset + fault.at;
-                let cause = fault.cause;
-                let fault = Some(InputFault::Bson(BsonFault { at, cause }));
-                return Ok(Walk { any, fault });
-            }
+    let mut rest = piece;
+    loop {
+        // The limit is that of all documents, and an offset counts the bytes of the piece: a reader
+        // refuses to be fed for want of memory alone.
+        let Ok(fed) = documents.feed(rest) else {
+            return Ok(Some(Stop::OutOfMemory));
         };
-        if !each.write_document(front.document, front.canonical, out)? {
-            let fault = Some(InputFault::TooLarge { offset });
-            // The text is a function of all documents in the input, also of those behind this one.
-            let _ = documents_split(front.rest);
-            return Ok(Walk { any, fault });
+        rest = &rest[fed.taken..];
+        let canonical = match fed.state {
+            ReaderState::Need => return Ok(None),
+            ReaderState::Ready { canonical } => canonical,
+            ReaderState::Bad(fault) => return Ok(Some(Stop::Fault(InputFault::Bson(fault)))),
+        };
+        let Some(document) = documents.document() else {
+            unreachable!()
+        };
+        match each.write_document(document, canonical, out)? {
+            Written::Whole => documents.release(),
+            Written::TooLarge => {
+                let offset = documents.start();
+                return Ok(Some(Stop::Fault(InputFault::TooLarge { offset })));
+            }
+            Written::OutOfMemory => return Ok(Some(Stop::OutOfMemory)),
         }
-        any = true;
-        rest = front.rest;
     }
-    Ok(Walk { any, fault: None })
 }
 
 /// Writes the line of `fault`, if there is one. Returns true if there is.
@@ -101,21 +118,4 @@ pub fn write_last<W: Write>(fault: Option<InputFault>, out: &mut W) -> Result<bo
         Ok(()) => Ok(true),
         Err(_) => Err(RunEnd::InOut),
     }
-}
-
-/// Writes the texts of the documents in `bytes`, and then the line of the first fault. Returns true
-/// if there is one.
-pub fn write_documents<E: EachDocument, W: Write>(
-    each: &E,
-    bytes: &[u8],
-    out: &mut W,
-) -> Result<bool, RunEnd>
-    ensures written { IfOk result (λ fault.
-        AppendsText (IsWholeText (E.text_of each.now) plainly bytes.now) fault
-        (W.contents out.old) (W.contents out.new)) }
-    ensures stopped { IfErr result (λ end. (is_done end ≡ false)
-        × (end ≡ RunEnd.Memory → E.wants_memory each.now ≡ true)) }
-{
-    let walk = write_each(each, bytes, out)?;
-    write_last(walk.fault, out)
 }

@@ -1,16 +1,20 @@
 //! The command `dump`: the text of each document.
 
-ghost use Rattle.std.specs.Prelude.{◌≡◌, ◌⊎◌, IfSome, false, true};
+ghost use Rattle.std.specs.Prelude.{◌≡◌, ◌⊎◌, IfOk, IfSome, false, true};
 ghost use Rattle.std.specs.Io.KnownBytes.{IsAtEnd, Keeps};
+ghost use Rattle.engines.specs.Documents.{AppendsFirst, WritesAll, nothing};
 ghost use Rattle.engines.specs.Dump.{DumpText, dump_of};
+ghost use Rattle.engines.specs.Input.{bytes_of};
 ghost use Rattle.engines.specs.Output.{AppendsText, IsOutput};
 ghost use Rattle.engines.specs.Run.{is_done, is_fault};
 
-use crate::documents::{EachDocument, write_documents};
-use crate::run::{Engine, RunEnd, run};
+use crate::documents::{EachDocument, Written};
+use crate::pieces::run_documents;
+use crate::run::RunEnd;
 use bson_raw::RawDocument;
 use bson_text::dump_to;
 use std::alloc::Global;
+use std::io;
 use std::io::{Read, Write};
 
 /// The command `dump`.
@@ -19,28 +23,20 @@ struct Dump;
 impl EachDocument for Dump {
     ghost text_of = { λ _. dump_of };
 
-    ghost wants_memory = { λ _. false };
+    ghost closing = { λ _. nothing };
 
     fn write_document<W: Write>(
         &self,
         document: RawDocument<'_>,
         _canonical: bool,
         out: &mut W,
-    ) -> Result<bool, RunEnd> {
-        match dump_to(document, out) {
-            Ok(()) => Ok(true),
-            Err(_) => Err(RunEnd::InOut),
-        }
+    ) -> io::Result<Written> {
+        dump_to(document, out)?;
+        Ok(Written::Whole)
     }
-}
 
-impl Engine for Dump {
-    ghost is_text = { λ _. DumpText };
-
-    ghost wants_memory = { λ _. false };
-
-    fn write_text<W: Write>(&self, bytes: &[u8], out: &mut W) -> Result<bool, RunEnd> {
-        write_documents(self, bytes, out)
+    fn write_closing<W: Write>(&self, _any: bool, _out: &mut W) -> io::Result<()> {
+        Ok(())
     }
 }
 
@@ -55,10 +51,14 @@ pub fn run_dump<R: Read, W: Write>(
     ensures written { IfSome (R.remaining reader.old) (λ input. is_done result ≡ true →
         AppendsText (IsOutput DumpText hex input) (is_fault result)
         (W.contents writer.old) (W.contents writer.new)) }
-    ensures late { (IsAtEnd (R.remaining reader.new)) ⊎
+    ensures unread { hex ≡ false → result ≡ RunEnd.Unread → WritesAll dump_of
+        (R.remaining reader.old) (R.remaining reader.new)
+        (W.contents writer.old) (W.contents writer.new) }
+    ensures late { hex ≡ true → (IsAtEnd (R.remaining reader.new)) ⊎
         Keeps (W.contents writer.old) (W.contents writer.new) }
-    ensures memory { result ≡ RunEnd.Memory →
-        Keeps (W.contents writer.old) (W.contents writer.new) }
+    ensures memory { result ≡ RunEnd.Memory → IfSome (R.remaining reader.old)
+        (λ input. IfOk (bytes_of hex input) (λ bytes. AppendsFirst dump_of bytes
+        (W.contents writer.old) (W.contents writer.new))) }
 {
-    run(alloc, &Dump, hex, reader, writer)
+    run_documents(alloc, &Dump, hex, reader, writer)
 }

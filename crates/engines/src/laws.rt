@@ -7,12 +7,12 @@ ghost use Rattle.engines.specs.Documents.{IsWholeText};
 ghost use Rattle.engines.specs.Msg.{MsgText};
 
 /// Proves that bytes have at most one text as documents, which ends with a fault line or doesn't,
-/// whatever a command writes for a document and however it joins the texts.
+/// whatever a command writes for a document and behind all of them.
 pub fn one_text()
-    ensures { (text_of : Tree → Option (List ℕ)) (joined : Bool → List ℕ → List ℕ)
+    ensures { (text_of : Tree → Option (List ℕ)) (closing : Bool → List ℕ)
         (bytes text other : List ℕ) (fault other_fault : Bool) → IsBytes bytes
-        → IsWholeText text_of joined bytes text fault
-        → IsWholeText text_of joined bytes other other_fault
+        → IsWholeText text_of closing bytes text fault
+        → IsWholeText text_of closing bytes other other_fault
         → (text ≡ other) × (fault ≡ other_fault) }
 {}
 

@@ -1,15 +1,15 @@
 //! The commands of the program `bsonwire`, each a function over a writer, and all but `loop` over a
 //! reader.
 //!
-//! `run_dump`, `run_check`, `run_canon`, `run_msg` and `run_play` read all that the reader has,
-//! write one text for it, and tell how that ended. Documents or messages stand back to back in the
-//! input, as bytes or as hexadecimal text; the input of `run_play` is a script of events. A fault
-//! in the input is told by the last line of the text. Nothing is written before the input was read
-//! to its end. `run_loop` reads nothing: it makes calls over a connection of the program with
-//! itself.
+//! `run_dump`, `run_check` and `run_canon` read documents piece by piece, and write as these come.
+//! `run_msg` and `run_play` read all that the reader has before they write. Each writes one text for
+//! its input, and tells how that ended. Documents or messages stand back to back in the input, as
+//! bytes or as hexadecimal text, which is read whole; the input of `run_play` is a script of events.
+//! A fault in the input is told by the last line of the text. `run_loop` reads nothing: it makes
+//! calls over a connection of the program with itself.
 //!
-//! Stands on bson_doc, wire_msg, wire_end and wire_play. bsonwire stands on it. Read first: `run`,
-//! and then `dump`.
+//! Stands on bson_doc, bson_stream, wire_msg, wire_end and wire_play. bsonwire stands on it. Read
+//! first: `documents`, `pieces`, and then `dump`.
 #![tactic(auto)]
 
 mod buffered;
@@ -25,8 +25,10 @@ mod loop_call;
 mod loopback;
 mod messages;
 mod msg;
+mod pieces;
 mod play;
 mod run;
+mod source;
 
 pub use canon::{run_canon, run_canon_within};
 pub use check::run_check;

@@ -8,7 +8,7 @@ ghost use Rattle.std.specs.IoError.{error_kind, raw_os_error};
 ghost use Rattle.engines.specs.Buffered.{buffered_contents};
 ghost use Rattle.engines.specs.Input.{bytes_of, read_bytes};
 ghost use Rattle.engines.specs.Output.{AppendsText, IsOutput, IsTextOf};
-ghost use Rattle.engines.specs.Run.{end_of_error, is_done, is_fault};
+ghost use Rattle.engines.specs.Run.{IsCutShort, end_of_error, is_done, is_fault};
 
 use crate::buffered::Buffered;
 use crate::hex_input::{Input, decode_hex};
@@ -19,7 +19,7 @@ use std::io;
 use std::io::{ErrorKind, Read, Write};
 
 /// The most bytes of text that wait for the writer.
-const BUFFER: usize = 64 * 1024;
+pub const BUFFER: usize = 64 * 1024;
 
 /// How a run ended.
 #[derive(Clone, Copy, Debug, PartialEq, Eq, Drop)]
@@ -28,7 +28,9 @@ pub enum RunEnd {
     Good,
     /// The whole text was written, and it ends with a fault line.
     Fault,
-    /// Reading or writing failed.
+    /// Reading failed.
+    Unread,
+    /// Writing failed, or the network.
     InOut,
     /// Memory ran out.
     Memory,
@@ -86,7 +88,7 @@ pub fn run<E: Engine, R: Read, W: Write>(
 }
 
 /// Reads the whole input, and decodes it if `hex` is true. Errs with the end of the run.
-fn read_input<R: Read>(alloc: Global, hex: bool, reader: &mut R) -> Result<Input, RunEnd>
+pub fn read_input<R: Read>(alloc: Global, hex: bool, reader: &mut R) -> Result<Input, RunEnd>
     ensures bytes { IfOk result (λ input. IfSome (R.remaining reader.old)
         (λ all. read_bytes input ≡ bytes_of hex all)) }
     ensures read { OnOk result (IsAtEnd (R.remaining reader.new)) }
@@ -111,7 +113,7 @@ fn read_whole<R: Read>(alloc: Global, reader: &mut R) -> Result<Vec<u8>, RunEnd>
     let mut input = Vec::new(alloc);
     match reader.read_to_end(&mut input) {
         Ok(_) => Ok(input),
-        Err(error) => Err(end_of(&error)),
+        Err(error) => Err(end_of_read(&error)),
     }
 }
 
@@ -124,6 +126,16 @@ pub fn end_of(error: &io::Error) -> RunEnd
         RunEnd::Memory
     } else {
         RunEnd::InOut
+    }
+}
+
+/// Returns the end of a run whose reader fails with `error`.
+pub fn end_of_read(error: &io::Error) -> RunEnd
+    ensures { IsCutShort result }
+{
+    match end_of(error) {
+        RunEnd::Memory => RunEnd::Memory,
+        _ => RunEnd::Unread,
     }
 }
 

@@ -170,7 +170,7 @@ fn hexadecimal_input(rt: HostRuntime) {
 fn ends_unwritten(alloc: Global, code: Option<i32>, hex: bool) -> bool {
     let mut reader = Broken { given: false, code };
     let mut writer = Counter::failing_at(0);
-    run_dump(alloc, hex, &mut reader, &mut writer) == RunEnd::InOut && writer.calls == 0
+    run_dump(alloc, hex, &mut reader, &mut writer) == RunEnd::Unread && writer.taken == 0
 }
 
 /// A reader that memory is refused to.

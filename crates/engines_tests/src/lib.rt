@@ -21,6 +21,8 @@ mod msg;
 #[cfg(test)]
 mod networks;
 #[cfg(test)]
+mod pieces;
+#[cfg(test)]
 mod play;
 #[cfg(test)]
 mod readers;

@@ -48,7 +48,7 @@ fn a_failed_read_writes_nothing(rt: HostRuntime) {
     };
     let mut writer = Counter::failing_at(0);
     let end = run_play(rt.alloc(), &mut reader, &mut writer);
-    assert!(rt; end == RunEnd::InOut && writer.calls == 0);
+    assert!(rt; end == RunEnd::Unread && writer.calls == 0);
 }
 
 /// Returns true if the run of a script ends with the first call of a writer, which fails.
