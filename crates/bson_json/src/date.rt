@@ -30,14 +30,14 @@ struct Date {
 }
 
 /// Returns true if the year has a 29th of February.
-fn is_leap(year: u32) -> bool
+pub fn is_leap(year: u32) -> bool
     ensures { result ≡ spec.is_leap year }
 {
     year % 4 == 0 && (year % 100 != 0 || year % 400 == 0)
 }
 
 /// Returns the number of days of a month, which are 12 from January on.
-fn days_in_month(leap: bool, month: u32) -> u32
+pub fn days_in_month(leap: bool, month: u32) -> u32
     ensures value { result ≡ spec.days_in_month leap month }
     ensures some { (28 ≤ result) × (result ≤ 31) }
 {
@@ -50,7 +50,7 @@ fn days_in_month(leap: bool, month: u32) -> u32
 }
 
 /// Returns the number of days from the beginning of year 1 to that of this year.
-fn days_before_year(year: u32) -> u32
+pub fn days_before_year(year: u32) -> u32
     requires { (1 ≤ year) × (year ≤ 10001) }
     ensures { result ≡ spec.days_before_year year }
 {

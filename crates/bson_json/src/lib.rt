@@ -17,5 +17,6 @@ mod pairs;
 mod text;
 mod value;
 
+pub use date::{days_before_year, days_in_month, is_leap};
 pub use mode::Mode;
 pub use object::write_json;

@@ -36,7 +36,7 @@ fn are_written(alloc: Global, rows: &[(&str, &str, &str)]) -> bool {
     true
 }
 
-const DOUBLES: [(&str, &str, &str); 12] = [
+pub(crate) const DOUBLES: [(&str, &str, &str); 12] = [
     (
         "10000000 01 6400 000000000000f03f 00",
         "{\"d\":{\"$numberDouble\":\"1.0\"}}",
@@ -99,7 +99,7 @@ const DOUBLES: [(&str, &str, &str); 12] = [
     ),
 ];
 
-const INTEGERS: [(&str, &str, &str); 10] = [
+pub(crate) const INTEGERS: [(&str, &str, &str); 10] = [
     (
         "0c000000 10 6900 00000080 00",
         "{\"i\":{\"$numberInt\":\"-2147483648\"}}",
@@ -152,7 +152,7 @@ const INTEGERS: [(&str, &str, &str); 10] = [
     ),
 ];
 
-const DECIMALS: [(&str, &str, &str); 24] = [
+pub(crate) const DECIMALS: [(&str, &str, &str); 24] = [
     (
         "18000000 13 6400 0000000000000000000000000000007c 00",
         "{\"d\":{\"$numberDecimal\":\"NaN\"}}",
@@ -275,7 +275,7 @@ const DECIMALS: [(&str, &str, &str); 24] = [
     ),
 ];
 
-const DATES: [(&str, &str, &str); 13] = [
+pub(crate) const DATES: [(&str, &str, &str); 13] = [
     (
         "10000000 09 6100 0000000000000000 00",
         "{\"a\":{\"$date\":{\"$numberLong\":\"0\"}}}",
@@ -343,7 +343,7 @@ const DATES: [(&str, &str, &str); 13] = [
     ),
 ];
 
-const TEXTS: [(&str, &str, &str); 13] = [
+pub(crate) const TEXTS: [(&str, &str, &str); 13] = [
     (
         "0d000000 02 6100 01000000 00 00",
         "{\"a\":\"\"}",
@@ -411,7 +411,7 @@ const TEXTS: [(&str, &str, &str); 13] = [
     ),
 ];
 
-const BINARIES: [(&str, &str, &str); 7] = [
+pub(crate) const BINARIES: [(&str, &str, &str); 7] = [
     (
         "0d000000 05 7800 00000000 00 00",
         "{\"x\":{\"$binary\":{\"base64\":\"\",\"subType\":\"00\"}}}",
@@ -449,7 +449,7 @@ const BINARIES: [(&str, &str, &str); 7] = [
     ),
 ];
 
-const OTHERS: [(&str, &str, &str); 9] = [
+pub(crate) const OTHERS: [(&str, &str, &str); 9] = [
     (
         "08000000 06 6100 00",
         "{\"a\":{\"$undefined\":true}}",
@@ -485,7 +485,7 @@ const OTHERS: [(&str, &str, &str); 9] = [
     ),
 ];
 
-const CONTAINERS: [(&str, &str, &str); 10] = [
+pub(crate) const CONTAINERS: [(&str, &str, &str); 10] = [
     ("05000000 00", "{}", "{}"),
     ("0d000000 03 7800 0500000000 00", "{\"x\":{}}", "{\"x\":{}}"),
     (

@@ -1,0 +1,29 @@
+-- The numbers of causes, and their words.
+use Rattle.std.specs.Prelude.{ℕ, List, ◌++◌, Option, Some, codes}
+use Rattle.bson_json_read.specs.declared.fault.Cause.{Cause}
+use Rattle.bson_json_read.specs.declared.fault.Cause.TheVariants as causes
+use Rattle.bson_json_read.specs.Forms.{form_name}
+
+abbrev pub cause_number : Cause → ℕ
+cause_number causes.NotJson = 1
+cause_number causes.NotAnObject = 2
+cause_number causes.RepeatedName = 3
+cause_number causes.ZeroInName = 4
+cause_number causes.Depth = 5
+cause_number causes.NumberTooLarge = 6
+cause_number (causes.WrongForm form) = 7
+cause_number causes.OutOfMemory = 8
+
+-- what a cause displays as
+abbrev pub cause_text : Cause → List ℕ
+cause_text causes.NotJson = codes "the text is no JSON"
+cause_text causes.NotAnObject = codes "the text is no object"
+cause_text causes.RepeatedName = codes "a name is repeated"
+cause_text causes.ZeroInName = codes "a name has a 00 in it"
+cause_text causes.Depth = codes "a document or an array is too deep"
+cause_text causes.NumberTooLarge = codes "a number is too large"
+cause_text (causes.WrongForm form) = codes "an object is not of the form " ++ form_name form
+cause_text causes.OutOfMemory = codes "out of memory"
+
+abbrev pub shown_cause : Cause → Option (List ℕ)
+shown_cause cause = Some (cause_text cause)

@@ -1,0 +1,12 @@
+pub mod Bytes
+pub mod Canonical
+pub mod Causes
+pub mod DecimalText
+pub mod Forms
+pub mod Iso
+pub mod Numbers
+pub mod Places
+pub mod Reads
+pub mod Table
+pub mod Texts
+pub mod Values

@@ -1,0 +1,111 @@
+//! The forms of objects that stand for values, and their names.
+
+ghost use Rattle.std.specs.Prelude.{◌≡◌, Some};
+ghost use Rattle.bson_json_read.specs.Forms.{form_named};
+
+/// A form of objects that stand for one value, by its name.
+#[derive(Clone, Copy, Debug, PartialEq, Eq)]
+pub enum Form {
+    /// `$oid`
+    ObjectId,
+    /// `$symbol`
+    Symbol,
+    /// `$numberInt`
+    Int32,
+    /// `$numberLong`
+    Int64,
+    /// `$numberDouble`
+    Double,
+    /// `$numberDecimal`
+    Decimal128,
+    /// `$binary`
+    Binary,
+    /// `$uuid`
+    Uuid,
+    /// `$code`, with or without `$scope`
+    Code,
+    /// `$timestamp`
+    Timestamp,
+    /// `$regularExpression`
+    Regex,
+    /// `$dbPointer`
+    DbPointer,
+    /// `$date`
+    DateTime,
+    /// `$minKey`
+    MinKey,
+    /// `$maxKey`
+    MaxKey,
+    /// `$undefined`
+    Undefined,
+}
+
+impl Form {
+    ghost use Rattle.bson_json_read.specs.Forms.{form_name};
+
+    /// Returns the name of the form.
+    pub fn name(self) -> &'static str
+        ensures name { result.now ≡ form_name self }
+        ensures tells { form_named result.now ≡ Some self }
+    {
+        match self {
+            Form::ObjectId => "$oid",
+            Form::Symbol => "$symbol",
+            Form::Int32 => "$numberInt",
+            Form::Int64 => "$numberLong",
+            Form::Double => "$numberDouble",
+            Form::Decimal128 => "$numberDecimal",
+            Form::Binary => "$binary",
+            Form::Uuid => "$uuid",
+            Form::Code => "$code",
+            Form::Timestamp => "$timestamp",
+            Form::Regex => "$regularExpression",
+            Form::DbPointer => "$dbPointer",
+            Form::DateTime => "$date",
+            Form::MinKey => "$minKey",
+            Form::MaxKey => "$maxKey",
+            Form::Undefined => "$undefined",
+        }
+    }
+}
+
+/// Returns the form of this name, if there is one.
+pub(crate) fn form_of_name(name: &str) -> Option<Form>
+    ensures { result ≡ form_named name.now }
+{
+    if name == "$oid" {
+        Some(Form::ObjectId)
+    } else if name == "$symbol" {
+        Some(Form::Symbol)
+    } else if name == "$numberInt" {
+        Some(Form::Int32)
+    } else if name == "$numberLong" {
+        Some(Form::Int64)
+    } else if name == "$numberDouble" {
+        Some(Form::Double)
+    } else if name == "$numberDecimal" {
+        Some(Form::Decimal128)
+    } else if name == "$binary" {
+        Some(Form::Binary)
+    } else if name == "$uuid" {
+        Some(Form::Uuid)
+    } else if name == "$code" {
+        Some(Form::Code)
+    } else if name == "$timestamp" {
+        Some(Form::Timestamp)
+    } else if name == "$regularExpression" {
+        Some(Form::Regex)
+    } else if name == "$dbPointer" {
+        Some(Form::DbPointer)
+    } else if name == "$date" {
+        Some(Form::DateTime)
+    } else if name == "$minKey" {
+        Some(Form::MinKey)
+    } else if name == "$maxKey" {
+        Some(Form::MaxKey)
+    } else if name == "$undefined" {
+        Some(Form::Undefined)
+    } else {
+        None
+    }
+}

@@ -1,0 +1,29 @@
+//! Reads documents from MongoDB Extended JSON v2 (the drivers' specification), canonical or
+//! relaxed.
+//!
+//! `from_json` reads a text as an owned document, or tells its first fault. The kit's `json` tells
+//! which JSON value a text is. `wrapped` and `owned` have the forms of objects that stand for
+//! values, and `value` reads documents and arrays by them.
+//!
+//! Uses bson_doc and bson_json. Read first: `text`, and then `value`.
+#![tactic(auto)]
+
+mod bytes;
+mod decimal;
+mod fault;
+mod form;
+mod iso;
+pub mod laws;
+mod members;
+mod number;
+mod owned;
+mod place;
+mod text;
+mod value;
+mod wrapped;
+
+pub use decimal::decimal128_from_text;
+pub use fault::{Cause, JsonFault};
+pub use form::Form;
+pub use place::Place;
+pub use text::from_json;

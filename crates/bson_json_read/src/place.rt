@@ -1,0 +1,102 @@
+//! Finds the line and the column of a fault.
+
+ghost use Rattle.std.specs.Prelude.{◌≡◌, ◌≤◌, IfOk, length, take};
+ghost use Rattle.bson_json_read.specs.Places.{StandsIn, place_behind};
+
+use crate::fault::{Cause, JsonFault};
+use crate::text::JSON_DEPTH;
+use json::{Reader, Scratch, Token};
+use std::alloc::{AllocError, Global};
+
+/// A place in a text. Lines, and the characters of a line, are counted from 1.
+#[derive(Clone, Copy, Debug, PartialEq, Eq)]
+pub struct Place {
+    pub line: usize,
+    pub column: usize,
+}
+
+/// Returns the place behind the first `offset` bytes.
+fn place_at(text: &[u8], offset: usize) -> Place
+    requires { offset ≤ length text.now }
+    ensures { (result.line, result.column) ≡ place_behind 1 1 (take offset text.now) }
+{
+    let mut place = Place { line: 1, column: 1 };
+    for b in &text[..offset] {
+        if *b == b'\n' {
+            place = Place {
+                line: place.line + 1,
+                column: 1,
+            };
+        } else if *b < 128 || *b >= 192 {
+            place.column += 1;
+        }
+    }
+    place
+}
+
+/// Passes over this number of members, and then over a name, unless `at_name`.
+fn pass_members(reader: &mut Reader<'_>, count: usize, at_name: bool) {
+    for _ in 0..count {
+        if reader.next_key().is_err() || reader.skip_value(JSON_DEPTH).is_err() {
+            return;
+        }
+    }
+    if !at_name {
+        let _passed = reader.next_key();
+    }
+}
+
+/// Passes over what stands before the value at this index of the object or the array that is next,
+/// or, if `at_name`, before its name.
+fn enter(reader: &mut Reader<'_>, index: usize, at_name: bool) {
+    match reader.next() {
+        Some(Token::BeginObject) => pass_members(reader, index, at_name),
+        Some(Token::BeginArray) => {
+            for _ in 0..index {
+                if reader.skip_value(JSON_DEPTH).is_err() {
+                    return;
+                }
+            }
+        }
+        _ => {}
+    }
+}
+
+/// Passes over what stands before the value of this path.
+fn follow(reader: &mut Reader<'_>, path: &[usize], at_name: bool) {
+    let mut left = path.len();
+    while left > 0 {
+        left -= 1;
+        enter(reader, path[left], at_name && left == 0);
+    }
+}
+
+/// Passes over what stands before a fault.
+fn pass_to(reader: &mut Reader<'_>, fault: &JsonFault) {
+    match fault.cause {
+        Cause::NotJson => {
+            let _passed = reader.skip_value(JSON_DEPTH);
+        }
+        Cause::RepeatedName | Cause::ZeroInName => follow(reader, &fault.path, true),
+        _ => follow(reader, &fault.path, false),
+    }
+}
+
+impl JsonFault {
+    /// Returns where in `text` the fault is, which is one of reading this text: at the value at
+    /// fault, or at its name if that is at fault. Where the text is no JSON, it is the place from
+    /// which on it isn't.
+    ///
+    /// # Errors
+    ///
+    /// Returns `AllocError` if memory is refused.
+    pub fn place(&self, alloc: Global, text: &str) -> Result<Place, AllocError>
+        ensures { IfOk result (λ p. StandsIn text.now p.line p.column) }
+    {
+        let mut scratch = Scratch::new(alloc);
+        let mut reader = Reader::new(text, &mut scratch)?;
+        pass_to(&mut reader, self);
+        let offset = reader.offset();
+        Ok(place_at(text.as_bytes(), offset.min(text.len())))
+    }
+}

@@ -1,0 +1,82 @@
+//! Tests that a text is read after a refused allocation as without one.
+//! `scripts/checks/try-refusals` runs them with each of their allocations refused in turn. Only one
+//! is refused in a run, so what is tried again succeeds.
+
+use bson_json_read::{Cause, JsonFault, Place, from_json};
+use std::alloc::Global;
+
+const TEXT: &str =
+    "{\"a\":[{\"b\":\"c\"}],\"r\":{\"$regularExpression\":{\"pattern\":\"p\",\"options\":\"\"}},\"s\":{\"$code\":\"f\",\"$scope\":{\"x\":{\"$binary\":{\"base64\":\"AAEC\",\"subType\":\"00\"}}}}}";
+
+/// A text that has a name twice, with an escape.
+const REPEATED: &str = "{\"a\":\n[{\"b\":\"c\",\"\\u0062\":1}]}";
+
+/// Returns true if both tries came right, or one did and memory was refused to the other.
+fn comes_right(first: Result<bool, Cause>, second: Result<bool, Cause>) -> bool {
+    match (first, second) {
+        (Ok(right), Ok(again)) => right && again,
+        (Ok(right), Err(cause)) | (Err(cause), Ok(right)) => right && cause == Cause::OutOfMemory,
+        (Err(_), Err(_)) => false,
+    }
+}
+
+/// Returns whether the text is read with its three pairs.
+fn reads(alloc: Global) -> Result<bool, Cause> {
+    match from_json(alloc, TEXT) {
+        Ok(document) => Ok(document.len() == 3),
+        Err(fault) => Err(fault.cause),
+    }
+}
+
+/// Returns the fault of the text that has a name twice.
+fn fault(alloc: Global) -> Result<JsonFault, Cause> {
+    match from_json(alloc, REPEATED) {
+        Ok(_document) => Err(Cause::NotJson),
+        Err(fault) => {
+            if fault.cause == Cause::RepeatedName {
+                Ok(fault)
+            } else {
+                Err(fault.cause)
+            }
+        }
+    }
+}
+
+/// Returns whether the repeated name is told.
+fn tells(alloc: Global) -> Result<bool, Cause> {
+    Ok(fault(alloc)?.path.as_slice() == [1, 0, 0].as_slice())
+}
+
+/// Returns whether the place of the repeated name is told.
+fn places(alloc: Global, fault: &JsonFault) -> Result<bool, Cause> {
+    match fault.place(alloc, REPEATED) {
+        Ok(place) => Ok(
+            place
+                == Place {
+                    line: 2,
+                    column: 11,
+                },
+        ),
+        Err(_) => Err(Cause::OutOfMemory),
+    }
+}
+
+#[test]
+fn a_text_is_read_again(rt: HostRuntime) {
+    let alloc = rt.alloc();
+    assert!(rt; comes_right(reads(alloc), reads(alloc)));
+    assert!(rt; comes_right(tells(alloc), tells(alloc)));
+}
+
+#[test]
+fn a_place_is_found_again(rt: HostRuntime) {
+    let alloc = rt.alloc();
+    let found = match fault(alloc) {
+        Ok(fault) => Ok(fault),
+        Err(_) => fault(alloc),
+    };
+    let Ok(fault) = found else {
+        return assert!(rt; false);
+    };
+    assert!(rt; comes_right(places(alloc, &fault), places(alloc, &fault)));
+}
