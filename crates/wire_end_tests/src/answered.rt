@@ -2,7 +2,7 @@
 //! byte, a call that was never made, the same call twice, one that stops inside a message, and one
 //! whose bytes go bad.
 
-ghost use Rattle.std.specs.Prelude.{◌<◌, ◌≤◌};
+ghost use Rattle.std.specs.Prelude.{◌<◌};
 
 use bson_raw::RawDocument;
 use std::alloc::Global;
@@ -193,35 +193,48 @@ fn is_wanted(found: Result<Next, EndFault>, wanted: Wanted) -> bool {
     }
 }
 
-/// Returns true if the three calls come to what the row says, over a link that moves at most `most`
-/// bytes a call.
-fn comes_to(alloc: Global, row: &Row, most: usize) -> bool
-    requires { 0 < most }
-{
-    let Some(mut end) = end_over(alloc, &row.sends, most) else {
-        return false;
-    };
-    if !calls_three(alloc, &mut end) {
-        return false;
-    }
+/// Returns true if what comes is what the row says.
+fn replies_come(end: &mut ClientEnd<MemLink>, row: &Row) -> bool {
     for wanted in &row.comes {
         if !is_wanted(end.next_reply(), *wanted) {
             return false;
         }
     }
+    true
+}
+
+/// Returns true if the records of the calls are what the row says.
+fn records_show(end: &ClientEnd<MemLink>, row: &Row) -> bool {
     for (number, wanted) in row.records.iter().enumerate() {
         if !shows(end.record(number as u64), *wanted) {
             return false;
         }
     }
-    end.state() != ClientState::Open && end.record(3).is_none()
+    end.record(3).is_none()
+}
+
+/// Returns true if the three calls come to what the row says, over a link that moves at most `most`
+/// bytes a call.
+fn comes_to(alloc: Global, row: &Row, most: usize) -> bool {
+    match end_over(alloc, &row.sends, most.max(1)) {
+        Some(mut end) => {
+            calls_three(alloc, &mut end)
+                && replies_come(&mut end, row)
+                && records_show(&end, row)
+                && end.state() != ClientState::Open
+        }
+        None => false,
+    }
 }
 
 #[test]
 fn replies_go_to_their_calls(rt: HostRuntime) {
     for (number, row) in ROWS.iter().enumerate() {
-        assert!(rt; comes_to(rt.alloc(), row, 200), "row {number} at once");
-        assert!(rt; comes_to(rt.alloc(), row, 7), "row {number} in pieces");
-        assert!(rt; comes_to(rt.alloc(), row, 1), "row {number} byte by byte");
+        for most in &[200, 7, 1] {
+            assert!(rt;
+                comes_to(rt.alloc(), row, *most),
+                "row {number} by {most} bytes"
+            );
+        }
     }
 }

@@ -69,28 +69,40 @@ fn comes(end: &mut ClientEnd<MemLink>) -> bool {
     }
 }
 
-/// Returns true if a call and its reply go on behind a refused allocation. An end or a payload that
-/// isn't made is made again.
-fn goes_on(alloc: Global) -> bool {
-    let reply = [REPLY.as_slice()];
-    let Some(mut end) = (match end_over(alloc, &reply, 20) {
-        None => end_over(alloc, &reply, 20),
-        made => made,
-    }) else {
-        return false;
-    };
-    let Some(payload) = (match one(alloc) {
-        None => one(alloc),
-        made => made,
-    }) else {
-        return false;
-    };
-    if !calls_each(&mut end, &payload) || end.flush() != Ok(Flushed::All) || !comes(&mut end) {
+/// Returns true if a call and its reply go on behind a refused allocation.
+fn goes_on_over(end: &mut ClientEnd<MemLink>, payload: &PayloadBuf) -> bool {
+    if !calls_each(end, payload) || end.flush() != Ok(Flushed::All) || !comes(end) {
         return false;
     }
     match end.record(0) {
         Some(record) => record.state == CallState::Done && record.parts.len() == 1,
         None => false,
+    }
+}
+
+/// Returns an end, which is made again where memory was refused.
+fn made_end(alloc: Global) -> Option<ClientEnd<MemLink>> {
+    let reply = [REPLY.as_slice()];
+    match end_over(alloc, &reply, 20) {
+        None => end_over(alloc, &reply, 20),
+        made => made,
+    }
+}
+
+/// Returns a payload, which is made again where memory was refused.
+fn made_payload(alloc: Global) -> Option<PayloadBuf> {
+    match one(alloc) {
+        None => one(alloc),
+        made => made,
+    }
+}
+
+/// Returns true if a call and its reply go on behind a refused allocation. An end or a payload that
+/// isn't made is made again.
+fn goes_on(alloc: Global) -> bool {
+    match (made_end(alloc), made_payload(alloc)) {
+        (Some(mut end), Some(payload)) => goes_on_over(&mut end, &payload),
+        _ => false,
     }
 }
 
@@ -108,21 +120,26 @@ fn request_comes(end: &mut ServerEnd<MemLink>) -> bool {
     }
 }
 
-/// Returns whether a request comes and is answered; none if memory for its replies or for an end is
-/// refused. Where nothing changed by a refusal the same is done again.
+/// Returns whether a request comes and is answered; none if memory for its replies is refused. Where
+/// nothing changed by a refusal the same is done again.
+fn is_answered_over(end: &mut ServerEnd<MemLink>, logged: &mut Logged<Echo>) -> Option<bool> {
+    if !request_comes(end) {
+        return Some(false);
+    }
+    match end.answer(0, logged) {
+        Ok(number) => Some(number == 0 && end.waiting() == 0),
+        Err(AnswerRefusal::OutOfMemory) => Some(end.answer(0, logged) == Ok(0)),
+        Err(AnswerRefusal::NowClosed(ServerCause::NoMemory)) => None,
+        Err(_) => Some(false),
+    }
+}
+
+/// Returns the same of a new end; none, too, if memory for that is refused.
 fn is_answered(alloc: Global) -> Option<bool> {
     let request = [&REQUESTS[..33]];
     let mut end = server_over(alloc, &request, 20, 1)?;
     let mut logged = Logged::new(alloc, Echo);
-    if !request_comes(&mut end) {
-        return Some(false);
-    }
-    match end.answer(0, &mut logged) {
-        Ok(number) => Some(number == 0 && end.waiting() == 0),
-        Err(AnswerRefusal::OutOfMemory) => Some(end.answer(0, &mut logged) == Ok(0)),
-        Err(AnswerRefusal::NowClosed(ServerCause::NoMemory)) => None,
-        Err(_) => Some(false),
-    }
+    is_answered_over(&mut end, &mut logged)
 }
 
 /// Returns true if a request is answered behind a refused allocation, at the second try at last.

@@ -1,7 +1,7 @@
 //! Tests of serving a connection over a link in memory: whole, in pieces, cut short, at fault, and
 //! with one call that fails.
 
-ghost use Rattle.std.specs.Prelude.{◌<◌, IfSome};
+ghost use Rattle.std.specs.Prelude.{IfSome};
 ghost use Rattle.wire_end.specs.{IsUnused};
 
 use std::alloc::Global;
@@ -166,13 +166,11 @@ fn a_fault_ends_serving(rt: HostRuntime) {
 /// Returns true if serving at most `budget` pings, in pieces of at most `most` bytes and over a
 /// link whose call after `calls` others fails, ends with `end` after the first `count` bytes of the
 /// reply were sent.
-fn fails(alloc: Global, most: usize, budget: u64, calls: u64, end: ServeEnd, count: usize) -> bool
-    requires { 0 < most }
-{
+fn fails(alloc: Global, most: usize, budget: u64, calls: u64, end: ServeEnd, count: usize) -> bool {
     let Some(link) = link_of(alloc, PINGS) else {
         return false;
     };
-    let link = link.moving_at_most(most).failing_after(calls);
+    let link = link.moving_at_most(most.max(1)).failing_after(calls);
     let Some(mut served) = serving_over(alloc, link, 48_000_000) else {
         return false;
     };
@@ -184,12 +182,19 @@ fn fails(alloc: Global, most: usize, budget: u64, calls: u64, end: ServeEnd, cou
     }
 }
 
+/// The calls before the one that fails, how serving then ends, and how much of the reply was sent.
+const FAILED_CALLS: [(u64, ServeEnd, usize); 4] = [
+    (0, ServeEnd::Link, 0),
+    (1, ServeEnd::Link, 0),
+    (2, ServeEnd::Link, 51),
+    (3, ServeEnd::Ended, 51),
+];
+
 #[test]
 fn a_failed_call_ends_serving(rt: HostRuntime) {
-    assert!(rt; fails(rt.alloc(), 102, 10, 0, ServeEnd::Link, 0));
-    assert!(rt; fails(rt.alloc(), 102, 10, 1, ServeEnd::Link, 0));
-    assert!(rt; fails(rt.alloc(), 102, 10, 2, ServeEnd::Link, 51));
-    assert!(rt; fails(rt.alloc(), 102, 10, 3, ServeEnd::Ended, 51));
+    for (calls, end, count) in &FAILED_CALLS {
+        assert!(rt; fails(rt.alloc(), 102, 10, *calls, *end, *count), "{calls}");
+    }
 }
 
 /// Returns true if serving the pings, in pieces of at most `most` bytes and over a link whose call
@@ -226,13 +231,23 @@ fn any_call_may_fail(rt: HostRuntime) {
     }
 }
 
+/// The most bytes that a call moves, the most pings that are answered, and then as above.
+const LATER_CALLS: [(usize, u64, u64, ServeEnd, usize); 5] = [
+    (51, 10, 2, ServeEnd::Link, 51),
+    (51, 1, 2, ServeEnd::Budget, 51),
+    (20, 10, 4, ServeEnd::Link, 20),
+    (20, 10, 5, ServeEnd::Link, 40),
+    (20, 10, 6, ServeEnd::Link, 51),
+];
+
 #[test]
 fn replies_are_sent_before_the_next_message_is_taken(rt: HostRuntime) {
-    assert!(rt; fails(rt.alloc(), 51, 10, 2, ServeEnd::Link, 51));
-    assert!(rt; fails(rt.alloc(), 51, 1, 2, ServeEnd::Budget, 51));
-    assert!(rt; fails(rt.alloc(), 20, 10, 4, ServeEnd::Link, 20));
-    assert!(rt; fails(rt.alloc(), 20, 10, 5, ServeEnd::Link, 40));
-    assert!(rt; fails(rt.alloc(), 20, 10, 6, ServeEnd::Link, 51));
+    for (most, budget, calls, end, count) in &LATER_CALLS {
+        assert!(rt;
+            fails(rt.alloc(), *most, *budget, *calls, *end, *count),
+            "{most}, {calls}"
+        );
+    }
 }
 
 /// Returns true if serving these bytes with this handler, under a limit, has this `outcome`.
