@@ -5,6 +5,11 @@
  *     check walk [FILE]                the same, and what stands in them
  *     check message [FILE [LIMIT]]     exactly one message
  *     check messages [FILE [LIMIT]]    messages back to back
+ *     check front [FILE [LIMIT]]       what stands in front, where more bytes may follow
+ *     check parts [FILE [LIMIT]]       the numbers of exactly one message
+ *     check dump [FILE]                the text of exactly one document
+ *     check json [FILE]                the same as canonical Extended JSON
+ *     check relaxed [FILE]             the same as relaxed Extended JSON
  *     check version
  *
  * writes a line that tells what stands there whole, and a line for the first fault, if there is one. The status is 1
@@ -106,6 +111,51 @@ static int check_messages(const uint8_t *bytes, size_t length, uint32_t limit)
     return write_message_fault(check.fault, check.document_fault);
 }
 
+static int check_front(const uint8_t *bytes, size_t length, uint32_t limit)
+{
+    struct lughemra_message_front front = lughemra_message_front(bytes, length, limit);
+    if (front.state == LUGHEMRA_FRONT_OPEN)
+        printf("open, %zu wanted\n", front.length);
+    else if (front.state == LUGHEMRA_FRONT_WHOLE)
+        printf("message of %zu\n", front.length);
+    return write_message_fault(front.fault, front.document_fault);
+}
+
+static int check_parts(const uint8_t *bytes, size_t length, uint32_t limit)
+{
+    struct lughemra_message_parts parts = lughemra_message_parts(bytes, length, limit);
+    if (parts.fault.number == 0)
+        printf("%" PRId32 " %" PRId32 " %08" PRIx32 "\n", parts.id, parts.response_to, parts.flag_bits);
+    return write_message_fault(parts.fault, parts.document_fault);
+}
+
+/* Writes the text that is asked for into the room. */
+static struct lughemra_text text_into(const char *word, const uint8_t *bytes, size_t length, uint8_t *room, size_t size)
+{
+    if (strcmp(word, "dump") == 0)
+        return lughemra_dump(bytes, length, room, size);
+    return lughemra_json(bytes, length, strcmp(word, "relaxed") == 0, room, size);
+}
+
+/* Writes a text: into 64 bytes, and where that is too little room, into as much as is told. */
+static int write_text(const char *word, const uint8_t *bytes, size_t length)
+{
+    uint8_t few[64], *room = few;
+    struct lughemra_text text = text_into(word, bytes, length, few, sizeof few);
+    if (text.fault.number == 0 && !text.written) {
+        room = malloc(text.length);
+        if (!room)
+            fail("memory ran out");
+        text = text_into(word, bytes, length, room, text.length);
+    }
+    if (text.fault.number == LUGHEMRA_NO_MEMORY)
+        fail("memory ran out");
+    fwrite(room, 1, text.length, stdout);
+    if (room != few)
+        free(room);
+    return write_document_fault(text.fault);
+}
+
 int main(int count, char **words)
 {
     const char *word = count > 1 ? words[1] : "";
@@ -124,10 +174,16 @@ int main(int count, char **words)
         status = check_message(bytes, length, limit);
     else if (strcmp(word, "messages") == 0)
         status = check_messages(bytes, length, limit);
+    else if (strcmp(word, "front") == 0)
+        status = check_front(bytes, length, limit);
+    else if (strcmp(word, "parts") == 0)
+        status = check_parts(bytes, length, limit);
+    else if (strcmp(word, "dump") == 0 || strcmp(word, "json") == 0 || strcmp(word, "relaxed") == 0)
+        status = write_text(word, bytes, length);
     else if (strcmp(word, "version") == 0)
         printf("%s %d.%d.%d\n", LUGHEMRA_VERSION, LUGHEMRA_VERSION_MAJOR, LUGHEMRA_VERSION_MINOR, LUGHEMRA_VERSION_PATCH);
     else
-        fail("the first word is document, documents, walk, message, messages or version");
+        fail("the first word is none of those that are told above");
     free(bytes);
     return status;
 }

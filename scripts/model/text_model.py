@@ -1,9 +1,11 @@
-"""What the commands over a FILE write, by the definitions: `dump`, `check`, `canon` and `msg`.
+"""What the commands over a FILE of bytes write, by the definitions: `dump`, `check`, `canon`, `json` and `msg`.
 
 It is written from the order of the checks, the table of kinds and the form of the texts, and not from the code: plain and slow.
 """
 
 import re
+
+from json_model import document_json
 
 MAX_MESSAGE, MAX_DEPTH = 48_000_000, 200
 BSON_CAUSES = ["", "Truncated", "Length", "End", "Kind", "Name", "Text", "TextEnd", "Boolean", "OldBinary", "Scope", "Depth"]
@@ -319,11 +321,13 @@ def read_hex(text):
 
 
 # The commands over a FILE.
-COMMANDS = ("dump", "check", "canon", "msg")
+COMMANDS = ("dump", "check", "canon", "json", "msg")
 
 
-def one_document(command, b):
+def one_document(command, b, flags=()):
     length, found = front(b)
+    if command == "json":
+        return length, document_json(found, "--relaxed" in flags)
     if command == "dump":
         return length, b"".join(line + b"\n" for line in [b"document %d" % length, *element_lines(found, 1)])
     plain = canonical(found)
@@ -332,7 +336,7 @@ def one_document(command, b):
     return length, plain
 
 
-def one_message(_, b):
+def one_message(_, b, flags=()):  # pylint: disable=unused-argument
     if len(b) >= 16:
         check_header(b)
     if len(b) < 16 or len(b) < number(b, 0):
@@ -341,19 +345,24 @@ def one_message(_, b):
     return length, b"".join(line + b"\n" for line in message_lines(b[:length]))
 
 
-def output(command, is_hex, given):
-    """Returns what the command writes for an input, and its status."""
+def output(command, flags, given):
+    """Returns what the command with these flags writes for an input, and its status."""
+    is_hex, is_array = "--hex" in flags, "--array" in flags
     b, place = read_hex(given) if is_hex else (given, None)
     if b is None:
         return b"fault 0 Hex at %d\n" % place, 1
     at, text, fault = 0, b"", None
     while at < len(b) and not fault:
         try:
-            length, part = (one_message if command == "msg" else one_document)(command, b[at:])
+            length, part = (one_message if command == "msg" else one_document)(command, b[at:], flags)
             fault = None if length else f"14 EndedInside at {at}"
+            if command == "json":
+                part = (b",\n" if at else b"[") + part if is_array else part + b"\n"
             text, at = text + part, at + (length or 0)
         except (Bad, BadMessage) as found:
             fault = found.line(at)
     if command == "canon" and is_hex and text:
         text = text.hex().encode() + b"\n"
+    if is_array:
+        text = (text or b"[") + b"]\n"
     return text + (f"fault {fault}\n".encode() if fault else b""), 1 if fault else 0

@@ -17,7 +17,7 @@ ROOT = os.path.dirname(os.path.dirname(os.path.dirname(os.path.realpath(__file__
 sys.path.insert(0, os.path.join(ROOT, "bench"))
 from generate import document, element, string  # noqa: E402
 
-STRING, INT32, INT64 = 0x02, 0x10, 0x12
+STRING, DOCUMENT, ARRAY, BOOLEAN, INT32, INT64 = 0x02, 0x03, 0x04, 0x08, 0x10, 0x12
 
 
 def int32(number):
@@ -73,6 +73,12 @@ def is_answered(link, sent):
 
 COLLECTION = (STRING, string("c"))
 ONE = (INT32, int32(1))
+GROUP = document([element(INT32, "_id", int32(1)), element(DOCUMENT, "n", document([element(INT32, "$sum", int32(1))]))])
+COUNTING = document([
+    element(DOCUMENT, "0", document([element(DOCUMENT, "$match", document([]))])),
+    element(DOCUMENT, "1", document([element(DOCUMENT, "$group", GROUP)])),
+])
+DELETE = document([element(DOCUMENT, "q", document([element(INT32, "_id", int32(1))])), element(INT32, "limit", int32(1))])
 
 # Each request: its body, the documents of its sequence, and what the server writes of it.
 REQUESTS = [
@@ -106,18 +112,18 @@ document 91
     "firstBatch" array 22
       "0" document 14
         "_id" int32 1
-    "id" int64 1
+    "id" int64 4294967296
     "ns" string "test.c"
   "ok" double 000000000000f03f
 """,
     ),
     (
-        command("getMore", (INT64, int64(1)), element(STRING, "collection", string("c"))),
+        command("getMore", (INT64, int64(4294967296)), element(STRING, "collection", string("c"))),
         (),
         """\
 request "getMore"
 document 54
-  "getMore" int64 1
+  "getMore" int64 4294967296
   "collection" string "c"
   "$db" string "test"
 answer
@@ -126,6 +132,193 @@ document 90
     "nextBatch" array 22
       "0" document 14
         "_id" int32 2
+    "id" int64 0
+    "ns" string "test.c"
+  "ok" double 000000000000f03f
+""",
+    ),
+    (
+        command("find", COLLECTION, element(INT32, "skip", int32(1)), element(INT32, "limit", int32(1)), element(BOOLEAN, "singleBatch", b"\1")),
+        (),
+        """\
+request "find"
+document 66
+  "find" string "c"
+  "skip" int32 1
+  "limit" int32 1
+  "singleBatch" boolean true
+  "$db" string "test"
+answer
+document 91
+  "cursor" document 66
+    "firstBatch" array 22
+      "0" document 14
+        "_id" int32 2
+    "id" int64 0
+    "ns" string "test.c"
+  "ok" double 000000000000f03f
+""",
+    ),
+    (
+        command("find", COLLECTION, element(DOCUMENT, "hint", document([]))),
+        (),
+        """\
+request "find"
+document 42
+  "find" string "c"
+  "hint" document 5
+  "$db" string "test"
+answer
+document 104
+  "ok" double 0000000000000000
+  "errmsg" string "the field 'hint' is not carried out"
+  "code" int32 238
+  "codeName" string "NotImplemented"
+""",
+    ),
+    (
+        command("find", COLLECTION, element(INT32, "batchSize", int32(0))),
+        (),
+        """\
+request "find"
+document 46
+  "find" string "c"
+  "batchSize" int32 0
+  "$db" string "test"
+answer
+document 74
+  "cursor" document 49
+    "firstBatch" array 5
+    "id" int64 4294967297
+    "ns" string "test.c"
+  "ok" double 000000000000f03f
+""",
+    ),
+    (
+        command("killCursors", COLLECTION, element(ARRAY, "cursors", document([element(INT64, str(at), int64(4294967296 + at)) for at in (0, 1)]))),
+        (),
+        """\
+request "killCursors"
+document 74
+  "killCursors" string "c"
+  "cursors" array 27
+    "0" int64 4294967296
+    "1" int64 4294967297
+  "$db" string "test"
+answer
+document 121
+  "cursorsKilled" array 16
+    "0" int64 4294967297
+  "cursorsNotFound" array 16
+    "0" int64 4294967296
+  "cursorsAlive" array 5
+  "cursorsUnknown" array 5
+  "ok" double 000000000000f03f
+""",
+    ),
+    (
+        command("buildInfo", ONE),
+        (),
+        """\
+request "buildInfo"
+document 34
+  "buildInfo" int32 1
+  "$db" string "test"
+answer
+document 106
+  "version" string "5.0.0"
+  "versionArray" array 33
+    "0" int32 5
+    "1" int32 0
+    "2" int32 0
+    "3" int32 0
+  "maxBsonObjectSize" int32 16777216
+  "ok" double 000000000000f03f
+""",
+    ),
+    (
+        command("insert", COLLECTION, element(ARRAY, "documents", document([element(DOCUMENT, str(at), document([element(INT32, "_id", int32(number))])) for at, number in ((0, 2), (1, 3))])), element(BOOLEAN, "ordered", b"\0")),
+        (),
+        """\
+request "insert"
+document 93
+  "insert" string "c"
+  "documents" array 39
+    "0" document 14
+      "_id" int32 2
+    "1" document 14
+      "_id" int32 3
+  "ordered" boolean false
+  "$db" string "test"
+answer
+document 141
+  "n" int32 1
+  "writeErrors" array 104
+    "0" document 96
+      "index" int32 0
+      "code" int32 11000
+      "errmsg" string "E11000 duplicate key error collection: test.c index: _id_"
+  "ok" double 000000000000f03f
+""",
+    ),
+    (
+        command("delete", COLLECTION, element(ARRAY, "deletes", document([element(DOCUMENT, "0", DELETE)]))),
+        (),
+        """\
+request "delete"
+document 83
+  "delete" string "c"
+  "deletes" array 41
+    "0" document 33
+      "q" document 14
+        "_id" int32 1
+      "limit" int32 1
+  "$db" string "test"
+answer
+document 24
+  "n" int32 1
+  "ok" double 000000000000f03f
+""",
+    ),
+    (
+        command("count", COLLECTION, element(DOCUMENT, "query", document([]))),
+        (),
+        """\
+request "count"
+document 44
+  "count" string "c"
+  "query" document 5
+  "$db" string "test"
+answer
+document 24
+  "n" int32 2
+  "ok" double 000000000000f03f
+""",
+    ),
+    (
+        command("aggregate", COLLECTION, element(ARRAY, "pipeline", COUNTING), element(DOCUMENT, "cursor", document([]))),
+        (),
+        """\
+request "aggregate"
+document 133
+  "aggregate" string "c"
+  "pipeline" array 74
+    "0" document 18
+      "$match" document 5
+    "1" document 45
+      "$group" document 32
+        "_id" int32 1
+        "n" document 15
+          "$sum" int32 1
+  "cursor" document 5
+  "$db" string "test"
+answer
+document 98
+  "cursor" document 73
+    "firstBatch" array 29
+      "0" document 21
+        "_id" int32 1
+        "n" int32 2
     "id" int64 0
     "ns" string "test.c"
   "ok" double 000000000000f03f
@@ -170,17 +363,17 @@ document 49
 """,
     ),
     (
-        command("delete", COLLECTION),
+        command("getlasterror", ONE),
         (),
         """\
-request "delete"
-document 33
-  "delete" string "c"
+request "getlasterror"
+document 37
+  "getlasterror" int32 1
   "$db" string "test"
 answer
-document 95
+document 101
   "ok" double 0000000000000000
-  "errmsg" string "no such command: 'delete'"
+  "errmsg" string "no such command: 'getlasterror'"
   "code" int32 59
   "codeName" string "CommandNotFound"
 """,
@@ -203,7 +396,8 @@ document 17
 
 def wanted():
     """Returns what the server writes of the connection."""
-    return "connection 1\n" + "".join(text for _, _, text in REQUESTS) + "end Ended\n"
+    entries = "".join("connection 1\n" + text for _, _, text in REQUESTS)
+    return "connection 1 new\n" + entries + "connection 1 end Ended\n"
 
 
 def send(address):

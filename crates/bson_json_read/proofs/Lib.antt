@@ -2,7 +2,9 @@ pub mod Alike
 pub mod Integers
 pub mod ReadBack
 pub mod Leaves
+pub mod Lemmas
 pub mod Pairs
 pub mod Specials
 pub mod Tens
+pub mod TextBytes
 pub mod Walking

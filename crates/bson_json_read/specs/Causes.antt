@@ -1,7 +1,9 @@
 -- The numbers of causes, and their words.
 use Rattle.std.specs.Prelude.{ℕ, List, ◌++◌, Option, Some, codes}
+use Rattle.std.specs.Fmt.{decimal}
 use Rattle.bson_json_read.specs.declared.fault.Cause.{Cause}
 use Rattle.bson_json_read.specs.declared.fault.Cause.TheVariants as causes
+use Rattle.bson_json_read.specs.declared.texts.TextFault.{TextFault}
 use Rattle.bson_json_read.specs.Forms.{form_name}
 
 abbrev pub cause_number : Cause → ℕ
@@ -27,3 +29,13 @@ cause_text causes.OutOfMemory = codes "out of memory"
 
 abbrev pub shown_cause : Cause → Option (List ℕ)
 shown_cause cause = Some (cause_text cause)
+
+-- what the fault of a text among several displays as
+abbrev pub text_fault_text : TextFault → List ℕ
+text_fault_text f =
+    codes "fault " ++ (decimal (cause_number f.cause) ++ (codes " at line "
+    ++ (decimal f.place.line ++ (codes ", column " ++ (decimal f.place.column
+    ++ (codes ": " ++ cause_text f.cause))))))
+
+abbrev pub shown_text_fault : TextFault → Option (List ℕ)
+shown_text_fault f = Some (text_fault_text f)

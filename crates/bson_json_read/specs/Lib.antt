@@ -2,11 +2,20 @@ pub mod Bytes
 pub mod Canonical
 pub mod Causes
 pub mod DecimalText
+pub mod Extents
 pub mod Forms
+pub mod Frames
 pub mod Iso
 pub mod Numbers
 pub mod Places
 pub mod Reads
+pub mod Seeking
+pub mod Sequences
 pub mod Table
 pub mod Texts
 pub mod Values
+-- the words that clauses of other crates cite
+pub use Rattle.bson_json_read.specs.Causes.{text_fault_text}
+pub use Rattle.bson_json_read.specs.Sequences.{AreRead, Fails, Gives, Left, ReadsTo, next_in}
+pub use Rattle.bson_json_read.specs.Sequences.{nothing}
+pub use Rattle.bson_json_read.specs.Values.{Pair}

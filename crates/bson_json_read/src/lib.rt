@@ -3,15 +3,18 @@
 //!
 //! `from_json` reads a text as an owned document, or tells its first fault. The kit's `json` tells
 //! which JSON value a text is. `wrapped` and `owned` have the forms of objects that stand for
-//! values, and `value` reads documents and arrays by them.
+//! values, and `value` reads documents and arrays by them. `JsonTexts` reads the documents of an
+//! input of several texts.
 //!
 //! Uses bson_doc and bson_json. Read first: `text`, and then `value`.
 #![tactic(auto)]
 
 mod bytes;
 mod decimal;
+mod extent;
 mod fault;
 mod form;
+mod frame;
 mod iso;
 pub mod laws;
 mod members;
@@ -19,6 +22,7 @@ mod number;
 mod owned;
 mod place;
 mod text;
+mod texts;
 mod value;
 mod wrapped;
 
@@ -27,3 +31,4 @@ pub use fault::{Cause, JsonFault};
 pub use form::Form;
 pub use place::Place;
 pub use text::from_json;
+pub use texts::{JsonTexts, TextFault};

@@ -16,7 +16,7 @@ pub struct Place {
 }
 
 /// Returns the place behind the first `offset` bytes.
-fn place_at(text: &[u8], offset: usize) -> Place
+pub(crate) fn place_at(text: &[u8], offset: usize) -> Place
     requires { offset ≤ length text.now }
     ensures { (result.line, result.column) ≡ place_behind 1 1 (take offset text.now) }
 {
@@ -83,6 +83,16 @@ fn pass_to(reader: &mut Reader<'_>, fault: &JsonFault) {
 }
 
 impl JsonFault {
+    /// Returns the offset of the fault in `text`, as `place` does its line and column.
+    pub(crate) fn offset(&self, alloc: Global, text: &str) -> Result<usize, AllocError>
+        ensures { IfOk result (λ n. n ≤ length text.now) }
+    {
+        let mut scratch = Scratch::new(alloc);
+        let mut reader = Reader::new(text, &mut scratch)?;
+        pass_to(&mut reader, self);
+        Ok(reader.offset().min(text.len()))
+    }
+
     /// Returns where in `text` the fault is, which is one of reading this text: at the value at
     /// fault, or at its name if that is at fault. Where the text is no JSON, it is the place from
     /// which on it isn't.
@@ -93,10 +103,7 @@ impl JsonFault {
     pub fn place(&self, alloc: Global, text: &str) -> Result<Place, AllocError>
         ensures { IfOk result (λ p. StandsIn text.now p.line p.column) }
     {
-        let mut scratch = Scratch::new(alloc);
-        let mut reader = Reader::new(text, &mut scratch)?;
-        pass_to(&mut reader, self);
-        let offset = reader.offset();
-        Ok(place_at(text.as_bytes(), offset.min(text.len())))
+        let offset = self.offset(alloc, text)?;
+        Ok(place_at(text.as_bytes(), offset))
     }
 }

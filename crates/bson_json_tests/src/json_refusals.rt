@@ -2,7 +2,7 @@
 //! `scripts/checks/try-refusals` runs them with each of their allocations refused in turn. Only one
 //! is refused in a run, so what is tried again succeeds.
 
-use bson_json_read::{Cause, JsonFault, Place, from_json};
+use bson_json_read::{Cause, JsonFault, JsonTexts, Place, from_json};
 use std::alloc::Global;
 
 const TEXT: &str =
@@ -10,6 +10,9 @@ const TEXT: &str =
 
 /// A text that has a name twice, with an escape.
 const REPEATED: &str = "{\"a\":\n[{\"b\":\"c\",\"\\u0062\":1}]}";
+
+/// Two texts, of which the second has a name twice.
+const SEVERAL: &str = "{\"a\":[{\"b\":\"c\"}]} {\"a\":1,\"a\":2}";
 
 /// Returns true if both tries came right, or one did and memory was refused to the other.
 fn comes_right(first: Result<bool, Cause>, second: Result<bool, Cause>) -> bool {
@@ -59,6 +62,34 @@ fn places(alloc: Global, fault: &JsonFault) -> Result<bool, Cause> {
         ),
         Err(_) => Err(Cause::OutOfMemory),
     }
+}
+
+/// Returns whether the document of the first text is read, and the fault of the second one told.
+fn reads_several(alloc: Global) -> Result<bool, Cause> {
+    let mut texts = JsonTexts::new(SEVERAL.as_bytes());
+    let is_first = match texts.next(alloc) {
+        Ok(Some(document)) => document.len() == 1,
+        Ok(None) => false,
+        Err(fault) => return Err(fault.cause),
+    };
+    match texts.next(alloc) {
+        Ok(_) => Ok(false),
+        Err(fault) if fault.cause == Cause::RepeatedName => Ok(
+            is_first
+                && fault.place
+                    == Place {
+                        line: 1,
+                        column: 26,
+                    },
+        ),
+        Err(fault) => Err(fault.cause),
+    }
+}
+
+#[test]
+fn several_texts_are_read_again(rt: HostRuntime) {
+    let alloc = rt.alloc();
+    assert!(rt; comes_right(reads_several(alloc), reads_several(alloc)));
 }
 
 #[test]

@@ -15,3 +15,5 @@ mod failures;
 mod json_refusals;
 #[cfg(test)]
 mod reading;
+#[cfg(test)]
+mod several;

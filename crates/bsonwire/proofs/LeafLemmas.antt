@@ -14,9 +14,9 @@ use Rattle.clap.specs.declared.builder.value_parser.Reading.{Reading}
 use Rattle.clap.specs.declared.builder.value_parser.Reading.TheVariants.{AsWritten}
 use Rattle.clap.specs.declared.parser.matches.ValueSource.{ValueSource}
 use Rattle.clap.specs.declared.parser.matches.ValueSource.TheVariants.{DefaultValue}
-use Rattle.bsonwire.specs.CommandLine.{command_line, file_app, loop_app, play_app}
-use Rattle.bsonwire.specs.Choices.{HoldsHex, HasCalls, HasFile}
-use Rattle.bsonwire.proofs.RowLemmas.{AreGood, Each, IsBoolText, IsCountText, IsGoodRow, KeepsUse, file_leaf_keeps, find_holds, good_with, is_other, leaf_rules, loop_leaf_keeps, no_kind, or_nil, play_leaf_keeps, settle_good, walk_good}
+use Rattle.bsonwire.specs.CommandLine.{command_line, file_app, json_app, loop_app, text_app}
+use Rattle.bsonwire.specs.Choices.{HoldsFlag, HoldsHex, HasCalls, HasFile}
+use Rattle.bsonwire.proofs.RowLemmas.{AreGood, Each, IsBoolText, IsCountText, IsGoodRow, KeepsUse, file_leaf_keeps, find_holds, good_with, is_flag, is_other, json_leaf_keeps, leaf_rules, loop_leaf_keeps, no_kind, or_nil, text_leaf_keeps, settle_good, walk_good}
 
 -- ---- the rows at the end of a walk
 
@@ -29,38 +29,82 @@ has_with id how s values (r ∷ rs) same = go (bytes_eq r.id id) refl (has_with 
     go true is rest = ap (λ b. b || has_row id rs) is
     go false is rest = ap (λ b. b || has_row id (with_values id how s values rs)) is ∙ rest
 
--- `--hex` gets its default where it was not given
-abbrev with_hex : Bool → List Row → List Row
-with_hex b rows = if b then rows else with_values (codes "hex") AsWritten DefaultValue (codes "false" ∷ []) rows
+-- a row that is there stays there
+has_still : (id name : Text) (how : Reading) (s : ValueSource) (values : List Text) (rows : List Row) → has_row id rows ≡ true → has_row id (with_values name how s values rows) ≡ true
+has_still id name how s values [] has = absurd (true≢false (sym has))
+has_still id name how s values (r ∷ rs) has = go (bytes_eq r.id name) (bytes_eq r.id id) refl has (has_still id name how s values rs)
+  where
+    go : (b d : Bool) → bytes_eq r.id id ≡ d → (d || has_row id rs) ≡ true → (has_row id rs ≡ true → has_row id (with_values name how s values rs) ≡ true)
+        → has_row id (cond b (more_values s values r ++ rs) (r ∷ with_values name how s values rs)) ≡ true
+    go true d is has rest = ap (λ b. b || has_row id rs) is ∙ has
+    go false true is has rest = ap (λ b. b || has_row id (with_values name how s values rs)) is
+    go false false is has rest = ap (λ b. b || has_row id (with_values name how s values rs)) is ∙ rest has
+
+-- a flag gets its default where it was not given
+abbrev with_flag : Text → Bool → List Row → List Row
+with_flag name b rows = if b then rows else with_values name AsWritten DefaultValue (codes "false" ∷ []) rows
+
+-- the flag is there
+abbrev Has : Text → List Row → Type 0
+Has name rows = has_row name rows ≡ true
 
 abbrev AreGoodWithHex : List Row → Type 0
-AreGoodWithHex rows = AreGood rows × (has_row (codes "hex") rows ≡ true)
+AreGoodWithHex rows = AreGood rows × Has (codes "hex") rows
 
-hex_is_there : (rows : List Row) → AreGood rows → AreGoodWithHex (with_hex (has_row (codes "hex") rows) rows)
-hex_is_there rows good = go (has_row (codes "hex") rows) refl
-  where
-    go : (b : Bool) → has_row (codes "hex") rows ≡ b → AreGoodWithHex (with_hex b rows)
-    go true is = (good, is)
-    go false is = (
-      good_with (codes "hex") AsWritten DefaultValue (codes "false" ∷ []) rows (
-        (λ e. absurd (is_other (codes "hex") (codes "file") refl refl e)),
-        (λ e. (false, refl)),
-        (λ e. absurd (is_other (codes "hex") (codes "calls") refl refl e)),
+module _ (name : Text) (no_file : name ≡ codes "file" → ⊥) (no_calls : name ≡ codes "calls" → ⊥) where
+  flag_is_there : (rows : List Row) → AreGood rows → bytes_eq name name ≡ true → AreGood (with_flag name (has_row name rows) rows) × Has name (with_flag name (has_row name rows) rows)
+  flag_is_there rows good same = go (has_row name rows) refl
+    where
+      go : (b : Bool) → has_row name rows ≡ b → AreGood (with_flag name b rows) × Has name (with_flag name b rows)
+      go true is = (good, is)
+      go false is = (
+        good_with name AsWritten DefaultValue (codes "false" ∷ []) rows ((λ e. absurd (no_file e)), (λ e. (false, refl)), (λ e. absurd (no_calls e))) good,
+        has_with name AsWritten DefaultValue (codes "false" ∷ []) rows same,
       )
-          good,
-      has_with (codes "hex") AsWritten DefaultValue (codes "false" ∷ []) rows refl,
-    )
+
+-- another flag's default leaves a flag there
+stays_there : (id name : Text) (b : Bool) (rows : List Row) → Has id rows → Has id (with_flag name b rows)
+stays_there id name true rows has = has
+stays_there id name false rows has = has_still id name AsWritten DefaultValue (codes "false" ∷ []) rows has
+
+hex_is_there : (rows : List Row) → AreGood rows → AreGoodWithHex (with_flag (codes "hex") (has_row (codes "hex") rows) rows)
+hex_is_there rows good = flag_is_there (codes "hex") (is_other (codes "hex") (codes "file") refl refl) (is_other (codes "hex") (codes "calls") refl refl) rows good refl
 
 -- an argument without a default leaves the rows as they are
 same : (b : Bool) (P : List Row → Type 0) (rows : List Row) → P rows → P (if b then rows else rows)
 same true P rows p = p
 same false P rows p = p
 
+-- the rows at the end of a walk of `json`
+record AreGoodForm (rows : List Row) : Type 0 where
+  good : AreGood rows
+  hex : Has (codes "hex") rows
+  relaxed : Has (codes "relaxed") rows
+  array : Has (codes "array") rows
+
+finished_has_form : (rows : List Row) → AreGood rows → AreGoodForm (fold with_default rows (leaf_rules json_app.top.rules))
+finished_has_form rows good =
+    let one = if has_row (codes "file") rows then rows else rows in
+    let first = same (has_row (codes "file") rows) AreGood rows good in
+    let two = with_flag (codes "hex") (has_row (codes "hex") one) one in
+    let hex = hex_is_there one first in
+    let three = with_flag (codes "relaxed") (has_row (codes "relaxed") two) two in
+    let relaxed = flag_is_there (codes "relaxed") (is_other (codes "relaxed") (codes "file") refl refl) (is_other (codes "relaxed") (codes "calls") refl refl) two hex.0 refl in
+    let four = with_flag (codes "array") (has_row (codes "array") three) three in
+    let array = flag_is_there (codes "array") (is_other (codes "array") (codes "file") refl refl) (is_other (codes "array") (codes "calls") refl refl) three relaxed.0 refl in
+    let hex3 = stays_there (codes "hex") (codes "relaxed") (has_row (codes "relaxed") two) two hex.1 in
+    same (has_row (codes "help") four) AreGoodForm four record {
+      good = array.0;
+      hex = stays_there (codes "hex") (codes "array") (has_row (codes "array") three) three hex3;
+      relaxed = stays_there (codes "relaxed") (codes "array") (has_row (codes "array") three) three relaxed.1;
+      array = array.1;
+    }
+
 finished_has_hex : (rows : List Row) → AreGood rows → AreGoodWithHex (fold with_default rows (leaf_rules (file_app []).top.rules))
 finished_has_hex rows good =
     let first = same (has_row (codes "file") rows) AreGood rows good in
     let one = if has_row (codes "file") rows then rows else rows in
-    let two = with_hex (has_row (codes "hex") one) one in
+    let two = with_flag (codes "hex") (has_row (codes "hex") one) one in
     same (has_row (codes "help") two) AreGoodWithHex two (hex_is_there one first)
 
 -- the rows at the end of a walk, of a subcommand with one operand
@@ -93,9 +137,9 @@ calls_found : (o : Option Row) → IfSome o (IsFound (codes "calls")) → option
 calls_found None is given = absurd (true≢false (sym given))
 calls_found (Some r) is given = is.1.2 is.0
 
-hex_found : (o : Option Row) → IfSome o (IsFound (codes "hex")) → is_some o ≡ true → IsBoolText (option_and_then row_text o)
-hex_found None is has = absurd (true≢false (sym has))
-hex_found (Some r) is has = is.1.1 is.0
+flag_found : (name : Text) → is_flag name ≡ true → (o : Option Row) → IfSome o (IsFound name) → is_some o ≡ true → IsBoolText (option_and_then row_text o)
+flag_found name flag None is has = absurd (true≢false (sym has))
+flag_found name flag (Some r) is has = is.1.1 (ap is_flag is.0 ∙ flag)
 
 has_found : (id : Text) (rows : List Row) → has_row id rows ≡ true → is_some (find (λ r. bytes_eq r.id id) rows) ≡ true
 has_found id [] has = has
@@ -105,6 +149,10 @@ has_found id (r ∷ rs) has = go (bytes_eq r.id id) has (has_found id rs)
         → is_some (cond b (Some r) (find (λ r. bytes_eq r.id id) rs)) ≡ true
     go true e rest = refl
     go false e rest = rest e
+
+-- the matches hold the flag
+held_flag : (name : Text) (rows : List Row) → is_flag name ≡ true → AreGood rows → Has name rows → IsBoolText (option_and_then row_text (find (λ r. bytes_eq r.id name) rows))
+held_flag name rows flag good has = flag_found name flag (find (λ r. bytes_eq r.id name) rows) (found name rows good) (has_found name rows has)
 
 -- ---- a subcommand, as building leaves it
 
@@ -143,16 +191,31 @@ file_leaf_names name words none =
     let rows = rows_of_leaf s words in
     let is = unfaulted s file_leaf_keeps words none in
     let whole : AreGoodWithHex rows = finished_has_hex (settled s.rules (walk s.rules [] nothing_held words).held).rows is.0 in (
-      hex_found (find (λ r. bytes_eq r.id (codes "hex")) rows) (found (codes "hex") rows whole.0) (has_found (codes "hex") rows whole.1),
+      held_flag (codes "hex") rows refl whole.0 whole.1,
       file_found (find (λ r. bytes_eq r.id (codes "file")) rows) (found (codes "file") rows whole.0)
           (given_where_unfaulted (is_given (codes "file") rows) is.1),
     )
 
-pub play_leaf_names : (words : List Text) → IsUnfaulted (leaf play_app) words → HasFile (rows_of_leaf (leaf play_app) words)
-play_leaf_names words none =
-    let s = leaf play_app in
+pub json_leaf_names : (words : List Text) → IsUnfaulted (leaf json_app) words
+    → ((hex : Bool) × HoldsHex hex (rows_of_leaf (leaf json_app) words)) × ((relaxed : Bool) × HoldsFlag (codes "relaxed") relaxed (rows_of_leaf (leaf json_app) words))
+    × ((array : Bool) × HoldsFlag (codes "array") array (rows_of_leaf (leaf json_app) words)) × HasFile (rows_of_leaf (leaf json_app) words)
+json_leaf_names words none =
+    let s = leaf json_app in
     let rows = rows_of_leaf s words in
-    let is = unfaulted s play_leaf_keeps words none in
+    let is = unfaulted s json_leaf_keeps words none in
+    let whole : AreGoodForm rows = finished_has_form (settled s.rules (walk s.rules [] nothing_held words).held).rows is.0 in (
+      held_flag (codes "hex") rows refl whole.good whole.hex,
+      held_flag (codes "relaxed") rows refl whole.good whole.relaxed,
+      held_flag (codes "array") rows refl whole.good whole.array,
+      file_found (find (λ r. bytes_eq r.id (codes "file")) rows) (found (codes "file") rows whole.good)
+          (given_where_unfaulted (is_given (codes "file") rows) is.1),
+    )
+
+pub text_leaf_names : (name : Text) (words : List Text) → IsUnfaulted (leaf (text_app name)) words → HasFile (rows_of_leaf (leaf (text_app name)) words)
+text_leaf_names name words none =
+    let s = leaf (text_app name) in
+    let rows = rows_of_leaf s words in
+    let is = unfaulted s text_leaf_keeps words none in
     let good : AreGood rows = finished_is_good (codes "file") (settled s.rules (walk s.rules [] nothing_held words).held).rows is.0 in
     file_found (find (λ r. bytes_eq r.id (codes "file")) rows) (found (codes "file") rows good)
     (given_where_unfaulted (is_given (codes "file") rows) is.1)

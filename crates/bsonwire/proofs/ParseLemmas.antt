@@ -1,5 +1,5 @@
 -- What `clap` finds no fault in names a choice.
-use Rattle.std.proofs.Common.{◌≡◌, ◌∙◌, ℕ, refl, ap, sym, Bool, true, false, not, ◌&&◌, ◌||◌, List, [], ◌∷◌, Option, Some, None, is_some, option_map, codes, true≢false, inl, inr}
+use Rattle.std.proofs.Common.{◌≡◌, ◌∙◌, ℕ, refl, ap, sym, subst, Bool, true, false, not, ◌&&◌, ◌||◌, List, [], ◌∷◌, Option, Some, None, is_some, option_map, codes, true≢false, inl, inr}
 use Rattle.std.specs.Prelude.{⊤, IfSome, if◌then◌else◌, find, fold}
 use Rattle.std.specs.Option.{option_map_or}
 use Rattle.std.specs.List.{list_any}
@@ -13,11 +13,15 @@ use Rattle.clap.specs.Simple.{Shape, argument_words, built, entered, label_of, n
 use Rattle.clap.specs.Takes.{is_given}
 use Rattle.clap.specs.Walk.{Held, Names, Outcome, Row, Rule, Step, Text, Waiting, Walk, done, waits, plain, refused, idle, option, positional, next, trailing, subcommand, value, after_flag, after_step, answers_to, arg_by_index, finished, long_or_other, nothing_held, plain_word, settled, short_or_plain, subcommand_met, subcommand_or_other, to_positional, walk, walk_from, walked, walked_from, word_met, bundle, long_met, arg_by_long}
 use Rattle.clap.specs.declared.error.kind.ErrorKind.TheVariants as kind
-use Rattle.bsonwire.specs.CommandLine.{command_line, file_app, loop_app, play_app}
+use Rattle.bsonwire.specs.CommandLine.{command_line, file_app, json_app, loop_app, text_app}
 use Rattle.bsonwire.specs.declared.choice.Command.{Command}
-use Rattle.bsonwire.specs.declared.choice.Command.TheVariants.{Dump, Check, Canon, Msg, Play}
-use Rattle.bsonwire.specs.Choices.{HoldsHex, IsCommand, NamesChoice}
-use Rattle.bsonwire.proofs.LeafLemmas.{IsUnfaulted, file_leaf_names, leaf, loop_leaf_names, play_leaf_names}
+use Rattle.bsonwire.specs.declared.choice.Command.TheVariants.{Dump, Check, Canon, Json, Bson, Msg, Play}
+use Rattle.bson_json.specs.declared.mode.Mode.{Mode}
+use Rattle.bson_json.specs.declared.mode.Mode.TheVariants.{Canonical, Relaxed}
+use Rattle.engines.specs.declared.json.Layout.{Layout}
+use Rattle.engines.specs.declared.json.Layout.TheVariants.{Lines, Array}
+use Rattle.bsonwire.specs.Choices.{HoldsHex, IsCommand, NamesChoice, HoldsFlag, is_array, is_relaxed}
+use Rattle.bsonwire.proofs.LeafLemmas.{IsUnfaulted, file_leaf_names, json_leaf_names, leaf, loop_leaf_names, text_leaf_names}
 use Rattle.bsonwire.proofs.RowLemmas.{Each, find_holds, no_kind, or_nil}
 
 -- ---- a walk stops at no word `help`
@@ -118,8 +122,26 @@ file_leaf_chooses command name word words is none =
     let held = file_leaf_names name words none in
     inl ((command held.0.0, is held.0.0 (rows_at (leaf (file_app name)) words).1 held.0.1), held.1)
 
-play_leaf_chooses : (word : Text) (words : List Text) → Chooses word words (leaf play_app)
-play_leaf_chooses word words none = inl ((Play, refl), play_leaf_names words none)
+mode_by : (relaxed : Bool) → (mode : Mode) × (relaxed ≡ is_relaxed mode)
+mode_by false = (Canonical, refl)
+mode_by true = (Relaxed, refl)
+
+layout_by : (array : Bool) → (layout : Layout) × (array ≡ is_array layout)
+layout_by false = (Lines, refl)
+layout_by true = (Array, refl)
+
+json_leaf_chooses : (word : Text) (words : List Text) → Chooses word words (leaf json_app)
+json_leaf_chooses word words none =
+    let held = json_leaf_names words none in
+    let rows = (rows_at (leaf json_app) words).1 in
+    let mode = mode_by held.1.0 in
+    let layout = layout_by held.2.0 in
+    let relaxed = subst (λ (b : Bool). HoldsFlag (codes "relaxed") b rows) mode.1 held.1.1 in
+    let array = subst (λ (b : Bool). HoldsFlag (codes "array") b rows) layout.1 held.2.1 in
+    inl ((Json held.0.0 mode.0 layout.0, (refl, held.0.1, (relaxed, array))), held.3)
+
+text_leaf_chooses : (command : Command) (name word : Text) (words : List Text) → ((rows : List Row) → IsCommand command name rows) → Chooses word words (leaf (text_app name))
+text_leaf_chooses command name word words is none = inl ((command, is (rows_at (leaf (text_app name)) words).1), text_leaf_names name words none)
 
 loop_leaf_chooses : (word : Text) (words : List Text) → Chooses word words (leaf loop_app)
 loop_leaf_chooses word words none = inr (refl, loop_leaf_names words none)
@@ -150,8 +172,14 @@ subs_choose word words differs = (
       (
         (λ _. file_leaf_chooses Msg (codes "msg") word words (λ hex rows holds. (refl, holds))),
         (
-          (λ _. play_leaf_chooses word words),
-          ((λ _. loop_leaf_chooses word words), ((λ is_one. absurd (is_help word differs is_one)), tt)),
+          (λ _. json_leaf_chooses word words),
+          (
+            (λ _. text_leaf_chooses Bson (codes "bson") word words (λ rows. refl)),
+            (
+              (λ _. text_leaf_chooses Play (codes "play") word words (λ rows. refl)),
+              ((λ _. loop_leaf_chooses word words), ((λ is_one. absurd (is_help word differs is_one)), tt)),
+            ),
+          ),
         ),
       ),
     ),

@@ -1,6 +1,6 @@
--- What the words of a subcommand leave in its rows: FILE and SCRIPT have a value, `--hex` reads true or false, and N reads as a
+-- What the words of a subcommand leave in its rows: FILE and SCRIPT have a value, each flag reads true or false, and N reads as a
 -- number in its range.
-use Rattle.std.proofs.Common.{◌≡◌, ◌∙◌, ℕ, zero, suc, refl, ap, sym, Bool, true, false, cond, ◌&&◌, List, [], ◌∷◌, ◌++◌, length, drop, Option, Some, None, is_some, option_map, codes, true≢false}
+use Rattle.std.proofs.Common.{◌≡◌, ◌∙◌, ℕ, zero, suc, refl, ap, sym, Bool, true, false, cond, ◌&&◌, ◌||◌, List, [], ◌∷◌, ◌++◌, length, drop, Option, Some, None, is_some, option_map, codes, true≢false}
 use Rattle.std.specs.Prelude.{⊤, IfSome, if◌then◌else◌, find, fold, pos, slice_get, encode_utf8}
 use Rattle.std.specs.Option.{option_map_or}
 use Rattle.std.specs.Str.{bytes_eq, chars}
@@ -17,7 +17,7 @@ use Rattle.clap.specs.declared.error.kind.ErrorKind.TheVariants as kind
 use Rattle.clap.specs.declared.builder.value_parser.ValueParser.TheVariants.{Signed}
 use Rattle.clap.specs.declared.parser.matches.ValueSource.{ValueSource}
 use Rattle.clap.specs.declared.parser.matches.ValueSource.TheVariants.{CommandLine}
-use Rattle.bsonwire.specs.CommandLine.{calls_rule, hex_rule, operand_rule}
+use Rattle.bsonwire.specs.CommandLine.{calls_rule, flag_rule, operand_rule}
 use Rattle.bsonwire.specs.Choices.{IsCount}
 use Rattle.bsonwire.proofs.NumberLemmas.{count_text}
 
@@ -56,7 +56,11 @@ find_holds {X} p P (x ∷ xs) all = go (p x) all.0 (find_holds p P xs all.1)
 
 -- one of the two texts that a flag reads
 abbrev pub IsBoolText : Option Text → Type 0
-IsBoolText o = (hex : Bool) × (o ≡ Some (if hex then codes "true" else codes "false"))
+IsBoolText o = (given : Bool) × (o ≡ Some (if given then codes "true" else codes "false"))
+
+-- the name is that of a flag
+abbrev pub is_flag : Text → Bool
+is_flag id = bytes_eq id (codes "hex") || (bytes_eq id (codes "relaxed") || bytes_eq id (codes "array"))
 
 -- a number from 1 to 100
 abbrev pub IsCountText : Option Text → Type 0
@@ -64,7 +68,7 @@ IsCountText o = (n : ℕ) × IsCount n o
 
 abbrev pub IsGoodRow : Row → Type 0
 IsGoodRow r = (r.id ≡ codes "file" → is_some (slice_get r.values 0) ≡ true)
-    × (r.id ≡ codes "hex" → IsBoolText (row_text r)) × (r.id ≡ codes "calls" → IsCountText (row_text r))
+    × (is_flag r.id ≡ true → IsBoolText (row_text r)) × (r.id ≡ codes "calls" → IsCountText (row_text r))
 
 abbrev pub AreGood : List Row → Type 0
 AreGood = Each IsGoodRow
@@ -82,9 +86,9 @@ more_file : (vs values : List Text) → is_some (slice_get vs 0) ≡ true → is
 more_file [] values e = absurd (true≢false (sym e))
 more_file (v ∷ vs) values e = refl
 
-more_hex : (how : Reading) (vs values : List Text) → IsBoolText (option_map (read_as how) (slice_get vs 0)) → IsBoolText (option_map (read_as how) (slice_get (vs ++ values) 0))
-more_hex how [] values h = absurd (true≢false (sym (ap (λ o. is_some o) h.1)))
-more_hex how (v ∷ vs) values h = h
+more_flag : (how : Reading) (vs values : List Text) → IsBoolText (option_map (read_as how) (slice_get vs 0)) → IsBoolText (option_map (read_as how) (slice_get (vs ++ values) 0))
+more_flag how [] values h = absurd (true≢false (sym (ap (λ o. is_some o) h.1)))
+more_flag how (v ∷ vs) values h = h
 
 more_calls : (how : Reading) (vs values : List Text) → IsCountText (option_map (read_as how) (slice_get vs 0)) → IsCountText (option_map (read_as how) (slice_get (vs ++ values) 0))
 more_calls how [] values h = absurd (true≢false (sym (ap (λ o. is_some o) h.1.1)))
@@ -94,7 +98,7 @@ good_more : (s : ValueSource) (values : List Text) (r : Row) → IsGoodRow r →
 good_more s values r h = (
   (
     (λ e. more_file r.values values (h.0 e)),
-    (λ e. more_hex r.reading r.values values (h.1 e)),
+    (λ e. more_flag r.reading r.values values (h.1 e)),
     (λ e. more_calls r.reading r.values values (h.2 e)),
   ),
   tt,
@@ -126,15 +130,15 @@ is_other id other same differs e = true≢false (sym same ∙ (ap (bytes_eq id) 
 abbrev file_rule : Rule
 file_rule = with_index 1 (filled (operand_rule (codes "file")))
 
-abbrev built_hex_rule : Rule
-built_hex_rule = filled hex_rule
+abbrev built_flag_rule : Text → Rule
+built_flag_rule name = filled (flag_rule name)
 
 file_keeps : KeepsUse file_rule
 file_keeps again [] rows none all = absurd (no_kind _ refl none)
 file_keeps again (v ∷ vs) rows none all =
     good_with (codes "file") (reading_by file_rule) CommandLine (v ∷ vs) (without (codes "file") rows) (
       (λ e. refl),
-      (λ e. absurd (is_other (codes "file") (codes "hex") refl refl e)),
+      (λ e. absurd (true≢false (sym e))),
       (λ e. absurd (is_other (codes "file") (codes "calls") refl refl e)),
     )
     (good_without (codes "file") rows all)
@@ -142,15 +146,15 @@ file_keeps again (v ∷ vs) rows none all =
 no_values : (n : ℕ) → range_kinds 0 0 (suc n) ≡ [] → ⊥
 no_values n e = no_kind (range_kinds 0 0 (suc n)) (ap (λ b. is_some_kind (if b then [] else kind.WrongNumberOfValues ∷ [])) (eqb-zero-suc n)) e
 
-hex_keeps : KeepsUse built_hex_rule
-hex_keeps again [] rows none all =
-    good_with (codes "hex") (reading_by built_hex_rule) CommandLine (codes "true" ∷ []) (without (codes "hex") rows) (
-      (λ e. absurd (is_other (codes "hex") (codes "file") refl refl e)),
+flag_keeps : (name : Text) → (name ≡ codes "file" → ⊥) → (name ≡ codes "calls" → ⊥) → KeepsUse (built_flag_rule name)
+flag_keeps name no_file no_calls again [] rows none all =
+    good_with name (reading_by (built_flag_rule name)) CommandLine (codes "true" ∷ []) (without name rows) (
+      (λ e. absurd (no_file e)),
       (λ e. (true, refl)),
-      (λ e. absurd (is_other (codes "hex") (codes "calls") refl refl e)),
+      (λ e. absurd (no_calls e)),
     )
-    (good_without (codes "hex") rows all)
-hex_keeps again (v ∷ vs) rows none all = absurd (no_values (length vs) (or_nil (range_kinds 0 0 (length (v ∷ vs))) _ none).0)
+    (good_without name rows all)
+flag_keeps name no_file no_calls again (v ∷ vs) rows none all = absurd (no_values (length vs) (or_nil (range_kinds 0 0 (length (v ∷ vs))) _ none).0)
 
 abbrev built_calls_rule : Rule
 built_calls_rule = with_index 1 (filled calls_rule)
@@ -163,7 +167,7 @@ calls_keeps again (v ∷ vs) rows none all =
     let first = or_nil (value_kinds false (Signed (pos 1) (pos 100)) v) _ set.1 in
     good_with (codes "calls") (reading_by built_calls_rule) CommandLine (v ∷ vs) (without (codes "calls") rows) (
       (λ e. absurd (is_other (codes "calls") (codes "file") refl refl e)),
-      (λ e. absurd (is_other (codes "calls") (codes "hex") refl refl e)),
+      (λ e. absurd (true≢false (sym e))),
       (λ e. count_text v (accepted _ _ first.0)),
     )
     (good_without (codes "calls") rows all)
@@ -175,12 +179,24 @@ calls_keeps again (v ∷ vs) rows none all =
 help_keeps : KeepsUse (filled help_rule)
 help_keeps again values rows none all = all
 
--- those of a subcommand that reads a file, of `play`, and of `loop`
-pub file_leaf_keeps : Each KeepsUse (leaf_rules (operand_rule (codes "file") ∷ hex_rule ∷ []))
+hex_keeps : KeepsUse (built_flag_rule (codes "hex"))
+hex_keeps = flag_keeps (codes "hex") (is_other (codes "hex") (codes "file") refl refl) (is_other (codes "hex") (codes "calls") refl refl)
+
+relaxed_keeps : KeepsUse (built_flag_rule (codes "relaxed"))
+relaxed_keeps = flag_keeps (codes "relaxed") (is_other (codes "relaxed") (codes "file") refl refl) (is_other (codes "relaxed") (codes "calls") refl refl)
+
+array_keeps : KeepsUse (built_flag_rule (codes "array"))
+array_keeps = flag_keeps (codes "array") (is_other (codes "array") (codes "file") refl refl) (is_other (codes "array") (codes "calls") refl refl)
+
+-- those of a subcommand that reads a file, of `json`, of one that reads it as it is, and of `loop`
+pub file_leaf_keeps : Each KeepsUse (leaf_rules (operand_rule (codes "file") ∷ flag_rule (codes "hex") ∷ []))
 file_leaf_keeps = (file_keeps, (hex_keeps, (help_keeps, tt)))
 
-pub play_leaf_keeps : Each KeepsUse (leaf_rules (operand_rule (codes "file") ∷ []))
-play_leaf_keeps = (file_keeps, (help_keeps, tt))
+pub json_leaf_keeps : Each KeepsUse (leaf_rules (operand_rule (codes "file") ∷ flag_rule (codes "hex") ∷ flag_rule (codes "relaxed") ∷ flag_rule (codes "array") ∷ []))
+json_leaf_keeps = (file_keeps, (hex_keeps, (relaxed_keeps, (array_keeps, (help_keeps, tt)))))
+
+pub text_leaf_keeps : Each KeepsUse (leaf_rules (operand_rule (codes "file") ∷ []))
+text_leaf_keeps = (file_keeps, (help_keeps, tt))
 
 pub loop_leaf_keeps : Each KeepsUse (leaf_rules (calls_rule ∷ []))
 loop_leaf_keeps = (calls_keeps, (help_keeps, tt))

@@ -6,11 +6,15 @@ use Rattle.clap.specs.Words.{Row, Text, first_of, one_of, subcommand_of}
 use Rattle.bsonwire.specs.declared.choice.Choice.{Choice}
 use Rattle.bsonwire.specs.declared.choice.Choice.TheVariants.{Loop, Over}
 use Rattle.bsonwire.specs.declared.choice.Command.{Command}
-use Rattle.bsonwire.specs.declared.choice.Command.TheVariants.{Dump, Check, Canon, Msg, Play}
+use Rattle.bsonwire.specs.declared.choice.Command.TheVariants.{Dump, Check, Canon, Json, Msg}
+use Rattle.bsonwire.specs.declared.choice.Command.TheVariants.{Bson, Play}
 use Rattle.bsonwire.specs.CommandLine.{command_line}
-use Rattle.bson_elem.specs.{Tree}
-use Rattle.engines.specs.{CanonText, CheckText, DumpText, IsOutput, MsgText, ScriptText}
-use Rattle.engines.specs.{canon_of, check_of, dump_of}
+use Rattle.bson_json.specs.declared.mode.Mode.{Mode}
+use Rattle.bson_json.specs.declared.mode.Mode.TheVariants.{Canonical, Relaxed}
+use Rattle.engines.specs.declared.json.Layout.{Layout}
+use Rattle.engines.specs.declared.json.Layout.TheVariants.{Lines, Array}
+use Rattle.engines.specs.{BsonText, CanonText, CheckText, DumpText, IsOutput, JsonText, MayBeJson}
+use Rattle.engines.specs.{MsgText, ScriptText, TextRule, canon_of, check_of, dump_of, told_by}
 
 -- ---- what the matches of a subcommand hold
 
@@ -18,10 +22,29 @@ use Rattle.engines.specs.{canon_of, check_of, dump_of}
 abbrev pub HoldsFile : Text → List Row → Type 0
 HoldsFile file rows = first_of (codes "file") rows ≡ Some file
 
+-- they hold the flag of this name, which was given or not
+abbrev pub HoldsFlag : Text → Bool → List Row → Type 0
+HoldsFlag name given rows =
+    one_of name rows ≡ Some (if given then codes "true" else codes "false")
+
 -- they hold this `--hex`
 abbrev pub HoldsHex : Bool → List Row → Type 0
-HoldsHex hex rows =
-    one_of (codes "hex") rows ≡ Some (if hex then codes "true" else codes "false")
+HoldsHex hex rows = HoldsFlag (codes "hex") hex rows
+
+-- `--relaxed` and `--array`
+abbrev pub is_relaxed : Mode → Bool
+is_relaxed Canonical = false
+is_relaxed Relaxed = true
+
+abbrev pub is_array : Layout → Bool
+is_array Lines = false
+is_array Array = true
+
+-- they hold the flags of `json`
+abbrev pub HoldsForm : Mode → Layout → List Row → Type 0
+HoldsForm mode layout rows =
+    HoldsFlag (codes "relaxed") (is_relaxed mode) rows
+    × HoldsFlag (codes "array") (is_array layout) rows
 
 -- the text is this number in decimal digits, maybe after a plus
 abbrev pub IsNumber : ℕ → Text → Type 0
@@ -43,6 +66,9 @@ abbrev pub IsCommand : Command → Text → List Row → Type 0
 IsCommand (Dump hex) name rows = (name ≡ codes "dump") × HoldsHex hex rows
 IsCommand (Check hex) name rows = (name ≡ codes "check") × HoldsHex hex rows
 IsCommand (Canon hex) name rows = (name ≡ codes "canon") × HoldsHex hex rows
+IsCommand (Json hex mode layout) name rows =
+    (name ≡ codes "json") × HoldsHex hex rows × HoldsForm mode layout rows
+IsCommand Bson name rows = name ≡ codes "bson"
 IsCommand (Msg hex) name rows = (name ≡ codes "msg") × HoldsHex hex rows
 IsCommand Play name rows = name ≡ codes "play"
 
@@ -92,21 +118,25 @@ abbrev pub CommandText : Command → List ℕ → List ℕ → Bool → Type 0
 CommandText (Dump hex) = IsOutput DumpText hex
 CommandText (Check hex) = IsOutput CheckText hex
 CommandText (Canon hex) = IsOutput (CanonText 2147483647 hex) hex
+CommandText (Json hex mode layout) = IsOutput (JsonText mode layout) hex
+CommandText Bson = BsonText
 CommandText (Msg hex) = IsOutput MsgText hex
 CommandText Play = ScriptText
 
 -- what a command writes for a document, if it reads documents
-abbrev pub document_text : Command → Tree → Option (List ℕ)
-document_text (Dump hex) = dump_of
-document_text (Check hex) = check_of
-document_text (Canon hex) = canon_of 2147483647 hex
-document_text _ = λ t. None
+abbrev pub document_rule : Command → TextRule
+document_rule (Dump hex) = told_by dump_of
+document_rule (Check hex) = told_by check_of
+document_rule (Canon hex) = told_by (canon_of 2147483647 hex)
+document_rule (Json hex mode layout) = MayBeJson mode layout
+document_rule _ = told_by (λ t. None)
 
 -- whether a command reads all of its input before it writes
 abbrev pub reads_first : Command → Bool
 reads_first (Dump hex) = hex
 reads_first (Check hex) = hex
 reads_first (Canon hex) = hex
+reads_first (Json hex mode layout) = hex
 reads_first _ = true
 
 -- whether a command may run out of memory after it wrote its first byte

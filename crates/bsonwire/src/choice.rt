@@ -1,28 +1,46 @@
 //! Finds out what the words of the command line ask for.
 
 ghost use Rattle.std.specs.Prelude.{◌≡◌, IfOk, IsErrAnd, IsOkAnd, MatchResult, Some, is_some, map};
-ghost use Rattle.std.specs.Prelude.{true, Bool};
+ghost use Rattle.std.specs.Prelude.{true, Bool, codes};
 ghost use Rattle.clap.specs.Words.{FailsBy, fault_of, first_of, found_of, rows_of};
 ghost use Rattle.clap.specs.Words.{subcommand_rows_of};
 ghost use Rattle.bsonwire.specs.CommandLine.{command_line};
-ghost use Rattle.bsonwire.specs.Choices.{HoldsCalls, HoldsHex, IsChosen, IsCommand};
-ghost use Rattle.bsonwire.specs.Choices.{IsMetSubcommand, HasCalls, NamesChoice, NamesCommand};
+ghost use Rattle.bsonwire.specs.Choices.{HasCalls, HoldsCalls, HoldsFlag, HoldsForm, IsChosen};
+ghost use Rattle.bsonwire.specs.Choices.{IsCommand, IsMetSubcommand, NamesChoice, NamesCommand};
+ghost use Rattle.bsonwire.specs.Choices.{is_array, is_relaxed};
 
 use crate::command_line::program;
 use clap::{ArgMatches, Error};
+use engines::{Layout, Mode};
 use std::alloc::Global;
 
 /// A command that reads an input.
 #[derive(Clone, Copy, Debug, PartialEq, Eq)]
 pub enum Command {
     /// Writes the text of each document. If `hex` is true, the input is hexadecimal text.
-    Dump { hex: bool },
+    Dump {
+        hex: bool,
+    },
     /// Says of each document whether it is in canonical form.
-    Check { hex: bool },
+    Check {
+        hex: bool,
+    },
     /// Writes the canonical form of each document.
-    Canon { hex: bool },
+    Canon {
+        hex: bool,
+    },
+    /// Writes each document as Extended JSON.
+    Json {
+        hex: bool,
+        mode: Mode,
+        layout: Layout,
+    },
+    /// Writes the document of each text, which is Extended JSON.
+    Bson,
     /// Writes the text of each message.
-    Msg { hex: bool },
+    Msg {
+        hex: bool,
+    },
     /// Runs a script, and writes what happened.
     Play,
 }
@@ -47,14 +65,38 @@ fn operand_of<'a>(matches: &ArgMatches<'a>, id: &str) -> &'a str
     }
 }
 
-/// Returns true if `--hex` was given.
-fn hex_of(matches: &ArgMatches<'_>) -> bool
-    requires { (hex : Bool) × HoldsHex hex (rows_of (found_of matches.now)) }
-    ensures { HoldsHex result (rows_of (found_of matches.now)) }
+/// Returns true if the flag of this name was given.
+fn flag_of(matches: &ArgMatches<'_>, name: &str) -> bool
+    requires { (given : Bool) × HoldsFlag name.now given (rows_of (found_of matches.now)) }
+    ensures { HoldsFlag name.now result (rows_of (found_of matches.now)) }
 {
-    match matches.get_one::<bool>("hex") {
-        Some(hex) => hex,
+    match matches.get_one::<bool>(name) {
+        Some(given) => given,
         None => unreachable!(),
+    }
+}
+
+/// Returns the form of Extended JSON.
+fn mode_of(matches: &ArgMatches<'_>) -> Mode
+    requires { (given : Bool) × HoldsFlag (codes "relaxed") given (rows_of (found_of matches.now)) }
+    ensures { HoldsFlag (codes "relaxed") (is_relaxed result) (rows_of (found_of matches.now)) }
+{
+    if flag_of(matches, "relaxed") {
+        Mode::Relaxed
+    } else {
+        Mode::Canonical
+    }
+}
+
+/// Returns how JSON values stand one after another.
+fn layout_of(matches: &ArgMatches<'_>) -> Layout
+    requires { (given : Bool) × HoldsFlag (codes "array") given (rows_of (found_of matches.now)) }
+    ensures { HoldsFlag (codes "array") (is_array result) (rows_of (found_of matches.now)) }
+{
+    if flag_of(matches, "array") {
+        Layout::Array
+    } else {
+        Layout::Lines
     }
 }
 
@@ -77,11 +119,19 @@ fn command_of(name: &str, matches: &ArgMatches<'_>) -> Command
     if name == "play" {
         return Command::Play;
     }
-    let hex = hex_of(matches);
+    if name == "bson" {
+        return Command::Bson;
+    }
+    let hex = flag_of(matches, "hex");
     match name {
         "dump" => Command::Dump { hex },
         "check" => Command::Check { hex },
         "canon" => Command::Canon { hex },
+        "json" => Command::Json {
+            hex,
+            mode: mode_of(matches),
+            layout: layout_of(matches),
+        },
         "msg" => Command::Msg { hex },
         _ => unreachable!(),
     }

@@ -3,7 +3,8 @@ ghost use Rattle.std.specs.Prelude.{◌≡◌, IfOk, codes, false};
 ghost use Rattle.clap.specs.Words.{app_of, rule_of, with_subcommand};
 ghost use Rattle.clap.specs.declared.builder.command.Command.TheViews.{out-Command};
 ghost use Rattle.bsonwire.specs.CommandLine.{calls_rule, command_line, file_app, file_line};
-ghost use Rattle.bsonwire.specs.CommandLine.{hex_rule, loop_app, operand_rule, play_app, top_app};
+ghost use Rattle.bsonwire.specs.CommandLine.{bson_app, flag_rule, json_app, json_line, loop_app};
+ghost use Rattle.bsonwire.specs.CommandLine.{operand_rule, play_app, top_app};
 
 use clap::{Arg, ArgAction, Command, value_parser};
 use command_words::VERSION;
@@ -29,14 +30,14 @@ fn calls_operand<'a>(alloc: Global) -> Arg<'a>
     operand(alloc, "calls", "N", "How many calls to make, 1 to 100").value_parser(number)
 }
 
-/// Makes the flag `--hex`.
-fn hex_flag<'a>(alloc: Global) -> Arg<'a>
-    ensures rule { rule_of result ≡ hex_rule }
+/// Makes a flag.
+fn flag<'a>(alloc: Global, name: &'a str, help: &'a str) -> Arg<'a>
+    ensures rule { rule_of result ≡ flag_rule name.entry.now }
     ensures local { result.global ≡ false }
 {
-    Arg::new(alloc, "hex")
-        .long("hex")
-        .help("Read hexadecimal text")
+    Arg::new(alloc, name)
+        .long(name)
+        .help(help)
         .action(ArgAction::SetTrue)
 }
 
@@ -53,7 +54,36 @@ fn file_command<'a>(alloc: Global, name: &'a str, about: &'a str) -> Result<Comm
             "FILE",
             "The file to read, or - for standard input",
         ))?
-        .arg(hex_flag(alloc))
+        .arg(flag(alloc, "hex", "Read hexadecimal text"))
+}
+
+/// Makes the subcommand that writes Extended JSON.
+fn json_command<'a>(alloc: Global) -> Result<Command<'a>, AllocError>
+    ensures app { IfOk result (λ c. app_of c ≡ json_app) }
+    ensures local { IfOk result (λ c. (out-Command c).has_globals ≡ false) }
+{
+    let about = "Writes each document as MongoDB Extended JSON, canonical and one a line";
+    let relaxed = "Write relaxed Extended JSON, which doesn't tell the kind of each value";
+    file_command(alloc, "json", about)?
+        .arg(flag(alloc, "relaxed", relaxed))?
+        .arg(flag(alloc, "array", "Write one array of all documents"))
+}
+
+/// Makes the subcommand that writes the documents of Extended JSON.
+fn bson_command<'a>(alloc: Global) -> Result<Command<'a>, AllocError>
+    ensures app { IfOk result (λ c. app_of c ≡ bson_app) }
+    ensures local { IfOk result (λ c. (out-Command c).has_globals ≡ false) }
+{
+    Command::new(alloc, "bson")
+        .about(
+            "Writes the documents of Extended JSON, which is one object after another or an array",
+        )
+        .arg(operand(
+            alloc,
+            "file",
+            "FILE",
+            "The file to read, or - for standard input",
+        ))
 }
 
 /// Makes the subcommand that runs a script.
@@ -134,12 +164,24 @@ fn file_commands<'a>(alloc: Global) -> Result<Command<'a>, AllocError>
     with_file_command(line, alloc, "msg", "Writes the text of each message")
 }
 
+/// Makes the command line with those that write and read Extended JSON, too.
+fn json_commands<'a>(alloc: Global) -> Result<Command<'a>, AllocError>
+    ensures app { IfOk result (λ c. app_of c ≡ json_line) }
+    ensures local { IfOk result (λ c. (out-Command c).has_globals ≡ false) }
+{
+    let line = file_commands(alloc)?;
+    let json = json_command(alloc)?;
+    let line = line.subcommand(json)?;
+    let bson = bson_command(alloc)?;
+    line.subcommand(bson)
+}
+
 /// Makes the whole command line.
 pub fn program<'a>(alloc: Global) -> Result<Command<'a>, AllocError>
     ensures app { IfOk result (λ c. app_of c ≡ command_line) }
     ensures local { IfOk result (λ c. (out-Command c).has_globals ≡ false) }
 {
-    let line = file_commands(alloc)?;
+    let line = json_commands(alloc)?;
     let play = play_command(alloc)?;
     let line = line.subcommand(play)?;
     let calls = loop_command(alloc)?;

@@ -1,18 +1,22 @@
 //! Runs what the command line asks for, and returns the exit status.
-ghost use Rattle.std.specs.Prelude.{◌≡◌, ◌≢◌, ◌⊎◌, [], List, ℕ, IfSome, false, true};
+ghost use Rattle.std.specs.Prelude.{◌≡◌, ◌≢◌, ◌⊎◌, [], List, ℕ, IfErr, IfOk, IfSome, false};
+ghost use Rattle.std.specs.Prelude.{is_some, true};
 ghost use Rattle.std.specs.Io.KnownBytes.{IsAtEnd, Keeps};
 ghost use Rattle.std.specs.List.{list_any};
 ghost use Rattle.std.specs.Str.{chars};
 ghost use Rattle.core.specs.Char.{is_control};
 ghost use Rattle.std.specs.IoError.{error_kind, raw_os_error};
-ghost use Rattle.bsonwire.specs.Choices.{CommandText, document_text, reads_first, wants_memory};
+ghost use Rattle.bsonwire.specs.Choices.{CommandText, document_rule, reads_first, wants_memory};
 ghost use Rattle.bsonwire.specs.ExitStatus.{IsStatusFor, exit_status, tells_done, tells_fault};
 ghost use Rattle.engines.specs.{AppendsFirst, AppendsText, AppendsUpTo, WritesAll, end_of_error};
 ghost use Rattle.engines.specs.{is_done, is_fault, loop_text};
 
 use crate::choice::{Choice, Command};
 use command_words::{IN_OUT, MEMORY};
-use engines::{RunEnd, end_of, run_canon, run_check, run_dump, run_loop, run_msg, run_play};
+use engines::{
+    RunEnd, TextStop, end_of, run_bson, run_canon, run_check, run_dump, run_json, run_loop,
+    run_msg, run_play,
+};
 use std::alloc::Global;
 use std::fs::OpenFile;
 use std::io::{ErrorKind, Read, Write};
@@ -148,17 +152,40 @@ fn status_over<E: Eprint, R: Read, W: Write>(
     ensures memory { result ≡ 4 → wants_memory command ≡ false →
         Keeps (W.contents writer.old) (W.contents writer.new) }
     ensures first { result ≡ 4 → reads_first command ≡ false → IfSome (R.remaining reader.old)
-        (λ input. AppendsFirst (document_text command) input
+        (λ input. AppendsFirst (document_rule command) input
         (W.contents writer.old) (W.contents writer.new)) }
 {
-    let end = run_over(alloc, command, reader, writer);
+    let end = run_over(rt, alloc, command, input, reader, writer);
     tell(rt, end, input)
 }
 
-/// Runs a command over its input, and returns how the run ended.
-fn run_over<R: Read, W: Write>(
+/// Says on standard error why `bson` wrote no more documents, if it stopped before the end of its
+/// input. Returns how the run ended.
+fn tell_stop(
+    rt: &impl Eprint,
+    ended: Result<Option<TextStop>, RunEnd>,
+    input: InputName<'_>,
+) -> RunEnd
+    ensures ok { IfOk ended (λ stop. (is_done result ≡ true) × (is_fault result ≡ is_some stop)) }
+    ensures err { IfErr ended (λ end. result ≡ end) }
+{
+    match ended {
+        Ok(None) => RunEnd::Good,
+        Ok(Some(stop)) => {
+            let _ = eprintln!(rt; "bsonwire: {input}: {stop}");
+            RunEnd::Fault
+        }
+        Err(end) => end,
+    }
+}
+
+/// Runs a command over its input, and returns how the run ended. Standard error tells a fault that
+/// standard output doesn't.
+fn run_over<E: Eprint, R: Read, W: Write>(
+    rt: &E,
     alloc: Global,
     command: Command,
+    input: InputName<'_>,
     reader: &mut R,
     writer: &mut W,
 ) -> RunEnd
@@ -171,16 +198,18 @@ fn run_over<R: Read, W: Write>(
     ensures memory { result ≡ RunEnd.Memory → wants_memory command ≡ false →
         Keeps (W.contents writer.old) (W.contents writer.new) }
     ensures unread { result ≡ RunEnd.Unread → reads_first command ≡ false →
-        WritesAll (document_text command) (R.remaining reader.old) (R.remaining reader.new)
+        WritesAll (document_rule command) (R.remaining reader.old) (R.remaining reader.new)
         (W.contents writer.old) (W.contents writer.new) }
     ensures first { result ≡ RunEnd.Memory → reads_first command ≡ false →
-        IfSome (R.remaining reader.old) (λ input. AppendsFirst (document_text command) input
+        IfSome (R.remaining reader.old) (λ input. AppendsFirst (document_rule command) input
         (W.contents writer.old) (W.contents writer.new)) }
 {
     match command {
         Command::Dump { hex } => run_dump(alloc, hex, reader, writer),
         Command::Check { hex } => run_check(alloc, hex, reader, writer),
         Command::Canon { hex } => run_canon(alloc, hex, reader, writer),
+        Command::Json { hex, mode, layout } => run_json(alloc, mode, layout, hex, reader, writer),
+        Command::Bson => tell_stop(rt, run_bson(alloc, reader, writer), input),
         Command::Msg { hex } => run_msg(alloc, hex, reader, writer),
         Command::Play => run_play(alloc, reader, writer),
     }

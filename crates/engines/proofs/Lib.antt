@@ -5,3 +5,4 @@ pub mod MessageReadings
 pub mod MessageLaws
 pub mod Rounds
 pub mod LoopLemmas
+pub mod TextsRead

@@ -14,52 +14,63 @@ use Rattle.bson_stream.specs.{IsBad, IsOpen}
 use Rattle.bson_stream.proofs.Lemmas.{fault_longer, nothing_open, open_fault}
 use Rattle.engines.specs.declared.input_fault.InputFault.TheVariants.{Bson}
 use Rattle.engines.specs.InputFault.{bson_line, input_fault_line, too_large_line}
-use Rattle.engines.specs.Documents.{AreTexts, HaveTexts, IsLast, at_document, at_end, at_fault, are_any}
+use Rattle.engines.specs.Documents.{AreTexts, HaveTexts, IsLast, TextRule, at_document, at_end, at_fault, are_any}
 
 -- ---- documents that have texts
 
-texts-joined : (text_of : Tree → Option (List ℕ)) (ts us : List Tree) (a b : List ℕ) → AreTexts text_of ts a → AreTexts text_of us b → AreTexts text_of (ts ++ us) (a ++ b)
-texts-joined text_of [] us a b none have = subst (AreTexts text_of us) (ap (λ (x : List ℕ). x ++ b) (sym none)) have
-texts-joined text_of (t ∷ ts) us a b (text, others, is, more, parts) have =
-    (text, others ++ b, is, texts-joined text_of ts us others b more have, ap (λ (x : List ℕ). x ++ b) parts ∙ append_assoc text others b)
+texts-joined : (rule : TextRule) (start behind : ℕ) (ts us : List Tree) (a b : List ℕ) → AreTexts rule start ts a → AreTexts rule behind us b → behind ≡ start + length (documents_bytes ts)
+    → AreTexts rule start (ts ++ us) (a ++ b)
+texts-joined rule start behind [] us a b none have at =
+    let same : behind ≡ start = omega (arith, at) in
+    subst (λ (n : ℕ). AreTexts rule n us (a ++ b)) same (subst (AreTexts rule behind us) (ap (λ (x : List ℕ). x ++ b) (sym none)) have)
+texts-joined rule start behind (t ∷ ts) us a b (text, others, is, more, parts) have at =
+    let next : behind ≡ (start + length (document (elements t))) + length (documents_bytes ts) = omega (arith, at, length-append (document (elements t)) (documents_bytes ts)) in (
+      text,
+      others ++ b,
+      is,
+      texts-joined rule (start + length (document (elements t))) behind ts us others b more have next,
+      ap (λ (x : List ℕ). x ++ b) parts ∙ append_assoc text others b,
+    )
 
-pub none_read : (text_of : Tree → Option (List ℕ)) (bytes : List ℕ) → HaveTexts text_of bytes [] [] bytes
-none_read text_of bytes = record { parts = refl; documents_fit = tt; texts_are = refl }
+pub none_read : (rule : TextRule) (start : ℕ) (bytes : List ℕ) → HaveTexts rule start bytes [] [] bytes
+none_read rule start bytes = record { parts = refl; documents_fit = tt; texts_are = refl }
 
 -- documents, and those of what is left
-pub read_on : (text_of : Tree → Option (List ℕ)) (bytes rest after a b : List ℕ) (ts us : List Tree) → HaveTexts text_of bytes ts a rest → HaveTexts text_of rest us b after
-    → HaveTexts text_of bytes (ts ++ us) (a ++ b) after
-read_on text_of bytes rest after a b ts us first second = record {
+pub read_on : (rule : TextRule) (start behind : ℕ) (bytes rest after a b : List ℕ) (ts us : List Tree) → HaveTexts rule start bytes ts a rest → HaveTexts rule behind rest us b after
+    → behind ≡ start + length (documents_bytes ts) → HaveTexts rule start bytes (ts ++ us) (a ++ b) after
+read_on rule start behind bytes rest after a b ts us first second at = record {
   parts = first.parts ∙ ap (λ (x : List ℕ). documents_bytes ts ++ x) second.parts ∙ sym (append_assoc (documents_bytes ts) (documents_bytes us) after)
       ∙ ap (λ (x : List ℕ). x ++ after) (sym (documents_bytes-append ts us));
   documents_fit = AreDocuments-append ts us first.documents_fit second.documents_fit;
-  texts_are = texts-joined text_of ts us a b first.texts_are second.texts_are;
+  texts_are = texts-joined rule start behind ts us a b first.texts_are second.texts_are at;
 }
 
 -- one document
-one_read : (text_of : Tree → Option (List ℕ)) (bytes b after text : List ℕ) (t : Tree) → Spells t b → bytes ≡ b ++ after → text_of t ≡ Some text → HaveTexts text_of bytes (t ∷ []) text after
-one_read text_of bytes b after text t s is shown = record {
+one_read : (rule : TextRule) (start : ℕ) (bytes b after text : List ℕ) (t : Tree) → Spells t b → bytes ≡ b ++ after → rule start t (Some text) → HaveTexts rule start bytes (t ∷ []) text after
+one_read rule start bytes b after text t s is shown = record {
   parts = is ∙ ap (λ (x : List ℕ). x ++ after) (s.parts ∙ sym (append-nil (document (elements t))));
   documents_fit = (is_document t b s, tt);
   texts_are = (text, [], shown, refl, sym (append-nil text));
 }
 
 -- one document more
-pub document_more : (text_of : Tree → Option (List ℕ)) (bytes rest texts b after text : List ℕ) (ts : List Tree) (t : Tree) → HaveTexts text_of bytes ts texts rest → Spells t b
-    → rest ≡ b ++ after → text_of t ≡ Some text → HaveTexts text_of bytes (ts ++ t ∷ []) (texts ++ text) after
-document_more text_of bytes rest texts b after text ts t have s is shown = read_on text_of bytes rest after texts text ts (t ∷ []) have (one_read text_of rest b after text t s is shown)
+pub document_more : (rule : TextRule) (start behind : ℕ) (bytes rest texts b after text : List ℕ) (ts : List Tree) (t : Tree) → HaveTexts rule start bytes ts texts rest → Spells t b
+    → rest ≡ b ++ after → rule behind t (Some text) → behind ≡ start + length (documents_bytes ts) → HaveTexts rule start bytes (ts ++ t ∷ []) (texts ++ text) after
+document_more rule start behind bytes rest texts b after text ts t have s is shown at =
+    read_on rule start behind bytes rest after texts text ts (t ∷ []) have (one_read rule behind rest b after text t s is shown) at
 
 -- more bytes came
-pub more_came : (text_of : Tree → Option (List ℕ)) (bytes rest texts more : List ℕ) (ts : List Tree) → HaveTexts text_of bytes ts texts rest → HaveTexts text_of (bytes ++ more) ts texts (rest ++ more)
-more_came text_of bytes rest texts more ts have = record {
+pub more_came : (rule : TextRule) (start : ℕ) (bytes rest texts more : List ℕ) (ts : List Tree) → HaveTexts rule start bytes ts texts rest
+    → HaveTexts rule start (bytes ++ more) ts texts (rest ++ more)
+more_came rule start bytes rest texts more ts have = record {
   parts = ap (λ (x : List ℕ). x ++ more) have.parts ∙ append_assoc (documents_bytes ts) rest more;
   documents_fit = have.documents_fit;
   texts_are = have.texts_are;
 }
 
 -- how many bytes the documents have
-pub read_so_far : (text_of : Tree → Option (List ℕ)) (bytes rest texts : List ℕ) (ts : List Tree) → HaveTexts text_of bytes ts texts rest → length bytes ≡ length (documents_bytes ts) + length rest
-read_so_far text_of bytes rest texts ts have = ap length have.parts ∙ length-append (documents_bytes ts) rest
+pub read_so_far : (rule : TextRule) (start : ℕ) (bytes rest texts : List ℕ) (ts : List Tree) → HaveTexts rule start bytes ts texts rest → length bytes ≡ length (documents_bytes ts) + length rest
+read_so_far rule start bytes rest texts ts have = ap length have.parts ∙ length-append (documents_bytes ts) rest
 
 -- there are documents where they have bytes
 pub any_there : (ts : List Tree) → nat_lt 0 (length (documents_bytes ts)) ≡ are_any ts
@@ -73,32 +84,32 @@ not_empty [] more decided = absurd (decided nothing_open)
 not_empty (x ∷ xs) more decided = λ none. absurd cc
 
 -- bad bytes stay at fault, whatever follows them
-pub stays_bad : (text_of : Tree → Option (List ℕ)) (start : ℕ) (held rest : List ℕ) (f : BsonFault) (more : List ℕ) → IsBad start held f
-    → IsLast text_of start ((held ++ rest) ++ more) (Some (input_fault_line (Bson f)))
-stays_bad text_of start held rest f more bad =
+pub stays_bad : (rule : TextRule) (start : ℕ) (held rest : List ℕ) (f : BsonFault) (more : List ℕ) → IsBad start held f
+    → IsLast rule start ((held ++ rest) ++ more) (Some (input_fault_line (Bson f)))
+stays_bad rule start held rest f more bad =
     let line : bson_line start bad.own ≡ input_fault_line (Bson f) = ap (λ (x : BsonFault). input_fault_line (Bson x)) (sym bad.told) in
-    let last : IsLast text_of start (held ++ (rest ++ more)) (Some (bson_line start bad.own)) = at_fault bad.own (not_empty held (rest ++ more) bad.decided) (fault_longer held (rest ++ more) bad.own bad.decided bad.first) in
-    subst (λ (x : List ℕ). IsLast text_of start ((held ++ rest) ++ more) (Some x)) line (subst (λ (x : List ℕ). IsLast text_of start x (Some (bson_line start bad.own))) (sym (append_assoc held rest more)) last)
+    let last : IsLast rule start (held ++ (rest ++ more)) (Some (bson_line start bad.own)) = at_fault bad.own (not_empty held (rest ++ more) bad.decided) (fault_longer held (rest ++ more) bad.own bad.decided bad.first) in
+    subst (λ (x : List ℕ). IsLast rule start ((held ++ rest) ++ more) (Some x)) line (subst (λ (x : List ℕ). IsLast rule start x (Some (bson_line start bad.own))) (sym (append_assoc held rest more)) last)
 
 -- a document without a text stays in front
-pub stays_too_large : (text_of : Tree → Option (List ℕ)) (start : ℕ) (held rest more : List ℕ) (t : Tree) → Spells t held → text_of t ≡ None
-    → IsLast text_of start ((held ++ rest) ++ more) (Some (too_large_line start))
-stays_too_large text_of start held rest more t s none = at_document t held (rest ++ more) s (append_assoc held rest more) none
+pub stays_too_large : (rule : TextRule) (start : ℕ) (held rest more : List ℕ) (t : Tree) → Spells t held → rule start t None
+    → IsLast rule start ((held ++ rest) ++ more) (Some (too_large_line start))
+stays_too_large rule start held rest more t s none = at_document t held (rest ++ more) s (append_assoc held rest more) none
 
 -- the last line of bytes that more bytes would decide
-pub ends_open : (text_of : Tree → Option (List ℕ)) (start : ℕ) (held : List ℕ) → IsOpen held → held ≢ [] → IsLast text_of start held (Some (bson_line start (fault 0 Truncated)))
-ends_open text_of start held wants some = at_fault (fault 0 Truncated) some (open_fault held wants)
+pub ends_open : (rule : TextRule) (start : ℕ) (held : List ℕ) → IsOpen held → held ≢ [] → IsLast rule start held (Some (bson_line start (fault 0 Truncated)))
+ends_open rule start held wants some = at_fault (fault 0 Truncated) some (open_fault held wants)
 
-pub ends_somehow : (text_of : Tree → Option (List ℕ)) (start : ℕ) (held : List ℕ) → IsOpen held → (last : Option (List ℕ)) × IsLast text_of start held last
-ends_somehow text_of start [] wants = (None, at_end)
-ends_somehow text_of start (x ∷ xs) wants = (Some (bson_line start (fault 0 Truncated)), ends_open text_of start (x ∷ xs) wants (λ none. absurd cc))
+pub ends_somehow : (rule : TextRule) (start : ℕ) (held : List ℕ) → IsOpen held → (last : Option (List ℕ)) × IsLast rule start held last
+ends_somehow rule start [] wants = (None, at_end)
+ends_somehow rule start (x ∷ xs) wants = (Some (bson_line start (fault 0 Truncated)), ends_open rule start (x ∷ xs) wants (λ none. absurd cc))
 
-pub ends_without : (text_of : Tree → Option (List ℕ)) (start : ℕ) (held : List ℕ) → (held ≢ [] → ⊥) → IsLast text_of start held None
-ends_without text_of start [] none = at_end
-ends_without text_of start (x ∷ xs) none = absurd (none (λ e. absurd cc))
+pub ends_without : (rule : TextRule) (start : ℕ) (held : List ℕ) → (held ≢ [] → ⊥) → IsLast rule start held None
+ends_without rule start [] none = at_end
+ends_without rule start (x ∷ xs) none = absurd (none (λ e. absurd cc))
 
-pub ends_with : (text_of : Tree → Option (List ℕ)) (start : ℕ) (held : List ℕ) (f : BsonFault) → IsOpen held → held ≢ [] → f ≡ fault start Truncated → IsLast text_of start held (Some (input_fault_line (Bson f)))
-ends_with text_of start held f wants some is =
+pub ends_with : (rule : TextRule) (start : ℕ) (held : List ℕ) (f : BsonFault) → IsOpen held → held ≢ [] → f ≡ fault start Truncated → IsLast rule start held (Some (input_fault_line (Bson f)))
+ends_with rule start held f wants some is =
     let zero : start + 0 ≡ start = omega arith in
     let line : bson_line start (fault 0 Truncated) ≡ input_fault_line (Bson f) = ap (λ (n : ℕ). input_fault_line (Bson (fault n Truncated))) zero ∙ ap (λ (x : BsonFault). input_fault_line (Bson x)) (sym is) in
-    subst (λ (x : List ℕ). IsLast text_of start held (Some x)) line (ends_open text_of start held wants some)
+    subst (λ (x : List ℕ). IsLast rule start held (Some x)) line (ends_open rule start held wants some)

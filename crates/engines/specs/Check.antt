@@ -4,7 +4,7 @@ use Rattle.std.specs.Fmt.{decimal}
 use Rattle.bson_elem.specs.{Tree}
 use Rattle.bson_raw.specs.{is_plain}
 use Rattle.bson_text.specs.{document_size}
-use Rattle.engines.specs.Documents.{IsWholeText, nothing}
+use Rattle.engines.specs.Documents.{IsWholeText, nothing, told_by}
 
 -- the end of a document's line, by whether it is in canonical form
 abbrev pub form_word : Bool → List ℕ
@@ -24,4 +24,4 @@ check_of t = Some (check_line t)
 
 -- what `check` writes for bytes, and whether it ends with a fault line
 abbrev pub CheckText : List ℕ → List ℕ → Bool → Type 0
-CheckText = IsWholeText check_of nothing
+CheckText = IsWholeText (told_by check_of) nothing

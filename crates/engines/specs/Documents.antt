@@ -1,37 +1,48 @@
 -- What a command makes of documents back to back.
-use Rattle.std.specs.Prelude.{◌≡◌, ◌≢◌, ℕ, List, [], ◌∷◌, ◌++◌, length, Bool, true, false}
+use Rattle.std.specs.Prelude.{◌≡◌, ◌≢◌, ℕ, ◌+◌, List, [], ◌∷◌, ◌++◌, length, Bool, true, false}
 use Rattle.std.specs.Prelude.{Option, None, Some}
 use Rattle.std.specs.Io.KnownBytes.{Appends, Consumes}
 use Rattle.bson_elem.specs.declared.fault.BsonFault.{BsonFault}
-use Rattle.bson_elem.specs.{FrontFault, Spells, Tree}
+use Rattle.bson_elem.specs.{FrontFault, Spells, Tree, document, elements}
 use Rattle.bson_raw.specs.{AreDocuments, documents_bytes}
 use Rattle.engines.specs.InputFault.{bson_line, too_large_line}
 
+-- ---- what a command writes for a document
+
+-- Whether this may be what is written for a document that begins at this offset: a text, or none.
+abbrev pub TextRule : Type 1
+TextRule = ℕ → Tree → Option (List ℕ) → Type 0
+
+-- what a function of the document alone tells
+abbrev pub told_by : (Tree → Option (List ℕ)) → TextRule
+told_by text_of start t shown = text_of t ≡ shown
+
 -- ---- the documents of the input, where a document may have no text
 
--- Each of the documents has a text, and these are the texts, joined.
-abbrev pub AreTexts : (Tree → Option (List ℕ)) → List Tree → List ℕ → Type 0
-AreTexts text_of [] texts = texts ≡ []
-AreTexts text_of (t ∷ ts) texts =
-    (text : List ℕ) × (others : List ℕ) × (text_of t ≡ Some text) × AreTexts text_of ts others
-    × (texts ≡ text ++ others)
+-- Each of the documents, of which the first begins at this offset, has a text, and these are the
+-- texts, joined.
+abbrev pub AreTexts : TextRule → ℕ → List Tree → List ℕ → Type 0
+AreTexts rule start [] texts = texts ≡ []
+AreTexts rule start (t ∷ ts) texts =
+    (text : List ℕ) × (others : List ℕ) × rule start t (Some text)
+    × AreTexts rule (start + length (document (elements t))) ts others × (texts ≡ text ++ others)
 
--- The bytes are documents that have these texts, joined, and a rest.
-pub record HaveTexts (text_of : Tree → Option (List ℕ)) (bytes : List ℕ) (documents : List Tree)
+-- The bytes, which begin at this offset, are documents that have these texts, joined, and a rest.
+pub record HaveTexts (rule : TextRule) (start : ℕ) (bytes : List ℕ) (documents : List Tree)
     (texts rest : List ℕ) : Type 0 where
   pub parts : bytes ≡ documents_bytes documents ++ rest
   pub documents_fit : AreDocuments documents
-  pub texts_are : AreTexts text_of documents texts
+  pub texts_are : AreTexts rule start documents texts
 
 -- The last line for a rest that begins at this offset: none where the rest is empty; that of the
 -- document at its front, where this one has no text; and else that of the rest's fault.
-pub data IsLast (text_of : Tree → Option (List ℕ)) (start : ℕ) :
+pub data IsLast (rule : TextRule) (start : ℕ) :
     List ℕ → Option (List ℕ) → Type 0 where
-  at_end : IsLast text_of start [] None
+  at_end : IsLast rule start [] None
   at_document : {rest : List ℕ} (t : Tree) (b after : List ℕ) → Spells t b → rest ≡ b ++ after
-      → text_of t ≡ None → IsLast text_of start rest (Some (too_large_line start))
+      → rule start t None → IsLast rule start rest (Some (too_large_line start))
   at_fault : {rest : List ℕ} (f : BsonFault) → rest ≢ [] → FrontFault rest f
-      → IsLast text_of start rest (Some (bson_line start f))
+      → IsLast rule start rest (Some (bson_line start f))
 
 -- ---- the text of the input
 
@@ -52,12 +63,12 @@ are_any (t ∷ ts) = true
 
 -- The whole text of bytes, and whether it ends with a fault line: the texts of the documents up to
 -- the first without one, what follows them all, by whether there are any, and the last line.
-abbrev pub IsWholeText : (Tree → Option (List ℕ)) → (Bool → List ℕ) → List ℕ → List ℕ → Bool
+abbrev pub IsWholeText : TextRule → (Bool → List ℕ) → List ℕ → List ℕ → Bool
     → Type 0
-IsWholeText text_of closing bytes text fault =
+IsWholeText rule closing bytes text fault =
     (documents : List Tree) × (texts : List ℕ) × (rest : List ℕ) × (last : Option (List ℕ))
-    × HaveTexts text_of bytes documents texts rest
-    × IsLast text_of (length (documents_bytes documents)) rest last
+    × HaveTexts rule 0 bytes documents texts rest
+    × IsLast rule (length (documents_bytes documents)) rest last
     × (text ≡ texts ++ (closing (are_any documents) ++ or_nothing last)) × (fault ≡ is_there last)
 
 -- nothing follows the texts
@@ -67,22 +78,22 @@ nothing any = []
 -- ---- where an input isn't read to its end
 
 -- Known bytes grow by the texts of the first few documents in some bytes.
-abbrev pub AppendsFirst : (Tree → Option (List ℕ)) → List ℕ → Option (List ℕ) → Option (List ℕ)
+abbrev pub AppendsFirst : TextRule → List ℕ → Option (List ℕ) → Option (List ℕ)
     → Type 0
-AppendsFirst text_of bytes old new =
+AppendsFirst rule bytes old new =
     (documents : List Tree) × (texts : List ℕ) × (rest : List ℕ)
-    × HaveTexts text_of bytes documents texts rest × Appends old new texts
+    × HaveTexts rule 0 bytes documents texts rest × Appends old new texts
 
 -- Known bytes grow by the texts of all documents in some bytes, up to the first without one.
-abbrev pub AppendsAll : (Tree → Option (List ℕ)) → List ℕ → Option (List ℕ) → Option (List ℕ)
+abbrev pub AppendsAll : TextRule → List ℕ → Option (List ℕ) → Option (List ℕ)
     → Type 0
-AppendsAll text_of bytes old new =
+AppendsAll rule bytes old new =
     (documents : List Tree) × (texts : List ℕ) × (rest : List ℕ) × (last : Option (List ℕ))
-    × HaveTexts text_of bytes documents texts rest
-    × IsLast text_of (length (documents_bytes documents)) rest last × Appends old new texts
+    × HaveTexts rule 0 bytes documents texts rest
+    × IsLast rule (length (documents_bytes documents)) rest last × Appends old new texts
 
 -- Bytes were read, and the texts of all documents in them were written.
-abbrev pub WritesAll : (Tree → Option (List ℕ)) → Option (List ℕ) → Option (List ℕ)
+abbrev pub WritesAll : TextRule → Option (List ℕ) → Option (List ℕ)
     → Option (List ℕ) → Option (List ℕ) → Type 0
-WritesAll text_of from to old new =
-    (read : List ℕ) × Consumes from to read × AppendsAll text_of read old new
+WritesAll rule from to old new =
+    (read : List ℕ) × Consumes from to read × AppendsAll rule read old new

@@ -9,16 +9,20 @@ pub mod Documents
 pub mod Source
 pub mod Walk
 pub mod Check
+pub mod BsonOf
 pub mod Canon
+pub mod Json
 pub mod Msg
 pub mod Calling
 pub mod Loopback
 pub mod Play
 -- the words that clauses of other crates cite
+pub use Rattle.engines.specs.BsonOf.{BsonText, IsAnything, StopsAt, WritesTexts}
 pub use Rattle.engines.specs.Canon.{CanonText, canon_of}
 pub use Rattle.engines.specs.Check.{CheckText, check_of}
-pub use Rattle.engines.specs.Documents.{AppendsFirst, WritesAll}
+pub use Rattle.engines.specs.Documents.{AppendsFirst, TextRule, WritesAll, told_by}
 pub use Rattle.engines.specs.Dump.{DumpText, dump_of}
+pub use Rattle.engines.specs.Json.{JsonText, MayBeJson}
 pub use Rattle.engines.specs.Loopback.{AppendsUpTo, HaveRun, HaveTold, loop_text}
 pub use Rattle.engines.specs.Msg.{MsgText}
 pub use Rattle.engines.specs.Output.{AppendsText, IsOutput}

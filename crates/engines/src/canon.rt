@@ -4,7 +4,7 @@ ghost use Rattle.std.specs.Prelude.{◌≡◌, ◌⊎◌, ◌≤◌, ◌<◌, �
 ghost use Rattle.std.specs.Prelude.{if◌then◌else◌, length, nat_lt, true};
 ghost use Rattle.std.specs.Io.KnownBytes.{IsAtEnd, Keeps};
 ghost use Rattle.engines.specs.Canon.{CanonText, behind_forms, canon_of, in_form};
-ghost use Rattle.engines.specs.Documents.{AppendsFirst, WritesAll};
+ghost use Rattle.engines.specs.Documents.{AppendsFirst, WritesAll, told_by};
 ghost use Rattle.engines.specs.Input.{bytes_of};
 ghost use Rattle.engines.specs.Output.{AppendsText, IsOutput};
 ghost use Rattle.engines.specs.Run.{is_done, is_fault};
@@ -36,8 +36,8 @@ impl Canon {
     /// Writes `bytes`, the canonical form of a document, unless they are more than the limit.
     fn write_bytes<W: Write>(&self, bytes: &[u8], out: &mut W) -> io::Result<Written>
         ensures { IfOk result (λ written. IsWritten
-            (if nat_lt self.now.limit (length bytes.now) then None
-            else Some (in_form self.now.hex bytes.now)) written
+            (λ shown. (if nat_lt self.now.limit (length bytes.now) then None
+            else Some (in_form self.now.hex bytes.now)) ≡ shown) written
             (W.contents out.old) (W.contents out.new)) }
     {
         if bytes.len() > self.limit {
@@ -53,13 +53,14 @@ impl Canon {
 }
 
 impl EachDocument for Canon {
-    ghost text_of = { λ c. canon_of c.limit c.hex };
+    ghost rule = { λ c. told_by (canon_of c.limit c.hex) };
 
     ghost closing = { λ c. behind_forms c.hex };
 
     fn write_document<W: Write>(
         &self,
         document: RawDocument<'_>,
+        _start: usize,
         canonical: bool,
         out: &mut W,
     ) -> io::Result<Written> {
@@ -93,13 +94,15 @@ pub fn run_canon<R: Read, W: Write>(
     ensures written { IfSome (R.remaining reader.old) (λ input. is_done result ≡ true →
         AppendsText (IsOutput (CanonText MAX_LEN hex) hex input) (is_fault result)
         (W.contents writer.old) (W.contents writer.new)) }
-    ensures unread { hex ≡ false → result ≡ RunEnd.Unread → WritesAll (canon_of MAX_LEN hex)
+    ensures unread { hex ≡ false → result ≡ RunEnd.Unread
+        → WritesAll (told_by (canon_of MAX_LEN hex))
         (R.remaining reader.old) (R.remaining reader.new)
         (W.contents writer.old) (W.contents writer.new) }
     ensures late { hex ≡ true → (IsAtEnd (R.remaining reader.new)) ⊎
         Keeps (W.contents writer.old) (W.contents writer.new) }
     ensures memory { result ≡ RunEnd.Memory → IfSome (R.remaining reader.old)
-        (λ input. IfOk (bytes_of hex input) (λ bytes. AppendsFirst (canon_of MAX_LEN hex) bytes
+        (λ input. IfOk (bytes_of hex input) (λ bytes.
+        AppendsFirst (told_by (canon_of MAX_LEN hex)) bytes
         (W.contents writer.old) (W.contents writer.new))) }
 {
     run_canon_within(alloc, MAX_LEN, hex, reader, writer)
@@ -118,13 +121,14 @@ pub fn run_canon_within<R: Read, W: Write>(
     ensures written { IfSome (R.remaining reader.old) (λ input. is_done result ≡ true →
         AppendsText (IsOutput (CanonText limit hex) hex input) (is_fault result)
         (W.contents writer.old) (W.contents writer.new)) }
-    ensures unread { hex ≡ false → result ≡ RunEnd.Unread → WritesAll (canon_of limit hex)
+    ensures unread { hex ≡ false → result ≡ RunEnd.Unread → WritesAll (told_by (canon_of limit hex))
         (R.remaining reader.old) (R.remaining reader.new)
         (W.contents writer.old) (W.contents writer.new) }
     ensures late { hex ≡ true → (IsAtEnd (R.remaining reader.new)) ⊎
         Keeps (W.contents writer.old) (W.contents writer.new) }
     ensures memory { result ≡ RunEnd.Memory → IfSome (R.remaining reader.old)
-        (λ input. IfOk (bytes_of hex input) (λ bytes. AppendsFirst (canon_of limit hex) bytes
+        (λ input. IfOk (bytes_of hex input) (λ bytes.
+        AppendsFirst (told_by (canon_of limit hex)) bytes
         (W.contents writer.old) (W.contents writer.new))) }
 {
     let canon = Canon { alloc, hex, limit };

@@ -3,7 +3,7 @@
 ghost use Rattle.std.specs.Prelude.{◌≡◌, ◌⊎◌, IfOk, IfSome, OnOk, false, true};
 ghost use Rattle.std.specs.Io.KnownBytes.{Appends, IsAtEnd, Keeps};
 ghost use Rattle.engines.specs.Check.{CheckText, check_of, form_word, sized_line};
-ghost use Rattle.engines.specs.Documents.{AppendsFirst, WritesAll, nothing};
+ghost use Rattle.engines.specs.Documents.{AppendsFirst, WritesAll, nothing, told_by};
 ghost use Rattle.engines.specs.Input.{bytes_of};
 ghost use Rattle.engines.specs.Output.{AppendsText, IsOutput};
 ghost use Rattle.engines.specs.Run.{is_done, is_fault};
@@ -42,13 +42,14 @@ fn write_check_line<W: Write>(size: usize, canonical: bool, out: &mut W) -> io::
 }
 
 impl EachDocument for Check {
-    ghost text_of = { λ _. check_of };
+    ghost rule = { λ _. told_by check_of };
 
     ghost closing = { λ _. nothing };
 
     fn write_document<W: Write>(
         &self,
         document: RawDocument<'_>,
+        _start: usize,
         canonical: bool,
         out: &mut W,
     ) -> io::Result<Written> {
@@ -73,13 +74,13 @@ pub fn run_check<R: Read, W: Write>(
     ensures written { IfSome (R.remaining reader.old) (λ input. is_done result ≡ true →
         AppendsText (IsOutput CheckText hex input) (is_fault result)
         (W.contents writer.old) (W.contents writer.new)) }
-    ensures unread { hex ≡ false → result ≡ RunEnd.Unread → WritesAll check_of
+    ensures unread { hex ≡ false → result ≡ RunEnd.Unread → WritesAll (told_by check_of)
         (R.remaining reader.old) (R.remaining reader.new)
         (W.contents writer.old) (W.contents writer.new) }
     ensures late { hex ≡ true → (IsAtEnd (R.remaining reader.new)) ⊎
         Keeps (W.contents writer.old) (W.contents writer.new) }
     ensures memory { result ≡ RunEnd.Memory → IfSome (R.remaining reader.old)
-        (λ input. IfOk (bytes_of hex input) (λ bytes. AppendsFirst check_of bytes
+        (λ input. IfOk (bytes_of hex input) (λ bytes. AppendsFirst (told_by check_of) bytes
         (W.contents writer.old) (W.contents writer.new))) }
 {
     run_documents(alloc, &Check, hex, reader, writer)

@@ -6,7 +6,7 @@ ghost use Rattle.std.specs.Io.KnownBytes.{Appends};
 ghost use Rattle.bson_elem.specs.{Spells, Tree};
 ghost use Rattle.bson_raw.specs.{document_bytes, is_plain};
 ghost use Rattle.bson_stream.specs.{IsOpen};
-ghost use Rattle.engines.specs.Documents.{is_there, or_nothing};
+ghost use Rattle.engines.specs.Documents.{TextRule, is_there, or_nothing};
 ghost use Rattle.engines.specs.InputFault.{line_of};
 ghost use Rattle.engines.specs.Walk.{IsWritten, Walks};
 
@@ -30,23 +30,24 @@ pub enum Written {
 
 /// What a command writes for documents.
 pub trait EachDocument {
-    // The text of a document, if it has one.
-    ghost text_of: { Self → Tree → Option (List ℕ) };
+    // What is written for a document.
+    ghost rule: { Self → TextRule };
     // What follows the texts of all documents, by whether there are any.
     ghost closing: { Self → Bool → List ℕ };
 
-    /// Writes the text of `document`, where `canonical` says whether it is in canonical form. Errs
-    /// if the writer does.
+    /// Writes the text of `document`, which begins at offset `start` of the input. `canonical` says
+    /// whether it is in canonical form. Errs if the writer does.
     fn write_document<W: Write>(
         &self,
         document: RawDocument<'_>,
+        start: usize,
         canonical: bool,
         out: &mut W,
     ) -> io::Result<Written>
         requires { (t : Tree) → Spells t (document_bytes document)
             → canonical ≡ is_plain false 0 t }
         ensures { (t : Tree) → Spells t (document_bytes document.entry) → IfOk result
-            (λ written. IsWritten (text_of self.now t) written
+            (λ written. IsWritten (rule self.now start t) written
             (W.contents out.old) (W.contents out.new)) };
 
     /// Writes what follows the texts of all documents. `any` says whether there are any.
@@ -75,7 +76,7 @@ pub fn write_piece<E: EachDocument, W: Write>(
 ) -> io::Result<Option<Stop>>
     requires { IsOpen documents.old.held }
     ensures { IfOk result (λ stop.
-        Walks (E.text_of each.now) documents.old piece.now documents.new stop
+        Walks (E.rule each.now) documents.old piece.now documents.new stop
         (W.contents out.old) (W.contents out.new)) }
 {
     let mut rest = piece;
@@ -91,13 +92,13 @@ pub fn write_piece<E: EachDocument, W: Write>(
             ReaderState::Ready { canonical } => canonical,
             ReaderState::Bad(fault) => return Ok(Some(Stop::Fault(InputFault::Bson(fault)))),
         };
+        let offset = documents.start();
         let Some(document) = documents.document() else {
             unreachable!()
         };
-        match each.write_document(document, canonical, out)? {
+        match each.write_document(document, offset, canonical, out)? {
             Written::Whole => documents.release(),
             Written::TooLarge => {
-                let offset = documents.start();
                 return Ok(Some(Stop::Fault(InputFault::TooLarge { offset })));
             }
             Written::OutOfMemory => return Ok(Some(Stop::OutOfMemory)),

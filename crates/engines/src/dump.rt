@@ -2,7 +2,7 @@
 
 ghost use Rattle.std.specs.Prelude.{◌≡◌, ◌⊎◌, IfOk, IfSome, false, true};
 ghost use Rattle.std.specs.Io.KnownBytes.{IsAtEnd, Keeps};
-ghost use Rattle.engines.specs.Documents.{AppendsFirst, WritesAll, nothing};
+ghost use Rattle.engines.specs.Documents.{AppendsFirst, WritesAll, nothing, told_by};
 ghost use Rattle.engines.specs.Dump.{DumpText, dump_of};
 ghost use Rattle.engines.specs.Input.{bytes_of};
 ghost use Rattle.engines.specs.Output.{AppendsText, IsOutput};
@@ -21,13 +21,14 @@ use std::io::{Read, Write};
 struct Dump;
 
 impl EachDocument for Dump {
-    ghost text_of = { λ _. dump_of };
+    ghost rule = { λ _. told_by dump_of };
 
     ghost closing = { λ _. nothing };
 
     fn write_document<W: Write>(
         &self,
         document: RawDocument<'_>,
+        _start: usize,
         _canonical: bool,
         out: &mut W,
     ) -> io::Result<Written> {
@@ -51,13 +52,13 @@ pub fn run_dump<R: Read, W: Write>(
     ensures written { IfSome (R.remaining reader.old) (λ input. is_done result ≡ true →
         AppendsText (IsOutput DumpText hex input) (is_fault result)
         (W.contents writer.old) (W.contents writer.new)) }
-    ensures unread { hex ≡ false → result ≡ RunEnd.Unread → WritesAll dump_of
+    ensures unread { hex ≡ false → result ≡ RunEnd.Unread → WritesAll (told_by dump_of)
         (R.remaining reader.old) (R.remaining reader.new)
         (W.contents writer.old) (W.contents writer.new) }
     ensures late { hex ≡ true → (IsAtEnd (R.remaining reader.new)) ⊎
         Keeps (W.contents writer.old) (W.contents writer.new) }
     ensures memory { result ≡ RunEnd.Memory → IfSome (R.remaining reader.old)
-        (λ input. IfOk (bytes_of hex input) (λ bytes. AppendsFirst dump_of bytes
+        (λ input. IfOk (bytes_of hex input) (λ bytes. AppendsFirst (told_by dump_of) bytes
         (W.contents writer.old) (W.contents writer.new))) }
 {
     run_documents(alloc, &Dump, hex, reader, writer)

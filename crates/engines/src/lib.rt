@@ -1,17 +1,19 @@
 //! The commands of the program `bsonwire`, each a function over a writer, and all but `loop` over a
 //! reader.
 //!
-//! `run_dump`, `run_check` and `run_canon` read documents piece by piece, and write as these come.
-//! `run_msg` and `run_play` read all that the reader has before they write. Each writes one text for
-//! its input, and tells how that ended. Documents or messages stand back to back in the input, as
-//! bytes or as hexadecimal text, which is read whole; the input of `run_play` is a script of events.
-//! A fault in the input is told by the last line of the text. `run_loop` reads nothing: it makes
-//! calls over a connection of the program with itself.
+//! `run_dump`, `run_check`, `run_canon` and `run_json` read documents piece by piece, and write as
+//! these come. `run_bson`, `run_msg` and `run_play` read all that the reader has before they write.
+//! Each writes one text for its input, and tells how that ended. Documents or messages stand back
+//! to back in the input, as bytes or as hexadecimal text, which is read whole; the input of
+//! `run_bson` is Extended JSON, and that of `run_play` a script of events. A fault in the input is
+//! told by the last line of the text, and by `run_bson` in what it returns. `run_loop` reads
+//! nothing: it makes calls over a connection of the program with itself.
 //!
-//! Stands on bson_doc, bson_stream, wire_msg, wire_end and wire_play. bsonwire stands on it. Read
-//! first: `documents`, `pieces`, and then `dump`.
+//! Stands on bson_json_read, bson_stream, wire_msg, wire_end and wire_play. bsonwire stands on it.
+//! Read first: `documents`, `pieces`, and then `dump`.
 #![tactic(auto)]
 
+mod bson;
 mod buffered;
 mod canon;
 mod check;
@@ -20,6 +22,7 @@ mod dump;
 mod fault_line;
 mod hex_input;
 mod input_fault;
+mod json;
 pub mod laws;
 mod loop_call;
 mod loopback;
@@ -30,10 +33,13 @@ mod play;
 mod run;
 mod source;
 
+pub use bson::{TextStop, run_bson};
+pub use bson_json::Mode;
 pub use canon::{run_canon, run_canon_within};
 pub use check::run_check;
 pub use dump::run_dump;
 pub use fault_line::write_fault;
+pub use json::{Layout, run_json};
 pub use loopback::run_loop;
 pub use msg::run_msg;
 pub use play::run_play;

@@ -65,7 +65,7 @@ fn pass_through<E: EachDocument, W: Write>(
     job: Job<'_, E>,
 ) -> (W, (Between, io::Result<Option<Stop>>))
     requires { IsOpen job.before.documents.held }
-    ensures { IfOk result.1.1 (λ stop. Walks (E.text_of job.entry.each.now)
+    ensures { IfOk result.1.1 (λ stop. Walks (E.rule job.entry.each.now)
         job.entry.before.documents job.entry.piece.now result.1.0.documents stop
         (append_known (W.contents writer) job.entry.before.text.items)
         (append_known (W.contents result.0) result.1.0.text.items)) }
@@ -94,7 +94,7 @@ fn pass_piece<E: EachDocument, W: Write>(
     writer: &mut W,
 ) -> (Between, io::Result<Option<Stop>>)
     requires { IsOpen before.documents.held }
-    ensures { IfOk result.1 (λ stop. Walks (E.text_of each.now)
+    ensures { IfOk result.1 (λ stop. Walks (E.rule each.now)
         before.documents piece.now result.0.documents stop
         (append_known (W.contents writer.old) before.text.items)
         (append_known (W.contents writer.new) result.0.text.items)) }
@@ -129,10 +129,9 @@ fn read_piece<R: Read>(
 }
 
 /// Returns how an input ended that was read to its end, behind the bytes that `documents` holds.
-fn ending_of(documents: &DocumentReader) -> Ending
+fn ending_of<E: EachDocument>(each: &E, documents: &DocumentReader) -> Ending
     requires { IsOpen documents.now.held }
-    ensures { (text_of : Tree → Option (List ℕ))
-        → IsEnding text_of documents.now.start documents.now.held result }
+    ensures { IsEnding (E.rule each.now) documents.now.start documents.now.held result }
 {
     match documents.end() {
         Ok(()) => Ending::Whole(None),
@@ -141,15 +140,20 @@ fn ending_of(documents: &DocumentReader) -> Ending
 }
 
 /// Reads the rest of an input that has this fault. Returns how the input ended.
-fn ending_at<R: Read>(fault: InputFault, reader: &mut R, room: &mut [u8]) -> Ending
+fn ending_at<E: EachDocument, R: Read>(
+    each: &E,
+    fault: InputFault,
+    reader: &mut R,
+    room: &mut [u8],
+) -> Ending
     requires { 0 < length room.old }
     ensures read { (more : List ℕ)
         × Consumes (R.remaining reader.old) (R.remaining reader.new) more }
     ensures whole { (last : Option InputFault) → result ≡ Ending.Whole last
         → IsAtEnd (R.remaining reader.new) }
-    ensures ending { (text_of : Tree → Option (List ℕ)) (start : ℕ) (rest : List ℕ)
-        → IsLast text_of start rest (Some (input_fault_line fault))
-        → IsEnding text_of start rest result }
+    ensures ending { (start : ℕ) (rest : List ℕ)
+        → IsLast (E.rule each.now) start rest (Some (input_fault_line fault))
+        → IsEnding (E.rule each.now) start rest result }
 {
     match read_rest(reader, room) {
         Ok(()) => Ending::Whole(Some(fault)),
@@ -174,21 +178,21 @@ fn write_pieces<E: EachDocument, R: Read, W: Write>(
         → IsAtEnd (R.remaining reader.new)) }
     ensures written { IfOk result (λ r. (read : List ℕ)
         × Consumes (R.remaining reader.old) (R.remaining reader.new) read
-        × Ends (E.text_of each.now) read r.1.documents r.0
+        × Ends (E.rule each.now) read r.1.documents r.0
         (append_known (W.contents writer.old) between.text.items)
         (append_known (W.contents writer.new) r.1.text.items)) }
 {
     for _ in 0..u64::MAX {
         let n = match read_piece(&between.documents, reader, room) {
             Ok(Some(n)) => n,
-            Ok(None) => return Ok((ending_of(&between.documents), between)),
+            Ok(None) => return Ok((ending_of(each, &between.documents), between)),
             Err(end) => return Ok((Ending::Cut(end), between)),
         };
         let (after, stop) = pass_piece(each, between, &room[..n], writer);
         between = after;
         match stop? {
             None => {}
-            Some(Stop::Fault(fault)) => return Ok((ending_at(fault, reader, room), between)),
+            Some(Stop::Fault(fault)) => return Ok((ending_at(each, fault, reader, room), between)),
             Some(Stop::OutOfMemory) => return Ok((Ending::Cut(RunEnd::Memory), between)),
         }
     }
@@ -261,13 +265,13 @@ fn run_pieces<E: EachDocument, R: Read, W: Write>(
 ) -> RunEnd
     ensures read { is_done result ≡ true → IsAtEnd (R.remaining reader.new) }
     ensures written { IfSome (R.remaining reader.old) (λ input. is_done result ≡ true →
-        AppendsText (IsWholeText (E.text_of each.now) (E.closing each.now) input) (is_fault result)
+        AppendsText (IsWholeText (E.rule each.now) (E.closing each.now) input) (is_fault result)
         (W.contents writer.old) (W.contents writer.new)) }
-    ensures unread { result ≡ RunEnd.Unread → WritesAll (E.text_of each.now)
+    ensures unread { result ≡ RunEnd.Unread → WritesAll (E.rule each.now)
         (R.remaining reader.old) (R.remaining reader.new)
         (W.contents writer.old) (W.contents writer.new) }
     ensures memory { result ≡ RunEnd.Memory → IfSome (R.remaining reader.old) (λ input.
-        AppendsFirst (E.text_of each.now) input (W.contents writer.old) (W.contents writer.new)) }
+        AppendsFirst (E.rule each.now) input (W.contents writer.old) (W.contents writer.new)) }
 {
     let Ok(text) = Vec::with_capacity(alloc, BUFFER) else {
         return RunEnd::Memory;
@@ -322,15 +326,15 @@ pub fn run_documents<E: EachDocument, R: Read, W: Write>(
 ) -> RunEnd
     ensures read { is_done result ≡ true → IsAtEnd (R.remaining reader.new) }
     ensures written { IfSome (R.remaining reader.old) (λ input. is_done result ≡ true →
-        AppendsText (IsOutput (IsWholeText (E.text_of each.now) (E.closing each.now)) hex input)
+        AppendsText (IsOutput (IsWholeText (E.rule each.now) (E.closing each.now)) hex input)
         (is_fault result) (W.contents writer.old) (W.contents writer.new)) }
-    ensures unread { hex ≡ false → result ≡ RunEnd.Unread → WritesAll (E.text_of each.now)
+    ensures unread { hex ≡ false → result ≡ RunEnd.Unread → WritesAll (E.rule each.now)
         (R.remaining reader.old) (R.remaining reader.new)
         (W.contents writer.old) (W.contents writer.new) }
     ensures late { hex ≡ true → (IsAtEnd (R.remaining reader.new)) ⊎
         Keeps (W.contents writer.old) (W.contents writer.new) }
     ensures memory { result ≡ RunEnd.Memory → IfSome (R.remaining reader.old)
-        (λ input. IfOk (bytes_of hex input) (λ bytes. AppendsFirst (E.text_of each.now) bytes
+        (λ input. IfOk (bytes_of hex input) (λ bytes. AppendsFirst (E.rule each.now) bytes
         (W.contents writer.old) (W.contents writer.new))) }
 {
     if !hex {

@@ -105,7 +105,7 @@ pub fn read_input<R: Read>(alloc: Global, hex: bool, reader: &mut R) -> Result<I
 }
 
 /// Reads the whole input. Errs with the end of the run.
-fn read_whole<R: Read>(alloc: Global, reader: &mut R) -> Result<Vec<u8>, RunEnd>
+pub fn read_whole<R: Read>(alloc: Global, reader: &mut R) -> Result<Vec<u8>, RunEnd>
     ensures bytes { IfOk result (λ v. IfSome (R.remaining reader.old) (λ all. v.items ≡ all)) }
     ensures read { OnOk result (IsAtEnd (R.remaining reader.new)) }
     ensures cut { IfErr result (λ end. is_done end ≡ false) }

@@ -5,6 +5,8 @@
 #![tactic(auto)]
 
 #[cfg(test)]
+mod bson;
+#[cfg(test)]
 mod calls;
 #[cfg(test)]
 mod canon;
@@ -16,6 +18,8 @@ mod dump;
 mod engine_refusals;
 #[cfg(test)]
 mod fault_line;
+#[cfg(test)]
+mod json;
 #[cfg(test)]
 mod msg;
 #[cfg(test)]

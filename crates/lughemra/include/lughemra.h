@@ -1,20 +1,22 @@
-/* Lughemra for C: checks of BSON 1.1 documents and of MongoDB's OP_MSG, over bytes that the caller holds.
+/* Lughemra for C: checks of BSON 1.1 documents and of MongoDB's OP_MSG, walks over both, and messages that come in pieces,
+ * over bytes that the caller holds.
  *
- * Each function reads `length` bytes at `bytes`, keeps nothing, and returns its result by value. What it returns is
- * proved, for all bytes, from what the caller owes:
+ * Each function reads `length` bytes at `bytes`, and keeps nothing. What it returns is proved, for all bytes, from what
+ * the caller owes:
  *
- *   - `length` bytes can be read at `bytes`, and `length` is at most PTRDIFF_MAX; a null pointer with length 0 is an
- *     empty input;
- *   - no one writes to them during the call.
+ *   - `length` bytes can be read at `bytes`, and `length` is at most PTRDIFF_MAX; a null pointer is an empty input,
+ *     whatever the length;
+ *   - no one writes to them during the call, and what a function writes to doesn't overlap them.
  *
- * Nothing else is owed: any content and any `limit` have an answer. Calls may run at once in several threads.
- * An offset is counted from `bytes`.
+ * Nothing else is owed: any content, any `limit` and any number in a struct that is handed in have an answer. Calls may
+ * run at once in several threads. An offset is counted from `bytes`.
  *
- * The checks of documents take no memory. Those of messages take some in proportion to the number of names in a
- * body, by malloc, realloc and free of the program, and give it back before they return. If there is none, the answer
- * is the same, but takes time in proportion to the square of the number of names. The three functions must
- * come from one allocator. Don't call the checks of messages from a signal handler, nor from the forked child of a
- * process with threads.
+ * The functions for documents take no memory, but for those that write texts. Those for whole messages take some in
+ * proportion to the number of names in a body, by malloc, realloc and free of the program, and give it back before they
+ * return. If there is none, the answer is the same, but takes time in proportion to the square of the number of names.
+ * Those that write texts take as much as the text, and tell where there is none. The three functions must come from one
+ * allocator. Don't call what takes memory from a signal handler, nor from the forked child of a process
+ * with threads.
  *
  * A call took less than 40 KiB of the stack wherever it was measured. Documents that nest 200 deep take the most. */
 #ifndef LUGHEMRA_H
@@ -172,7 +174,165 @@ struct lughemra_messages_check {
     struct lughemra_fault document_fault;
 };
 
-/* ---- the functions of the library, to which `bytes` may not be null: use those below */
+/* What stands in front of bytes that more may follow. */
+enum lughemra_front_state {
+    LUGHEMRA_FRONT_OPEN = 0,  /* more bytes are wanted */
+    LUGHEMRA_FRONT_WHOLE = 1, /* a message */
+    LUGHEMRA_FRONT_BAD = 2    /* bytes that no message begins with */
+};
+
+struct lughemra_message_front {
+    /* An enum lughemra_front_state. */
+    uint32_t state;
+    /* If it is OPEN, how many bytes there have to be, from the first on, before more can be told: 16, or as many as the
+     * header announces. If it is WHOLE, the length of the message. Else 0. */
+    size_t length;
+    /* If it is BAD, the first fault, by an enum lughemra_message_fault. */
+    struct lughemra_fault fault;
+    /* The document's own fault, as in struct lughemra_message_check. */
+    struct lughemra_fault document_fault;
+};
+
+/* A part of the bytes: `length` of them from `offset` on. */
+struct lughemra_view {
+    size_t offset;
+    size_t length;
+};
+
+/* Flags of a message, in flagBits. */
+#define LUGHEMRA_MORE_TO_COME (UINT32_C(1) << 1)
+#define LUGHEMRA_EXHAUST_ALLOWED (UINT32_C(1) << 16)
+
+/* The numbers of a message. If there is a fault, they are 0. */
+struct lughemra_message_parts {
+    /* The first fault, by an enum lughemra_message_fault. */
+    struct lughemra_fault fault;
+    /* The document's own fault, as in struct lughemra_message_check. */
+    struct lughemra_fault document_fault;
+    /* requestID and responseTo. */
+    int32_t id;
+    int32_t response_to;
+    /* flagBits. checksumPresent isn't among them: a message with a checksum is a fault. */
+    uint32_t flag_bits;
+    /* Bits 1 and 16 of flagBits. */
+    bool more_to_come;
+    bool exhaust_allowed;
+    /* The offset of the first section. If there is a fault, it is past all bytes. */
+    size_t sections;
+};
+
+enum lughemra_section_kind {
+    LUGHEMRA_SECTIONS_END = 0,     /* behind the last section */
+    LUGHEMRA_SECTION_BODY = 1,     /* the body */
+    LUGHEMRA_SECTION_SEQUENCE = 2, /* a document sequence */
+    LUGHEMRA_NO_SECTION = 255      /* no section stands there, or the offset is past the bytes */
+};
+
+/* A section of a message. */
+struct lughemra_section {
+    /* An enum lughemra_section_kind. */
+    uint32_t kind;
+    /* The identifier of a document sequence, in UTF-8, which a byte 00 follows. */
+    struct lughemra_view identifier;
+    /* The document of the body, or those of the sequence, one after another. */
+    struct lughemra_view documents;
+    /* The offset after the section, or its own if there is none. */
+    size_t next;
+};
+
+/* The kinds of values: their type bytes. */
+enum lughemra_kind {
+    LUGHEMRA_NO_ELEMENT = 0x00, /* there is no element */
+    LUGHEMRA_DOUBLE = 0x01,
+    LUGHEMRA_STRING = 0x02,
+    LUGHEMRA_DOCUMENT = 0x03,
+    LUGHEMRA_ARRAY = 0x04,
+    LUGHEMRA_BINARY = 0x05,
+    LUGHEMRA_UNDEFINED = 0x06,
+    LUGHEMRA_OBJECT_ID = 0x07,
+    LUGHEMRA_BOOL = 0x08,
+    LUGHEMRA_DATETIME = 0x09,
+    LUGHEMRA_NULL = 0x0a,
+    LUGHEMRA_REGEX = 0x0b,
+    LUGHEMRA_DB_POINTER = 0x0c,
+    LUGHEMRA_CODE = 0x0d,
+    LUGHEMRA_SYMBOL = 0x0e,
+    LUGHEMRA_CODE_WITH_SCOPE = 0x0f,
+    LUGHEMRA_INT32 = 0x10,
+    LUGHEMRA_TIMESTAMP = 0x11,
+    LUGHEMRA_INT64 = 0x12,
+    LUGHEMRA_DECIMAL128 = 0x13,
+    LUGHEMRA_MAX_KEY = 0x7f,
+    LUGHEMRA_MIN_KEY = 0xff
+};
+
+/* Where a walk stands in a document, an array or a scope. It may be copied, and a copy goes on by itself. */
+struct lughemra_iter {
+    /* The offset of the document's first byte. */
+    size_t start;
+    /* The offset of the next element. */
+    size_t at;
+    /* The offset of the document's last byte. */
+    size_t end;
+    /* The depth of the document: 1 for the outermost one. */
+    uint32_t depth;
+};
+
+struct lughemra_first {
+    /* The fault of the document's length or of its last byte, by an enum lughemra_document_fault. */
+    struct lughemra_fault fault;
+    /* The iterator at the first element. If there is a fault, it gives LUGHEMRA_OUT_OF_RANGE. */
+    struct lughemra_iter iter;
+};
+
+/* An element: its name and its value, whose parts are views of the bytes. What a kind doesn't have is 0. */
+struct lughemra_element {
+    /* The element's first fault, by an enum lughemra_document_fault, or LUGHEMRA_OUT_OF_RANGE. */
+    struct lughemra_fault fault;
+    /* The kind, an enum lughemra_kind. It is LUGHEMRA_NO_ELEMENT behind the last element and where there is a fault. */
+    uint32_t kind;
+    /* The subtype of a binary. */
+    uint32_t subtype;
+    union {
+        /* Of INT32, INT64, DATETIME (milliseconds since 1970) and BOOL (0 or 1). */
+        int64_t integer;
+        /* Of DOUBLE. */
+        double real;
+        struct {
+            /* Of TIMESTAMP. */
+            uint32_t increment;
+            uint32_t seconds;
+        } timestamp;
+        uint64_t bits;
+    } value;
+    /* The name, in UTF-8. */
+    struct lughemra_view name;
+    /* In UTF-8: the text of STRING, CODE, SYMBOL and CODE_WITH_SCOPE, the namespace of DB_POINTER, the pattern of REGEX.
+     * A byte 00 follows each. The text of a STRING is UTF-8 where the document was checked. */
+    struct lughemra_view text;
+    /* The document of DOCUMENT, ARRAY and CODE_WITH_SCOPE; the data of BINARY, of subtype 02 without its inner count; the
+     * 12 bytes of OBJECT_ID and of that in DB_POINTER; the 16 bytes of DECIMAL128 and the 8 of DOUBLE; the options of
+     * REGEX, in UTF-8, which a byte 00 follows. */
+    struct lughemra_view bytes;
+};
+
+/* The fault of an iterator whose offsets are out of range of the bytes: nothing was read. */
+#define LUGHEMRA_OUT_OF_RANGE 255
+
+/* What became of a text. */
+struct lughemra_text {
+    /* The document's first fault, by an enum lughemra_document_fault, or LUGHEMRA_NO_MEMORY. Then nothing is written. */
+    struct lughemra_fault fault;
+    /* The number of bytes of the text, whether it was written or not. If there is a fault, 0. */
+    size_t length;
+    /* Whether the text was written: it has as many bytes as the room, or fewer. Else nothing is written. */
+    bool written;
+};
+
+/* The fault of a text for which memory ran out. */
+#define LUGHEMRA_NO_MEMORY 254
+
+/* ---- the functions of the library, to which no pointer may be null: use those below */
 
 struct lughemra_fault lughemra_check_document_nonnull(const uint8_t *bytes, size_t length);
 bool lughemra_is_canonical_nonnull(const uint8_t *bytes, size_t length);
@@ -180,6 +340,20 @@ struct lughemra_documents_check lughemra_check_documents_nonnull(const uint8_t *
 struct lughemra_documents_walk lughemra_walk_documents_nonnull(const uint8_t *bytes, size_t length);
 struct lughemra_message_check lughemra_check_message_nonnull(const uint8_t *bytes, size_t length, uint32_t limit);
 struct lughemra_messages_check lughemra_check_messages_nonnull(const uint8_t *bytes, size_t length, uint32_t limit);
+struct lughemra_message_front lughemra_message_front_nonnull(const uint8_t *bytes, size_t length, uint32_t limit);
+struct lughemra_message_parts lughemra_message_parts_nonnull(const uint8_t *bytes, size_t length, uint32_t limit);
+struct lughemra_section lughemra_section_nonnull(const uint8_t *bytes, size_t length, size_t at);
+void lughemra_next_document_nonnull(const uint8_t *bytes, size_t length, struct lughemra_view *left,
+                                    struct lughemra_view *first);
+struct lughemra_text lughemra_dump_nonnull(const uint8_t *bytes, size_t length, uint8_t *room, size_t room_length);
+struct lughemra_text lughemra_json_nonnull(const uint8_t *bytes, size_t length, bool relaxed, uint8_t *room,
+                                           size_t room_length);
+struct lughemra_first lughemra_first_nonnull(const uint8_t *bytes, size_t length);
+void lughemra_next_nonnull(const uint8_t *bytes, size_t length, struct lughemra_iter *iter,
+                           struct lughemra_element *element);
+void lughemra_find_nonnull(const uint8_t *bytes, size_t length, const uint8_t *name, size_t name_length,
+                           struct lughemra_iter *iter, struct lughemra_element *element);
+struct lughemra_iter lughemra_enter_nonnull(const struct lughemra_iter *iter, const struct lughemra_element *element);
 
 /* Returns `bytes`, or if that is null the address of a byte, which is no one's to read. */
 static inline const uint8_t *lughemra_nonnull(const uint8_t *bytes)
@@ -188,31 +362,44 @@ static inline const uint8_t *lughemra_nonnull(const uint8_t *bytes)
     return bytes != NULL ? bytes : &byte;
 }
 
+/* Returns `room`, or if that is null the address of a byte, which is no one's to write. */
+static inline uint8_t *lughemra_nonnull_room(uint8_t *room)
+{
+    static uint8_t byte;
+    return room != NULL ? room : &byte;
+}
+
+/* Returns `length`, or 0 if `bytes` is null. */
+static inline size_t lughemra_length(const uint8_t *bytes, size_t length)
+{
+    return bytes != NULL ? length : 0;
+}
+
 /* ---- documents */
 
 /* Checks that the bytes are exactly one document. Returns the first fault, by an enum lughemra_document_fault. */
 static inline struct lughemra_fault lughemra_check_document(const uint8_t *bytes, size_t length)
 {
-    return lughemra_check_document_nonnull(lughemra_nonnull(bytes), length);
+    return lughemra_check_document_nonnull(lughemra_nonnull(bytes), lughemra_length(bytes, length));
 }
 
 /* Returns true if the bytes are exactly one document, in canonical form: the names of each array in it are "0", "1" and
  * so on. */
 static inline bool lughemra_is_canonical(const uint8_t *bytes, size_t length)
 {
-    return lughemra_is_canonical_nonnull(lughemra_nonnull(bytes), length);
+    return lughemra_is_canonical_nonnull(lughemra_nonnull(bytes), lughemra_length(bytes, length));
 }
 
 /* Checks the documents that stand back to back. */
 static inline struct lughemra_documents_check lughemra_check_documents(const uint8_t *bytes, size_t length)
 {
-    return lughemra_check_documents_nonnull(lughemra_nonnull(bytes), length);
+    return lughemra_check_documents_nonnull(lughemra_nonnull(bytes), lughemra_length(bytes, length));
 }
 
 /* Checks the documents that stand back to back, and counts all that stands in those before the first fault. */
 static inline struct lughemra_documents_walk lughemra_walk_documents(const uint8_t *bytes, size_t length)
 {
-    return lughemra_walk_documents_nonnull(lughemra_nonnull(bytes), length);
+    return lughemra_walk_documents_nonnull(lughemra_nonnull(bytes), lughemra_length(bytes, length));
 }
 
 /* ---- messages, each of at most `limit` bytes */
@@ -220,13 +407,109 @@ static inline struct lughemra_documents_walk lughemra_walk_documents(const uint8
 /* Checks that the bytes are exactly one message. */
 static inline struct lughemra_message_check lughemra_check_message(const uint8_t *bytes, size_t length, uint32_t limit)
 {
-    return lughemra_check_message_nonnull(lughemra_nonnull(bytes), length, limit);
+    return lughemra_check_message_nonnull(lughemra_nonnull(bytes), lughemra_length(bytes, length), limit);
 }
 
 /* Checks the messages that stand back to back. */
 static inline struct lughemra_messages_check lughemra_check_messages(const uint8_t *bytes, size_t length, uint32_t limit)
 {
-    return lughemra_check_messages_nonnull(lughemra_nonnull(bytes), length, limit);
+    return lughemra_check_messages_nonnull(lughemra_nonnull(bytes), lughemra_length(bytes, length), limit);
+}
+
+/* Tells what stands in front of the bytes: a message of at most `limit` bytes, a part of one, or a fault. A fault of the
+ * header is told as soon as its 16 bytes are there, and any other once all announced bytes are. A reader that asks each
+ * time the wanted bytes are there asks three times for a message. */
+static inline struct lughemra_message_front lughemra_message_front(const uint8_t *bytes, size_t length, uint32_t limit)
+{
+    return lughemra_message_front_nonnull(lughemra_nonnull(bytes), lughemra_length(bytes, length), limit);
+}
+
+/* Checks that the bytes are exactly one message, as lughemra_check_message does, and returns its numbers. */
+static inline struct lughemra_message_parts lughemra_message_parts(const uint8_t *bytes, size_t length, uint32_t limit)
+{
+    return lughemra_message_parts_nonnull(lughemra_nonnull(bytes), lughemra_length(bytes, length), limit);
+}
+
+/* Returns the section at an offset of a message: the body, or a document sequence. The first stands at `parts.sections`,
+ * and the next one at `section.next`; of a message that was checked they come in order, and then LUGHEMRA_SECTIONS_END. Of
+ * other bytes no document in it is checked, but for the length and the last byte of a body. */
+static inline struct lughemra_section lughemra_section(const uint8_t *bytes, size_t length, size_t at)
+{
+    return lughemra_section_nonnull(lughemra_nonnull(bytes), lughemra_length(bytes, length), at);
+}
+
+/* Moves `left` behind the document at its front, and `first` to that document. Returns false if no document's length and
+ * last byte stand there; then `left` stays as it is. Of the documents of a section they come in order. All of the
+ * bytes are the view {0, length}. If a pointer to a view is null, returns false and does nothing. */
+static inline bool lughemra_next_document(const uint8_t *bytes, size_t length, struct lughemra_view *left,
+                                          struct lughemra_view *first)
+{
+    if (left == NULL || first == NULL)
+        return false;
+    lughemra_next_document_nonnull(lughemra_nonnull(bytes), lughemra_length(bytes, length), left, first);
+    return first->length != 0;
+}
+
+/* ---- walks: each element is checked as it is read, so that the bytes needn't be checked before. But the text of a string
+ * isn't tested for UTF-8: who wants that of bytes that weren't checked checks the document first. */
+
+/* Begins a walk over the document that the bytes are. Checks its length and its last byte, but none of its elements. */
+static inline struct lughemra_first lughemra_first(const uint8_t *bytes, size_t length)
+{
+    return lughemra_first_nonnull(lughemra_nonnull(bytes), lughemra_length(bytes, length));
+}
+
+/* Reads the next element, and moves the iterator behind it. Returns false behind the last element and at a fault, which
+ * is in `element->fault`; the iterator then stays where it is. The bytes are those that the walk began with. If a pointer
+ * to a struct is null, returns false and does nothing. */
+static inline bool lughemra_next(const uint8_t *bytes, size_t length, struct lughemra_iter *iter,
+                                 struct lughemra_element *element)
+{
+    if (iter == NULL || element == NULL)
+        return false;
+    lughemra_next_nonnull(lughemra_nonnull(bytes), lughemra_length(bytes, length), iter, element);
+    return element->kind != LUGHEMRA_NO_ELEMENT;
+}
+
+/* Returns an iterator over the document, array or scope that the element holds, which `iter` read. If it holds none, or
+ * a pointer is null, what is returned gives LUGHEMRA_OUT_OF_RANGE. */
+static inline struct lughemra_iter lughemra_enter(const struct lughemra_iter *iter, const struct lughemra_element *element)
+{
+    static const struct lughemra_iter none = {0, 1, 0, 0};
+    return iter != NULL && element != NULL ? lughemra_enter_nonnull(iter, element) : none;
+}
+
+/* Goes on to the next element with this name, of `name_length` bytes, and moves the iterator behind it. Returns false if
+ * there is none, or a fault comes before it, as lughemra_next does. */
+static inline bool lughemra_find(const uint8_t *bytes, size_t length, const char *name, size_t name_length,
+                                 struct lughemra_iter *iter, struct lughemra_element *element)
+{
+    const uint8_t *sought = (const uint8_t *)name;
+    if (iter == NULL || element == NULL)
+        return false;
+    lughemra_find_nonnull(lughemra_nonnull(bytes), lughemra_length(bytes, length), lughemra_nonnull(sought),
+                          lughemra_length(sought, name_length), iter, element);
+    return element->kind != LUGHEMRA_NO_ELEMENT;
+}
+
+/* ---- texts, which take memory for the text while they run */
+
+/* Writes the text of the document that the bytes are to the front of the room, of `room_length` bytes: a line with its size,
+ * and one for each element, at all depths, as `bsonwire dump` writes it. The text has no 00 at its end. If it has no
+ * room, nothing is written, and its length is told; a null pointer is no room. */
+static inline struct lughemra_text lughemra_dump(const uint8_t *bytes, size_t length, uint8_t *room, size_t room_length)
+{
+    return lughemra_dump_nonnull(lughemra_nonnull(bytes), lughemra_length(bytes, length), lughemra_nonnull_room(room),
+                                 lughemra_length(room, room_length));
+}
+
+/* The same, as MongoDB Extended JSON v2: one object, with no white space. It is canonical, or relaxed: then finite numbers
+ * are JSON numbers, and dates from 1970 to 9999 are ISO-8601. */
+static inline struct lughemra_text lughemra_json(const uint8_t *bytes, size_t length, bool relaxed, uint8_t *room,
+                                                 size_t room_length)
+{
+    return lughemra_json_nonnull(lughemra_nonnull(bytes), lughemra_length(bytes, length), relaxed,
+                                 lughemra_nonnull_room(room), lughemra_length(room, room_length));
 }
 
 #ifdef __cplusplus

@@ -2,3 +2,14 @@ pub mod Told
 pub mod ToldMessages
 pub mod OneAnswer
 pub mod OneMessageAnswer
+pub mod ToldFront
+pub mod Places
+pub mod Nexts
+pub mod Begins
+pub mod ReadParts
+pub mod FindLaws
+pub mod SectionLaws
+pub mod PartLaws
+pub mod SplitLaws
+pub mod TextLaws
+pub mod QuickLaws

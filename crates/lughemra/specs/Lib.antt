@@ -2,3 +2,14 @@ pub mod Fault
 pub mod Documents
 pub mod Walk
 pub mod Messages
+pub mod Front
+pub mod Views
+pub mod Elements
+pub mod Iters
+pub mod Pairs
+pub mod Finding
+pub mod Parts
+pub mod Sections
+pub mod Splits
+pub mod Texts
+pub mod Quick

@@ -5,11 +5,13 @@ ghost use Rattle.std.specs.Prelude.{◌≡◌, ℕ, List};
 ghost use Rattle.bson_elem.specs.{IsBytes};
 ghost use Rattle.lughemra.specs.declared.documents.DocumentsCheck.{DocumentsCheck};
 ghost use Rattle.lughemra.specs.declared.fault.FirstFault.{FirstFault};
+ghost use Rattle.lughemra.specs.declared.front.MessageFront.{MessageFront};
 ghost use Rattle.lughemra.specs.declared.walk.DocumentsWalk.{DocumentsWalk};
 ghost use Rattle.lughemra.specs.declared.messages.MessageCheck.{MessageCheck};
 ghost use Rattle.lughemra.specs.declared.messages.MessagesCheck.{MessagesCheck};
 ghost use Rattle.lughemra.specs.Documents.{IsDocumentCheck, IsDocumentsCheck};
 ghost use Rattle.lughemra.specs.Walk.{IsDocumentsWalk};
+ghost use Rattle.lughemra.specs.Front.{IsMessageFront};
 ghost use Rattle.lughemra.specs.Messages.{IsMessageCheck, IsMessagesCheck};
 
 /// Proves that the check of bytes as one document has one result.
@@ -40,4 +42,10 @@ pub fn one_message_check()
 pub fn one_messages_check()
     ensures { (limit : ℕ) (bytes : List ℕ) (a b : MessagesCheck) → IsBytes bytes
         → IsMessagesCheck limit bytes a → IsMessagesCheck limit bytes b → a ≡ b }
+{}
+
+/// Proves that one thing is told of what stands in front of bytes under a limit.
+pub fn one_message_front()
+    ensures { (limit : ℕ) (bytes : List ℕ) (a b : MessageFront) → IsBytes bytes
+        → IsMessageFront limit bytes a → IsMessageFront limit bytes b → a ≡ b }
 {}

@@ -3,11 +3,15 @@
 //! Stands on wire_end and bson_text.
 #![tactic(auto)]
 
-ghost use Rattle.std.specs.Prelude.{◌≡◌, ℕ, OnOk, Some, slice_get};
+ghost use Rattle.std.specs.Prelude.{◌≡◌, ◌∷◌, List, OnOk, Some, slice_get};
 ghost use Rattle.bson_text.specs.{document_text};
 ghost use Rattle.text_writer.specs.{WritesOut};
+ghost use Rattle.wire_channels.specs.{ClientAct};
+ghost use Rattle.wire_channels.specs.Owners.{Calls};
+ghost use Rattle.wire_end.specs.{EndRuns};
 ghost use Rattle.wire_model.specs.{Record};
 ghost use Rattle.wire_msg.specs.{Content};
+ghost use Rattle.wire_peer.specs.declared.calls.CallKind.TheVariants.{Plain};
 
 use anyhow::{Result, bail};
 use bson_raw::RawDocument;
@@ -17,7 +21,7 @@ use std::net::TcpStream;
 use std::{env, io};
 use wire_end::ClientEnd;
 use wire_msg::{MAX_MESSAGE_LEN, Payload, PayloadBuf};
-use wire_peer::Client;
+use wire_peer::{CallNo, Client};
 use wire_stream::{Link, TcpLink};
 
 /// `{"ping": 1, "$db": "admin"}`.
@@ -29,8 +33,10 @@ fn ping<L: Link + Drop, W: Write>(
     payload: Payload<'_>,
     out: &mut W,
 ) -> Result<()>
-    ensures { OnOk result ((n : ℕ) × (x : Record) × (reply : Content)
-        × (slice_get end.new.own.records n ≡ Some x) × (slice_get x.parts 0 ≡ Some reply)
+    ensures { OnOk result ((call : CallNo) × (acts : List ClientAct)
+        × EndRuns L.sent L.received end.old (Calls Plain payload.entry call ∷ acts) end.new
+        × (x : Record) × (slice_get end.new.own.records call.number ≡ Some x)
+        × (reply : Content) × (slice_get x.parts 0 ≡ Some reply)
         × WritesOut W.contents out.old out.new (document_text reply.body)) }
 {
     let call = end.call(payload)?;

@@ -1,9 +1,9 @@
 -- A cursor whose documents are taken.
-use Rattle.std.proofs.Common.{◌≡◌, ◌<◌, ℕ, zero, suc, List, [], ◌∷◌, Some, length, map, get_or, refl, sym, ap, ◌∙◌, arith}
+use Rattle.std.proofs.Common.{◌≡◌, ◌<◌, ℕ, zero, suc, List, [], ◌∷◌, Option, Some, length, map, get_or, refl, sym, ap, ◌∙◌, arith}
 use Rattle.std.specs.Prelude.{slice_get, slice_set}
 use Rattle.bson_raw.specs.{TreeValue}
 use Rattle.test_server.specs.declared.store.Cursor.{Cursor}
-use Rattle.test_server.specs.Held.{CursorView, cursor_of, namespace_buf, with_left}
+use Rattle.test_server.specs.Held.{CursorView, NamespaceView, closed_at, cursor_of, namespace_buf, open_at, with_left}
 
 pub left_set : (cs : List Cursor) (i : ℕ) (x y : Cursor) (vs : List TreeValue) → x ≡ get_or cs i x → cursor_of y ≡ record { namespace = namespace_buf x.namespace; left = vs }
     → map cursor_of (slice_set cs i y) ≡ with_left (Some i) vs (map cursor_of cs)
@@ -21,3 +21,6 @@ pub set_there : (cs : List Cursor) (i : ℕ) (y d : Cursor) → i < length cs �
 set_there [] i y d inside = absurd (omega arith)
 set_there (c ∷ cs) zero y d inside = refl
 set_there (c ∷ cs) (suc i) y d inside = set_there cs i y d (omega arith)
+
+pub closed : (n : NamespaceView) (i : Option ℕ) (cs : List CursorView) (c : CursorView) → open_at n i cs ≡ Some c → closed_at n i cs ≡ with_left i [] cs
+closed n i cs c e = rw e refl

@@ -1,5 +1,6 @@
 pub mod Places
 pub mod Filtering
+pub mod Owning
 pub mod Inserting
 pub mod Cursors
 pub mod Sizes
@@ -8,7 +9,5 @@ pub mod ReplySets
 pub mod Handled
 pub mod Texts
 pub mod Made
-pub mod ServingLaws
-pub mod Growing
 pub mod NumberLemmas
 pub mod ParseLemmas

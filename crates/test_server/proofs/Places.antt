@@ -6,7 +6,7 @@ use Rattle.std.proofs.Math.Seq.{drop-cons}
 use Rattle.bson_doc.specs.Bson.{value_of}
 use Rattle.bson_raw.specs.{TreeValue}
 use Rattle.test_server.specs.declared.store.Collection.{Collection}
-use Rattle.test_server.specs.Held.{CollectionView, NamespaceView, collection_index, collection_of, documents_in, is_same_namespace, namespace_buf, with_documents, without_collection}
+use Rattle.test_server.specs.Held.{CollectionView, NamespaceView, collection_index, collection_of, documents_in, is_same_namespace, namespace_buf, with_any, with_documents, with_replaced, without_collection}
 
 -- an index counted from that one
 abbrev pub counted_from : ℕ → Option ℕ → Option ℕ
@@ -123,3 +123,23 @@ removed_collection n (c ∷ cs) zero is =
 removed_collection n (c ∷ cs) (suc k) is =
     let p : Cases n (collection_of c) (map collection_of cs) (suc k) = cases n (collection_of c) (map collection_of cs) (suc k) _ refl is in
     rw p.0 (rw (removed_collection n cs k p.1) refl)
+
+pub replaced_collection : (n : NamespaceView) (vs : List TreeValue) (cs : List Collection) (i : ℕ) (x y : Collection) → collection_index n (map collection_of cs) ≡ Some i → x ≡ get_or cs i x
+    → collection_of y ≡ record { namespace = namespace_buf x.namespace; documents = vs }
+    → map collection_of (slice_set cs i y) ≡ with_replaced n vs (map collection_of cs)
+replaced_collection n vs [] i x y is at new = absurd cc
+replaced_collection n vs (c ∷ cs) zero x y is at new =
+    let p : is_same_namespace n (namespace_buf c.namespace) ≡ true = cases n (collection_of c) (map collection_of cs) zero _ refl is in
+    rw p (ap (λ (z : CollectionView). z ∷ map collection_of cs) (new ∙ ap (λ (z : Collection). record { namespace = namespace_buf z.namespace; documents = vs }) at))
+replaced_collection n vs (c ∷ cs) (suc k) x y is at new =
+    let p : Cases n (collection_of c) (map collection_of cs) (suc k) = cases n (collection_of c) (map collection_of cs) (suc k) _ refl is in
+    rw p.0 (ap (λ (l : List CollectionView). collection_of c ∷ l) (replaced_collection n vs cs k x y p.1 at new))
+
+pub none_replaced : (n : NamespaceView) (vs : List TreeValue) (cs : List CollectionView) → collection_index n cs ≡ None → with_replaced n vs cs ≡ with_any n vs cs
+none_replaced n vs [] is = refl
+none_replaced n [] (c ∷ cs) is =
+    let p : Apart n c cs = not_first n c cs _ refl is in
+    rw p.0 (ap (λ (l : List CollectionView). c ∷ l) (none_replaced n [] cs p.1))
+none_replaced n (v ∷ vs) (c ∷ cs) is =
+    let p : Apart n c cs = not_first n c cs _ refl is in
+    rw p.0 (ap (λ (l : List CollectionView). c ∷ l) (none_replaced n (v ∷ vs) cs p.1))

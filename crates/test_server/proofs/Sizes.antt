@@ -28,3 +28,7 @@ on_ok (Err e) f = tt
 pub on_err : {A E P : Type 0} (r : Result A E) → (is_ok r ≡ false → P) → OnErr r P
 on_err (Ok a) f = tt
 on_err (Err e) f = f refl
+
+pub on_ok_then : {A E P Q : Type 0} (r : Result A E) → (P → Q) → OnOk r P → OnOk r Q
+on_ok_then (Ok a) f p = f p
+on_ok_then (Err e) f p = tt

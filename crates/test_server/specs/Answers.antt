@@ -1,6 +1,7 @@
 -- Answers, as lists of a name and a value (MongoDB manual, Database Commands: each command's
 -- Output).
-use Rattle.std.specs.Prelude.{ℕ, ℤ, pos, List, [], ◌∷◌, Bool, true, false, codes, if◌then◌else◌}
+use Rattle.std.specs.Prelude.{ℕ, ℤ, pos, List, [], ◌∷◌, Bool, true, false, codes, nat_lt}
+use Rattle.std.specs.Prelude.{if◌then◌else◌}
 use Rattle.bson_elem.specs.declared.kinds.Kind.TheVariants as kinds
 use Rattle.bson_elem.specs.{boolean_value, no_code, number_value, raw_value, text_value}
 use Rattle.bson_raw.specs.{TreeValue, document_value, leaf_value}
@@ -68,8 +69,37 @@ hello_pairs legacy =
     ∷ (codes "maxWriteBatchSize", int32 (pos 100000)) ∷ (codes "minWireVersion", int32 (pos 0))
     ∷ (codes "maxWireVersion", int32 (pos 13)) ∷ (codes "readOnly", truth false) ∷ ok_alone
 
-abbrev pub inserted_pairs : ℤ → List (List ℕ × TreeValue)
-inserted_pairs n = (codes "n", int32 n) ∷ ok_alone
+-- the numbers of the version
+abbrev pub version_parts : List TreeValue
+version_parts = int32 (pos 5) ∷ int32 (pos 0) ∷ int32 (pos 0) ∷ int32 (pos 0) ∷ []
+
+-- the answer to buildInfo
+abbrev pub build_pairs : List (List ℕ × TreeValue)
+build_pairs =
+    (codes "version", text (codes "5.0.0")) ∷ (codes "versionArray", array version_parts)
+    ∷ (codes "maxBsonObjectSize", int32 (pos 16777216)) ∷ ok_alone
+
+-- the cursors that were closed, and the values that aren't the id of an open one
+abbrev pub killed_pairs : List TreeValue → List TreeValue → List (List ℕ × TreeValue)
+killed_pairs killed missing =
+    (codes "cursorsKilled", array killed) ∷ (codes "cursorsNotFound", array missing)
+    ∷ (codes "cursorsAlive", array []) ∷ (codes "cursorsUnknown", array []) ∷ ok_alone
+
+-- a number of documents, as an int32 if it fits
+abbrev pub count_value : ℕ → TreeValue
+count_value n = if nat_lt n 2147483648 then int32 (pos n) else int64 (pos n)
+
+abbrev pub counted_pairs : ℕ → List (List ℕ × TreeValue)
+counted_pairs n = (codes "n", count_value n) ∷ ok_alone
+
+-- the errors of a write, if there are any, and `ok`
+abbrev pub errors_pairs : List TreeValue → List (List ℕ × TreeValue)
+errors_pairs [] = ok_alone
+errors_pairs (e ∷ es) = (codes "writeErrors", array (e ∷ es)) ∷ ok_alone
+
+-- the answer to insert: how many documents were inserted, and the errors of others
+abbrev pub inserted_pairs : ℕ → List TreeValue → List (List ℕ × TreeValue)
+inserted_pairs n errors = (codes "n", count_value n) ∷ errors_pairs errors
 
 abbrev pub dropped_pairs : List ℕ → List (List ℕ × TreeValue)
 dropped_pairs ns = (codes "nIndexesWas", int32 (pos 1)) ∷ (codes "ns", text ns) ∷ ok_alone

@@ -1,9 +1,11 @@
 -- What each command does: its answer, and what is held after it.
-use Rattle.std.specs.Prelude.{◌≡◌, ℕ, ℤ, pos, List, [], ◌∷◌, ◌++◌, true, false, Result, Ok, Err}
-use Rattle.std.specs.Prelude.{codes, drop, length, take, if◌then◌else◌}
+use Rattle.std.specs.Prelude.{◌≡◌, ℕ, ℤ, pos, List, [], ◌∷◌, ◌++◌, Bool, true, false}
+use Rattle.std.specs.Prelude.{Result, Ok, Err}
+use Rattle.std.specs.Prelude.{Option, Some, None, codes, drop, length, take, ◌-◌, if◌then◌else◌}
 use Rattle.std.specs.Str.{bytes_eq}
+use Rattle.bson_elem.specs.declared.kinds.Kind.TheVariants as kinds
 use Rattle.bson_elem.specs.{Tree, inner_pair, leaf_pair, no_pairs}
-use Rattle.bson_raw.specs.{TreeValue}
+use Rattle.bson_raw.specs.{TreeValue, document_value, first_named}
 use Rattle.wire_msg.specs.{Content}
 use Rattle.test_server.specs.declared.answer.Batch.TheVariants.{First, Next}
 use Rattle.test_server.specs.declared.commands.Command.{Command}
@@ -12,15 +14,25 @@ use Rattle.test_server.specs.declared.failure.CommandError.{CommandError}
 use Rattle.test_server.specs.declared.failure.CommandError.TheVariants as errors
 use Rattle.test_server.specs.declared.failure.Failure.{Failure}
 use Rattle.test_server.specs.declared.failure.Failure.TheVariants.{OutOfMemory, Refused}
-use Rattle.test_server.specs.Answers.{cursor_answer, dropped_pairs, error_pairs, hello_pairs}
-use Rattle.test_server.specs.Answers.{inserted_pairs, listing, ok_alone, refusal_pairs}
+use Rattle.test_server.specs.Adding.{AddingView, gathered}
+use Rattle.test_server.specs.Answers.{build_pairs, counted_pairs, cursor_answer, dropped_pairs}
+use Rattle.test_server.specs.Answers.{error_pairs}
+use Rattle.test_server.specs.Answers.{hello_pairs, inserted_pairs, killed_pairs, listing, ok_alone}
+use Rattle.test_server.specs.Answers.{refusal_pairs}
+use Rattle.test_server.specs.Deleting.{after_deletes}
 use Rattle.test_server.specs.Errors.{and_then, or_error}
-use Rattle.test_server.specs.Fields.{batch_size, id_field, namespace_at, text_field}
+use Rattle.test_server.specs.Fields.{asked_size, batch_size, flag_field, id_field, namespace_at}
+use Rattle.test_server.specs.Fields.{text_field}
 use Rattle.test_server.specs.Filters.{filter_field, found}
 use Rattle.test_server.specs.Held.{CollectionView, CursorView, NamespaceView, StoreView}
+use Rattle.test_server.specs.Held.{closed_at, index_of_value, is_open, with_replaced}
 use Rattle.test_server.specs.Held.{cursor_index, documents_in, id_if_left, namespace_text, open_at}
 use Rattle.test_server.specs.Held.{opened, opened_id, with_documents, with_left, without_collection}
-use Rattle.test_server.specs.Inserted.{inserted}
+use Rattle.test_server.specs.Inserted.{brought}
+use Rattle.test_server.specs.Options.{first_unread}
+use Rattle.test_server.specs.Owned.{array_in, body_of}
+use Rattle.test_server.specs.Pipelines.{after_stages}
+use Rattle.test_server.specs.Selecting.{SelectionView, selected, selection_in}
 
 -- an answer, and what is held after it
 pub record Reply : Type 0 where
@@ -29,44 +41,56 @@ pub record Reply : Type 0 where
 
 -- ---- insert
 
-abbrev pub insert_reply : StoreView → NamespaceView → List TreeValue → Reply
-insert_reply s n vs = record {
-  answer = inserted_pairs (pos (length vs));
-  held = record { collections = with_documents n vs s.collections; cursors = s.cursors };
+abbrev pub insert_reply : StoreView → NamespaceView → AddingView → Reply
+insert_reply s n a = record {
+  answer = inserted_pairs (length a.added) a.errors;
+  held = record { collections = with_documents n a.added s.collections; cursors = s.cursors };
 }
 
 -- the answer of insert and what is held after it, or its error
 abbrev pub insert : StoreView → Content → Result Reply CommandError
 insert s c =
     and_then (namespace_at (codes "insert") errors.Insert c.body) (λ n.
-    and_then (inserted c) (λ vs. Ok (insert_reply s n vs)))
+    and_then (flag_field (codes "ordered") true errors.Ordered c.body) (λ ordered.
+    and_then (brought (codes "documents") c) (λ vs.
+    Ok (insert_reply s n (gathered ordered n (documents_in n s.collections) vs)))))
 
 -- ---- find
 
--- the first documents that match, and a cursor over the others
-abbrev pub find_reply : StoreView → NamespaceView → ℕ → List TreeValue → Reply
-find_reply s n count vs = record {
-  answer =
-      cursor_answer First (take count vs) (opened_id (drop count vs) s.cursors) (namespace_text n);
-  held = record { collections = s.collections; cursors = opened n (drop count vs) s.cursors };
-}
-
 -- what find asks for
 pub record QueryView : Type 0 where
-  pub namespace : NamespaceView
-  pub filter : Tree
+  pub selection : SelectionView
+  -- of the first batch
   pub count : ℕ
+  pub is_single : Bool
 
 abbrev pub query_in : Tree → Result QueryView CommandError
 query_in t =
-    and_then (namespace_at (codes "find") errors.Find t) (λ n.
-    and_then (filter_field t) (λ f.
+    and_then (selection_in (codes "find") errors.Find (codes "filter") t) (λ q.
     and_then (batch_size 0 errors.FirstBatchSize t) (λ count.
-    Ok (record { namespace = n; filter = f; count = count }))))
+    and_then (flag_field (codes "singleBatch") false errors.SingleBatch t) (λ single.
+    Ok (record { selection = q; count = count; is_single = single }))))
+
+-- what a cursor is opened over: what is left after the batch, unless that is to be the only one
+abbrev pub left_of : {A : Type 0} → Bool → List A → List A
+left_of true vs = []
+left_of false vs = vs
+
+-- the first documents that were found, and a cursor over the others
+abbrev pub find_reply : StoreView → NamespaceView → List TreeValue → List TreeValue → Reply
+find_reply s n batch left = record {
+  answer = cursor_answer First batch (opened_id left s.cursors) (namespace_text n);
+  held = record { collections = s.collections; cursors = opened n left s.cursors };
+}
+
+-- the first ones of these documents, at most this many, and a cursor over the others
+abbrev pub found_reply : StoreView → NamespaceView → List TreeValue → ℕ → Bool → Reply
+found_reply s n vs count single =
+    find_reply s n (take count vs) (left_of single (drop count vs))
 
 abbrev pub find_reply_to : StoreView → QueryView → Reply
 find_reply_to s q =
-    find_reply s q.namespace q.count (found q.filter (documents_in q.namespace s.collections))
+    found_reply s q.selection.namespace (selected q.selection s.collections) q.count q.is_single
 
 -- the answer of find and what is held after it, or its error
 abbrev pub find : StoreView → Tree → Result Reply CommandError
@@ -97,6 +121,95 @@ get_more s t =
     and_then (id_field t) (λ id.
     and_then (namespace_at (codes "collection") errors.Collection t) (λ n.
     and_then (batch_size 1 errors.NextBatchSize t) (λ count. next_answer s id n count)))
+
+-- ---- count
+
+-- the answer of count, or its error
+abbrev pub count : StoreView → Tree → Result Reply CommandError
+count s t =
+    and_then (selection_in (codes "count") errors.Count (codes "query") t) (λ q.
+    Ok (record { answer = counted_pairs (length (selected q s.collections)); held = s }))
+
+-- ---- delete
+
+-- this is left of the documents
+abbrev pub delete_reply : StoreView → NamespaceView → List TreeValue → Reply
+delete_reply s n left = record {
+  answer = counted_pairs (length (documents_in n s.collections) - length left);
+  held = record { collections = with_replaced n left s.collections; cursors = s.cursors };
+}
+
+-- the answer of delete and what is held after it, or its error
+abbrev pub delete : StoreView → Content → Result Reply CommandError
+delete s c =
+    and_then (namespace_at (codes "delete") errors.Delete c.body) (λ n.
+    and_then (brought (codes "deletes") c) (λ vs.
+    and_then (after_deletes vs (documents_in n s.collections)) (λ left.
+    Ok (delete_reply s n left))))
+
+-- ---- aggregate
+
+-- the size of the first batch, in the field `cursor`
+abbrev pub first_size : Option TreeValue → Result ℕ CommandError
+first_size (Some (document_value kinds.Document b t)) =
+    asked_size 0 errors.FirstBatchSize (first_named (codes "batchSize") t)
+first_size _ = Err errors.Cursor
+
+abbrev pub aggregate_reply : StoreView → NamespaceView → Tree → Result Reply CommandError
+aggregate_reply s n fields =
+    and_then (or_error errors.Stage (array_in (first_named (codes "pipeline") fields))) (λ stages.
+    and_then (first_size (first_named (codes "cursor") fields)) (λ count.
+    and_then (after_stages stages (documents_in n s.collections)) (λ vs.
+    Ok (found_reply s n vs count false))))
+
+-- the answer of aggregate and what is held after it, or its error
+abbrev pub aggregate : StoreView → Tree → Result Reply CommandError
+aggregate s t =
+    and_then (namespace_at (codes "aggregate") errors.Aggregate t) (λ n.
+    and_then (body_of t) (λ fields. aggregate_reply s n fields))
+
+-- ---- killCursors
+
+-- the ids of cursors that were closed, the values that weren't such an id, and the cursors
+pub record Killing : Type 0 where
+  pub killed : List TreeValue
+  pub missing : List TreeValue
+  pub cursors : List CursorView
+
+-- one more cursor is closed, if the value is the id of an open one
+abbrev pub kill_one : NamespaceView → TreeValue → Killing → Killing
+kill_one n v k =
+    if is_open n (index_of_value v) k.cursors
+    then record {
+      killed = k.killed ++ v ∷ [];
+      missing = k.missing;
+      cursors = closed_at n (index_of_value v) k.cursors;
+    }
+    else record { killed = k.killed; missing = k.missing ++ v ∷ []; cursors = k.cursors }
+
+abbrev pub kill_each : NamespaceView → List TreeValue → Killing → Killing
+kill_each n [] k = k
+kill_each n (v ∷ vs) k = kill_each n vs (kill_one n v k)
+
+abbrev pub killing : StoreView → NamespaceView → List TreeValue → Killing
+killing s n vs = kill_each n vs (record { killed = []; missing = []; cursors = s.cursors })
+
+abbrev pub killed_reply : StoreView → Killing → Reply
+killed_reply s k = record {
+  answer = killed_pairs k.killed k.missing;
+  held = record { collections = s.collections; cursors = k.cursors };
+}
+
+abbrev pub kill_reply : StoreView → NamespaceView → List TreeValue → Reply
+kill_reply s n vs = killed_reply s (killing s n vs)
+
+-- the answer of killCursors and what is held after it, or its error
+abbrev pub kill_cursors : StoreView → Tree → Result Reply CommandError
+kill_cursors s t =
+    and_then (namespace_at (codes "killCursors") errors.KillCursors t) (λ n.
+    and_then (body_of t) (λ fields.
+    and_then (or_error errors.Cursors (array_in (first_named (codes "cursors") fields))) (λ vs.
+    Ok (kill_reply s n vs))))
 
 -- ---- drop
 
@@ -134,7 +247,7 @@ list_reply s db f = record { answer = list_answer s db f; held = s }
 abbrev pub list_collections : StoreView → Tree → Result Reply CommandError
 list_collections s t =
     and_then (text_field (codes "$db") errors.Database t) (λ db.
-    and_then (filter_field t) (λ f. Ok (list_reply s db f)))
+    and_then (filter_field (codes "filter") t) (λ f. Ok (list_reply s db f)))
 
 -- ---- all commands
 
@@ -150,11 +263,17 @@ command_of name =
     if bytes_eq name (codes "hello") then commands.Hello else
     if bytes_eq name (codes "isMaster") then commands.LegacyHello else
     if bytes_eq name (codes "ismaster") then commands.LegacyHello else
+    if bytes_eq name (codes "buildInfo") then commands.BuildInfo else
+    if bytes_eq name (codes "buildinfo") then commands.BuildInfo else
     if bytes_eq name (codes "ping") then commands.Ping else
     if bytes_eq name (codes "endSessions") then commands.EndSessions else
     if bytes_eq name (codes "insert") then commands.Insert else
     if bytes_eq name (codes "find") then commands.Find else
     if bytes_eq name (codes "getMore") then commands.GetMore else
+    if bytes_eq name (codes "delete") then commands.Delete else
+    if bytes_eq name (codes "count") then commands.Count else
+    if bytes_eq name (codes "aggregate") then commands.Aggregate else
+    if bytes_eq name (codes "killCursors") then commands.KillCursors else
     if bytes_eq name (codes "drop") then commands.Drop else
     if bytes_eq name (codes "listCollections") then commands.ListCollections else commands.Unknown
 
@@ -169,11 +288,16 @@ unchanged s pairs = Ok (record { answer = pairs; held = s })
 abbrev pub run : Command → StoreView → Content → Result Reply CommandError
 run commands.Hello s c = unchanged s (hello_pairs false)
 run commands.LegacyHello s c = unchanged s (hello_pairs true)
+run commands.BuildInfo s c = unchanged s build_pairs
 run commands.Ping s c = unchanged s ok_alone
 run commands.EndSessions s c = unchanged s ok_alone
 run commands.Insert s c = insert s c
 run commands.Find s c = find s c.body
 run commands.GetMore s c = get_more s c.body
+run commands.Delete s c = delete s c
+run commands.Count s c = count s c.body
+run commands.Aggregate s c = aggregate s c.body
+run commands.KillCursors s c = kill_cursors s c.body
 run commands.Drop s c = drop_collection s c.body
 run commands.ListCollections s c = list_collections s c.body
 run commands.Unknown s c = unchanged s (unknown_pairs (first_name c.body))
@@ -183,9 +307,23 @@ abbrev pub settled : StoreView → Result Reply CommandError → Reply
 settled s (Ok r) = r
 settled s (Err e) = record { answer = refusal_pairs e; held = s }
 
+-- the error of a command with a field that isn't carried out
+abbrev pub unread_pairs : List ℕ → List (List ℕ × TreeValue)
+unread_pairs name =
+    error_pairs (codes "the field '" ++ name ++ codes "' is not carried out") (pos 238)
+    (codes "NotImplemented")
+
+-- what a command is answered that has this field, which isn't carried out, or none
+abbrev pub unless_unread : Option (List ℕ) → StoreView → Reply → Reply
+unless_unread None s r = r
+unless_unread (Some name) s r = record { answer = unread_pairs name; held = s }
+
+abbrev pub reply_of : Command → StoreView → Content → Reply
+reply_of k s c = unless_unread (first_unread k c.body) s (settled s (run k s c))
+
 -- the answer to a request, and what is held after it
 abbrev pub reply_to : StoreView → Content → Reply
-reply_to s c = settled s (run (command_of (first_name c.body)) s c)
+reply_to s c = reply_of (command_of (first_name c.body)) s c
 
 -- ---- carrying them out
 

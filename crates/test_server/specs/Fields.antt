@@ -1,8 +1,8 @@
 -- The fields of a command.
 use Rattle.std.specs.Prelude.{ℕ, ℤ, pos, List, Option, Some, None, Result, Ok, Err, codes, nat_le}
-use Rattle.std.specs.Prelude.{if◌then◌else◌}
+use Rattle.std.specs.Prelude.{Bool, if◌then◌else◌}
 use Rattle.bson_elem.specs.declared.kinds.Kind.TheVariants as kinds
-use Rattle.bson_elem.specs.{Tree, number_value, text_value}
+use Rattle.bson_elem.specs.{Tree, boolean_value, number_value, text_value}
 use Rattle.bson_raw.specs.{TreeValue, first_named, leaf_value}
 use Rattle.test_server.specs.declared.failure.CommandError.{CommandError}
 use Rattle.test_server.specs.declared.failure.CommandError.TheVariants as errors
@@ -38,6 +38,23 @@ namespace_at name error t =
 -- the id of the cursor
 abbrev pub id_field : Tree → Result ℤ CommandError
 id_field t = or_error errors.GetMore (id_of (first_named (codes "getMore") t))
+
+-- the number in a field, or 0 if there is no such field
+abbrev pub asked_number : CommandError → Option TreeValue → Result ℕ CommandError
+asked_number error None = Ok 0
+asked_number error (Some v) = or_error error (count_of v)
+
+abbrev pub number_field : List ℕ → CommandError → Tree → Result ℕ CommandError
+number_field name error t = asked_number error (first_named name t)
+
+-- the truth value in a field, or this one if there is no such field
+abbrev pub asked_flag : Bool → CommandError → Option TreeValue → Result Bool CommandError
+asked_flag otherwise error None = Ok otherwise
+asked_flag otherwise error (Some (leaf_value kinds.Boolean (boolean_value truth))) = Ok truth
+asked_flag otherwise error (Some _) = Err error
+
+abbrev pub flag_field : List ℕ → Bool → CommandError → Tree → Result Bool CommandError
+flag_field name otherwise error t = asked_flag otherwise error (first_named name t)
 
 -- the number, if it is at least this
 abbrev pub at_least : ℕ → CommandError → Option ℕ → Result ℕ CommandError

@@ -1,12 +1,13 @@
 -- The filters of find: which ones are accepted, and which documents match them.
 use Rattle.std.specs.Prelude.{ℕ, List, [], ◌∷◌, Bool, true, false, ◌&&◌, ◌||◌, ◌==◌, Option, Some}
-use Rattle.std.specs.Prelude.{None, Result, Ok, Err, codes, if◌then◌else◌}
+use Rattle.std.specs.Prelude.{None, Result, Ok, Err, if◌then◌else◌}
 use Rattle.bson_elem.specs.declared.kinds.Kind.TheVariants as kinds
 use Rattle.bson_elem.specs.{Tree, inner_pair, leaf_pair, no_pairs}
 use Rattle.bson_raw.specs.{TreeValue, document_value, first_named, leaf_value}
 use Rattle.bson_doc.specs.{coded_value, plain, repeat_depth, same}
 use Rattle.test_server.specs.declared.failure.CommandError.{CommandError}
 use Rattle.test_server.specs.declared.failure.CommandError.TheVariants as errors
+use Rattle.test_server.specs.Errors.{and_then, or_error}
 
 -- ---- which filters are accepted
 
@@ -21,18 +22,17 @@ begins_with_operator no_pairs = false
 begins_with_operator (leaf_pair n k v ps) = is_operator n
 begins_with_operator (inner_pair n k b inner ps) = is_operator n
 
--- the value is an operator with its operands
-abbrev pub is_operators : TreeValue → Bool
-is_operators (document_value kinds.Document b t) = begins_with_operator t
-is_operators _ = false
+-- a field is an operator, or its value is one with its operands
+abbrev pub is_operator_field : List ℕ → TreeValue → Bool
+is_operator_field n (document_value kinds.Document b t) = is_operator n || begins_with_operator t
+is_operator_field n _ = is_operator n
 
 -- a filter has an operator in the place of a field or of a value
 abbrev pub has_operator : Tree → Bool
 has_operator no_pairs = false
-has_operator (leaf_pair n k v ps) =
-    (is_operator n || is_operators (leaf_value k v)) || has_operator ps
+has_operator (leaf_pair n k v ps) = is_operator_field n (leaf_value k v) || has_operator ps
 has_operator (inner_pair n k b inner ps) =
-    (is_operator n || is_operators (document_value k b inner)) || has_operator ps
+    is_operator_field n (document_value k b inner) || has_operator ps
 
 -- a document in its canonical form, if no name is repeated in it or in a document or scope inside
 abbrev pub if_no_repeat : {A : Type 0} → Option ℕ → A → Option A
@@ -42,21 +42,23 @@ if_no_repeat (Some depth) a = None
 abbrev pub owned : Tree → Option Tree
 owned t = if_no_repeat (repeat_depth t) (plain t)
 
+-- the filter, unless it has an operator
+abbrev pub filter_in : Tree → Result Tree CommandError
+filter_in f = if has_operator f then Err errors.Operator else Ok f
+
 -- the filter that is this document
-abbrev pub filter_in : Bool → Option Tree → Result Tree CommandError
-filter_in true f = Err errors.Operator
-filter_in false None = Err errors.Filter
-filter_in false (Some f) = Ok f
+abbrev pub read_filter : Tree → Result Tree CommandError
+read_filter t = and_then (or_error errors.Filter (owned t)) filter_in
 
 -- the filter that a field asks for, or the empty one if there is no such field
 abbrev pub filter_of : Option TreeValue → Result Tree CommandError
 filter_of None = Ok no_pairs
-filter_of (Some (document_value kinds.Document b t)) = filter_in (has_operator t) (owned t)
+filter_of (Some (document_value kinds.Document b t)) = read_filter t
 filter_of (Some _) = Err errors.Filter
 
--- the filter in the field `filter` of a command
-abbrev pub filter_field : Tree → Result Tree CommandError
-filter_field t = filter_of (first_named (codes "filter") t)
+-- the filter in the field of a command with this name
+abbrev pub filter_field : List ℕ → Tree → Result Tree CommandError
+filter_field name t = filter_of (first_named name t)
 
 -- ---- which documents match
 

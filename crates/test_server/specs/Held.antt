@@ -1,9 +1,12 @@
 -- What the server holds, as its contracts see it: documents by namespace, and cursors.
-use Rattle.std.specs.Prelude.{ℕ, zero, suc, ℤ, pos, nat_lt, slice_get, ◌+◌, ◌&&◌, List, [], ◌∷◌}
+use Rattle.std.specs.Prelude.{ℕ, zero, suc, ℤ, pos, nat_le, nat_lt, slice_get, ◌+◌, ◌-◌, ◌&&◌}
+use Rattle.std.specs.Prelude.{List, [], ◌∷◌}
 use Rattle.std.specs.Prelude.{◌++◌, Bool, Option, Some, None, codes, length, map, string_bytes}
-use Rattle.std.specs.Prelude.{if◌then◌else◌, option_map}
+use Rattle.std.specs.Prelude.{if◌then◌else◌, is_some, option_map}
 use Rattle.std.specs.Str.{bytes_eq}
-use Rattle.bson_raw.specs.{TreeValue}
+use Rattle.bson_elem.specs.declared.kinds.Kind.TheVariants as kinds
+use Rattle.bson_elem.specs.{number_value}
+use Rattle.bson_raw.specs.{TreeValue, leaf_value}
 use Rattle.bson_doc.specs.{value_of}
 use Rattle.test_server.specs.declared.namespace.Namespace.{Namespace}
 use Rattle.test_server.specs.declared.namespace.NamespaceBuf.{NamespaceBuf}
@@ -27,7 +30,6 @@ pub record CursorView : Type 0 where
   pub left : List TreeValue
 
 -- The collections, in the order in which the first document of each was inserted, and the cursors.
--- The first cursor has the id 1.
 pub record StoreView : Type 0 where
   pub collections : List CollectionView
   pub cursors : List CursorView
@@ -85,6 +87,20 @@ with_documents n vs (c ∷ cs) =
     then record { namespace = c.namespace; documents = c.documents ++ vs } ∷ cs
     else c ∷ with_documents n vs cs
 
+-- the same, unless there are no documents
+abbrev pub with_any : NamespaceView → List TreeValue → List CollectionView → List CollectionView
+with_any n [] cs = cs
+with_any n (v ∷ vs) cs = with_documents n (v ∷ vs) cs
+
+-- the collections with these documents in the place of those of a namespace
+abbrev pub with_replaced : NamespaceView → List TreeValue → List CollectionView
+    → List CollectionView
+with_replaced n vs [] = with_any n vs []
+with_replaced n vs (c ∷ cs) =
+    if is_same_namespace n c.namespace
+    then record { namespace = c.namespace; documents = vs } ∷ cs
+    else c ∷ with_replaced n vs cs
+
 -- the collections without that of a namespace, or nothing if there is none
 abbrev pub without_collection : NamespaceView → List CollectionView → Option (List CollectionView)
 without_collection n [] = None
@@ -101,6 +117,10 @@ collection_index n (c ∷ cs) =
 
 -- ---- cursors
 
+-- the id of the first cursor, 2 to the power of 32; the next one has the next number
+abbrev pub first_cursor_id : ℕ
+first_cursor_id = 4294967296
+
 -- the cursors with one more over what is left, if anything is left
 abbrev pub opened : NamespaceView → List TreeValue → List CursorView → List CursorView
 opened n [] cs = cs
@@ -109,11 +129,11 @@ opened n (v ∷ vs) cs = cs ++ record { namespace = n; left = v ∷ vs } ∷ []
 -- the id of that cursor, or 0 if none was opened
 abbrev pub opened_id : List TreeValue → List CursorView → ℤ
 opened_id [] cs = pos 0
-opened_id (v ∷ vs) cs = pos (length cs + 1)
+opened_id (v ∷ vs) cs = pos (first_cursor_id + length cs)
 
 -- the index of the cursor with this id
 abbrev pub cursor_index : ℤ → Option ℕ
-cursor_index (pos (suc i)) = Some i
+cursor_index (pos n) = if nat_le first_cursor_id n then Some (n - first_cursor_id) else None
 cursor_index _ = None
 
 -- the cursor, if it is of this namespace and has something left
@@ -138,3 +158,16 @@ with_left (Some (suc i)) vs (c ∷ cs) = c ∷ with_left (Some i) vs cs
 abbrev pub id_if_left : ℤ → List TreeValue → ℤ
 id_if_left id [] = pos 0
 id_if_left id (v ∷ vs) = id
+
+-- the index of the cursor whose id is a value
+abbrev pub index_of_value : TreeValue → Option ℕ
+index_of_value (leaf_value kinds.Int64 (number_value z)) = cursor_index z
+index_of_value _ = None
+
+-- whether an open cursor of this namespace is at an index
+abbrev pub is_open : NamespaceView → Option ℕ → List CursorView → Bool
+is_open n i cs = is_some (open_at n i cs)
+
+-- the cursors, after the one at an index was closed, if it is an open one of this namespace
+abbrev pub closed_at : NamespaceView → Option ℕ → List CursorView → List CursorView
+closed_at n i cs = if is_open n i cs then with_left i [] cs else cs

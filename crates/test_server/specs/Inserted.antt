@@ -1,6 +1,6 @@
--- The documents of an insert.
-use Rattle.std.specs.Prelude.{◌≡◌, ◌&&◌, List, [], ◌∷◌, ◌++◌, length, Option, Some, None, Result}
-use Rattle.std.specs.Prelude.{Ok, Err, codes, nat_le, option_map, if◌then◌else◌}
+-- The documents that a command brings: those of an insert, or the statements of a delete.
+use Rattle.std.specs.Prelude.{◌≡◌, ◌&&◌, ℕ, List, [], ◌∷◌, ◌++◌, length, Option, Some, None, Result}
+use Rattle.std.specs.Prelude.{Ok, Err, nat_le, option_map, if◌then◌else◌}
 use Rattle.std.specs.Str.{bytes_eq}
 use Rattle.bson_elem.specs.declared.kinds.Kind.TheVariants as kinds
 use Rattle.bson_elem.specs.{Tree, inner_pair, leaf_pair, no_code, no_pairs}
@@ -52,19 +52,19 @@ joined None others = None
 joined (Some vs) others = followed_by vs others
 
 -- those of a sequence; one with another identifier has none
-abbrev pub sequence_documents : Sequence → Option (List TreeValue)
-sequence_documents q =
-    if bytes_eq q.identifier (codes "documents") then in_sequence q.documents else Some []
+abbrev pub sequence_documents : List ℕ → Sequence → Option (List TreeValue)
+sequence_documents name q =
+    if bytes_eq q.identifier name then in_sequence q.documents else Some []
 
-abbrev pub in_sequences : List Sequence → Option (List TreeValue)
-in_sequences [] = Some []
-in_sequences (q ∷ qs) = joined (sequence_documents q) (in_sequences qs)
+abbrev pub in_sequences : List ℕ → List Sequence → Option (List TreeValue)
+in_sequences name [] = Some []
+in_sequences name (q ∷ qs) = joined (sequence_documents name q) (in_sequences name qs)
 
--- the documents of the array `documents` in the body, or of the sequences with this identifier
-abbrev pub in_field : List Sequence → Option TreeValue → Option (List TreeValue)
-in_field qs None = in_sequences qs
-in_field qs (Some (document_value kinds.Array b t)) = in_array t
-in_field qs (Some _) = None
+-- the documents of an array in the body, or of the sequences with this identifier
+abbrev pub in_field : List ℕ → List Sequence → Option TreeValue → Option (List TreeValue)
+in_field name qs None = in_sequences name qs
+in_field name qs (Some (document_value kinds.Array b t)) = in_array t
+in_field name qs (Some _) = None
 
 -- the documents, if there are 1 to 100,000 of them
 abbrev pub if_count_allowed : Option (List TreeValue) → Result (List TreeValue) CommandError
@@ -72,9 +72,9 @@ if_count_allowed None = Err errors.Documents
 if_count_allowed (Some vs) =
     if (nat_le 1 (length vs) && nat_le (length vs) 100000) then Ok vs else Err errors.Documents
 
--- the documents of an insert
-abbrev pub inserted : Content → Result (List TreeValue) CommandError
-inserted c = if_count_allowed (in_field c.sequences (first_named (codes "documents") c.body))
+-- the documents that a command brings under this name
+abbrev pub brought : List ℕ → Content → Result (List TreeValue) CommandError
+brought name c = if_count_allowed (in_field name c.sequences (first_named name c.body))
 
 -- ---- appending them
 

@@ -4,7 +4,14 @@ pub mod Errors
 pub mod Fields
 pub mod Filters
 pub mod Inserted
+pub mod Options
+pub mod Owned
+pub mod Selecting
+pub mod Deleting
+pub mod Pipelines
 pub mod Answers
+pub mod Identity
+pub mod Adding
 pub mod Commands
 pub mod Queries
 pub mod Handling

@@ -1,14 +1,18 @@
--- The transcript of a connection: its requests with their answers, and how it ended.
+-- The transcript: connections that are new, requests with their answers, and how each connection
+-- ended.
 use Rattle.std.specs.Prelude.{ℕ, List, ◌++◌, codes, flat_map, Option, None, Some}
 use Rattle.std.specs.Fmt.{decimal}
 use Rattle.bson_text.specs.{document_text, quoted}
 use Rattle.wire_msg.specs.{Content, fault_text}
 use Rattle.wire_text.specs.{text_of_sequence}
 use Rattle.wire_text.specs.declared.messages.Detail.TheVariants.{Line}
-use Rattle.wire_end.specs.declared.serving.ServeEnd.{ServeEnd}
-use Rattle.wire_end.specs.declared.serving.ServeEnd.TheVariants.{Ended, EndedInside, Fault, Link}
-use Rattle.wire_end.specs.declared.serving.ServeEnd.TheVariants.{Later, Budget, ReplyTooLarge}
-use Rattle.wire_end.specs.declared.serving.ServeEnd.TheVariants.{OutOfMemory, HandlerFailed}
+use Rattle.wire_front.specs.declared.cause.FrontCause.{FrontCause}
+use Rattle.wire_front.specs.declared.cause.FrontCause.TheVariants as fronts
+use Rattle.wire_hall.specs.declared.turned.Leave.{Leave}
+use Rattle.wire_hall.specs.declared.turned.Leave.TheVariants as leaves
+use Rattle.wire_peer.specs.declared.server_state.ServerCause.{ServerCause}
+use Rattle.wire_peer.specs.declared.server_state.ServerCause.TheVariants as causes
+use Rattle.wire_query.specs.{query_fault_text}
 use Rattle.wire_peer.specs.{LogEntry}
 use Rattle.test_server.specs.Commands.{first_name}
 
@@ -31,19 +35,41 @@ outcome_text None = codes "no answer\n"
 abbrev pub entry_text : LogEntry → List ℕ
 entry_text e = request_text e.payload ++ outcome_text e.answers
 
-abbrev pub end_text : ServeEnd → List ℕ
-end_text (Fault f) = fault_text f.at f.cause ++ codes "\n"
-end_text Ended = codes "end Ended\n"
-end_text EndedInside = codes "end EndedInside\n"
-end_text Link = codes "end Link\n"
-end_text Later = codes "end Later\n"
-end_text Budget = codes "end Budget\n"
-end_text ReplyTooLarge = codes "end ReplyTooLarge\n"
-end_text OutOfMemory = codes "end OutOfMemory\n"
-end_text HandlerFailed = codes "end HandlerFailed\n"
+-- an entry under the number of its connection
+abbrev pub connection_line : ℕ → List ℕ
+connection_line number = codes "connection " ++ (decimal number ++ codes "\n")
 
--- the transcript of a connection: its number, its entries, and how it ended
-abbrev pub connection_text : ℕ → List LogEntry → ServeEnd → List ℕ
-connection_text number entries end =
-    codes "connection " ++ (decimal number
-    ++ (codes "\n" ++ (flat_map entry_text entries ++ end_text end)))
+abbrev pub told_text : LogEntry → List ℕ
+told_text e = connection_line e.connection ++ entry_text e
+
+-- the line of a connection that is new
+abbrev pub new_text : ℕ → List ℕ
+new_text number = codes "connection " ++ (decimal number ++ codes " new\n")
+
+-- ---- how a connection ended
+
+abbrev pub server_cause_text : ServerCause → List ℕ
+server_cause_text (causes.Message f) = fault_text f.at f.cause ++ codes "\n"
+server_cause_text causes.Ended = codes "Ended\n"
+server_cause_text causes.EndedInside = codes "EndedInside\n"
+server_cause_text causes.ReplyTooLarge = codes "ReplyTooLarge\n"
+server_cause_text causes.NoMemory = codes "OutOfMemory\n"
+server_cause_text causes.HandlerFailed = codes "HandlerFailed\n"
+
+abbrev pub cause_text : FrontCause → List ℕ
+cause_text (fronts.Server cause) = server_cause_text cause
+cause_text (fronts.Query f) = query_fault_text f.at f.cause ++ codes "\n"
+cause_text fronts.EndedInside = codes "EndedInside\n"
+cause_text fronts.NotAlone = codes "NotAlone\n"
+cause_text fronts.ReplyTooLarge = codes "ReplyTooLarge\n"
+cause_text fronts.NoMemory = codes "OutOfMemory\n"
+
+abbrev pub leave_text : Leave → List ℕ
+leave_text (leaves.Closed cause) = cause_text cause
+leave_text (leaves.Link fault) = codes "Link\n"
+leave_text leaves.OutOfMemory = codes "OutOfMemory\n"
+
+-- the line of a connection that ended
+abbrev pub end_text : ℕ → Leave → List ℕ
+end_text number leave =
+    (codes "connection " ++ (decimal number ++ codes " end ")) ++ leave_text leave

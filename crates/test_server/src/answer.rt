@@ -1,8 +1,9 @@
 //! Makes the parts of answers.
 
-ghost use Rattle.std.specs.Prelude.{◌≡◌, IfOk, OnOk, OnSome, codes, map, string_bytes};
+ghost use Rattle.std.specs.Prelude.{◌≡◌, ◌<◌, ◌^◌, IfOk, OnOk, OnSome, codes, map, string_bytes};
 ghost use Rattle.bson_doc.specs.{value_of, put};
-ghost use Rattle.test_server.specs.Answers.{batch_name, cursor_answer, cursor_pairs, double_one};
+ghost use Rattle.test_server.specs.Answers.{batch_name, count_value, counted_pairs, cursor_answer};
+ghost use Rattle.test_server.specs.Answers.{cursor_pairs, double_one};
 ghost use Rattle.test_server.specs.Answers.{error_pairs, inner, ok_alone, refusal_pairs, text};
 
 use crate::failure::CommandError;
@@ -74,6 +75,29 @@ pub fn ok_alone(alloc: Global) -> Result<Document, AllocError>
     ensures { IfOk result (λ d. d ≡ ok_alone) }
 {
     let mut answer = Document::new(alloc);
+    set_ok(alloc, &mut answer)?;
+    Ok(answer)
+}
+
+/// Returns a number as a value: an int32 if it fits, and otherwise an int64.
+pub fn count_value(count: usize) -> Bson
+    requires { count < 2 ^ 63 }
+    ensures { value_of result ≡ count_value count }
+{
+    if count < 0x8000_0000 {
+        Bson::Int32(count as i32)
+    } else {
+        Bson::Int64(count as i64)
+    }
+}
+
+/// Makes the answer with a number of documents in its field `n`.
+pub fn counted_answer(alloc: Global, count: usize) -> Result<Document, AllocError>
+    requires { count < 2 ^ 63 }
+    ensures { IfOk result (λ d. d ≡ counted_pairs count) }
+{
+    let mut answer = Document::new(alloc);
+    set(alloc, &mut answer, "n", count_value(count))?;
     set_ok(alloc, &mut answer)?;
     Ok(answer)
 }

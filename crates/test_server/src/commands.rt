@@ -1,10 +1,15 @@
 //! Carries out the commands that the server knows. Each has a module of its own.
 
+mod aggregate;
+mod build_info;
+mod count;
+mod delete;
 mod drop_collection;
 mod find;
 mod get_more;
 mod hello;
 mod insert;
+mod kill_cursors;
 mod list_collections;
 
 ghost use Rattle.std.specs.Prelude.{◌≡◌, ◌≢◌, IfOk, OnErr};
@@ -12,19 +17,25 @@ ghost use Rattle.bson_elem.specs.{Spells, Tree};
 ghost use Rattle.bson_raw.specs.{document_bytes};
 ghost use Rattle.wire_msg.specs.{Carries, Content};
 ghost use Rattle.test_server.specs.Commands.{IsCarriedOut, command_of, first_name, reply_to, run};
-ghost use Rattle.test_server.specs.Commands.{unknown_pairs};
+ghost use Rattle.test_server.specs.Commands.{settled, unknown_pairs, unread_pairs};
 ghost use Rattle.test_server.specs.Held.{store_of};
 
 use crate::answer::{error_answer, ok_alone, refusal_answer};
 use crate::failure::Failure;
+use crate::options::first_unread;
 use crate::store::Store;
+use aggregate::aggregate;
 use bson_doc::Document;
 use bson_raw::RawDocument;
+use build_info::build_info;
+use count::count;
+use delete::delete;
 use drop_collection::drop_collection;
 use find::find;
 use get_more::get_more;
 use hello::hello;
 use insert::insert;
+use kill_cursors::kill_cursors;
 use list_collections::list_collections;
 use std::alloc::{AllocError, Global};
 use wire_msg::Payload;
@@ -34,11 +45,16 @@ use wire_msg::Payload;
 pub enum Command {
     Hello,
     LegacyHello,
+    BuildInfo,
     Ping,
     EndSessions,
     Insert,
     Find,
     GetMore,
+    Delete,
+    Count,
+    Aggregate,
+    KillCursors,
     Drop,
     ListCollections,
     Unknown,
@@ -51,11 +67,16 @@ fn command_of(name: &str) -> Command
     match name {
         "hello" => Command::Hello,
         "isMaster" | "ismaster" => Command::LegacyHello,
+        "buildInfo" | "buildinfo" => Command::BuildInfo,
         "ping" => Command::Ping,
         "endSessions" => Command::EndSessions,
         "insert" => Command::Insert,
         "find" => Command::Find,
         "getMore" => Command::GetMore,
+        "delete" => Command::Delete,
+        "count" => Command::Count,
+        "aggregate" => Command::Aggregate,
+        "killCursors" => Command::KillCursors,
         "drop" => Command::Drop,
         "listCollections" => Command::ListCollections,
         _ => Command::Unknown,
@@ -89,7 +110,7 @@ fn run(command: Command, store: &mut Store, payload: Payload<'_>) -> Result<Docu
         (store_of store.new) }
     ensures kept { OnErr result
         ((store_of store.new).collections ≡ (store_of store.old).collections) }
-    ensures steady { command ≢ Command.Insert → command ≢ Command.Drop
+    ensures steady { command ≢ Command.Insert → command ≢ Command.Drop → command ≢ Command.Delete
         → (store_of store.new).collections ≡ (store_of store.old).collections }
 {
     let alloc = store.allocator();
@@ -97,13 +118,49 @@ fn run(command: Command, store: &mut Store, payload: Payload<'_>) -> Result<Docu
     match command {
         Command::Hello => Ok(hello(alloc, false)?),
         Command::LegacyHello => Ok(hello(alloc, true)?),
+        Command::BuildInfo => Ok(build_info(alloc)?),
         Command::Ping | Command::EndSessions => Ok(ok_alone(alloc)?),
         Command::Insert => insert(alloc, store, payload),
         Command::Find => find(alloc, store, body),
         Command::GetMore => get_more(alloc, store, body),
+        Command::Delete => delete(alloc, store, payload),
+        Command::Count => count(alloc, store, body),
+        Command::Aggregate => aggregate(alloc, store, body),
+        Command::KillCursors => kill_cursors(alloc, store, body),
         Command::Drop => drop_collection(alloc, store, body),
         Command::ListCollections => list_collections(alloc, store, body),
         Command::Unknown => Ok(unknown_command(alloc, name_of(body))?),
+    }
+}
+
+/// Makes the answer that says that a command has a field which isn't carried out.
+fn unread_field(alloc: Global, name: &str) -> Result<Document, AllocError>
+    ensures { IfOk result (λ d. d ≡ unread_pairs name.now) }
+{
+    let mut words = String::from_str(alloc, "the field '")?;
+    words.push_str(name)?;
+    words.push_str("' is not carried out")?;
+    error_answer(alloc, words.as_str(), 238, "NotImplemented")
+}
+
+/// Carries out a command, and returns its answer, or that to its error.
+fn carry_out(
+    command: Command,
+    store: &mut Store,
+    payload: Payload<'_>,
+) -> Result<Document, AllocError>
+    ensures answered { (c : Content) → Carries payload.entry c
+        → IfOk result (λ d. settled (store_of store.old) (run command (store_of store.old) c)
+        ≡ record { answer = d; held = store_of store.new }) }
+    ensures kept { OnErr result
+        ((store_of store.new).collections ≡ (store_of store.old).collections) }
+    ensures steady { command ≢ Command.Insert → command ≢ Command.Drop → command ≢ Command.Delete
+        → (store_of store.new).collections ≡ (store_of store.old).collections }
+{
+    match run(command, store, payload) {
+        Ok(answer) => Ok(answer),
+        Err(Failure::Refused(error)) => refusal_answer(store.allocator(), error),
+        Err(Failure::OutOfMemory) => Err(AllocError),
     }
 }
 
@@ -121,12 +178,12 @@ pub fn answer_to(store: &mut Store, payload: Payload<'_>) -> Result<Document, Al
     ensures steady { (c : Content) → Carries payload.entry c
         → command_of (first_name c.body) ≢ Command.Insert
         → command_of (first_name c.body) ≢ Command.Drop
+        → command_of (first_name c.body) ≢ Command.Delete
         → (store_of store.new).collections ≡ (store_of store.old).collections }
 {
     let command = command_of(name_of(payload.body()));
-    match run(command, store, payload) {
-        Ok(answer) => Ok(answer),
-        Err(Failure::Refused(error)) => refusal_answer(store.allocator(), error),
-        Err(Failure::OutOfMemory) => Err(AllocError),
+    match first_unread(command, payload.body()) {
+        Some(name) => unread_field(store.allocator(), name),
+        None => carry_out(command, store, payload),
     }
 }

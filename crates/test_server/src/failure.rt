@@ -19,14 +19,40 @@ pub enum CommandError {
     GetMore,
     /// The field `collection` isn't a string.
     Collection,
-    /// The documents to insert aren't 1 to 100,000 documents, or a name is repeated in one.
+    /// The field `delete` isn't a string.
+    Delete,
+    /// The field `aggregate` isn't a string.
+    Aggregate,
+    /// The pipeline isn't an array of stages that are carried out.
+    Stage,
+    /// The field `cursor` isn't a document.
+    Cursor,
+    /// The field `count` isn't a string.
+    Count,
+    /// A statement of delete hasn't just the fields `q` and `limit`, of which this is 0 or 1.
+    Deletes,
+    /// The field `killCursors` isn't a string.
+    KillCursors,
+    /// The field `cursors` isn't an array.
+    Cursors,
+    /// A name is repeated in the body, or in a document inside.
+    Repeated,
+    /// What the command brings isn't 1 to 100,000 documents, or a name is repeated in one.
     Documents,
+    /// The field `ordered` isn't a boolean.
+    Ordered,
     /// The filter isn't a document, or a name is repeated in it.
     Filter,
     /// The filter has an operator.
     Operator,
+    /// The number of documents to skip isn't a whole number.
+    Skip,
+    /// The most documents to find isn't a whole number.
+    Limit,
     /// The number of documents in the first batch isn't a whole number.
     FirstBatchSize,
+    /// The field `singleBatch` isn't a boolean.
+    SingleBatch,
     /// The number of documents in a later batch isn't a whole number that is at least 1.
     NextBatchSize,
     /// No open cursor has this id and this namespace.
@@ -71,11 +97,27 @@ impl CommandError {
             CommandError::Drop => "the field 'drop' must be a string",
             CommandError::GetMore => "the field 'getMore' must be an int64",
             CommandError::Collection => "the field 'collection' must be a string",
-            CommandError::Documents => {
-                "the field 'documents' must be from 1 to 100000 documents, with no name twice in one"
+            CommandError::KillCursors => "the field 'killCursors' must be a string",
+            CommandError::Cursors => "the field 'cursors' must be an array",
+            CommandError::Repeated => "a document of the command has a name twice",
+            CommandError::Delete => "the field 'delete' must be a string",
+            CommandError::Aggregate => "the field 'aggregate' must be a string",
+            CommandError::Stage => {
+                "the stages must be $match, $skip, $limit and {$group: {_id: 1, n: {$sum: 1}}}"
             }
+            CommandError::Cursor => "the field 'cursor' must be a document",
+            CommandError::Count => "the field 'count' must be a string",
+            CommandError::Deletes =>
+                "a statement must have a filter 'q' and a 'limit' of 0 or 1 alone",
+            CommandError::Documents => {
+                "the command must bring from 1 to 100000 documents, with no name twice in one"
+            }
+            CommandError::Ordered => "the field 'ordered' must be a boolean",
             CommandError::Filter => "the field 'filter' must be a document with no name twice",
             CommandError::Operator => "the field 'filter' must have no operator",
+            CommandError::Skip => "the field 'skip' must be a whole number",
+            CommandError::Limit => "the field 'limit' must be a whole number",
+            CommandError::SingleBatch => "the field 'singleBatch' must be a boolean",
             CommandError::FirstBatchSize => "the field 'batchSize' must be a whole number",
             CommandError::NextBatchSize => "the field 'batchSize' must be a whole number from 1 on",
             CommandError::CursorNotFound =>

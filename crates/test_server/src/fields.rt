@@ -4,7 +4,7 @@ ghost use Rattle.std.specs.Prelude.{◌≡◌, Err, MatchOption, MatchResult, No
 ghost use Rattle.bson_elem.specs.{Spells, Tree};
 ghost use Rattle.bson_raw.specs.{Shows, ShowsFound, TreeValue, document_bytes, first_named};
 ghost use Rattle.test_server.specs.Fields.{batch_size, count_of, id_field, id_of, namespace_at};
-ghost use Rattle.test_server.specs.Fields.{text_field, text_of};
+ghost use Rattle.test_server.specs.Fields.{flag_field, number_field, text_field, text_of};
 ghost use Rattle.test_server.specs.Held.{namespace_of};
 
 use crate::failure::CommandError;
@@ -12,7 +12,7 @@ use crate::namespace::Namespace;
 use bson_raw::{RawBson, RawDocument};
 
 /// The most documents in a batch, if the command doesn't say.
-const DEFAULT_BATCH_SIZE: usize = 101;
+pub const DEFAULT_BATCH_SIZE: usize = 101;
 
 /// Returns the text of a value, if it is a string.
 fn text_of(value: Option<RawBson<'_>>) -> Option<&str>
@@ -104,6 +104,49 @@ pub fn id_field(body: RawDocument<'_>) -> Result<i64, CommandError>
     match id_of(body.get("getMore")) {
         Some(id) => Ok(id),
         None => Err(CommandError::GetMore),
+    }
+}
+
+/// Returns the whole number in the field `name`, or 0 if there is no such field.
+///
+/// # Errors
+///
+/// Returns `error` if it isn't a whole number.
+pub fn number_field(
+    body: RawDocument<'_>,
+    name: &str,
+    error: CommandError,
+) -> Result<usize, CommandError>
+    ensures { (t : Tree) → Spells t (document_bytes body.entry)
+        → result ≡ number_field name.now error t }
+{
+    let Some(value) = body.get(name) else {
+        return Ok(0);
+    };
+    match count_of(value) {
+        Some(number) => Ok(number),
+        None => Err(error),
+    }
+}
+
+/// Returns the truth value in the field `name`, or `otherwise` if there is no such field.
+///
+/// # Errors
+///
+/// Returns `error` if it isn't a boolean.
+pub fn flag_field(
+    body: RawDocument<'_>,
+    name: &str,
+    otherwise: bool,
+    error: CommandError,
+) -> Result<bool, CommandError>
+    ensures { (t : Tree) → Spells t (document_bytes body.entry)
+        → result ≡ flag_field name.now otherwise error t }
+{
+    match body.get(name) {
+        None => Ok(otherwise),
+        Some(RawBson::Boolean(truth)) => Ok(truth),
+        Some(_) => Err(error),
     }
 }
 

@@ -1,14 +1,15 @@
-//! Collects the documents of an insert: those of an array in its body, or of its sequences.
+//! Collects the documents that a command brings: those of an array in its body, or of its
+//! sequences.
 
-ghost use Rattle.std.specs.Prelude.{◌≡◌, ◌∷◌, [], IfErr, IfOk, List, Ok, codes, map, vec_len, ◌≤◌};
+ghost use Rattle.std.specs.Prelude.{◌≡◌, ◌∷◌, [], IfErr, IfOk, List, Ok, map, vec_len, ◌≤◌};
 ghost use Rattle.bson_elem.specs.{Spells, Tree};
 ghost use Rattle.bson_raw.specs.{Shows, TreeValue, array_bytes, document_bytes, first_named};
 ghost use Rattle.bson_doc.specs.{value_of};
 ghost use Rattle.wire_msg.specs.{Carries, Content, DocumentsAre, Sequence};
 ghost use Rattle.test_server.specs.Errors.{IsFailure};
 ghost use Rattle.test_server.specs.Inserted.{Appended, in_array, in_field, in_sequence};
-ghost use Rattle.test_server.specs.Inserted.{in_sequences, alone, sequence_documents, inserted};
-ghost use Rattle.test_server.specs.Inserted.{kept_value};
+ghost use Rattle.test_server.specs.Inserted.{alone, brought, in_sequences, kept_value};
+ghost use Rattle.test_server.specs.Inserted.{sequence_documents};
 
 use crate::failure::{CommandError, Failure};
 use bson_doc::{Bson, DocRefusal, Document};
@@ -79,70 +80,81 @@ fn push_sequence(
     Ok(())
 }
 
-/// Appends the documents of a sequence if its identifier is `documents`, and otherwise none.
+/// Appends the documents of a sequence if its identifier is `name`, and otherwise none.
 fn push_brought(
     alloc: Global,
+    name: &str,
     identifier: &str,
     sequence: Documents<'_>,
     documents: &mut Vec<Bson>,
 ) -> Result<(), Failure>
     ensures { (q : Sequence) → identifier.now ≡ q.identifier
         → DocumentsAre sequence.entry q.documents
-        → Appended (map value_of documents.old.items) (sequence_documents q) result
+        → Appended (map value_of documents.old.items) (sequence_documents name.now q) result
         (map value_of documents.new.items) }
 {
-    if identifier == "documents" {
+    if identifier == name {
         push_sequence(alloc, sequence, documents)
     } else {
         Ok(())
     }
 }
 
-/// Appends the documents of all sequences `documents`, in order.
+/// Appends the documents of all sequences with the identifier `name`, in order.
 fn push_sequences(
     alloc: Global,
+    name: &str,
     payload: Payload<'_>,
     documents: &mut Vec<Bson>,
 ) -> Result<(), Failure>
     ensures { (c : Content) → Carries payload.entry c
-        → Appended (map value_of documents.old.items) (in_sequences c.sequences) result
+        → Appended (map value_of documents.old.items) (in_sequences name.now c.sequences) result
         (map value_of documents.new.items) }
 {
     for (identifier, sequence) in payload.sequences() {
-        push_brought(alloc, identifier, sequence, documents)?;
+        push_brought(alloc, name, identifier, sequence, documents)?;
     }
     Ok(())
 }
 
-/// Appends the documents of an insert.
-fn push_all(alloc: Global, payload: Payload<'_>, documents: &mut Vec<Bson>) -> Result<(), Failure>
+/// Appends the documents that a command brings under a name.
+fn push_all(
+    alloc: Global,
+    name: &str,
+    payload: Payload<'_>,
+    documents: &mut Vec<Bson>,
+) -> Result<(), Failure>
     ensures { (c : Content) → Carries payload.entry c
         → Appended (map value_of documents.old.items)
-        (in_field c.sequences (first_named (codes "documents") c.body)) result
+        (in_field name.now c.sequences (first_named name.now c.body)) result
         (map value_of documents.new.items) }
 {
-    match payload.body().get("documents") {
-        None => push_sequences(alloc, payload, documents),
+    match payload.body().get(name) {
+        None => push_sequences(alloc, name, payload, documents),
         Some(RawBson::Array(array)) => push_array(alloc, array, documents),
         Some(_) => Err(Failure::Refused(CommandError::Documents)),
     }
 }
 
-/// Returns the documents of an insert: those of the array `documents` in its body, or of the
-/// sequences with the identifier `documents`.
+/// Returns the documents that a command brings under a name: those of the array in its body, or of
+/// the sequences with this identifier.
 ///
 /// # Errors
 ///
 /// Returns `Documents` if they aren't 1 to 100,000 documents, or a name is repeated in one.
-pub fn inserted_documents(alloc: Global, payload: Payload<'_>) -> Result<Vec<Bson>, Failure>
+pub fn brought_documents(
+    alloc: Global,
+    payload: Payload<'_>,
+    name: &str,
+) -> Result<Vec<Bson>, Failure>
     ensures ok { (c : Content) → Carries payload.entry c
-        → IfOk result (λ vs. inserted c ≡ Ok (map value_of vs.items)) }
+        → IfOk result (λ vs. brought name.now c ≡ Ok (map value_of vs.items)) }
     ensures refused { (c : Content) → Carries payload.entry c
-        → IfErr result (λ e. IsFailure (inserted c) e) }
+        → IfErr result (λ e. IsFailure (brought name.now c) e) }
     ensures few { IfOk result (λ vs. vec_len vs ≤ 100_000) }
 {
     let mut documents = Vec::new(alloc);
-    push_all(alloc, payload, &mut documents)?;
+    push_all(alloc, name, payload, &mut documents)?;
     if documents.is_empty() || documents.len() > MOST_DOCUMENTS {
         return Err(Failure::Refused(CommandError::Documents));
     }

@@ -1,29 +1,36 @@
 //! `test_server` is a server for trying out drivers. It keeps documents in memory, answers the
 //! commands that README.md lists, and writes down each request with its answer.
 //!
-//! It serves one connection after another. Bytes that are not a message, or a request that can't
-//! be answered, end at most that connection. The server goes on with the next, unless memory ran
-//! out.
+//! It serves many connections at once, in one thread. Bytes that are neither a message nor the
+//! query of a command, or a request that can't be answered, end at most that connection. The server
+//! goes on with the others, unless memory ran out.
 //!
 //! The exit status is 0 if as many connections were served as the command line says, 2 if the
 //! command line is at fault, 3 if listening, accepting a connection or writing the output failed,
 //! and 4 if memory ran out.
 //!
-//! Uses bson_doc, wire_peer and wire_text. Read first: `store`, then `commands`, and then
+//! Uses bson_doc, wire_hall and wire_text. Read first: `store`, then `commands`, and then
 //! `connections`.
 #![tactic(auto)]
 
+mod adding;
 mod answer;
 mod choice;
 mod command_line;
 mod commands;
 mod connections;
+mod deletes;
 mod failure;
 mod fields;
 mod filters;
 mod handling;
+mod identity;
 mod inserted;
 mod namespace;
+mod options;
+mod owned;
+mod pipeline;
+mod selection;
 mod store;
 mod transcript;
 

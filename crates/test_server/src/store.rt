@@ -6,7 +6,8 @@ ghost use Rattle.bson_doc.specs.{value_of};
 ghost use Rattle.test_server.specs.Held.{collection_index, collection_of, cursor_index, cursor_of};
 ghost use Rattle.test_server.specs.Held.{documents_in, empty_store, id_if_left, namespace_of};
 ghost use Rattle.test_server.specs.Held.{open_at, opened, opened_id, store_of, with_documents};
-ghost use Rattle.test_server.specs.Held.{with_left, without_collection};
+ghost use Rattle.test_server.specs.Held.{closed_at, index_of_value, is_open, with_left};
+ghost use Rattle.test_server.specs.Held.{with_any, with_replaced, without_collection};
 ghost use Rattle.test_server.specs.Taking.{IsNextBatch, IsOpenAt};
 
 use crate::failure::{CommandError, Failure};
@@ -38,9 +39,12 @@ pub struct Cursor {
 pub struct Store {
     /// The collections, in the order in which the first document of each was inserted.
     pub collections: Vec<Collection>,
-    /// The cursors. The id of each is its index, counted from 1.
+    /// The cursors. The id of each is its index, counted from `FIRST_CURSOR_ID`.
     pub cursors: Vec<Cursor>,
 }
+
+/// The id of the first cursor. A driver may send a smaller number back as an int32.
+const FIRST_CURSOR_ID: i64 = 1 << 32;
 
 /// Returns the index of the first collection with this namespace.
 fn index_of(collections: &[Collection], namespace: Namespace<'_>) -> Option<usize>
@@ -113,6 +117,51 @@ impl Store {
         }
     }
 
+    /// Inserts documents, unless there are none.
+    fn insert_any(
+        &mut self,
+        namespace: Namespace<'_>,
+        documents: Vec<Bson>,
+    ) -> Result<(), AllocError>
+        ensures inserted { OnOk result ((store_of self.new).collections
+            ≡ with_any (namespace_of namespace.entry) (map value_of documents.items)
+            (store_of self.old).collections) }
+        ensures unchanged { OnErr result
+            ((store_of self.new).collections ≡ (store_of self.old).collections) }
+        ensures cursors { (store_of self.new).cursors ≡ (store_of self.old).cursors }
+    {
+        if documents.is_empty() {
+            return Ok(());
+        }
+        self.insert(namespace, documents)
+    }
+
+    /// Puts these documents in the place of those of a namespace.
+    ///
+    /// # Errors
+    ///
+    /// Returns `AllocError` if memory runs out. Then the held documents are unchanged.
+    pub fn put_documents(
+        &mut self,
+        namespace: Namespace<'_>,
+        documents: Vec<Bson>,
+    ) -> Result<(), AllocError>
+        ensures replaced { OnOk result ((store_of self.new).collections
+            ≡ with_replaced (namespace_of namespace.entry) (map value_of documents.items)
+            (store_of self.old).collections) }
+        ensures unchanged { OnErr result
+            ((store_of self.new).collections ≡ (store_of self.old).collections) }
+        ensures cursors { (store_of self.new).cursors ≡ (store_of self.old).cursors }
+    {
+        match index_of(&self.collections, namespace) {
+            Some(i) => {
+                self.collections[i].documents = documents;
+                Ok(())
+            }
+            None => self.insert_any(namespace, documents),
+        }
+    }
+
     /// Drops the documents of a namespace.
     ///
     /// # Errors
@@ -163,8 +212,11 @@ impl Store {
         }
         let alloc = self.allocator();
         let namespace = namespace.to_buf(alloc)?;
+        let Some(id) = FIRST_CURSOR_ID.checked_add(self.cursors.len() as i64) else {
+            return Err(AllocError);
+        };
         self.cursors.push(Cursor { namespace, left })?;
-        Ok(self.cursors.len() as i64)
+        Ok(id)
     }
 
     /// Returns the index of the open cursor with this id and this namespace.
@@ -184,14 +236,38 @@ impl Store {
     }
 }
 
+impl Store {
+    /// Closes the open cursor of this namespace whose id is a value. Returns true if there is one.
+    pub fn close_cursor(&mut self, id: &Bson, namespace: Namespace<'_>) -> bool
+        ensures closed { result ≡ is_open (namespace_of namespace.entry)
+            (index_of_value (value_of id.now)) (store_of self.old).cursors }
+        ensures cursors { (store_of self.new).cursors
+            ≡ closed_at (namespace_of namespace.entry) (index_of_value (value_of id.now))
+            (store_of self.old).cursors }
+        ensures collections { (store_of self.new).collections ≡ (store_of self.old).collections }
+    {
+        let Bson::Int64(id) = id else {
+            return false;
+        };
+        match self.open_cursor_index(*id, namespace) {
+            Some(index) => {
+                let alloc = self.allocator();
+                self.cursors[index].left = Vec::new(alloc);
+                true
+            }
+            None => false,
+        }
+    }
+}
+
 /// Returns the index of the cursor with this id.
 fn index_of_id(id: i64) -> Option<usize>
     ensures { result ≡ cursor_index id }
 {
-    if id < 1 {
+    if id < FIRST_CURSOR_ID {
         None
     } else {
-        Some((id - 1) as usize)
+        Some((id - FIRST_CURSOR_ID) as usize)
     }
 }
 

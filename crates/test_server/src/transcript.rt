@@ -1,19 +1,22 @@
-//! Writes the transcript of a connection: each request with its answer, and how it ended.
+//! Writes the transcript: each connection that is new, each request with its answer under the
+//! number of its connection, and how each connection ended.
 
 ghost use Rattle.std.specs.Prelude.{◌≡◌, OnOk, codes, flat_map, map};
 ghost use Rattle.text_writer.specs.{WritesOut};
 ghost use Rattle.wire_msg.specs.{Carries, Content};
 ghost use Rattle.wire_peer.specs.{buf_content, entry_of, log_of, outcome_of};
-ghost use Rattle.test_server.specs.Transcript.{answer_text, connection_text, end_text, entry_text};
-ghost use Rattle.test_server.specs.Transcript.{outcome_text, payload_text, request_text};
+ghost use Rattle.test_server.specs.Transcript.{answer_text, cause_text, end_text, entry_text};
+ghost use Rattle.test_server.specs.Transcript.{leave_text, new_text, outcome_text, payload_text};
+ghost use Rattle.test_server.specs.Transcript.{request_text, server_cause_text, told_text};
 
 use crate::commands::name_of;
 use bson_text::{dump_to, quoted_to};
 use std::io;
 use std::io::Write;
-use wire_end::ServeEnd;
+use wire_front::FrontCause;
+use wire_hall::Leave;
 use wire_msg::{Payload, PayloadBuf};
-use wire_peer::{Entry, Outcome};
+use wire_peer::{Entry, Outcome, ServerCause};
 use wire_text::{Detail, write_sequences};
 
 /// Writes the text of a body, and the line of each sequence.
@@ -83,50 +86,80 @@ fn write_entry<W: Write>(entry: &Entry, out: &mut W) -> io::Result<()>
     write_outcome(&entry.outcome, out)
 }
 
-/// Writes the requests of a connection, and the outcome of each, in order.
-fn write_entries<W: Write>(entries: &[Entry], out: &mut W) -> io::Result<()>
-    ensures { OnOk result (WritesOut W.contents out.old out.new
-        (flat_map entry_text (log_of entries.now))) }
+/// Writes the line of its connection, a request, and its outcome.
+fn write_told<W: Write>(entry: &Entry, out: &mut W) -> io::Result<()>
+    ensures { OnOk result (WritesOut W.contents out.old out.new (told_text (entry_of entry.now))) }
 {
-    for entry in entries {
-        write_entry(entry, out)?;
-    }
-    Ok(())
+    let number = entry.connection;
+    writeln!(out, "connection {number}")?;
+    write_entry(entry, out)
 }
 
-/// Writes the line of how serving a connection ended.
-fn write_end<W: Write>(end: ServeEnd, out: &mut W) -> io::Result<()>
-    ensures { OnOk result (WritesOut W.contents out.old out.new (end_text end)) }
-{
-    match end {
-        ServeEnd::Fault(fault) => writeln!(out, "{fault}"),
-        ServeEnd::Ended => out.write_all(b"end Ended\n"),
-        ServeEnd::EndedInside => out.write_all(b"end EndedInside\n"),
-        ServeEnd::Link => out.write_all(b"end Link\n"),
-        ServeEnd::Later => out.write_all(b"end Later\n"),
-        ServeEnd::Budget => out.write_all(b"end Budget\n"),
-        ServeEnd::ReplyTooLarge => out.write_all(b"end ReplyTooLarge\n"),
-        ServeEnd::OutOfMemory => out.write_all(b"end OutOfMemory\n"),
-        ServeEnd::HandlerFailed => out.write_all(b"end HandlerFailed\n"),
-    }
-}
-
-/// Writes the transcript of a connection: the line of its number, its requests with their answers,
-/// and how it ended.
+/// Writes requests, and the outcome of each, in order.
 ///
 /// # Errors
 ///
 /// Returns the error of the writer, which may have taken a part of the text.
-pub fn write_connection<W: Write>(
-    number: u64,
-    entries: &[Entry],
-    end: ServeEnd,
-    out: &mut W,
-) -> io::Result<()>
+pub fn write_entries<W: Write>(entries: &[Entry], out: &mut W) -> io::Result<()>
     ensures { OnOk result (WritesOut W.contents out.old out.new
-        (connection_text number (log_of entries.now) end)) }
+        (flat_map told_text (log_of entries.now))) }
 {
-    writeln!(out, "connection {number}")?;
-    write_entries(entries, out)?;
-    write_end(end, out)
+    for entry in entries {
+        write_told(entry, out)?;
+    }
+    Ok(())
+}
+
+/// Writes the line of a connection that is new.
+pub fn write_new<W: Write>(number: u64, out: &mut W) -> io::Result<()>
+    ensures { OnOk result (WritesOut W.contents out.old out.new (new_text number)) }
+{
+    writeln!(out, "connection {number} new")
+}
+
+/// Writes why a server closed.
+fn write_server_cause<W: Write>(cause: ServerCause, out: &mut W) -> io::Result<()>
+    ensures { OnOk result (WritesOut W.contents out.old out.new (server_cause_text cause)) }
+{
+    match cause {
+        ServerCause::Message(fault) => writeln!(out, "{fault}"),
+        ServerCause::Ended => out.write_all(b"Ended\n"),
+        ServerCause::EndedInside => out.write_all(b"EndedInside\n"),
+        ServerCause::ReplyTooLarge => out.write_all(b"ReplyTooLarge\n"),
+        ServerCause::NoMemory => out.write_all(b"OutOfMemory\n"),
+        ServerCause::HandlerFailed => out.write_all(b"HandlerFailed\n"),
+    }
+}
+
+/// Writes why a front closed.
+fn write_cause<W: Write>(cause: FrontCause, out: &mut W) -> io::Result<()>
+    ensures { OnOk result (WritesOut W.contents out.old out.new (cause_text cause)) }
+{
+    match cause {
+        FrontCause::Server(cause) => write_server_cause(cause, out),
+        FrontCause::Query(fault) => writeln!(out, "{fault}"),
+        FrontCause::EndedInside => out.write_all(b"EndedInside\n"),
+        FrontCause::NotAlone => out.write_all(b"NotAlone\n"),
+        FrontCause::ReplyTooLarge => out.write_all(b"ReplyTooLarge\n"),
+        FrontCause::NoMemory => out.write_all(b"OutOfMemory\n"),
+    }
+}
+
+/// Writes why a connection is over.
+fn write_leave<W: Write>(leave: Leave, out: &mut W) -> io::Result<()>
+    ensures { OnOk result (WritesOut W.contents out.old out.new (leave_text leave)) }
+{
+    match leave {
+        Leave::Closed(cause) => write_cause(cause, out),
+        Leave::Link(_) => out.write_all(b"Link\n"),
+        Leave::OutOfMemory => out.write_all(b"OutOfMemory\n"),
+    }
+}
+
+/// Writes the line of how a connection ended.
+pub fn write_end<W: Write>(number: u64, leave: Leave, out: &mut W) -> io::Result<()>
+    ensures { OnOk result (WritesOut W.contents out.old out.new (end_text number leave)) }
+{
+    write!(out, "connection {number} end ")?;
+    write_leave(leave, out)
 }

@@ -163,76 +163,28 @@ fn a_fault_ends_serving(rt: HostRuntime) {
     }
 }
 
-/// Returns true if serving at most `budget` pings, in pieces of at most `most` bytes and over a
-/// link whose call after `calls` others fails, ends with `end` after the first `count` bytes of the
-/// reply were sent.
-fn fails(alloc: Global, most: usize, budget: u64, calls: u64, end: ServeEnd, count: usize) -> bool {
-    let Some(link) = link_of(alloc, PINGS) else {
-        return false;
-    };
-    let link = link.moving_at_most(most.max(1)).failing_after(calls);
-    let Some(mut served) = serving_over(alloc, link, 48_000_000) else {
-        return false;
-    };
+/// Serves at most `budget` pings, in pieces of at most `most` bytes and over a link whose call after
+/// `calls` others fails. Returns how that ended, and the end.
+fn failing(
+    alloc: Global,
+    most: usize,
+    budget: u64,
+    calls: u64,
+) -> Option<(ServeEnd, ServerEnd<MemLink>)> {
+    let link = link_of(alloc, PINGS)?.moving_at_most(most.max(1));
+    let mut end = serving_over(alloc, link.failing_after(calls), 48_000_000)?;
     let mut logged = Logged::new(alloc, Echo);
-    let ended = served.serve(&mut logged, budget);
-    match REPLY.split_at_checked(count) {
-        Some((sent, _)) => ended == end && served.link().sent_bytes() == sent,
-        None => false,
-    }
+    let why = end.serve(&mut logged, budget);
+    Some((why, end))
 }
 
-/// The calls before the one that fails, how serving then ends, and how much of the reply was sent.
-const FAILED_CALLS: [(u64, ServeEnd, usize); 4] = [
-    (0, ServeEnd::Link, 0),
-    (1, ServeEnd::Link, 0),
-    (2, ServeEnd::Link, 51),
-    (3, ServeEnd::Ended, 51),
-];
-
-#[test]
-fn a_failed_call_ends_serving(rt: HostRuntime) {
-    for (calls, end, count) in &FAILED_CALLS {
-        assert!(rt; fails(rt.alloc(), 102, 10, *calls, *end, *count), "{calls}");
-    }
-}
-
-/// Returns true if serving the pings, in pieces of at most `most` bytes and over a link whose call
-/// after `calls` others fails, ends with `end` after a beginning of the reply was sent.
-fn sends_a_beginning(alloc: Global, most: usize, calls: u64, end: ServeEnd) -> bool {
-    let Some(link) = link_of(alloc, PINGS) else {
-        return false;
-    };
-    let link = link.moving_at_most(most.max(1)).failing_after(calls);
-    let Some(mut served) = serving_over(alloc, link, 48_000_000) else {
-        return false;
-    };
-    let mut logged = Logged::new(alloc, Echo);
-    let ended = served.serve(&mut logged, 10);
-    ended == end && REPLY.starts_with(served.link().sent_bytes())
-}
-
-/// The most bytes that a call of the link moves, and how many calls serving the pings then makes.
-const CALLS: [(usize, u64); 4] = [(102, 3), (51, 4), (20, 10), (1, 154)];
-
-#[test]
-fn any_call_may_fail(rt: HostRuntime) {
-    for (most, calls) in &CALLS {
-        for before in 0..*calls {
-            assert!(rt;
-                sends_a_beginning(rt.alloc(), *most, before, ServeEnd::Link),
-                "{before} of {calls}"
-            );
-        }
-        assert!(rt;
-            sends_a_beginning(rt.alloc(), *most, *calls, ServeEnd::Ended),
-            "{calls}"
-        );
-    }
-}
-
-/// The most bytes that a call moves, the most pings that are answered, and then as above.
-const LATER_CALLS: [(usize, u64, u64, ServeEnd, usize); 5] = [
+/// The most bytes that a call moves, the most pings that are answered, the calls before the one that
+/// fails, how serving then ends, and how much of the reply was sent.
+const FAILED_CALLS: [(usize, u64, u64, ServeEnd, usize); 9] = [
+    (102, 10, 0, ServeEnd::Link, 0),
+    (102, 10, 1, ServeEnd::Link, 0),
+    (102, 10, 2, ServeEnd::Link, 51),
+    (102, 10, 3, ServeEnd::Ended, 51),
     (51, 10, 2, ServeEnd::Link, 51),
     (51, 1, 2, ServeEnd::Budget, 51),
     (20, 10, 4, ServeEnd::Link, 20),
@@ -242,11 +194,37 @@ const LATER_CALLS: [(usize, u64, u64, ServeEnd, usize); 5] = [
 
 #[test]
 fn replies_are_sent_before_the_next_message_is_taken(rt: HostRuntime) {
-    for (most, budget, calls, end, count) in &LATER_CALLS {
+    for (most, budget, calls, end, count) in &FAILED_CALLS {
+        let Some((why, served)) = failing(rt.alloc(), *most, *budget, *calls) else {
+            panic!(rt; "no end");
+        };
         assert!(rt;
-            fails(rt.alloc(), *most, *budget, *calls, *end, *count),
+            why == *end && Some(served.link().sent_bytes()) == REPLY.get(..*count),
             "{most}, {calls}"
         );
+    }
+}
+
+/// The most bytes that a call of the link moves, and how many calls serving the pings then makes.
+const CALLS: [(usize, u64); 4] = [(102, 3), (51, 4), (20, 10), (1, 154)];
+
+#[test]
+fn any_call_may_fail(rt: HostRuntime) {
+    for (most, calls) in &CALLS {
+        for before in 0..=*calls {
+            let Some((why, served)) = failing(rt.alloc(), *most, 10, before) else {
+                panic!(rt; "no end");
+            };
+            let wanted = if before < *calls {
+                ServeEnd::Link
+            } else {
+                ServeEnd::Ended
+            };
+            assert!(rt;
+                why == wanted && REPLY.starts_with(served.link().sent_bytes()),
+                "{before} of {calls}"
+            );
+        }
     }
 }
 

@@ -1,6 +1,6 @@
 //! The log of what a handler was asked and what it answered.
 
-ghost use Rattle.std.specs.Prelude.{◌≡◌, ◌<◌, ◌++◌, ◌∷◌, [], IfOk, List, OnOk, Some, ℕ};
+ghost use Rattle.std.specs.Prelude.{◌≡◌, ◌<◌, ◌≤◌, ◌++◌, ◌∷◌, [], IfOk, List, OnOk, Some, drop, ℕ};
 ghost use Rattle.std.specs.Vec.{vec_capacity, vec_len};
 ghost use Rattle.wire_peer.specs.Contents.{buf_content};
 ghost use Rattle.wire_peer.specs.Logs.{AskStep, IsGrown, IsLastAnswered, LogEntry, OutcomeStep};
@@ -90,6 +90,17 @@ impl<H> Logged<H> {
         ensures { result.now ≡ self.now.entries.items }
     {
         &self.entries
+    }
+
+    /// Drops the first `n` entries, which were read. The handler and the other entries stay as they
+    /// are, and the room that was taken is kept.
+    pub fn forget(&mut self, n: usize)
+        requires { n ≤ vec_len self.old.entries }
+        ensures handler { self.new.handler ≡ self.old.handler }
+        ensures entries { log_of self.new.entries.items ≡ drop n (log_of self.old.entries.items) }
+        ensures room { vec_capacity self.new.entries ≡ vec_capacity self.old.entries }
+    {
+        let _ = self.entries.drain(..n);
     }
 
     /// Takes room for one more entry where there is none: as much again, and for four at least.

@@ -1,7 +1,7 @@
 //! A server of one connection: bytes come in, requests wait and are answered, and replies go out.
 
 ghost use Rattle.std.specs.Prelude.{◌≡◌, ◌≢◌, ◌≤◌, ◌<◌, ◌↔◌, All, IfOk, IfSome, IsSome, IsTrue};
-ghost use Rattle.std.specs.Prelude.{Ok, OnErr, Some, drop, length, refl, slice_get};
+ghost use Rattle.std.specs.Prelude.{[], Ok, OnErr, Some, drop, length, refl, slice_get};
 ghost use Rattle.std.specs.VecDeque.{deque_capacity, deque_len};
 ghost use Rattle.wire_msg.specs.{IsMessage, IsOpen, Message, SpellsMsg, msg_bytes};
 ghost use Rattle.wire_stream.specs.{CompletesHeader, StandsAt};
@@ -279,6 +279,20 @@ impl Server {
                 }
             },
         }
+    }
+
+    /// Returns the number of the connection.
+    pub fn connection(&self) -> u64
+        ensures { result ≡ self.now.connection }
+    {
+        self.connection
+    }
+
+    /// Returns true if the server holds bytes of a message that isn't whole, or that is at fault.
+    pub fn is_inside(&self) -> bool
+        ensures { IsTrue result ↔ (self.now.held ≢ []) }
+    {
+        self.reader.held() > 0
     }
 
     /// Returns the bytes of the replies that weren't sent yet.

@@ -66,7 +66,19 @@ fn asks<H: Handler>(
     logged.ask(5, &asking(payload, false)) == wanted
 }
 
-/// Returns true if three requests make three entries, the second of which failed.
+/// Returns true if the first two entries are forgotten, and the log goes on behind the third.
+fn forgets<H: Handler>(logged: &mut Logged<H>, payload: &PayloadBuf) -> bool {
+    if logged.entries().len() < 2 {
+        return false;
+    }
+    logged.forget(2);
+    are_entries(logged.entries(), payload, &[Some(3)])
+        && asks(logged, payload, Ok(()))
+        && are_entries(logged.entries(), payload, &[Some(3), Some(3)])
+}
+
+/// Returns true if three requests make three entries, the second of which failed, and the first two
+/// are forgotten.
 fn enters(alloc: Global) -> bool {
     let Some(payload) = three(alloc) else {
         return false;
@@ -80,6 +92,7 @@ fn enters(alloc: Global) -> bool {
         )
         && asks(&mut logged, &payload, Ok(()))
         && are_entries(logged.entries(), &payload, &[Some(3), None, Some(3)])
+        && forgets(&mut logged, &payload)
 }
 
 #[test]

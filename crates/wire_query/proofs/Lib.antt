@@ -1,3 +1,4 @@
+pub mod Lemmas
 pub mod FaultTexts
 pub mod ReadLaws
 pub mod FaultLaws

@@ -1,32 +1,34 @@
 //! Carries out the command find.
 
-ghost use Rattle.std.specs.Prelude.{◌≡◌, IfErr, IfOk, Ok};
+ghost use Rattle.std.specs.Prelude.{◌≡◌, IfErr, IfOk, Ok, map};
 ghost use Rattle.bson_elem.specs.{Spells, Tree};
 ghost use Rattle.bson_raw.specs.{document_bytes};
+ghost use Rattle.bson_doc.specs.{value_of};
 ghost use Rattle.test_server.specs.Commands.{IsCarriedOut, find, find_reply_to, query_in};
+ghost use Rattle.test_server.specs.Commands.{found_reply, left_of};
 ghost use Rattle.test_server.specs.Errors.{IsFailure};
-ghost use Rattle.test_server.specs.Held.{store_of};
+ghost use Rattle.test_server.specs.Held.{namespace_of, store_of};
 ghost use Rattle.test_server.specs.Queries.{query_of};
 
 use crate::answer::{Batch, cursor_answer};
 use crate::failure::{CommandError, Failure};
-use crate::fields::{batch_size, namespace_field};
-use crate::filters::{filter_field, matching};
+use crate::fields::{batch_size, flag_field};
 use crate::namespace::Namespace;
+use crate::selection::{Selection, selected, selection_in};
 use crate::store::{Store, take_batch};
-use bson_doc::Document;
+use bson_doc::{Bson, Document};
 use bson_raw::RawDocument;
 use std::alloc::{AllocError, Global};
 
 /// What find asks for.
 #[derive(Debug, Drop)]
 struct Query<'a> {
-    /// The namespace whose documents are searched.
-    namespace: Namespace<'a>,
-    /// The filter that they must match.
-    filter: Document,
+    /// The documents that are found.
+    selection: Selection<'a>,
     /// The most documents in the first batch.
     count: usize,
+    /// Whether no cursor is opened over the others.
+    is_single: bool,
 }
 
 /// Reads what find asks for.
@@ -36,14 +38,44 @@ fn query_in(alloc: Global, body: RawDocument<'_>) -> Result<Query<'_>, Failure>
     ensures refused { (t : Tree) → Spells t (document_bytes body.entry)
         → IfErr result (λ e. IsFailure (query_in t) e) }
 {
-    let namespace = namespace_field(body, "find", CommandError::Find)?;
-    let filter = filter_field(alloc, body)?;
+    let selection = selection_in(alloc, body, "find", CommandError::Find, "filter")?;
     let count = batch_size(body, 0, CommandError::FirstBatchSize)?;
+    let is_single = flag_field(body, "singleBatch", false, CommandError::SingleBatch)?;
     Ok(Query {
-        namespace,
-        filter,
+        selection,
         count,
+        is_single,
     })
+}
+
+/// Removes all documents if no cursor is to be opened over them.
+fn keep_for_cursor(left: &mut Vec<Bson>, is_single: bool)
+    ensures { left.new.items ≡ left_of is_single left.old.items }
+{
+    if is_single {
+        left.clear();
+    }
+}
+
+/// Answers with the first of the documents that were found, and opens a cursor over the others.
+pub fn answer_found(
+    alloc: Global,
+    store: &mut Store,
+    namespace: Namespace<'_>,
+    mut found: Vec<Bson>,
+    count: usize,
+    is_single: bool,
+) -> Result<Document, AllocError>
+    ensures answered { IfOk result (λ d. found_reply (store_of store.old)
+        (namespace_of namespace.entry) (map value_of found.items) count is_single
+        ≡ record { answer = d; held = store_of store.new }) }
+    ensures steady { (store_of store.new).collections ≡ (store_of store.old).collections }
+{
+    let batch = take_batch(&mut found, count)?;
+    keep_for_cursor(&mut found, is_single);
+    let id = store.open_cursor(namespace, found)?;
+    let text = namespace.to_text(alloc)?;
+    cursor_answer(alloc, Batch::First, batch, id, text)
 }
 
 /// Answers with the first documents that a query finds, and opens a cursor over the others.
@@ -52,11 +84,9 @@ fn answer_query(alloc: Global, store: &mut Store, query: &Query<'_>) -> Result<D
         ≡ record { answer = d; held = store_of store.new }) }
     ensures steady { (store_of store.new).collections ≡ (store_of store.old).collections }
 {
-    let mut found = matching(alloc, &query.filter, store.documents(query.namespace))?;
-    let batch = take_batch(&mut found, query.count)?;
-    let id = store.open_cursor(query.namespace, found)?;
-    let text = query.namespace.to_text(alloc)?;
-    cursor_answer(alloc, Batch::First, batch, id, text)
+    let namespace = query.selection.namespace;
+    let found = selected(alloc, store, &query.selection)?;
+    answer_found(alloc, store, namespace, found, query.count, query.is_single)
 }
 
 /// Finds the documents of a collection that match a filter. Answers with the first of them, and

@@ -96,7 +96,7 @@ pub fn list_collections(
     ensures steady { (store_of store.new).collections ≡ (store_of store.old).collections }
 {
     let database = text_field(body, "$db", CommandError::Database)?;
-    let filter = filter_field(alloc, body)?;
+    let filter = filter_field(alloc, body, "filter")?;
     let answer = answer_list(alloc, store, database, &filter)?;
     Ok(answer)
 }

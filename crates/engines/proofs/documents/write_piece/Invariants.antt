@@ -7,7 +7,7 @@ use Rattle.engines.proofs.documents.write_piece.Given as goal
 abbrev pub invariant-loop-fed : goal.invariant-loop-fed
 invariant-loop-fed g l =
     IsOpen l.documents.held
-    × AreWritten (g.E.EachDocument.text_of l.each) (l.initial.documents.held ++ l.piece) l.initial.documents.start l.documents.start (l.documents.held ++ l.rest)
+    × AreWritten (g.E.EachDocument.rule l.each) (l.initial.documents.held ++ l.piece) l.initial.documents.start l.documents.start (l.documents.held ++ l.rest)
     (g.W.Write.contents l.initial.out) (g.W.Write.contents l.out)
 
 abbrev pub decreases-loop-fed : goal.decreases-loop-fed

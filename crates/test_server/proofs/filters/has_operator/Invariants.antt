@@ -1,9 +1,7 @@
 use Rattle.std.proofs.Common.{◌≡◌}
-use Rattle.bson_elem.specs.{Spells, Tree}
-use Rattle.bson_raw.specs.{PairsLeft, document_bytes}
+use Rattle.bson_doc.specs.Document.{tree_of}
 use Rattle.test_server.specs.Filters.{has_operator}
 use Rattle.test_server.proofs.filters.has_operator.Given as goal
 
 abbrev pub invariant-loop-name : goal.invariant-loop-name
-invariant-loop-name l =
-    (goal.iterator-loop-name).can_next l.name-iterator × (goal.iterator-loop-name).is_finite l.name-iterator × ((t : Tree) → Spells t (document_bytes l.fn.filter) → (rest : Tree) × PairsLeft l.name-iterator rest × (has_operator t ≡ has_operator rest))
+invariant-loop-name l = has_operator (tree_of l.fn.filter) ≡ has_operator (tree_of l.name-iterator)

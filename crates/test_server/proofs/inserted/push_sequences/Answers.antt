@@ -18,8 +18,8 @@ loop-identifier-preserved c = (
       let step = c.in-Some.ensures.steps left.0 left.1 in (
         step.others,
         step.left,
-        left.2 ∙ ap (λ (qs : List Sequence). followed_by (map value_of c.loop-identifier.documents.items) (in_sequences qs)) step.is_first
-            ∙ more_joined (map value_of c.loop-identifier.documents.items) (map value_of c.push_brought.new.documents.items) (sequence_documents step.sequence) (in_sequences step.others)
+        left.2 ∙ ap (λ (qs : List Sequence). followed_by (map value_of c.loop-identifier.documents.items) (in_sequences c.args.name.now qs)) step.is_first
+            ∙ more_joined (map value_of c.loop-identifier.documents.items) (map value_of c.push_brought.new.documents.items) (sequence_documents c.args.name.now step.sequence) (in_sequences c.args.name.now step.others)
             (c.in_ok-push_brought.ensures step.sequence step.identifier_is step.documents_are),
       ),
 )
@@ -31,13 +31,13 @@ returns-in_err-push_brought c = λ k carries.
     let told = err_from_is_err_and c.from_residual.result c.from_residual.ensures.1 in
     rw (told.1, told.2)
     (stops_joined (map value_of c.args.documents.now.items) (map value_of c.loop-identifier.documents.items) (map value_of c.push_brought.new.documents.items) (map value_of c.push_brought.new.documents.items)
-    (in_sequences k.sequences) (sequence_documents step.sequence) (in_sequences step.others) c.in_err-push_brought.field-0.0
-    (left.2 ∙ ap (λ (qs : List Sequence). followed_by (map value_of c.loop-identifier.documents.items) (in_sequences qs)) step.is_first)
+    (in_sequences c.args.name.now k.sequences) (sequence_documents c.args.name.now step.sequence) (in_sequences c.args.name.now step.others) c.in_err-push_brought.field-0.0
+    (left.2 ∙ ap (λ (qs : List Sequence). followed_by (map value_of c.loop-identifier.documents.items) (in_sequences c.args.name.now qs)) step.is_first)
     (c.in_err-push_brought.ensures step.sequence step.identifier_is step.documents_are))
 
 pub returns : goal.returns
 returns c = λ k carries.
     let left = c.loop-identifier.invariant.2 k carries in
     let none = (c.in-None.ensures.steps left.0 left.1).0 in
-    all_appended (map value_of c.args.documents.now.items) (map value_of c.loop-identifier.documents.items) (in_sequences k.sequences)
-    (left.2 ∙ ap (λ (qs : List Sequence). followed_by (map value_of c.loop-identifier.documents.items) (in_sequences qs)) none)
+    all_appended (map value_of c.args.documents.now.items) (map value_of c.loop-identifier.documents.items) (in_sequences c.args.name.now k.sequences)
+    (left.2 ∙ ap (λ (qs : List Sequence). followed_by (map value_of c.loop-identifier.documents.items) (in_sequences c.args.name.now qs)) none)

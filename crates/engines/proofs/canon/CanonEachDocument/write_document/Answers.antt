@@ -11,9 +11,10 @@ use Rattle.engines.proofs.canon.CanonEachDocument.write_document.Goals as goal
 
 -- the bytes of the canonical form were written
 form_written : {E : Type 0} (r : Result Written E) (limit : ℕ) (hex : Bool) (bytes : List ℕ) (t : Tree) (old new : Option (List ℕ)) → bytes ≡ document (elements (plain t))
-    → IfOk r (λ written. IsWritten (cond (nat_lt limit (length bytes)) None (Some (in_form hex bytes))) written old new) → IfOk r (λ written. IsWritten (canon_of limit hex t) written old new)
+    → IfOk r (λ written. IsWritten (λ shown. cond (nat_lt limit (length bytes)) None (Some (in_form hex bytes)) ≡ shown) written old new)
+    → IfOk r (λ written. IsWritten (λ shown. canon_of limit hex t ≡ shown) written old new)
 form_written r limit hex bytes t old new is written =
-    subst (λ (b : List ℕ). IfOk r (λ w. IsWritten (cond (nat_lt limit (length b)) None (Some (in_form hex b))) w old new)) is written
+    subst (λ (b : List ℕ). IfOk r (λ w. IsWritten (λ shown. cond (nat_lt limit (length b)) None (Some (in_form hex b)) ≡ shown) w old new)) is written
 
 pub returns-then-canonical : goal.returns-then-canonical
 returns-then-canonical g c = λ t s.

@@ -1,0 +1,76 @@
+-- The documents that the texts of an input give, one after another.
+use Rattle.std.specs.Prelude.{◌≡◌, ◌⊎◌, ⊤, ℕ, List, [], ◌∷◌, take, drop, Option, Some, None}
+use Rattle.std.specs.Prelude.{Result, Ok, Err, if◌then◌else◌}
+use Rattle.std.specs.Str.{is_utf8}
+use Rattle.bson_json_read.specs.declared.fault.Cause.{Cause}
+use Rattle.bson_json_read.specs.declared.fault.Cause.TheVariants as causes
+use Rattle.bson_json_read.specs.declared.frame.Frame.{Frame}
+use Rattle.bson_json_read.specs.declared.frame.Frame.TheVariants.{Start}
+use Rattle.bson_json_read.specs.declared.frame.Step.{Step}
+use Rattle.bson_json_read.specs.declared.frame.Step.TheVariants.{Pass, Text, Refuse}
+use Rattle.bson_json_read.specs.Extents.{text_len}
+use Rattle.bson_json_read.specs.Frames.{behind_text, may_end, step}
+use Rattle.bson_json_read.specs.Reads.{Read, refused}
+use Rattle.bson_json_read.specs.Texts.{document_in}
+use Rattle.bson_json_read.specs.Values.{Pair}
+
+-- ---- the next text
+
+-- what is next in the rest of an input: nothing, a text with which the rest begins, or a fault
+pub data Next : Type 0 where
+  nothing : Next
+  text_here : Frame → List ℕ → Next
+  fault_here : Cause → Next
+
+abbrev pub on_step : Step → Frame → List ℕ → (Frame → Next) → Next
+on_step (Pass behind) frame rest on = on behind
+on_step Text frame rest on = text_here frame rest
+on_step (Refuse cause) frame rest on = fault_here cause
+
+abbrev pub next_in : Frame → List ℕ → Next
+next_in frame [] = if may_end frame then nothing else fault_here causes.NotJson
+next_in frame (b ∷ bs) = on_step (step frame b) frame (b ∷ bs) (λ behind. next_in behind bs)
+
+-- the document of the text with which these bytes begin; a text is UTF-8
+abbrev pub utf8_read : List ℕ → Read (List Pair)
+utf8_read text = if is_utf8 text then document_in text else refused causes.NotJson
+
+abbrev pub front_read : List ℕ → Read (List Pair)
+front_read rest = utf8_read (take (text_len rest) rest)
+
+-- where reading stands, and what is left
+pub record Left : Type 0 where
+  pub frame : Frame
+  pub rest : List ℕ
+
+-- what is left behind the text with which the rest begins
+abbrev pub behind_front : Frame → List ℕ → Left
+behind_front frame rest = record {
+  frame = behind_text frame;
+  rest = drop (text_len rest) rest;
+}
+
+-- reading what is next gives a document, or none at the end
+abbrev pub Gives : Next → Option (List Pair) → Left → Type 0
+Gives nothing None left = ⊤
+Gives (text_here frame rest) (Some d) left =
+    (front_read rest ≡ Ok d) × (left ≡ behind_front frame rest)
+Gives next found left = ⊥
+
+-- reading what is next fails with this cause
+abbrev pub Fails : Next → Cause → Type 0
+Fails nothing cause = ⊥
+Fails (text_here frame rest) cause = (path : List ℕ) × (front_read rest ≡ Err (cause, path))
+Fails (fault_here c) cause = cause ≡ c
+
+-- ---- texts one after another
+
+-- the texts that are next give these documents, and this is left behind them
+abbrev pub AreRead : Left → List (List Pair) → Left → Type 0
+AreRead left [] behind = behind ≡ left
+AreRead left (d ∷ ds) behind =
+    (mid : Left) × Gives (next_in left.frame left.rest) (Some d) mid × AreRead mid ds behind
+
+-- the first texts of an input give these documents, and this is left behind them
+abbrev pub ReadsTo : List ℕ → List (List Pair) → Left → Type 0
+ReadsTo input ds behind = AreRead (record { frame = Start; rest = input }) ds behind

@@ -1,0 +1,214 @@
+//! Reads documents from an input of several texts.
+
+ghost use Rattle.std.specs.Prelude.{◌≡◌, ◌≤◌, ◌<◌, ◌⊎◌, ℕ, List, Err, IfErr, IfOk, MatchResult, Ok};
+ghost use Rattle.std.specs.Prelude.{drop, false, is_some, length, true};
+ghost use Rattle.std.specs.Str.{is_utf8};
+ghost use Rattle.bson_json_read.specs.Places.{StandsIn};
+ghost use Rattle.bson_json_read.specs.Sequences.{Fails, Gives, Left, next_in, utf8_read};
+ghost use Rattle.bson_json_read.specs.Seeking.{IsText, next_at};
+
+use crate::extent::text_extent;
+use crate::fault::Cause;
+use crate::frame::{Frame, Step};
+use crate::place::{Place, place_at};
+use crate::text::from_json;
+use bson_doc::Document;
+use std::alloc::Global;
+use std::fmt;
+use std::marker::Model;
+
+/// Why an input of several texts isn't read on, and where.
+#[derive(Clone, Copy, Debug, PartialEq, Eq)]
+pub struct TextFault {
+    pub cause: Cause,
+    pub place: Place,
+}
+
+impl fmt::Display for TextFault {
+    ghost use Rattle.bson_json_read.specs.Causes.{shown_text_fault};
+
+    ghost output = { shown_text_fault };
+
+    fn fmt<W: fmt::Write>(&self, f: &mut fmt::Formatter<W>) -> fmt::Result {
+        let TextFault { cause, place } = *self;
+        let number = cause.number();
+        let Place { line, column } = place;
+        write!(f, "fault {number} at line {line}, column {column}: {cause}")
+    }
+}
+
+impl std::error::Error for TextFault {}
+
+/// What is next in an input.
+#[derive(Clone, Copy)]
+pub(crate) enum Sought {
+    /// The end.
+    Nothing,
+    /// A text.
+    Text(Frame),
+    /// What isn't to stand there, or the end where it isn't to be.
+    Fault(Cause),
+}
+
+/// Returns what is next in the rest of an input, and how many bytes stand before it.
+fn seek(frame: Frame, rest: &[u8]) -> (usize, Sought)
+    ensures next { next_in frame rest.now ≡ next_at result.1 (drop result.0 rest.now) }
+    ensures inside { result.0 ≤ length rest.now }
+    ensures text { IsText result.1 → result.0 < length rest.now }
+{
+    let mut at = frame;
+    let mut passed = 0;
+    for b in rest {
+        match at.step(*b) {
+            Step::Pass(behind) => at = behind,
+            Step::Text => return (passed, Sought::Text(at)),
+            Step::Refuse(cause) => return (passed, Sought::Fault(cause)),
+        }
+        passed += 1;
+    }
+    if at.may_end() {
+        (passed, Sought::Nothing)
+    } else {
+        (passed, Sought::Fault(Cause::NotJson))
+    }
+}
+
+/// Why a text isn't read, and at which offset of it.
+#[derive(Clone, Copy)]
+struct FaultAt {
+    cause: Cause,
+    offset: usize,
+}
+
+/// Returns `bytes` as a text. Errs with the offset from which on they aren't UTF-8.
+fn text_of(bytes: &[u8]) -> Result<&str, usize>
+    ensures cases { MatchResult result (λ s. (s.now ≡ bytes.now) × (is_utf8 bytes.now ≡ true))
+        (λ _. is_utf8 bytes.now ≡ false) }
+    ensures offset { IfErr result (λ n. n ≤ length bytes.now) }
+{
+    match simdutf8::compat::from_utf8(bytes) {
+        Ok(text) => Ok(text),
+        Err(error) => Err(error.valid_up_to().min(bytes.len())),
+    }
+}
+
+/// Returns the document of the bytes of a text.
+#[tactic(auto, using(crate::proofs::TextBytes::of_text, crate::proofs::TextBytes::of_others))]
+fn read_bytes(alloc: Global, bytes: &[u8]) -> Result<Document, FaultAt>
+    ensures ok { IfOk result (λ d. utf8_read bytes.now ≡ Ok d) }
+    ensures err { IfErr result (λ e. (e.cause ≡ Cause.OutOfMemory)
+        ⊎ ((path : List ℕ) × (utf8_read bytes.now ≡ Err (e.cause, path)))) }
+    ensures offset { IfErr result (λ e. e.offset ≤ length bytes.now) }
+{
+    let text = match text_of(bytes) {
+        Ok(text) => text,
+        Err(offset) => {
+            return Err(FaultAt {
+                cause: Cause::NotJson,
+                offset,
+            });
+        }
+    };
+    let fault = match from_json(alloc, text) {
+        Ok(document) => return Ok(document),
+        Err(fault) => fault,
+    };
+    let cause = fault.cause;
+    match fault.offset(alloc, text) {
+        Ok(offset) => Err(FaultAt { cause, offset }),
+        Err(_) => Err(FaultAt {
+            cause: Cause::OutOfMemory,
+            offset: 0,
+        }),
+    }
+}
+
+/// Reads the documents of an input, one after another. The input is Extended JSON texts that are
+/// objects, with white space between them, or one JSON array whose items they are.
+///
+/// A text begins with a brace and ends with the brace that closes that one, so that a fault inside it
+/// leaves those before it read. Contracts see the input and what is left of it.
+#[derive(Drop)]
+pub struct JsonTexts<'a> {
+    input: &'a [u8],
+    offset: usize,
+    frame: Frame,
+}
+
+impl<'a> Model for JsonTexts<'a> {
+    ghost use Rattle.std.specs.Prelude.{◌≤◌, drop, length};
+    ghost use Rattle.bson_json_read.specs.Seeking.{InputLeft};
+
+    ghost Value = { InputLeft };
+
+    ghost view = { λ s. record {
+      input = s.input.now;
+      left = record { frame = s.frame; rest = drop s.offset s.input.now };
+    } };
+
+    ghost invariant = { λ s. s.offset ≤ length s.input.now };
+}
+
+impl<'a> JsonTexts<'a> {
+    /// Makes a reader of the documents of `input`.
+    pub fn new(input: &'a [u8]) -> JsonTexts<'a>
+        ensures { result ≡ record {
+          input = input.entry.now;
+          left = record { frame = Frame.Start; rest = input.entry.now };
+        } }
+    {
+        JsonTexts {
+            input,
+            offset: 0,
+            frame: Frame::Start,
+        }
+    }
+
+    /// Returns the fault of this cause at `offset`.
+    fn fault(&self, cause: Cause, offset: usize) -> TextFault
+        requires { offset ≤ length self.now.input }
+        ensures cause { result.cause ≡ cause }
+        ensures place { StandsIn self.now.input result.place.line result.place.column }
+    {
+        TextFault {
+            cause,
+            place: place_at(self.input, offset),
+        }
+    }
+
+    /// Reads the next document. Returns `None` at the end of the input.
+    ///
+    /// # Errors
+    ///
+    /// Returns the first fault of what is next, or `OutOfMemory` if memory is refused. Then nothing
+    /// is said of what is left.
+    pub fn next(&mut self, alloc: Global) -> Result<Option<Document>, TextFault>
+        ensures ok { IfOk result (λ found.
+            Gives (next_in self.old.left.frame self.old.left.rest) found self.new.left) }
+        ensures err { IfErr result (λ e. (e.cause ≡ Cause.OutOfMemory)
+            ⊎ Fails (next_in self.old.left.frame self.old.left.rest) e.cause) }
+        ensures shorter { IfOk result (λ found. is_some found ≡ true
+            → length self.new.left.rest < length self.old.left.rest) }
+        ensures place { IfErr result (λ e.
+            StandsIn self.old.input e.place.line e.place.column) }
+        ensures input { self.new.input ≡ self.old.input }
+    {
+        let (passed, sought) = seek(self.frame, &self.input[self.offset..]);
+        let start = self.offset + passed;
+        let frame = match sought {
+            Sought::Nothing => return Ok(None),
+            Sought::Fault(cause) => return Err(self.fault(cause, start)),
+            Sought::Text(frame) => frame,
+        };
+        let rest = &self.input[start..];
+        let len = text_extent(rest);
+        match read_bytes(alloc, &rest[..len]) {
+            Ok(document) => {
+                self.offset = start + len;
+                self.frame = frame.behind_text();
+                Ok(Some(document))
+            }
+            Err(fault) => Err(self.fault(fault.cause, start + fault.offset)),
+        }
+    }
+}

@@ -1,0 +1,44 @@
+-- The documents of Extended JSON texts, one after another, and their bytes.
+use Rattle.std.proofs.Common.{◌≡◌, ◌⊎◌, inl, inr, ◌++◌, [], ◌∷◌, ℕ, List, Option, Some, None, refl, sym, ap, subst, ◌∙◌, append-nil, append_assoc}
+use Rattle.std.specs.Io.KnownBytes.{Appends}
+use Rattle.std.proofs.KnownBytes.{Appends-nil, Appends-trans}
+use Rattle.bson_elem.specs.Spelling.{document, elements}
+use Rattle.bson_doc.specs.Document.{tree_of}
+use Rattle.bson_json_read.specs.declared.frame.Frame.TheVariants.{Start}
+use Rattle.bson_json_read.specs.declared.fault.Cause.{Cause}
+use Rattle.bson_json_read.specs.declared.fault.Cause.TheVariants.{OutOfMemory}
+use Rattle.bson_json_read.specs.Sequences.{Fails, Gives, Left, Next, ReadsTo, fault_here, next_in, nothing, text_here}
+use Rattle.bson_json_read.specs.Values.{Pair}
+use Rattle.bson_json_read.proofs.Lemmas.{reads_more}
+use Rattle.engines.specs.BsonOf.{bytes_of_each}
+
+bytes_more : (ds : List (List Pair)) (d : List Pair) → bytes_of_each (ds ++ d ∷ []) ≡ bytes_of_each ds ++ document (elements (tree_of d))
+bytes_more [] d = append-nil (document (elements (tree_of d)))
+bytes_more (e ∷ ds) d =
+    ap (λ (x : List ℕ). document (elements (tree_of e)) ++ x) (bytes_more ds d) ∙ sym (append_assoc (document (elements (tree_of e))) (bytes_of_each ds) (document (elements (tree_of d))))
+
+-- the documents of the first texts were written, and this is left
+abbrev pub Reached : List ℕ → Left → Option (List ℕ) → Option (List ℕ) → Type 0
+Reached input left old new = (ds : List (List Pair)) × ReadsTo input ds left × Appends old new (bytes_of_each ds)
+
+pub begins : (input : List ℕ) (old : Option (List ℕ)) → Reached input (record { frame = Start; rest = input }) old old
+begins input old = ([], refl, Appends-nil old)
+
+pub goes_on : (input : List ℕ) (left behind : Left) (d : List Pair) (old mid new : Option (List ℕ)) → Reached input left old mid → Gives (next_in left.frame left.rest) (Some d) behind
+    → Appends mid new (document (elements (tree_of d))) → Reached input behind old new
+goes_on input left behind d old mid new (ds, reads, appends) gives more = (
+  ds ++ d ∷ [],
+  reads_more _ left behind ds d reads gives,
+  subst (Appends old new) (sym (bytes_more ds d)) (Appends-trans old mid new (bytes_of_each ds) (document (elements (tree_of d))) appends more),
+)
+
+-- the end is next
+pub at_end : (next : Next) (behind : Left) → Gives next None behind → next ≡ nothing
+at_end nothing behind is = refl
+at_end (text_here frame rest) behind is = absurd is
+at_end (fault_here cause) behind is = absurd is
+
+-- a fault that isn't want of memory
+pub at_fault : (next : Next) (cause : Cause) → (cause ≡ OutOfMemory → ⊥) → (cause ≡ OutOfMemory) ⊎ Fails next cause → Fails next cause
+at_fault next cause some (inl same) = absurd (some same)
+at_fault next cause some (inr fails) = fails

@@ -1,0 +1,73 @@
+-- What `bson` writes.
+use Rattle.std.specs.Prelude.{◌≡◌, ◌⊎◌, ⊤, ℕ, List, ◌++◌, map, codes, Bool, true, false, Option}
+use Rattle.std.specs.Prelude.{Some, None}
+use Rattle.std.specs.Fmt.{decimal}
+use Rattle.std.specs.Io.KnownBytes.{Appends, Keeps}
+use Rattle.bson_elem.specs.{Tree, document, elements}
+use Rattle.bson_raw.specs.{documents_bytes}
+use Rattle.bson_doc.specs.declared.refusal.DocRefusal.{DocRefusal}
+use Rattle.bson_doc.specs.Refusals.{refusal_text}
+use Rattle.bson_doc.specs.{IsUnwritable, tree_of}
+use Rattle.bson_json_read.specs.declared.fault.Cause.{Cause}
+use Rattle.bson_json_read.specs.{Fails, Gives, Left, Pair, ReadsTo, next_in, nothing}
+use Rattle.bson_json_read.specs.{text_fault_text}
+use Rattle.engines.specs.declared.bson.TextStop.{TextStop}
+use Rattle.engines.specs.declared.bson.TextStop.TheVariants.{Fault, Refused}
+
+-- why a document isn't written
+abbrev pub IsUnwritten : Tree → TextStop → Type 0
+IsUnwritten t (Fault f) = ⊥
+IsUnwritten t (Refused refusal number) = IsUnwritable t refusal
+
+-- the bytes of a document were written, or nothing, for this reason
+abbrev pub WritesBytes : Tree → Option TextStop → Option (List ℕ) → Option (List ℕ) → Type 0
+WritesBytes t None old new = Appends old new (document (elements t))
+WritesBytes t (Some stop) old new = IsUnwritten t stop × Keeps old new
+
+-- the document of the next text isn't written, for this reason
+abbrev pub IsRefused : Left → DocRefusal → Type 0
+IsRefused left refusal =
+    (d : List Pair) × (behind : Left) × Gives (next_in left.frame left.rest) (Some d) behind
+    × IsUnwritable (tree_of d) refusal
+
+-- Why no more documents are written, where this is left: the input ends, as it may; what is next is
+-- at fault; or its document isn't written.
+abbrev pub StopsAt : Option TextStop → Left → Type 0
+StopsAt None left = next_in left.frame left.rest ≡ nothing
+StopsAt (Some (Fault f)) left = Fails (next_in left.frame left.rest) f.cause
+StopsAt (Some (Refused refusal number)) left = IsRefused left refusal
+
+-- the bytes of documents
+abbrev pub bytes_of_each : List (List Pair) → List ℕ
+bytes_of_each ds = documents_bytes (map tree_of ds)
+
+-- The documents of an input's first texts were written, and what is left is of this sort.
+abbrev pub WritesTexts : List ℕ → (Left → Type 0) → Option (List ℕ) → Option (List ℕ) → Type 0
+WritesTexts input IsLeft old new =
+    (ds : List (List Pair)) × (left : Left) × ReadsTo input ds left × IsLeft left
+    × Appends old new (bytes_of_each ds)
+
+abbrev pub IsAnything : Left → Type 0
+IsAnything left = ⊤
+
+-- what is next is at fault, or it isn't
+abbrev pub EndsAt : Bool → Left → Type 0
+EndsAt false left = StopsAt None left
+EndsAt true left =
+    ((cause : Cause) × Fails (next_in left.frame left.rest) cause)
+    ⊎ ((refusal : DocRefusal) × IsRefused left refusal)
+
+-- what `bson` writes for an input, and whether the input has a fault
+abbrev pub BsonText : List ℕ → List ℕ → Bool → Type 0
+BsonText input text fault =
+    (ds : List (List Pair)) × (left : Left) × ReadsTo input ds left × EndsAt fault left
+    × (text ≡ bytes_of_each ds)
+
+-- what tells the fault
+abbrev pub stop_text : TextStop → List ℕ
+stop_text (Fault f) = text_fault_text f
+stop_text (Refused refusal number) =
+    codes "fault 16 in document " ++ (decimal number ++ (codes ": " ++ refusal_text refusal))
+
+abbrev pub shown_stop : TextStop → Option (List ℕ)
+shown_stop stop = Some (stop_text stop)

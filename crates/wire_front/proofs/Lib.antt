@@ -1,0 +1,5 @@
+pub mod Gathering
+pub mod Feeding
+pub mod Sequencing
+pub mod Taking
+pub mod Answering

@@ -1,0 +1,48 @@
+use Rattle.std.proofs.Common.{Err, Ok}
+use Rattle.wire_peer.specs.{log_of}
+use Rattle.wire_front.specs.Kept.{view_of}
+use Rattle.wire_front.proofs.Answering.{answered_as, put_plain, put_refused, put_reply, still_kept}
+use Rattle.wire_front.proofs.front.Front.answer.Goals as goal
+
+pub invariant_of-self : goal.invariant_of-self
+invariant_of-self g c =
+    let f = c.self.inside in
+    let H = g.H.Handler in
+    still_kept H.does H.stops (Ok c.in-Ok.entry) f.server c.answer.new.self c.args.logged.now.handler c.answer.new.logged.handler
+    (log_of c.args.logged.now.entries.items) (log_of c.answer.new.logged.entries.items) f.part.items f.reply.items
+    f.gone f.cause c.self.invariant (rw (← c.self.view_is) at c.requires) c.in-Ok.ensures
+
+pub invariant_of-self-else-self : goal.invariant_of-self-else-self
+invariant_of-self-else-self g c =
+    let f = c.self.inside in
+    let H = g.H.Handler in
+    still_kept H.does H.stops (Ok c.in-Ok.entry) f.server c.answer.new.self c.args.logged.now.handler c.answer.new.logged.handler
+    (log_of c.args.logged.now.entries.items) (log_of c.answer.new.logged.entries.items) f.part.items f.reply.items
+    f.gone f.cause c.self.invariant (rw (← c.self.view_is) at c.requires) c.in-Ok.ensures
+
+pub returns-then-self : goal.returns-then-self
+returns-then-self g c =
+    let f = c.self.inside in
+    let H = g.H.Handler in
+    rw (← c.self.view_is) (answered_as H.does H.stops (Ok c.in-Ok.entry) f.server c.answer.new.self c.args.logged.now.handler c.answer.new.logged.handler
+    (log_of c.args.logged.now.entries.items) (log_of c.answer.new.logged.entries.items) f.part.items f.reply.items f.queried f.gone f.cause
+    c.respell.new.self (rw (← c.self.view_is) at c.requires) c.in-Ok.ensures
+    (put_reply f.queried c.in-Ok.entry (view_of c.answer.new.self f.part.items f.queried f.reply.items f.gone f.cause) c.respell.new.self c.if-self.true c.respell.ensures))
+
+pub returns-else-self : goal.returns-else-self
+returns-else-self g c =
+    let f = c.self.inside in
+    let H = g.H.Handler in
+    rw (← c.self.view_is) (answered_as H.does H.stops (Ok c.in-Ok.entry) f.server c.answer.new.self c.args.logged.now.handler c.answer.new.logged.handler
+    (log_of c.args.logged.now.entries.items) (log_of c.answer.new.logged.entries.items) f.part.items f.reply.items f.queried f.gone f.cause
+    (view_of c.answer.new.self f.part.items f.queried f.reply.items f.gone f.cause) (rw (← c.self.view_is) at c.requires) c.in-Ok.ensures
+    (put_plain f.queried (Ok c.in-Ok.entry) (view_of c.answer.new.self f.part.items f.queried f.reply.items f.gone f.cause) c.if-self.false))
+
+pub returns-in-Err : goal.returns-in-Err
+returns-in-Err g c =
+    let f = c.self.inside in
+    let H = g.H.Handler in
+    rw (← c.self.view_is) (answered_as H.does H.stops (Err c.in-Err.refusal) f.server c.answer.new.self c.args.logged.now.handler c.answer.new.logged.handler
+    (log_of c.args.logged.now.entries.items) (log_of c.answer.new.logged.entries.items) f.part.items f.reply.items f.queried f.gone f.cause
+    (view_of c.answer.new.self f.part.items f.queried f.reply.items f.gone f.cause) (rw (← c.self.view_is) at c.requires) c.in-Err.ensures
+    (put_refused f.queried c.in-Err.refusal (view_of c.answer.new.self f.part.items f.queried f.reply.items f.gone f.cause)))

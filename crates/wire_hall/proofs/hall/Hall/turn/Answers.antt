@@ -1,0 +1,15 @@
+use Rattle.std.proofs.Common.{◌≡◌, Some, refl, sym}
+use Rattle.slab.specs.Slab.{get}
+use Rattle.slab.proofs.SlabLemmas.{Updates-with_value}
+use Rattle.wire_hall.proofs.hall.Hall.turn.Goals as goal
+
+pub returns-clause-turned : goal.returns-clause-turned
+returns-clause-turned g c =
+    let seats = c.args.self.now.seats in
+    let at : get seats c.args.key ≡ Some c.in_ok-seat.seat.now = sym c.in_ok-seat.ensures.value in (
+      c.in_ok-seat.seat.now,
+      c.turn.new.self,
+      at,
+      Updates-with_value seats c.args.key c.turn.new.self (rw at refl),
+      c.turn.ensures,
+    )

@@ -1,0 +1,8 @@
+pub mod Seats
+pub mod Halls
+pub mod Serving
+-- the words that clauses of other crates cite
+pub use Rattle.wire_hall.specs.Seats.{SeatAct, SeatRun, SeatSeen, SeatTurns, Tells, new_seat, tells}
+pub use Rattle.wire_hall.specs.Halls.{IsTurned}
+pub use Rattle.wire_hall.specs.Serving.{IsServed, SeatServed, Serves, made_by, of_turns}
+pub use Rattle.wire_hall.specs.Serving.{received_by, sent_by}

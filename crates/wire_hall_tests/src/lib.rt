@@ -1,0 +1,9 @@
+//! Tests of seats and halls by what no contract says: that requests are answered where memory is
+//! there, and what is sent byte for byte. They stand in a crate of their own, since a crate is
+//! proved once more with its tests.
+#![tactic(auto)]
+
+#[cfg(test)]
+mod hall_refusals;
+#[cfg(test)]
+mod halls;

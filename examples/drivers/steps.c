@@ -1,0 +1,80 @@
+/* The steps of run_drivers by libmongoc: steps_c single|pooled URI COLLECTION */
+#include <mongoc/mongoc.h>
+#include <stdio.h>
+#include <string.h>
+
+static int failed;
+
+static void step(const char *name, bool well, const bson_error_t *error)
+{
+    if (well)
+        printf("%s ok\n", name);
+    else
+        printf("%s FAILED %s\n", name, error->message);
+    failed |= !well;
+}
+
+static bool insert(mongoc_collection_t *items, bson_error_t *error)
+{
+    bson_t *made[1000];
+    for (int i = 0; i < 1000; i++)
+        made[i] = BCON_NEW("_id", BCON_INT32(i), "a", BCON_INT32(i));
+    bool well = mongoc_collection_insert_many(items, (const bson_t **)made, 1000, NULL, NULL, error);
+    for (int i = 0; i < 1000; i++)
+        bson_destroy(made[i]);
+    return well;
+}
+
+static bool find(mongoc_collection_t *items, bson_error_t *error)
+{
+    bson_t *filter = BCON_NEW("a", "{", "$lt", BCON_INT32(10), "}");
+    bson_t *options = BCON_NEW("sort", "{", "a", BCON_INT32(-1), "}", "limit", BCON_INT64(7), "batchSize", BCON_INT64(2));
+    mongoc_cursor_t *cursor = mongoc_collection_find_with_opts(items, filter, options, NULL);
+    const bson_t *document;
+    int count = 0;
+    while (mongoc_cursor_next(cursor, &document))
+        count++;
+    bool well = !mongoc_cursor_error(cursor, error) && count == 7;
+    mongoc_cursor_destroy(cursor);
+    bson_destroy(options);
+    bson_destroy(filter);
+    return well;
+}
+
+int main(int argc, char **argv)
+{
+    if (argc != 4)
+        return 2;
+    mongoc_init();
+    bson_error_t error = {0};
+    mongoc_uri_t *uri = mongoc_uri_new(argv[2]);
+    mongoc_client_pool_t *pool = strcmp(argv[1], "pooled") == 0 ? mongoc_client_pool_new(uri) : NULL;
+    mongoc_client_t *client = pool ? mongoc_client_pool_pop(pool) : mongoc_client_new_from_uri(uri);
+    mongoc_collection_t *items = mongoc_client_get_collection(client, "shop", argv[3]);
+    bson_t *ping = BCON_NEW("ping", BCON_INT32(1));
+    bson_t *two = BCON_NEW("_id", BCON_INT32(2));
+    bson_t *three = BCON_NEW("_id", BCON_INT32(3));
+    bson_t *set = BCON_NEW("$set", "{", "a", BCON_INT32(-1), "}");
+    bson_t all = BSON_INITIALIZER;
+    step("ping", mongoc_client_command_simple(client, "admin", ping, NULL, NULL, &error), &error);
+    step("insert", insert(items, &error), &error);
+    step("find", find(items, &error), &error);
+    step("update", mongoc_collection_update_one(items, two, set, NULL, NULL, &error), &error);
+    step("delete", mongoc_collection_delete_one(items, three, NULL, NULL, &error), &error);
+    step("count", mongoc_collection_count_documents(items, &all, NULL, NULL, NULL, &error) == 999, &error);
+    step("drop", mongoc_collection_drop(items, &error), &error);
+    bson_destroy(set);
+    bson_destroy(three);
+    bson_destroy(two);
+    bson_destroy(ping);
+    mongoc_collection_destroy(items);
+    if (pool) {
+        mongoc_client_pool_push(pool, client);
+        mongoc_client_pool_destroy(pool);
+    } else {
+        mongoc_client_destroy(client);
+    }
+    mongoc_uri_destroy(uri);
+    mongoc_cleanup();
+    return failed;
+}

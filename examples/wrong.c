@@ -1,0 +1,149 @@
+/* Hands wrong arguments to the functions of lughemra.h, and bytes at each alignment. Each has an answer. */
+#include <stdio.h>
+#include <stdlib.h>
+#include <string.h>
+
+#include "lughemra.h"
+
+/* {"a": int32 1, "b": {"c": null}} */
+static const uint8_t document[] = {23, 0, 0, 0, 0x10, 'a', 0, 1, 0, 0, 0, 3, 'b', 0, 8, 0, 0, 0, 10, 'c', 0, 0, 0};
+
+static int failed = 0;
+
+static void expect(bool holds, const char *what)
+{
+    if (!holds) {
+        printf("FAILED %s\n", what);
+        failed = 1;
+    }
+}
+
+/* Returns the fault of the element at an iterator. */
+static uint32_t fault_at(size_t start, size_t at, size_t end, uint32_t depth)
+{
+    struct lughemra_iter iter = {start, at, end, depth};
+    struct lughemra_element element;
+    bool found = lughemra_next(document, sizeof document, &iter, &element);
+    expect(found == (element.kind != 0), "next returns whether there is an element");
+    expect(found || iter.at == at, "a walk stays at a fault");
+    return element.fault.number;
+}
+
+static void try_null(void)
+{
+    struct lughemra_iter iter = {0, 4, 22, 1};
+    struct lughemra_element element;
+    expect(lughemra_check_document(NULL, 7).number == LUGHEMRA_TRUNCATED, "null with a length is no bytes");
+    expect(lughemra_check_messages(NULL, SIZE_MAX, 100).messages == 0, "null with SIZE_MAX is no bytes");
+    expect(lughemra_message_front(NULL, 99, 100).length == 16, "null has no header");
+    expect(lughemra_first(NULL, 0).fault.number == LUGHEMRA_TRUNCATED, "null is no document");
+    expect(!lughemra_next(document, sizeof document, NULL, &element), "next without an iterator");
+    expect(!lughemra_next(document, sizeof document, &iter, NULL) && iter.at == 4, "next without room");
+    expect(!lughemra_next(NULL, 23, &iter, &element) && element.fault.number == LUGHEMRA_OUT_OF_RANGE, "next of null");
+    expect(!lughemra_find(document, sizeof document, "b", 1, NULL, &element), "find without an iterator");
+    expect(!lughemra_find(document, sizeof document, "b", 1, &iter, NULL), "find without room");
+    expect(!lughemra_find(document, sizeof document, NULL, 1, &iter, &element) && iter.at == 22, "find of a null name");
+    iter = lughemra_enter(NULL, &element);
+    expect(!lughemra_next(document, sizeof document, &iter, &element), "enter without an iterator");
+    iter = lughemra_enter(&iter, NULL);
+    expect(!lughemra_next(document, sizeof document, &iter, &element), "enter without an element");
+}
+
+static void try_ranges(void)
+{
+    expect(fault_at(0, 4, 22, 1) == 0, "the first element");
+    expect(fault_at(0, 22, 22, 1) == 0, "behind the last element");
+    expect(fault_at(0, 23, 22, 1) == LUGHEMRA_OUT_OF_RANGE, "past the end");
+    expect(fault_at(0, 4, 23, 1) == LUGHEMRA_OUT_OF_RANGE, "an end past the bytes");
+    expect(fault_at(0, SIZE_MAX, SIZE_MAX, 1) == LUGHEMRA_OUT_OF_RANGE, "SIZE_MAX");
+    expect(fault_at(SIZE_MAX, 4, 22, UINT32_MAX) == 0, "any start and depth");
+    expect(fault_at(0, 11, 22, UINT32_MAX) == LUGHEMRA_DEPTH, "a document too deep");
+    expect(fault_at(7, 8, 22, 1) == LUGHEMRA_END, "an offset inside an element");
+}
+
+static void try_enter(void)
+{
+    struct lughemra_iter iter = {0, 4, 22, 1}, inner;
+    struct lughemra_element element;
+    lughemra_next(document, sizeof document, &iter, &element);
+    inner = lughemra_enter(&iter, &element);
+    expect(!lughemra_next(document, sizeof document, &inner, &element), "an int32 can't be entered");
+    expect(element.fault.number == LUGHEMRA_OUT_OF_RANGE, "an int32 gives a walk out of range");
+    memset(&element, 0xff, sizeof element);
+    element.kind = LUGHEMRA_DOCUMENT;
+    inner = lughemra_enter(&iter, &element);
+    expect(!lughemra_next(document, sizeof document, &inner, &element), "a view past all bytes can't be entered");
+}
+
+static void try_views(void)
+{
+    struct lughemra_view left = {0, sizeof document}, first = {1, 1};
+    expect(lughemra_next_document(document, sizeof document, &left, &first), "a document in a view");
+    expect(first.length == sizeof document && left.length == 0, "the only document in a view");
+    expect(!lughemra_next_document(document, sizeof document, &left, &first), "no further document");
+    left.offset = SIZE_MAX;
+    left.length = 2;
+    expect(!lughemra_next_document(document, sizeof document, &left, &first) && first.length == 0, "a view past all bytes");
+    expect(left.offset == SIZE_MAX, "such a view stays");
+    expect(!lughemra_next_document(document, sizeof document, NULL, &first), "next document without a view");
+    expect(!lughemra_next_document(document, sizeof document, &left, NULL), "next document without room");
+}
+
+static void try_sections(void)
+{
+    expect(lughemra_section(document, sizeof document, sizeof document).kind == LUGHEMRA_SECTIONS_END, "behind the sections");
+    expect(lughemra_section(document, sizeof document, SIZE_MAX).kind == LUGHEMRA_NO_SECTION, "a section past all bytes");
+    expect(lughemra_section(document, sizeof document, 0).kind == LUGHEMRA_NO_SECTION, "a kind byte that isn't one");
+    expect(lughemra_section(document, sizeof document, 22).kind == LUGHEMRA_NO_SECTION, "a body of no bytes");
+    expect(lughemra_section(document, sizeof document, 7).kind == LUGHEMRA_NO_SECTION, "a sequence past the bytes");
+    expect(lughemra_message_parts(document, sizeof document, 100).sections == SIZE_MAX, "no sections of no message");
+}
+
+/* Writes texts into rooms of each length up to that of the text, and one more. */
+static void try_rooms(void)
+{
+    uint8_t room[64];
+    size_t wanted = lughemra_json(document, sizeof document, false, NULL, 7).length;
+    expect(wanted == strlen("{\"a\":{\"$numberInt\":\"1\"},\"b\":{\"c\":null}}"), "the length of a text with no room");
+    for (size_t size = 0; size <= wanted + 1; size++) {
+        struct lughemra_text text;
+        memset(room, 'z', sizeof room);
+        text = lughemra_json(document, sizeof document, false, room, size);
+        expect(text.length == wanted && text.written == (size >= wanted), "a text in too little room");
+        expect(room[0] == (text.written ? '{' : 'z'), "too little room stays as it is");
+        expect(room[wanted] == 'z', "what is behind the text stays as it is");
+    }
+    expect(lughemra_dump(NULL, 5, room, sizeof room).fault.number == LUGHEMRA_TRUNCATED, "null has no text");
+    expect(!lughemra_dump(document, sizeof document, NULL, 100).written, "a null room has no bytes");
+}
+
+/* Walks over a copy of the document at each alignment, which ends where its block does. */
+static void try_alignments(void)
+{
+    for (size_t shift = 0; shift < 16; shift++) {
+        uint8_t *block = malloc(shift + sizeof document);
+        struct lughemra_element element;
+        struct lughemra_first first;
+        if (!block)
+            return;
+        memcpy(block + shift, document, sizeof document);
+        first = lughemra_first(block + shift, sizeof document);
+        expect(lughemra_find(block + shift, sizeof document, "b", 1, &first.iter, &element), "a field at each alignment");
+        expect(element.bytes.offset == 14 && element.bytes.length == 8, "its view at each alignment");
+        free(block);
+    }
+}
+
+int main(void)
+{
+    try_null();
+    try_ranges();
+    try_enter();
+    try_views();
+    try_sections();
+    try_rooms();
+    try_alignments();
+    if (!failed)
+        printf("ok\n");
+    return failed;
+}
