@@ -2,5 +2,6 @@ mod Doubles
 mod Escaped
 mod Base64
 mod Zeros
-mod Choices
+pub mod Choices
 mod Walking
+pub mod Lemmas

@@ -2,7 +2,7 @@
 //! relaxed.
 //!
 //! `write_json` writes a borrowed document as one JSON object, with no white space and no line
-//! feed. It takes no memory, and makes no copy of the document.
+//! feed. It takes no memory, and makes no copy of the document. `write_json_string` writes a text.
 //!
 //! Uses bson_raw and text_writer. Read first: `object`, and then `pairs`.
 #![tactic(auto)]
@@ -20,3 +20,4 @@ mod value;
 pub use date::{days_before_year, days_in_month, is_leap};
 pub use mode::Mode;
 pub use object::write_json;
+pub use text::write_json_string;

@@ -7,6 +7,8 @@ ghost use Rattle.json.specs.Print.{escape_byte, escape_letter, quoted};
 ghost use Rattle.text_writer.specs.{WritesOut, text_contents};
 
 use base64::engine::general_purpose::STANDARD;
+use core::mem::replace_with;
+use std::io;
 use std::io::Write;
 use text_writer::{Failed, TextWriter, first_escaped, write_hex};
 
@@ -71,6 +73,28 @@ pub(crate) fn write_quoted<W: Write>(text: &str, out: &mut TextWriter<W>) -> Res
         Some(_) => write_runs(bytes, out)?,
     }
     out.write_all(b"\"")
+}
+
+/// Like `write_json_string`, but takes the writer by value and returns it.
+fn string_through<W: Write>(out: W, string: &str) -> (W, io::Result<()>)
+    ensures { OnOk result.1 (WritesOut W.contents out result.0 (quoted string.entry.now)) }
+{
+    let mut text = TextWriter::new(out);
+    let written = write_quoted(string, &mut text);
+    text.finish(written)
+}
+
+/// Writes a text as a JSON string (RFC 8259, section 7). In it `"` and `\` follow a backslash, 00 to
+/// 1F are `\b`, `\f`, `\n`, `\r`, `\t` or `\u` and four digits, and all other characters are as they
+/// are.
+///
+/// # Errors
+///
+/// Returns the error of the writer, which may have taken a part of the text.
+pub fn write_json_string<W: Write>(string: &str, out: &mut W) -> io::Result<()>
+    ensures { OnOk result (WritesOut W.contents out.old out.new (quoted string.now)) }
+{
+    replace_with(out, string, string_through)
 }
 
 /// Writes at most 192 bytes as base64.

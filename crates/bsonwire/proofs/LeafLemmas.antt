@@ -14,9 +14,9 @@ use Rattle.clap.specs.declared.builder.value_parser.Reading.{Reading}
 use Rattle.clap.specs.declared.builder.value_parser.Reading.TheVariants.{AsWritten}
 use Rattle.clap.specs.declared.parser.matches.ValueSource.{ValueSource}
 use Rattle.clap.specs.declared.parser.matches.ValueSource.TheVariants.{DefaultValue}
-use Rattle.bsonwire.specs.CommandLine.{command_line, file_app, json_app, loop_app, text_app}
-use Rattle.bsonwire.specs.Choices.{HoldsFlag, HoldsHex, HasCalls, HasFile}
-use Rattle.bsonwire.proofs.RowLemmas.{AreGood, Each, IsBoolText, IsCountText, IsGoodRow, KeepsUse, file_leaf_keeps, find_holds, good_with, is_flag, is_other, json_leaf_keeps, leaf_rules, loop_leaf_keeps, no_kind, or_nil, text_leaf_keeps, settle_good, walk_good}
+use Rattle.bsonwire.specs.CommandLine.{bytes_flags, command_line, file_app, json_app, json_flags, loop_app, msg_app, msg_flags, text_flags}
+use Rattle.bsonwire.specs.Choices.{HasCalls, HasFile, HoldsFlag}
+use Rattle.bsonwire.proofs.RowLemmas.{AreGood, Each, IsBoolText, IsCountText, IsGoodRow, KeepsUse, bytes_leaf_keeps, find_holds, good_with, is_flag, json_leaf_keeps, leaf_rules, loop_leaf_keeps, msg_leaf_keeps, no_kind, no_operand, or_nil, settle_good, text_leaf_keeps, walk_good}
 
 -- ---- the rows at the end of a walk
 
@@ -48,64 +48,68 @@ with_flag name b rows = if b then rows else with_values name AsWritten DefaultVa
 abbrev Has : Text → List Row → Type 0
 Has name rows = has_row name rows ≡ true
 
-abbrev AreGoodWithHex : List Row → Type 0
-AreGoodWithHex rows = AreGood rows × Has (codes "hex") rows
+-- the name is that of a flag
+abbrev IsFlag : Text → Type 0
+IsFlag name = is_flag name ≡ true
 
-module _ (name : Text) (no_file : name ≡ codes "file" → ⊥) (no_calls : name ≡ codes "calls" → ⊥) where
-  flag_is_there : (rows : List Row) → AreGood rows → bytes_eq name name ≡ true → AreGood (with_flag name (has_row name rows) rows) × Has name (with_flag name (has_row name rows) rows)
-  flag_is_there rows good same = go (has_row name rows) refl
-    where
-      go : (b : Bool) → has_row name rows ≡ b → AreGood (with_flag name b rows) × Has name (with_flag name b rows)
-      go true is = (good, is)
-      go false is = (
-        good_with name AsWritten DefaultValue (codes "false" ∷ []) rows ((λ e. absurd (no_file e)), (λ e. (false, refl)), (λ e. absurd (no_calls e))) good,
-        has_with name AsWritten DefaultValue (codes "false" ∷ []) rows same,
+flag_is_there : (name : Text) (rows : List Row) → IsFlag name → AreGood rows
+    → AreGood (with_flag name (has_row name rows) rows) × Has name (with_flag name (has_row name rows) rows)
+flag_is_there name rows flag good = go (has_row name rows) refl
+  where
+    go : (b : Bool) → has_row name rows ≡ b → AreGood (with_flag name b rows) × Has name (with_flag name b rows)
+    go true is = (good, is)
+    go false is = (
+      good_with name AsWritten DefaultValue (codes "false" ∷ []) rows (
+        (λ e. absurd (no_operand name (codes "file") flag refl e)),
+        (λ e. (false, refl)),
+        (λ e. absurd (no_operand name (codes "calls") flag refl e)),
       )
+          good,
+      has_with name AsWritten DefaultValue (codes "false" ∷ []) rows ((bytes_eq-Decides name name).1 refl),
+    )
 
 -- another flag's default leaves a flag there
 stays_there : (id name : Text) (b : Bool) (rows : List Row) → Has id rows → Has id (with_flag name b rows)
 stays_there id name true rows has = has
 stays_there id name false rows has = has_still id name AsWritten DefaultValue (codes "false" ∷ []) rows has
 
-hex_is_there : (rows : List Row) → AreGood rows → AreGoodWithHex (with_flag (codes "hex") (has_row (codes "hex") rows) rows)
-hex_is_there rows good = flag_is_there (codes "hex") (is_other (codes "hex") (codes "file") refl refl) (is_other (codes "hex") (codes "calls") refl refl) rows good refl
+-- each flag gets its default where it was not given
+abbrev with_flags : List Text → List Row → List Row
+with_flags [] rows = rows
+with_flags (name ∷ rest) rows = with_flags rest (with_flag name (has_row name rows) rows)
+
+stay_there : (id : Text) (flags : List Text) (rows : List Row) → Has id rows → Has id (with_flags flags rows)
+stay_there id [] rows has = has
+stay_there id (name ∷ rest) rows has = stay_there id rest (with_flag name (has_row name rows) rows) (stays_there id name (has_row name rows) rows has)
+
+-- the rows are good, and these flags are there
+abbrev HaveFlags : List Text → List Row → Type 0
+HaveFlags flags rows = AreGood rows × Each (λ name. Has name rows) flags
+
+flags_are_there : (flags : List Text) (rows : List Row) → Each IsFlag flags → AreGood rows → HaveFlags flags (with_flags flags rows)
+flags_are_there [] rows each good = (good, tt)
+flags_are_there (name ∷ rest) rows each good =
+    let next = with_flag name (has_row name rows) rows in
+    let first = flag_is_there name rows each.0 good in
+    let others = flags_are_there rest next each.1 first.0 in
+    (others.0, (stay_there name rest next first.1, others.1))
 
 -- an argument without a default leaves the rows as they are
 same : (b : Bool) (P : List Row → Type 0) (rows : List Row) → P rows → P (if b then rows else rows)
 same true P rows p = p
 same false P rows p = p
 
--- the rows at the end of a walk of `json`
-record AreGoodForm (rows : List Row) : Type 0 where
-  good : AreGood rows
-  hex : Has (codes "hex") rows
-  relaxed : Has (codes "relaxed") rows
-  array : Has (codes "array") rows
-
-finished_has_form : (rows : List Row) → AreGood rows → AreGoodForm (fold with_default rows (leaf_rules json_app.top.rules))
-finished_has_form rows good =
+-- the rows at the end of a walk, of a subcommand that reads a file and has these flags
+abbrev file_rows : List Text → List Row → List Row
+file_rows flags rows =
     let one = if has_row (codes "file") rows then rows else rows in
-    let first = same (has_row (codes "file") rows) AreGood rows good in
-    let two = with_flag (codes "hex") (has_row (codes "hex") one) one in
-    let hex = hex_is_there one first in
-    let three = with_flag (codes "relaxed") (has_row (codes "relaxed") two) two in
-    let relaxed = flag_is_there (codes "relaxed") (is_other (codes "relaxed") (codes "file") refl refl) (is_other (codes "relaxed") (codes "calls") refl refl) two hex.0 refl in
-    let four = with_flag (codes "array") (has_row (codes "array") three) three in
-    let array = flag_is_there (codes "array") (is_other (codes "array") (codes "file") refl refl) (is_other (codes "array") (codes "calls") refl refl) three relaxed.0 refl in
-    let hex3 = stays_there (codes "hex") (codes "relaxed") (has_row (codes "relaxed") two) two hex.1 in
-    same (has_row (codes "help") four) AreGoodForm four record {
-      good = array.0;
-      hex = stays_there (codes "hex") (codes "array") (has_row (codes "array") three) three hex3;
-      relaxed = stays_there (codes "relaxed") (codes "array") (has_row (codes "array") three) three relaxed.1;
-      array = array.1;
-    }
+    let two = with_flags flags one in if has_row (codes "help") two then two else two
 
-finished_has_hex : (rows : List Row) → AreGood rows → AreGoodWithHex (fold with_default rows (leaf_rules (file_app []).top.rules))
-finished_has_hex rows good =
-    let first = same (has_row (codes "file") rows) AreGood rows good in
+finished_has : (flags : List Text) (rows : List Row) → Each IsFlag flags → AreGood rows → HaveFlags flags (file_rows flags rows)
+finished_has flags rows each good =
     let one = if has_row (codes "file") rows then rows else rows in
-    let two = with_flag (codes "hex") (has_row (codes "hex") one) one in
-    same (has_row (codes "help") two) AreGoodWithHex two (hex_is_there one first)
+    let two = with_flags flags one in
+    same (has_row (codes "help") two) (HaveFlags flags) two (flags_are_there flags one each (same (has_row (codes "file") rows) AreGood rows good))
 
 -- the rows at the end of a walk, of a subcommand with one operand
 abbrev operand_rows : Text → List Row → List Row
@@ -184,41 +188,59 @@ module _ (s : Shape) (keeps : Each KeepsUse s.rules) (words : List Text) (none :
 abbrev rows_of_leaf : Shape → List Text → List Row
 rows_of_leaf s words = (rows_at s words).1
 
-pub file_leaf_names : (name : Text) (words : List Text) → IsUnfaulted (leaf (file_app name)) words
-    → ((hex : Bool) × HoldsHex hex (rows_of_leaf (leaf (file_app name)) words)) × HasFile (rows_of_leaf (leaf (file_app name)) words)
-file_leaf_names name words none =
-    let s = leaf (file_app name) in
-    let rows = rows_of_leaf s words in
-    let is = unfaulted s file_leaf_keeps words none in
-    let whole : AreGoodWithHex rows = finished_has_hex (settled s.rules (walk s.rules [] nothing_held words).held).rows is.0 in (
-      held_flag (codes "hex") rows refl whole.0 whole.1,
-      file_found (find (λ r. bytes_eq r.id (codes "file")) rows) (found (codes "file") rows whole.0)
-          (given_where_unfaulted (is_given (codes "file") rows) is.1),
-    )
+-- the matches hold this flag
+abbrev HasFlag : List Row → Text → Type 0
+HasFlag rows name = (given : Bool) × HoldsFlag name given rows
 
-pub json_leaf_names : (words : List Text) → IsUnfaulted (leaf json_app) words
-    → ((hex : Bool) × HoldsHex hex (rows_of_leaf (leaf json_app) words)) × ((relaxed : Bool) × HoldsFlag (codes "relaxed") relaxed (rows_of_leaf (leaf json_app) words))
-    × ((array : Bool) × HoldsFlag (codes "array") array (rows_of_leaf (leaf json_app) words)) × HasFile (rows_of_leaf (leaf json_app) words)
+held_flags : (flags : List Text) (rows : List Row) → Each IsFlag flags → AreGood rows → Each (λ name. Has name rows) flags → Each (HasFlag rows) flags
+held_flags [] rows each good has = tt
+held_flags (name ∷ rest) rows each good has = (held_flag name rows each.0 good has.0, held_flags rest rows each.1 good has.1)
+
+-- the matches of a subcommand that reads a file hold the operand and the flags
+abbrev pub HoldAll : List Text → List Row → Type 0
+HoldAll flags rows = HasFile rows × Each (HasFlag rows) flags
+
+leaf_names : (flags : List Text) (rows : List Row) → Each IsFlag flags → HaveFlags flags rows → is_given (codes "file") rows ≡ true → HoldAll flags rows
+leaf_names flags rows each is given = (
+  file_found (find (λ r. bytes_eq r.id (codes "file")) rows) (found (codes "file") rows is.0) given,
+  held_flags flags rows each is.0 is.1,
+)
+
+pub text_leaf_names : (name : Text) (words : List Text) → IsUnfaulted (leaf (file_app name text_flags)) words
+    → HoldAll text_flags (rows_of_leaf (leaf (file_app name text_flags)) words)
+text_leaf_names name words none =
+    let s = leaf (file_app name text_flags) in
+    let rows = rows_of_leaf s words in
+    let is = unfaulted s text_leaf_keeps words none in
+    let end : HaveFlags text_flags rows = finished_has text_flags (settled s.rules (walk s.rules [] nothing_held words).held).rows (refl, tt) is.0 in
+    leaf_names text_flags rows (refl, tt) end (given_where_unfaulted (is_given (codes "file") rows) is.1)
+
+pub bytes_leaf_names : (name : Text) (words : List Text) → IsUnfaulted (leaf (file_app name bytes_flags)) words
+    → HoldAll bytes_flags (rows_of_leaf (leaf (file_app name bytes_flags)) words)
+bytes_leaf_names name words none =
+    let s = leaf (file_app name bytes_flags) in
+    let rows = rows_of_leaf s words in
+    let is = unfaulted s bytes_leaf_keeps words none in
+    let end : HaveFlags bytes_flags rows = finished_has bytes_flags (settled s.rules (walk s.rules [] nothing_held words).held).rows (refl, (refl, tt)) is.0 in
+    leaf_names bytes_flags rows (refl, (refl, tt)) end (given_where_unfaulted (is_given (codes "file") rows) is.1)
+
+pub msg_leaf_names : (words : List Text) → IsUnfaulted (leaf msg_app) words → HoldAll msg_flags (rows_of_leaf (leaf msg_app) words)
+msg_leaf_names words none =
+    let s = leaf msg_app in
+    let rows = rows_of_leaf s words in
+    let is = unfaulted s msg_leaf_keeps words none in
+    let flags : Each IsFlag msg_flags = (refl, (refl, (refl, tt))) in
+    let end : HaveFlags msg_flags rows = finished_has msg_flags (settled s.rules (walk s.rules [] nothing_held words).held).rows flags is.0 in
+    leaf_names msg_flags rows flags end (given_where_unfaulted (is_given (codes "file") rows) is.1)
+
+pub json_leaf_names : (words : List Text) → IsUnfaulted (leaf json_app) words → HoldAll json_flags (rows_of_leaf (leaf json_app) words)
 json_leaf_names words none =
     let s = leaf json_app in
     let rows = rows_of_leaf s words in
     let is = unfaulted s json_leaf_keeps words none in
-    let whole : AreGoodForm rows = finished_has_form (settled s.rules (walk s.rules [] nothing_held words).held).rows is.0 in (
-      held_flag (codes "hex") rows refl whole.good whole.hex,
-      held_flag (codes "relaxed") rows refl whole.good whole.relaxed,
-      held_flag (codes "array") rows refl whole.good whole.array,
-      file_found (find (λ r. bytes_eq r.id (codes "file")) rows) (found (codes "file") rows whole.good)
-          (given_where_unfaulted (is_given (codes "file") rows) is.1),
-    )
-
-pub text_leaf_names : (name : Text) (words : List Text) → IsUnfaulted (leaf (text_app name)) words → HasFile (rows_of_leaf (leaf (text_app name)) words)
-text_leaf_names name words none =
-    let s = leaf (text_app name) in
-    let rows = rows_of_leaf s words in
-    let is = unfaulted s text_leaf_keeps words none in
-    let good : AreGood rows = finished_is_good (codes "file") (settled s.rules (walk s.rules [] nothing_held words).held).rows is.0 in
-    file_found (find (λ r. bytes_eq r.id (codes "file")) rows) (found (codes "file") rows good)
-    (given_where_unfaulted (is_given (codes "file") rows) is.1)
+    let flags : Each IsFlag json_flags = (refl, (refl, (refl, (refl, tt)))) in
+    let end : HaveFlags json_flags rows = finished_has json_flags (settled s.rules (walk s.rules [] nothing_held words).held).rows flags is.0 in
+    leaf_names json_flags rows flags end (given_where_unfaulted (is_given (codes "file") rows) is.1)
 
 pub loop_leaf_names : (words : List Text) → IsUnfaulted (leaf loop_app) words → HasCalls (rows_of_leaf (leaf loop_app) words)
 loop_leaf_names words none =

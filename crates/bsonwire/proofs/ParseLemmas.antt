@@ -13,15 +13,17 @@ use Rattle.clap.specs.Simple.{Shape, argument_words, built, entered, label_of, n
 use Rattle.clap.specs.Takes.{is_given}
 use Rattle.clap.specs.Walk.{Held, Names, Outcome, Row, Rule, Step, Text, Waiting, Walk, done, waits, plain, refused, idle, option, positional, next, trailing, subcommand, value, after_flag, after_step, answers_to, arg_by_index, finished, long_or_other, nothing_held, plain_word, settled, short_or_plain, subcommand_met, subcommand_or_other, to_positional, walk, walk_from, walked, walked_from, word_met, bundle, long_met, arg_by_long}
 use Rattle.clap.specs.declared.error.kind.ErrorKind.TheVariants as kind
-use Rattle.bsonwire.specs.CommandLine.{command_line, file_app, json_app, loop_app, text_app}
+use Rattle.bsonwire.specs.CommandLine.{bytes_flags, command_line, file_app, json_app, loop_app, msg_app, text_flags}
 use Rattle.bsonwire.specs.declared.choice.Command.{Command}
 use Rattle.bsonwire.specs.declared.choice.Command.TheVariants.{Dump, Check, Canon, Json, Bson, Msg, Play}
 use Rattle.bson_json.specs.declared.mode.Mode.{Mode}
 use Rattle.bson_json.specs.declared.mode.Mode.TheVariants.{Canonical, Relaxed}
 use Rattle.engines.specs.declared.json.Layout.{Layout}
 use Rattle.engines.specs.declared.json.Layout.TheVariants.{Lines, Array}
-use Rattle.bsonwire.specs.Choices.{HoldsHex, IsCommand, NamesChoice, HoldsFlag, is_array, is_relaxed}
-use Rattle.bsonwire.proofs.LeafLemmas.{IsUnfaulted, file_leaf_names, json_leaf_names, leaf, loop_leaf_names, text_leaf_names}
+use Rattle.engines.specs.declared.msg.MessageForm.{MessageForm}
+use Rattle.engines.specs.declared.msg.MessageForm.TheVariants.{Text as in_text, Json as in_json}
+use Rattle.bsonwire.specs.Choices.{HoldsHex, IsCommand, NamesChoice, HoldsFlag, is_array, is_json, is_relaxed}
+use Rattle.bsonwire.proofs.LeafLemmas.{IsUnfaulted, bytes_leaf_names, json_leaf_names, leaf, loop_leaf_names, msg_leaf_names, text_leaf_names}
 use Rattle.bsonwire.proofs.RowLemmas.{Each, find_holds, no_kind, or_nil}
 
 -- ---- a walk stops at no word `help`
@@ -116,11 +118,12 @@ module _ (s : Shape) (names : Names) (helps : s.disable_help_subcommand ≡ fals
 abbrev Chooses : Text → List Text → Shape → Type 0
 Chooses word words s = IsUnfaulted s words → NamesChoice (Some (rows_at s words))
 
-file_leaf_chooses : (command : Bool → Command) (name word : Text) (words : List Text)
-    → ((hex : Bool) (rows : List Row) → HoldsHex hex rows → IsCommand (command hex) name rows) → Chooses word words (leaf (file_app name))
-file_leaf_chooses command name word words is none =
-    let held = file_leaf_names name words none in
-    inl ((command held.0.0, is held.0.0 (rows_at (leaf (file_app name)) words).1 held.0.1), held.1)
+bytes_leaf_chooses : (command : Bool → Command) (name word : Text) (words : List Text)
+    → ((hex : Bool) (rows : List Row) → HoldsHex hex rows → IsCommand (command hex) name rows) → Chooses word words (leaf (file_app name bytes_flags))
+bytes_leaf_chooses command name word words is none =
+    let held = bytes_leaf_names name words none in
+    let hex = held.1.1.0 in
+    inl ((command hex.0, is hex.0 (rows_at (leaf (file_app name bytes_flags)) words).1 hex.1), held.0, held.1.0)
 
 mode_by : (relaxed : Bool) → (mode : Mode) × (relaxed ≡ is_relaxed mode)
 mode_by false = (Canonical, refl)
@@ -134,14 +137,33 @@ json_leaf_chooses : (word : Text) (words : List Text) → Chooses word words (le
 json_leaf_chooses word words none =
     let held = json_leaf_names words none in
     let rows = (rows_at (leaf json_app) words).1 in
-    let mode = mode_by held.1.0 in
-    let layout = layout_by held.2.0 in
-    let relaxed = subst (λ (b : Bool). HoldsFlag (codes "relaxed") b rows) mode.1 held.1.1 in
-    let array = subst (λ (b : Bool). HoldsFlag (codes "array") b rows) layout.1 held.2.1 in
-    inl ((Json held.0.0 mode.0 layout.0, (refl, held.0.1, (relaxed, array))), held.3)
+    let hex = held.1.1.0 in
+    let relaxed = held.1.1.1.0 in
+    let array = held.1.1.1.1.0 in
+    let mode = mode_by relaxed.0 in
+    let layout = layout_by array.0 in
+    let in_mode = subst (λ (b : Bool). HoldsFlag (codes "relaxed") b rows) mode.1 relaxed.1 in
+    let in_layout = subst (λ (b : Bool). HoldsFlag (codes "array") b rows) layout.1 array.1 in
+    inl ((Json hex.0 mode.0 layout.0, (refl, hex.1, (in_mode, in_layout))), held.0, held.1.0)
 
-text_leaf_chooses : (command : Command) (name word : Text) (words : List Text) → ((rows : List Row) → IsCommand command name rows) → Chooses word words (leaf (text_app name))
-text_leaf_chooses command name word words is none = inl ((command, is (rows_at (leaf (text_app name)) words).1), text_leaf_names name words none)
+form_by : (json : Bool) → (form : MessageForm) × (json ≡ is_json form)
+form_by false = (in_text, refl)
+form_by true = (in_json, refl)
+
+msg_leaf_chooses : (word : Text) (words : List Text) → Chooses word words (leaf msg_app)
+msg_leaf_chooses word words none =
+    let held = msg_leaf_names words none in
+    let rows = (rows_at (leaf msg_app) words).1 in
+    let hex = held.1.1.0 in
+    let json = held.1.1.1.0 in
+    let form = form_by json.0 in
+    let in_form = subst (λ (b : Bool). HoldsFlag (codes "json") b rows) form.1 json.1 in
+    inl ((Msg hex.0 form.0, (refl, hex.1, in_form)), held.0, held.1.0)
+
+text_leaf_chooses : (command : Command) (name word : Text) (words : List Text) → ((rows : List Row) → IsCommand command name rows) → Chooses word words (leaf (file_app name text_flags))
+text_leaf_chooses command name word words is none =
+    let held = text_leaf_names name words none in
+    inl ((command, is (rows_at (leaf (file_app name text_flags)) words).1), held.0, held.1.0)
 
 loop_leaf_chooses : (word : Text) (words : List Text) → Chooses word words (leaf loop_app)
 loop_leaf_chooses word words none = inr (refl, loop_leaf_names words none)
@@ -164,13 +186,13 @@ is_help word differs is_one = go (bytes_eq (codes "help") word) refl is_one
 subs_choose : (word : Text) (words : List Text) → bytes_eq word (codes "help") ≡ false
     → Each (λ s. answers_to word (label_of s) ≡ true → Chooses word words s) (built command_line).subs
 subs_choose word words differs = (
-  (λ _. file_leaf_chooses Dump (codes "dump") word words (λ hex rows holds. (refl, holds))),
+  (λ _. bytes_leaf_chooses Dump (codes "dump") word words (λ hex rows holds. (refl, holds))),
   (
-    (λ _. file_leaf_chooses Check (codes "check") word words (λ hex rows holds. (refl, holds))),
+    (λ _. bytes_leaf_chooses Check (codes "check") word words (λ hex rows holds. (refl, holds))),
     (
-      (λ _. file_leaf_chooses Canon (codes "canon") word words (λ hex rows holds. (refl, holds))),
+      (λ _. bytes_leaf_chooses Canon (codes "canon") word words (λ hex rows holds. (refl, holds))),
       (
-        (λ _. file_leaf_chooses Msg (codes "msg") word words (λ hex rows holds. (refl, holds))),
+        (λ _. msg_leaf_chooses word words),
         (
           (λ _. json_leaf_chooses word words),
           (

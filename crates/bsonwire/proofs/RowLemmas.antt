@@ -1,6 +1,6 @@
 -- What the words of a subcommand leave in its rows: FILE and SCRIPT have a value, each flag reads true or false, and N reads as a
 -- number in its range.
-use Rattle.std.proofs.Common.{◌≡◌, ◌∙◌, ℕ, zero, suc, refl, ap, sym, Bool, true, false, cond, ◌&&◌, ◌||◌, List, [], ◌∷◌, ◌++◌, length, drop, Option, Some, None, is_some, option_map, codes, true≢false}
+use Rattle.std.proofs.Common.{◌≡◌, ◌∙◌, ℕ, zero, suc, refl, ap, sym, Bool, true, false, cond, ◌&&◌, ◌||◌, List, [], ◌∷◌, ◌++◌, length, drop, map, Option, Some, None, is_some, option_map, codes, true≢false}
 use Rattle.std.specs.Prelude.{⊤, IfSome, if◌then◌else◌, find, fold, pos, slice_get, encode_utf8}
 use Rattle.std.specs.Option.{option_map_or}
 use Rattle.std.specs.Str.{bytes_eq, chars}
@@ -17,7 +17,7 @@ use Rattle.clap.specs.declared.error.kind.ErrorKind.TheVariants as kind
 use Rattle.clap.specs.declared.builder.value_parser.ValueParser.TheVariants.{Signed}
 use Rattle.clap.specs.declared.parser.matches.ValueSource.{ValueSource}
 use Rattle.clap.specs.declared.parser.matches.ValueSource.TheVariants.{CommandLine}
-use Rattle.bsonwire.specs.CommandLine.{calls_rule, flag_rule, operand_rule}
+use Rattle.bsonwire.specs.CommandLine.{bytes_flags, calls_rule, flag_rule, json_flags, msg_flags, operand_rule, text_flags}
 use Rattle.bsonwire.specs.Choices.{IsCount}
 use Rattle.bsonwire.proofs.NumberLemmas.{count_text}
 
@@ -60,7 +60,11 @@ IsBoolText o = (given : Bool) × (o ≡ Some (if given then codes "true" else co
 
 -- the name is that of a flag
 abbrev pub is_flag : Text → Bool
-is_flag id = bytes_eq id (codes "hex") || (bytes_eq id (codes "relaxed") || bytes_eq id (codes "array"))
+is_flag id = bytes_eq id (codes "quiet") || (bytes_eq id (codes "hex") || (bytes_eq id (codes "json") || (bytes_eq id (codes "relaxed") || bytes_eq id (codes "array"))))
+
+-- a flag is no operand
+pub no_operand : (name id : Text) → is_flag name ≡ true → is_flag id ≡ false → name ≡ id → ⊥
+no_operand name id flag operand e = true≢false (sym flag ∙ (ap is_flag e ∙ operand))
 
 -- a number from 1 to 100
 abbrev pub IsCountText : Option Text → Type 0
@@ -146,15 +150,15 @@ file_keeps again (v ∷ vs) rows none all =
 no_values : (n : ℕ) → range_kinds 0 0 (suc n) ≡ [] → ⊥
 no_values n e = no_kind (range_kinds 0 0 (suc n)) (ap (λ b. is_some_kind (if b then [] else kind.WrongNumberOfValues ∷ [])) (eqb-zero-suc n)) e
 
-flag_keeps : (name : Text) → (name ≡ codes "file" → ⊥) → (name ≡ codes "calls" → ⊥) → KeepsUse (built_flag_rule name)
-flag_keeps name no_file no_calls again [] rows none all =
+flag_keeps : (name : Text) → is_flag name ≡ true → KeepsUse (built_flag_rule name)
+flag_keeps name flag again [] rows none all =
     good_with name (reading_by (built_flag_rule name)) CommandLine (codes "true" ∷ []) (without name rows) (
-      (λ e. absurd (no_file e)),
+      (λ e. absurd (no_operand name (codes "file") flag refl e)),
       (λ e. (true, refl)),
-      (λ e. absurd (no_calls e)),
+      (λ e. absurd (no_operand name (codes "calls") flag refl e)),
     )
     (good_without name rows all)
-flag_keeps name no_file no_calls again (v ∷ vs) rows none all = absurd (no_values (length vs) (or_nil (range_kinds 0 0 (length (v ∷ vs))) _ none).0)
+flag_keeps name flag again (v ∷ vs) rows none all = absurd (no_values (length vs) (or_nil (range_kinds 0 0 (length (v ∷ vs))) _ none).0)
 
 abbrev built_calls_rule : Rule
 built_calls_rule = with_index 1 (filled calls_rule)
@@ -179,24 +183,24 @@ calls_keeps again (v ∷ vs) rows none all =
 help_keeps : KeepsUse (filled help_rule)
 help_keeps again values rows none all = all
 
-hex_keeps : KeepsUse (built_flag_rule (codes "hex"))
-hex_keeps = flag_keeps (codes "hex") (is_other (codes "hex") (codes "file") refl refl) (is_other (codes "hex") (codes "calls") refl refl)
+-- those of the subcommands that read a file, by their flags, and of `loop`
+pub text_leaf_keeps : Each KeepsUse (leaf_rules (operand_rule (codes "file") ∷ map flag_rule text_flags))
+text_leaf_keeps = (file_keeps, (flag_keeps (codes "quiet") refl, (help_keeps, tt)))
 
-relaxed_keeps : KeepsUse (built_flag_rule (codes "relaxed"))
-relaxed_keeps = flag_keeps (codes "relaxed") (is_other (codes "relaxed") (codes "file") refl refl) (is_other (codes "relaxed") (codes "calls") refl refl)
+pub bytes_leaf_keeps : Each KeepsUse (leaf_rules (operand_rule (codes "file") ∷ map flag_rule bytes_flags))
+bytes_leaf_keeps = (file_keeps, (flag_keeps (codes "quiet") refl, (flag_keeps (codes "hex") refl, (help_keeps, tt))))
 
-array_keeps : KeepsUse (built_flag_rule (codes "array"))
-array_keeps = flag_keeps (codes "array") (is_other (codes "array") (codes "file") refl refl) (is_other (codes "array") (codes "calls") refl refl)
+pub msg_leaf_keeps : Each KeepsUse (leaf_rules (operand_rule (codes "file") ∷ map flag_rule msg_flags))
+msg_leaf_keeps = (file_keeps, (flag_keeps (codes "quiet") refl, (flag_keeps (codes "hex") refl, (flag_keeps (codes "json") refl, (help_keeps, tt)))))
 
--- those of a subcommand that reads a file, of `json`, of one that reads it as it is, and of `loop`
-pub file_leaf_keeps : Each KeepsUse (leaf_rules (operand_rule (codes "file") ∷ flag_rule (codes "hex") ∷ []))
-file_leaf_keeps = (file_keeps, (hex_keeps, (help_keeps, tt)))
-
-pub json_leaf_keeps : Each KeepsUse (leaf_rules (operand_rule (codes "file") ∷ flag_rule (codes "hex") ∷ flag_rule (codes "relaxed") ∷ flag_rule (codes "array") ∷ []))
-json_leaf_keeps = (file_keeps, (hex_keeps, (relaxed_keeps, (array_keeps, (help_keeps, tt)))))
-
-pub text_leaf_keeps : Each KeepsUse (leaf_rules (operand_rule (codes "file") ∷ []))
-text_leaf_keeps = (file_keeps, (help_keeps, tt))
+pub json_leaf_keeps : Each KeepsUse (leaf_rules (operand_rule (codes "file") ∷ map flag_rule json_flags))
+json_leaf_keeps = (
+  file_keeps,
+  (
+    flag_keeps (codes "quiet") refl,
+    (flag_keeps (codes "hex") refl, (flag_keeps (codes "relaxed") refl, (flag_keeps (codes "array") refl, (help_keeps, tt)))),
+  ),
+)
 
 pub loop_leaf_keeps : Each KeepsUse (leaf_rules (calls_rule ∷ []))
 loop_leaf_keeps = (calls_keeps, (help_keeps, tt))

@@ -13,6 +13,8 @@ use Rattle.bson_json.specs.declared.mode.Mode.{Mode}
 use Rattle.bson_json.specs.declared.mode.Mode.TheVariants.{Canonical, Relaxed}
 use Rattle.engines.specs.declared.json.Layout.{Layout}
 use Rattle.engines.specs.declared.json.Layout.TheVariants.{Lines, Array}
+use Rattle.engines.specs.declared.msg.MessageForm.{MessageForm}
+use Rattle.engines.specs.declared.msg.MessageForm.TheVariants.{Text as in_text, Json as in_json}
 use Rattle.engines.specs.{BsonText, CanonText, CheckText, DumpText, IsOutput, JsonText, MayBeJson}
 use Rattle.engines.specs.{MsgText, ScriptText, TextRule, canon_of, check_of, dump_of, told_by}
 
@@ -27,6 +29,10 @@ abbrev pub HoldsFlag : Text → Bool → List Row → Type 0
 HoldsFlag name given rows =
     one_of name rows ≡ Some (if given then codes "true" else codes "false")
 
+-- they hold this `--quiet`
+abbrev pub HoldsQuiet : Bool → List Row → Type 0
+HoldsQuiet quiet rows = HoldsFlag (codes "quiet") quiet rows
+
 -- they hold this `--hex`
 abbrev pub HoldsHex : Bool → List Row → Type 0
 HoldsHex hex rows = HoldsFlag (codes "hex") hex rows
@@ -39,6 +45,11 @@ is_relaxed Relaxed = true
 abbrev pub is_array : Layout → Bool
 is_array Lines = false
 is_array Array = true
+
+-- `--json`
+abbrev pub is_json : MessageForm → Bool
+is_json in_text = false
+is_json in_json = true
 
 -- they hold the flags of `json`
 abbrev pub HoldsForm : Mode → Layout → List Row → Type 0
@@ -69,12 +80,14 @@ IsCommand (Canon hex) name rows = (name ≡ codes "canon") × HoldsHex hex rows
 IsCommand (Json hex mode layout) name rows =
     (name ≡ codes "json") × HoldsHex hex rows × HoldsForm mode layout rows
 IsCommand Bson name rows = name ≡ codes "bson"
-IsCommand (Msg hex) name rows = (name ≡ codes "msg") × HoldsHex hex rows
+IsCommand (Msg hex form) name rows =
+    (name ≡ codes "msg") × HoldsHex hex rows × HoldsFlag (codes "json") (is_json form) rows
 IsCommand Play name rows = name ≡ codes "play"
 
 -- the choice is the subcommand with this name, and has what its matches hold
 abbrev pub IsSubcommand : Choice → Text → List Row → Type 0
-IsSubcommand (Over command file) name rows = IsCommand command name rows × HoldsFile file.now rows
+IsSubcommand (Over command file quiet) name rows =
+    IsCommand command name rows × HoldsFile file.now rows × HoldsQuiet quiet rows
 IsSubcommand (Loop calls) name rows = (name ≡ codes "loop") × HoldsCalls calls rows
 
 -- there is a subcommand, and the choice is that one
@@ -92,6 +105,10 @@ IsChosen c words = IsMetSubcommand c (subcommand_of command_line words)
 abbrev pub HasFile : List Row → Type 0
 HasFile rows = is_some (first_of (codes "file") rows) ≡ true
 
+-- the matches hold a `--quiet`
+abbrev pub HasQuiet : List Row → Type 0
+HasQuiet rows = (quiet : Bool) × HoldsQuiet quiet rows
+
 -- the subcommand with this name reads an input
 abbrev pub NamesCommand : Text → List Row → Type 0
 NamesCommand name rows = (c : Command) × IsCommand c name rows
@@ -100,11 +117,12 @@ NamesCommand name rows = (c : Command) × IsCommand c name rows
 abbrev pub HasCalls : List Row → Type 0
 HasCalls rows = (n : ℕ) × HoldsCalls n rows
 
--- the subcommand with this name reads an input, which its matches hold, or it is `loop`, and they
--- hold the number of calls
+-- the subcommand with this name reads an input, which its matches hold beside `--quiet`, or it is
+-- `loop`, and they hold the number of calls
 abbrev pub NamesSubcommand : Text → List Row → Type 0
 NamesSubcommand name rows =
-    (NamesCommand name rows × HasFile rows) ⊎ ((name ≡ codes "loop") × HasCalls rows)
+    (NamesCommand name rows × HasFile rows × HasQuiet rows)
+    ⊎ ((name ≡ codes "loop") × HasCalls rows)
 
 -- there is a subcommand, and its matches make a choice
 abbrev pub NamesChoice : Option (Text × List Row) → Type 0
@@ -120,7 +138,7 @@ CommandText (Check hex) = IsOutput CheckText hex
 CommandText (Canon hex) = IsOutput (CanonText 2147483647 hex) hex
 CommandText (Json hex mode layout) = IsOutput (JsonText mode layout) hex
 CommandText Bson = BsonText
-CommandText (Msg hex) = IsOutput MsgText hex
+CommandText (Msg hex form) = IsOutput (MsgText form) hex
 CommandText Play = ScriptText
 
 -- what a command writes for a document, if it reads documents
@@ -141,5 +159,5 @@ reads_first _ = true
 
 -- whether a command may run out of memory after it wrote its first byte
 abbrev pub wants_memory : Command → Bool
-wants_memory (Msg hex) = false
+wants_memory (Msg hex form) = false
 wants_memory _ = true

@@ -1,5 +1,5 @@
 -- The command line of the program, as `clap` sees it.
-use Rattle.std.specs.Prelude.{true, codes, Some, pos}
+use Rattle.std.specs.Prelude.{[], ◌∷◌, List, true, codes, fold, Some, pos}
 use Rattle.clap.specs.Words.{App, Rule, Text, new_app, new_rule, with_rule, with_subcommand}
 use Rattle.clap.specs.Simple.{on_top}
 use Rattle.clap.specs.declared.builder.action.ArgAction.TheVariants.{SetTrue}
@@ -17,31 +17,43 @@ calls_rule = record (operand_rule (codes "calls")) { parser = Some (Signed (pos 
 abbrev pub flag_rule : Text → Rule
 flag_rule id = record (new_rule id) { long = Some id; action = Some SetTrue }
 
--- the flag `--hex`
-abbrev pub hex_rule : Rule
-hex_rule = flag_rule (codes "hex")
+-- a subcommand that reads a file, with these flags
+abbrev pub file_app : Text → List Text → App
+file_app name flags =
+    fold (λ a flag. with_rule a (flag_rule flag))
+    (with_rule (new_app name) (operand_rule (codes "file"))) flags
 
--- a subcommand that reads a file, as bytes or as hexadecimal text
-abbrev pub file_app : Text → App
-file_app name = with_rule (with_rule (new_app name) (operand_rule (codes "file"))) hex_rule
+-- the flags of one that reads text
+abbrev pub text_flags : List Text
+text_flags = codes "quiet" ∷ []
+
+-- the flags of one that reads bytes, which may be spelt as hexadecimal text
+abbrev pub bytes_flags : List Text
+bytes_flags = codes "quiet" ∷ codes "hex" ∷ []
+
+-- the flags of the one that reads messages
+abbrev pub msg_flags : List Text
+msg_flags = codes "quiet" ∷ codes "hex" ∷ codes "json" ∷ []
+
+-- the flags of the one that writes Extended JSON
+abbrev pub json_flags : List Text
+json_flags = codes "quiet" ∷ codes "hex" ∷ codes "relaxed" ∷ codes "array" ∷ []
+
+-- the subcommand that reads messages
+abbrev pub msg_app : App
+msg_app = file_app (codes "msg") msg_flags
 
 -- the subcommand that writes Extended JSON
 abbrev pub json_app : App
-json_app =
-    with_rule (with_rule (file_app (codes "json")) (flag_rule (codes "relaxed")))
-    (flag_rule (codes "array"))
-
--- a subcommand that reads a file as it is
-abbrev pub text_app : Text → App
-text_app name = with_rule (new_app name) (operand_rule (codes "file"))
+json_app = file_app (codes "json") json_flags
 
 -- the subcommand that writes the documents of Extended JSON
 abbrev pub bson_app : App
-bson_app = text_app (codes "bson")
+bson_app = file_app (codes "bson") text_flags
 
 -- the subcommand that runs a script
 abbrev pub play_app : App
-play_app = text_app (codes "play")
+play_app = file_app (codes "play") text_flags
 
 -- the subcommand that makes N calls
 abbrev pub loop_app : App
@@ -57,10 +69,10 @@ abbrev pub file_line : App
 file_line =
     with_subcommand
     (with_subcommand
-    (with_subcommand (with_subcommand top_app (file_app (codes "dump")).top)
-    (file_app (codes "check")).top)
-    (file_app (codes "canon")).top)
-    (file_app (codes "msg")).top
+    (with_subcommand (with_subcommand top_app (file_app (codes "dump") bytes_flags).top)
+    (file_app (codes "check") bytes_flags).top)
+    (file_app (codes "canon") bytes_flags).top)
+    msg_app.top
 
 -- the program with those that write and read Extended JSON, too
 abbrev pub json_line : App

@@ -32,7 +32,7 @@ tells_fault status = status == 1
 
 -- the status of what was chosen: that of an end, and of calls, that of an end without a fault
 abbrev pub IsStatusFor : Choice → ℕ → Type 0
-IsStatusFor (Over command file) status = (end : RunEnd) × (status ≡ exit_status end)
+IsStatusFor (Over command file quiet) status = (end : RunEnd) × (status ≡ exit_status end)
 IsStatusFor (Loop calls) status = (end : RunEnd) × (end ≢ Fault) × (status ≡ exit_status end)
 
 -- memory ran out, or the words have a fault of this kind

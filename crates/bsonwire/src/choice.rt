@@ -5,13 +5,14 @@ ghost use Rattle.std.specs.Prelude.{true, Bool, codes};
 ghost use Rattle.clap.specs.Words.{FailsBy, fault_of, first_of, found_of, rows_of};
 ghost use Rattle.clap.specs.Words.{subcommand_rows_of};
 ghost use Rattle.bsonwire.specs.CommandLine.{command_line};
-ghost use Rattle.bsonwire.specs.Choices.{HasCalls, HoldsCalls, HoldsFlag, HoldsForm, IsChosen};
-ghost use Rattle.bsonwire.specs.Choices.{IsCommand, IsMetSubcommand, NamesChoice, NamesCommand};
-ghost use Rattle.bsonwire.specs.Choices.{is_array, is_relaxed};
+ghost use Rattle.bsonwire.specs.Choices.{HasCalls, HasFile, HasQuiet, HoldsCalls, HoldsFlag};
+ghost use Rattle.bsonwire.specs.Choices.{HoldsForm, IsChosen, IsCommand, IsMetSubcommand};
+ghost use Rattle.bsonwire.specs.Choices.{IsSubcommand, NamesChoice, NamesCommand};
+ghost use Rattle.bsonwire.specs.Choices.{is_array, is_json, is_relaxed};
 
 use crate::command_line::program;
 use clap::{ArgMatches, Error};
-use engines::{Layout, Mode};
+use engines::{Layout, MessageForm, Mode};
 use std::alloc::Global;
 
 /// A command that reads an input.
@@ -37,9 +38,10 @@ pub enum Command {
     },
     /// Writes the document of each text, which is Extended JSON.
     Bson,
-    /// Writes the text of each message.
+    /// Writes each message.
     Msg {
         hex: bool,
+        form: MessageForm,
     },
     /// Runs a script, and writes what happened.
     Play,
@@ -48,10 +50,17 @@ pub enum Command {
 /// What the command line asks for.
 #[derive(Clone, Copy, Debug, PartialEq, Eq)]
 pub enum Choice<'a> {
-    /// Runs a command over the file with this path, or over standard input if it is `-`.
-    Over { command: Command, file: &'a str },
+    /// Runs a command over the file with this path, or over standard input if it is `-`. If `quiet`
+    /// is true, no line of progress is drawn.
+    Over {
+        command: Command,
+        file: &'a str,
+        quiet: bool,
+    },
     /// Makes `calls` calls over a connection of the program with itself.
-    Loop { calls: u8 },
+    Loop {
+        calls: u8,
+    },
 }
 
 /// Returns the operand with this id.
@@ -100,6 +109,18 @@ fn layout_of(matches: &ArgMatches<'_>) -> Layout
     }
 }
 
+/// Returns how messages are written.
+fn form_of(matches: &ArgMatches<'_>) -> MessageForm
+    requires { (given : Bool) × HoldsFlag (codes "json") given (rows_of (found_of matches.now)) }
+    ensures { HoldsFlag (codes "json") (is_json result) (rows_of (found_of matches.now)) }
+{
+    if flag_of(matches, "json") {
+        MessageForm::Json
+    } else {
+        MessageForm::Text
+    }
+}
+
 /// Returns the operand N.
 fn calls_of(matches: &ArgMatches<'_>) -> u8
     requires { HasCalls (rows_of (found_of matches.now)) }
@@ -132,8 +153,25 @@ fn command_of(name: &str, matches: &ArgMatches<'_>) -> Command
             mode: mode_of(matches),
             layout: layout_of(matches),
         },
-        "msg" => Command::Msg { hex },
+        "msg" => Command::Msg {
+            hex,
+            form: form_of(matches),
+        },
         _ => unreachable!(),
+    }
+}
+
+/// Returns the choice to run the command with this name, whose matches these are.
+fn over_of<'a>(name: &str, matches: &ArgMatches<'a>) -> Choice<'a>
+    requires command { NamesCommand name.now (rows_of (found_of matches.now)) }
+    requires file { HasFile (rows_of (found_of matches.now)) }
+    requires quiet { HasQuiet (rows_of (found_of matches.now)) }
+    ensures { IsSubcommand result name.now (rows_of (found_of matches.now)) }
+{
+    Choice::Over {
+        command: command_of(name, matches),
+        file: operand_of(matches, "file"),
+        quiet: flag_of(matches, "quiet"),
     }
 }
 
@@ -146,10 +184,7 @@ fn choice_of<'a>(matches: &ArgMatches<'a>) -> Choice<'a>
         Some((name, inner)) if name == "loop" => Choice::Loop {
             calls: calls_of(inner),
         },
-        Some((name, inner)) => Choice::Over {
-            command: command_of(name, inner),
-            file: operand_of(inner, "file"),
-        },
+        Some((name, inner)) => over_of(name, inner),
         None => unreachable!(),
     }
 }

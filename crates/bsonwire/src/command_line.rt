@@ -2,13 +2,17 @@
 ghost use Rattle.std.specs.Prelude.{◌≡◌, IfOk, codes, false};
 ghost use Rattle.clap.specs.Words.{app_of, rule_of, with_subcommand};
 ghost use Rattle.clap.specs.declared.builder.command.Command.TheViews.{out-Command};
-ghost use Rattle.bsonwire.specs.CommandLine.{calls_rule, command_line, file_app, file_line};
-ghost use Rattle.bsonwire.specs.CommandLine.{bson_app, flag_rule, json_app, json_line, loop_app};
-ghost use Rattle.bsonwire.specs.CommandLine.{operand_rule, play_app, top_app};
+ghost use Rattle.bsonwire.specs.CommandLine.{bytes_flags, calls_rule, command_line, file_app};
+ghost use Rattle.bsonwire.specs.CommandLine.{bson_app, file_line, flag_rule, json_app, json_line};
+ghost use Rattle.bsonwire.specs.CommandLine.{loop_app, msg_app, operand_rule, play_app, text_flags};
+ghost use Rattle.bsonwire.specs.CommandLine.{top_app};
 
 use clap::{Arg, ArgAction, Command, value_parser};
 use command_words::VERSION;
 use std::alloc::{AllocError, Global};
+
+/// What help says of FILE.
+const FILE_HELP: &str = "The file to read, or - for standard input";
 
 /// Makes a required operand, which help shows as `shown`.
 fn operand<'a>(alloc: Global, id: &'a str, shown: &'a str, help: &'a str) -> Arg<'a>
@@ -41,20 +45,45 @@ fn flag<'a>(alloc: Global, name: &'a str, help: &'a str) -> Arg<'a>
         .action(ArgAction::SetTrue)
 }
 
-/// Makes a subcommand with this name that reads FILE.
-fn file_command<'a>(alloc: Global, name: &'a str, about: &'a str) -> Result<Command<'a>, AllocError>
-    ensures app { IfOk result (λ c. app_of c ≡ file_app name.entry.now) }
+/// Makes a subcommand with this name that reads text, in an operand which help shows as `shown`.
+fn text_command<'a>(
+    alloc: Global,
+    name: &'a str,
+    about: &'a str,
+    shown: &'a str,
+    help: &'a str,
+) -> Result<Command<'a>, AllocError>
+    ensures app { IfOk result (λ c. app_of c ≡ file_app name.entry.now text_flags) }
     ensures local { IfOk result (λ c. (out-Command c).has_globals ≡ false) }
 {
     Command::new(alloc, name)
         .about(about)
-        .arg(operand(
-            alloc,
-            "file",
-            "FILE",
-            "The file to read, or - for standard input",
-        ))?
-        .arg(flag(alloc, "hex", "Read hexadecimal text"))
+        .arg(operand(alloc, "file", shown, help))?
+        .arg(flag(alloc, "quiet", "Draw no line of progress"))
+}
+
+/// Makes a subcommand with this name that reads FILE, as bytes or as hexadecimal text.
+fn file_command<'a>(alloc: Global, name: &'a str, about: &'a str) -> Result<Command<'a>, AllocError>
+    ensures app { IfOk result (λ c. app_of c ≡ file_app name.entry.now bytes_flags) }
+    ensures local { IfOk result (λ c. (out-Command c).has_globals ≡ false) }
+{
+    text_command(alloc, name, about, "FILE", FILE_HELP)?.arg(flag(
+        alloc,
+        "hex",
+        "Read hexadecimal text",
+    ))
+}
+
+/// Makes the subcommand that reads messages.
+fn msg_command<'a>(alloc: Global) -> Result<Command<'a>, AllocError>
+    ensures app { IfOk result (λ c. app_of c ≡ msg_app) }
+    ensures local { IfOk result (λ c. (out-Command c).has_globals ≡ false) }
+{
+    file_command(alloc, "msg", "Writes the text of each message")?.arg(flag(
+        alloc,
+        "json",
+        "Write each message as a JSON object, one a line",
+    ))
 }
 
 /// Makes the subcommand that writes Extended JSON.
@@ -74,16 +103,9 @@ fn bson_command<'a>(alloc: Global) -> Result<Command<'a>, AllocError>
     ensures app { IfOk result (λ c. app_of c ≡ bson_app) }
     ensures local { IfOk result (λ c. (out-Command c).has_globals ≡ false) }
 {
-    Command::new(alloc, "bson")
-        .about(
-            "Writes the documents of Extended JSON, which is one object after another or an array",
-        )
-        .arg(operand(
-            alloc,
-            "file",
-            "FILE",
-            "The file to read, or - for standard input",
-        ))
+    let about =
+        "Writes the documents of Extended JSON, which is one object after another or an array";
+    text_command(alloc, "bson", about, "FILE", FILE_HELP)
 }
 
 /// Makes the subcommand that runs a script.
@@ -91,14 +113,9 @@ fn play_command<'a>(alloc: Global) -> Result<Command<'a>, AllocError>
     ensures app { IfOk result (λ c. app_of c ≡ play_app) }
     ensures local { IfOk result (λ c. (out-Command c).has_globals ≡ false) }
 {
-    Command::new(alloc, "play")
-        .about("Runs a script of calls, cuts and restarts, and writes what happened")
-        .arg(operand(
-            alloc,
-            "file",
-            "SCRIPT",
-            "The script to run, or - for standard input; docs/SCRIPTS.md is its language",
-        ))
+    let about = "Runs a script of calls, cuts and restarts, and writes what happened";
+    let help = "The script to run, or - for standard input; docs/SCRIPTS.md is its language";
+    text_command(alloc, "play", about, "SCRIPT", help)
 }
 
 /// Makes the subcommand that makes calls over a connection of its own.
@@ -131,7 +148,7 @@ fn with_file_command<'a>(
 ) -> Result<Command<'a>, AllocError>
     requires { (out-Command line).has_globals ≡ false }
     ensures app { IfOk result (λ c.
-        app_of c ≡ with_subcommand (app_of line.entry) (file_app name.entry.now).top) }
+        app_of c ≡ with_subcommand (app_of line.entry) (file_app name.entry.now bytes_flags).top) }
     ensures local { IfOk result (λ c. (out-Command c).has_globals ≡ false) }
 {
     let sub = file_command(alloc, name, about)?;
@@ -161,7 +178,8 @@ fn file_commands<'a>(alloc: Global) -> Result<Command<'a>, AllocError>
         "canon",
         "Writes the canonical form of each document",
     )?;
-    with_file_command(line, alloc, "msg", "Writes the text of each message")
+    let msg = msg_command(alloc)?;
+    line.subcommand(msg)
 }
 
 /// Makes the command line with those that write and read Extended JSON, too.

@@ -12,6 +12,7 @@ ghost use Rattle.engines.specs.{AppendsFirst, AppendsText, AppendsUpTo, WritesAl
 ghost use Rattle.engines.specs.{is_done, is_fault, loop_text};
 
 use crate::choice::{Choice, Command};
+use crate::progress::Progress;
 use command_words::{IN_OUT, MEMORY};
 use engines::{
     RunEnd, TextStop, end_of, run_bson, run_canon, run_check, run_dump, run_json, run_loop,
@@ -22,6 +23,7 @@ use std::fs::OpenFile;
 use std::io::{ErrorKind, Read, Write};
 use std::net::Net;
 use std::rt::Files;
+use std::time::Clock;
 use std::{fmt, fs, io};
 
 /// Returns the exit status of an end: 0 if all was good, 1 for a fault in the input, 3 if reading
@@ -86,76 +88,99 @@ impl fmt::Display for InputName<'_> {
 }
 
 /// Does what the command line asks for, and returns the exit status. If it can't go on, standard
-/// error says why.
-pub fn run<R: Files + Input + Print + Eprint + Net + AllocGlobal>(rt: &R, choice: Choice<'_>) -> u8
+/// error says why. If `shown` is true, progress is seen there, and drawn unless the choice is quiet.
+pub fn run<R: Files + Input + Print + Eprint + Clock + Net + AllocGlobal>(
+    rt: &R,
+    choice: Choice<'_>,
+    shown: bool,
+) -> u8
     ensures { IsStatusFor choice.entry result }
 {
     match choice {
-        Choice::Over { command, file } => run_file(rt, command, file),
+        Choice::Over {
+            command,
+            file,
+            quiet,
+        } => run_file(rt, command, file, shown && !quiet),
         Choice::Loop { calls } => loop_status(rt, calls, &mut io::writer(rt)),
     }
 }
 
-/// Runs a command over a file or standard input, and returns the exit status.
-fn run_file<R: Files + Input + Print + Eprint + AllocGlobal>(
+/// Runs a command over a file or standard input, and returns the exit status. Draws progress if
+/// `drawn` is true.
+fn run_file<R: Files + Input + Print + Eprint + Clock + AllocGlobal>(
     rt: &R,
     command: Command,
     file: &str,
+    drawn: bool,
 ) -> u8
     ensures { (end : RunEnd) × (result ≡ exit_status end) }
 {
-    let alloc = rt.alloc();
     let input = InputName::of(file);
     if file == "-" {
+        let mut reader = Progress::new(rt.reader(), None, drawn, rt);
         return status_over(
             rt,
-            alloc,
+            rt.alloc(),
             command,
             input,
-            &mut rt.reader(),
+            &mut reader,
             &mut io::writer(rt),
         );
     }
     match open(rt, file) {
-        Ok(mut opened) => status_over(rt, alloc, command, input, &mut opened, &mut io::writer(rt)),
+        Ok((opened, size)) => {
+            let mut reader = Progress::new(opened, size, drawn, rt);
+            status_over(
+                rt,
+                rt.alloc(),
+                command,
+                input,
+                &mut reader,
+                &mut io::writer(rt),
+            )
+        }
         Err(error) => tell_unopened(rt, error, input),
     }
 }
 
-/// Opens a file to read. Returns an error for a directory too, which the system would open and
-/// then not read.
-fn open<R: Files>(rt: &R, file: &str) -> io::Result<R::File> {
+/// Opens a file to read. Returns its size too, if it is a regular file. Returns an error for a
+/// directory, which the system would open and then not read.
+fn open<R: Files>(rt: &R, file: &str) -> io::Result<(R::File, Option<u64>)> {
     let opened = fs::open(rt, file)?;
-    if opened.metadata()?.is_dir() {
+    let metadata = opened.metadata()?;
+    if metadata.is_dir() {
         return Err(io::Error::from(ErrorKind::IsADirectory));
     }
-    Ok(opened)
+    let size = metadata.is_file().then_some(metadata.len());
+    Ok((opened, size))
 }
 
 /// Runs a command over its input, and returns the exit status. If the run stopped early, standard
 /// error says why.
-fn status_over<E: Eprint, R: Read, W: Write>(
+fn status_over<E: Eprint + Clock, R: Read, W: Write>(
     rt: &E,
     alloc: Global,
     command: Command,
     input: InputName<'_>,
-    reader: &mut R,
+    reader: &mut Progress<'_, R, E>,
     writer: &mut W,
 ) -> u8
     ensures ends { (end : RunEnd) × (result ≡ exit_status end) }
-    ensures read { tells_done result ≡ true → IsAtEnd (R.remaining reader.new) }
-    ensures written { IfSome (R.remaining reader.old) (λ input. tells_done result ≡ true →
+    ensures read { tells_done result ≡ true → IsAtEnd (R.remaining reader.new.inner) }
+    ensures written { IfSome (R.remaining reader.old.inner) (λ input. tells_done result ≡ true →
         AppendsText (CommandText command input) (tells_fault result)
         (W.contents writer.old) (W.contents writer.new)) }
-    ensures late { reads_first command ≡ true → (IsAtEnd (R.remaining reader.new)) ⊎
+    ensures late { reads_first command ≡ true → (IsAtEnd (R.remaining reader.new.inner)) ⊎
         Keeps (W.contents writer.old) (W.contents writer.new) }
     ensures memory { result ≡ 4 → wants_memory command ≡ false →
         Keeps (W.contents writer.old) (W.contents writer.new) }
-    ensures first { result ≡ 4 → reads_first command ≡ false → IfSome (R.remaining reader.old)
+    ensures first { result ≡ 4 → reads_first command ≡ false → IfSome (R.remaining reader.old.inner)
         (λ input. AppendsFirst (document_rule command) input
         (W.contents writer.old) (W.contents writer.new)) }
 {
     let end = run_over(rt, alloc, command, input, reader, writer);
+    reader.wipe();
     tell(rt, end, input)
 }
 
@@ -210,7 +235,7 @@ fn run_over<E: Eprint, R: Read, W: Write>(
         Command::Canon { hex } => run_canon(alloc, hex, reader, writer),
         Command::Json { hex, mode, layout } => run_json(alloc, mode, layout, hex, reader, writer),
         Command::Bson => tell_stop(rt, run_bson(alloc, reader, writer), input),
-        Command::Msg { hex } => run_msg(alloc, hex, reader, writer),
+        Command::Msg { hex, form } => run_msg(alloc, form, hex, reader, writer),
         Command::Play => run_play(alloc, reader, writer),
     }
 }

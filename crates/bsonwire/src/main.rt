@@ -13,12 +13,14 @@
 mod choice;
 mod command_line;
 mod commands;
+mod progress;
 
 ghost use Rattle.std.specs.Prelude.{map};
 ghost use Rattle.bsonwire.specs.ExitStatus.{IsStatusOf};
 
 use choice::choose;
 use command_words::{Program, texts};
+use std::io::IsTerminal;
 use std::process::ExitCode;
 
 /// This program.
@@ -40,12 +42,18 @@ fn status(rt: &HostRuntime) -> u8 {
     }
 }
 
+/// Returns whether a line of progress is seen: standard error is a terminal, and the output goes
+/// elsewhere.
+fn shows_progress(rt: &HostRuntime) -> bool {
+    rt.stderr().is_terminal() && !rt.stdout().is_terminal()
+}
+
 /// Runs what the words ask for, or says why they ask for nothing. Returns the exit status.
 fn status_of_words(rt: &HostRuntime, words: &[&str]) -> u8
     ensures { IsStatusOf (map (λ w. w.now) words.now) result }
 {
     match choose(rt.alloc(), words) {
-        Ok(choice) => commands::run(rt, choice),
+        Ok(choice) => commands::run(rt, choice, shows_progress(rt)),
         Err(error) => PROGRAM.tell_unchosen(rt, &error),
     }
 }

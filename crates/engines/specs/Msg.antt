@@ -1,11 +1,28 @@
 -- What `msg` writes for messages back to back.
-use Rattle.std.specs.Prelude.{◌≡◌, ◌⊎◌, ℕ, ◌+◌, List, [], ◌∷◌, ◌++◌, flat_map, Bool, Option, None}
+use Rattle.std.specs.Prelude.{◌≡◌, ◌⊎◌, ℕ, ◌+◌, List, [], ◌∷◌, ◌++◌, codes, Bool, Option, None}
 use Rattle.std.specs.Prelude.{Some}
+use Rattle.bson_json.specs.declared.mode.Mode.TheVariants.{Canonical}
 use Rattle.wire_msg.specs.declared.fault.MsgFault.{MsgFault}
 use Rattle.wire_msg.specs.{IsBad, IsOpen, Message, Split, message_len}
-use Rattle.wire_text.specs.{message_text}
+use Rattle.wire_text.specs.{IsMessageJson, message_text}
+use Rattle.engines.specs.declared.msg.MessageForm.{MessageForm}
+use Rattle.engines.specs.declared.msg.MessageForm.TheVariants.{Text, Json}
 use Rattle.engines.specs.Documents.{or_nothing, is_there}
 use Rattle.engines.specs.InputFault.{msg_line, ended_inside_line}
+
+-- what may be written for a message: its text; or a line with one JSON object, of which there are
+-- several where the message holds doubles
+abbrev pub MayBeMessage : MessageForm → Message → List ℕ → Type 0
+MayBeMessage Text m text = text ≡ message_text m
+MayBeMessage Json m text =
+    (json : List ℕ) × IsMessageJson Canonical m json × (text ≡ json ++ codes "\n")
+
+-- what may be written for messages, joined
+abbrev pub MayBeMessages : MessageForm → List Message → List ℕ → Type 0
+MayBeMessages form [] texts = texts ≡ []
+MayBeMessages form (m ∷ ms) texts =
+    (first : List ℕ) × (others : List ℕ) × MayBeMessage form m first
+    × MayBeMessages form ms others × (texts ≡ first ++ others)
 
 -- how many bytes the messages have
 abbrev pub messages_len : List Message → ℕ
@@ -20,16 +37,16 @@ IsLastMsg limit start (b ∷ bs) last =
     (IsOpen limit (b ∷ bs) × (last ≡ Some (ended_inside_line start)))
     ⊎ ((f : MsgFault) × IsBad limit (b ∷ bs) f × (last ≡ Some (msg_line (start + f.at) f.cause)))
 
--- The bytes are split into messages within the limit and a rest: the texts of the messages, joined,
--- and the last line.
-abbrev pub MessagesAre : ℕ → List ℕ → List ℕ → Option (List ℕ) → Type 0
-MessagesAre limit bytes texts last =
+-- The bytes are split into messages within the limit and a rest: what may be written for the
+-- messages, joined, and the last line.
+abbrev pub MessagesAre : MessageForm → ℕ → List ℕ → List ℕ → Option (List ℕ) → Type 0
+MessagesAre form limit bytes texts last =
     (messages : List Message) × (rest : List ℕ) × Split limit bytes messages rest
-    × (texts ≡ flat_map message_text messages) × IsLastMsg limit (messages_len messages) rest last
+    × MayBeMessages form messages texts × IsLastMsg limit (messages_len messages) rest last
 
 -- What `msg` writes for bytes, and whether it ends with a fault line. The message limit is
 -- 48,000,000 bytes.
-abbrev pub MsgText : List ℕ → List ℕ → Bool → Type 0
-MsgText bytes text fault =
-    (texts : List ℕ) × (last : Option (List ℕ)) × MessagesAre 48000000 bytes texts last
+abbrev pub MsgText : MessageForm → List ℕ → List ℕ → Bool → Type 0
+MsgText form bytes text fault =
+    (texts : List ℕ) × (last : Option (List ℕ)) × MessagesAre form 48000000 bytes texts last
     × (text ≡ texts ++ or_nothing last) × (fault ≡ is_there last)

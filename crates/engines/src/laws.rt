@@ -5,6 +5,7 @@ ghost use Rattle.std.specs.Prelude.{◌≡◌, Bool, List, Option, ℕ};
 ghost use Rattle.bson_elem.specs.{IsBytes, Tree};
 ghost use Rattle.engines.specs.Documents.{IsWholeText, told_by};
 ghost use Rattle.engines.specs.Msg.{MsgText};
+ghost use Rattle.engines.specs.declared.msg.MessageForm.TheVariants.{Text};
 
 /// Proves that bytes have at most one text as documents, which ends with a fault line or doesn't,
 /// whatever a command writes for a document and behind all of them, if a function of the document
@@ -20,6 +21,6 @@ pub fn one_text()
 /// Proves that bytes have at most one text as messages, which ends with a fault line or doesn't.
 pub fn one_text_of_messages()
     ensures { (bytes text other : List ℕ) (fault other_fault : Bool) → IsBytes bytes
-        → MsgText bytes text fault → MsgText bytes other other_fault
+        → MsgText Text bytes text fault → MsgText Text bytes other other_fault
         → (text ≡ other) × (fault ≡ other_fault) }
 {}

@@ -41,6 +41,6 @@ pub use dump::run_dump;
 pub use fault_line::write_fault;
 pub use json::{Layout, run_json};
 pub use loopback::run_loop;
-pub use msg::run_msg;
+pub use msg::{MessageForm, run_msg};
 pub use play::run_play;
 pub use run::{Engine, RunEnd, end_of};

@@ -2,7 +2,7 @@
 //! checks, and that writes and allocations which fail end the run as they should.
 
 use crate::writers::Counter;
-use engines::{RunEnd, run_msg};
+use engines::{MessageForm, RunEnd, run_msg};
 use std::alloc::Global;
 use std::process::Abort;
 
@@ -223,21 +223,72 @@ const SECOND_FAULTS: [(&str, &str, RunEnd); 3] = [
     ),
 ];
 
-/// Returns true if `msg` writes this text for the input, and ends so.
-fn is_written(alloc: Global, hex: bool, mut input: &[u8], text: &str, end: RunEnd) -> bool {
+/// As JSON: without sequences, with the least and the greatest int32 and all flags, with two
+/// sequences, with escapes, and before a fault.
+const JSON: [(&str, &str, RunEnd); 6] = [
+    (
+        "1a000000 01000000 00000000 dd070000 00000000 00 0500000000",
+        "{\"messageLength\":26,\"requestID\":1,\"responseTo\":0,\"moreToCome\":false,\"exhaustAllowed\":false,\"body\":{},\"sequences\":[]}\n",
+        RunEnd::Good,
+    ),
+    (
+        "1a000000 00000080 ffffff7f dd070000 02000100 00 0500000000",
+        "{\"messageLength\":26,\"requestID\":-2147483648,\"responseTo\":2147483647,\"moreToCome\":true,\"exhaustAllowed\":true,\"body\":{},\"sequences\":[]}\n",
+        RunEnd::Good,
+    ),
+    (
+        "33000000 01000000 00000000 dd070000 00000000 00 1e0000001070696e67000100000002246462000600000061646d696e0000",
+        "{\"messageLength\":51,\"requestID\":1,\"responseTo\":0,\"moreToCome\":false,\"exhaustAllowed\":false,\"body\":{\"ping\":{\"$numberInt\":\"1\"},\"$db\":\"admin\"},\"sequences\":[]}\n",
+        RunEnd::Good,
+    ),
+    (
+        "3a000000 01000000 00000000 dd070000 00000000 01 18000000 6100 0500000000 0d000000036100050000000000 00 0500000000 01 06000000 6100",
+        "{\"messageLength\":58,\"requestID\":1,\"responseTo\":0,\"moreToCome\":false,\"exhaustAllowed\":false,\"body\":{},\"sequences\":[{\"identifier\":\"a\",\"documents\":[{},{\"a\":{}}]},{\"identifier\":\"a\",\"documents\":[]}]}\n",
+        RunEnd::Good,
+    ),
+    (
+        "22000000 01000000 00000000 dd070000 00000000 00 0500000000 01 07000000 220100",
+        "{\"messageLength\":34,\"requestID\":1,\"responseTo\":0,\"moreToCome\":false,\"exhaustAllowed\":false,\"body\":{},\"sequences\":[{\"identifier\":\"\\\"\\u0001\",\"documents\":[]}]}\n",
+        RunEnd::Good,
+    ),
+    (
+        "1a000000 01000000 00000000 dd070000 00000000 00 0500000000 1a000000 02000000 00000000 d4070000",
+        "{\"messageLength\":26,\"requestID\":1,\"responseTo\":0,\"moreToCome\":false,\"exhaustAllowed\":false,\"body\":{},\"sequences\":[]}\nfault 2 Opcode 2004 at 38\n",
+        RunEnd::Fault,
+    ),
+];
+
+/// Returns true if `msg` writes this for the input in this form, and ends so.
+fn is_written(
+    alloc: Global,
+    form: MessageForm,
+    hex: bool,
+    mut input: &[u8],
+    text: &str,
+    end: RunEnd,
+) -> bool {
     let mut writer = Vec::new(alloc);
-    let ended = run_msg(alloc, hex, &mut input, &mut writer);
+    let ended = run_msg(alloc, form, hex, &mut input, &mut writer);
     ended == end && writer.as_slice() == text.as_bytes()
+}
+
+/// Checks each row of hexadecimal text in this form.
+fn expect_each_in<R: Abort + AllocGlobal>(
+    rt: &R,
+    form: MessageForm,
+    rows: &[(&str, &str, RunEnd)],
+) {
+    for (input, text, end) in rows {
+        assert!(rt;
+            is_written(rt.alloc(), form, true, input.as_bytes(), text, *end),
+            "at {input:?}"
+        );
+    }
 }
 
 /// Checks each row of hexadecimal text.
 fn expect_each<R: Abort + AllocGlobal>(rt: &R, rows: &[(&str, &str, RunEnd)]) {
-    for (input, text, end) in rows {
-        assert!(rt;
-            is_written(rt.alloc(), true, input.as_bytes(), text, *end),
-            "at {input:?}"
-        );
-    }
+    expect_each_in(rt, MessageForm::Text, rows);
 }
 
 #[test]
@@ -276,17 +327,23 @@ fn faults_of_a_second_message(rt: HostRuntime) {
 }
 
 #[test]
+fn messages_as_json(rt: HostRuntime) {
+    expect_each_in(&rt, MessageForm::Json, &JSON);
+}
+
+#[test]
 fn bytes(rt: HostRuntime) {
     let input = b"\x1a\0\0\0\x01\0\0\0\0\0\0\0\xdd\x07\0\0\0\0\0\0\0\x05\0\0\0\0".as_slice();
     let text = "message 26 id 1 to 0 flags -\nbody 5\n";
-    assert!(rt; is_written(rt.alloc(), false, input, text, RunEnd::Good));
+    let form = MessageForm::Text;
+    assert!(rt; is_written(rt.alloc(), form, false, input, text, RunEnd::Good));
 }
 
 /// Returns true if a failed write ends the run, or nothing was written where an allocation was refused.
 fn is_failed_or_refused(alloc: Global) -> bool {
     let mut input = b"1a000000 01000000 00000000 dd070000 00000000 00 0500000000".as_slice();
     let mut writer = Counter::failing_at(1);
-    match run_msg(alloc, true, &mut input, &mut writer) {
+    match run_msg(alloc, MessageForm::Text, true, &mut input, &mut writer) {
         RunEnd::Memory => writer.calls == 0,
         end => end == RunEnd::InOut,
     }

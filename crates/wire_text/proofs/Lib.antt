@@ -1,2 +1,3 @@
 pub mod MessageTexts
+pub mod MessageJsons
 pub mod Lemmas

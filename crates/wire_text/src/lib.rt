@@ -1,6 +1,8 @@
-//! Writes the text of a message to any writer. No function takes memory.
+//! Writes the text of a message to any writer, as lines or as JSON. No function takes memory.
 #![tactic(auto)]
 
+mod message_json;
 mod messages;
 
+pub use message_json::write_message_json;
 pub use messages::{Detail, write_message, write_sequences};

@@ -7,7 +7,7 @@ use Rattle.engines.proofs.messages.write_each.Given as goal
 abbrev pub invariant-loop-rest : goal.invariant-loop-rest
 invariant-loop-rest g l =
     (length l.rest ≤ length l.bytes) ×
-    ((texts : List ℕ) × Appends (g.W.Write.contents l.initial.out) (g.W.Write.contents l.out) texts × Written l.bytes l.rest texts)
+    ((texts : List ℕ) × Appends (g.W.Write.contents l.initial.out) (g.W.Write.contents l.out) texts × Written l.form l.bytes l.rest texts)
 
 abbrev pub decreases-loop-rest : goal.decreases-loop-rest
 decreases-loop-rest g l = length l.rest
