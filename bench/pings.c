@@ -1,21 +1,24 @@
-/* Pings, one after another over one connection on loopback, and the time of each.
+/* Pings over connections on loopback, one outstanding on each, and the time of each.
  *
- *     pings COUNT          answers them by a child process of its own: each message of 51 bytes by a fixed reply
- *     pings COUNT PORT     sends them to the server that listens there
+ *     pings COUNT CONNECTIONS          answers them by a child process of its own, over epoll: each message of 51 bytes by a
+ *                                      fixed reply
+ *     pings COUNT CONNECTIONS PORT     sends them to the server that listens there
  *
- * Prints the wall-clock nanoseconds of one ping, the least of five rounds.
+ * Prints the wall-clock nanoseconds of one ping, the least of five rounds. COUNT pings make a round, over all connections.
  */
 #include <arpa/inet.h>
 #include <netinet/in.h>
+#include <netinet/tcp.h>
 #include <stdio.h>
 #include <stdlib.h>
 #include <string.h>
+#include <sys/epoll.h>
 #include <sys/socket.h>
 #include <sys/wait.h>
 #include <time.h>
 #include <unistd.h>
 
-enum { PING = 51, REPLY = 38 };
+enum { PING = 51, REPLY = 38, EVENTS = 64, MOST = 1000 };
 
 static const unsigned char ping[PING] =
     "\x33\0\0\0\x01\0\0\0\0\0\0\0\xdd\x07\0\0\0\0\0\0\0"
@@ -31,29 +34,68 @@ static void fail(const char *what)
     exit(1);
 }
 
-/* Receives just so many bytes. Returns 0 at the end. */
-static int receive(int link, unsigned char *bytes, size_t size)
+static void no_delay(int link)
 {
-    size_t at = 0;
-    while (at < size) {
-        ssize_t n = recv(link, bytes + at, size - at, 0);
-        if (n <= 0)
-            return 0;
-        at += (size_t) n;
-    }
-    return 1;
+    int on = 1;
+    if (setsockopt(link, IPPROTO_TCP, TCP_NODELAY, &on, sizeof on) != 0)
+        fail("setsockopt");
 }
 
-static void serve(int listener)
+static void watch(int poll, int link)
 {
-    unsigned char bytes[PING];
-    int link = accept(listener, NULL, NULL);
-    if (link < 0)
-        fail("accept");
-    while (receive(link, bytes, PING))
-        if (send(link, reply, REPLY, 0) != REPLY)
-            fail("send");
-    close(link);
+    struct epoll_event event = {.events = EPOLLIN, .data.fd = link};
+    if (epoll_ctl(poll, EPOLL_CTL_ADD, link, &event) != 0)
+        fail("epoll_ctl");
+}
+
+/* Receives once, and returns how many messages of so many bytes that completes; or -1 at the end. No message is cut here, as long
+ * as one is outstanding on a connection. */
+static int take(int link, size_t size, unsigned char *last)
+{
+    unsigned char bytes[4096];
+    ssize_t got = recv(link, bytes, sizeof bytes, 0);
+    if (got <= 0)
+        return -1;
+    if ((size_t) got % size != 0) {
+        fputs("a message is cut\n", stderr);
+        exit(1);
+    }
+    memcpy(last, bytes + got - size, size);
+    return (int) ((size_t) got / size);
+}
+
+/* Answers the pings of so many connections, until each has ended. */
+static void serve(int listener, int connections)
+{
+    struct epoll_event events[EVENTS];
+    unsigned char last[PING];
+    int poll = epoll_create1(0), accepted = 0, ended = 0;
+    if (poll < 0)
+        fail("epoll_create1");
+    watch(poll, listener);
+    while (ended < connections) {
+        int found = epoll_wait(poll, events, EVENTS, -1);
+        for (int i = 0; i < found; i++) {
+            int link = events[i].data.fd;
+            if (link == listener) {
+                int now = accepted < connections ? accept(listener, NULL, NULL) : -1;
+                if (now >= 0) {
+                    accepted++;
+                    no_delay(now);
+                    watch(poll, now);
+                }
+                continue;
+            }
+            int count = take(link, PING, last);
+            if (count < 0) {
+                close(link);
+                ended++;
+            }
+            for (; count > 0; count--)
+                if (send(link, reply, REPLY, MSG_NOSIGNAL) != REPLY)
+                    fail("reply");
+        }
+    }
 }
 
 static struct sockaddr_in address_of(int port)
@@ -66,17 +108,35 @@ static struct sockaddr_in address_of(int port)
     return address;
 }
 
-static double round_of(int link, long count)
+static void send_ping(int link)
+{
+    if (send(link, ping, PING, 0) != PING)
+        fail("ping");
+}
+
+/* Sends so many pings, the next on a connection once it has the reply to the one before. */
+static double round_of(int poll, const int *links, int connections, long count)
 {
     struct timespec from, to;
-    unsigned char bytes[REPLY];
+    struct epoll_event events[EVENTS];
+    unsigned char last[REPLY];
+    long sent = 0, got = 0;
     clock_gettime(CLOCK_MONOTONIC, &from);
-    for (long i = 0; i < count; i++) {
-        if (send(link, ping, PING, 0) != PING || !receive(link, bytes, REPLY))
-            fail("ping");
-        if (memcmp(bytes + 21, reply + 21, REPLY - 21) != 0) {
-            fputs("the reply is another one\n", stderr);
-            exit(1);
+    for (int i = 0; i < connections && sent < count; i++, sent++)
+        send_ping(links[i]);
+    while (got < count) {
+        int found = epoll_wait(poll, events, EVENTS, -1);
+        for (int i = 0; i < found; i++) {
+            int link = events[i].data.fd;
+            if (take(link, REPLY, last) != 1 || memcmp(last + 21, reply + 21, REPLY - 21) != 0) {
+                fputs("the reply is another one\n", stderr);
+                exit(1);
+            }
+            got++;
+            if (sent < count) {
+                sent++;
+                send_ping(link);
+            }
         }
     }
     clock_gettime(CLOCK_MONOTONIC, &to);
@@ -89,36 +149,45 @@ int main(int argc, char **argv)
     socklen_t size = sizeof address;
     pid_t child = 0;
     double least = 0;
-    int link;
-    long count = argc > 1 ? atol(argv[1]) : 0;
-    if (count < 1) {
-        fputs("pings COUNT [PORT]\n", stderr);
+    int links[MOST];
+    long count = argc > 2 ? atol(argv[1]) : 0;
+    int connections = argc > 2 ? atoi(argv[2]) : 0;
+    if (count < 1 || connections < 1 || connections > MOST) {
+        fputs("pings COUNT CONNECTIONS [PORT]\n", stderr);
         return 2;
     }
-    address = address_of(argc > 2 ? atoi(argv[2]) : 0);
-    if (argc == 2) {
+    address = address_of(argc > 3 ? atoi(argv[3]) : 0);
+    if (argc == 3) {
         int listener = socket(AF_INET, SOCK_STREAM, 0);
-        if (bind(listener, (struct sockaddr *) &address, size) != 0 || listen(listener, 1) != 0)
+        if (bind(listener, (struct sockaddr *) &address, size) != 0 || listen(listener, 1024) != 0)
             fail("listen");
         if (getsockname(listener, (struct sockaddr *) &address, &size) != 0)
             fail("getsockname");
         child = fork();
         if (child == 0) {
-            serve(listener);
+            serve(listener, connections);
             _exit(0);
         }
         close(listener);
     }
-    /* Made behind the child, which would hold it open else. */
-    link = socket(AF_INET, SOCK_STREAM, 0);
-    if (connect(link, (struct sockaddr *) &address, sizeof address) != 0)
-        fail("connect");
+    /* Made behind the child, which would hold them open else. */
+    int poll = epoll_create1(0);
+    if (poll < 0)
+        fail("epoll_create1");
+    for (int i = 0; i < connections; i++) {
+        links[i] = socket(AF_INET, SOCK_STREAM, 0);
+        if (connect(links[i], (struct sockaddr *) &address, sizeof address) != 0)
+            fail("connect");
+        no_delay(links[i]);
+        watch(poll, links[i]);
+    }
     for (int i = 0; i < 5; i++) {
-        double now = round_of(link, count);
+        double now = round_of(poll, links, connections, count);
         if (i == 0 || now < least)
             least = now;
     }
-    close(link);
+    for (int i = 0; i < connections; i++)
+        close(links[i]);
     if (child > 0)
         waitpid(child, NULL, 0);
     printf("%.0f\n", least);
