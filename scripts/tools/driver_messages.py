@@ -79,6 +79,13 @@ COUNTING = document([
     element(DOCUMENT, "1", document([element(DOCUMENT, "$group", GROUP)])),
 ])
 DELETE = document([element(DOCUMENT, "q", document([element(INT32, "_id", int32(1))])), element(INT32, "limit", int32(1))])
+AT_MOST_2 = document([element(DOCUMENT, "_id", document([element(INT32, "$lte", int32(2))]))])
+
+
+def by_id(direction):
+    """Returns the sort by _id in this direction."""
+    return document([element(INT32, "_id", int32(direction))])
+
 
 # Each request: its body, the documents of its sequence, and what the server writes of it.
 REQUESTS = [
@@ -157,6 +164,50 @@ document 91
     "id" int64 0
     "ns" string "test.c"
   "ok" double 000000000000f03f
+""",
+    ),
+    (
+        command("find", COLLECTION, element(DOCUMENT, "filter", AT_MOST_2), element(DOCUMENT, "sort", by_id(-1))),
+        (),
+        """\
+request "find"
+document 84
+  "find" string "c"
+  "filter" document 25
+    "_id" document 15
+      "$lte" int32 2
+  "sort" document 14
+    "_id" int32 -1
+  "$db" string "test"
+answer
+document 108
+  "cursor" document 83
+    "firstBatch" array 39
+      "0" document 14
+        "_id" int32 2
+      "1" document 14
+        "_id" int32 1
+    "id" int64 0
+    "ns" string "test.c"
+  "ok" double 000000000000f03f
+""",
+    ),
+    (
+        command("find", COLLECTION, element(DOCUMENT, "sort", by_id(2))),
+        (),
+        """\
+request "find"
+document 51
+  "find" string "c"
+  "sort" document 14
+    "_id" int32 2
+  "$db" string "test"
+answer
+document 135
+  "ok" double 0000000000000000
+  "errmsg" string "$sort key ordering must be 1 (for ascending) or -1 (for descending)"
+  "code" int32 15975
+  "codeName" string "Location15975"
 """,
     ),
     (

@@ -9,15 +9,15 @@ use Rattle.bson_raw.specs.{TreeValue, document_value, first_named, leaf_value, w
 use Rattle.bson_doc.specs.declared.bson_values.Bson.{Bson}
 use Rattle.bson_doc.specs.Bson.{value_of}
 use Rattle.bson_doc.specs.Document.{tree_of, value_named}
-use Rattle.test_server.specs.Filters.{begins_with_operator, found, has_fields, has_operator, has_value, is_operator, is_operator_field, matches}
+use Rattle.test_server.specs.Filters.{begins_with_operator, found, has_fields, has_refused_field, has_value, is_operator, is_refused_field, matches}
 
 pub begins_first : (name : List ℕ) (v : TreeValue) (others : Tree) → begins_with_operator (with_first name v others) ≡ is_operator name
 begins_first name (leaf_value k v) others = refl
 begins_first name (document_value k b t) others = refl
 
-pub has_operator-with_first : (name : List ℕ) (v : TreeValue) (others : Tree) → has_operator (with_first name v others) ≡ (is_operator_field name v || has_operator others)
-has_operator-with_first name (leaf_value k v) others = refl
-has_operator-with_first name (document_value k b t) others = refl
+pub has_refused_field-with_first : (name : List ℕ) (v : TreeValue) (others : Tree) → has_refused_field (with_first name v others) ≡ (is_refused_field name v || has_refused_field others)
+has_refused_field-with_first name (leaf_value k v) others = refl
+has_refused_field-with_first name (document_value k b t) others = refl
 
 pub has_fields-with_first : (name : List ℕ) (v : TreeValue) (others t : Tree) → has_fields (with_first name v others) t ≡ (has_value (first_named name t) v && has_fields others t)
 has_fields-with_first name (leaf_value k v) others t = refl

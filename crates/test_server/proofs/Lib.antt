@@ -1,5 +1,10 @@
 pub mod Places
+pub mod Scaling
 pub mod Filtering
+pub mod Shown
+pub mod Naming
+pub mod StableSorts
+pub mod SortOrders
 pub mod Owning
 pub mod Inserting
 pub mod Cursors

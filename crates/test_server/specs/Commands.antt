@@ -88,13 +88,14 @@ abbrev pub found_reply : StoreView → NamespaceView → List TreeValue → ℕ 
 found_reply s n vs count single =
     find_reply s n (take count vs) (left_of single (drop count vs))
 
-abbrev pub find_reply_to : StoreView → QueryView → Reply
+abbrev pub find_reply_to : StoreView → QueryView → Result Reply CommandError
 find_reply_to s q =
-    found_reply s q.selection.namespace (selected q.selection s.collections) q.count q.is_single
+    and_then (selected q.selection s.collections) (λ vs.
+    Ok (found_reply s q.selection.namespace vs q.count q.is_single))
 
 -- the answer of find and what is held after it, or its error
 abbrev pub find : StoreView → Tree → Result Reply CommandError
-find s t = and_then (query_in t) (λ q. Ok (find_reply_to s q))
+find s t = and_then (query_in t) (λ q. find_reply_to s q)
 
 -- ---- getMore
 
@@ -128,7 +129,8 @@ get_more s t =
 abbrev pub count : StoreView → Tree → Result Reply CommandError
 count s t =
     and_then (selection_in (codes "count") errors.Count (codes "query") t) (λ q.
-    Ok (record { answer = counted_pairs (length (selected q s.collections)); held = s }))
+    and_then (selected q s.collections) (λ vs.
+    Ok (record { answer = counted_pairs (length vs); held = s })))
 
 -- ---- delete
 

@@ -10,7 +10,7 @@ use Rattle.test_server.specs.declared.failure.CommandError.{CommandError}
 use Rattle.test_server.specs.declared.failure.CommandError.TheVariants as errors
 use Rattle.test_server.specs.Errors.{and_then}
 use Rattle.test_server.specs.Fields.{count_of}
-use Rattle.test_server.specs.Filters.{filter_in, matches}
+use Rattle.test_server.specs.Filters.{compared, filter_in, matches}
 
 pub record DeleteView : Type 0 where
   pub filter : Tree
@@ -61,8 +61,10 @@ survivors d [] = []
 survivors d (v ∷ vs) =
     if matches d.filter v then (if d.is_single then vs else survivors d vs) else v ∷ survivors d vs
 
--- what is left after all statements, in order, or the error of the first that is malformed
+-- what is left after all statements, in order, or the error of the first that is malformed or that
+-- compares what isn't compared
 abbrev pub after_deletes : List TreeValue → List TreeValue → Result (List TreeValue) CommandError
 after_deletes [] vs = Ok vs
 after_deletes (v ∷ statements) vs =
-    and_then (delete_of v) (λ d. after_deletes statements (survivors d vs))
+    and_then (delete_of v) (λ d.
+    and_then (compared d.filter vs) (λ all. after_deletes statements (survivors d all)))

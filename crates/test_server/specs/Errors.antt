@@ -8,11 +8,13 @@ use Rattle.test_server.specs.declared.failure.Failure.TheVariants.{OutOfMemory, 
 abbrev pub code_of : CommandError → ℤ
 code_of errors.CursorNotFound = pos 43
 code_of errors.NamespaceNotFound = pos 26
+code_of errors.Direction = pos 15975
 code_of _ = pos 9
 
 abbrev pub code_name_of : CommandError → List ℕ
 code_name_of errors.CursorNotFound = codes "CursorNotFound"
 code_name_of errors.NamespaceNotFound = codes "NamespaceNotFound"
+code_name_of errors.Direction = codes "Location15975"
 code_name_of _ = codes "FailedToParse"
 
 abbrev pub words_of : CommandError → List ℕ
@@ -36,7 +38,14 @@ words_of errors.Documents =
     codes "the command must bring from 1 to 100000 documents, with no name twice in one"
 words_of errors.Ordered = codes "the field 'ordered' must be a boolean"
 words_of errors.Filter = codes "the field 'filter' must be a document with no name twice"
-words_of errors.Operator = codes "the field 'filter' must have no operator"
+words_of errors.Operator =
+    codes "a filter must ask for values or $eq, $ne, $gt, $gte, $lt, $lte, $in, $nin, $exists"
+words_of errors.Decimal = codes "a filter must compare no decimal128"
+words_of errors.Sort = codes "the field 'sort' must be a document with no name twice"
+words_of errors.Direction =
+    codes "$sort key ordering must be 1 (for ascending) or -1 (for descending)"
+words_of errors.Unsorted =
+    codes "documents are sorted by numbers, strings, booleans, dates, ObjectIds and null alone"
 words_of errors.Skip = codes "the field 'skip' must be a whole number"
 words_of errors.Limit = codes "the field 'limit' must be a whole number"
 words_of errors.SingleBatch = codes "the field 'singleBatch' must be a boolean"

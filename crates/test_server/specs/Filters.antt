@@ -1,13 +1,18 @@
 -- The filters of find: which ones are accepted, and which documents match them.
-use Rattle.std.specs.Prelude.{ℕ, List, [], ◌∷◌, Bool, true, false, ◌&&◌, ◌||◌, ◌==◌, Option, Some}
-use Rattle.std.specs.Prelude.{None, Result, Ok, Err, if◌then◌else◌}
+use Rattle.std.specs.Prelude.{ℕ, List, [], ◌∷◌, Bool, true, false, not, ◌&&◌, ◌||◌, ◌==◌}
+use Rattle.std.specs.Prelude.{Option, Some, None, Result, Ok, Err, if◌then◌else◌}
+use Rattle.std.specs.List.{list_any}
 use Rattle.bson_elem.specs.declared.kinds.Kind.TheVariants as kinds
 use Rattle.bson_elem.specs.{Tree, inner_pair, leaf_pair, no_pairs}
 use Rattle.bson_raw.specs.{TreeValue, document_value, first_named, leaf_value}
-use Rattle.bson_doc.specs.{coded_value, plain, repeat_depth, same}
+use Rattle.test_server.specs.declared.conditions.Operator.TheVariants as operators
 use Rattle.test_server.specs.declared.failure.CommandError.{CommandError}
 use Rattle.test_server.specs.declared.failure.CommandError.TheVariants as errors
+use Rattle.test_server.specs.declared.uncompared.Purpose.TheVariants as purposes
+use Rattle.test_server.specs.Conditions.{are_conditions, finds, is_equated, meets_all}
 use Rattle.test_server.specs.Errors.{and_then, or_error}
+use Rattle.test_server.specs.Owned.{owned}
+use Rattle.test_server.specs.Uncompared.{any_uncompared}
 
 -- ---- which filters are accepted
 
@@ -16,35 +21,37 @@ abbrev pub is_operator : List ℕ → Bool
 is_operator [] = false
 is_operator (b ∷ bs) = b == 36
 
+-- the name of a field in an embedded document has a dot
+abbrev pub is_path : List ℕ → Bool
+is_path name = list_any (λ b. b == 46) name
+
 -- the first of these names is that of an operator
 abbrev pub begins_with_operator : Tree → Bool
 begins_with_operator no_pairs = false
 begins_with_operator (leaf_pair n k v ps) = is_operator n
 begins_with_operator (inner_pair n k b inner ps) = is_operator n
 
--- a field is an operator, or its value is one with its operands
-abbrev pub is_operator_field : List ℕ → TreeValue → Bool
-is_operator_field n (document_value kinds.Document b t) = is_operator n || begins_with_operator t
-is_operator_field n _ = is_operator n
+-- a field may be asked for this: a value that it equals, or operators that are carried out
+abbrev pub is_asked : TreeValue → Bool
+is_asked (document_value kinds.Document b t) =
+    if begins_with_operator t then are_conditions t else true
+is_asked v = is_equated v
 
--- a filter has an operator in the place of a field or of a value
-abbrev pub has_operator : Tree → Bool
-has_operator no_pairs = false
-has_operator (leaf_pair n k v ps) = is_operator_field n (leaf_value k v) || has_operator ps
-has_operator (inner_pair n k b inner ps) =
-    is_operator_field n (document_value k b inner) || has_operator ps
+-- a filter has a field that isn't carried out: an operator of filters, a path, or what it may not
+-- be asked for
+abbrev pub is_refused_field : List ℕ → TreeValue → Bool
+is_refused_field n v = is_operator n || is_path n || not (is_asked v)
 
--- a document in its canonical form, if no name is repeated in it or in a document or scope inside
-abbrev pub if_no_repeat : {A : Type 0} → Option ℕ → A → Option A
-if_no_repeat None a = Some a
-if_no_repeat (Some depth) a = None
+abbrev pub has_refused_field : Tree → Bool
+has_refused_field no_pairs = false
+has_refused_field (leaf_pair n k v ps) =
+    is_refused_field n (leaf_value k v) || has_refused_field ps
+has_refused_field (inner_pair n k b inner ps) =
+    is_refused_field n (document_value k b inner) || has_refused_field ps
 
-abbrev pub owned : Tree → Option Tree
-owned t = if_no_repeat (repeat_depth t) (plain t)
-
--- the filter, unless it has an operator
+-- the filter, unless a field of it isn't carried out
 abbrev pub filter_in : Tree → Result Tree CommandError
-filter_in f = if has_operator f then Err errors.Operator else Ok f
+filter_in f = if has_refused_field f then Err errors.Operator else Ok f
 
 -- the filter that is this document
 abbrev pub read_filter : Tree → Result Tree CommandError
@@ -62,12 +69,14 @@ filter_field name t = filter_of (first_named name t)
 
 -- ---- which documents match
 
--- a field has this value: they are of one kind, and their bytes are the same
+-- the value of a field is as all operators ask, or equals the value in the filter
 abbrev pub has_value : Option TreeValue → TreeValue → Bool
-has_value None v = false
-has_value (Some own) v = same coded_value own v
+has_value own (document_value kinds.Document b t) =
+    if begins_with_operator t then meets_all t own
+    else finds operators.Eq own (document_value kinds.Document b t)
+has_value own v = finds operators.Eq own v
 
--- a document has each field of the filter, with the same value
+-- a document has each field of the filter, as that asks
 abbrev pub has_fields : Tree → Tree → Bool
 has_fields no_pairs t = true
 has_fields (leaf_pair n k v ps) t = has_value (first_named n t) (leaf_value k v) && has_fields ps t
@@ -82,3 +91,11 @@ matches f _ = false
 abbrev pub found : Tree → List TreeValue → List TreeValue
 found f [] = []
 found f (v ∷ vs) = if matches f v then v ∷ found f vs else found f vs
+
+-- the documents, unless one has a value that the filter doesn't compare
+abbrev pub compared : Tree → List TreeValue → Result (List TreeValue) CommandError
+compared f vs = if any_uncompared purposes.Filter f vs then Err errors.Decimal else Ok vs
+
+-- the documents that match, in order, or an error if one has a value that isn't compared
+abbrev pub found_in : Tree → List TreeValue → Result (List TreeValue) CommandError
+found_in f vs = and_then (compared f vs) (λ all. Ok (found f all))

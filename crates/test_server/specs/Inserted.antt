@@ -10,7 +10,7 @@ use Rattle.test_server.specs.declared.failure.CommandError.{CommandError}
 use Rattle.test_server.specs.declared.failure.CommandError.TheVariants as errors
 use Rattle.test_server.specs.declared.failure.Failure.{Failure}
 use Rattle.test_server.specs.declared.failure.Failure.TheVariants.{OutOfMemory, Refused}
-use Rattle.test_server.specs.Filters.{owned}
+use Rattle.test_server.specs.Owned.{owned}
 
 -- a document as it is kept: in its canonical form, if no name is repeated in it
 abbrev pub kept_document : Tree → Option TreeValue

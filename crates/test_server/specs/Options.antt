@@ -30,8 +30,8 @@ is_insert_field name =
 abbrev pub is_find_field : List ℕ → Bool
 is_find_field name =
     is_one_of name
-    (codes "find" ∷ codes "filter" ∷ codes "skip" ∷ codes "limit" ∷ codes "batchSize"
-    ∷ codes "singleBatch" ∷ codes "allowDiskUse" ∷ codes "noCursorTimeout" ∷ [])
+    (codes "find" ∷ codes "filter" ∷ codes "sort" ∷ codes "skip" ∷ codes "limit"
+    ∷ codes "batchSize" ∷ codes "singleBatch" ∷ codes "allowDiskUse" ∷ codes "noCursorTimeout" ∷ [])
 
 abbrev pub is_delete_field : List ℕ → Bool
 is_delete_field name =

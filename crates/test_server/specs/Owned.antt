@@ -1,12 +1,20 @@
 -- The fields of documents, as they are kept.
-use Rattle.std.specs.Prelude.{List, [], ◌∷◌, Option, Some, None, Result}
+use Rattle.std.specs.Prelude.{ℕ, List, [], ◌∷◌, Option, Some, None, Result}
 use Rattle.bson_elem.specs.declared.kinds.Kind.TheVariants as kinds
 use Rattle.bson_elem.specs.{Tree, inner_pair, leaf_pair, no_pairs}
 use Rattle.bson_raw.specs.{TreeValue, document_value, leaf_value}
+use Rattle.bson_doc.specs.{plain, repeat_depth}
 use Rattle.test_server.specs.declared.failure.CommandError.{CommandError}
 use Rattle.test_server.specs.declared.failure.CommandError.TheVariants as errors
 use Rattle.test_server.specs.Errors.{or_error}
-use Rattle.test_server.specs.Filters.{owned}
+
+-- a document in its canonical form, if no name is repeated in it or in a document or scope inside
+abbrev pub if_no_repeat : {A : Type 0} → Option ℕ → A → Option A
+if_no_repeat None a = Some a
+if_no_repeat (Some depth) a = None
+
+abbrev pub owned : Tree → Option Tree
+owned t = if_no_repeat (repeat_depth t) (plain t)
 
 -- the body of a command in its canonical form, if no name is repeated in it
 abbrev pub body_of : Tree → Result Tree CommandError

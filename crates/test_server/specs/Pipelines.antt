@@ -12,11 +12,11 @@ use Rattle.test_server.specs.Answers.{count_value, inner, int32}
 use Rattle.test_server.specs.Deleting.{filter_value}
 use Rattle.test_server.specs.Errors.{and_then, or_error}
 use Rattle.test_server.specs.Fields.{at_least, count_of}
-use Rattle.test_server.specs.Filters.{found}
+use Rattle.test_server.specs.Filters.{found_in}
 
 -- $match keeps the documents that match
 abbrev pub matched : TreeValue → List TreeValue → Result (List TreeValue) CommandError
-matched v vs = and_then (filter_value (Some v)) (λ f. Ok (found f vs))
+matched v vs = and_then (filter_value (Some v)) (λ f. found_in f vs)
 
 -- $skip passes over the first ones
 abbrev pub skipped : TreeValue → List TreeValue → Result (List TreeValue) CommandError

@@ -8,12 +8,15 @@ use Rattle.test_server.specs.declared.failure.CommandError.TheVariants as errors
 use Rattle.test_server.specs.declared.selection.Selection.{Selection}
 use Rattle.test_server.specs.Errors.{and_then}
 use Rattle.test_server.specs.Fields.{namespace_at, number_field}
-use Rattle.test_server.specs.Filters.{filter_field, found}
+use Rattle.test_server.specs.Filters.{filter_field, found_in}
+use Rattle.test_server.specs.Sorting.{sort_field, sorted_in}
 use Rattle.test_server.specs.Held.{CollectionView, NamespaceView, documents_in, namespace_of}
 
 pub record SelectionView : Type 0 where
   pub namespace : NamespaceView
   pub filter : Tree
+  -- the keys that they are sorted by
+  pub keys : Tree
   -- how many that match are passed over
   pub skip : ℕ
   -- the most after those, or 0 for all
@@ -24,6 +27,7 @@ selection_of q =
     record {
       namespace = namespace_of q.namespace;
       filter = tree_of q.filter;
+      keys = tree_of q.keys;
       skip = q.skip;
       limit = q.limit;
     }
@@ -33,14 +37,17 @@ abbrev pub selection_in : List ℕ → CommandError → List ℕ → Tree → Re
 selection_in name error filter t =
     and_then (namespace_at name error t) (λ n.
     and_then (filter_field filter t) (λ f.
+    and_then (sort_field t) (λ keys.
     and_then (number_field (codes "skip") errors.Skip t) (λ skip.
     and_then (number_field (codes "limit") errors.Limit t) (λ limit.
-    Ok (record { namespace = n; filter = f; skip = skip; limit = limit })))))
+    Ok (record { namespace = n; filter = f; keys = keys; skip = skip; limit = limit }))))))
 
 -- the first ones, at most this many, or all if the limit is 0
 abbrev pub limited : {A : Type 0} → ℕ → List A → List A
 limited n vs = if n == 0 then vs else take n vs
 
--- the documents that match, without those that are passed over, and no more than the limit
-abbrev pub selected : SelectionView → List CollectionView → List TreeValue
-selected q cs = limited q.limit (drop q.skip (found q.filter (documents_in q.namespace cs)))
+-- the documents that match, sorted, without those that are passed over, and no more than the limit
+abbrev pub selected : SelectionView → List CollectionView → Result (List TreeValue) CommandError
+selected q cs =
+    and_then (found_in q.filter (documents_in q.namespace cs)) (λ vs.
+    and_then (sorted_in q.keys vs) (λ ws. Ok (limited q.limit (drop q.skip ws))))

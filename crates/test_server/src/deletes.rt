@@ -8,7 +8,7 @@ ghost use Rattle.test_server.specs.Errors.{IsFailure};
 ghost use Rattle.test_server.specs.Fields.{count_of};
 
 use crate::failure::{CommandError, Failure};
-use crate::filters::{applicable, is_match};
+use crate::filters::{applicable, compared, is_match};
 use crate::owned::field;
 use bson_doc::{Bson, Document};
 use std::alloc::{AllocError, Global};
@@ -118,8 +118,8 @@ pub fn copies(alloc: Global, documents: &[Bson]) -> Result<Vec<Bson>, AllocError
 ///
 /// # Errors
 ///
-/// Returns the error of the first statement that is malformed, and `OutOfMemory` if memory runs
-/// out.
+/// Returns the error of the first statement that is malformed or would compare a decimal128, and
+/// `OutOfMemory` if memory runs out.
 pub fn after_deletes(
     alloc: Global,
     statements: &[Bson],
@@ -134,6 +134,7 @@ pub fn after_deletes(
     let mut left = copies(alloc, documents)?;
     for statement in statements {
         let delete = delete_of(statement)?;
+        compared(delete.filter, left.as_slice())?;
         left = survivors(alloc, delete, left.as_slice())?;
     }
     Ok(left)

@@ -4,6 +4,10 @@ ghost use Rattle.std.specs.Prelude.{◌≡◌};
 
 use std::alloc::AllocError;
 
+/// What a sort is by.
+const UNSORTED: &str =
+    "documents are sorted by numbers, strings, booleans, dates, ObjectIds and null alone";
+
 /// What is wrong with a command, or with what it asks for.
 #[derive(Clone, Copy, Debug, PartialEq, Eq)]
 pub enum CommandError {
@@ -43,8 +47,16 @@ pub enum CommandError {
     Ordered,
     /// The filter isn't a document, or a name is repeated in it.
     Filter,
-    /// The filter has an operator.
+    /// The filter has an operator or an operand that isn't carried out.
     Operator,
+    /// The filter would compare a decimal128.
+    Decimal,
+    /// The field `sort` isn't a document, or a name is repeated in it.
+    Sort,
+    /// A field of the sort isn't a key with a direction.
+    Direction,
+    /// A document has a value that isn't compared in a field by which they are sorted.
+    Unsorted,
     /// The number of documents to skip isn't a whole number.
     Skip,
     /// The most documents to find isn't a whole number.
@@ -71,6 +83,7 @@ impl CommandError {
         match self {
             CommandError::CursorNotFound => 43,
             CommandError::NamespaceNotFound => 26,
+            CommandError::Direction => 15975,
             _ => 9,
         }
     }
@@ -82,6 +95,7 @@ impl CommandError {
         match self {
             CommandError::CursorNotFound => "CursorNotFound",
             CommandError::NamespaceNotFound => "NamespaceNotFound",
+            CommandError::Direction => "Location15975",
             _ => "FailedToParse",
         }
     }
@@ -114,7 +128,15 @@ impl CommandError {
             }
             CommandError::Ordered => "the field 'ordered' must be a boolean",
             CommandError::Filter => "the field 'filter' must be a document with no name twice",
-            CommandError::Operator => "the field 'filter' must have no operator",
+            CommandError::Operator => {
+                "a filter must ask for values or $eq, $ne, $gt, $gte, $lt, $lte, $in, $nin, $exists"
+            }
+            CommandError::Decimal => "a filter must compare no decimal128",
+            CommandError::Sort => "the field 'sort' must be a document with no name twice",
+            CommandError::Direction => {
+                "$sort key ordering must be 1 (for ascending) or -1 (for descending)"
+            }
+            CommandError::Unsorted => UNSORTED,
             CommandError::Skip => "the field 'skip' must be a whole number",
             CommandError::Limit => "the field 'limit' must be a whole number",
             CommandError::SingleBatch => "the field 'singleBatch' must be a boolean",

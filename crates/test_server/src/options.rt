@@ -40,7 +40,7 @@ fn is_find_field(name: &str) -> bool
     ensures { result ≡ is_find_field name.now }
 {
     match name {
-        "find" | "filter" | "skip" | "limit" | "batchSize" | "singleBatch" => true,
+        "find" | "filter" | "sort" | "skip" | "limit" | "batchSize" | "singleBatch" => true,
         "allowDiskUse" | "noCursorTimeout" => true,
         _ => false,
     }

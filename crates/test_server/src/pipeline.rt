@@ -10,7 +10,7 @@ ghost use Rattle.test_server.specs.Pipelines.{grouped, matched, skipped, stage_i
 use crate::answer::{count_value, set};
 use crate::deletes::{copies, whole_of};
 use crate::failure::{CommandError, Failure};
-use crate::filters::{applicable, matching};
+use crate::filters::{applicable, found_in};
 use crate::owned::{field, is_same};
 use crate::store::take_batch;
 use bson_doc::{Bson, Document};
@@ -50,7 +50,7 @@ fn matched(alloc: Global, filter: &Bson, documents: &[Bson]) -> Result<Vec<Bson>
         return Err(Failure::Refused(CommandError::Filter));
     };
     applicable(filter)?;
-    Ok(matching(alloc, filter, documents)?)
+    found_in(alloc, filter, documents)
 }
 
 /// Returns copies of the documents after the first ones.

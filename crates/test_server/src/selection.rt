@@ -1,5 +1,5 @@
-//! Selects documents of a collection: those that match a filter, from one of them on, and no more
-//! than a limit.
+//! Selects documents of a collection: those that match a filter, sorted by keys, from one of them
+//! on, and no more than a limit.
 
 ghost use Rattle.std.specs.Prelude.{◌≡◌, IfErr, IfOk, Ok, map};
 ghost use Rattle.bson_elem.specs.{Spells, Tree};
@@ -11,12 +11,13 @@ ghost use Rattle.test_server.specs.Selecting.{limited, selected, selection_in, s
 
 use crate::failure::{CommandError, Failure};
 use crate::fields::{namespace_field, number_field};
-use crate::filters::{filter_field, matching};
+use crate::filters::{filter_field, found_in};
 use crate::namespace::Namespace;
+use crate::sorting::{sort_field, sort_in};
 use crate::store::{Store, take_batch};
 use bson_doc::{Bson, Document};
 use bson_raw::RawDocument;
-use std::alloc::{AllocError, Global};
+use std::alloc::Global;
 
 /// Which documents are selected.
 #[derive(Debug, Drop)]
@@ -25,6 +26,8 @@ pub struct Selection<'a> {
     pub namespace: Namespace<'a>,
     /// The filter that they must match.
     pub filter: Document,
+    /// The keys by which they are sorted.
+    pub keys: Document,
     /// The number of documents that match and are passed over.
     pub skip: usize,
     /// The most documents after those, or 0 for all.
@@ -46,11 +49,13 @@ pub fn selection_in<'a>(
 {
     let namespace = namespace_field(body, name, error)?;
     let filter = filter_field(alloc, body, filter)?;
+    let keys = sort_field(alloc, body)?;
     let skip = number_field(body, "skip", CommandError::Skip)?;
     let limit = number_field(body, "limit", CommandError::Limit)?;
     Ok(Selection {
         namespace,
         filter,
+        keys,
         skip,
         limit,
     })
@@ -70,12 +75,16 @@ pub fn selected(
     alloc: Global,
     store: &Store,
     selection: &Selection<'_>,
-) -> Result<Vec<Bson>, AllocError>
-    ensures { IfOk result (λ vs. map value_of vs.items
-        ≡ selected (selection_of selection.now) (store_of store.now).collections) }
+) -> Result<Vec<Bson>, Failure>
+    ensures ok { IfOk result (λ vs.
+        selected (selection_of selection.now) (store_of store.now).collections
+        ≡ Ok (map value_of vs.items)) }
+    ensures refused { IfErr result (λ e. IsFailure
+        (selected (selection_of selection.now) (store_of store.now).collections) e) }
 {
     let documents = store.documents(selection.namespace);
-    let mut found = matching(alloc, &selection.filter, documents)?;
+    let mut found = found_in(alloc, &selection.filter, documents)?;
+    sort_in(&selection.keys, &mut found)?;
     let skipped = take_batch(&mut found, selection.skip)?;
     drop(skipped);
     keep_limit(&mut found, selection.limit);

@@ -79,14 +79,16 @@ pub fn answer_found(
 }
 
 /// Answers with the first documents that a query finds, and opens a cursor over the others.
-fn answer_query(alloc: Global, store: &mut Store, query: &Query<'_>) -> Result<Document, AllocError>
-    ensures answered { IfOk result (λ d. find_reply_to (store_of store.old) (query_of query.now)
-        ≡ record { answer = d; held = store_of store.new }) }
+fn answer_query(alloc: Global, store: &mut Store, query: &Query<'_>) -> Result<Document, Failure>
+    ensures carried { IsCarriedOut (find_reply_to (store_of store.old) (query_of query.now))
+        (store_of store.old) result (store_of store.new) }
     ensures steady { (store_of store.new).collections ≡ (store_of store.old).collections }
 {
     let namespace = query.selection.namespace;
     let found = selected(alloc, store, &query.selection)?;
-    answer_found(alloc, store, namespace, found, query.count, query.is_single)
+    let count = query.count;
+    let answer = answer_found(alloc, store, namespace, found, count, query.is_single)?;
+    Ok(answer)
 }
 
 /// Finds the documents of a collection that match a filter. Answers with the first of them, and
@@ -98,6 +100,5 @@ pub fn find(alloc: Global, store: &mut Store, body: RawDocument<'_>) -> Result<D
     ensures steady { (store_of store.new).collections ≡ (store_of store.old).collections }
 {
     let query = query_in(alloc, body)?;
-    let answer = answer_query(alloc, store, &query)?;
-    Ok(answer)
+    answer_query(alloc, store, &query)
 }
