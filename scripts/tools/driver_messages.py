@@ -87,6 +87,22 @@ def by_id(direction):
     return document([element(INT32, "_id", int32(direction))])
 
 
+
+def statement(query, update, *others):
+    """Returns a statement of update."""
+    return document([element(DOCUMENT, "q", document(query)), element(DOCUMENT, "u", document(update)), *others])
+
+
+def field(name, number):
+    return element(INT32, name, int32(number))
+
+
+UPDATES = document([
+    element(DOCUMENT, "0", statement([field("_id", 2)], [element(DOCUMENT, "$set", document([field("a", 5)]))])),
+    element(DOCUMENT, "1", statement([], [element(DOCUMENT, "$inc", document([field("a", 1)]))], element(BOOLEAN, "multi", b"\1"))),
+    element(DOCUMENT, "2", statement([field("_id", 3)], [field("_id", 4)], element(BOOLEAN, "upsert", b"\0"))),
+])
+
 # Each request: its body, the documents of its sequence, and what the server writes of it.
 REQUESTS = [
     (
@@ -328,6 +344,68 @@ document 83
 answer
 document 24
   "n" int32 1
+  "ok" double 000000000000f03f
+""",
+    ),
+    (
+        command("update", COLLECTION, element(ARRAY, "updates", UPDATES)),
+        (),
+        """\
+request "update"
+document 199
+  "update" string "c"
+  "updates" array 157
+    "0" document 48
+      "q" document 14
+        "_id" int32 2
+      "u" document 23
+        "$set" document 12
+          "a" int32 5
+    "1" document 47
+      "q" document 5
+      "u" document 23
+        "$inc" document 12
+          "a" int32 1
+      "multi" boolean true
+    "2" document 48
+      "q" document 14
+        "_id" int32 3
+      "u" document 14
+        "_id" int32 4
+      "upsert" boolean false
+  "$db" string "test"
+answer
+document 150
+  "n" int32 3
+  "nModified" int32 3
+  "writeErrors" array 98
+    "0" document 90
+      "index" int32 2
+      "code" int32 66
+      "errmsg" string "an update must not change the immutable field '_id'"
+  "ok" double 000000000000f03f
+""",
+    ),
+    (
+        command("find", COLLECTION),
+        (),
+        """\
+request "find"
+document 31
+  "find" string "c"
+  "$db" string "test"
+answer
+document 122
+  "cursor" document 97
+    "firstBatch" array 53
+      "0" document 21
+        "_id" int32 2
+        "a" int32 6
+      "1" document 21
+        "_id" int32 3
+        "a" int32 1
+    "id" int64 0
+    "ns" string "test.c"
   "ok" double 000000000000f03f
 """,
     ),

@@ -15,4 +15,5 @@ pub mod Handled
 pub mod Texts
 pub mod Made
 pub mod NumberLemmas
+pub mod Sums
 pub mod ParseLemmas

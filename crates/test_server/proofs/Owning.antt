@@ -4,12 +4,17 @@ use Rattle.bson_raw.specs.{TreeValue, document_value, leaf_value, names_of}
 use Rattle.bson_raw.proofs.Lemmas.{names_of-with_first}
 use Rattle.bson_doc.specs.Array.{array_tree}
 use Rattle.bson_doc.specs.Document.{tree_of}
-use Rattle.test_server.specs.Owned.{values_in}
+use Rattle.test_server.specs.Owned.{pairs_of, values_in}
 
 pub values_of_array : (i : ℕ) (vs : List TreeValue) → values_in (array_tree i vs) ≡ vs
 values_of_array i [] = refl
 values_of_array i (leaf_value k v ∷ vs) = ap (λ (l : List TreeValue). leaf_value k v ∷ l) (values_of_array (i + 1) vs)
 values_of_array i (document_value k b t ∷ vs) = ap (λ (l : List TreeValue). document_value k b t ∷ l) (values_of_array (i + 1) vs)
+
+pub pairs_of_tree : (ps : List (List ℕ × TreeValue)) → pairs_of (tree_of ps) ≡ ps
+pairs_of_tree [] = refl
+pairs_of_tree ((n, leaf_value k v) ∷ ps) = ap (λ (l : List (List ℕ × TreeValue)). (n, leaf_value k v) ∷ l) (pairs_of_tree ps)
+pairs_of_tree ((n, document_value k b t) ∷ ps) = ap (λ (l : List (List ℕ × TreeValue)). (n, document_value k b t) ∷ l) (pairs_of_tree ps)
 
 pub names_count : (ps : List (List ℕ × TreeValue)) → length (names_of (tree_of ps)) ≡ length ps
 names_count [] = refl

@@ -4,7 +4,7 @@ use Rattle.std.specs.Prelude.{codes, map, if◌then◌else◌}
 use Rattle.bson_raw.specs.{TreeValue}
 use Rattle.bson_doc.specs.{value_of}
 use Rattle.test_server.specs.declared.adding.Adding.{Adding}
-use Rattle.test_server.specs.Answers.{count_value, inner, int32, text}
+use Rattle.test_server.specs.Answers.{write_error}
 use Rattle.test_server.specs.Held.{NamespaceView, namespace_text}
 use Rattle.test_server.specs.Identity.{id_in, is_taken}
 
@@ -20,12 +20,8 @@ adding_of a =
 -- the error of the document at this index
 abbrev pub duplicate_error : ℕ → NamespaceView → TreeValue
 duplicate_error i n =
-    inner ((codes "index", count_value i) ∷ (codes "code", int32 (pos 11000))
-    ∷ (
-      codes "errmsg",
-      text (codes "E11000 duplicate key error collection: "
-          ++ namespace_text n ++ codes " index: _id_"),
-    ) ∷ [])
+    write_error i (pos 11000)
+    (codes "E11000 duplicate key error collection: " ++ namespace_text n ++ codes " index: _id_")
 
 -- a document is added, unless its `_id` is that of one that is held or was added before
 abbrev pub add : NamespaceView → List TreeValue → ℕ → TreeValue → AddingView → AddingView

@@ -26,6 +26,7 @@ int64 z = leaf_value kinds.Int64 (number_value z)
 abbrev pub text : List ℕ → TreeValue
 text s = leaf_value kinds.String (text_value s)
 
+-- a document
 abbrev pub inner : List (List ℕ × TreeValue) → TreeValue
 inner pairs = document_value kinds.Document no_code (tree_of pairs)
 
@@ -92,6 +93,12 @@ count_value n = if nat_lt n 2147483648 then int32 (pos n) else int64 (pos n)
 abbrev pub counted_pairs : ℕ → List (List ℕ × TreeValue)
 counted_pairs n = (codes "n", count_value n) ∷ ok_alone
 
+-- the error of the document or the statement of a write at this index: its number, and its words
+abbrev pub write_error : ℕ → ℤ → List ℕ → TreeValue
+write_error i code words =
+    inner ((codes "index", count_value i) ∷ (codes "code", int32 code)
+    ∷ (codes "errmsg", text words) ∷ [])
+
 -- the errors of a write, if there are any, and `ok`
 abbrev pub errors_pairs : List TreeValue → List (List ℕ × TreeValue)
 errors_pairs [] = ok_alone
@@ -100,6 +107,13 @@ errors_pairs (e ∷ es) = (codes "writeErrors", array (e ∷ es)) ∷ ok_alone
 -- the answer to insert: how many documents were inserted, and the errors of others
 abbrev pub inserted_pairs : ℕ → List TreeValue → List (List ℕ × TreeValue)
 inserted_pairs n errors = (codes "n", count_value n) ∷ errors_pairs errors
+
+-- the answer to update: how many documents matched, how many of those became others, and the errors
+-- of statements
+abbrev pub updated_pairs : ℕ → ℕ → List TreeValue → List (List ℕ × TreeValue)
+updated_pairs matched modified errors =
+    (codes "n", count_value matched) ∷ (codes "nModified", count_value modified)
+    ∷ errors_pairs errors
 
 abbrev pub dropped_pairs : List ℕ → List (List ℕ × TreeValue)
 dropped_pairs ns = (codes "nIndexesWas", int32 (pos 1)) ∷ (codes "ns", text ns) ∷ ok_alone

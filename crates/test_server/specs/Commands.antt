@@ -18,7 +18,7 @@ use Rattle.test_server.specs.Adding.{AddingView, gathered}
 use Rattle.test_server.specs.Answers.{build_pairs, counted_pairs, cursor_answer, dropped_pairs}
 use Rattle.test_server.specs.Answers.{error_pairs}
 use Rattle.test_server.specs.Answers.{hello_pairs, inserted_pairs, killed_pairs, listing, ok_alone}
-use Rattle.test_server.specs.Answers.{refusal_pairs}
+use Rattle.test_server.specs.Answers.{refusal_pairs, updated_pairs}
 use Rattle.test_server.specs.Deleting.{after_deletes}
 use Rattle.test_server.specs.Errors.{and_then, or_error}
 use Rattle.test_server.specs.Fields.{asked_size, batch_size, flag_field, id_field, namespace_at}
@@ -33,6 +33,7 @@ use Rattle.test_server.specs.Options.{first_unread}
 use Rattle.test_server.specs.Owned.{array_in, body_of}
 use Rattle.test_server.specs.Pipelines.{after_stages}
 use Rattle.test_server.specs.Selecting.{SelectionView, selected, selection_in}
+use Rattle.test_server.specs.Updating.{UpdatesView, after_updates}
 
 -- an answer, and what is held after it
 pub record Reply : Type 0 where
@@ -148,6 +149,22 @@ delete s c =
     and_then (brought (codes "deletes") c) (λ vs.
     and_then (after_deletes vs (documents_in n s.collections)) (λ left.
     Ok (delete_reply s n left))))
+
+-- ---- update
+
+abbrev pub update_reply : StoreView → NamespaceView → UpdatesView → Reply
+update_reply s n u = record {
+  answer = updated_pairs u.matched u.modified u.errors;
+  held = record { collections = with_replaced n u.documents s.collections; cursors = s.cursors };
+}
+
+-- the answer of update and what is held after it, or its error
+abbrev pub update : StoreView → Content → Result Reply CommandError
+update s c =
+    and_then (namespace_at (codes "update") errors.Update c.body) (λ n.
+    and_then (flag_field (codes "ordered") true errors.Ordered c.body) (λ ordered.
+    and_then (brought (codes "updates") c) (λ vs.
+    Ok (update_reply s n (after_updates ordered vs (documents_in n s.collections))))))
 
 -- ---- aggregate
 
@@ -273,6 +290,7 @@ command_of name =
     if bytes_eq name (codes "find") then commands.Find else
     if bytes_eq name (codes "getMore") then commands.GetMore else
     if bytes_eq name (codes "delete") then commands.Delete else
+    if bytes_eq name (codes "update") then commands.Update else
     if bytes_eq name (codes "count") then commands.Count else
     if bytes_eq name (codes "aggregate") then commands.Aggregate else
     if bytes_eq name (codes "killCursors") then commands.KillCursors else
@@ -297,6 +315,7 @@ run commands.Insert s c = insert s c
 run commands.Find s c = find s c.body
 run commands.GetMore s c = get_more s c.body
 run commands.Delete s c = delete s c
+run commands.Update s c = update s c
 run commands.Count s c = count s c.body
 run commands.Aggregate s c = aggregate s c.body
 run commands.KillCursors s c = kill_cursors s c.body

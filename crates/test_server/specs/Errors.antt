@@ -9,12 +9,20 @@ abbrev pub code_of : CommandError → ℤ
 code_of errors.CursorNotFound = pos 43
 code_of errors.NamespaceNotFound = pos 26
 code_of errors.Direction = pos 15975
+code_of errors.Conflict = pos 40
+code_of errors.Increment = pos 14
+code_of errors.Overflow = pos 2
+code_of errors.ImmutableId = pos 66
 code_of _ = pos 9
 
 abbrev pub code_name_of : CommandError → List ℕ
 code_name_of errors.CursorNotFound = codes "CursorNotFound"
 code_name_of errors.NamespaceNotFound = codes "NamespaceNotFound"
 code_name_of errors.Direction = codes "Location15975"
+code_name_of errors.Conflict = codes "ConflictingUpdateOperators"
+code_name_of errors.Increment = codes "TypeMismatch"
+code_name_of errors.Overflow = codes "BadValue"
+code_name_of errors.ImmutableId = codes "ImmutableField"
 code_name_of _ = codes "FailedToParse"
 
 abbrev pub words_of : CommandError → List ℕ
@@ -34,6 +42,19 @@ words_of errors.Stage =
 words_of errors.Cursor = codes "the field 'cursor' must be a document"
 words_of errors.Count = codes "the field 'count' must be a string"
 words_of errors.Deletes = codes "a statement must have a filter 'q' and a 'limit' of 0 or 1 alone"
+words_of errors.Update = codes "the field 'update' must be a string"
+words_of errors.Updates =
+    codes "a statement must have a filter 'q', an update 'u', and 'multi' and 'upsert' alone"
+words_of errors.Upsert = codes "the field 'upsert' is not carried out"
+words_of errors.Many = codes "multi update is not supported for replacement-style update"
+words_of errors.Modifiers =
+    codes "an update must be a document, or have the operators $set, $unset and $inc alone"
+words_of errors.Path =
+    codes "an operator must name fields of the document itself, with no '.' and no '$'"
+words_of errors.Conflict = codes "two operators of an update must not name one field"
+words_of errors.Increment = codes "$inc must add an int32 or an int64 to one"
+words_of errors.Overflow = codes "the sum that $inc makes must be an int64"
+words_of errors.ImmutableId = codes "an update must not change the immutable field '_id'"
 words_of errors.Documents =
     codes "the command must bring from 1 to 100000 documents, with no name twice in one"
 words_of errors.Ordered = codes "the field 'ordered' must be a boolean"

@@ -17,6 +17,10 @@ pub mod Deleting
 pub mod Pipelines
 pub mod Identity
 pub mod Adding
+pub mod Increments
+pub mod Operators
+pub mod Changing
+pub mod Updating
 pub mod Commands
 pub mod Queries
 pub mod Handling

@@ -37,6 +37,11 @@ abbrev pub is_delete_field : List ℕ → Bool
 is_delete_field name =
     is_one_of name (codes "delete" ∷ codes "deletes" ∷ codes "ordered" ∷ [])
 
+abbrev pub is_update_field : List ℕ → Bool
+is_update_field name =
+    is_one_of name
+    (codes "update" ∷ codes "updates" ∷ codes "ordered" ∷ codes "bypassDocumentValidation" ∷ [])
+
 abbrev pub is_count_field : List ℕ → Bool
 is_count_field name =
     is_one_of name (codes "count" ∷ codes "query" ∷ codes "skip" ∷ codes "limit" ∷ [])
@@ -61,6 +66,7 @@ reads commands.Insert name = is_insert_field name || is_general name
 reads commands.Find name = is_find_field name || is_general name
 reads commands.GetMore name = is_more_field name || is_general name
 reads commands.Delete name = is_delete_field name || is_general name
+reads commands.Update name = is_update_field name || is_general name
 reads commands.Count name = is_count_field name || is_general name
 reads commands.Aggregate name = is_aggregate_field name || is_general name
 reads commands.KillCursors name =

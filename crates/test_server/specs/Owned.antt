@@ -20,6 +20,16 @@ owned t = if_no_repeat (repeat_depth t) (plain t)
 abbrev pub body_of : Tree → Result Tree CommandError
 body_of t = or_error errors.Repeated (owned t)
 
+-- names and values, in order
+abbrev pub Pairs : Type 0
+Pairs = List (List ℕ × TreeValue)
+
+-- the fields of a document, in order
+abbrev pub pairs_of : Tree → Pairs
+pairs_of no_pairs = []
+pairs_of (leaf_pair n k v ps) = (n, leaf_value k v) ∷ pairs_of ps
+pairs_of (inner_pair n k b t ps) = (n, document_value k b t) ∷ pairs_of ps
+
 -- the values of an array, in order
 abbrev pub values_in : Tree → List TreeValue
 values_in no_pairs = []

@@ -8,7 +8,7 @@ ghost use Rattle.test_server.specs.Adding.{add, adding_of, duplicate_error, gath
 ghost use Rattle.test_server.specs.Answers.{inner};
 ghost use Rattle.test_server.specs.Held.{namespace_of, namespace_text};
 
-use crate::answer::{count_value, set};
+use crate::answer::write_error;
 use crate::identity::is_taken;
 use crate::namespace::Namespace;
 use bson_doc::{Bson, Document};
@@ -54,11 +54,7 @@ fn duplicate_error(
     ensures { IfOk result (λ d. inner d ≡ duplicate_error index (namespace_of namespace.entry)) }
 {
     let words = duplicate_words(alloc, namespace)?;
-    let mut error = Document::new(alloc);
-    set(alloc, &mut error, "index", count_value(index))?;
-    set(alloc, &mut error, "code", Bson::Int32(11000))?;
-    set(alloc, &mut error, "errmsg", Bson::String(words))?;
-    Ok(error)
+    write_error(alloc, index, 11000, words)
 }
 
 /// Adds a copy of a document, unless its `_id` is that of one that is held or was added before.

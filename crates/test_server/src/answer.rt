@@ -5,6 +5,7 @@ ghost use Rattle.bson_doc.specs.{value_of, put};
 ghost use Rattle.test_server.specs.Answers.{batch_name, count_value, counted_pairs, cursor_answer};
 ghost use Rattle.test_server.specs.Answers.{cursor_pairs, double_one};
 ghost use Rattle.test_server.specs.Answers.{error_pairs, inner, ok_alone, refusal_pairs, text};
+ghost use Rattle.test_server.specs.Answers.{write_error};
 
 use crate::failure::CommandError;
 use bson_doc::{Array, Bson, Document};
@@ -89,6 +90,23 @@ pub fn count_value(count: usize) -> Bson
     } else {
         Bson::Int64(count as i64)
     }
+}
+
+/// Makes the error of the document or the statement of a write at `index`.
+pub fn write_error(
+    alloc: Global,
+    index: usize,
+    code: i32,
+    words: String,
+) -> Result<Document, AllocError>
+    requires { index < 2 ^ 63 }
+    ensures { IfOk result (λ d. inner d ≡ write_error index code (string_bytes words)) }
+{
+    let mut error = Document::new(alloc);
+    set(alloc, &mut error, "index", count_value(index))?;
+    set(alloc, &mut error, "code", Bson::Int32(code))?;
+    set(alloc, &mut error, "errmsg", Bson::String(words))?;
+    Ok(error)
 }
 
 /// Makes the answer with a number of documents in its field `n`.

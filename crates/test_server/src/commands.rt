@@ -11,6 +11,7 @@ mod hello;
 mod insert;
 mod kill_cursors;
 mod list_collections;
+mod update;
 
 ghost use Rattle.std.specs.Prelude.{◌≡◌, ◌≢◌, IfOk, OnErr};
 ghost use Rattle.bson_elem.specs.{Spells, Tree};
@@ -38,6 +39,7 @@ use insert::insert;
 use kill_cursors::kill_cursors;
 use list_collections::list_collections;
 use std::alloc::{AllocError, Global};
+use update::update;
 use wire_msg::Payload;
 
 /// What a request asks for.
@@ -52,6 +54,7 @@ pub enum Command {
     Find,
     GetMore,
     Delete,
+    Update,
     Count,
     Aggregate,
     KillCursors,
@@ -74,6 +77,7 @@ fn command_of(name: &str) -> Command
         "find" => Command::Find,
         "getMore" => Command::GetMore,
         "delete" => Command::Delete,
+        "update" => Command::Update,
         "count" => Command::Count,
         "aggregate" => Command::Aggregate,
         "killCursors" => Command::KillCursors,
@@ -111,6 +115,7 @@ fn run(command: Command, store: &mut Store, payload: Payload<'_>) -> Result<Docu
     ensures kept { OnErr result
         ((store_of store.new).collections ≡ (store_of store.old).collections) }
     ensures steady { command ≢ Command.Insert → command ≢ Command.Drop → command ≢ Command.Delete
+        → command ≢ Command.Update
         → (store_of store.new).collections ≡ (store_of store.old).collections }
 {
     let alloc = store.allocator();
@@ -124,6 +129,7 @@ fn run(command: Command, store: &mut Store, payload: Payload<'_>) -> Result<Docu
         Command::Find => find(alloc, store, body),
         Command::GetMore => get_more(alloc, store, body),
         Command::Delete => delete(alloc, store, payload),
+        Command::Update => update(alloc, store, payload),
         Command::Count => count(alloc, store, body),
         Command::Aggregate => aggregate(alloc, store, body),
         Command::KillCursors => kill_cursors(alloc, store, body),
@@ -155,6 +161,7 @@ fn carry_out(
     ensures kept { OnErr result
         ((store_of store.new).collections ≡ (store_of store.old).collections) }
     ensures steady { command ≢ Command.Insert → command ≢ Command.Drop → command ≢ Command.Delete
+        → command ≢ Command.Update
         → (store_of store.new).collections ≡ (store_of store.old).collections }
 {
     match run(command, store, payload) {
@@ -179,6 +186,7 @@ pub fn answer_to(store: &mut Store, payload: Payload<'_>) -> Result<Document, Al
         → command_of (first_name c.body) ≢ Command.Insert
         → command_of (first_name c.body) ≢ Command.Drop
         → command_of (first_name c.body) ≢ Command.Delete
+        → command_of (first_name c.body) ≢ Command.Update
         → (store_of store.new).collections ≡ (store_of store.old).collections }
 {
     let command = command_of(name_of(payload.body()));

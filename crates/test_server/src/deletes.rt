@@ -23,7 +23,7 @@ struct Delete<'a> {
 }
 
 /// Returns the filter in the field `q` of a statement.
-fn filter_at(statement: &Document) -> Result<&Document, CommandError>
+pub fn filter_at(statement: &Document) -> Result<&Document, CommandError>
     ensures { MatchResult result (λ f. filter_at (tree_of statement.now) ≡ Ok (tree_of f.now))
         (λ e. filter_at (tree_of statement.now) ≡ Err e) }
 {

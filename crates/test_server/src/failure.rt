@@ -35,6 +35,26 @@ pub enum CommandError {
     Count,
     /// A statement of delete hasn't just the fields `q` and `limit`, of which this is 0 or 1.
     Deletes,
+    /// The field `update` isn't a string.
+    Update,
+    /// A statement of update isn't one, or has other fields than `q`, `u`, `multi` and `upsert`.
+    Updates,
+    /// A statement of update asks to insert a document where none matches.
+    Upsert,
+    /// A statement of update puts a document in the place of many.
+    Many,
+    /// An update has other operators than `$set`, `$unset` and `$inc`, or fields beside them.
+    Modifiers,
+    /// An operator of an update names no field, or one inside another field.
+    Path,
+    /// Two operators of an update name one field.
+    Conflict,
+    /// `$inc` adds something else than a number, or to something else.
+    Increment,
+    /// The sum that `$inc` makes is no int64.
+    Overflow,
+    /// An update would change an `_id`.
+    ImmutableId,
     /// The field `killCursors` isn't a string.
     KillCursors,
     /// The field `cursors` isn't an array.
@@ -84,6 +104,10 @@ impl CommandError {
             CommandError::CursorNotFound => 43,
             CommandError::NamespaceNotFound => 26,
             CommandError::Direction => 15975,
+            CommandError::Conflict => 40,
+            CommandError::Increment => 14,
+            CommandError::Overflow => 2,
+            CommandError::ImmutableId => 66,
             _ => 9,
         }
     }
@@ -96,6 +120,10 @@ impl CommandError {
             CommandError::CursorNotFound => "CursorNotFound",
             CommandError::NamespaceNotFound => "NamespaceNotFound",
             CommandError::Direction => "Location15975",
+            CommandError::Conflict => "ConflictingUpdateOperators",
+            CommandError::Increment => "TypeMismatch",
+            CommandError::Overflow => "BadValue",
+            CommandError::ImmutableId => "ImmutableField",
             _ => "FailedToParse",
         }
     }
@@ -123,6 +151,21 @@ impl CommandError {
             CommandError::Count => "the field 'count' must be a string",
             CommandError::Deletes =>
                 "a statement must have a filter 'q' and a 'limit' of 0 or 1 alone",
+            CommandError::Update => "the field 'update' must be a string",
+            CommandError::Updates => {
+                "a statement must have a filter 'q', an update 'u', and 'multi' and 'upsert' alone"
+            }
+            CommandError::Upsert => "the field 'upsert' is not carried out",
+            CommandError::Many => "multi update is not supported for replacement-style update",
+            CommandError::Modifiers => {
+                "an update must be a document, or have the operators $set, $unset and $inc alone"
+            }
+            CommandError::Path =>
+                "an operator must name fields of the document itself, with no '.' and no '$'",
+            CommandError::Conflict => "two operators of an update must not name one field",
+            CommandError::Increment => "$inc must add an int32 or an int64 to one",
+            CommandError::Overflow => "the sum that $inc makes must be an int64",
+            CommandError::ImmutableId => "an update must not change the immutable field '_id'",
             CommandError::Documents => {
                 "the command must bring from 1 to 100000 documents, with no name twice in one"
             }

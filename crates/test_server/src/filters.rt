@@ -36,7 +36,7 @@ pub fn is_path(name: &str) -> bool
 
 /// Returns true if the first name of a document is that of an operator.
 #[tactic(auto, using(crate::proofs::Filtering::begins_first))]
-fn begins_with_operator(document: &Document) -> bool
+pub fn begins_with_operator(document: &Document) -> bool
     ensures { result ≡ begins_with_operator (tree_of document.now) }
 {
     match document.iter().next() {

@@ -15,6 +15,7 @@
 
 mod adding;
 mod answer;
+mod changing;
 mod choice;
 mod command_line;
 mod commands;
@@ -27,9 +28,11 @@ mod fields;
 mod filters;
 mod handling;
 mod identity;
+mod increments;
 mod inserted;
 mod namespace;
 mod numbers;
+mod operators;
 mod options;
 mod owned;
 mod pipeline;
@@ -38,6 +41,7 @@ mod sorting;
 mod store;
 mod transcript;
 mod uncompared;
+mod updates;
 
 ghost use Rattle.std.specs.Prelude.{◌≡◌, map};
 ghost use Rattle.test_server.specs.ExitStatus.{IsStatusFor, IsStatusOf, exit_status};

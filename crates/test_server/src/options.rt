@@ -8,7 +8,7 @@ ghost use Rattle.test_server.specs.Options.{asks, first_unread, is_aggregate_fie
 ghost use Rattle.test_server.specs.Options.{is_count_field, is_delete_field};
 ghost use Rattle.test_server.specs.Options.{is_find_field, is_general};
 ghost use Rattle.test_server.specs.Options.{is_insert_field, is_list_field, is_more_field};
-ghost use Rattle.test_server.specs.Options.{is_unread, reads};
+ghost use Rattle.test_server.specs.Options.{is_unread, is_update_field, reads};
 
 use crate::commands::Command;
 use bson_raw::{RawBson, RawDocument};
@@ -52,6 +52,16 @@ fn is_delete_field(name: &str) -> bool
 {
     match name {
         "delete" | "deletes" | "ordered" => true,
+        _ => false,
+    }
+}
+
+/// Returns true if update carries out this field.
+fn is_update_field(name: &str) -> bool
+    ensures { result ≡ is_update_field name.now }
+{
+    match name {
+        "update" | "updates" | "ordered" | "bypassDocumentValidation" => true,
         _ => false,
     }
 }
@@ -105,6 +115,7 @@ fn reads(command: Command, name: &str) -> bool
         Command::Find => is_find_field(name) || is_general(name),
         Command::GetMore => is_more_field(name) || is_general(name),
         Command::Delete => is_delete_field(name) || is_general(name),
+        Command::Update => is_update_field(name) || is_general(name),
         Command::Count => is_count_field(name) || is_general(name),
         Command::Aggregate => is_aggregate_field(name) || is_general(name),
         Command::KillCursors => name == "killCursors" || name == "cursors" || is_general(name),
