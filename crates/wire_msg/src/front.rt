@@ -9,6 +9,7 @@ ghost use Rattle.wire_msg.specs.Front.{HasWhole, IsFrame, IsFront};
 use crate::fault::MsgFault;
 use crate::header::MsgHeader;
 use crate::msg::{RawMsg, check_parts};
+use crate::names::{InPlace, Memory};
 use std::alloc::Global;
 
 /// What bytes begin with, as `RawMsg::front` returns it.
@@ -58,9 +59,8 @@ fn read_frame(bytes: &[u8], limit: u32) -> Frame<'_>
 }
 
 impl<'a> RawMsg<'a> {
-    /// Reads the message at the front, as `front` does. Looks names up in
-    /// `Fields::of(memory, body)`.
-    fn read_front(memory: Option<Global>, bytes: &'a [u8], limit: u32) -> MsgFront<'a>
+    /// Reads the message at the front, as `front` does. Looks names up by `memory`.
+    fn read_front<M: Memory>(memory: M, bytes: &'a [u8], limit: u32) -> MsgFront<'a>
         requires { limit ≤ 48_000_000 }
         ensures { IsFront limit bytes.now result }
     {
@@ -92,7 +92,7 @@ impl<'a> RawMsg<'a> {
         ensures too_few { IsOpen limit bytes.now → result ≡ MsgFront.Open }
         ensures bad { (f : MsgFault) → IsBad limit bytes.now f → result ≡ MsgFront.Bad f }
     {
-        RawMsg::read_front(None, bytes, limit)
+        RawMsg::read_front(InPlace, bytes, limit)
     }
 
     /// Returns what `front` does, but sorts the body's names as `RawMsg::parse_with` does, in as
@@ -105,6 +105,6 @@ impl<'a> RawMsg<'a> {
         ensures too_few { IsOpen limit bytes.now → result ≡ MsgFront.Open }
         ensures bad { (f : MsgFault) → IsBad limit bytes.now f → result ≡ MsgFront.Bad f }
     {
-        RawMsg::read_front(Some(alloc), bytes, limit)
+        RawMsg::read_front(alloc, bytes, limit)
     }
 }

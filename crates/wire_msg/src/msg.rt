@@ -14,7 +14,7 @@ ghost use Rattle.wire_msg.specs.Faults.{FaultMsg, IsFramedMsg, PartsFault};
 use crate::fault::{MsgCause, MsgFault};
 use crate::flags::MsgFlags;
 use crate::header::{MAX_MESSAGE_LEN, MsgHeader};
-use crate::names::check_names;
+use crate::names::{InPlace, Memory};
 use crate::payloads::Payload;
 use crate::sections::{SECTIONS, split_sections};
 use crate::sequence::{SEQUENCE, fault_at};
@@ -58,19 +58,19 @@ fn split_message(bytes: &[u8]) -> Result<(usize, RawDocument<'_>, usize), MsgFau
 }
 
 /// Checks the flags, the sections and their names. The header of `bytes` is good and has their
-/// length. Looks names up in `Fields::of(memory, body)`.
-pub(crate) fn check_parts(memory: Option<Global>, bytes: &[u8]) -> Result<(), MsgFault>
+/// length. Looks names up by `memory`.
+pub(crate) fn check_parts<M: Memory>(memory: M, bytes: &[u8]) -> Result<(), MsgFault>
     requires { length bytes.now < 2 ^ 31 }
     ensures { MatchResult result
         (λ _. (limit : ℕ) → IsFramedMsg limit bytes.now → IsMessage limit bytes.now)
         (λ f. PartsFault bytes.now f) }
 {
     let (at, body, next) = split_message(bytes)?;
-    check_names(memory, &bytes[SECTIONS..at], body, &bytes[next..])
+    memory.check_names(&bytes[SECTIONS..at], body, &bytes[next..])
 }
 
-/// Checks a whole message. Looks names up in `Fields::of(memory, body)`.
-fn check_message(memory: Option<Global>, bytes: &[u8], limit: u32) -> Result<(), MsgFault>
+/// Checks a whole message. Looks names up by `memory`.
+fn check_message<M: Memory>(memory: M, bytes: &[u8], limit: u32) -> Result<(), MsgFault>
     requires { limit ≤ MAX_MESSAGE_LEN }
     ensures { MatchResult result
         (λ _. IsMessage limit bytes.now)
@@ -128,8 +128,8 @@ impl<'a> RawMsg<'a> {
     ghost use Rattle.wire_msg.specs.Carrying.{Carries};
     ghost use Rattle.wire_msg.specs.RawMsg.{msg_bytes};
 
-    /// Reads `bytes` as `parse` does. Looks names up in `Fields::of(memory, body)`.
-    fn read(memory: Option<Global>, bytes: &'a [u8], limit: u32) -> Result<RawMsg<'a>, MsgFault>
+    /// Reads `bytes` as `parse` does. Looks names up by `memory`.
+    fn read<M: Memory>(memory: M, bytes: &'a [u8], limit: u32) -> Result<RawMsg<'a>, MsgFault>
         requires { limit ≤ MAX_MESSAGE_LEN }
         ensures { MatchResult result
             (λ m. (msg_bytes m ≡ bytes.now) × IsMessage limit bytes.now)
@@ -155,7 +155,7 @@ impl<'a> RawMsg<'a> {
         ensures exact { (f : MsgFault) → FaultMsg bytes.now limit f → IsErrOf result f }
         ensures inside { IfErr result (λ f. f.at ≤ length bytes.now) }
     {
-        RawMsg::read(None, bytes, limit)
+        RawMsg::read(InPlace, bytes, limit)
     }
 
     /// Reads `bytes` as `parse` does, but sorts the body's names, which takes memory. The time
@@ -174,7 +174,7 @@ impl<'a> RawMsg<'a> {
         ensures exact { (f : MsgFault) → FaultMsg bytes.now limit f → IsErrOf result f }
         ensures inside { IfErr result (λ f. f.at ≤ length bytes.now) }
     {
-        RawMsg::read(Some(alloc), bytes, limit)
+        RawMsg::read(alloc, bytes, limit)
     }
 
     /// Makes the message that the bytes are known to spell, without checking them.

@@ -9,7 +9,7 @@ ghost use Rattle.wire_msg.specs.Payload.{AreParts, IsPayload};
 ghost use Rattle.wire_msg.specs.Known.{IsLastOffset};
 
 use crate::append::{append_document, append_sequence};
-use crate::fields::Fields;
+use crate::fields::{Fields, Names};
 use crate::payloads::Payload;
 use crate::refusal::MsgRefusal;
 use crate::sequence_iter::last_offset;
@@ -51,7 +51,7 @@ impl PayloadBuf {
         ensures refused { (t : Tree) → Spells t (document_bytes body.entry)
             → IfErr result (λ e. IsBodyRefusal t e) }
     {
-        if Fields::of(Some(alloc), body).has_repeated() {
+        if Fields::of(alloc, body).has_repeated() {
             return Err(MsgRefusal::RepeatedField);
         }
         let bytes = body.as_bytes();

@@ -5,10 +5,10 @@ use Rattle.wire_msg.proofs.NameLaws.{all_left, first_left, here_in_body, later_i
 use Rattle.wire_msg.proofs.names.offset_in_body.Goals as goal
 
 pub loop-rest-init : goal.loop-rest-init
-loop-rest-init c = (c.requires.known, omega arith, λ t qs s fits are. all_left t c.args.start c.args.sequences.now qs fits are)
+loop-rest-init g c = (c.requires.known, omega arith, λ t qs s fits are. all_left t c.args.start c.args.sequences.now qs fits are)
 
 pub returns-then-contains : goal.returns-then-contains
-returns-then-contains c = λ t qs s fits are.
+returns-then-contains g c = λ t qs s fits are.
     let some : length c.loop-rest.rest.now ≢ 0 = λ e. grind (arith, nat_tests) in
     let f = first_left t c.args.start c.args.sequences.now qs c.loop-rest.rest.now some (c.loop-rest.invariant.2 t qs s fits are) in
     let p = c.split_sequence.ensures.parts f.sequence f.others f.fits f.are in
@@ -16,7 +16,7 @@ returns-then-contains c = λ t qs s fits are.
     here_in_body t c.args.start c.args.sequences.now qs c.loop-rest.rest.now c.split_sequence.result.0.now f p.0 found
 
 pub loop-rest-preserved : goal.loop-rest-preserved
-loop-rest-preserved c =
+loop-rest-preserved g c =
     let some : length c.loop-rest.rest.now ≢ 0 = λ e. grind (arith, nat_tests) in (
       c.split_sequence.ensures.others,
       omega (arith, c.split_sequence.ensures.shorter, c.loop-rest.invariant.1),
@@ -28,6 +28,6 @@ loop-rest-preserved c =
     )
 
 pub returns : goal.returns
-returns c = λ t qs s fits are.
+returns g c = λ t qs s fits are.
     let none : length c.loop-rest.rest.now ≡ 0 = grind (arith, nat_tests) in
     none_in_body t c.args.start c.args.sequences.now qs c.loop-rest.rest.now none (c.loop-rest.invariant.2 t qs s fits are)

@@ -2,7 +2,7 @@ use Rattle.std.proofs.Common.{rules, subst}
 use Rattle.std.proofs.lemmas.List.Sorted.{answers_always}
 use Rattle.wire_msg.specs.Fields.{AreFields}
 use Rattle.wire_msg.proofs.FieldLaws.{is_below, neighbours}
-use Rattle.wire_msg.proofs.fields.Fields.has_repeated.Goals as goal
+use Rattle.wire_msg.proofs.fields.FieldsNames.has_repeated.Goals as goal
 
 pub returns-in-Sorted : goal.returns-in-Sorted
 returns-in-Sorted c = λ t are.

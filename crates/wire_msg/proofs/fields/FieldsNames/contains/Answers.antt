@@ -1,15 +1,10 @@
 use Rattle.std.proofs.Common.{subst, ◌∙◌}
-use Rattle.bson_raw.specs.Pairs.{first_named}
 use Rattle.wire_msg.specs.Fields.{AreFields}
 use Rattle.wire_msg.proofs.FieldLaws.{searched}
-use Rattle.wire_msg.proofs.NameLaws.{field_found, found_shown}
-use Rattle.wire_msg.proofs.fields.Fields.contains.Goals as goal
+use Rattle.wire_msg.proofs.fields.FieldsNames.contains.Goals as goal
 
 pub returns-in-Pairs : goal.returns-in-Pairs
-returns-in-Pairs c = λ t are.
-    let name = c.args.name.now in
-    let spelled = subst (λ f. AreFields f t) c.in-Pairs.is are in
-    c.is_some.ensures ∙ found_shown c.get.result (first_named name t) (c.get.ensures t spelled) ∙ field_found name t
+returns-in-Pairs c = λ t are. c.contains.ensures t (subst (λ f. AreFields f t) c.in-Pairs.is are)
 
 pub returns-in-Sorted : goal.returns-in-Sorted
 returns-in-Sorted c = λ t are.
