@@ -1,71 +1,58 @@
-//! Checks a document, and documents one after another.
+//! Exports the checks of documents, and what counts and splits them.
 
-ghost use Rattle.std.specs.Prelude.{IsTrue, ◌↔◌};
-ghost use Rattle.lughemra.specs.Documents.{IsCanonical, IsDocumentCheck, IsDocumentsCheck};
+ghost use Rattle.std.specs.Prelude.{◌↔◌, ◌∷◌, IsTrue, List};
+ghost use Rattle.bson_elem.specs.{Tree, document, elements};
+ghost use Rattle.bson_raw.specs.{AreDocuments, documents_bytes};
+ghost use Rattle.byte_views.specs.Documents.{IsCanonical, IsDocumentCheck, IsDocumentsCheck};
+ghost use Rattle.byte_views.specs.Splits.{IsSplit};
+ghost use Rattle.byte_views.specs.Views.{IsView};
+ghost use Rattle.byte_views.specs.Walk.{IsDocumentsWalk};
 
-use crate::fault::FirstFault;
-use bson_raw::RawDocument;
+use byte_views::{DocumentsCheck, DocumentsWalk, FirstFault, View};
 
-/// Checks that `bytes` are exactly one document. Returns the first fault, by the number of its
-/// cause.
+/// Checks that `bytes` are exactly one document, as `byte_views::check_document` does.
 #[unsafe(no_mangle)]
 pub extern "C" fn lughemra_check_document_nonnull(bytes: &[u8]) -> FirstFault
     ensures { IsDocumentCheck bytes.now result }
 {
-    match RawDocument::from_bytes(bytes) {
-        Ok(_) => FirstFault::none(),
-        Err(found) => FirstFault::of_document(0, found),
-    }
+    byte_views::check_document(bytes)
 }
 
-/// Returns true if `bytes` are exactly one document, in canonical form: the names of each array in
-/// it are "0", "1" and so on.
+/// Returns true if `bytes` are exactly one document, in canonical form, as
+/// `byte_views::is_canonical` does.
 #[unsafe(no_mangle)]
 pub extern "C" fn lughemra_is_canonical_nonnull(bytes: &[u8]) -> bool
     ensures { IsTrue result ↔ IsCanonical bytes.now }
 {
-    match RawDocument::front_with_form(bytes) {
-        Ok(front) => front.canonical && front.rest.is_empty(),
-        Err(_) => false,
-    }
+    byte_views::is_canonical(bytes)
 }
 
-/// The result of checking documents one after another.
-#[derive(Clone, Copy)]
-#[repr(C)]
-pub struct DocumentsCheck {
-    /// The number of whole documents before the end of the bytes or before the first fault.
-    pub documents: usize,
-    /// The number of bytes that these documents take.
-    pub bytes_read: usize,
-    /// The first fault, by the number of its cause.
-    pub fault: FirstFault,
-}
-
-/// Checks the documents that `bytes` hold one after another.
+/// Checks the documents that `bytes` hold one after another, as `byte_views::check_documents` does.
 #[unsafe(no_mangle)]
 pub extern "C" fn lughemra_check_documents_nonnull(bytes: &[u8]) -> DocumentsCheck
     ensures { IsDocumentsCheck bytes.now result }
 {
-    let mut documents = 0;
-    let mut rest = bytes;
-    while !rest.is_empty() {
-        match RawDocument::front(rest) {
-            Ok((_, after)) => rest = after,
-            Err(found) => {
-                let bytes_read = bytes.len() - rest.len();
-                return DocumentsCheck {
-                    documents,
-                    bytes_read,
-                    fault: FirstFault::of_document(bytes_read, found),
-                };
-            }
-        }
-        documents += 1;
-    }
-    DocumentsCheck {
-        documents,
-        bytes_read: bytes.len(),
-        fault: FirstFault::none(),
-    }
+    byte_views::check_documents(bytes)
+}
+
+/// Checks the documents that `bytes` hold one after another, and counts what is in them, as
+/// `byte_views::walk_documents` does.
+#[unsafe(no_mangle)]
+pub extern "C" fn lughemra_walk_documents_nonnull(bytes: &[u8]) -> DocumentsWalk
+    ensures { IsDocumentsWalk bytes.now result }
+{
+    byte_views::walk_documents(bytes)
+}
+
+/// Moves `left` behind the document at its front, and `first` to that one, as
+/// `byte_views::next_document` does.
+#[unsafe(no_mangle)]
+pub extern "C" fn lughemra_next_document_nonnull(bytes: &[u8], left: &mut View, first: &mut View)
+    ensures split { IsSplit bytes.now left.old first.new left.new }
+    ensures documents { (t : Tree) (ts : List Tree) → AreDocuments (t ∷ ts)
+        → IsView bytes.now left.old (documents_bytes (t ∷ ts))
+        → IsView bytes.now first.new (document (elements t))
+        × IsView bytes.now left.new (documents_bytes ts) }
+{
+    byte_views::next_document(bytes, left, first)
 }

@@ -1,26 +1,19 @@
-//! Checks a message, and messages one after another.
+//! Exports the checks of messages, and what reads them in pieces and by their sections. Each takes
+//! memory for the names of a body.
 
 ghost use Rattle.std.specs.Prelude.{◌≡◌, ◌≤◌, ◌<◌};
-ghost use Rattle.lughemra.specs.Messages.{IsMessageCheck, limit_message_check};
-ghost use Rattle.lughemra.specs.Messages.{IsMessagesCheck, limit_messages_check};
+ghost use Rattle.wire_msg.specs.{Message, SpellsMsg};
+ghost use Rattle.wire_msg.specs.Faults.{Seen, body_seen};
+ghost use Rattle.byte_views.specs.Front.{IsMessageFront, limit_front};
+ghost use Rattle.byte_views.specs.Messages.{IsMessageCheck, IsMessagesCheck};
+ghost use Rattle.byte_views.specs.Messages.{limit_message_check, limit_messages_check};
+ghost use Rattle.byte_views.specs.Parts.{IsMessageParts, limit_parts};
+ghost use Rattle.byte_views.specs.Sections.{GivesSection, IsSection, SectionsFrom};
 
-use crate::fault::FirstFault;
+use byte_views::{MessageCheck, MessageFront, MessageParts, MessagesCheck, Section};
 use std::alloc::Global;
-use wire_msg::{MAX_MESSAGE_LEN, MsgFront, RawMsg};
 
-/// The result of checking one message.
-#[derive(Clone, Copy)]
-#[repr(C)]
-pub struct MessageCheck {
-    /// The first fault, by the number of its cause, from 1 to 13. The number is 255 if the limit
-    /// is too large; then nothing was read.
-    pub fault: FirstFault,
-    /// If the cause is 7, the fault of the document at that offset. Its own offset is counted from
-    /// there.
-    pub document_fault: FirstFault,
-}
-
-/// Checks that `bytes` are exactly one message, of at most `limit` bytes.
+/// Checks that `bytes` are exactly one message, as `byte_views::check_message` does.
 #[unsafe(no_mangle)]
 pub extern "C" fn lughemra_check_message_nonnull(
     alloc: Global,
@@ -30,43 +23,10 @@ pub extern "C" fn lughemra_check_message_nonnull(
     ensures read { limit ≤ 48_000_000 → IsMessageCheck limit bytes.now result }
     ensures large_limit { 48_000_000 < limit → result ≡ limit_message_check }
 {
-    let none = FirstFault::none();
-    if limit > MAX_MESSAGE_LEN {
-        return MessageCheck {
-            fault: FirstFault::of_limit(),
-            document_fault: none,
-        };
-    }
-    match RawMsg::parse_with(alloc, bytes, limit) {
-        Ok(_) => MessageCheck {
-            fault: none,
-            document_fault: none,
-        },
-        Err(fault) => MessageCheck {
-            fault: FirstFault::of_message(0, fault),
-            document_fault: FirstFault::inside(fault.cause),
-        },
-    }
+    byte_views::check_message(alloc, bytes, limit)
 }
 
-/// The result of checking messages one after another.
-#[derive(Clone, Copy)]
-#[repr(C)]
-pub struct MessagesCheck {
-    /// The number of whole messages before the end of the bytes or before the first fault.
-    pub messages: usize,
-    /// The number of bytes that these messages take.
-    pub bytes_read: usize,
-    /// The first fault, by the number of its cause, from 1 to 13. The number is 14 if the bytes
-    /// end inside the message that begins at the offset, and 255 if the limit is too large; then
-    /// nothing was read.
-    pub fault: FirstFault,
-    /// If the cause is 7, the fault of the document at that offset. Its own offset is counted from
-    /// there.
-    pub document_fault: FirstFault,
-}
-
-/// Checks the messages that `bytes` hold one after another, each of at most `limit` bytes.
+/// Checks the messages that `bytes` hold one after another, as `byte_views::check_messages` does.
 #[unsafe(no_mangle)]
 pub extern "C" fn lughemra_check_messages_nonnull(
     alloc: Global,
@@ -76,44 +36,45 @@ pub extern "C" fn lughemra_check_messages_nonnull(
     ensures read { limit ≤ 48_000_000 → IsMessagesCheck limit bytes.now result }
     ensures large_limit { 48_000_000 < limit → result ≡ limit_messages_check }
 {
-    let none = FirstFault::none();
-    if limit > MAX_MESSAGE_LEN {
-        return MessagesCheck {
-            messages: 0,
-            bytes_read: 0,
-            fault: FirstFault::of_limit(),
-            document_fault: none,
-        };
-    }
-    let mut messages = 0;
-    let mut rest = bytes;
-    while !rest.is_empty() {
-        let bytes_read = bytes.len() - rest.len();
-        match RawMsg::front_with(alloc, rest, limit) {
-            MsgFront::Whole { rest: after, .. } => rest = after,
-            MsgFront::Open => {
-                return MessagesCheck {
-                    messages,
-                    bytes_read,
-                    fault: FirstFault::ended_inside(bytes_read),
-                    document_fault: none,
-                };
-            }
-            MsgFront::Bad(found) => {
-                return MessagesCheck {
-                    messages,
-                    bytes_read,
-                    fault: FirstFault::of_message(bytes_read, found),
-                    document_fault: FirstFault::inside(found.cause),
-                };
-            }
-        }
-        messages += 1;
-    }
-    MessagesCheck {
-        messages,
-        bytes_read: bytes.len(),
-        fault: none,
-        document_fault: none,
-    }
+    byte_views::check_messages(alloc, bytes, limit)
+}
+
+/// Tells whether a message stands in front of `bytes`, as `byte_views::message_front` does.
+#[unsafe(no_mangle)]
+pub extern "C" fn lughemra_message_front_nonnull(
+    alloc: Global,
+    bytes: &[u8],
+    limit: u32,
+) -> MessageFront
+    ensures read { limit ≤ 48_000_000 → IsMessageFront limit bytes.now result }
+    ensures large_limit { 48_000_000 < limit → result ≡ limit_front }
+{
+    byte_views::message_front(alloc, bytes, limit)
+}
+
+/// Checks that `bytes` are exactly one message, and returns its numbers, as
+/// `byte_views::message_parts` does.
+#[unsafe(no_mangle)]
+pub extern "C" fn lughemra_message_parts_nonnull(
+    alloc: Global,
+    bytes: &[u8],
+    limit: u32,
+) -> MessageParts
+    ensures read { limit ≤ 48_000_000 → IsMessageParts limit bytes.now result }
+    ensures large_limit { 48_000_000 < limit → result ≡ limit_parts }
+    ensures sections { result.fault.number ≡ 0 → (m : Message) (s : SpellsMsg m bytes.now)
+        → SectionsFrom bytes.now result.sections (body_seen s.before m.content.body s.after) }
+{
+    byte_views::message_parts(alloc, bytes, limit)
+}
+
+/// Reads the section whose kind byte is at offset `at` of a message, as `byte_views::section_at`
+/// does.
+#[unsafe(no_mangle)]
+pub extern "C" fn lughemra_section_nonnull(bytes: &[u8], at: usize) -> Section
+    ensures read { IsSection bytes.now at result }
+    ensures sections { (left : Seen) → SectionsFrom bytes.now at left
+        → GivesSection bytes.now result left }
+{
+    byte_views::section_at(bytes, at)
 }

@@ -12,7 +12,7 @@
 //! Checksums aren't verified: a message with one is refused by a cause of its own. Other opcodes
 //! and compression are left out.
 //!
-//! Uses bson_raw. Used by wire_stream, wire_peer, wire_query, wire_text and lughemra. Read first:
+//! Uses bson_raw. Used by wire_stream, wire_peer, wire_query, wire_text and byte_views. Read first:
 //! `specs/Spelling.antt`, and then `msg` and `front`.
 #![tactic(auto)]
 

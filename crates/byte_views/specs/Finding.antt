@@ -1,0 +1,35 @@
+-- A search for an element by its name, from where a walk stands.
+use Rattle.std.specs.Prelude.{◌≡◌, ◌≢◌, ◌⊎◌, ℕ, List, Some, None}
+use Rattle.bson_elem.specs.{Tree, no_pairs}
+use Rattle.bson_raw.specs.{TreeValue, first_named}
+use Rattle.byte_views.specs.declared.element.Element.{Element}
+use Rattle.byte_views.specs.declared.iter.ElementIter.{ElementIter}
+use Rattle.byte_views.specs.Elements.{no_element}
+use Rattle.byte_views.specs.Iters.{IsStep, moved}
+use Rattle.byte_views.specs.Pairs.{PairsFrom, ShowsValue}
+use Rattle.byte_views.specs.Views.{IsView}
+
+-- The walk passes elements with other names, up to this offset.
+pub data Passes (bytes name : List ℕ) (s : ElementIter) : ℕ → Type 0 where
+  no_step : {at : ℕ} → at ≡ s.at → Passes bytes name s at
+  one_more : {at : ℕ} (before : ℕ) (e : Element) → Passes bytes name s before
+      → IsStep bytes (moved s before) e at → e.kind ≢ 0 → (IsView bytes e.name name → ⊥)
+      → Passes bytes name s at
+
+-- The walk passes elements with other names, and then reads this one, which has the name, or reads
+-- that there is none.
+pub record Finds (bytes name : List ℕ) (s : ElementIter) (e : Element) (next : ℕ) : Type 0 where
+  pub at : ℕ
+  pub passed : Passes bytes name s at
+  pub step : IsStep bytes (moved s at) e next
+  pub stops : (e.kind ≡ 0) ⊎ IsView bytes e.name name
+
+-- No pair has the name, and none is given; or the value of the first pair with it is given, and the
+-- pairs after that one are left.
+pub data GivesNamed (bytes name : List ℕ) (s : ElementIter) (e : Element) (after : ElementIter)
+    (t : Tree) : Type 0 where
+  none_named : first_named name t ≡ None → e ≡ no_element → PairsFrom bytes after no_pairs
+      → GivesNamed bytes name s e after t
+  named : (v : TreeValue) → first_named name t ≡ Some v → IsView bytes e.name name
+      → ShowsValue bytes s e v → (others : Tree) → PairsFrom bytes after others
+      → GivesNamed bytes name s e after t

@@ -1,0 +1,51 @@
+//! Proves that for given bytes each definition allows only one result. The contract of each
+//! function is the law; the function does nothing.
+
+ghost use Rattle.std.specs.Prelude.{◌≡◌, ℕ, List};
+ghost use Rattle.bson_elem.specs.{IsBytes};
+ghost use Rattle.byte_views.specs.declared.documents.DocumentsCheck.{DocumentsCheck};
+ghost use Rattle.byte_views.specs.declared.fault.FirstFault.{FirstFault};
+ghost use Rattle.byte_views.specs.declared.front.MessageFront.{MessageFront};
+ghost use Rattle.byte_views.specs.declared.walk.DocumentsWalk.{DocumentsWalk};
+ghost use Rattle.byte_views.specs.declared.messages.MessageCheck.{MessageCheck};
+ghost use Rattle.byte_views.specs.declared.messages.MessagesCheck.{MessagesCheck};
+ghost use Rattle.byte_views.specs.Documents.{IsDocumentCheck, IsDocumentsCheck};
+ghost use Rattle.byte_views.specs.Walk.{IsDocumentsWalk};
+ghost use Rattle.byte_views.specs.Front.{IsMessageFront};
+ghost use Rattle.byte_views.specs.Messages.{IsMessageCheck, IsMessagesCheck};
+
+/// Proves that the check of bytes as one document has one result.
+pub fn one_document_check()
+    ensures { (bytes : List ℕ) (a b : FirstFault) → IsBytes bytes
+        → IsDocumentCheck bytes a → IsDocumentCheck bytes b → a ≡ b }
+{}
+
+/// Proves that the check of bytes as documents has one result.
+pub fn one_documents_check()
+    ensures { (bytes : List ℕ) (a b : DocumentsCheck) → IsBytes bytes
+        → IsDocumentsCheck bytes a → IsDocumentsCheck bytes b → a ≡ b }
+{}
+
+/// Proves that the walk over bytes has one result.
+pub fn one_documents_walk()
+    ensures { (bytes : List ℕ) (a b : DocumentsWalk) → IsBytes bytes
+        → IsDocumentsWalk bytes a → IsDocumentsWalk bytes b → a ≡ b }
+{}
+
+/// Proves that the check of bytes as one message under a limit has one result.
+pub fn one_message_check()
+    ensures { (limit : ℕ) (bytes : List ℕ) (a b : MessageCheck) → IsBytes bytes
+        → IsMessageCheck limit bytes a → IsMessageCheck limit bytes b → a ≡ b }
+{}
+
+/// Proves that the check of bytes as messages under a limit has one result.
+pub fn one_messages_check()
+    ensures { (limit : ℕ) (bytes : List ℕ) (a b : MessagesCheck) → IsBytes bytes
+        → IsMessagesCheck limit bytes a → IsMessagesCheck limit bytes b → a ≡ b }
+{}
+
+/// Proves that one thing is told of what stands in front of bytes under a limit.
+pub fn one_message_front()
+    ensures { (limit : ℕ) (bytes : List ℕ) (a b : MessageFront) → IsBytes bytes
+        → IsMessageFront limit bytes a → IsMessageFront limit bytes b → a ≡ b }
+{}

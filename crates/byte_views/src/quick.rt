@@ -1,0 +1,153 @@
+//! Reads the values of common kinds in few steps, as a walk over documents wants it.
+//!
+//! What isn't read here is read by bson_elem, which tells each fault. A string's text isn't tested
+//! for UTF-8 here.
+
+ghost use Rattle.std.specs.Prelude.{◌≡◌, ◌+◌, ◌<◌, ◌≤◌, ◌^◌, ℕ, IfSome, length, take};
+ghost use Rattle.std.specs.Int.{w32, w64, cast_signed, cast_unsigned};
+ghost use Rattle.byte_views.specs.Quick.{IsQuick, IsQuickly, IsValueAt};
+ghost use Rattle.byte_views.specs.Views.{no_view};
+
+use crate::element::Element;
+use crate::view::View;
+use bson_elem::{Kind, MAX_DEPTH, MAX_LEN, little_u32, read_document};
+
+/// Returns the 64 bits of the signed number that 32 bits are.
+#[inline(always)]
+fn extended(bits: u32) -> u64
+    ensures { result ≡ cast_unsigned w64 (cast_signed w32 bits) }
+{
+    i64::from(bits.cast_signed()).cast_unsigned()
+}
+
+/// Reads an int32 into `bare`.
+#[inline(always)]
+fn int32(rest: &[u8], bare: Element) -> Option<(Element, usize)>
+    ensures { (depth at from : ℕ)
+        → IfSome result (λ x. IsValueAt depth at from Kind.Int32 rest.now bare x.0 x.1) }
+{
+    if rest.len() < 4 {
+        return None;
+    }
+    let bits = extended(little_u32(rest));
+    Some((Element { bits, ..bare }, 4))
+}
+
+/// Returns the first eight bytes, if there are as many.
+#[inline(always)]
+fn first_eight(rest: &[u8]) -> Option<[u8; 8]>
+    ensures { IfSome result (λ b. (8 ≤ length rest.now) × (b ≡ take 8 rest.now)) }
+{
+    match rest.split_first_chunk::<8>() {
+        Some((bytes, _)) => Some(*bytes),
+        None => None,
+    }
+}
+
+/// Reads an int64 or a datetime into `bare`.
+#[inline(always)]
+fn int64(rest: &[u8], bare: Element) -> Option<(Element, usize)>
+    ensures { (depth at from : ℕ) → IfSome result (λ x.
+        IsValueAt depth at from Kind.Int64 rest.now bare x.0 x.1
+        × IsValueAt depth at from Kind.DateTime rest.now bare x.0 x.1) }
+{
+    match first_eight(rest) {
+        Some(bytes) => {
+            let bits = u64::from_le_bytes(bytes);
+            Some((Element { bits, ..bare }, 8))
+        }
+        None => None,
+    }
+}
+
+/// Reads a double, which begins at offset `from`, into `bare`.
+#[inline(always)]
+fn double(rest: &[u8], from: usize, bare: Element) -> Option<(Element, usize)>
+    ensures { (depth at : ℕ)
+        → IfSome result (λ x. IsValueAt depth at from Kind.Double rest.now bare x.0 x.1) }
+{
+    match first_eight(rest) {
+        Some(eight) => {
+            let bits = u64::from_le_bytes(eight);
+            let bytes = View::new(from, 8);
+            let element = Element {
+                bits,
+                bytes,
+                ..bare
+            };
+            Some((element, 8))
+        }
+        None => None,
+    }
+}
+
+/// Reads a string, which begins at offset `from`, into `bare`. Its text isn't tested for UTF-8.
+#[inline(always)]
+fn string(rest: &[u8], from: usize, bare: Element) -> Option<(Element, usize)>
+    requires { from + length rest.now < 2 ^ 63 }
+    ensures { (depth at : ℕ)
+        → IfSome result (λ x. IsQuick depth at from Kind.String rest.now bare x.0 x.1) }
+{
+    if rest.len() < 5 {
+        return None;
+    }
+    let size = little_u32(rest) as usize;
+    if size < 1 || size > MAX_LEN || size > rest.len() - 4 || rest[size + 3] != 0 {
+        return None;
+    }
+    let text = View::new(from + 4, size - 1);
+    Some((Element { text, ..bare }, size + 4))
+}
+
+/// Reads a document, which begins at offset `from` of a container of this `depth`, into `bare`.
+#[inline(always)]
+fn document(
+    rest: &[u8],
+    depth: u32,
+    at: usize,
+    from: usize,
+    bare: Element,
+) -> Option<(Element, usize)>
+    requires { bare.text ≡ no_view }
+    ensures { IfSome result (λ x.
+        IsValueAt depth at from Kind.Document rest.now bare x.0 x.1
+        × IsValueAt depth at from Kind.Array rest.now bare x.0 x.1) }
+{
+    if depth >= MAX_DEPTH {
+        return None;
+    }
+    match read_document(at, from, rest) {
+        Ok((document, _)) => {
+            let bytes = View::new(from, document.len());
+            Some((Element { bytes, ..bare }, document.len()))
+        }
+        Err(_) => None,
+    }
+}
+
+/// Reads a value whose type byte is `byte`, and which begins at offset `from`, into `bare`, if its
+/// kind is a common one and nothing is wrong with it.
+#[inline(always)]
+pub(crate) fn value(
+    byte: u8,
+    rest: &[u8],
+    depth: u32,
+    at: usize,
+    from: usize,
+    bare: Element,
+) -> Option<(Element, usize)>
+    requires room { from + length rest.now < 2 ^ 63 }
+    requires no_text { bare.text ≡ no_view }
+    ensures { IfSome result (λ x. IsQuickly depth at from byte rest.now bare x.0 x.1) }
+{
+    match byte {
+        0x01 => double(rest, from, bare),
+        0x02 => string(rest, from, bare),
+        0x03 => document(rest, depth, at, from, bare),
+        0x04 => document(rest, depth, at, from, bare),
+        0x09 => int64(rest, bare),
+        0x10 => int32(rest, bare),
+        0x12 => int64(rest, bare),
+        _ => None,
+    }
+}

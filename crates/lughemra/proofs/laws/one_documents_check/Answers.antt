@@ -1,5 +1,0 @@
-use Rattle.lughemra.proofs.OneAnswer.{one_documents_check}
-use Rattle.lughemra.proofs.laws.one_documents_check.Goals as goal
-
-pub returns : goal.returns
-returns c = one_documents_check
