@@ -190,8 +190,9 @@ class Player {
   showHeadline(state) {
     const done = state.calls.filter(({ state: fate }) => fate === "done");
     const withEntry = done.filter((call) => this.linked(call, state));
+    const [have, own] = done.length === 1 ? ["call has", "its own"] : ["calls have", "their own"];
     byId("run-headline").textContent = done.length === 0
       ? "No call is done yet."
-      : `${withEntry.length} of ${done.length} done ${done.length === 1 ? "call has" : "calls have"} an entry of ${done.length === 1 ? "its" : "their"} own, with the same connection and payload.`;
+      : `${withEntry.length} of ${done.length} done ${have} an entry of ${own}, with the same connection and payload.`;
   }
 }

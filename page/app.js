@@ -1,0 +1,53 @@
+// Begins the page: the module, the two views, what the address shares, and files that are dropped.
+"use strict";
+
+const VIEWS = ["inspector", "player"];
+
+function showTab(wanted) {
+  for (const view of VIEWS) {
+    byId(view).hidden = view !== wanted;
+    byId(`tab-${view}`).setAttribute("aria-selected", String(view === wanted));
+  }
+}
+
+// Opens what the fragment of the address shares: bytes, or a step of a run.
+function openFragment(inspector, player) {
+  const asked = new URLSearchParams(location.hash.slice(1));
+  if (asked.has("bytes")) inspector.openShared(asked.get("bytes"));
+  const run = player.runs.findIndex(({ name }) => name === asked.get("run"));
+  if (run >= 0) {
+    player.open(run, Number(asked.get("step")) || 0);
+    showTab("player");
+  }
+}
+
+function takeDrops(inspector) {
+  const over = (event, dropping) => {
+    event.preventDefault();
+    document.body.classList.toggle("dropping", dropping);
+  };
+  document.addEventListener("dragover", (event) => over(event, true));
+  document.addEventListener("dragleave", (event) => over(event, false));
+  document.addEventListener("drop", (event) => {
+    over(event, false);
+    showTab("inspector");
+    inspector.readFile(event.dataTransfer.files[0]);
+  });
+}
+
+async function begin() {
+  const player = new Player(JSON.parse(byId("runs").textContent));
+  const inspector = new Inspector(await Proved.load(byId("module").textContent.trim()));
+  for (const view of VIEWS) byId(`tab-${view}`).addEventListener("click", () => showTab(view));
+  byId("theme").addEventListener("click", turnTheme);
+  takeDrops(inspector);
+  document.addEventListener("keydown", (event) => byId("player").hidden || player.press(event));
+  openFragment(inspector, player);
+  addEventListener("hashchange", () => openFragment(inspector, player));
+  document.body.dataset.ready = "yes";
+}
+
+begin().catch((problem) => {
+  byId("verdict").className = "verdict faulty";
+  byId("verdict").textContent = `This browser can't run the page's module, which is WebAssembly with 64 bits of memory: ${problem.message}`;
+});
