@@ -2,6 +2,8 @@
  *
  *     libbson check FILE    walks every element of the documents that stand back to back
  *     libbson dump FILE     writes their text, the same as `bsonwire dump`
+ *     libbson json FILE     writes each as canonical Extended JSON, one a line
+ *     libbson bson FILE     writes the document of each line of Extended JSON
  */
 #include "files.h"
 #include "walk.h"
@@ -163,6 +165,50 @@ static bool dump_documents(const uint8_t *bytes, size_t size)
     return true;
 }
 
+static bool json_documents(const uint8_t *bytes, size_t size)
+{
+    while (size > 0) {
+        bson_t document;
+        bson_iter_t iter;
+        size_t written;
+        uint32_t length = begin_document(bytes, size, &document, &iter);
+        char *text = length == 0 ? NULL : bson_as_canonical_extended_json(&document, &written);
+        if (!text) {
+            return false;
+        }
+        fwrite(text, 1, written, stdout);
+        putchar_unlocked('\n');
+        bson_free(text);
+        bytes += length;
+        size -= length;
+    }
+    return true;
+}
+
+static bool bson_of_lines(const uint8_t *bytes, size_t size)
+{
+    while (size > 0) {
+        const uint8_t *end = memchr(bytes, '\n', size);
+        size_t length = end ? (size_t)(end - bytes) : size;
+        bson_error_t error;
+        bson_t *document = bson_new_from_json(bytes, (ssize_t)length, &error);
+        if (!document) {
+            fprintf(stderr, "%s\n", error.message);
+            return false;
+        }
+        fwrite(bson_get_data(document), 1, document->len, stdout);
+        bson_destroy(document);
+        bytes += end ? length + 1 : length;
+        size -= end ? length + 1 : length;
+    }
+    return true;
+}
+
+static int wrote(bool all)
+{
+    return all && fflush(stdout) == 0 ? 0 : 1;
+}
+
 int main(int count, char **words)
 {
     struct sums sums = {0, 0, 0};
@@ -172,9 +218,15 @@ int main(int count, char **words)
         return 2;
     }
     bytes = read_whole(words[2], &size);
+    setvbuf(stdout, NULL, _IOFBF, 1 << 16);
     if (strcmp(words[1], "dump") == 0) {
-        setvbuf(stdout, NULL, _IOFBF, 1 << 16);
-        return dump_documents(bytes, size) && fflush(stdout) == 0 ? 0 : 1;
+        return wrote(dump_documents(bytes, size));
+    }
+    if (strcmp(words[1], "json") == 0) {
+        return wrote(json_documents(bytes, size));
+    }
+    if (strcmp(words[1], "bson") == 0) {
+        return wrote(bson_of_lines(bytes, size));
     }
     if (!walk_documents(bytes, size, &sums)) {
         return 1;
