@@ -10,6 +10,7 @@
  *     check dump [FILE]                the text of exactly one document
  *     check json [FILE]                the same as canonical Extended JSON
  *     check relaxed [FILE]             the same as relaxed Extended JSON
+ *     check canonical [FILE]           the canonical form of exactly one document
  *     check version
  *
  * writes a line that tells what stands there whole, and a line for the first fault, if there is one. The status is 1
@@ -129,11 +130,13 @@ static int check_parts(const uint8_t *bytes, size_t length, uint32_t limit)
     return write_message_fault(parts.fault, parts.document_fault);
 }
 
-/* Writes the text that is asked for into the room. */
+/* Writes the text or the form that is asked for into the room. */
 static struct lughemra_text text_into(const char *word, const uint8_t *bytes, size_t length, uint8_t *room, size_t size)
 {
     if (strcmp(word, "dump") == 0)
         return lughemra_dump(bytes, length, room, size);
+    if (strcmp(word, "canonical") == 0)
+        return lughemra_canonical(bytes, length, room, size);
     return lughemra_json(bytes, length, strcmp(word, "relaxed") == 0, room, size);
 }
 
@@ -178,7 +181,8 @@ int main(int count, char **words)
         status = check_front(bytes, length, limit);
     else if (strcmp(word, "parts") == 0)
         status = check_parts(bytes, length, limit);
-    else if (strcmp(word, "dump") == 0 || strcmp(word, "json") == 0 || strcmp(word, "relaxed") == 0)
+    else if (strcmp(word, "dump") == 0 || strcmp(word, "json") == 0 || strcmp(word, "relaxed") == 0
+             || strcmp(word, "canonical") == 0)
         status = write_text(word, bytes, length);
     else if (strcmp(word, "version") == 0)
         printf("%s %d.%d.%d\n", LUGHEMRA_VERSION, LUGHEMRA_VERSION_MAJOR, LUGHEMRA_VERSION_MINOR, LUGHEMRA_VERSION_PATCH);

@@ -43,6 +43,10 @@ static void try_null(void)
     expect(!lughemra_find(document, sizeof document, "b", 1, NULL, &element), "find without an iterator");
     expect(!lughemra_find(document, sizeof document, "b", 1, &iter, NULL), "find without room");
     expect(!lughemra_find(document, sizeof document, NULL, 1, &iter, &element) && iter.at == 22, "find of a null name");
+    expect(lughemra_get(document, sizeof document, "b", 1, &element) && element.kind == LUGHEMRA_DOCUMENT, "get of a name");
+    expect(!lughemra_get(document, sizeof document, "c", 1, &element) && element.fault.number == 0, "get of no name");
+    expect(!lughemra_get(document, 22, "a", 1, &element) && element.fault.number == LUGHEMRA_LENGTH, "get of a cut document");
+    expect(!lughemra_get(document, sizeof document, "a", 1, NULL), "get without room");
     iter = lughemra_enter(NULL, &element);
     expect(!lughemra_next(document, sizeof document, &iter, &element), "enter without an iterator");
     iter = lughemra_enter(&iter, NULL);
@@ -73,6 +77,25 @@ static void try_enter(void)
     element.kind = LUGHEMRA_DOCUMENT;
     inner = lughemra_enter(&iter, &element);
     expect(!lughemra_next(document, sizeof document, &inner, &element), "a view past all bytes can't be entered");
+}
+
+/* Reads elements into rooms of each length up to one more than there are, and compares them with those of single steps. */
+static void try_many(void)
+{
+    for (size_t size = 0; size <= 3; size++) {
+        struct lughemra_iter many = {0, 4, 22, 1}, one = many;
+        struct lughemra_element room[4], element;
+        size_t count;
+        memset(room, 0xff, sizeof room);
+        count = lughemra_next_elements(document, sizeof document, &many, room, size);
+        expect(count == (size < 2 ? size : 2), "as many elements as there are, or as the room has places for");
+        for (size_t k = 0; k < count; k++)
+            expect(lughemra_next(document, sizeof document, &one, &element) && room[k].kind == element.kind
+                       && room[k].name.offset == element.name.offset, "the elements of single steps");
+        expect(many.at == one.at, "the iterator of single steps");
+        expect(room[count].kind == (count < size ? LUGHEMRA_NO_ELEMENT : UINT32_MAX), "what stands behind the elements");
+    }
+    expect(lughemra_next_elements(document, sizeof document, NULL, NULL, 5) == 0, "elements without an iterator");
 }
 
 static void try_views(void)
@@ -115,6 +138,7 @@ static void try_rooms(void)
     }
     expect(lughemra_dump(NULL, 5, room, sizeof room).fault.number == LUGHEMRA_TRUNCATED, "null has no text");
     expect(!lughemra_dump(document, sizeof document, NULL, 100).written, "a null room has no bytes");
+    expect(lughemra_canonical(document, sizeof document, NULL, 100).length == sizeof document, "a form with no room");
 }
 
 /* Walks over a copy of the document at each alignment, which ends where its block does. */
@@ -139,6 +163,7 @@ int main(void)
     try_null();
     try_ranges();
     try_enter();
+    try_many();
     try_views();
     try_sections();
     try_rooms();

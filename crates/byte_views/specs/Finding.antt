@@ -4,8 +4,9 @@ use Rattle.bson_elem.specs.{Tree, no_pairs}
 use Rattle.bson_raw.specs.{TreeValue, first_named}
 use Rattle.byte_views.specs.declared.element.Element.{Element}
 use Rattle.byte_views.specs.declared.iter.ElementIter.{ElementIter}
+use Rattle.byte_views.specs.declared.iter.FirstElement.{FirstElement}
 use Rattle.byte_views.specs.Elements.{no_element}
-use Rattle.byte_views.specs.Iters.{IsStep, moved}
+use Rattle.byte_views.specs.Iters.{IsFirst, IsStep, moved}
 use Rattle.byte_views.specs.Pairs.{PairsFrom, ShowsValue}
 use Rattle.byte_views.specs.Views.{IsView}
 
@@ -33,3 +34,11 @@ pub data GivesNamed (bytes name : List ℕ) (s : ElementIter) (e : Element) (aft
   named : (v : TreeValue) → first_named name t ≡ Some v → IsView bytes e.name name
       → ShowsValue bytes s e v → (others : Tree) → PairsFrom bytes after others
       → GivesNamed bytes name s e after t
+
+-- The walk begins at the document's front, and finds the element; or the document's length or its
+-- last byte has a fault, which is told.
+pub data Gets (bytes name : List ℕ) (e : Element) : Type 0 where
+  begins : (first : FirstElement) (next : ℕ) → IsFirst bytes first → first.fault.number ≡ 0
+      → Finds bytes name first.iter e next → Gets bytes name e
+  has_fault : (first : FirstElement) → IsFirst bytes first → first.fault.number ≢ 0
+      → e ≡ record no_element { fault = first.fault } → Gets bytes name e

@@ -8,6 +8,7 @@ pub mod Elements
 pub mod Iters
 pub mod Pairs
 pub mod Finding
+pub mod Filling
 pub mod Parts
 pub mod Sections
 pub mod Splits

@@ -1,11 +1,12 @@
 -- A text that is written into the room of a caller.
-use Rattle.std.specs.Prelude.{◌≡◌, ◌≤◌, ◌<◌, ℕ, List, ◌++◌, drop, length, Bool, true, false, Some}
-use Rattle.std.specs.Prelude.{None, if◌then◌else◌}
+use Rattle.std.specs.Prelude.{◌≡◌, ◌≤◌, ◌<◌, ◌^◌, ℕ, List, ◌++◌, drop, length, Bool, true, false}
+use Rattle.std.specs.Prelude.{None, Some, if◌then◌else◌}
 use Rattle.bson_elem.specs.declared.fault.BsonFault.{BsonFault}
 use Rattle.bson_elem.specs.{Spells, Tree}
 use Rattle.bson_raw.specs.{IsSpelled, WholeFault}
 use Rattle.bson_json.specs.declared.mode.Mode.{Mode}
 use Rattle.bson_json.specs.declared.mode.Mode.TheVariants.{Canonical, Relaxed}
+use Rattle.bson_doc.specs.{canonical_len, plain}
 use Rattle.bson_text.specs.Dump.{document_text}
 use Rattle.byte_views.specs.declared.fault.FirstFault.{FirstFault}
 use Rattle.byte_views.specs.declared.text.TextWritten.{TextWritten}
@@ -22,6 +23,10 @@ no_text fault = record { fault = fault; length = 0; written = false }
 -- the fault of a call that has no memory for the text
 abbrev pub memory_fault : FirstFault
 memory_fault = record { number = 254; offset = 0 }
+
+-- the fault of a canonical form that is longer than a document may be
+abbrev pub too_large_fault : FirstFault
+too_large_fault = record { number = 253; offset = 0 }
 
 -- The text is put to the front of the room; or the room is too short for it, and stays as it was.
 pub data IsPut (text old new : List ℕ) : TextWritten → Type 0 where
@@ -48,3 +53,15 @@ IsDump t text = text ≡ document_text t
 -- the form of Extended JSON
 abbrev pub json_mode : Bool → Mode
 json_mode relaxed = if relaxed then Relaxed else Canonical
+
+-- the bytes are the canonical form of the document
+abbrev pub IsCanonical : Tree → List ℕ → Type 0
+IsCanonical t form = Spells (plain t) form
+
+-- The canonical form is put into the room, or there is none, as of a text; or it would be longer
+-- than a document may be, and the room stays as it was.
+pub data IsCanonicalWritten (bytes old new : List ℕ) : TextWritten → Type 0 where
+  as_text : {w : TextWritten} → IsTextWritten bytes IsCanonical old new w
+      → IsCanonicalWritten bytes old new w
+  too_large : {w : TextWritten} (t : Tree) → Spells t bytes → 2 ^ 31 ≤ canonical_len t
+      → w ≡ no_text too_large_fault → new ≡ old → IsCanonicalWritten bytes old new w

@@ -1,11 +1,12 @@
-//! Walks over the elements of a document, one call for each, and finds one by its name.
+//! Walks over the elements of a document, one or many by a call, and finds one by its name.
 
 ghost use Rattle.std.specs.Prelude.{◌≡◌, ◌<◌, ◌≤◌, ◌↔◌, IfSome, IsTrue, ℕ, length};
 ghost use Rattle.bson_elem.specs.{Spells, Tree};
 ghost use Rattle.bson_raw.specs.Spelled.{IsLengthOf};
 ghost use Rattle.byte_views.specs.Iters.{CanEnter, IsFirst, IsInside, IsStep, first_begins};
 ghost use Rattle.byte_views.specs.Iters.{first_fails, inner_iter, moved, wrong_iter};
-ghost use Rattle.byte_views.specs.Finding.{Finds, GivesNamed};
+ghost use Rattle.byte_views.specs.Finding.{Finds, Gets, GivesNamed};
+ghost use Rattle.byte_views.specs.Filling.{Fills};
 ghost use Rattle.byte_views.specs.Pairs.{GivesNext, PairsFrom};
 ghost use Rattle.byte_views.specs.Views.{IsView};
 
@@ -178,6 +179,24 @@ pub fn walk_next(bytes: &[u8], iter: &mut ElementIter, element: &mut Element)
     iter.at = step(bytes, *iter, element);
 }
 
+/// Reads elements from the iterator on into `room`, until it is full, and moves the iterator behind
+/// them. Returns how many there are. If they are fewer than the room has places for, the place
+/// behind them has kind 0, and the fault if there is one.
+pub fn walk_next_elements(bytes: &[u8], iter: &mut ElementIter, room: &mut [Element]) -> usize
+    ensures fills { Fills bytes.now iter.old room.old room.new result iter.new.at }
+    ensures same { iter.new ≡ moved iter.old iter.new.at }
+{
+    let mut count = 0;
+    while count < room.len() {
+        iter.at = step(bytes, *iter, &mut room[count]);
+        if room[count].kind == 0 {
+            return count;
+        }
+        count += 1;
+    }
+    count
+}
+
 /// Returns true if the view has the bytes of `name`.
 fn is_named(bytes: &[u8], view: View, name: &[u8]) -> bool
     ensures { IsTrue result ↔ IsView bytes.now view name.now }
@@ -213,6 +232,24 @@ pub fn walk_find(bytes: &[u8], name: &[u8], iter: &mut ElementIter, element: &mu
         → GivesNamed bytes.now name.now iter.old element.new iter.new t }
 {
     iter.at = find(bytes, name, *iter, element);
+}
+
+/// Reads the first element with this `name` of the document that `bytes` are into `element`. Checks
+/// the document's length and its last byte, and the elements up to that one.
+pub fn walk_get(bytes: &[u8], name: &[u8], element: &mut Element)
+    ensures gets { Gets bytes.now name.now element.new }
+    ensures pairs { (t : Tree) → Spells t bytes.now → (after : ElementIter)
+        × GivesNamed bytes.now name.now (first_begins bytes.now).iter element.new after t }
+{
+    let FirstElement { fault, mut iter } = walk_first(bytes);
+    if fault.number != 0 {
+        *element = Element {
+            fault,
+            ..Element::none()
+        };
+        return;
+    }
+    walk_find(bytes, name, &mut iter, element);
 }
 
 /// Returns an iterator over the document, array or scope that `element` holds. It was read by

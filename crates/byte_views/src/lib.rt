@@ -7,10 +7,11 @@
 //! numbers and as views of the bytes; or what became of a text in the caller's room. None has a
 //! `requires`: any number in a struct that is handed in has an answer. The bytes are read in place.
 //! What reads whole messages does it by a `Reading`: the names of a body are sorted in memory, or
-//! each is compared with all others in place. What writes texts takes memory for them, or is for short texts.
+//! each is compared with all others in place. What writes texts takes memory for them, or is for
+//! short texts.
 //!
-//! Uses bson_raw, bson_text, bson_json and wire_msg. Used by lughemra, for programs in C, and by
-//! page, for a browser. Read first: `documents` and `iter`.
+//! Uses bson_raw, bson_doc, bson_text, bson_json and wire_msg. Used by lughemra, for programs in C,
+//! and by page, for a browser. Read first: `documents` and `iter`.
 #![tactic(auto)]
 
 mod documents;
@@ -32,11 +33,14 @@ pub use documents::{DocumentsCheck, check_document, check_documents, is_canonica
 pub use element::Element;
 pub use fault::FirstFault;
 pub use front::{MessageFront, message_front};
-pub use iter::{ElementIter, FirstElement, walk_enter, walk_find, walk_first, walk_next};
+pub use iter::{
+    ElementIter, FirstElement, walk_enter, walk_find, walk_first, walk_get, walk_next,
+    walk_next_elements,
+};
 pub use messages::{MessageCheck, MessagesCheck, check_message, check_messages};
 pub use parts::{MessageParts, Section, message_parts, section_at};
 pub use reading::{InPlace, Reading};
 pub use split::next_document;
-pub use text::{TextWritten, put_dump, put_json, put_short_dump, put_short_json};
+pub use text::{TextWritten, put_canonical, put_dump, put_json, put_short_dump, put_short_json};
 pub use view::View;
 pub use walk::{DocumentsWalk, walk_documents};

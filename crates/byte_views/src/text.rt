@@ -1,14 +1,15 @@
-//! Writes the text of a document, or its Extended JSON, into the caller's room.
+//! Writes the text of a document, its Extended JSON or its canonical form into the caller's room.
 
 ghost use Rattle.std.specs.Prelude.{◌≡◌, IfSome};
 ghost use Rattle.bson_elem.specs.{Spells, Tree};
 ghost use Rattle.bson_raw.specs.{document_bytes};
 ghost use Rattle.bson_json.specs.{IsJson};
 ghost use Rattle.byte_views.specs.Texts.{IsDump, IsPut, IsTextWritten, memory_fault, no_text};
-ghost use Rattle.byte_views.specs.Texts.{json_mode, text_put};
+ghost use Rattle.byte_views.specs.Texts.{IsCanonicalWritten, json_mode, text_put, too_large_fault};
 
 use crate::fault::FirstFault;
 use arrayvec::ArrayVec;
+use bson_doc::{DocRefusal, to_canonical};
 use bson_json::{Mode, write_json};
 use bson_raw::RawDocument;
 use bson_text::dump_to;
@@ -22,7 +23,8 @@ pub const SHORT: usize = 65536;
 #[repr(C)]
 pub struct TextWritten {
     /// The first fault of the document, by the number of its cause, from 1 to 11. The number is
-    /// 254 if there was no memory for the text.
+    /// 254 if there was no memory for the text, and 253 if a canonical form would have more than
+    /// 2,147,483,647 bytes.
     pub fault: FirstFault,
     /// The number of bytes of the text, whether it was written or not. If there is a fault, 0.
     pub length: usize,
@@ -48,6 +50,16 @@ impl TextWritten {
     {
         TextWritten::none(FirstFault {
             number: 254,
+            offset: 0,
+        })
+    }
+
+    /// Returns that a canonical form would be longer than a document may be.
+    fn too_large() -> TextWritten
+        ensures { result ≡ no_text too_large_fault }
+    {
+        TextWritten::none(FirstFault {
+            number: 253,
             offset: 0,
         })
     }
@@ -193,5 +205,22 @@ pub fn put_short_json(bytes: &[u8], relaxed: bool, room: &mut [u8]) -> TextWritt
     match short_json(document, mode_of(relaxed)) {
         Some(text) => put(text.as_slice(), room),
         None => TextWritten::no_memory(),
+    }
+}
+
+/// Writes the canonical form of the document that `bytes` are to the front of `room`: the names in
+/// each array are "0", "1" and so on there. If it has no room, nothing is written, and its length
+/// is told.
+pub fn put_canonical(alloc: Global, bytes: &[u8], room: &mut [u8]) -> TextWritten
+    ensures { IsCanonicalWritten bytes.now room.old room.new result }
+{
+    let document = match RawDocument::from_bytes(bytes) {
+        Ok(document) => document,
+        Err(fault) => return TextWritten::none(FirstFault::of_document(0, fault)),
+    };
+    match to_canonical(alloc, document) {
+        Ok(form) => put(form.as_raw().as_bytes(), room),
+        Err(DocRefusal::TooLarge) => TextWritten::too_large(),
+        Err(_) => TextWritten::no_memory(),
     }
 }

@@ -11,7 +11,7 @@
  * Nothing else is owed: any content, any `limit` and any number in a struct that is handed in have an answer. Calls may
  * run at once in several threads. An offset is counted from `bytes`.
  *
- * The functions for documents take no memory, but for those that write texts. Those for whole messages take some in
+ * The functions for documents take no memory, but for those that write texts or canonical forms. Those for whole messages take some in
  * proportion to the number of names in a body, by malloc, realloc and free of the program, and give it back before they
  * return. If there is none, the answer is the same, but takes time in proportion to the square of the number of names.
  * Those that write texts take as much as the text, and tell where there is none. The three functions must come from one
@@ -319,9 +319,10 @@ struct lughemra_element {
 /* The fault of an iterator whose offsets are out of range of the bytes: nothing was read. */
 #define LUGHEMRA_OUT_OF_RANGE 255
 
-/* What became of a text. */
+/* What became of a text, or of a canonical form. */
 struct lughemra_text {
-    /* The document's first fault, by an enum lughemra_document_fault, or LUGHEMRA_NO_MEMORY. Then nothing is written. */
+    /* The document's first fault, by an enum lughemra_document_fault, or LUGHEMRA_NO_MEMORY, or LUGHEMRA_TOO_LARGE. Then nothing
+     * is written. */
     struct lughemra_fault fault;
     /* The number of bytes of the text, whether it was written or not. If there is a fault, 0. */
     size_t length;
@@ -329,8 +330,9 @@ struct lughemra_text {
     bool written;
 };
 
-/* The fault of a text for which memory ran out. */
+/* The fault of a text for which memory ran out, and that of a canonical form that would have more than 2,147,483,647 bytes. */
 #define LUGHEMRA_NO_MEMORY 254
+#define LUGHEMRA_TOO_LARGE 253
 
 /* ---- the functions of the library, to which no pointer may be null: use those below */
 
@@ -348,11 +350,16 @@ void lughemra_next_document_nonnull(const uint8_t *bytes, size_t length, struct 
 struct lughemra_text lughemra_dump_nonnull(const uint8_t *bytes, size_t length, uint8_t *room, size_t room_length);
 struct lughemra_text lughemra_json_nonnull(const uint8_t *bytes, size_t length, bool relaxed, uint8_t *room,
                                            size_t room_length);
+struct lughemra_text lughemra_canonical_nonnull(const uint8_t *bytes, size_t length, uint8_t *room, size_t room_length);
 struct lughemra_first lughemra_first_nonnull(const uint8_t *bytes, size_t length);
 void lughemra_next_nonnull(const uint8_t *bytes, size_t length, struct lughemra_iter *iter,
                            struct lughemra_element *element);
+size_t lughemra_next_elements_nonnull(const uint8_t *bytes, size_t length, struct lughemra_iter *iter,
+                                      struct lughemra_element *room, size_t room_length);
 void lughemra_find_nonnull(const uint8_t *bytes, size_t length, const uint8_t *name, size_t name_length,
                            struct lughemra_iter *iter, struct lughemra_element *element);
+void lughemra_get_nonnull(const uint8_t *bytes, size_t length, const uint8_t *name, size_t name_length,
+                          struct lughemra_element *element);
 struct lughemra_iter lughemra_enter_nonnull(const struct lughemra_iter *iter, const struct lughemra_element *element);
 
 /* Returns `bytes`, or if that is null the address of a byte, which is no one's to read. */
@@ -471,6 +478,17 @@ static inline bool lughemra_next(const uint8_t *bytes, size_t length, struct lug
     return element->kind != LUGHEMRA_NO_ELEMENT;
 }
 
+/* Reads the next elements into the room, of `room_length` elements, as so many calls of lughemra_next do, and moves the iterator
+ * behind them. Returns how many there are. If they are fewer than `room_length`, the place behind them is what the last call
+ * gives: LUGHEMRA_NO_ELEMENT, and the fault if there is one. If a pointer to a struct is null, returns 0 and does nothing. */
+static inline size_t lughemra_next_elements(const uint8_t *bytes, size_t length, struct lughemra_iter *iter,
+                                            struct lughemra_element *room, size_t room_length)
+{
+    if (iter == NULL || room == NULL)
+        return 0;
+    return lughemra_next_elements_nonnull(lughemra_nonnull(bytes), lughemra_length(bytes, length), iter, room, room_length);
+}
+
 /* Returns an iterator over the document, array or scope that the element holds, which `iter` read. If it holds none, or
  * a pointer is null, what is returned gives LUGHEMRA_OUT_OF_RANGE. */
 static inline struct lughemra_iter lughemra_enter(const struct lughemra_iter *iter, const struct lughemra_element *element)
@@ -492,6 +510,19 @@ static inline bool lughemra_find(const uint8_t *bytes, size_t length, const char
     return element->kind != LUGHEMRA_NO_ELEMENT;
 }
 
+/* Reads the first element with this name, of `name_length` bytes, of the document that the bytes are: what lughemra_first and
+ * lughemra_find do. Returns false if there is none, or a fault comes before it. */
+static inline bool lughemra_get(const uint8_t *bytes, size_t length, const char *name, size_t name_length,
+                                struct lughemra_element *element)
+{
+    const uint8_t *sought = (const uint8_t *)name;
+    if (element == NULL)
+        return false;
+    lughemra_get_nonnull(lughemra_nonnull(bytes), lughemra_length(bytes, length), lughemra_nonnull(sought),
+                         lughemra_length(sought, name_length), element);
+    return element->kind != LUGHEMRA_NO_ELEMENT;
+}
+
 /* ---- texts, which take memory for the text while they run */
 
 /* Writes the text of the document that the bytes are to the front of the room, of `room_length` bytes: a line with its size,
@@ -510,6 +541,14 @@ static inline struct lughemra_text lughemra_json(const uint8_t *bytes, size_t le
 {
     return lughemra_json_nonnull(lughemra_nonnull(bytes), lughemra_length(bytes, length), relaxed,
                                  lughemra_nonnull_room(room), lughemra_length(room, room_length));
+}
+
+/* The same, in canonical form: a document, whose arrays have the names "0", "1" and so on. It has at most as many bytes as the
+ * document, but where an array's names are shorter than these. */
+static inline struct lughemra_text lughemra_canonical(const uint8_t *bytes, size_t length, uint8_t *room, size_t room_length)
+{
+    return lughemra_canonical_nonnull(lughemra_nonnull(bytes), lughemra_length(bytes, length), lughemra_nonnull_room(room),
+                                      lughemra_length(room, room_length));
 }
 
 #ifdef __cplusplus

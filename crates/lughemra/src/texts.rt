@@ -1,7 +1,7 @@
-//! Exports what writes the texts of documents. It takes memory for them.
+//! Exports what writes the texts of documents, and their canonical forms. It takes memory for them.
 
 ghost use Rattle.bson_json.specs.{IsJson};
-ghost use Rattle.byte_views.specs.Texts.{IsDump, IsTextWritten, json_mode};
+ghost use Rattle.byte_views.specs.Texts.{IsCanonicalWritten, IsDump, IsTextWritten, json_mode};
 
 use byte_views::TextWritten;
 use std::alloc::Global;
@@ -27,4 +27,17 @@ pub extern "C" fn lughemra_json_nonnull(
     ensures { IsTextWritten bytes.now (IsJson (json_mode relaxed)) room.old room.new result }
 {
     byte_views::put_json(alloc, bytes, relaxed, room)
+}
+
+/// Writes the canonical form of the document that `bytes` are to the front of `room`, as
+/// `byte_views::put_canonical` does.
+#[unsafe(no_mangle)]
+pub extern "C" fn lughemra_canonical_nonnull(
+    alloc: Global,
+    bytes: &[u8],
+    room: &mut [u8],
+) -> TextWritten
+    ensures { IsCanonicalWritten bytes.now room.old room.new result }
+{
+    byte_views::put_canonical(alloc, bytes, room)
 }

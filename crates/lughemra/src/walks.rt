@@ -2,7 +2,8 @@
 
 ghost use Rattle.std.specs.Prelude.{◌≡◌};
 ghost use Rattle.bson_elem.specs.{Spells, Tree};
-ghost use Rattle.byte_views.specs.Finding.{Finds, GivesNamed};
+ghost use Rattle.byte_views.specs.Filling.{Fills};
+ghost use Rattle.byte_views.specs.Finding.{Finds, Gets, GivesNamed};
 ghost use Rattle.byte_views.specs.Iters.{CanEnter, IsFirst, IsStep, first_begins, inner_iter};
 ghost use Rattle.byte_views.specs.Iters.{moved, wrong_iter};
 ghost use Rattle.byte_views.specs.Pairs.{GivesNext, PairsFrom};
@@ -31,6 +32,20 @@ pub extern "C" fn lughemra_next_nonnull(bytes: &[u8], iter: &mut ElementIter, el
     byte_views::walk_next(bytes, iter, element)
 }
 
+/// Reads elements from the iterator on into `room`, until it is full, as
+/// `byte_views::walk_next_elements` does.
+#[unsafe(no_mangle)]
+pub extern "C" fn lughemra_next_elements_nonnull(
+    bytes: &[u8],
+    iter: &mut ElementIter,
+    room: &mut [Element],
+) -> usize
+    ensures fills { Fills bytes.now iter.old room.old room.new result iter.new.at }
+    ensures same { iter.new ≡ moved iter.old iter.new.at }
+{
+    byte_views::walk_next_elements(bytes, iter, room)
+}
+
 /// Reads elements from the iterator on, up to the first with this `name`, as
 /// `byte_views::walk_find` does.
 #[unsafe(no_mangle)]
@@ -46,6 +61,17 @@ pub extern "C" fn lughemra_find_nonnull(
         → GivesNamed bytes.now name.now iter.old element.new iter.new t }
 {
     byte_views::walk_find(bytes, name, iter, element)
+}
+
+/// Reads the first element with this `name` of the document that `bytes` are, as
+/// `byte_views::walk_get` does.
+#[unsafe(no_mangle)]
+pub extern "C" fn lughemra_get_nonnull(bytes: &[u8], name: &[u8], element: &mut Element)
+    ensures gets { Gets bytes.now name.now element.new }
+    ensures pairs { (t : Tree) → Spells t bytes.now → (after : ElementIter)
+        × GivesNamed bytes.now name.now (first_begins bytes.now).iter element.new after t }
+{
+    byte_views::walk_get(bytes, name, element)
 }
 
 /// Returns an iterator over the document, array or scope that `element` holds, as
