@@ -1,0 +1,92 @@
+"""Builds the wheel and the source archive for pip, by what is in Python alone.
+
+So `pip install --no-build-isolation ./python` needs no network and no other package: of setuptools it would need one version, and
+`wheel` beside it, and a fresh virtual environment has at most the former. It reads the table `project` of pyproject.toml.
+"""
+
+import base64
+import hashlib
+import io
+import pathlib
+import tarfile
+import tomllib
+import zipfile
+
+HERE = pathlib.Path(__file__).resolve().parent
+PACKAGE = HERE / "lughemra"
+# The shared object, where someone has put it beside the module.
+SHARED = PACKAGE / "liblughemra.so.0"
+# The first date that a zip file can tell.
+DATE = (1980, 1, 1, 0, 0, 0)
+
+
+def project():
+    """Returns what pyproject.toml tells of the project."""
+    return tomllib.loads((HERE / "pyproject.toml").read_text(encoding="utf-8"))["project"]
+
+
+def metadata(told):
+    """Returns the text of METADATA."""
+    lines = [
+        "Metadata-Version: 2.1",
+        f"Name: {told['name']}",
+        f"Version: {told['version']}",
+        f"Summary: {told['description']}",
+        f"Requires-Python: {told['requires-python']}",
+        *(f"Classifier: {classifier}" for classifier in told["classifiers"]),
+    ]
+    return "\n".join(lines) + "\n"
+
+
+def package_files():
+    """Returns the files of the package."""
+    files = sorted(PACKAGE.glob("*.py")) + [PACKAGE / "py.typed"]
+    return files + [SHARED] if SHARED.exists() else files
+
+
+def record_line(name, data):
+    """Returns the line of RECORD for a file."""
+    digest = base64.urlsafe_b64encode(hashlib.sha256(data).digest()).rstrip(b"=").decode()
+    return f"{name},sha256={digest},{len(data)}\n"
+
+
+def write_wheel(folder, files):
+    """Writes a wheel of the files, which are pairs of a name and bytes, into the folder. Returns its name."""
+    told = project()
+    tag = "py3-none-linux_x86_64" if SHARED.exists() else "py3-none-any"
+    inside = f"{told['name']}-{told['version']}.dist-info"
+    wheel = f"Wheel-Version: 1.0\nGenerator: build_backend\nRoot-Is-Purelib: {str(not SHARED.exists()).lower()}\nTag: {tag}\n"
+    files = [*files, (f"{inside}/METADATA", metadata(told).encode()), (f"{inside}/WHEEL", wheel.encode())]
+    record = "".join(record_line(*file) for file in files) + f"{inside}/RECORD,,\n"
+    name = f"{told['name']}-{told['version']}-{tag}.whl"
+    with zipfile.ZipFile(pathlib.Path(folder) / name, "w", zipfile.ZIP_DEFLATED) as archive:
+        for path, data in [*files, (f"{inside}/RECORD", record.encode())]:
+            entry = zipfile.ZipInfo(path, DATE)
+            entry.compress_type, entry.external_attr = zipfile.ZIP_DEFLATED, 0o644 << 16
+            archive.writestr(entry, data)
+    return name
+
+
+def build_wheel(wheel_directory, config_settings=None, metadata_directory=None):
+    """Writes the wheel that pip installs."""
+    return write_wheel(wheel_directory, [(f"lughemra/{path.name}", path.read_bytes()) for path in package_files()])
+
+
+def build_editable(wheel_directory, config_settings=None, metadata_directory=None):
+    """Writes a wheel that has Python read the module where it stands here."""
+    return write_wheel(wheel_directory, [("lughemra.pth", f"{HERE}\n".encode())])
+
+
+def build_sdist(sdist_directory, config_settings=None):
+    """Writes the archive of the sources."""
+    told = project()
+    base = f"{told['name']}-{told['version']}"
+    files = [HERE / "pyproject.toml", HERE / "build_backend.py", *package_files()]
+    with tarfile.open(pathlib.Path(sdist_directory) / f"{base}.tar.gz", "w:gz", format=tarfile.PAX_FORMAT) as archive:
+        for path in files:
+            archive.add(path, f"{base}/{path.relative_to(HERE)}")
+        data = metadata(told).encode()
+        entry = tarfile.TarInfo(f"{base}/PKG-INFO")
+        entry.size = len(data)
+        archive.addfile(entry, io.BytesIO(data))
+    return f"{base}.tar.gz"

@@ -1,0 +1,73 @@
+"""Reads BSON 1.1 documents and messages of OP_MSG over the C library of Lughemra, in which all bytes are checked and read by
+functions that are proved to meet their contracts.
+
+    >>> import lughemra
+    >>> document = lughemra.Document(bytes.fromhex("160000000268656c6c6f0006000000776f726c640000"))
+    >>> document["hello"]
+    'world'
+
+docs/PYTHON.md tells what there is, and what of it is proved.
+"""
+
+from ._library import MAX_LIMIT
+from ._library import PATH as LIBRARY_PATH
+from .checks import DocumentsWalk, check, check_documents, documents, is_canonical, walk_documents
+from .document import Array, Document, Element, Value
+from .errors import DocumentError, Fault, LibraryNotFound, MessageError
+from .message import DocumentSequence, Flags, Header, Message, Reader, check_message, check_messages
+from .values import (
+    Binary,
+    Code,
+    DatetimeMS,
+    DBPointer,
+    Decimal128,
+    Kind,
+    MaxKey,
+    MinKey,
+    ObjectId,
+    Regex,
+    Symbol,
+    Timestamp,
+    Undefined,
+)
+
+__version__ = "0.1.0"
+
+__all__ = [
+    "Array",
+    "Binary",
+    "Code",
+    "DBPointer",
+    "DatetimeMS",
+    "Decimal128",
+    "Document",
+    "DocumentError",
+    "DocumentSequence",
+    "DocumentsWalk",
+    "Element",
+    "Fault",
+    "Flags",
+    "Header",
+    "Kind",
+    "LIBRARY_PATH",
+    "LibraryNotFound",
+    "MAX_LIMIT",
+    "MaxKey",
+    "Message",
+    "MessageError",
+    "MinKey",
+    "ObjectId",
+    "Reader",
+    "Regex",
+    "Symbol",
+    "Timestamp",
+    "Undefined",
+    "Value",
+    "check",
+    "check_documents",
+    "check_message",
+    "check_messages",
+    "documents",
+    "is_canonical",
+    "walk_documents",
+]

@@ -1,0 +1,397 @@
+"""Finds and loads the shared object, and declares what lughemra.h does.
+
+Each function of the library takes the address of some bytes and their number. No argument is converted in a call: `size` and
+`pointer` make arguments beforehand, which halves the price of a call. What a function gives back is written to a structure
+whose address it takes, or is such a structure.
+
+The functions of `short` hold the interpreter's lock while they run, so that no other thread can write to the bytes. Those of
+`long` let go of it, and are called for bytes that no one can write to.
+"""
+
+from __future__ import annotations
+
+import ctypes
+import functools
+import os
+import pathlib
+from ctypes import c_bool, c_char, c_double, c_int32, c_int64, c_size_t, c_uint32, c_uint64, c_void_p
+from typing import Any, Optional
+
+from .errors import LibraryNotFound
+
+# The name under which the system's loader knows the shared object of this version.
+SONAME = "liblughemra.so.0"
+VARIABLE = "LUGHEMRA_LIBRARY"
+
+# The greatest limit on a message's length.
+MAX_LIMIT = 48_000_000
+# The faults of what isn't wrong with the bytes.
+NO_MEMORY = 254
+
+FRONT_OPEN, FRONT_WHOLE, FRONT_BAD = 0, 1, 2
+SECTION_BODY, SECTION_SEQUENCE = 1, 2
+MORE_TO_COME, EXHAUST_ALLOWED = 1 << 1, 1 << 16
+
+
+class FaultStruct(ctypes.Structure):
+    """Lays out struct lughemra_fault."""
+
+    _fields_ = [("number", c_uint32), ("offset", c_size_t)]
+    number: int
+    offset: int
+
+
+class View(ctypes.Structure):
+    """Lays out struct lughemra_view."""
+
+    _fields_ = [("offset", c_size_t), ("length", c_size_t)]
+    offset: int
+    length: int
+
+
+class DocumentsCheck(ctypes.Structure):
+    """Lays out struct lughemra_documents_check."""
+
+    _fields_ = [("documents", c_size_t), ("bytes_read", c_size_t), ("fault", FaultStruct)]
+    documents: int
+    bytes_read: int
+    fault: FaultStruct
+
+
+class DocumentsWalk(ctypes.Structure):
+    """Lays out struct lughemra_documents_walk."""
+
+    _fields_ = [
+        ("documents", c_size_t),
+        ("bytes_read", c_size_t),
+        ("elements", c_size_t),
+        ("sizes", c_size_t),
+        ("fault", FaultStruct),
+    ]
+    documents: int
+    bytes_read: int
+    elements: int
+    sizes: int
+    fault: FaultStruct
+
+
+class MessageCheck(ctypes.Structure):
+    """Lays out struct lughemra_message_check."""
+
+    _fields_ = [("fault", FaultStruct), ("document_fault", FaultStruct)]
+    fault: FaultStruct
+    document_fault: FaultStruct
+
+
+class MessagesCheck(ctypes.Structure):
+    """Lays out struct lughemra_messages_check."""
+
+    _fields_ = [
+        ("messages", c_size_t),
+        ("bytes_read", c_size_t),
+        ("fault", FaultStruct),
+        ("document_fault", FaultStruct),
+    ]
+    messages: int
+    bytes_read: int
+    fault: FaultStruct
+    document_fault: FaultStruct
+
+
+class MessageFront(ctypes.Structure):
+    """Lays out struct lughemra_message_front."""
+
+    _fields_ = [
+        ("state", c_uint32),
+        ("length", c_size_t),
+        ("fault", FaultStruct),
+        ("document_fault", FaultStruct),
+    ]
+    state: int
+    length: int
+    fault: FaultStruct
+    document_fault: FaultStruct
+
+
+class MessageParts(ctypes.Structure):
+    """Lays out struct lughemra_message_parts."""
+
+    _fields_ = [
+        ("fault", FaultStruct),
+        ("document_fault", FaultStruct),
+        ("id", c_int32),
+        ("response_to", c_int32),
+        ("flag_bits", c_uint32),
+        ("more_to_come", c_bool),
+        ("exhaust_allowed", c_bool),
+        ("sections", c_size_t),
+    ]
+    fault: FaultStruct
+    document_fault: FaultStruct
+    id: int
+    response_to: int
+    flag_bits: int
+    more_to_come: bool
+    exhaust_allowed: bool
+    sections: int
+
+
+class Section(ctypes.Structure):
+    """Lays out struct lughemra_section."""
+
+    _fields_ = [("kind", c_uint32), ("identifier", View), ("documents", View), ("next", c_size_t)]
+    kind: int
+    identifier: View
+    documents: View
+    next: int
+
+
+class Iter(ctypes.Structure):
+    """Lays out struct lughemra_iter."""
+
+    _fields_ = [("start", c_size_t), ("at", c_size_t), ("end", c_size_t), ("depth", c_uint32)]
+    start: int
+    at: int
+    end: int
+    depth: int
+
+
+class First(ctypes.Structure):
+    """Lays out struct lughemra_first."""
+
+    _anonymous_ = ("fault",)
+    _fields_ = [("fault", FaultStruct), ("iter", Iter)]
+    number: int
+    offset: int
+    iter: Iter
+
+
+class Timestamp(ctypes.Structure):
+    """Lays out `timestamp` of struct lughemra_element."""
+
+    _fields_ = [("increment", c_uint32), ("seconds", c_uint32)]
+
+
+class Value(ctypes.Union):
+    """Lays out `value` of struct lughemra_element."""
+
+    _anonymous_ = ("timestamp",)
+    _fields_ = [("integer", c_int64), ("real", c_double), ("timestamp", Timestamp), ("bits", c_uint64)]
+
+
+class Element(ctypes.Structure):
+    """Lays out struct lughemra_element; a view's two numbers are fields of it, which are read sooner."""
+
+    _anonymous_ = ("fault", "value")
+    _fields_ = [
+        ("fault", FaultStruct),
+        ("kind", c_uint32),
+        ("subtype", c_uint32),
+        ("value", Value),
+        ("name_at", c_size_t),
+        ("name_length", c_size_t),
+        ("text_at", c_size_t),
+        ("text_length", c_size_t),
+        ("bytes_at", c_size_t),
+        ("bytes_length", c_size_t),
+    ]
+
+
+class Step(ctypes.Structure):
+    """Holds an iterator and the element that it read last."""
+
+    _anonymous_ = ("element",)
+    _fields_ = [("iter", Iter), ("element", Element)]
+    iter: Iter
+    number: int
+    offset: int
+    kind: int
+    subtype: int
+    integer: int
+    real: float
+    seconds: int
+    increment: int
+    name_at: int
+    name_length: int
+    text_at: int
+    text_length: int
+    bytes_at: int
+    bytes_length: int
+
+
+class Text(ctypes.Structure):
+    """Lays out struct lughemra_text."""
+
+    _anonymous_ = ("fault",)
+    _fields_ = [("fault", FaultStruct), ("length", c_size_t), ("written", c_bool)]
+    number: int
+    offset: int
+    length: int
+    written: bool
+
+
+# Each function of the library, with what it returns.
+FUNCTIONS: dict[str, Optional[type]] = {
+    "check_document": FaultStruct,
+    "is_canonical": c_bool,
+    "check_documents": DocumentsCheck,
+    "walk_documents": DocumentsWalk,
+    "check_message": MessageCheck,
+    "check_messages": MessagesCheck,
+    "message_front": MessageFront,
+    "message_parts": MessageParts,
+    "section": Section,
+    "next_document": None,
+    "dump": Text,
+    "json": Text,
+    "first": First,
+    "next": None,
+    "find": None,
+    "enter": Iter,
+}
+
+
+class Functions:
+    """Holds the functions of the library, each under its name without `lughemra_` and `_nonnull`."""
+
+    def __init__(self, library: ctypes.CDLL) -> None:
+        for name, returned in FUNCTIONS.items():
+            function = library[f"lughemra_{name}_nonnull"]
+            function.restype = returned
+            setattr(self, name, function)
+
+    def __getattr__(self, name: str) -> Any:
+        raise AttributeError(name)
+
+
+def places() -> list[str]:
+    """Returns where the shared object is looked for, in this order."""
+    told = os.environ.get(VARIABLE)
+    if told:
+        return [told]
+    beside = pathlib.Path(__file__).resolve().parent / SONAME
+    return ([str(beside)] if beside.exists() else []) + [SONAME]
+
+
+def load() -> tuple[str, Functions, Functions]:
+    """Loads the shared object. Returns where it is, and its functions, those that hold the lock first."""
+    failures = []
+    for place in places():
+        try:
+            return place, Functions(ctypes.PyDLL(place)), Functions(ctypes.CDLL(place))
+        except (OSError, AttributeError) as failure:
+            failures.append(str(failure))
+    raise LibraryNotFound(
+        f"the shared object of lughemra can't be loaded: {'; '.join(failures)}. {VARIABLE} may name it, {SONAME} may stand beside"
+        f" {__file__}, or the system's loader may know {SONAME}. scripts/tools/build-c-library --prefix DIR of the repository"
+        f" writes DIR/lib/{SONAME}"
+    )
+
+
+PATH, short, long = load()
+
+# Make arguments: of a number of bytes, of a limit, and of a truth value.
+size = functools.lru_cache(4096)(c_size_t.from_param)
+limit_of = functools.lru_cache(64)(c_uint32.from_param)
+FALSE, TRUE = c_bool.from_param(False), c_bool.from_param(True)
+address_of = ctypes.byref
+OFFSET_OF_ELEMENT = Step.element.offset
+
+
+class _Buffer(ctypes.Structure):
+    """Lays out Py_buffer of CPython."""
+
+    _fields_ = [
+        ("buf", c_void_p),
+        ("obj", c_void_p),
+        ("len", ctypes.c_ssize_t),
+        ("itemsize", ctypes.c_ssize_t),
+        ("readonly", ctypes.c_int),
+        ("ndim", ctypes.c_int),
+        ("format", ctypes.c_char_p),
+        ("shape", c_void_p),
+        ("strides", c_void_p),
+        ("suboffsets", c_void_p),
+        ("internal", c_void_p),
+    ]
+
+
+_get_buffer = ctypes.pythonapi.PyObject_GetBuffer
+_get_buffer.argtypes = [ctypes.py_object, ctypes.POINTER(_Buffer), ctypes.c_int]
+_get_buffer.restype = ctypes.c_int
+_release_buffer = ctypes.pythonapi.PyBuffer_Release
+_release_buffer.argtypes = [ctypes.POINTER(_Buffer)]
+_release_buffer.restype = None
+
+
+def lent(data: Any) -> tuple[Any, Any, Any]:
+    """Returns what keeps the bytes of a bytes-like object where they are, their address and their number as arguments.
+
+    What keeps them is the object itself if it is of type `bytes`, and else a view of it, which is held as long as the bytes
+    are read.
+    """
+    if type(data) is bytes:
+        return data, data, size(len(data))
+    view = memoryview(data)
+    if not view.c_contiguous:
+        raise BufferError("the bytes aren't one piece of memory")
+    view = view.cast("B")
+    if not view:
+        return b"", b"", size(0)
+    buffer = _Buffer()
+    _get_buffer(view, buffer, 0)
+    address = buffer.buf
+    _release_buffer(buffer)
+    return view, c_void_p.from_param(address), size(len(view))
+
+
+def functions_for(kept: Any) -> Functions:
+    """Returns the functions by which to read what may be long: those that let go of the lock, if no one can write to it."""
+    return long if type(kept) is bytes else short
+
+
+class Room:
+    """Holds memory for a text that the library writes."""
+
+    def __init__(self, length: int) -> None:
+        self.length = length
+        self.bytes = bytearray(length)
+        self.pointer = ctypes.byref(c_char.from_buffer(self.bytes))
+        self.size = size(length)
+
+
+# Rooms that no one uses, each of this length.
+KEPT_LENGTH = 1 << 14
+_rooms: list[Room] = []
+
+
+def room_of(length: int) -> Room:
+    """Returns a room of at least this length, which no one uses."""
+    if length > KEPT_LENGTH:
+        return Room(length)
+    try:
+        return _rooms.pop()
+    except IndexError:
+        return Room(KEPT_LENGTH)
+
+
+def give_back(room: Room) -> None:
+    """Keeps a room for the next text, unless it is a long one."""
+    if room.length == KEPT_LENGTH:
+        _rooms.append(room)
+
+
+# A step, and the addresses of its iterator and of its element as arguments.
+Cursor = tuple[Step, Any, Any]
+
+# Cursors that no one uses. Each is used by one walk at a time, in one thread, and comes back when that has ended.
+spare: list[Cursor] = []
+
+
+def cursor() -> Cursor:
+    """Returns a cursor that no one uses."""
+    try:
+        return spare.pop()
+    except IndexError:
+        step = Step()
+        return step, ctypes.byref(step), ctypes.byref(step, OFFSET_OF_ELEMENT)

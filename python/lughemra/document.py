@@ -1,0 +1,347 @@
+"""Documents that are read from their bytes, each value when it is asked for."""
+
+from __future__ import annotations
+
+import datetime
+import functools
+from collections.abc import Iterator, ItemsView, Mapping, Sequence, ValuesView
+from typing import Any, NamedTuple, Self, Union, overload
+
+from . import _library as lib
+from . import whole
+from .errors import TEXT_FAULT, DocumentError
+from .leaves import READERS, text
+from .values import (
+    Binary,
+    Code,
+    DatetimeMS,
+    DBPointer,
+    Decimal128,
+    Kind,
+    MaxKey,
+    MinKey,
+    ObjectId,
+    Regex,
+    Symbol,
+    Timestamp,
+    Undefined,
+)
+
+Value = Union[
+    float, str, "Document", "Array", bytes, Binary, Undefined, ObjectId, bool, datetime.datetime, DatetimeMS, None,
+    Regex, DBPointer, Code, Symbol, int, Timestamp, Decimal128, MinKey, MaxKey,
+]  # fmt: skip
+
+
+class Element(NamedTuple):
+    """Holds one element: its name, the kind of its value, and the value."""
+
+    name: str
+    kind: Kind
+    value: Value
+
+
+_find, _next, _first, _enter = lib.short.find, lib.short.next, lib.short.first, lib.short.enter
+_size, _spare, _cursor = lib.size, lib.spare, lib.cursor
+
+
+@functools.lru_cache(1024)
+def _encoded(name: str) -> tuple[bytes, Any]:
+    """Returns the bytes of a name, and their number as an argument."""
+    encoded = name.encode()
+    return encoded, lib.size(len(encoded))
+
+
+class _Container:
+    """Holds what a document and an array have in common: the bytes that were handed in, and where a walk begins in them."""
+
+    __slots__ = ("_data", "_pointer", "_size", "_begin")
+
+    _data: Any
+    _pointer: Any
+    _size: Any
+    _begin: lib.Iter
+
+    def __init__(self, data: Any) -> None:
+        if type(data) is bytes:
+            self._data = self._pointer = data
+            self._size = size = _size(len(data))
+        else:
+            self._data, self._pointer, self._size = data, _, size = lib.lent(data)
+        first = _first(self._pointer, size)
+        if first.number:
+            raise DocumentError(first.number, first.offset)
+        self._begin = first.iter
+
+    @classmethod
+    def _made(cls, data: Any, pointer: Any, size: Any, begin: lib.Iter) -> Self:
+        """Returns the document or the array over which this iterator walks."""
+        made = cls.__new__(cls)
+        made._data, made._pointer, made._size, made._begin = data, pointer, size, begin
+        return made
+
+    def _steps(self) -> Iterator[lib.Step]:
+        """Walks over the elements, each of which is there until the next one is asked for."""
+        pointer, size = self._pointer, self._size
+        cursor = _cursor()
+        step, iter_argument, element_argument = cursor
+        step.iter = self._begin
+        _next(pointer, size, iter_argument, element_argument)
+        while step.kind:
+            yield step
+            _next(pointer, size, iter_argument, element_argument)
+        if step.number:
+            raise DocumentError(step.number, step.offset)
+        _spare.append(cursor)
+
+    def _name(self, step: lib.Step) -> str:
+        """Returns the name of an element."""
+        at = step.name_at
+        return str(self._data[at : at + step.name_length], "utf-8")
+
+    def _value(self, step: lib.Step) -> Value:
+        """Returns the value of an element."""
+        reader = READERS[step.kind]
+        if reader is None:
+            return self._inside(step)
+        try:
+            value: Value = reader(self._data, step)
+            return value
+        except UnicodeDecodeError:
+            raise DocumentError(TEXT_FAULT, step.name_at - 1) from None
+
+    def _inside(self, step: lib.Step) -> Value:
+        """Returns the document, the array or the code with scope that an element holds."""
+        begin = _enter(lib.address_of(step), lib.address_of(step, lib.OFFSET_OF_ELEMENT))
+        kind = step.kind
+        if kind == Kind.ARRAY:
+            return Array._made(self._data, self._pointer, self._size, begin)
+        inner = Document._made(self._data, self._pointer, self._size, begin)
+        return Code(text(self._data, step), inner) if kind == Kind.CODE_WITH_SCOPE else inner
+
+    def elements(self) -> Iterator[Element]:
+        """Walks over the elements in their order, with repeated names and the names in arrays, which no other way tells."""
+        for step in self._steps():
+            yield Element(self._name(step), Kind(step.kind), self._value(step))
+
+    @property
+    def raw(self) -> bytes:
+        """Returns a copy of the bytes, from the length to the last byte."""
+        return bytes(self._data[self._begin.start : self._begin.end + 1])
+
+    def check(self) -> None:
+        """Checks all that is in it, and raises the first fault, if there is one."""
+        begin = self._begin
+        data, pointer, size = lib.lent(self._data[begin.start : begin.end + 1])
+        fault = lib.functions_for(data).check_document(pointer, size)
+        if fault.number:
+            raise DocumentError(fault.number, begin.start + fault.offset)
+
+    def __bool__(self) -> bool:
+        """Returns true if there is an element."""
+        return any(True for _ in self._steps())
+
+    def __reduce__(self) -> tuple[Any, tuple[bytes]]:
+        """Returns what copies and pickles are made of: the bytes."""
+        return type(self), (self.raw,)
+
+
+class Document(_Container, Mapping[str, Value]):
+    """Reads a document from its bytes: a mapping from names to values.
+
+    The bytes are any bytes-like object, which is kept and must not change. Only the length and the last byte are checked
+    here, and each element when it is read, so reading may raise DocumentError; `check` checks all of them. Of elements with
+    the same name the first one counts, and `elements` gives all.
+    """
+
+    __slots__ = ()
+
+    def __getitem__(self, name: str) -> Value:
+        try:
+            encoded, length = _encoded(name)
+        except (AttributeError, UnicodeEncodeError):
+            raise KeyError(name) from None
+        try:
+            cursor = _spare.pop()
+        except IndexError:
+            cursor = _cursor()
+        step, iter_argument, element_argument = cursor
+        step.iter = self._begin
+        _find(self._pointer, self._size, encoded, length, iter_argument, element_argument)
+        if not step.kind:
+            fault = DocumentError(step.number, step.offset) if step.number else KeyError(name)
+            _spare.append(cursor)
+            raise fault
+        value = self._value(step)
+        _spare.append(cursor)
+        return value
+
+    def kind(self, name: str) -> Kind:
+        """Returns the kind of the first value with this name, which tells an int32 from an int64, say."""
+        try:
+            encoded, length = _encoded(name)
+        except (AttributeError, UnicodeEncodeError):
+            raise KeyError(name) from None
+        cursor = _cursor()
+        step, iter_argument, element_argument = cursor
+        step.iter = self._begin
+        _find(self._pointer, self._size, encoded, length, iter_argument, element_argument)
+        kind, number, offset = step.kind, step.number, step.offset
+        _spare.append(cursor)
+        if number:
+            raise DocumentError(number, offset)
+        if not kind:
+            raise KeyError(name)
+        return Kind(kind)
+
+    def __contains__(self, name: object) -> bool:
+        try:
+            return bool(self.kind(name))  # type: ignore[arg-type]
+        except KeyError:
+            return False
+
+    def _firsts(self) -> Iterator[tuple[str, lib.Step]]:
+        """Walks over the elements whose names didn't come before."""
+        seen = set()
+        for step in self._steps():
+            name = self._name(step)
+            if name not in seen:
+                seen.add(name)
+                yield name, step
+
+    def __iter__(self) -> Iterator[str]:
+        return (name for name, _ in self._firsts())
+
+    def __len__(self) -> int:
+        return len({self._name(step) for step in self._steps()})
+
+    def items(self) -> ItemsView[str, Value]:
+        """Returns a view of the pairs, which is walked over once."""
+        return _Items(self)
+
+    def values(self) -> ValuesView[Value]:
+        """Returns a view of the values, which is walked over once."""
+        return _Values(self)
+
+    def to_dict(self) -> dict[str, Any]:
+        """Returns all of it as dict and list. Raises the first fault that `check` finds, if there is one."""
+        return whole.dict_of(self)
+
+    def json(self, relaxed: bool = False) -> str:
+        """Returns MongoDB Extended JSON v2, canonical or relaxed, with no white space."""
+        return self._written("json", lib.TRUE if relaxed else lib.FALSE)
+
+    def text(self) -> str:
+        """Returns the text that `bsonwire dump` writes: a line for the size and one for each element, at all depths."""
+        return self._written("dump")
+
+    def _written(self, name: str, *form: Any) -> str:
+        """Returns what this function of the library writes."""
+        begin = self._begin
+        data, pointer, size = lib.lent(self._data[begin.start : begin.end + 1])
+        function = getattr(lib.functions_for(data), name)
+        room = lib.room_of(3 * len(data) + 256)
+        told = function(pointer, size, *form, room.pointer, room.size)
+        if not told.written and not told.number:
+            room = lib.room_of(told.length)
+            told = function(pointer, size, *form, room.pointer, room.size)
+        if told.number == lib.NO_MEMORY:
+            raise MemoryError
+        if told.number:
+            raise DocumentError(told.number, begin.start + told.offset)
+        text = room.bytes[: told.length].decode()
+        lib.give_back(room)
+        return text
+
+    def __repr__(self) -> str:
+        try:
+            text = self.json(relaxed=True)
+        except DocumentError as fault:
+            text = f"{self._begin.end + 1 - self._begin.start} bytes, {fault}"
+        return f"Document({text if len(text) <= 200 else text[:200] + '...'})"
+
+
+class _Items(ItemsView[str, Value]):
+    """Walks over the pairs of a document, so that no name is looked for."""
+
+    def __init__(self, document: Document) -> None:
+        super().__init__(document)
+        self._document = document
+
+    def __iter__(self) -> Iterator[tuple[str, Value]]:
+        document = self._document
+        return ((name, document._value(step)) for name, step in document._firsts())
+
+
+class _Values(ValuesView[Value]):
+    """Walks over the values of a document, so that no name is looked for."""
+
+    def __init__(self, document: Document) -> None:
+        super().__init__(document)
+        self._document = document
+
+    def __iter__(self) -> Iterator[Value]:
+        document = self._document
+        return (document._value(step) for _, step in document._firsts())
+
+
+class Array(_Container, Sequence[Value]):
+    """Reads an array from its bytes, which are spelled as a document's: a sequence of values, whatever the names are.
+
+    Where the elements begin is found by a walk, the first time that the length or a value at an index is asked for, and
+    kept. An array is equal to a list of equal values.
+    """
+
+    __slots__ = ("_places",)
+
+    def _found_places(self) -> list[int]:
+        """Returns the offset of each element's type byte."""
+        try:
+            return self._places
+        except AttributeError:
+            self._places: list[int] = [step.name_at - 1 for step in self._steps()]
+            return self._places
+
+    @overload
+    def __getitem__(self, index: int) -> Value: ...
+
+    @overload
+    def __getitem__(self, index: slice) -> list[Value]: ...
+
+    def __getitem__(self, index: Union[int, slice]) -> Union[Value, list[Value]]:
+        if isinstance(index, slice):
+            return [self._read(place) for place in self._found_places()[index]]
+        return self._read(self._found_places()[index])
+
+    def _read(self, place: int) -> Value:
+        """Returns the value of the element at this offset."""
+        cursor = _cursor()
+        step, iter_argument, element_argument = cursor
+        step.iter = self._begin
+        step.iter.at = place
+        _next(self._pointer, self._size, iter_argument, element_argument)
+        if not step.kind:
+            raise DocumentError(step.number, step.offset)
+        value = self._value(step)
+        _spare.append(cursor)
+        return value
+
+    def __iter__(self) -> Iterator[Value]:
+        return map(self._value, self._steps())
+
+    def __len__(self) -> int:
+        return len(self._found_places())
+
+    def __eq__(self, other: object) -> bool:
+        if isinstance(other, (Array, list)):
+            return list(self) == list(other)
+        return NotImplemented
+
+    __hash__ = None  # type: ignore[assignment]
+
+    def to_list(self) -> list[Any]:
+        """Returns all of it as list and dict. Raises the first fault that `check` finds, if there is one."""
+        return whole.list_of(self)
+
+    def __repr__(self) -> str:
+        return f"Array({self._begin.end + 1 - self._begin.start} bytes)"

@@ -1,0 +1,96 @@
+"""What is raised: the faults of documents and messages, by the numbers and names of lughemra.h."""
+
+from __future__ import annotations
+
+from typing import Optional
+
+DOCUMENT_FAULTS = {
+    1: "Truncated",
+    2: "Length",
+    3: "End",
+    4: "Kind",
+    5: "Name",
+    6: "Text",
+    7: "TextEnd",
+    8: "Boolean",
+    9: "OldBinary",
+    10: "Scope",
+    11: "Depth",
+    255: "OutOfRange",
+}
+# The number of a text that is no UTF-8.
+TEXT_FAULT = 6
+MESSAGE_FAULTS = {
+    1: "Length",
+    2: "Opcode",
+    3: "Flags",
+    4: "Checksum",
+    5: "SectionKind",
+    6: "SectionSize",
+    7: "Document",
+    8: "NoBody",
+    9: "TwoBodies",
+    10: "RepeatedField",
+    11: "SequenceName",
+    12: "SequenceInBody",
+    13: "Truncated",
+    14: "EndedInside",
+    255: "LimitTooLarge",
+}
+
+
+class LibraryNotFound(ImportError):
+    """Tells that the shared object isn't there, or that it isn't of this version."""
+
+
+class Fault(ValueError):
+    """Tells the first fault of some bytes.
+
+    `number` and `name` are those of lughemra.h. `offset` is counted from the first byte of what was handed in, for a
+    document inside another one too. Of a check of several documents or messages, `whole` tells how many of them stand
+    before the fault, and `bytes_read` how many bytes these take.
+    """
+
+    NAMES: dict[int, str] = {}
+
+    def __init__(self, number: int, offset: int, whole: int = 0, bytes_read: int = 0) -> None:
+        super().__init__(number, offset, whole, bytes_read)
+        self.number = number
+        self.name = self.NAMES.get(number, "")
+        self.offset = offset
+        self.whole = whole
+        self.bytes_read = bytes_read
+
+    def __str__(self) -> str:
+        return f"{self.name} at {self.offset}"
+
+
+class DocumentError(Fault):
+    """Tells the first fault of a document."""
+
+    NAMES = DOCUMENT_FAULTS
+
+
+class MessageError(Fault):
+    """Tells the first fault of a message.
+
+    `document` is the fault of the document inside the message, if that is why the message was refused. Its own offset is
+    counted from the first byte of this document, which stands at `offset`.
+    """
+
+    NAMES = MESSAGE_FAULTS
+
+    def __init__(
+        self,
+        number: int,
+        offset: int,
+        whole: int = 0,
+        bytes_read: int = 0,
+        document: Optional[DocumentError] = None,
+    ) -> None:
+        super().__init__(number, offset, whole, bytes_read)
+        self.args = (number, offset, whole, bytes_read, document)
+        self.document = document
+
+    def __str__(self) -> str:
+        return f"{super().__str__()}: {self.document}" if self.document else super().__str__()
