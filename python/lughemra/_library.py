@@ -25,8 +25,9 @@ VARIABLE = "LUGHEMRA_LIBRARY"
 
 # The greatest limit on a message's length.
 MAX_LIMIT = 48_000_000
-# The faults of what isn't wrong with the bytes.
+# The faults of what isn't wrong with the bytes: there is no memory, or a canonical form would be longer than a document may be.
 NO_MEMORY = 254
+TOO_LARGE = 253
 
 FRONT_OPEN, FRONT_WHOLE, FRONT_BAD = 0, 1, 2
 SECTION_BODY, SECTION_SEQUENCE = 1, 2
@@ -244,9 +245,12 @@ FUNCTIONS: dict[str, Optional[type]] = {
     "next_document": None,
     "dump": Text,
     "json": Text,
+    "canonical": Text,
     "first": First,
     "next": None,
+    "next_elements": c_size_t,
     "find": None,
+    "get": None,
     "enter": Iter,
 }
 

@@ -229,13 +229,17 @@ class Document(_Container, Mapping[str, Value]):
 
     def json(self, relaxed: bool = False) -> str:
         """Returns MongoDB Extended JSON v2, canonical or relaxed, with no white space."""
-        return self._written("json", lib.TRUE if relaxed else lib.FALSE)
+        return self._written("json", lib.TRUE if relaxed else lib.FALSE).decode()
 
     def text(self) -> str:
         """Returns the text that `bsonwire dump` writes: a line for the size and one for each element, at all depths."""
-        return self._written("dump")
+        return self._written("dump").decode()
 
-    def _written(self, name: str, *form: Any) -> str:
+    def canonical(self) -> Document:
+        """Returns the canonical form: a copy in which the names of each array are "0", "1" and so on."""
+        return Document(self._written("canonical"))
+
+    def _written(self, name: str, *form: Any) -> bytes:
         """Returns what this function of the library writes."""
         begin = self._begin
         data, pointer, size = lib.lent(self._data[begin.start : begin.end + 1])
@@ -247,11 +251,13 @@ class Document(_Container, Mapping[str, Value]):
             told = function(pointer, size, *form, room.pointer, room.size)
         if told.number == lib.NO_MEMORY:
             raise MemoryError
+        if told.number == lib.TOO_LARGE:
+            raise OverflowError("the canonical form has more than 2,147,483,647 bytes")
         if told.number:
             raise DocumentError(told.number, begin.start + told.offset)
-        text = room.bytes[: told.length].decode()
+        written = bytes(room.bytes[: told.length])
         lib.give_back(room)
-        return text
+        return written
 
     def __repr__(self) -> str:
         try:

@@ -89,6 +89,7 @@ def test_texts_are_those_of_the_model(data):
     assert Document(data).json() == text_model.document_json(found, False).decode()
     assert Document(data).json(relaxed=True) == text_model.document_json(found, True).decode()
     assert lughemra.is_canonical(data) == (text_model.canonical(found) == data)
+    assert Document(data).canonical().raw == text_model.canonical(found)
     assert Document(data).raw == data
 
 

@@ -49,7 +49,7 @@ def test_the_functions_are_those_that_are_exported():
     assert sorted(_library.FUNCTIONS) == sorted(exported)
     for name, returned in _library.FUNCTIONS.items():
         (told,) = re.findall(rf"^(.*) lughemra_{name}_nonnull\(const", HEADER, re.M)
-        wanted = {None: "void", ctypes.c_bool: "bool"}.get(returned)
+        wanted = {None: "void", ctypes.c_bool: "bool", ctypes.c_size_t: "size_t"}.get(returned)
         assert told == (wanted or f"struct lughemra_{next(key for key, it in STRUCTS.items() if it is returned)}")
 
 
@@ -78,6 +78,7 @@ def test_the_constants_are_those_of_the_header():
     assert [("NO_ELEMENT", "00"), *((it.name, f"{it.value:02x}") for it in lughemra.Kind)] == kinds
     assert f"#define LUGHEMRA_MAX_LIMIT UINT32_C({lughemra.MAX_LIMIT})" in HEADER
     assert f"#define LUGHEMRA_NO_MEMORY {_library.NO_MEMORY}\n" in HEADER
+    assert f"#define LUGHEMRA_TOO_LARGE {_library.TOO_LARGE}\n" in HEADER
     names = [re.findall(r'"(\w*)"', table) for table in re.findall(r"names\[\] = \{(.*?)\};", HEADER, re.S)]
     for table, listed in zip((errors.DOCUMENT_FAULTS, errors.MESSAGE_FAULTS), names):
         assert [table[number] for number in range(1, len(listed))] == listed[1:] and set(table) == {*range(1, len(listed)), 255}
