@@ -97,10 +97,20 @@ def field(name, number):
     return element(INT32, name, int32(number))
 
 
+UPSERT = element(BOOLEAN, "upsert", b"\1")
 UPDATES = document([
     element(DOCUMENT, "0", statement([field("_id", 2)], [element(DOCUMENT, "$set", document([field("a", 5)]))])),
     element(DOCUMENT, "1", statement([], [element(DOCUMENT, "$inc", document([field("a", 1)]))], element(BOOLEAN, "multi", b"\1"))),
-    element(DOCUMENT, "2", statement([field("_id", 3)], [field("_id", 4)], element(BOOLEAN, "upsert", b"\0"))),
+    element(DOCUMENT, "2", statement([field("b", 7)], [element(DOCUMENT, "$set", document([field("a", 0)]))], UPSERT)),
+    element(DOCUMENT, "3", statement([field("_id", 3)], [field("_id", 4)], element(BOOLEAN, "upsert", b"\0"))),
+])
+
+UPSERTS = document([
+    element(DOCUMENT, "0", statement([element(DOCUMENT, "a", document([field("$gt", 50)])), element(DOCUMENT, "_id", document([field("$eq", 9)]))],
+                                     [element(DOCUMENT, "$inc", document([field("b", 1)]))], UPSERT)),
+    element(DOCUMENT, "1", statement([element(DOCUMENT, "_id", document([element(ARRAY, "$in", document([field("0", 10)]))]))], [field("b", 2)], UPSERT)),
+    element(DOCUMENT, "2", statement([field("_id", 9), field("a", 51)], [field("b", 3)], UPSERT)),
+    element(DOCUMENT, "3", statement([field("b", 52)], [field("b", 4), field("_id", 8)], UPSERT)),
 ])
 
 # Each request: its body, the documents of its sequence, and what the server writes of it.
@@ -304,22 +314,24 @@ document 106
 """,
     ),
     (
-        command("insert", COLLECTION, element(ARRAY, "documents", document([element(DOCUMENT, str(at), document([element(INT32, "_id", int32(number))])) for at, number in ((0, 2), (1, 3))])), element(BOOLEAN, "ordered", b"\0")),
+        command("insert", COLLECTION, element(ARRAY, "documents", document([element(DOCUMENT, str(at), document([element(INT32, "_id", int32(number))])) for at, number in ((0, 2), (1, 3))] + [element(DOCUMENT, "2", document([field("a", 4)]))])), element(BOOLEAN, "ordered", b"\0")),
         (),
         """\
 request "insert"
-document 93
+document 108
   "insert" string "c"
-  "documents" array 39
+  "documents" array 54
     "0" document 14
       "_id" int32 2
     "1" document 14
       "_id" int32 3
+    "2" document 12
+      "a" int32 4
   "ordered" boolean false
   "$db" string "test"
 answer
 document 141
-  "n" int32 1
+  "n" int32 2
   "writeErrors" array 104
     "0" document 96
       "index" int32 0
@@ -352,9 +364,9 @@ document 24
         (),
         """\
 request "update"
-document 199
+document 257
   "update" string "c"
-  "updates" array 157
+  "updates" array 215
     "0" document 48
       "q" document 14
         "_id" int32 2
@@ -367,7 +379,14 @@ document 199
         "$inc" document 12
           "a" int32 1
       "multi" boolean true
-    "2" document 48
+    "2" document 55
+      "q" document 12
+        "b" int32 7
+      "u" document 23
+        "$set" document 12
+          "a" int32 0
+      "upsert" boolean true
+    "3" document 48
       "q" document 14
         "_id" int32 3
       "u" document 14
@@ -375,12 +394,16 @@ document 199
       "upsert" boolean false
   "$db" string "test"
 answer
-document 150
-  "n" int32 3
-  "nModified" int32 3
+document 201
+  "n" int32 5
+  "nModified" int32 4
+  "upserted" array 41
+    "0" document 33
+      "index" int32 2
+      "_id" objectid 000000000000000000000004
   "writeErrors" array 98
     "0" document 90
-      "index" int32 2
+      "index" int32 3
       "code" int32 66
       "errmsg" string "an update must not change the immutable field '_id'"
   "ok" double 000000000000f03f
@@ -395,15 +418,22 @@ document 31
   "find" string "c"
   "$db" string "test"
 answer
-document 122
-  "cursor" document 97
-    "firstBatch" array 53
+document 193
+  "cursor" document 168
+    "firstBatch" array 124
       "0" document 21
         "_id" int32 2
         "a" int32 6
       "1" document 21
         "_id" int32 3
         "a" int32 1
+      "2" document 29
+        "_id" objectid 000000000000000000000003
+        "a" int32 5
+      "3" document 36
+        "_id" objectid 000000000000000000000004
+        "b" int32 7
+        "a" int32 0
     "id" int64 0
     "ns" string "test.c"
   "ok" double 000000000000f03f
@@ -420,7 +450,7 @@ document 44
   "$db" string "test"
 answer
 document 24
-  "n" int32 2
+  "n" int32 4
   "ok" double 000000000000f03f
 """,
     ),
@@ -447,7 +477,98 @@ document 98
     "firstBatch" array 29
       "0" document 21
         "_id" int32 1
-        "n" int32 2
+        "n" int32 4
+    "id" int64 0
+    "ns" string "test.c"
+  "ok" double 000000000000f03f
+""",
+    ),
+    (
+        command("update", COLLECTION, element(ARRAY, "updates", UPSERTS), element(BOOLEAN, "ordered", b"\0")),
+        (),
+        """\
+request "update"
+document 323
+  "update" string "c"
+  "updates" array 271
+    "0" document 84
+      "q" document 41
+        "a" document 14
+          "$gt" int32 50
+        "_id" document 14
+          "$eq" int32 9
+      "u" document 23
+        "$inc" document 12
+          "b" int32 1
+      "upsert" boolean true
+    "1" document 64
+      "q" document 32
+        "_id" document 22
+          "$in" array 12
+            "0" int32 10
+      "u" document 12
+        "b" int32 2
+      "upsert" boolean true
+    "2" document 53
+      "q" document 21
+        "_id" int32 9
+        "a" int32 51
+      "u" document 12
+        "b" int32 3
+      "upsert" boolean true
+    "3" document 53
+      "q" document 12
+        "b" int32 52
+      "u" document 21
+        "b" int32 4
+        "_id" int32 8
+      "upsert" boolean true
+  "ordered" boolean false
+  "$db" string "test"
+answer
+document 311
+  "n" int32 2
+  "nModified" int32 0
+  "upserted" array 61
+    "0" document 25
+      "index" int32 0
+      "_id" int32 9
+    "1" document 25
+      "index" int32 3
+      "_id" int32 8
+  "writeErrors" array 188
+    "0" document 100
+      "index" int32 1
+      "code" int32 9
+      "errmsg" string "a filter with $in or a field without a name can't be upserted"
+    "1" document 77
+      "index" int32 2
+      "code" int32 11000
+      "errmsg" string "E11000 duplicate key error index: _id_"
+  "ok" double 000000000000f03f
+""",
+    ),
+    (
+        command("find", COLLECTION, element(DOCUMENT, "filter", document([element(DOCUMENT, "_id", document([field("$gte", 8)]))]))),
+        (),
+        """\
+request "find"
+document 64
+  "find" string "c"
+  "filter" document 25
+    "_id" document 15
+      "$gte" int32 8
+  "$db" string "test"
+answer
+document 122
+  "cursor" document 97
+    "firstBatch" array 53
+      "0" document 21
+        "_id" int32 9
+        "b" int32 1
+      "1" document 21
+        "_id" int32 8
+        "b" int32 4
     "id" int64 0
     "ns" string "test.c"
   "ok" double 000000000000f03f

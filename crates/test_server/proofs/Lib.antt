@@ -16,4 +16,5 @@ pub mod Texts
 pub mod Made
 pub mod NumberLemmas
 pub mod Sums
+pub mod Numbering
 pub mod ParseLemmas

@@ -6,7 +6,7 @@ use Rattle.bson_doc.specs.{value_of}
 use Rattle.test_server.specs.declared.adding.Adding.{Adding}
 use Rattle.test_server.specs.Answers.{write_error}
 use Rattle.test_server.specs.Held.{NamespaceView, namespace_text}
-use Rattle.test_server.specs.Identity.{id_in, is_taken}
+use Rattle.test_server.specs.Identity.{free_number, id_in, identified, is_taken}
 
 -- the documents to add, and the errors of those whose `_id` is taken
 pub record AddingView : Type 0 where
@@ -34,14 +34,15 @@ abbrev pub has_error : List TreeValue → Bool
 has_error [] = false
 has_error (e ∷ es) = true
 
--- the documents from this index on are added one after another; where they are ordered, nothing
--- follows the first error
+-- the documents from this index on are added one after another, with an `_id`; where they are
+-- ordered, nothing follows the first error
 abbrev pub add_each : Bool → NamespaceView → List TreeValue → ℕ → List TreeValue → AddingView
     → AddingView
 add_each ordered n held i [] a = a
 add_each ordered n held i (v ∷ vs) a =
     if ordered && has_error a.errors then a
-    else add_each ordered n held (i + 1) vs (add n held i v a)
+    else add_each ordered n held (i + 1) vs
+    (add n held i (identified (free_number held a.added) v) a)
 
 -- what is added of these documents
 abbrev pub gathered : Bool → NamespaceView → List TreeValue → List TreeValue → AddingView

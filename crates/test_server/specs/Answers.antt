@@ -5,7 +5,7 @@ use Rattle.std.specs.Prelude.{if◌then◌else◌}
 use Rattle.bson_elem.specs.declared.kinds.Kind.TheVariants as kinds
 use Rattle.bson_elem.specs.{boolean_value, no_code, number_value, raw_value, text_value}
 use Rattle.bson_raw.specs.{TreeValue, document_value, leaf_value}
-use Rattle.bson_doc.specs.{array_tree, tree_of}
+use Rattle.bson_doc.specs.{array_tree, put, tree_of}
 use Rattle.test_server.specs.declared.answer.Batch.{Batch}
 use Rattle.test_server.specs.declared.answer.Batch.TheVariants.{First, Next}
 use Rattle.test_server.specs.declared.failure.CommandError.{CommandError}
@@ -108,12 +108,20 @@ errors_pairs (e ∷ es) = (codes "writeErrors", array (e ∷ es)) ∷ ok_alone
 abbrev pub inserted_pairs : ℕ → List TreeValue → List (List ℕ × TreeValue)
 inserted_pairs n errors = (codes "n", count_value n) ∷ errors_pairs errors
 
--- the answer to update: how many documents matched, how many of those became others, and the errors
--- of statements
-abbrev pub updated_pairs : ℕ → ℕ → List TreeValue → List (List ℕ × TreeValue)
-updated_pairs matched modified errors =
-    (codes "n", count_value matched) ∷ (codes "nModified", count_value modified)
-    ∷ errors_pairs errors
+-- the fields with an array of these values at the name, unless there are none
+abbrev pub put_any : List ℕ → List TreeValue → List (List ℕ × TreeValue)
+    → List (List ℕ × TreeValue)
+put_any name [] ps = ps
+put_any name (v ∷ vs) ps = put name (array (v ∷ vs)) ps
+
+-- the answer to update: how many documents matched or were inserted, how many became others, which
+-- statements inserted one, and the errors of others
+abbrev pub updated_pairs : ℕ → ℕ → List TreeValue → List TreeValue → List (List ℕ × TreeValue)
+updated_pairs matched modified upserted errors =
+    put (codes "ok") double_one
+    (put_any (codes "writeErrors") errors
+    (put_any (codes "upserted") upserted
+    ((codes "n", count_value matched) ∷ (codes "nModified", count_value modified) ∷ [])))
 
 abbrev pub dropped_pairs : List ℕ → List (List ℕ × TreeValue)
 dropped_pairs ns = (codes "nIndexesWas", int32 (pos 1)) ∷ (codes "ns", text ns) ∷ ok_alone

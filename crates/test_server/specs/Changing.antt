@@ -12,15 +12,11 @@ use Rattle.test_server.specs.declared.operators.Change.{Change}
 use Rattle.test_server.specs.declared.operators.Change.TheVariants.{Operate, Replace}
 use Rattle.test_server.specs.declared.operators.Operators.{Operators}
 use Rattle.test_server.specs.Errors.{and_then}
+use Rattle.test_server.specs.Identity.{put_each}
 use Rattle.test_server.specs.Increments.{number_of, sum}
 use Rattle.test_server.specs.Owned.{Pairs}
 
 -- ---- operators
-
--- the document with each of these fields set, in order
-abbrev pub put_each : Pairs → Pairs → Pairs
-put_each [] ps = ps
-put_each (f ∷ fs) ps = put_each fs (put f.0 f.1 ps)
 
 -- the document without the fields of these names
 abbrev pub without_each : Pairs → Pairs → Pairs
@@ -56,6 +52,7 @@ id_alone (Some id) = (codes "_id", id) ∷ []
 abbrev pub replaced : Pairs → Pairs → Pairs
 replaced new ps = put_each new (id_alone (value_named (codes "_id") ps))
 
+-- what an update makes of the fields of a document
 abbrev pub changed_fields : Change → Pairs → Result Pairs CommandError
 changed_fields (Replace new) ps = Ok (replaced new ps)
 changed_fields (Operate o) ps = operated o ps

@@ -154,7 +154,7 @@ delete s c =
 
 abbrev pub update_reply : StoreView → NamespaceView → UpdatesView → Reply
 update_reply s n u = record {
-  answer = updated_pairs u.matched u.modified u.errors;
+  answer = updated_pairs u.matched u.modified u.upserted u.errors;
   held = record { collections = with_replaced n u.documents s.collections; cursors = s.cursors };
 }
 

@@ -13,6 +13,7 @@ code_of errors.Conflict = pos 40
 code_of errors.Increment = pos 14
 code_of errors.Overflow = pos 2
 code_of errors.ImmutableId = pos 66
+code_of errors.Duplicate = pos 11000
 code_of _ = pos 9
 
 abbrev pub code_name_of : CommandError → List ℕ
@@ -23,6 +24,7 @@ code_name_of errors.Conflict = codes "ConflictingUpdateOperators"
 code_name_of errors.Increment = codes "TypeMismatch"
 code_name_of errors.Overflow = codes "BadValue"
 code_name_of errors.ImmutableId = codes "ImmutableField"
+code_name_of errors.Duplicate = codes "DuplicateKey"
 code_name_of _ = codes "FailedToParse"
 
 abbrev pub words_of : CommandError → List ℕ
@@ -45,7 +47,8 @@ words_of errors.Deletes = codes "a statement must have a filter 'q' and a 'limit
 words_of errors.Update = codes "the field 'update' must be a string"
 words_of errors.Updates =
     codes "a statement must have a filter 'q', an update 'u', and 'multi' and 'upsert' alone"
-words_of errors.Upsert = codes "the field 'upsert' is not carried out"
+words_of errors.Upsert = codes "a filter with $in or a field without a name can't be upserted"
+words_of errors.Duplicate = codes "E11000 duplicate key error index: _id_"
 words_of errors.Many = codes "multi update is not supported for replacement-style update"
 words_of errors.Modifiers =
     codes "an update must be a document, or have the operators $set, $unset and $inc alone"

@@ -20,6 +20,7 @@ pub mod Adding
 pub mod Increments
 pub mod Operators
 pub mod Changing
+pub mod Upserts
 pub mod Updating
 pub mod Commands
 pub mod Queries

@@ -1,7 +1,8 @@
 -- What the statements of update make of the documents of a namespace (MongoDB manual, Database
 -- Commands: update).
 use Rattle.std.specs.Prelude.{ℕ, ◌+◌, List, [], ◌∷◌, ◌++◌, ◌==◌, Bool, true, false, ◌&&◌, ◌||◌}
-use Rattle.std.specs.Prelude.{Option, Some, Result, Ok, Err, codes, map, if◌then◌else◌}
+use Rattle.std.specs.Prelude.{Option, Some, None, Result, Ok, Err, codes, map, option_map}
+use Rattle.std.specs.Prelude.{if◌then◌else◌}
 use Rattle.bson_elem.specs.declared.kinds.Kind.TheVariants as kinds
 use Rattle.bson_elem.specs.{Tree, no_code}
 use Rattle.bson_raw.specs.{TreeValue, document_value, first_named, names_of}
@@ -14,25 +15,34 @@ use Rattle.test_server.specs.declared.updates.Update.{Update}
 use Rattle.test_server.specs.declared.updates.Outcome.{Outcome}
 use Rattle.test_server.specs.declared.updates.Updates.{Updates}
 use Rattle.test_server.specs.Adding.{has_error}
-use Rattle.test_server.specs.Answers.{write_error}
+use Rattle.test_server.specs.Answers.{count_value, inner, write_error}
 use Rattle.test_server.specs.Changing.{changed}
 use Rattle.test_server.specs.Deleting.{filter_at}
 use Rattle.test_server.specs.Errors.{and_then, code_of, words_of}
 use Rattle.test_server.specs.Fields.{asked_flag}
 use Rattle.test_server.specs.Filters.{compared, matches}
+use Rattle.test_server.specs.Identity.{free_number, id_in, is_taken, with_id}
 use Rattle.test_server.specs.Operators.{change_in}
 use Rattle.test_server.specs.Options.{is_one_of}
 use Rattle.test_server.specs.Owned.{pairs_of}
+use Rattle.test_server.specs.Upserts.{new_fields}
 
 pub record UpdateView : Type 0 where
   pub filter : Tree
   pub change : Change
   -- all documents that match are changed, and not the first alone
   pub is_multi : Bool
+  -- a document is inserted where none matches
+  pub is_upsert : Bool
 
 abbrev pub update_view : Update → UpdateView
 update_view u =
-    record { filter = tree_of u.filter.now; change = u.change; is_multi = u.is_multi }
+    record {
+      filter = tree_of u.filter.now;
+      change = u.change;
+      is_multi = u.is_multi;
+      is_upsert = u.is_upsert;
+    }
 
 -- ---- what a statement asks for
 
@@ -55,12 +65,11 @@ change_at t = change_value (first_named (codes "u") t)
 abbrev pub flag_at : List ℕ → Tree → Result Bool CommandError
 flag_at name t = asked_flag false errors.Updates (first_named name t)
 
--- a document takes the place of one alone, and none is inserted
-abbrev pub if_allowed : Change → Bool → Bool → Result (Unit {0}) CommandError
-if_allowed c multi true = Err errors.Upsert
-if_allowed (Replace d) true false = Err errors.Many
-if_allowed (Replace d) false false = Ok tt
-if_allowed (Operate o) multi false = Ok tt
+-- a document takes the place of one alone
+abbrev pub if_allowed : Change → Bool → Result (Unit {0}) CommandError
+if_allowed (Replace d) true = Err errors.Many
+if_allowed (Replace d) false = Ok tt
+if_allowed (Operate o) multi = Ok tt
 
 abbrev pub update_in : Tree → Result UpdateView CommandError
 update_in t =
@@ -69,8 +78,8 @@ update_in t =
     and_then (change_at t) (λ c.
     and_then (flag_at (codes "multi") t) (λ multi.
     and_then (flag_at (codes "upsert") t) (λ upsert.
-    and_then (if_allowed c multi upsert) (λ _.
-    Ok (record { filter = f; change = c; is_multi = multi }))))))
+    and_then (if_allowed c multi) (λ _.
+    Ok (record { filter = f; change = c; is_multi = multi; is_upsert = upsert }))))))
     else Err errors.Updates
 
 abbrev pub update_of : TreeValue → Result UpdateView CommandError
@@ -84,6 +93,8 @@ pub record OutcomeView : Type 0 where
   pub documents : List TreeValue
   pub matched : ℕ
   pub modified : ℕ
+  -- the `_id` of the document that was inserted
+  pub inserted : Option TreeValue
 
 abbrev pub outcome_view : Outcome → OutcomeView
 outcome_view u =
@@ -91,10 +102,11 @@ outcome_view u =
       documents = map value_of u.documents.items;
       matched = u.matched;
       modified = u.modified;
+      inserted = option_map value_of u.inserted;
     }
 
 abbrev pub nothing_updated : OutcomeView
-nothing_updated = record { documents = []; matched = 0; modified = 0 }
+nothing_updated = record { documents = []; matched = 0; modified = 0; inserted = None }
 
 abbrev pub changed_value : Change → TreeValue → Result TreeValue CommandError
 changed_value c (document_value kinds.Document b t) =
@@ -107,11 +119,17 @@ with_changed old new r = record {
   documents = r.documents ++ new ∷ [];
   matched = r.matched + 1;
   modified = r.modified + (if same coded_value old new then 0 else 1);
+  inserted = r.inserted;
 }
 
 abbrev pub with_kept : TreeValue → OutcomeView → OutcomeView
 with_kept v r =
-    record { documents = r.documents ++ v ∷ []; matched = r.matched; modified = r.modified }
+    record {
+      documents = r.documents ++ v ∷ [];
+      matched = r.matched;
+      modified = r.modified;
+      inserted = r.inserted;
+    }
 
 -- a document that matches is changed, unless one was before and the statement is for one alone
 abbrev pub update_one : UpdateView → TreeValue → OutcomeView → Result OutcomeView CommandError
@@ -124,19 +142,45 @@ abbrev pub updated : UpdateView → List TreeValue → OutcomeView → Result Ou
 updated u [] r = Ok r
 updated u (v ∷ vs) r = and_then (update_one u v r) (λ s. updated u vs s)
 
+-- ---- what it inserts
+
+-- a document is inserted behind others, unless its `_id` is taken
+abbrev pub inserted : TreeValue → List TreeValue → Result OutcomeView CommandError
+inserted v vs =
+    if is_taken (id_in v) vs then Err errors.Duplicate
+    else Ok (record {
+      documents = vs ++ v ∷ [];
+      matched = 1;
+      modified = 0;
+      inserted = id_in v;
+    })
+
+-- what a statement makes of the fields in its filter is inserted, with an `_id`
+abbrev pub inserted_by : UpdateView → List TreeValue → Result OutcomeView CommandError
+inserted_by u vs =
+    and_then (new_fields u.change (pairs_of u.filter)) (λ ps.
+    inserted (inner (with_id (free_number vs []) ps)) vs)
+
+-- a statement of upsert inserts a document where none matches
+abbrev pub carried : UpdateView → List TreeValue → Result OutcomeView CommandError
+carried u vs =
+    and_then (updated u vs nothing_updated) (λ r.
+    if u.is_upsert && (r.matched == 0) then inserted_by u vs else Ok r)
+
 -- what a statement makes of documents, or its error
 abbrev pub updated_by : TreeValue → List TreeValue → Result OutcomeView CommandError
 updated_by v vs =
-    and_then (update_of v) (λ u.
-    and_then (compared u.filter vs) (λ all. updated u all nothing_updated))
+    and_then (update_of v) (λ u. and_then (compared u.filter vs) (λ all. carried u all))
 
 -- ---- all statements
 
 pub record UpdatesView : Type 0 where
   pub documents : List TreeValue
-  -- how many matched, and how many of those became others, added up over the statements
+  -- how many matched or were inserted, and how many became others, added up over the statements
   pub matched : ℕ
   pub modified : ℕ
+  -- the index of each statement that inserted a document, and the `_id` of that
+  pub upserted : List TreeValue
   -- the errors of the statements that weren't carried out
   pub errors : List TreeValue
 
@@ -147,14 +191,23 @@ updates_view u =
       documents = map value_of u.documents.items;
       matched = u.matched;
       modified = u.modified;
+      upserted = map value_of u.upserted.items;
       errors = map value_of u.errors.items;
     }
 
-abbrev pub recorded : OutcomeView → UpdatesView → UpdatesView
-recorded r s = record {
+abbrev pub upserted_pair : ℕ → TreeValue → TreeValue
+upserted_pair i id = inner ((codes "index", count_value i) ∷ (codes "_id", id) ∷ [])
+
+abbrev pub upserted_of : ℕ → Option TreeValue → List TreeValue
+upserted_of i None = []
+upserted_of i (Some id) = upserted_pair i id ∷ []
+
+abbrev pub recorded : ℕ → OutcomeView → UpdatesView → UpdatesView
+recorded i r s = record {
   documents = r.documents;
   matched = s.matched + r.matched;
   modified = s.modified + r.modified;
+  upserted = s.upserted ++ upserted_of i r.inserted;
   errors = s.errors;
 }
 
@@ -164,11 +217,12 @@ refused i e s = record {
   documents = s.documents;
   matched = s.matched;
   modified = s.modified;
+  upserted = s.upserted;
   errors = s.errors ++ write_error i (code_of e) (words_of e) ∷ [];
 }
 
 abbrev pub settled_by : ℕ → Result OutcomeView CommandError → UpdatesView → UpdatesView
-settled_by i (Ok r) s = recorded r s
+settled_by i (Ok r) s = recorded i r s
 settled_by i (Err e) s = refused i e s
 
 abbrev pub update_by : ℕ → TreeValue → UpdatesView → UpdatesView
@@ -186,4 +240,4 @@ update_each ordered i (v ∷ vs) s =
 abbrev pub after_updates : Bool → List TreeValue → List TreeValue → UpdatesView
 after_updates ordered vs documents =
     update_each ordered 0 vs
-    (record { documents = documents; matched = 0; modified = 0; errors = [] })
+    (record { documents = documents; matched = 0; modified = 0; upserted = []; errors = [] })

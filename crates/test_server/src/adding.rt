@@ -9,7 +9,7 @@ ghost use Rattle.test_server.specs.Answers.{inner};
 ghost use Rattle.test_server.specs.Held.{namespace_of, namespace_text};
 
 use crate::answer::write_error;
-use crate::identity::is_taken;
+use crate::identity::{id_in, identified, is_taken};
 use crate::namespace::Namespace;
 use bson_doc::{Bson, Document};
 use std::alloc::{AllocError, Global};
@@ -57,30 +57,31 @@ fn duplicate_error(
     write_error(alloc, index, 11000, words)
 }
 
-/// Adds a copy of a document, unless its `_id` is that of one that is held or was added before.
+/// Adds a document, unless its `_id` is that of one that is held or was added before.
 fn add(
     alloc: Global,
     namespace: Namespace<'_>,
     held: &[Bson],
     index: usize,
-    document: &Bson,
+    document: Bson,
     adding: &mut Adding,
 ) -> Result<(), AllocError>
     requires { index < 2 ^ 63 }
     ensures { OnOk result (adding_of adding.new ≡ add (namespace_of namespace.entry)
-        (map value_of held.now) index (value_of document.now) (adding_of adding.old)) }
+        (map value_of held.now) index (value_of document) (adding_of adding.old)) }
 {
-    if is_taken(document, held) || is_taken(document, &adding.added) {
+    let id = id_in(&document);
+    if is_taken(id, held) || is_taken(id, &adding.added) {
         let error = duplicate_error(alloc, index, namespace)?;
         adding.errors.push(Bson::Document(error))?;
     } else {
-        adding.added.push(document.try_clone()?)?;
+        adding.added.push(document)?;
     }
     Ok(())
 }
 
-/// Collects the documents to add, and the errors of those whose `_id` is taken. Where they are
-/// ordered, nothing follows the first error.
+/// Collects the documents to add, and the errors of those whose `_id` is taken. One without `_id` is
+/// given one that is free. Where they are ordered, nothing follows the first error.
 pub fn gather(
     alloc: Global,
     is_ordered: bool,
@@ -100,6 +101,7 @@ pub fn gather(
         if is_ordered && adding.has_error() {
             return Ok(adding);
         }
+        let document = identified(alloc, document, held, &adding.added)?;
         add(alloc, namespace, held, index, document, &mut adding)?;
     }
     Ok(adding)

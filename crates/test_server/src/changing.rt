@@ -5,28 +5,19 @@ ghost use Rattle.bson_doc.specs.{value_of};
 ghost use Rattle.bson_doc.specs.Document.{value_named};
 ghost use Rattle.test_server.specs.Changing.{added, changed, changed_fields, id_alone};
 ghost use Rattle.test_server.specs.Changing.{increment_each, incremented, keeps_id, operated};
-ghost use Rattle.test_server.specs.Changing.{put_each, replaced, still_has, without_each};
+ghost use Rattle.test_server.specs.Changing.{replaced, still_has, without_each};
 ghost use Rattle.test_server.specs.Errors.{IsFailure};
+ghost use Rattle.test_server.specs.Identity.{put_each};
 ghost use Rattle.test_server.specs.Increments.{number_of};
 
 use crate::answer::set;
 use crate::failure::{CommandError, Failure};
+use crate::identity::put_each;
 use crate::increments::{number_of, sum};
 use crate::operators::{Change, Operators, has_field};
 use crate::owned::is_same;
 use bson_doc::{Bson, Document};
 use std::alloc::{AllocError, Global};
-
-/// Sets each of these fields in a document to a copy of its value, in order.
-fn put_each(alloc: Global, fields: &Document, document: &mut Document) -> Result<(), AllocError>
-    ensures { OnOk result (document.new ≡ put_each fields.now document.old) }
-{
-    for (name, value) in fields {
-        let copy = value.try_clone()?;
-        set(alloc, document, name, copy)?;
-    }
-    Ok(())
-}
 
 /// Removes the fields with these names from a document.
 fn remove_each(fields: &Document, document: &mut Document)
@@ -126,7 +117,15 @@ fn replaced(alloc: Global, new: &Document, document: &Document) -> Result<Docume
 }
 
 /// Returns what an update makes of the fields of a document.
-fn changed_fields(alloc: Global, change: &Change, document: &Document) -> Result<Document, Failure>
+///
+/// # Errors
+///
+/// Returns `Increment` or `Overflow` if a field can't be incremented.
+pub fn changed_fields(
+    alloc: Global,
+    change: &Change,
+    document: &Document,
+) -> Result<Document, Failure>
     ensures ok { IfOk result (λ d. changed_fields change.now document.now ≡ Ok d) }
     ensures refused { IfErr result (λ e. IsFailure (changed_fields change.now document.now) e) }
 {
@@ -140,7 +139,7 @@ fn changed_fields(alloc: Global, change: &Change, document: &Document) -> Result
 }
 
 /// Returns true if the field `name` of a document has this value still.
-fn still_has(document: &Document, name: &str, value: &Bson) -> bool
+pub fn still_has(document: &Document, name: &str, value: &Bson) -> bool
     ensures { result ≡ still_has (value_named name.now document.now) (value_of value.now) }
 {
     match document.get(name) {

@@ -39,8 +39,11 @@ pub enum CommandError {
     Update,
     /// A statement of update isn't one, or has other fields than `q`, `u`, `multi` and `upsert`.
     Updates,
-    /// A statement of update asks to insert a document where none matches.
+    /// A statement of update would insert a document by a filter with a field that isn't carried
+    /// out there.
     Upsert,
+    /// The `_id` of a document that a statement of update would insert is taken.
+    Duplicate,
     /// A statement of update puts a document in the place of many.
     Many,
     /// An update has other operators than `$set`, `$unset` and `$inc`, or fields beside them.
@@ -108,6 +111,7 @@ impl CommandError {
             CommandError::Increment => 14,
             CommandError::Overflow => 2,
             CommandError::ImmutableId => 66,
+            CommandError::Duplicate => 11000,
             _ => 9,
         }
     }
@@ -124,6 +128,7 @@ impl CommandError {
             CommandError::Increment => "TypeMismatch",
             CommandError::Overflow => "BadValue",
             CommandError::ImmutableId => "ImmutableField",
+            CommandError::Duplicate => "DuplicateKey",
             _ => "FailedToParse",
         }
     }
@@ -155,7 +160,8 @@ impl CommandError {
             CommandError::Updates => {
                 "a statement must have a filter 'q', an update 'u', and 'multi' and 'upsert' alone"
             }
-            CommandError::Upsert => "the field 'upsert' is not carried out",
+            CommandError::Upsert => "a filter with $in or a field without a name can't be upserted",
+            CommandError::Duplicate => "E11000 duplicate key error index: _id_",
             CommandError::Many => "multi update is not supported for replacement-style update",
             CommandError::Modifiers => {
                 "an update must be a document, or have the operators $set, $unset and $inc alone"

@@ -22,6 +22,7 @@ mod commands;
 mod comparing;
 mod conditions;
 mod connections;
+mod counts;
 mod deletes;
 mod failure;
 mod fields;
@@ -42,6 +43,7 @@ mod store;
 mod transcript;
 mod uncompared;
 mod updates;
+mod upserts;
 
 ghost use Rattle.std.specs.Prelude.{◌≡◌, map};
 ghost use Rattle.test_server.specs.ExitStatus.{IsStatusFor, IsStatusOf, exit_status};

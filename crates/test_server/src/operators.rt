@@ -48,7 +48,7 @@ fn has_stop(name: &str) -> bool
 
 /// Returns true if an operator can name a field so: if the name isn't empty, begins with no `$`,
 /// and is no path to a field inside another one.
-fn is_plain(name: &str) -> bool
+pub fn is_plain(name: &str) -> bool
     ensures { result ≡ is_plain name.now }
 {
     !(name == "" || is_operator(name) || has_stop(name))

@@ -1,25 +1,32 @@
 //! Applies the statements of update to documents.
 
 ghost use Rattle.std.specs.Prelude.{◌≡◌, ◌<◌, ◌≤◌, ◌+◌, ◌^◌, Err, IfErr, IfOk, MatchResult, Ok};
-ghost use Rattle.std.specs.Prelude.{OnOk, drop, length, map, if◌then◌else◌};
+ghost use Rattle.std.specs.Prelude.{◌++◌, ◌∷◌, [], OnOk, drop, length, map, option_map};
+ghost use Rattle.std.specs.Prelude.{if◌then◌else◌};
 ghost use Rattle.bson_raw.specs.{names_of};
 ghost use Rattle.bson_doc.specs.{coded_value, same, tree_of, value_of};
 ghost use Rattle.test_server.specs.Adding.{has_error};
+ghost use Rattle.test_server.specs.Answers.{inner};
 ghost use Rattle.test_server.specs.Errors.{IsFailure};
-ghost use Rattle.test_server.specs.Updating.{after_updates, are_statement_fields, change_at};
-ghost use Rattle.test_server.specs.Updating.{changed_value, flag_at, if_allowed};
+ghost use Rattle.test_server.specs.Identity.{id_in};
+ghost use Rattle.test_server.specs.Updating.{after_updates, are_statement_fields, carried};
+ghost use Rattle.test_server.specs.Updating.{change_at, changed_value, flag_at, if_allowed};
+ghost use Rattle.test_server.specs.Updating.{inserted, inserted_by, upserted_of, upserted_pair};
 ghost use Rattle.test_server.specs.Updating.{is_statement_field, nothing_updated, recorded};
 ghost use Rattle.test_server.specs.Updating.{refused, update_by, update_in, update_of, update_one};
 ghost use Rattle.test_server.specs.Updating.{update_view, updated, updated_by, outcome_view};
 ghost use Rattle.test_server.specs.Updating.{updates_view, with_changed, with_kept};
 
-use crate::answer::write_error;
+use crate::answer::{count_value, set, write_error};
 use crate::changing::changed;
+use crate::counts::plus;
 use crate::deletes::{copies, filter_at};
 use crate::failure::{CommandError, Failure};
 use crate::filters::{compared, is_match};
+use crate::identity::{id_in, is_taken, with_id};
 use crate::operators::{Change, change_in};
 use crate::owned::{field, is_same};
+use crate::upserts::new_fields;
 use bson_doc::{Bson, Document};
 use std::alloc::{AllocError, Global};
 
@@ -32,6 +39,8 @@ struct Update<'a> {
     change: Change,
     /// Whether all of them are changed, and not the first alone.
     is_multi: bool,
+    /// Whether a document is inserted where none matches.
+    is_upsert: bool,
 }
 
 /// What a statement made of documents so far.
@@ -42,16 +51,20 @@ struct Outcome {
     matched: usize,
     /// How many of those became others.
     modified: usize,
+    /// The `_id` of the document that was inserted.
+    inserted: Option<Bson>,
 }
 
 /// What the statements of a command made of the documents of a namespace so far.
 #[derive(Debug, Drop)]
 pub struct Updates {
     pub documents: Vec<Bson>,
-    /// How many of them matched, added up over the statements.
+    /// How many of them matched or were inserted, added up over the statements.
     pub matched: usize,
     /// How many of those became others.
     pub modified: usize,
+    /// The index of each statement that inserted a document, and the `_id` of that.
+    pub upserted: Vec<Bson>,
     /// The errors of the statements that weren't carried out.
     pub errors: Vec<Bson>,
 }
@@ -113,12 +126,9 @@ fn flag_at(statement: &Document, name: &str) -> Result<bool, CommandError>
 }
 
 /// Returns an error if a statement asks for what isn't carried out.
-fn if_allowed(change: &Change, is_multi: bool, is_upsert: bool) -> Result<(), CommandError>
-    ensures { result ≡ if_allowed change.now is_multi is_upsert }
+fn if_allowed(change: &Change, is_multi: bool) -> Result<(), CommandError>
+    ensures { result ≡ if_allowed change.now is_multi }
 {
-    if is_upsert {
-        return Err(CommandError::Upsert);
-    }
     match change {
         Change::Replace(_) if is_multi => Err(CommandError::Many),
         _ => Ok(()),
@@ -137,11 +147,12 @@ fn update_in(alloc: Global, statement: &Document) -> Result<Update<'_>, Failure>
     let change = change_at(alloc, statement)?;
     let is_multi = flag_at(statement, "multi")?;
     let is_upsert = flag_at(statement, "upsert")?;
-    if_allowed(&change, is_multi, is_upsert)?;
+    if_allowed(&change, is_multi)?;
     Ok(Update {
         filter,
         change,
         is_multi,
+        is_upsert,
     })
 }
 
@@ -175,20 +186,6 @@ fn changed_value(alloc: Global, change: &Change, value: &Bson) -> Result<Bson, F
             let copy = value.try_clone()?;
             Ok(copy)
         }
-    }
-}
-
-/// Returns the sum of two numbers of documents.
-///
-/// # Errors
-///
-/// Returns `AllocError` if it doesn't fit. No memory has room for so many documents.
-fn plus(a: usize, b: usize) -> Result<usize, AllocError>
-    ensures { IfOk result (λ n. n ≡ a + b) }
-{
-    match a.checked_add(b) {
-        Some(sum) => Ok(sum),
-        None => Err(AllocError),
     }
 }
 
@@ -258,9 +255,87 @@ fn updated(alloc: Global, update: &Update<'_>, documents: &[Bson]) -> Result<Out
         documents: Vec::new(alloc),
         matched: 0,
         modified: 0,
+        inserted: None,
     };
     for document in documents {
         update_one(alloc, update, document, &mut outcome)?;
+    }
+    Ok(outcome)
+}
+
+// ---- what it inserts
+
+/// Returns a copy of the `_id` of a value, if it is a document that has one.
+fn copied_id(value: &Bson) -> Result<Option<Bson>, AllocError>
+    ensures { IfOk result (λ id. option_map value_of id ≡ id_in (value_of value.now)) }
+{
+    match id_in(value) {
+        None => Ok(None),
+        Some(id) => {
+            let copy = id.try_clone()?;
+            Ok(Some(copy))
+        }
+    }
+}
+
+/// Returns copies of documents, and another document behind them.
+fn with_last(alloc: Global, documents: &[Bson], last: Bson) -> Result<Vec<Bson>, AllocError>
+    ensures { IfOk result
+        (λ vs. map value_of vs.items ≡ map value_of documents.now ++ value_of last ∷ []) }
+{
+    let mut copies = copies(alloc, documents)?;
+    copies.push(last)?;
+    Ok(copies)
+}
+
+/// Inserts a document behind others.
+///
+/// # Errors
+///
+/// Returns `Duplicate` if its `_id` is taken.
+fn inserted(alloc: Global, document: Bson, documents: &[Bson]) -> Result<Outcome, Failure>
+    ensures ok { IfOk result (λ r.
+        inserted (value_of document) (map value_of documents.now) ≡ Ok (outcome_view r)) }
+    ensures refused { IfErr result (λ e. IsFailure
+        (inserted (value_of document) (map value_of documents.now)) e) }
+{
+    if is_taken(id_in(&document), documents) {
+        return Err(Failure::Refused(CommandError::Duplicate));
+    }
+    let id = copied_id(&document)?;
+    let documents = with_last(alloc, documents, document)?;
+    Ok(Outcome {
+        documents,
+        matched: 1,
+        modified: 0,
+        inserted: id,
+    })
+}
+
+/// Inserts what a statement makes of the values in its filter behind documents.
+#[tactic(auto, using(crate::proofs::Owning::pairs_of_tree))]
+fn inserted_by(alloc: Global, update: &Update<'_>, documents: &[Bson]) -> Result<Outcome, Failure>
+    ensures ok { IfOk result (λ r.
+        inserted_by (update_view update.now) (map value_of documents.now)
+        ≡ Ok (outcome_view r)) }
+    ensures refused { IfErr result (λ e. IsFailure
+        (inserted_by (update_view update.now) (map value_of documents.now)) e) }
+{
+    let fields = new_fields(alloc, &update.change, update.filter)?;
+    let document = with_id(alloc, &fields, documents, &[])?;
+    inserted(alloc, Bson::Document(document), documents)
+}
+
+/// Returns what a statement makes of documents: it inserts one where none matches, if it asks so.
+fn carried(alloc: Global, update: &Update<'_>, documents: &[Bson]) -> Result<Outcome, Failure>
+    ensures ok { IfOk result (λ r.
+        carried (update_view update.now) (map value_of documents.now) ≡ Ok (outcome_view r)) }
+    ensures refused { IfErr result (λ e. IsFailure
+        (carried (update_view update.now) (map value_of documents.now)) e) }
+{
+    let outcome = updated(alloc, update, documents)?;
+    if update.is_upsert && outcome.matched == 0 {
+        return inserted_by(alloc, update, documents);
     }
     Ok(outcome)
 }
@@ -274,16 +349,55 @@ fn updated_by(alloc: Global, statement: &Bson, documents: &[Bson]) -> Result<Out
 {
     let update = update_of(alloc, statement)?;
     compared(update.filter, documents)?;
-    updated(alloc, &update, documents)
+    carried(alloc, &update, documents)
 }
 
 // ---- all statements
 
-/// Records what a statement made of the documents.
-fn record(outcome: Outcome, updates: &mut Updates) -> Result<(), AllocError>
-    ensures { OnOk result (updates_view updates.new
-        ≡ recorded (outcome_view outcome) (updates_view updates.old)) }
+/// Makes what is told of the statement at `index`, which inserted a document with this `_id`.
+fn upserted_pair(alloc: Global, index: usize, id: Bson) -> Result<Document, AllocError>
+    requires { index < 2 ^ 63 }
+    ensures { IfOk result (λ d. inner d ≡ upserted_pair index (value_of id)) }
 {
+    let mut pair = Document::new(alloc);
+    set(alloc, &mut pair, "index", count_value(index))?;
+    set(alloc, &mut pair, "_id", id)?;
+    Ok(pair)
+}
+
+/// Appends what is told of the statement at `index`, if it inserted a document.
+fn push_upserted(
+    alloc: Global,
+    index: usize,
+    inserted: Option<Bson>,
+    upserted: &mut Vec<Bson>,
+) -> Result<(), AllocError>
+    requires { index < 2 ^ 63 }
+    ensures { OnOk result (map value_of upserted.new.items ≡ map value_of upserted.old.items
+        ++ upserted_of index (option_map value_of inserted)) }
+{
+    match inserted {
+        None => Ok(()),
+        Some(id) => {
+            let pair = upserted_pair(alloc, index, id)?;
+            upserted.push(Bson::Document(pair))?;
+            Ok(())
+        }
+    }
+}
+
+/// Records what the statement at `index` made of the documents.
+fn record(
+    alloc: Global,
+    index: usize,
+    outcome: Outcome,
+    updates: &mut Updates,
+) -> Result<(), AllocError>
+    requires { index < 2 ^ 63 }
+    ensures { OnOk result (updates_view updates.new
+        ≡ recorded index (outcome_view outcome) (updates_view updates.old)) }
+{
+    push_upserted(alloc, index, outcome.inserted, &mut updates.upserted)?;
     let matched = plus(updates.matched, outcome.matched)?;
     let modified = plus(updates.modified, outcome.modified)?;
     updates.documents = outcome.documents;
@@ -321,7 +435,7 @@ fn update_by(
         ≡ update_by index (value_of statement.now) (updates_view updates.old)) }
 {
     match updated_by(alloc, statement, updates.documents.as_slice()) {
-        Ok(outcome) => record(outcome, updates),
+        Ok(outcome) => record(alloc, index, outcome, updates),
         Err(Failure::Refused(error)) => refuse(alloc, index, error, updates),
         Err(Failure::OutOfMemory) => Err(AllocError),
     }
@@ -347,6 +461,7 @@ pub fn after_updates(
         documents: copies(alloc, documents)?,
         matched: 0,
         modified: 0,
+        upserted: Vec::new(alloc),
         errors: Vec::new(alloc),
     };
     for (index, statement) in statements.iter().enumerate() {

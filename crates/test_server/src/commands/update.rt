@@ -1,9 +1,9 @@
 //! Carries out the command update.
 
-ghost use Rattle.std.specs.Prelude.{◌≡◌, ◌∷◌, [], IfOk, OnErr, codes, map};
+ghost use Rattle.std.specs.Prelude.{◌≡◌, ◌∷◌, [], IfOk, OnErr, OnOk, codes, map};
 ghost use Rattle.bson_doc.specs.{value_of};
 ghost use Rattle.wire_msg.specs.{Carries, Content};
-ghost use Rattle.test_server.specs.Answers.{array, count_value, ok_alone, updated_pairs};
+ghost use Rattle.test_server.specs.Answers.{count_value, put_any, updated_pairs};
 ghost use Rattle.test_server.specs.Commands.{IsCarriedOut, update};
 ghost use Rattle.test_server.specs.Held.{store_of};
 
@@ -35,8 +35,8 @@ fn counted(count: usize) -> Result<Bson, AllocError>
     }
 }
 
-/// Makes the beginning of the answer: how many documents matched, and how many of those became
-/// others.
+/// Makes the beginning of the answer: how many documents matched or were inserted, and how many
+/// became others.
 fn counts(alloc: Global, matched: usize, modified: usize) -> Result<Document, AllocError>
     ensures { IfOk result (λ d. d
         ≡ (codes "n", count_value matched) ∷ (codes "nModified", count_value modified) ∷ []) }
@@ -49,45 +49,43 @@ fn counts(alloc: Global, matched: usize, modified: usize) -> Result<Document, Al
     Ok(answer)
 }
 
-/// Makes the answer where some statements weren't carried out.
-fn failed_answer(
+/// Sets a field in the answer to an array of these values, unless there are none.
+fn set_any(
     alloc: Global,
-    matched: usize,
-    modified: usize,
-    errors: Vec<Bson>,
-) -> Result<Document, AllocError>
-    ensures { IfOk result (λ d. d
-        ≡ (codes "n", count_value matched) ∷ (codes "nModified", count_value modified)
-        ∷ (codes "writeErrors", array (map value_of errors.items)) ∷ ok_alone) }
+    answer: &mut Document,
+    name: &str,
+    values: Vec<Bson>,
+) -> Result<(), AllocError>
+    ensures { OnOk result (answer.new ≡ put_any name.now (map value_of values.items) answer.old) }
 {
-    let mut answer = counts(alloc, matched, modified)?;
-    let errors = Array::from_vec(errors);
-    set(alloc, &mut answer, "writeErrors", Bson::Array(errors))?;
-    set_ok(alloc, &mut answer)?;
-    Ok(answer)
+    if values.is_empty() {
+        return Ok(());
+    }
+    let values = Array::from_vec(values);
+    set(alloc, answer, name, Bson::Array(values))
 }
 
-/// Makes the answer: how many documents matched, how many of those became others, and why some
-/// statements weren't carried out.
+/// Makes the answer: how many documents matched or were inserted, how many became others, which
+/// statements inserted one, and why others weren't carried out.
 fn updated_answer(
     alloc: Global,
     matched: usize,
     modified: usize,
+    upserted: Vec<Bson>,
     errors: Vec<Bson>,
 ) -> Result<Document, AllocError>
-    ensures { IfOk result (λ d. d ≡ updated_pairs matched modified (map value_of errors.items)) }
+    ensures { IfOk result (λ d. d ≡ updated_pairs matched modified
+        (map value_of upserted.items) (map value_of errors.items)) }
 {
-    if !errors.is_empty() {
-        let answer = failed_answer(alloc, matched, modified, errors)?;
-        return Ok(answer);
-    }
     let mut answer = counts(alloc, matched, modified)?;
+    set_any(alloc, &mut answer, "upserted", upserted)?;
+    set_any(alloc, &mut answer, "writeErrors", errors)?;
     set_ok(alloc, &mut answer)?;
     Ok(answer)
 }
 
-/// Changes documents, by the statements of the array `updates` in the body, or of the sequences
-/// with the identifier `updates`.
+/// Changes documents, or inserts some, by the statements of the array `updates` in the body, or of
+/// the sequences with the identifier `updates`.
 pub fn update(alloc: Global, store: &mut Store, payload: Payload<'_>) -> Result<Document, Failure>
     ensures carried { (c : Content) → Carries payload.entry c
         → IsCarriedOut (update (store_of store.old) c) (store_of store.old) result
@@ -104,9 +102,10 @@ pub fn update(alloc: Global, store: &mut Store, payload: Payload<'_>) -> Result<
         documents,
         matched,
         modified,
+        upserted,
         errors,
     } = after_updates(alloc, is_ordered, statements.as_slice(), held)?;
-    let answer = updated_answer(alloc, matched, modified, errors)?;
+    let answer = updated_answer(alloc, matched, modified, upserted, errors)?;
     store.put_documents(namespace, documents)?;
     Ok(answer)
 }

@@ -1,9 +1,10 @@
 use Rattle.std.proofs.Common.{◌≡◌, drop, map}
+use Rattle.std.specs.Prelude.{option_map}
 use Rattle.bson_doc.specs.Bson.{value_of}
-use Rattle.test_server.specs.Identity.{id_in, is_taken}
+use Rattle.test_server.specs.Identity.{is_taken}
 use Rattle.test_server.proofs.identity.is_taken.Given as goal
 
 abbrev pub invariant-loop-document : goal.invariant-loop-document
 invariant-loop-document l =
-    is_taken (id_in (value_of l.value)) (map value_of (drop l.document-index l.documents))
-    ≡ is_taken (id_in (value_of l.value)) (map value_of l.documents)
+    is_taken (option_map (λ v. value_of v.now) l.id) (map value_of (drop l.document-index l.documents))
+    ≡ is_taken (option_map (λ v. value_of v.now) l.id) (map value_of l.documents)
