@@ -1,4 +1,4 @@
--- What `clap` finds no fault in names a choice.
+-- What `clap` finds no fault in names a choice, but for a `--relaxed` that wants `--json`.
 use Rattle.std.proofs.Common.{◌≡◌, ◌∙◌, ℕ, refl, ap, sym, subst, Bool, true, false, not, ◌&&◌, ◌||◌, List, [], ◌∷◌, Option, Some, None, is_some, option_map, codes, true≢false, inl, inr}
 use Rattle.std.specs.Prelude.{⊤, IfSome, if◌then◌else◌, find, fold}
 use Rattle.std.specs.Option.{option_map_or}
@@ -22,7 +22,7 @@ use Rattle.engines.specs.declared.json.Layout.{Layout}
 use Rattle.engines.specs.declared.json.Layout.TheVariants.{Lines, Array}
 use Rattle.engines.specs.declared.msg.MessageForm.{MessageForm}
 use Rattle.engines.specs.declared.msg.MessageForm.TheVariants.{Text as in_text, Json as in_json}
-use Rattle.bsonwire.specs.Choices.{HoldsHex, IsCommand, NamesChoice, HoldsFlag, is_array, is_json, is_relaxed}
+use Rattle.bsonwire.specs.Choices.{HoldsHex, HoldsMessageForm, IsCommand, MayChoose, HoldsFlag, is_array, is_relaxed, was_given}
 use Rattle.bsonwire.proofs.LeafLemmas.{IsUnfaulted, bytes_leaf_names, json_leaf_names, leaf, loop_leaf_names, msg_leaf_names, text_leaf_names}
 use Rattle.bsonwire.proofs.RowLemmas.{Each, find_holds, no_kind, or_nil}
 
@@ -114,13 +114,13 @@ module _ (s : Shape) (names : Names) (helps : s.disable_help_subcommand ≡ fals
 
 -- ---- the whole command line
 
--- where the subcommand answers to the word and has no fault, it names a choice
+-- where the subcommand answers to the word and has no fault, it names a choice, or wants `--json`
 abbrev Chooses : Text → List Text → Shape → Type 0
-Chooses word words s = IsUnfaulted s words → NamesChoice (Some (rows_at s words))
+Chooses word words s = IsUnfaulted s words → MayChoose (Some (rows_at s words))
 
 bytes_leaf_chooses : (command : Bool → Command) (name word : Text) (words : List Text)
     → ((hex : Bool) (rows : List Row) → HoldsHex hex rows → IsCommand (command hex) name rows) → Chooses word words (leaf (file_app name bytes_flags))
-bytes_leaf_chooses command name word words is none =
+bytes_leaf_chooses command name word words is none = λ _.
     let held = bytes_leaf_names name words none in
     let hex = held.1.1.0 in
     inl ((command hex.0, is hex.0 (rows_at (leaf (file_app name bytes_flags)) words).1 hex.1), held.0, held.1.0)
@@ -134,7 +134,7 @@ layout_by false = (Lines, refl)
 layout_by true = (Array, refl)
 
 json_leaf_chooses : (word : Text) (words : List Text) → Chooses word words (leaf json_app)
-json_leaf_chooses word words none =
+json_leaf_chooses word words none = λ _.
     let held = json_leaf_names words none in
     let rows = (rows_at (leaf json_app) words).1 in
     let hex = held.1.1.0 in
@@ -146,31 +146,42 @@ json_leaf_chooses word words none =
     let in_layout = subst (λ (b : Bool). HoldsFlag (codes "array") b rows) layout.1 array.1 in
     inl ((Json hex.0 mode.0 layout.0, (refl, hex.1, (in_mode, in_layout))), held.0, held.1.0)
 
-form_by : (json : Bool) → (form : MessageForm) × (json ≡ is_json form)
-form_by false = (in_text, refl)
-form_by true = (in_json, refl)
+-- the flags of `msg` make a form, but for a `--relaxed` that wants `--json`
+form_by : (json relaxed : Bool) (rows : List Row) → HoldsFlag (codes "json") json rows → HoldsFlag (codes "relaxed") relaxed rows
+    → (was_given (codes "relaxed") rows && not (was_given (codes "json") rows)) ≡ false → (form : MessageForm) × HoldsMessageForm form rows
+form_by false false rows is is' whole = (in_text, (is, is'))
+form_by true relaxed rows is is' whole =
+    let mode = mode_by relaxed in
+    (in_json mode.0, (is, subst (λ (b : Bool). HoldsFlag (codes "relaxed") b rows) mode.1 is'))
+form_by false true rows is is' whole =
+    let wanted : (was_given (codes "relaxed") rows && not (was_given (codes "json") rows)) ≡ true =
+    ap (λ (o : Option Text). read o && not (was_given (codes "json") rows)) is' ∙ ap (λ (o : Option Text). not (read o)) is in
+    absurd (true≢false (sym wanted ∙ whole))
+  where
+    read : Option Text → Bool
+    read o = option_map_or (λ text. bytes_eq text (codes "true")) o false
 
 msg_leaf_chooses : (word : Text) (words : List Text) → Chooses word words (leaf msg_app)
-msg_leaf_chooses word words none =
+msg_leaf_chooses word words none = λ whole.
     let held = msg_leaf_names words none in
     let rows = (rows_at (leaf msg_app) words).1 in
     let hex = held.1.1.0 in
     let json = held.1.1.1.0 in
-    let form = form_by json.0 in
-    let in_form = subst (λ (b : Bool). HoldsFlag (codes "json") b rows) form.1 json.1 in
-    inl ((Msg hex.0 form.0, (refl, hex.1, in_form)), held.0, held.1.0)
+    let relaxed = held.1.1.1.1.0 in
+    let form = form_by json.0 relaxed.0 rows json.1 relaxed.1 whole in
+    inl ((Msg hex.0 form.0, (refl, hex.1, form.1)), held.0, held.1.0)
 
 text_leaf_chooses : (command : Command) (name word : Text) (words : List Text) → ((rows : List Row) → IsCommand command name rows) → Chooses word words (leaf (file_app name text_flags))
-text_leaf_chooses command name word words is none =
+text_leaf_chooses command name word words is none = λ _.
     let held = text_leaf_names name words none in
     inl ((command, is (rows_at (leaf (file_app name text_flags)) words).1), held.0, held.1.0)
 
 loop_leaf_chooses : (word : Text) (words : List Text) → Chooses word words (leaf loop_app)
-loop_leaf_chooses word words none = inr (refl, loop_leaf_names words none)
+loop_leaf_chooses word words none = λ _. inr (refl, loop_leaf_names words none)
 
 entered_chooses : (o : Option Shape) (word : Text) (words : List Text) → IfSome o (Chooses word words)
     → option_map_or (λ s. level_fault s [] nothing_held words false []) o [] ≡ [] → is_some (option_map (λ s. rows_at s words) o) ≡ true
-    → NamesChoice (option_map (λ s. rows_at s words) o)
+    → MayChoose (option_map (λ s. rows_at s words) o)
 entered_chooses None word words chooses none some = absurd (true≢false (sym some))
 entered_chooses (Some s) word words chooses none some = chooses none
 
@@ -209,7 +220,7 @@ subs_choose word words differs = (
 )
 
 stop_chooses : (stop : Option (Text × List Text)) → IsNoHelp stop → entered_fault (built command_line) stop ≡ [] → is_some (entered (built command_line) stop) ≡ true
-    → NamesChoice (entered (built command_line) stop)
+    → MayChoose (entered (built command_line) stop)
 stop_chooses None differs none some = absurd (true≢false (sym some))
 stop_chooses (Some p) differs none some =
     entered_chooses (find (λ s. answers_to p.0 (label_of s)) (built command_line).subs) p.0 p.1
@@ -226,8 +237,8 @@ wants_subcommand s rows false is none =
     absurd (misses (s.arg_required_else_help && not (list_any (λ r. explicit_source r.source) rows)) s.subcommand_required
     (not (s.subcommand_negates_reqs && false) && list_any (λ a. a.required && not (is_given a.id rows)) s.rules) is none)
 
-pub unfaulted_names_choice : (words : List Text) → fault_of command_line words ≡ [] → NamesChoice (subcommand_of command_line words)
-unfaulted_names_choice words none =
+pub unfaulted_may_choose : (words : List Text) → fault_of command_line words ≡ [] → MayChoose (subcommand_of command_line words)
+unfaulted_may_choose words none =
     let a = built command_line in
     let args = argument_words command_line words in
     let end = walk a.top.rules (names_of a) nothing_held args in

@@ -191,7 +191,13 @@ pub bytes_leaf_keeps : Each KeepsUse (leaf_rules (operand_rule (codes "file") �
 bytes_leaf_keeps = (file_keeps, (flag_keeps (codes "quiet") refl, (flag_keeps (codes "hex") refl, (help_keeps, tt))))
 
 pub msg_leaf_keeps : Each KeepsUse (leaf_rules (operand_rule (codes "file") ∷ map flag_rule msg_flags))
-msg_leaf_keeps = (file_keeps, (flag_keeps (codes "quiet") refl, (flag_keeps (codes "hex") refl, (flag_keeps (codes "json") refl, (help_keeps, tt)))))
+msg_leaf_keeps = (
+  file_keeps,
+  (
+    flag_keeps (codes "quiet") refl,
+    (flag_keeps (codes "hex") refl, (flag_keeps (codes "json") refl, (flag_keeps (codes "relaxed") refl, (help_keeps, tt)))),
+  ),
+)
 
 pub json_leaf_keeps : Each KeepsUse (leaf_rules (operand_rule (codes "file") ∷ map flag_rule json_flags))
 json_leaf_keeps = (

@@ -1,8 +1,12 @@
 -- What a choice takes from the matches that `clap` makes of the words, and what it asks for.
 use Rattle.std.specs.Prelude.{◌≡◌, ◌⊎◌, ◌≤◌, ℕ, List, Bool, true, false, Option, Some, None}
-use Rattle.std.specs.Prelude.{is_some, codes, if◌then◌else◌}
+use Rattle.std.specs.Prelude.{[], ◌∷◌, ◌&&◌, not, is_some, codes, if◌then◌else◌}
+use Rattle.std.specs.Option.{option_map_or}
+use Rattle.std.specs.Str.{bytes_eq}
 use Rattle.std.specs.Str.Parse.{IsNumeral, digits_value, without_leading_plus}
-use Rattle.clap.specs.Words.{Row, Text, first_of, one_of, subcommand_of}
+use Rattle.clap.specs.Kinds.{or_else}
+use Rattle.clap.specs.Words.{Kinds, Row, Text, fault_of, first_of, one_of, subcommand_of}
+use Rattle.clap.specs.declared.error.kind.ErrorKind.TheVariants as kind
 use Rattle.bsonwire.specs.declared.choice.Choice.{Choice}
 use Rattle.bsonwire.specs.declared.choice.Choice.TheVariants.{Loop, Over}
 use Rattle.bsonwire.specs.declared.choice.Command.{Command}
@@ -46,16 +50,18 @@ abbrev pub is_array : Layout → Bool
 is_array Lines = false
 is_array Array = true
 
--- `--json`
-abbrev pub is_json : MessageForm → Bool
-is_json in_text = false
-is_json in_json = true
-
 -- they hold the flags of `json`
 abbrev pub HoldsForm : Mode → Layout → List Row → Type 0
 HoldsForm mode layout rows =
     HoldsFlag (codes "relaxed") (is_relaxed mode) rows
     × HoldsFlag (codes "array") (is_array layout) rows
+
+-- they hold the flags of `msg`: `--json`, and with it maybe `--relaxed`
+abbrev pub HoldsMessageForm : MessageForm → List Row → Type 0
+HoldsMessageForm in_text rows =
+    HoldsFlag (codes "json") false rows × HoldsFlag (codes "relaxed") false rows
+HoldsMessageForm (in_json mode) rows =
+    HoldsFlag (codes "json") true rows × HoldsFlag (codes "relaxed") (is_relaxed mode) rows
 
 -- the text is this number in decimal digits, maybe after a plus
 abbrev pub IsNumber : ℕ → Text → Type 0
@@ -81,7 +87,7 @@ IsCommand (Json hex mode layout) name rows =
     (name ≡ codes "json") × HoldsHex hex rows × HoldsForm mode layout rows
 IsCommand Bson name rows = name ≡ codes "bson"
 IsCommand (Msg hex form) name rows =
-    (name ≡ codes "msg") × HoldsHex hex rows × HoldsFlag (codes "json") (is_json form) rows
+    (name ≡ codes "msg") × HoldsHex hex rows × HoldsMessageForm form rows
 IsCommand Play name rows = name ≡ codes "play"
 
 -- the choice is the subcommand with this name, and has what its matches hold
@@ -98,6 +104,28 @@ IsMetSubcommand c (Some met) = IsSubcommand c met.0 met.1
 -- the choice is what the command line makes of the words
 abbrev pub IsChosen : Choice → List Text → Type 0
 IsChosen c words = IsMetSubcommand c (subcommand_of command_line words)
+
+-- ---- the faults of words
+
+-- whether they hold the flag of this name, which was given
+abbrev pub was_given : Text → List Row → Bool
+was_given name rows = option_map_or (λ text. bytes_eq text (codes "true")) (one_of name rows) false
+
+-- whether the subcommand is `msg` with `--relaxed` and without `--json`
+abbrev pub lacks_json : Option (Text × List Row) → Bool
+lacks_json None = false
+lacks_json (Some met) =
+    bytes_eq met.0 (codes "msg")
+    && (was_given (codes "relaxed") met.1 && not (was_given (codes "json") met.1))
+
+-- the fault of flags that don't go together
+abbrev pub flags_fault : Option (Text × List Row) → Kinds
+flags_fault met = if lacks_json met then kind.MissingRequiredArgument ∷ [] else []
+
+-- the kinds of the faults of words: those that `clap` finds, or else that of their flags
+abbrev pub words_fault : List Text → Kinds
+words_fault words =
+    or_else (fault_of command_line words) (flags_fault (subcommand_of command_line words))
 
 -- ---- that there is a choice
 
@@ -128,6 +156,10 @@ NamesSubcommand name rows =
 abbrev pub NamesChoice : Option (Text × List Row) → Type 0
 NamesChoice None = ⊥
 NamesChoice (Some met) = NamesSubcommand met.0 met.1
+
+-- there is a subcommand, and its matches make a choice unless it is `msg` and lacks `--json`
+abbrev pub MayChoose : Option (Text × List Row) → Type 0
+MayChoose met = lacks_json met ≡ false → NamesChoice met
 
 -- ---- what a choice asks for
 

@@ -33,7 +33,7 @@ bytes_flags = codes "quiet" ∷ codes "hex" ∷ []
 
 -- the flags of the one that reads messages
 abbrev pub msg_flags : List Text
-msg_flags = codes "quiet" ∷ codes "hex" ∷ codes "json" ∷ []
+msg_flags = codes "quiet" ∷ codes "hex" ∷ codes "json" ∷ codes "relaxed" ∷ []
 
 -- the flags of the one that writes Extended JSON
 abbrev pub json_flags : List Text

@@ -1,6 +1,6 @@
 -- The exit status of a run's end, and of the words of a command line.
 use Rattle.std.specs.Prelude.{◌≡◌, ◌≢◌, ◌⊎◌, ◌==◌, ◌||◌, ℕ, Bool, List, []}
-use Rattle.clap.specs.Words.{IsAmong, Kinds, Text, fault_of}
+use Rattle.clap.specs.Words.{IsAmong, Kinds, Text}
 use Rattle.clap.specs.declared.error.kind.ErrorKind.{ErrorKind}
 use Rattle.clap.specs.declared.error.kind.ErrorKind.TheVariants as kind
 use Rattle.command_words.specs.{words_status}
@@ -9,8 +9,7 @@ use Rattle.engines.specs.declared.run.RunEnd.TheVariants.{Good, Fault, Unread, I
 use Rattle.engines.specs.declared.run.RunEnd.TheVariants.{Memory}
 use Rattle.bsonwire.specs.declared.choice.Choice.{Choice}
 use Rattle.bsonwire.specs.declared.choice.Choice.TheVariants.{Loop, Over}
-use Rattle.bsonwire.specs.Choices.{IsChosen}
-use Rattle.bsonwire.specs.CommandLine.{command_line}
+use Rattle.bsonwire.specs.Choices.{IsChosen, words_fault}
 
 -- the exit status of each end; 2 means a fault in the command line
 abbrev pub exit_status : RunEnd → ℕ
@@ -43,7 +42,7 @@ MayRefuse k faults = (k ≡ kind.OutOfMemory) ⊎ IsAmong k faults
 -- otherwise that of the fault, by whether its text could be printed.
 abbrev pub IsStatusOf : List Text → ℕ → Type 0
 IsStatusOf words status =
-    ((choice : Choice) × IsChosen choice words × (fault_of command_line words ≡ [])
+    ((choice : Choice) × IsChosen choice words × (words_fault words ≡ [])
     × IsStatusFor choice status)
-    ⊎ ((k : ErrorKind) × (printed : Bool) × MayRefuse k (fault_of command_line words)
+    ⊎ ((k : ErrorKind) × (printed : Bool) × MayRefuse k (words_fault words)
     × (status ≡ words_status k printed))

@@ -1,16 +1,17 @@
 //! Finds out what the words of the command line ask for.
 
-ghost use Rattle.std.specs.Prelude.{◌≡◌, IfOk, IsErrAnd, IsOkAnd, MatchResult, Some, is_some, map};
+ghost use Rattle.std.specs.Prelude.{◌≡◌, IfErr, IfOk, IsErrAnd, Some, is_some, map};
 ghost use Rattle.std.specs.Prelude.{true, Bool, codes};
-ghost use Rattle.clap.specs.Words.{FailsBy, fault_of, first_of, found_of, rows_of};
+ghost use Rattle.clap.specs.Words.{FailsBy, first_of, found_of, rows_of};
 ghost use Rattle.clap.specs.Words.{subcommand_rows_of};
-ghost use Rattle.bsonwire.specs.CommandLine.{command_line};
 ghost use Rattle.bsonwire.specs.Choices.{HasCalls, HasFile, HasQuiet, HoldsCalls, HoldsFlag};
-ghost use Rattle.bsonwire.specs.Choices.{HoldsForm, IsChosen, IsCommand, IsMetSubcommand};
-ghost use Rattle.bsonwire.specs.Choices.{IsSubcommand, NamesChoice, NamesCommand};
-ghost use Rattle.bsonwire.specs.Choices.{is_array, is_json, is_relaxed};
+ghost use Rattle.bsonwire.specs.Choices.{HoldsForm, HoldsMessageForm, IsChosen, IsCommand};
+ghost use Rattle.bsonwire.specs.Choices.{IsMetSubcommand, IsSubcommand, MayChoose, NamesChoice};
+ghost use Rattle.bsonwire.specs.Choices.{NamesCommand};
+ghost use Rattle.bsonwire.specs.Choices.{flags_fault, is_array, is_relaxed, lacks_json, was_given};
+ghost use Rattle.bsonwire.specs.Choices.{words_fault};
 
-use crate::command_line::program;
+use crate::command_line::{json_wanted, program};
 use clap::{ArgMatches, Error};
 use engines::{Layout, MessageForm, Mode};
 use std::alloc::Global;
@@ -111,11 +112,11 @@ fn layout_of(matches: &ArgMatches<'_>) -> Layout
 
 /// Returns how messages are written.
 fn form_of(matches: &ArgMatches<'_>) -> MessageForm
-    requires { (given : Bool) × HoldsFlag (codes "json") given (rows_of (found_of matches.now)) }
-    ensures { HoldsFlag (codes "json") (is_json result) (rows_of (found_of matches.now)) }
+    requires { (form : MessageForm) × HoldsMessageForm form (rows_of (found_of matches.now)) }
+    ensures { HoldsMessageForm result (rows_of (found_of matches.now)) }
 {
     if flag_of(matches, "json") {
-        MessageForm::Json
+        MessageForm::Json(mode_of(matches))
     } else {
         MessageForm::Text
     }
@@ -189,14 +190,41 @@ fn choice_of<'a>(matches: &ArgMatches<'a>) -> Choice<'a>
     }
 }
 
-/// Returns the choice that the matches of a parse name, or the error of the parse.
-fn chosen(parse: Result<ArgMatches<'_>, Error>) -> Result<Choice<'_>, Error>
-    requires { IfOk parse (λ m. NamesChoice (subcommand_rows_of m)) }
-    ensures { MatchResult parse.entry
-        (λ m. IsOkAnd result (λ c. IsMetSubcommand c (subcommand_rows_of m)))
-        (λ e. IsErrAnd result (λ r. r ≡ e)) }
+/// Returns true if the matches hold the flag of this name, which was given.
+fn is_given(matches: &ArgMatches<'_>, name: &str) -> bool
+    ensures { result ≡ was_given name.now (rows_of (found_of matches.now)) }
+{
+    match matches.get_one::<bool>(name) {
+        Some(given) => given,
+        None => false,
+    }
+}
+
+/// Returns true if `msg` has `--relaxed` without `--json`.
+fn is_json_wanted(matches: &ArgMatches<'_>) -> bool
+    ensures { result ≡ lacks_json (subcommand_rows_of matches.now) }
+{
+    match matches.subcommand() {
+        Some((name, inner)) => {
+            name == "msg" && is_given(inner, "relaxed") && !is_given(inner, "json")
+        }
+        None => false,
+    }
+}
+
+/// Returns the choice that the matches of a parse name, the error of the parse, or that of a
+/// `--relaxed` that wants `--json`.
+fn chosen<'a>(alloc: Global, parse: Result<ArgMatches<'a>, Error>) -> Result<Choice<'a>, Error>
+    requires { IfOk parse (λ m. MayChoose (subcommand_rows_of m)) }
+    ensures met { IfOk parse.entry
+        (λ m. IfOk result (λ c. IsMetSubcommand c (subcommand_rows_of m))) }
+    ensures kinds { IfOk parse.entry (λ m. FailsBy (flags_fault (subcommand_rows_of m)) result) }
+    ensures error { IfErr parse.entry (λ e. IsErrAnd result (λ r. r ≡ e)) }
 {
     let matches = parse?;
+    if is_json_wanted(&matches) {
+        return Err(json_wanted(alloc)?);
+    }
     Ok(choice_of(&matches))
 }
 
@@ -205,11 +233,12 @@ fn chosen(parse: Result<ArgMatches<'_>, Error>) -> Result<Choice<'_>, Error>
 /// # Errors
 ///
 /// Returns `clap`'s own error: a fault in the words, a request for help or the version, or out of
-/// memory. The words that `clap` accepts always name a choice.
+/// memory. The words that `clap` accepts always name a choice, but for those of `msg` with
+/// `--relaxed` and without `--json`, which are at fault too.
 pub fn choose<'a>(alloc: Global, words: &'a [&'a str]) -> Result<Choice<'a>, Error>
     ensures chosen { IfOk result (λ c. IsChosen c (map (λ w. w.now) words.now)) }
-    ensures kinds { FailsBy (fault_of command_line (map (λ w. w.now) words.now)) result }
+    ensures kinds { FailsBy (words_fault (map (λ w. w.now) words.now)) result }
 {
     let command = program(alloc)?;
-    chosen(command.try_get_matches_from(words))
+    chosen(alloc, command.try_get_matches_from(words))
 }

@@ -1,13 +1,14 @@
 //! Describes the command line to `clap`: the subcommands, their operands and their flags.
 ghost use Rattle.std.specs.Prelude.{◌≡◌, IfOk, codes, false};
-ghost use Rattle.clap.specs.Words.{app_of, rule_of, with_subcommand};
+ghost use Rattle.clap.specs.Words.{app_of, kind_of, rule_of, with_subcommand};
 ghost use Rattle.clap.specs.declared.builder.command.Command.TheViews.{out-Command};
 ghost use Rattle.bsonwire.specs.CommandLine.{bytes_flags, calls_rule, command_line, file_app};
 ghost use Rattle.bsonwire.specs.CommandLine.{bson_app, file_line, flag_rule, json_app, json_line};
 ghost use Rattle.bsonwire.specs.CommandLine.{loop_app, msg_app, operand_rule, play_app, text_flags};
 ghost use Rattle.bsonwire.specs.CommandLine.{top_app};
 
-use clap::{Arg, ArgAction, Command, value_parser};
+use clap::error::ErrorKind;
+use clap::{Arg, ArgAction, Command, Error, value_parser};
 use command_words::VERSION;
 use std::alloc::{AllocError, Global};
 
@@ -79,11 +80,21 @@ fn msg_command<'a>(alloc: Global) -> Result<Command<'a>, AllocError>
     ensures app { IfOk result (λ c. app_of c ≡ msg_app) }
     ensures local { IfOk result (λ c. (out-Command c).has_globals ≡ false) }
 {
-    file_command(alloc, "msg", "Writes the text of each message")?.arg(flag(
-        alloc,
-        "json",
-        "Write each message as a JSON object, one a line",
-    ))
+    let json = "Write each message as a JSON object, one a line";
+    let relaxed = "With --json, write relaxed Extended JSON";
+    file_command(alloc, "msg", "Writes the text of each message")?
+        .arg(flag(alloc, "json", json))?
+        .arg(flag(alloc, "relaxed", relaxed))
+}
+
+/// Makes the error of a `--relaxed` of `msg` without `--json`, in the form of `clap`'s own.
+pub fn json_wanted(alloc: Global) -> Result<Error, AllocError>
+    ensures { IfOk result (λ e. kind_of e ≡ ErrorKind.MissingRequiredArgument) }
+{
+    let wanted = "the following required arguments were not provided:\n  --json";
+    msg_command(alloc)?
+        .bin_name("bsonwire msg")?
+        .error(ErrorKind::MissingRequiredArgument, wanted)
 }
 
 /// Makes the subcommand that writes Extended JSON.

@@ -1,7 +1,6 @@
 -- What `msg` writes for messages back to back.
 use Rattle.std.specs.Prelude.{◌≡◌, ◌⊎◌, ℕ, ◌+◌, List, [], ◌∷◌, ◌++◌, codes, Bool, Option, None}
 use Rattle.std.specs.Prelude.{Some}
-use Rattle.bson_json.specs.declared.mode.Mode.TheVariants.{Canonical}
 use Rattle.wire_msg.specs.declared.fault.MsgFault.{MsgFault}
 use Rattle.wire_msg.specs.{IsBad, IsOpen, Message, Split, message_len}
 use Rattle.wire_text.specs.{IsMessageJson, message_text}
@@ -14,8 +13,8 @@ use Rattle.engines.specs.InputFault.{msg_line, ended_inside_line}
 -- several where the message holds doubles
 abbrev pub MayBeMessage : MessageForm → Message → List ℕ → Type 0
 MayBeMessage Text m text = text ≡ message_text m
-MayBeMessage Json m text =
-    (json : List ℕ) × IsMessageJson Canonical m json × (text ≡ json ++ codes "\n")
+MayBeMessage (Json mode) m text =
+    (json : List ℕ) × IsMessageJson mode m json × (text ≡ json ++ codes "\n")
 
 -- what may be written for messages, joined
 abbrev pub MayBeMessages : MessageForm → List Message → List ℕ → Type 0

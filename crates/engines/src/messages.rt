@@ -12,7 +12,6 @@ use crate::documents::write_last;
 use crate::input_fault::InputFault;
 use crate::msg::MessageForm;
 use crate::run::RunEnd;
-use bson_json::Mode;
 use std::alloc::Global;
 use std::io;
 use std::io::Write;
@@ -36,8 +35,8 @@ fn write_in_form<W: Write>(form: MessageForm, message: RawMsg<'_>, out: &mut W) 
 {
     match form {
         MessageForm::Text => write_message(message, out),
-        MessageForm::Json => {
-            write_message_json(message, Mode::Canonical, out)?;
+        MessageForm::Json(mode) => {
+            write_message_json(message, mode, out)?;
             out.write_all(b"\n")
         }
     }

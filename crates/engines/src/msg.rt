@@ -8,6 +8,7 @@ ghost use Rattle.engines.specs.Run.{is_done, is_fault};
 
 use crate::messages::write_messages;
 use crate::run::{Engine, RunEnd, run};
+use bson_json::Mode;
 use std::alloc::Global;
 use std::io::{Read, Write};
 
@@ -16,8 +17,8 @@ use std::io::{Read, Write};
 pub enum MessageForm {
     /// A line for its numbers and flags, one for each document, and one for each element.
     Text,
-    /// One line, a JSON object whose documents are canonical Extended JSON.
-    Json,
+    /// One line, a JSON object whose documents are Extended JSON of this form.
+    Json(Mode),
 }
 
 /// The command `msg`.

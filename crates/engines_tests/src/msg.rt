@@ -2,7 +2,7 @@
 //! checks, and that writes and allocations which fail end the run as they should.
 
 use crate::writers::Counter;
-use engines::{MessageForm, RunEnd, run_msg};
+use engines::{MessageForm, Mode, RunEnd, run_msg};
 use std::alloc::Global;
 use std::process::Abort;
 
@@ -258,6 +258,20 @@ const JSON: [(&str, &str, RunEnd); 6] = [
     ),
 ];
 
+/// As JSON with relaxed documents: an int32 of the body, and an int64 of a document of a sequence.
+const RELAXED: [(&str, &str, RunEnd); 2] = [
+    (
+        "33000000 01000000 00000000 dd070000 00000000 00 1e0000001070696e67000100000002246462000600000061646d696e0000",
+        "{\"messageLength\":51,\"requestID\":1,\"responseTo\":0,\"moreToCome\":false,\"exhaustAllowed\":false,\"body\":{\"ping\":1,\"$db\":\"admin\"},\"sequences\":[]}\n",
+        RunEnd::Good,
+    ),
+    (
+        "31000000 01000000 00000000 dd070000 00000000 00 0500000000 01 16000000 6100 10000000 12 6200 2a00000000000000 00",
+        "{\"messageLength\":49,\"requestID\":1,\"responseTo\":0,\"moreToCome\":false,\"exhaustAllowed\":false,\"body\":{},\"sequences\":[{\"identifier\":\"a\",\"documents\":[{\"b\":42}]}]}\n",
+        RunEnd::Good,
+    ),
+];
+
 /// Returns true if `msg` writes this for the input in this form, and ends so.
 fn is_written(
     alloc: Global,
@@ -328,7 +342,12 @@ fn faults_of_a_second_message(rt: HostRuntime) {
 
 #[test]
 fn messages_as_json(rt: HostRuntime) {
-    expect_each_in(&rt, MessageForm::Json, &JSON);
+    expect_each_in(&rt, MessageForm::Json(Mode::Canonical), &JSON);
+}
+
+#[test]
+fn messages_as_relaxed_json(rt: HostRuntime) {
+    expect_each_in(&rt, MessageForm::Json(Mode::Relaxed), &RELAXED);
 }
 
 #[test]
