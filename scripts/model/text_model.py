@@ -205,6 +205,38 @@ def element_lines(found, deep):
     return lines
 
 
+# ---- the offsets of the lines
+
+
+def inner_size(kind, value):
+    """Returns the number of bytes of the document in a container's value."""
+    return value[1] if kind == 0x0F else value[0]
+
+
+def value_size(kind, value):
+    if kind == 0x0F:
+        return 4 + len(spelled_string(value[0])) + inner_size(kind, value)
+    return inner_size(kind, value) if kind in CONTAINERS else len(canonical_value(kind, value))
+
+
+def line_offsets(found, at):
+    """Returns the offset of each element, in the order of their lines, where the first begins at this one."""
+    offsets = []
+    for kind, name, value in found:
+        offsets.append(at)
+        at += 1 + len(name) + 1 + value_size(kind, value)
+        if kind in CONTAINERS:
+            offsets += line_offsets(value_text(kind, value)[1], at - inner_size(kind, value) + 4)
+    return offsets
+
+
+def document_lines(length, found, start, flags):
+    lines = [b"document %d" % length, *element_lines(found, 1)]
+    if "--offsets" in flags:
+        lines = [b"%d\t%s" % placed for placed in zip([start, *line_offsets(found, start + 4)], lines)]
+    return b"".join(line + b"\n" for line in lines)
+
+
 # ---- canonical documents
 
 
@@ -324,19 +356,19 @@ def read_hex(text):
 COMMANDS = ("dump", "check", "canon", "json", "msg")
 
 
-def one_document(command, b, flags=()):
+def one_document(command, b, flags=(), start=0):
     length, found = front(b)
     if command == "json":
         return length, document_json(found, "--relaxed" in flags)
     if command == "dump":
-        return length, b"".join(line + b"\n" for line in [b"document %d" % length, *element_lines(found, 1)])
+        return length, document_lines(length, found, start, flags)
     plain = canonical(found)
     if command == "check":
         return length, b"ok %d %s\n" % (length, b"canonical" if plain == b[:length] else b"other")
     return length, plain
 
 
-def one_message(_, b, flags=()):  # pylint: disable=unused-argument
+def one_message(_, b, flags=(), start=0):  # pylint: disable=unused-argument
     if len(b) >= 16:
         check_header(b)
     if len(b) < 16 or len(b) < number(b, 0):
@@ -354,7 +386,7 @@ def output(command, flags, given):
     at, text, fault = 0, b"", None
     while at < len(b) and not fault:
         try:
-            length, part = (one_message if command == "msg" else one_document)(command, b[at:], flags)
+            length, part = (one_message if command == "msg" else one_document)(command, b[at:], flags, at)
             fault = None if length else f"14 EndedInside at {at}"
             if command == "json":
                 part = (b",\n" if at else b"[") + part if is_array else part + b"\n"

@@ -1,8 +1,8 @@
 //! Iterates over the pairs of a document, and over the values of an array, in order.
 
-ghost use Rattle.std.specs.Prelude.{◌≡◌, length};
+ghost use Rattle.std.specs.Prelude.{◌≡◌, ◌+◌, length};
 ghost use Rattle.std.specs.Iterator.{at_most};
-ghost use Rattle.bson_elem.specs.{Spells, Tree};
+ghost use Rattle.bson_elem.specs.{Spells, Tree, elements};
 ghost use Rattle.bson_raw.specs.Spelled.{IsSpelled};
 ghost use Rattle.bson_raw.specs.Left.{HasLeft};
 
@@ -20,7 +20,7 @@ pub struct RawIter<'a> {
 }
 
 impl<'a> RawIter<'a> {
-    ghost use Rattle.bson_raw.specs.RawIter.{PairsLeft, walked_len};
+    ghost use Rattle.bson_raw.specs.RawIter.{PairsLeft, pairs_bound, walked_len};
 
     /// Returns an iterator over all pairs of the document that the bytes are known to spell.
     pub(crate) fn of_spelled(bytes: &'a [u8]) -> RawIter<'a>
@@ -29,6 +29,15 @@ impl<'a> RawIter<'a> {
         ensures walked { walked_len result ≡ length bytes.now }
     {
         RawIter { bytes, offset: 4 }
+    }
+
+    /// Returns the number of bytes from the next pair to the end of the document. After the last
+    /// pair only the document's last byte is left.
+    pub fn bytes_left(&self) -> usize
+        ensures pairs { (t : Tree) → PairsLeft self.now t → result ≡ length (elements t) + 1 }
+        ensures bound { result ≡ pairs_bound self.now }
+    {
+        self.bytes.len() - self.offset
     }
 }
 

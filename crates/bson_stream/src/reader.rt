@@ -157,6 +157,8 @@ impl DocumentReader {
         ensures some { IfSome result
             (λ d. (document_bytes d ≡ self.now.held) × IsSpelled self.now.held) }
         ensures ready { IsSpelled self.now.held → IsSome result }
+        ensures offset { IfSome result
+            (λ d. self.now.start + length (document_bytes d) < 2 ^ 64) }
     {
         match self.state {
             ReaderState::Ready { canonical: _ } => {

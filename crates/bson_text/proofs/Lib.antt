@@ -1,3 +1,4 @@
 pub mod Indent
 pub mod Quoted
 pub mod Lines
+pub mod Ends

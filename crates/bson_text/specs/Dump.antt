@@ -1,5 +1,5 @@
 -- The text of a document.
-use Rattle.std.specs.Prelude.{ℕ, ◌+◌, List, [], ◌++◌, length, codes}
+use Rattle.std.specs.Prelude.{ℕ, ◌+◌, ◌-◌, List, [], ◌++◌, length, codes}
 use Rattle.std.specs.Fmt.{decimal}
 use Rattle.hex.specs.Hex.{encode_lower}
 use Rattle.bson_elem.specs.declared.kinds.Kind.{Kind}
@@ -68,3 +68,32 @@ element_lines deep (inner_pair name k b inner ps) =
 abbrev pub document_text : Tree → List ℕ
 document_text t =
     codes "document " ++ (decimal (document_size t) ++ (codes "\n" ++ element_lines 1 t))
+
+-- ---- the text with offsets
+
+-- what stands before the line of what begins at this offset
+abbrev pub offset_text : ℕ → List ℕ
+offset_text at = decimal at ++ codes "\t"
+
+-- where the pairs begin that are the last ones of a document that ends here, before its 00
+abbrev pub pairs_start : ℕ → Tree → ℕ
+pairs_start end t = end - (length (elements t) + 1)
+
+-- The lines of the pairs, of which the first begins at this offset, each behind the offset of its
+-- element. The next element begins where this one ends, and a document in it ends there too.
+abbrev pub element_lines_at : ℕ → ℕ → Tree → List ℕ
+element_lines_at at deep no_pairs = []
+element_lines_at at deep (leaf_pair name k v ps) =
+    let end = at + length (elements (leaf_pair name k v no_pairs)) in
+    offset_text at ++ (element_line deep name (leaf_text k v) ++ element_lines_at end deep ps)
+element_lines_at at deep (inner_pair name k b inner ps) =
+    let end = at + length (elements (inner_pair name k b inner no_pairs)) in
+    offset_text at ++ (element_line deep name (inner_text k b (document_size inner))
+    ++ (element_lines_at (pairs_start end inner) (deep + 1) inner ++ element_lines_at end deep ps))
+
+-- the text of a document that begins at this offset: the line of its size, behind its own offset,
+-- and those of its elements, which begin behind the four bytes of its length
+abbrev pub document_text_at : ℕ → Tree → List ℕ
+document_text_at at t =
+    offset_text at ++ (codes "document " ++ (decimal (document_size t) ++ (codes "\n"
+    ++ element_lines_at (at + 4) 1 t)))

@@ -3,5 +3,5 @@ pub mod ValueText
 pub mod Dump
 pub mod DumpValues
 -- the words that clauses of other crates cite
-pub use Rattle.bson_text.specs.Dump.{document_size, document_text, element_lines}
+pub use Rattle.bson_text.specs.Dump.{document_size, document_text, document_text_at, element_lines}
 pub use Rattle.bson_text.specs.Text.{quoted}

@@ -6,7 +6,7 @@ ghost use Rattle.std.specs.Prelude.{◌≤◌};
 use bson_raw::RawDocument;
 use bson_raw_tests::each_kind::EACH_KIND;
 use bson_raw_tests::hex_bytes::read_digits;
-use bson_text::{dump_elements, dump_to};
+use bson_text::{dump_elements, dump_to, dump_with_offsets};
 use std::alloc::Global;
 use std::io;
 use std::io::{ErrorKind, Write};
@@ -101,6 +101,72 @@ fn lines_of_elements(rt: HostRuntime) {
     let text =
         "    \"a\" null\n    \"b\" document 8\n      \"c\" null\n    \"d\" codescope \"x\" 5\n    \"e\" minkey\n";
     assert!(rt; has_lines_at(rt.alloc(), 2, text));
+}
+
+/// Returns true if this is the text with offsets of the document, which begins at offset `start`.
+fn has_offsets(alloc: Global, document: RawDocument<'_>, start: usize, text: &str) -> bool {
+    if start > usize::MAX - document.as_bytes().len() {
+        return false;
+    }
+    let mut out = Vec::new(alloc);
+    dump_with_offsets(document, start, &mut out).is_ok() && out.as_slice() == text.as_bytes()
+}
+
+/// Like `has_offsets`, for the document of these digits.
+fn digits_have_offsets(alloc: Global, digits: &str, start: usize, text: &str) -> bool {
+    let Ok(bytes) = read_digits(alloc, digits) else {
+        return false;
+    };
+    match RawDocument::from_bytes(&bytes) {
+        Ok(document) => has_offsets(alloc, document, start, text),
+        Err(_) => false,
+    }
+}
+
+/// The empty document at the first and at the last offset that it can have; an array, as the
+/// standard's page has it, at two offsets; a document and a scope between other elements; and a
+/// scope with an element, before another element.
+const OFFSETS: [(&str, usize, &str); 6] = [
+    ("05000000 00", 0, "0\tdocument 5\n"),
+    (
+        "05000000 00",
+        18_446_744_073_709_551_610,
+        "18446744073709551610\tdocument 5\n",
+    ),
+    (
+        AWESOME,
+        0,
+        "0\tdocument 49\n4\t  \"BSON\" array 38\n14\t    \"0\" string \"awesome\"\n29\t    \"1\" double 3333333333331440\n40\t    \"2\" int32 1986\n",
+    ),
+    (
+        AWESOME,
+        5,
+        "5\tdocument 49\n9\t  \"BSON\" array 38\n19\t    \"0\" string \"awesome\"\n34\t    \"1\" double 3333333333331440\n45\t    \"2\" int32 1986\n",
+    ),
+    (
+        DEEP,
+        1000,
+        "1000\tdocument 40\n1004\t  \"a\" null\n1007\t  \"b\" document 8\n1014\t    \"c\" null\n1018\t  \"d\" codescope \"x\" 5\n1036\t  \"e\" minkey\n",
+    ),
+    (
+        "1d000000 0f 6300 12000000 02000000 7800 08000000 0a 7300 00 0a 7a00 00",
+        0,
+        "0\tdocument 29\n4\t  \"c\" codescope \"x\" 8\n21\t    \"s\" null\n25\t  \"z\" null\n",
+    ),
+];
+
+/// The document {"BSON": ["awesome", 5.05, 1986]} of bsonspec.org.
+const AWESOME: &str =
+    "31000000 04 42534f4e00 26000000 02 3000 08000000 617765736f6d6500 01 3100 3333333333331440 10 3200 c2070000 00 00";
+
+#[test]
+fn offsets_of_lines(rt: HostRuntime) {
+    for (digits, start, text) in &OFFSETS {
+        assert!(rt;
+            digits_have_offsets(rt.alloc(), digits, *start, text),
+            "{digits}"
+        );
+    }
 }
 
 /// A writer that takes `room` bytes and then fails, with an error of a kind that no other part of a

@@ -13,7 +13,7 @@ use Rattle.clap.specs.Simple.{Shape, argument_words, built, entered, label_of, n
 use Rattle.clap.specs.Takes.{is_given}
 use Rattle.clap.specs.Walk.{Held, Names, Outcome, Row, Rule, Step, Text, Waiting, Walk, done, waits, plain, refused, idle, option, positional, next, trailing, subcommand, value, after_flag, after_step, answers_to, arg_by_index, finished, long_or_other, nothing_held, plain_word, settled, short_or_plain, subcommand_met, subcommand_or_other, to_positional, walk, walk_from, walked, walked_from, word_met, bundle, long_met, arg_by_long}
 use Rattle.clap.specs.declared.error.kind.ErrorKind.TheVariants as kind
-use Rattle.bsonwire.specs.CommandLine.{bytes_flags, command_line, file_app, json_app, loop_app, msg_app, text_flags}
+use Rattle.bsonwire.specs.CommandLine.{bytes_flags, command_line, dump_app, file_app, json_app, loop_app, msg_app, text_flags}
 use Rattle.bsonwire.specs.declared.choice.Command.{Command}
 use Rattle.bsonwire.specs.declared.choice.Command.TheVariants.{Dump, Check, Canon, Json, Bson, Msg, Play}
 use Rattle.bson_json.specs.declared.mode.Mode.{Mode}
@@ -23,7 +23,7 @@ use Rattle.engines.specs.declared.json.Layout.TheVariants.{Lines, Array}
 use Rattle.engines.specs.declared.msg.MessageForm.{MessageForm}
 use Rattle.engines.specs.declared.msg.MessageForm.TheVariants.{Text as in_text, Json as in_json}
 use Rattle.bsonwire.specs.Choices.{HoldsHex, HoldsMessageForm, IsCommand, MayChoose, HoldsFlag, is_array, is_relaxed, was_given}
-use Rattle.bsonwire.proofs.LeafLemmas.{IsUnfaulted, bytes_leaf_names, json_leaf_names, leaf, loop_leaf_names, msg_leaf_names, text_leaf_names}
+use Rattle.bsonwire.proofs.LeafLemmas.{IsUnfaulted, bytes_leaf_names, dump_leaf_names, json_leaf_names, leaf, loop_leaf_names, msg_leaf_names, text_leaf_names}
 use Rattle.bsonwire.proofs.RowLemmas.{Each, find_holds, no_kind, or_nil}
 
 -- ---- a walk stops at no word `help`
@@ -125,6 +125,13 @@ bytes_leaf_chooses command name word words is none = λ _.
     let hex = held.1.1.0 in
     inl ((command hex.0, is hex.0 (rows_at (leaf (file_app name bytes_flags)) words).1 hex.1), held.0, held.1.0)
 
+dump_leaf_chooses : (word : Text) (words : List Text) → Chooses word words (leaf dump_app)
+dump_leaf_chooses word words none = λ _.
+    let held = dump_leaf_names words none in
+    let hex = held.1.1.0 in
+    let offsets = held.1.1.1.0 in
+    inl ((Dump hex.0 offsets.0, (refl, hex.1, offsets.1)), held.0, held.1.0)
+
 mode_by : (relaxed : Bool) → (mode : Mode) × (relaxed ≡ is_relaxed mode)
 mode_by false = (Canonical, refl)
 mode_by true = (Relaxed, refl)
@@ -197,7 +204,7 @@ is_help word differs is_one = go (bytes_eq (codes "help") word) refl is_one
 subs_choose : (word : Text) (words : List Text) → bytes_eq word (codes "help") ≡ false
     → Each (λ s. answers_to word (label_of s) ≡ true → Chooses word words s) (built command_line).subs
 subs_choose word words differs = (
-  (λ _. bytes_leaf_chooses Dump (codes "dump") word words (λ hex rows holds. (refl, holds))),
+  (λ _. dump_leaf_chooses word words),
   (
     (λ _. bytes_leaf_chooses Check (codes "check") word words (λ hex rows holds. (refl, holds))),
     (

@@ -20,7 +20,8 @@ use Rattle.engines.specs.declared.json.Layout.TheVariants.{Lines, Array}
 use Rattle.engines.specs.declared.msg.MessageForm.{MessageForm}
 use Rattle.engines.specs.declared.msg.MessageForm.TheVariants.{Text as in_text, Json as in_json}
 use Rattle.engines.specs.{BsonText, CanonText, CheckText, DumpText, IsOutput, JsonText, MayBeJson}
-use Rattle.engines.specs.{MsgText, ScriptText, TextRule, canon_of, check_of, dump_of, told_by}
+use Rattle.engines.specs.{MsgText, ScriptText, TextRule, canon_of, check_of, dump_of, told_at}
+use Rattle.engines.specs.{told_by}
 
 -- ---- what the matches of a subcommand hold
 
@@ -80,7 +81,8 @@ HoldsCalls n rows = IsCount n (one_of (codes "calls") rows)
 
 -- the command is the subcommand with this name, and has the `--hex` that the matches hold
 abbrev pub IsCommand : Command → Text → List Row → Type 0
-IsCommand (Dump hex) name rows = (name ≡ codes "dump") × HoldsHex hex rows
+IsCommand (Dump hex offsets) name rows =
+    (name ≡ codes "dump") × HoldsHex hex rows × HoldsFlag (codes "offsets") offsets rows
 IsCommand (Check hex) name rows = (name ≡ codes "check") × HoldsHex hex rows
 IsCommand (Canon hex) name rows = (name ≡ codes "canon") × HoldsHex hex rows
 IsCommand (Json hex mode layout) name rows =
@@ -165,7 +167,7 @@ MayChoose met = lacks_json met ≡ false → NamesChoice met
 
 -- what a command writes for an input, and whether it ends with a fault line
 abbrev pub CommandText : Command → List ℕ → List ℕ → Bool → Type 0
-CommandText (Dump hex) = IsOutput DumpText hex
+CommandText (Dump hex offsets) = IsOutput (DumpText offsets) hex
 CommandText (Check hex) = IsOutput CheckText hex
 CommandText (Canon hex) = IsOutput (CanonText 2147483647 hex) hex
 CommandText (Json hex mode layout) = IsOutput (JsonText mode layout) hex
@@ -175,7 +177,7 @@ CommandText Play = ScriptText
 
 -- what a command writes for a document, if it reads documents
 abbrev pub document_rule : Command → TextRule
-document_rule (Dump hex) = told_by dump_of
+document_rule (Dump hex offsets) = told_at (dump_of offsets)
 document_rule (Check hex) = told_by check_of
 document_rule (Canon hex) = told_by (canon_of 2147483647 hex)
 document_rule (Json hex mode layout) = MayBeJson mode layout
@@ -183,7 +185,7 @@ document_rule _ = told_by (λ t. None)
 
 -- whether a command reads all of its input before it writes
 abbrev pub reads_first : Command → Bool
-reads_first (Dump hex) = hex
+reads_first (Dump hex offsets) = hex
 reads_first (Check hex) = hex
 reads_first (Canon hex) = hex
 reads_first (Json hex mode layout) = hex

@@ -31,6 +31,10 @@ text_flags = codes "quiet" ∷ []
 abbrev pub bytes_flags : List Text
 bytes_flags = codes "quiet" ∷ codes "hex" ∷ []
 
+-- the flags of the one that writes the text of documents
+abbrev pub dump_flags : List Text
+dump_flags = codes "quiet" ∷ codes "hex" ∷ codes "offsets" ∷ []
+
 -- the flags of the one that reads messages
 abbrev pub msg_flags : List Text
 msg_flags = codes "quiet" ∷ codes "hex" ∷ codes "json" ∷ codes "relaxed" ∷ []
@@ -38,6 +42,10 @@ msg_flags = codes "quiet" ∷ codes "hex" ∷ codes "json" ∷ codes "relaxed" �
 -- the flags of the one that writes Extended JSON
 abbrev pub json_flags : List Text
 json_flags = codes "quiet" ∷ codes "hex" ∷ codes "relaxed" ∷ codes "array" ∷ []
+
+-- the subcommand that writes the text of documents
+abbrev pub dump_app : App
+dump_app = file_app (codes "dump") dump_flags
 
 -- the subcommand that reads messages
 abbrev pub msg_app : App
@@ -69,7 +77,7 @@ abbrev pub file_line : App
 file_line =
     with_subcommand
     (with_subcommand
-    (with_subcommand (with_subcommand top_app (file_app (codes "dump") bytes_flags).top)
+    (with_subcommand (with_subcommand top_app dump_app.top)
     (file_app (codes "check") bytes_flags).top)
     (file_app (codes "canon") bytes_flags).top)
     msg_app.top

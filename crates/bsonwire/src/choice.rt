@@ -19,9 +19,11 @@ use std::alloc::Global;
 /// A command that reads an input.
 #[derive(Clone, Copy, Debug, PartialEq, Eq)]
 pub enum Command {
-    /// Writes the text of each document. If `hex` is true, the input is hexadecimal text.
+    /// Writes the text of each document. If `hex` is true, the input is hexadecimal text. If
+    /// `offsets` is true, each line begins with the offset of what it shows.
     Dump {
         hex: bool,
+        offsets: bool,
     },
     /// Says of each document whether it is in canonical form.
     Check {
@@ -146,7 +148,10 @@ fn command_of(name: &str, matches: &ArgMatches<'_>) -> Command
     }
     let hex = flag_of(matches, "hex");
     match name {
-        "dump" => Command::Dump { hex },
+        "dump" => Command::Dump {
+            hex,
+            offsets: flag_of(matches, "offsets"),
+        },
         "check" => Command::Check { hex },
         "canon" => Command::Canon { hex },
         "json" => Command::Json {

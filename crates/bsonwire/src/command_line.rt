@@ -2,10 +2,10 @@
 ghost use Rattle.std.specs.Prelude.{◌≡◌, IfOk, codes, false};
 ghost use Rattle.clap.specs.Words.{app_of, kind_of, rule_of, with_subcommand};
 ghost use Rattle.clap.specs.declared.builder.command.Command.TheViews.{out-Command};
-ghost use Rattle.bsonwire.specs.CommandLine.{bytes_flags, calls_rule, command_line, file_app};
-ghost use Rattle.bsonwire.specs.CommandLine.{bson_app, file_line, flag_rule, json_app, json_line};
-ghost use Rattle.bsonwire.specs.CommandLine.{loop_app, msg_app, operand_rule, play_app, text_flags};
-ghost use Rattle.bsonwire.specs.CommandLine.{top_app};
+ghost use Rattle.bsonwire.specs.CommandLine.{bytes_flags, calls_rule, command_line, dump_app};
+ghost use Rattle.bsonwire.specs.CommandLine.{bson_app, file_app, file_line, flag_rule, json_app};
+ghost use Rattle.bsonwire.specs.CommandLine.{json_line, loop_app, msg_app, operand_rule, play_app};
+ghost use Rattle.bsonwire.specs.CommandLine.{text_flags, top_app};
 
 use clap::error::ErrorKind;
 use clap::{Arg, ArgAction, Command, Error, value_parser};
@@ -72,6 +72,17 @@ fn file_command<'a>(alloc: Global, name: &'a str, about: &'a str) -> Result<Comm
         alloc,
         "hex",
         "Read hexadecimal text",
+    ))
+}
+
+/// Makes the subcommand that writes the text of documents.
+fn dump_command<'a>(alloc: Global) -> Result<Command<'a>, AllocError>
+    ensures app { IfOk result (λ c. app_of c ≡ dump_app) }
+    ensures local { IfOk result (λ c. (out-Command c).has_globals ≡ false) }
+{
+    let offsets = "Write the offset of what a line shows before it, and a tab";
+    file_command(alloc, "dump", "Writes the text of each document")?.arg(flag(
+        alloc, "offsets", offsets,
     ))
 }
 
@@ -171,12 +182,8 @@ fn file_commands<'a>(alloc: Global) -> Result<Command<'a>, AllocError>
     ensures app { IfOk result (λ c. app_of c ≡ file_line) }
     ensures local { IfOk result (λ c. (out-Command c).has_globals ≡ false) }
 {
-    let line = with_file_command(
-        top(alloc),
-        alloc,
-        "dump",
-        "Writes the text of each document",
-    )?;
+    let dump = dump_command(alloc)?;
+    let line = top(alloc).subcommand(dump)?;
     let line = with_file_command(
         line,
         alloc,

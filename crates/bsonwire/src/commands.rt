@@ -230,7 +230,7 @@ fn run_over<E: Eprint, R: Read, W: Write>(
         (W.contents writer.old) (W.contents writer.new)) }
 {
     match command {
-        Command::Dump { hex } => run_dump(alloc, hex, reader, writer),
+        Command::Dump { hex, offsets } => run_dump(alloc, offsets, hex, reader, writer),
         Command::Check { hex } => run_check(alloc, hex, reader, writer),
         Command::Canon { hex } => run_canon(alloc, hex, reader, writer),
         Command::Json { hex, mode, layout } => run_json(alloc, mode, layout, hex, reader, writer),

@@ -7,7 +7,7 @@ use Rattle.bson_elem.proofs.Lemmas.{IsBytes-after, no_front, one_front, same_fro
 use Rattle.bson_raw.specs.Split.{documents_bytes}
 use Rattle.bson_raw.proofs.Lemmas.{document_takes}
 use Rattle.engines.specs.InputFault.{bson_line}
-use Rattle.engines.specs.Documents.{AreTexts, HaveTexts, IsLast, IsWholeText, TextRule, told_by, are_any, at_document, at_end, at_fault, is_there, or_nothing}
+use Rattle.engines.specs.Documents.{AreTexts, HaveTexts, IsLast, IsWholeText, TextRule, told_at, are_any, at_document, at_end, at_fault, is_there, or_nothing}
 
 -- the rule allows one thing at most
 abbrev AllowsOne : TextRule → Type 0
@@ -98,10 +98,10 @@ one_whole rule closing bytes text text' fault fault' fits one (ts, a, rest, last
       told ∙ ap is_there lasts ∙ sym told',
     )
 
--- a function of the document tells one thing
-tells_one : (text_of : Tree → Option (List ℕ)) → AllowsOne (told_by text_of)
+-- a function of the document and its offset tells one thing
+tells_one : (text_of : ℕ → Tree → Option (List ℕ)) → AllowsOne (told_at text_of)
 tells_one text_of start t a b is is' = sym is ∙ is'
 
-pub one_told : (text_of : Tree → Option (List ℕ)) (closing : Bool → List ℕ) (bytes text text' : List ℕ) (fault fault' : Bool) → IsBytes bytes
-    → IsWholeText (told_by text_of) closing bytes text fault → IsWholeText (told_by text_of) closing bytes text' fault' → (text ≡ text') × (fault ≡ fault')
-one_told text_of closing bytes text text' fault fault' fits = one_whole (told_by text_of) closing bytes text text' fault fault' fits (tells_one text_of)
+pub one_told : (text_of : ℕ → Tree → Option (List ℕ)) (closing : Bool → List ℕ) (bytes text text' : List ℕ) (fault fault' : Bool) → IsBytes bytes
+    → IsWholeText (told_at text_of) closing bytes text fault → IsWholeText (told_at text_of) closing bytes text' fault' → (text ≡ text') × (fault ≡ fault')
+one_told text_of closing bytes text text' fault fault' fits = one_whole (told_at text_of) closing bytes text text' fault fault' fits (tells_one text_of)

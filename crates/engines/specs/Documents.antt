@@ -13,6 +13,10 @@ use Rattle.engines.specs.InputFault.{bson_line, too_large_line}
 abbrev pub TextRule : Type 1
 TextRule = ℕ → Tree → Option (List ℕ) → Type 0
 
+-- what a function of the document and of the offset at which it begins tells
+abbrev pub told_at : (ℕ → Tree → Option (List ℕ)) → TextRule
+told_at text_of start t shown = text_of start t ≡ shown
+
 -- what a function of the document alone tells
 abbrev pub told_by : (Tree → Option (List ℕ)) → TextRule
 told_by text_of start t shown = text_of t ≡ shown

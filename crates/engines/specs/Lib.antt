@@ -20,7 +20,7 @@ pub mod Play
 pub use Rattle.engines.specs.BsonOf.{BsonText, IsAnything, StopsAt, WritesTexts}
 pub use Rattle.engines.specs.Canon.{CanonText, canon_of}
 pub use Rattle.engines.specs.Check.{CheckText, check_of}
-pub use Rattle.engines.specs.Documents.{AppendsFirst, TextRule, WritesAll, told_by}
+pub use Rattle.engines.specs.Documents.{AppendsFirst, TextRule, WritesAll, told_at, told_by}
 pub use Rattle.engines.specs.Dump.{DumpText, dump_of}
 pub use Rattle.engines.specs.Json.{JsonText, MayBeJson}
 pub use Rattle.engines.specs.Loopback.{AppendsUpTo, HaveRun, HaveTold, loop_text}

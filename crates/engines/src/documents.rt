@@ -1,7 +1,7 @@
 //! Documents out of a piece of an input, for each of which a command writes a text.
 
-ghost use Rattle.std.specs.Prelude.{◌≡◌, ℕ, Bool, List, Option, IfErr, IfOk};
-ghost use Rattle.std.specs.Prelude.{OnOk, false};
+ghost use Rattle.std.specs.Prelude.{◌≡◌, ◌+◌, ◌<◌, ◌^◌, ℕ, Bool, List, Option, IfErr, IfOk};
+ghost use Rattle.std.specs.Prelude.{OnOk, false, length};
 ghost use Rattle.std.specs.Io.KnownBytes.{Appends};
 ghost use Rattle.bson_elem.specs.{Spells, Tree};
 ghost use Rattle.bson_raw.specs.{document_bytes, is_plain};
@@ -44,8 +44,9 @@ pub trait EachDocument {
         canonical: bool,
         out: &mut W,
     ) -> io::Result<Written>
-        requires { (t : Tree) → Spells t (document_bytes document)
+        requires canonical { (t : Tree) → Spells t (document_bytes document)
             → canonical ≡ is_plain false 0 t }
+        requires offset { start + length (document_bytes document) < 2 ^ 64 }
         ensures { (t : Tree) → Spells t (document_bytes document.entry) → IfOk result
             (λ written. IsWritten (rule self.now start t) written
             (W.contents out.old) (W.contents out.new)) };

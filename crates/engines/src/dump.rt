@@ -1,9 +1,12 @@
 //! The command `dump`: the text of each document.
 
-ghost use Rattle.std.specs.Prelude.{◌≡◌, ◌⊎◌, IfOk, IfSome, false, true};
-ghost use Rattle.std.specs.Io.KnownBytes.{IsAtEnd, Keeps};
-ghost use Rattle.engines.specs.Documents.{AppendsFirst, WritesAll, nothing, told_by};
-ghost use Rattle.engines.specs.Dump.{DumpText, dump_of};
+ghost use Rattle.std.specs.Prelude.{◌≡◌, ◌⊎◌, ◌+◌, ◌<◌, ◌^◌, IfOk, IfSome, OnOk, false};
+ghost use Rattle.std.specs.Prelude.{length, true};
+ghost use Rattle.std.specs.Io.KnownBytes.{Appends, IsAtEnd, Keeps};
+ghost use Rattle.bson_elem.specs.{Spells, Tree};
+ghost use Rattle.bson_raw.specs.{document_bytes};
+ghost use Rattle.engines.specs.Documents.{AppendsFirst, WritesAll, nothing, told_at};
+ghost use Rattle.engines.specs.Dump.{DumpText, dump_of, dump_text};
 ghost use Rattle.engines.specs.Input.{bytes_of};
 ghost use Rattle.engines.specs.Output.{AppendsText, IsOutput};
 ghost use Rattle.engines.specs.Run.{is_done, is_fault};
@@ -12,27 +15,48 @@ use crate::documents::{EachDocument, Written};
 use crate::pieces::run_documents;
 use crate::run::RunEnd;
 use bson_raw::RawDocument;
-use bson_text::dump_to;
+use bson_text::{dump_to, dump_with_offsets};
 use std::alloc::Global;
 use std::io;
 use std::io::{Read, Write};
 
 /// The command `dump`.
-struct Dump;
+#[derive(Drop)]
+struct Dump {
+    /// True if offsets are written.
+    offsets: bool,
+}
+
+/// Writes the text of `document`, which begins at offset `start` of the input.
+fn write_dump<W: Write>(
+    offsets: bool,
+    document: RawDocument<'_>,
+    start: usize,
+    out: &mut W,
+) -> io::Result<()>
+    requires { start + length (document_bytes document) < 2 ^ 64 }
+    ensures { (t : Tree) → Spells t (document_bytes document.entry) → OnOk result
+        (Appends (W.contents out.old) (W.contents out.new) (dump_text offsets start t)) }
+{
+    if offsets {
+        return dump_with_offsets(document, start, out);
+    }
+    dump_to(document, out)
+}
 
 impl EachDocument for Dump {
-    ghost rule = { λ _. told_by dump_of };
+    ghost rule = { λ d. told_at (dump_of d.offsets) };
 
     ghost closing = { λ _. nothing };
 
     fn write_document<W: Write>(
         &self,
         document: RawDocument<'_>,
-        _start: usize,
+        start: usize,
         _canonical: bool,
         out: &mut W,
     ) -> io::Result<Written> {
-        dump_to(document, out)?;
+        write_dump(self.offsets, document, start, out)?;
         Ok(Written::Whole)
     }
 
@@ -41,25 +65,28 @@ impl EachDocument for Dump {
     }
 }
 
-/// Writes the text of each document in the input. If `hex` is true, the input is hexadecimal text.
+/// Writes the text of each document in the input. If `offsets` is true, the offset in the input of
+/// what a line shows stands before it. If `hex` is true, the input is hexadecimal text.
 pub fn run_dump<R: Read, W: Write>(
     alloc: Global,
+    offsets: bool,
     hex: bool,
     reader: &mut R,
     writer: &mut W,
 ) -> RunEnd
     ensures read { is_done result ≡ true → IsAtEnd (R.remaining reader.new) }
     ensures written { IfSome (R.remaining reader.old) (λ input. is_done result ≡ true →
-        AppendsText (IsOutput DumpText hex input) (is_fault result)
+        AppendsText (IsOutput (DumpText offsets) hex input) (is_fault result)
         (W.contents writer.old) (W.contents writer.new)) }
-    ensures unread { hex ≡ false → result ≡ RunEnd.Unread → WritesAll (told_by dump_of)
+    ensures unread { hex ≡ false → result ≡ RunEnd.Unread → WritesAll (told_at (dump_of offsets))
         (R.remaining reader.old) (R.remaining reader.new)
         (W.contents writer.old) (W.contents writer.new) }
     ensures late { hex ≡ true → (IsAtEnd (R.remaining reader.new)) ⊎
         Keeps (W.contents writer.old) (W.contents writer.new) }
     ensures memory { result ≡ RunEnd.Memory → IfSome (R.remaining reader.old)
-        (λ input. IfOk (bytes_of hex input) (λ bytes. AppendsFirst (told_by dump_of) bytes
+        (λ input. IfOk (bytes_of hex input) (λ bytes.
+        AppendsFirst (told_at (dump_of offsets)) bytes
         (W.contents writer.old) (W.contents writer.new))) }
 {
-    run_documents(alloc, &Dump, hex, reader, writer)
+    run_documents(alloc, &Dump { offsets }, hex, reader, writer)
 }

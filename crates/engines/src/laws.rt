@@ -3,18 +3,18 @@
 
 ghost use Rattle.std.specs.Prelude.{◌≡◌, Bool, List, Option, ℕ};
 ghost use Rattle.bson_elem.specs.{IsBytes, Tree};
-ghost use Rattle.engines.specs.Documents.{IsWholeText, told_by};
+ghost use Rattle.engines.specs.Documents.{IsWholeText, told_at};
 ghost use Rattle.engines.specs.Msg.{MsgText};
 ghost use Rattle.engines.specs.declared.msg.MessageForm.TheVariants.{Text};
 
 /// Proves that bytes have at most one text as documents, which ends with a fault line or doesn't,
 /// whatever a command writes for a document and behind all of them, if a function of the document
-/// tells it.
+/// and of the offset at which it begins tells it.
 pub fn one_text()
-    ensures { (text_of : Tree → Option (List ℕ)) (closing : Bool → List ℕ)
+    ensures { (text_of : ℕ → Tree → Option (List ℕ)) (closing : Bool → List ℕ)
         (bytes text other : List ℕ) (fault other_fault : Bool) → IsBytes bytes
-        → IsWholeText (told_by text_of) closing bytes text fault
-        → IsWholeText (told_by text_of) closing bytes other other_fault
+        → IsWholeText (told_at text_of) closing bytes text fault
+        → IsWholeText (told_at text_of) closing bytes other other_fault
         → (text ≡ other) × (fault ≡ other_fault) }
 {}
 

@@ -129,11 +129,55 @@ const INPUTS: [(bool, &str, &str, RunEnd); 9] = [
     (true, "00\x0b0", "fault 0 Hex at 2\n", RunEnd::Fault),
 ];
 
+/// With offsets: nothing, documents back to back, the array of the standard's page behind another
+/// document, and faults.
+const OFFSETS: [(&str, &str, RunEnd); 5] = [
+    ("", "", RunEnd::Good),
+    (
+        "0500000000 16000000 02 68656c6c6f00 06000000 776f726c6400 00",
+        "0\tdocument 5\n5\tdocument 22\n9\t  \"hello\" string \"world\"\n",
+        RunEnd::Good,
+    ),
+    (
+        "0500000000 31000000 04 42534f4e00 26000000 02 3000 08000000 617765736f6d6500 01 3100 3333333333331440 10 3200 c2070000 00 00",
+        "0\tdocument 5\n5\tdocument 49\n9\t  \"BSON\" array 38\n19\t    \"0\" string \"awesome\"\n34\t    \"1\" double 3333333333331440\n45\t    \"2\" int32 1986\n",
+        RunEnd::Good,
+    ),
+    (
+        "0500000000 09000000 08 7400 02 00",
+        "0\tdocument 5\nfault 8 Boolean at 9\n",
+        RunEnd::Fault,
+    ),
+    ("050", "fault 0 Hex at 3\n", RunEnd::Fault),
+];
+
 /// Returns true if `dump` writes this text for the input, and ends so.
-fn is_dumped(alloc: Global, hex: bool, input: &str, text: &str, end: RunEnd) -> bool {
+fn is_dumped_with(
+    alloc: Global,
+    offsets: bool,
+    hex: bool,
+    input: &str,
+    text: &str,
+    end: RunEnd,
+) -> bool {
     let mut writer = Vec::new(alloc);
-    let ended = run_dump(alloc, hex, &mut input.as_bytes(), &mut writer);
+    let ended = run_dump(alloc, offsets, hex, &mut input.as_bytes(), &mut writer);
     ended == end && writer.as_slice() == text.as_bytes()
+}
+
+/// Like `is_dumped_with`, without offsets.
+fn is_dumped(alloc: Global, hex: bool, input: &str, text: &str, end: RunEnd) -> bool {
+    is_dumped_with(alloc, false, hex, input, text, end)
+}
+
+#[test]
+fn offsets_of_lines(rt: HostRuntime) {
+    for (input, text, end) in &OFFSETS {
+        assert!(rt;
+            is_dumped_with(rt.alloc(), true, true, input, text, *end),
+            "at {input:?}"
+        );
+    }
 }
 
 #[test]
@@ -170,7 +214,7 @@ fn hexadecimal_input(rt: HostRuntime) {
 fn ends_unwritten(alloc: Global, code: Option<i32>, hex: bool) -> bool {
     let mut reader = Broken { given: false, code };
     let mut writer = Counter::failing_at(0);
-    run_dump(alloc, hex, &mut reader, &mut writer) == RunEnd::Unread && writer.taken == 0
+    run_dump(alloc, false, hex, &mut reader, &mut writer) == RunEnd::Unread && writer.taken == 0
 }
 
 /// A reader that memory is refused to.
@@ -185,7 +229,13 @@ impl Read for Refused {
 
 #[test]
 fn a_read_without_memory_ends_for_want_of_it(rt: HostRuntime) {
-    let end = run_dump(rt.alloc(), false, &mut Refused, &mut Counter::failing_at(0));
+    let end = run_dump(
+        rt.alloc(),
+        false,
+        false,
+        &mut Refused,
+        &mut Counter::failing_at(0),
+    );
     assert!(rt; end == RunEnd::Memory);
 }
 
@@ -207,17 +257,32 @@ fn many_documents(alloc: Global) -> Result<Vec<u8>, AllocError> {
     Ok(input)
 }
 
+/// Returns true if offsets go on where the next piece begins: the last of many documents has that
+/// of its place in the whole input. The lines have 97,778 digits, and 12 bytes each beside them.
+fn has_offsets_to_the_end(alloc: Global, mut input: &[u8]) -> bool {
+    let mut writer = Vec::new(alloc);
+    let end = run_dump(alloc, true, false, &mut input, &mut writer);
+    end == RunEnd::Good && writer.len() == 337_778 && writer.ends_with(b"\n99995\tdocument 5\n")
+}
+
+#[test]
+fn offsets_go_on_in_the_next_piece(rt: HostRuntime) -> Result<(), AllocError> {
+    let input = many_documents(rt.alloc())?;
+    assert!(rt; has_offsets_to_the_end(rt.alloc(), &input));
+    Ok(())
+}
+
 /// Returns true if the run ends with its call of the writer number `fails_at`, which fails.
 fn ends_at(alloc: Global, mut input: &[u8], fails_at: u64) -> bool {
     let mut writer = Counter::failing_at(fails_at);
-    let end = run_dump(alloc, false, &mut input, &mut writer);
+    let end = run_dump(alloc, false, false, &mut input, &mut writer);
     end == RunEnd::InOut && writer.calls == fails_at && writer.flushes == 0
 }
 
 /// Returns true if the run writes the whole text in five calls, of which the last one flushes.
 fn is_flushed(alloc: Global, mut input: &[u8]) -> bool {
     let mut writer = Counter::failing_at(6);
-    let end = run_dump(alloc, false, &mut input, &mut writer);
+    let end = run_dump(alloc, false, false, &mut input, &mut writer);
     end == RunEnd::Good && writer.calls == 5 && writer.flushes == 1 && writer.taken == 220_000
 }
 
@@ -235,7 +300,7 @@ fn a_failed_write_ends_the_run(rt: HostRuntime) -> Result<(), AllocError> {
 fn is_whole_or_refused(alloc: Global) -> bool {
     let mut reader = b"0500000000".as_slice();
     let mut writer = Counter::failing_at(0);
-    match run_dump(alloc, true, &mut reader, &mut writer) {
+    match run_dump(alloc, false, true, &mut reader, &mut writer) {
         RunEnd::Memory => writer.calls == 0,
         end => end == RunEnd::Good && writer.taken == 11,
     }

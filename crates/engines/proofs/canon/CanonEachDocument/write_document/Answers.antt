@@ -18,6 +18,6 @@ form_written r limit hex bytes t old new is written =
 
 pub returns-then-canonical : goal.returns-then-canonical
 returns-then-canonical g c = λ t s.
-    let same : plain t ≡ t = plain_where_named false 0 t (sym (c.requires t s) ∙ c.if-canonical.true) in
+    let same : plain t ≡ t = plain_where_named false 0 t (sym (c.requires.canonical t s) ∙ c.if-canonical.true) in
     let is : c.as_bytes.result.now ≡ document (elements (plain t)) = c.as_bytes.ensures.bytes ∙ s.parts ∙ ap (λ (x : Tree). document (elements x)) (sym same) in
     form_written c.write_bytes.result c.args.self.now.limit c.args.self.now.hex c.as_bytes.result.now t _ _ is c.write_bytes.ensures
