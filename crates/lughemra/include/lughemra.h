@@ -543,8 +543,8 @@ static inline struct lughemra_text lughemra_json(const uint8_t *bytes, size_t le
                                  lughemra_nonnull_room(room), lughemra_length(room, room_length));
 }
 
-/* The same, in canonical form: a document, whose arrays have the names "0", "1" and so on. It has at most as many bytes as the
- * document, but where an array's names are shorter than these. */
+/* Writes the document in canonical form, in which each array has the names "0", "1" and so on, in the same way. It can be longer
+ * than the document, where an array's names were shorter. */
 static inline struct lughemra_text lughemra_canonical(const uint8_t *bytes, size_t length, uint8_t *room, size_t room_length)
 {
     return lughemra_canonical_nonnull(lughemra_nonnull(bytes), lughemra_length(bytes, length), lughemra_nonnull_room(room),
