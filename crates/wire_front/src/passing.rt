@@ -63,7 +63,7 @@ fn wanted(part: &[u8]) -> usize
 fn message_of(alloc: Global, bytes: &[u8]) -> Result<Vec<u8>, NoMessage>
     ensures { AsksAs bytes.now result }
 {
-    let query = match RawQuery::parse(bytes, MAX_QUERY_LEN) {
+    let query = match RawQuery::parse(alloc, bytes, MAX_QUERY_LEN) {
         Ok(query) => query,
         Err(fault) => return Err(NoMessage::Fault(fault)),
     };

@@ -76,6 +76,15 @@ impl<'a> Fields<'a> {
     }
 }
 
+/// Returns true if a top-level name of `body` is repeated. Sorts the names in memory from `alloc`,
+/// so no choice of names makes it slow; if memory runs out, compares them in pairs.
+pub fn has_repeated_name(alloc: Global, body: RawDocument<'_>) -> bool
+    ensures { (t : Tree) → Spells t (document_bytes body.entry)
+        → result ≡ is_some (first_repeated [] t) }
+{
+    Fields::of(alloc, body).has_repeated()
+}
+
 impl<'a> Names for Fields<'a> {
     ghost are = { AreFields };
 

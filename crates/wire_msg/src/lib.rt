@@ -36,6 +36,7 @@ mod write;
 
 pub use document_iter::{Documents, DocumentsIter};
 pub use fault::{MsgCause, MsgFault};
+pub use fields::has_repeated_name;
 pub use flags::MsgFlags;
 pub use front::MsgFront;
 pub use header::{HEADER_LEN, MAX_MESSAGE_LEN, MsgHeader, OP_MSG};

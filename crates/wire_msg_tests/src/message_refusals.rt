@@ -1,11 +1,12 @@
-//! A test that a message is read the same whether memory is refused or not.
-//! `scripts/checks/try-refusals` runs it with each of its allocations refused in turn. Only one is
+//! Tests that messages and names are told the same whether memory is refused or not.
+//! `scripts/checks/try-refusals` runs them with each of their allocations refused in turn. Only one is
 //! refused in a run, so bytes that are read again are read.
 
 use crate::messages::{INSERT, LIMIT, PING, both_tell};
+use bson_raw::RawDocument;
 use bson_raw_tests::hex_bytes::read_digits;
 use std::alloc::Global;
-use wire_msg::RawMsg;
+use wire_msg::{RawMsg, has_repeated_name};
 
 /// Messages, and bytes whose names are at fault: a repeated name of the body, and an identifier
 /// that is a name of the body, after the body and before it.
@@ -45,5 +46,43 @@ fn is_told_alike(alloc: Global, hex: &str) -> bool {
 fn messages_are_told_alike(rt: HostRuntime) {
     for hex in &ROWS {
         assert!(rt; is_told_alike(rt.alloc(), hex), "{hex}");
+    }
+}
+
+/// Documents, and whether a top-level name is repeated: `{}`, `{"a": 1, "b": 2}`,
+/// `{"a": 1, "b": 2, "a": 3}` and `{"a": {"b": 1}, "b": 2}`.
+const NAMES: [(&str, bool); 4] = [
+    ("0500000000", false),
+    ("13000000 10610001000000 10620002000000 00", false),
+    (
+        "1a000000 10610001000000 10620002000000 10610003000000 00",
+        true,
+    ),
+    (
+        "1b000000 036100 0c000000 10620001000000 00 10620002000000 00",
+        false,
+    ),
+];
+
+/// Returns true if `bytes` are a document, and `has_repeated_name` tells this of it.
+fn is_repeated_as(alloc: Global, bytes: &[u8], repeated: bool) -> bool {
+    match RawDocument::from_bytes(bytes) {
+        Ok(document) => has_repeated_name(alloc, document) == repeated,
+        Err(_) => false,
+    }
+}
+
+/// Returns true if the names of the document of these digits are told as `repeated`.
+fn are_names_told(alloc: Global, hex: &str, repeated: bool) -> bool {
+    match bytes_again(alloc, hex) {
+        Some(bytes) => is_repeated_as(alloc, &bytes, repeated),
+        None => false,
+    }
+}
+
+#[test]
+fn names_are_told_alike(rt: HostRuntime) {
+    for (hex, repeated) in &NAMES {
+        assert!(rt; are_names_told(rt.alloc(), hex, *repeated), "{hex}");
     }
 }

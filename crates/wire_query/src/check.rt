@@ -13,7 +13,8 @@ use crate::fault::{QueryCause, QueryFault, fault_at};
 use crate::query::OP_QUERY;
 use bson_elem::{little_u32, read_cstring};
 use bson_raw::RawDocument;
-use wire_msg::{MAX_MESSAGE_LEN, MsgHeader};
+use std::alloc::Global;
+use wire_msg::{MAX_MESSAGE_LEN, MsgHeader, has_repeated_name};
 
 /// SlaveOk, bit 2 of the flags: a secondary may answer.
 const SECONDARY_OK: u32 = 4;
@@ -44,7 +45,7 @@ fn check_header(bytes: &[u8], limit: u32) -> Result<(), QueryFault>
 }
 
 /// Checks the command, which begins at offset `at` and is all of `bytes`.
-fn check_command(bytes: &[u8], at: usize) -> Result<RawDocument<'_>, QueryFault>
+fn check_command(alloc: Global, bytes: &[u8], at: usize) -> Result<RawDocument<'_>, QueryFault>
     requires { at + length bytes.now < 2 ^ 64 }
     ensures { MatchResult result
         (λ d. (document_bytes d ≡ bytes.now) × HasCommand bytes.now)
@@ -57,7 +58,7 @@ fn check_command(bytes: &[u8], at: usize) -> Result<RawDocument<'_>, QueryFault>
             Err(fault_at(end, QueryCause::TrailingBytes))
         }
         Ok((command, _)) => {
-            if command.first_repeated_name().is_some() {
+            if has_repeated_name(alloc, command) {
                 return Err(fault_at(at, QueryCause::RepeatedField));
             }
             Ok(command)
@@ -67,7 +68,7 @@ fn check_command(bytes: &[u8], at: usize) -> Result<RawDocument<'_>, QueryFault>
 
 /// Checks numberToSkip, numberToReturn and the command, which begin at offset `at`. Returns the
 /// command.
-fn check_numbers(bytes: &[u8], at: usize) -> Result<RawDocument<'_>, QueryFault>
+fn check_numbers(alloc: Global, bytes: &[u8], at: usize) -> Result<RawDocument<'_>, QueryFault>
     requires { at + length bytes.now < 2 ^ 64 }
     ensures { MatchResult result
         (λ d. HasNumbers bytes.now (document_bytes d))
@@ -83,7 +84,7 @@ fn check_numbers(bytes: &[u8], at: usize) -> Result<RawDocument<'_>, QueryFault>
     if count != 1 && count != u32::MAX {
         return Err(fault_at(at + 4, QueryCause::Count));
     }
-    check_command(&bytes[NUMBERS_LEN..], at + NUMBERS_LEN)
+    check_command(alloc, &bytes[NUMBERS_LEN..], at + NUMBERS_LEN)
 }
 
 /// Returns the database whose commands are sent to the collection with this full name, if it is
@@ -102,7 +103,7 @@ fn database_of(name: &str) -> Option<&str>
 }
 
 /// Checks what follows the flags. Returns the database's name and the command.
-fn check_name(bytes: &[u8]) -> Result<(&str, RawDocument<'_>), QueryFault>
+fn check_name(alloc: Global, bytes: &[u8]) -> Result<(&str, RawDocument<'_>), QueryFault>
     requires { length bytes.now < 2 ^ 32 }
     ensures { MatchResult result
         (λ x. HasName bytes.now x.0.now (document_bytes x.1))
@@ -114,12 +115,16 @@ fn check_name(bytes: &[u8]) -> Result<(&str, RawDocument<'_>), QueryFault>
     let Some(database) = database_of(name) else {
         return Err(fault_at(NAME, QueryCause::Collection));
     };
-    let command = check_numbers(rest, NAME + 1 + name.len())?;
+    let command = check_numbers(alloc, rest, NAME + 1 + name.len())?;
     Ok((database, command))
 }
 
 /// Checks a whole query. Returns the database's name and the command.
-pub(crate) fn check_query(bytes: &[u8], limit: u32) -> Result<(&str, RawDocument<'_>), QueryFault>
+pub(crate) fn check_query(
+    alloc: Global,
+    bytes: &[u8],
+    limit: u32,
+) -> Result<(&str, RawDocument<'_>), QueryFault>
     requires { limit ≤ MAX_MESSAGE_LEN }
     ensures { MatchResult result
         (λ x. HasParts limit bytes.now x.0.now (document_bytes x.1))
@@ -133,5 +138,5 @@ pub(crate) fn check_query(bytes: &[u8], limit: u32) -> Result<(&str, RawDocument
     if flags != 0 && flags != SECONDARY_OK {
         return Err(fault_at(16, QueryCause::Flags));
     }
-    check_name(&bytes[NAME..])
+    check_name(alloc, &bytes[NAME..])
 }

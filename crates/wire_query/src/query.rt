@@ -17,7 +17,7 @@ use crate::fault::QueryFault;
 use crate::write::write_header;
 use bson_elem::little_u32;
 use bson_raw::RawDocument;
-use std::alloc::AllocError;
+use std::alloc::{AllocError, Global};
 use std::convert::AsSlice;
 use wire_msg::{MAX_MESSAGE_LEN, MsgHeader, OP_MSG};
 
@@ -50,13 +50,14 @@ impl<'a> AsSlice<u8> for RawQuery<'a> {
 impl<'a> RawQuery<'a> {
     ghost use Rattle.wire_query.specs.RawQuery.{raw_query_bytes};
 
-    /// Reads `bytes` as the query of a command, of at most `limit` bytes. Takes no memory. The
-    /// time to find repeated names grows with the square of their number.
+    /// Reads `bytes` as the query of a command, of at most `limit` bytes. Finds repeated names by
+    /// sorting in memory from `alloc`, so no choice of names makes it slow; if memory runs out,
+    /// compares them in pairs.
     ///
     /// # Errors
     ///
     /// Returns the first fault of the bytes and its offset, in the order of the checks.
-    pub fn parse(bytes: &'a [u8], limit: u32) -> Result<RawQuery<'a>, QueryFault>
+    pub fn parse(alloc: Global, bytes: &'a [u8], limit: u32) -> Result<RawQuery<'a>, QueryFault>
         requires { limit ≤ MAX_MESSAGE_LEN }
         ensures found { IfOk result (λ q.
             (raw_query_bytes q ≡ bytes.now) × IsQuery limit bytes.now) }
@@ -65,7 +66,7 @@ impl<'a> RawQuery<'a> {
         ensures exact { (f : QueryFault) → FaultQuery bytes.now limit f → IsErrOf result f }
         ensures inside { IfErr result (λ f. f.at ≤ length bytes.now) }
     {
-        match check_query(bytes, limit) {
+        match check_query(alloc, bytes, limit) {
             Ok((database, command)) => Ok(RawQuery {
                 bytes,
                 database,

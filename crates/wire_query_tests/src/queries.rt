@@ -2,6 +2,7 @@
 
 use bson_elem::{BsonCause, BsonFault};
 use bson_raw::RawBson;
+use std::alloc::Global;
 use wire_query::{QueryCause, QueryFault, RawQuery};
 
 /// The limit of a query's bytes.
@@ -53,7 +54,7 @@ fn is_sent(query: RawQuery<'_>, secondary_ok: bool, name: &str) -> bool {
 #[test]
 fn what_drivers_send_is_read(rt: HostRuntime) {
     for (bytes, secondary_ok, name) in &SENT {
-        match RawQuery::parse(bytes, LIMIT) {
+        match RawQuery::parse(rt.alloc(), bytes, LIMIT) {
             Ok(query) => assert!(rt; is_sent(query, *secondary_ok, name), "{name}"),
             Err(fault) => assert!(rt; false, "{fault}"),
         }
@@ -86,24 +87,27 @@ const ALTERED: [(usize, u8, usize, QueryCause); 13] = [
 ];
 
 /// Returns true if `bytes` have this fault.
-fn has_fault(bytes: &[u8], at: usize, cause: QueryCause) -> bool {
-    RawQuery::parse(bytes, LIMIT).err() == Some(QueryFault { at, cause })
+fn has_fault(alloc: Global, bytes: &[u8], at: usize, cause: QueryCause) -> bool {
+    RawQuery::parse(alloc, bytes, LIMIT).err() == Some(QueryFault { at, cause })
 }
 
 /// Returns true if `ISMASTER` with another byte at this offset has this fault.
-fn is_fault(offset: usize, byte: u8, at: usize, cause: QueryCause) -> bool {
+fn is_fault(alloc: Global, offset: usize, byte: u8, at: usize, cause: QueryCause) -> bool {
     let mut bytes = ISMASTER;
     match bytes.get_mut(offset) {
         Some(place) => *place = byte,
         None => return false,
     }
-    has_fault(&bytes, at, cause)
+    has_fault(alloc, &bytes, at, cause)
 }
 
 #[test]
 fn an_altered_byte_is_told(rt: HostRuntime) {
     for (offset, byte, at, cause) in &ALTERED {
-        assert!(rt; is_fault(*offset, *byte, *at, *cause), "{offset}");
+        assert!(rt;
+            is_fault(rt.alloc(), *offset, *byte, *at, *cause),
+            "{offset}"
+        );
     }
 }
 
@@ -146,7 +150,7 @@ const REFUSED: [(&[u8], usize, QueryCause); 6] = [
 #[test]
 fn other_bytes_are_refused(rt: HostRuntime) {
     for (bytes, at, cause) in &REFUSED {
-        assert!(rt; has_fault(bytes, *at, *cause), "{at}");
+        assert!(rt; has_fault(rt.alloc(), bytes, *at, *cause), "{at}");
     }
 }
 
@@ -157,7 +161,7 @@ fn is_asked(query: RawQuery<'_>) -> bool {
 
 #[test]
 fn the_command_is_read(rt: HostRuntime) {
-    match RawQuery::parse(&ISMASTER, LIMIT) {
+    match RawQuery::parse(rt.alloc(), &ISMASTER, LIMIT) {
         Ok(query) => assert!(rt; is_asked(query)),
         Err(fault) => assert!(rt; false, "{fault}"),
     }

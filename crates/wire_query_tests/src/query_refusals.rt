@@ -49,7 +49,7 @@ fn a_refused_message_adds_nothing(rt: HostRuntime) {
         assert!(rt; false);
         return;
     };
-    match RawQuery::parse(QUERY, 65_536) {
+    match RawQuery::parse(rt.alloc(), QUERY, 65_536) {
         Ok(query) => assert!(rt; is_written(query, &mut out)),
         Err(fault) => assert!(rt; false, "{fault}"),
     }

@@ -1,7 +1,6 @@
 use Rattle.std.proofs.Common.{◌≡◌, ◌≢◌, ◌+◌, ◌-◌, ◌++◌, true, List, [], ◌∷◌, ℕ, length, Option, Some, None, refl, ap, sym, ◌∙◌, arith, length-append}
 use Rattle.std.proofs.lemmas.Bool.Decides.{nat_tests}
-use Rattle.std.specs.Prelude.{is_some, MatchOption}
-use Rattle.std.specs.Borrow.{Bor}
+use Rattle.std.specs.Prelude.{is_some}
 use Rattle.bson_elem.specs.Spelling.{document, elements}
 use Rattle.bson_raw.proofs.Lemmas.{is_document}
 use Rattle.bson_raw.specs.RawDocument.{document_bytes}
@@ -11,9 +10,9 @@ use Rattle.wire_query.specs.Faults.{of_document, behind_document, fails, holds}
 use Rattle.wire_query.proofs.check.check_command.Goals as goal
 
 -- a repeated name was found
-repeated : (r : Option (Bor (List ℕ))) (found : Option (List ℕ)) → MatchOption r (found ≡ None) (λ name. found ≡ Some name.now) → is_some r ≡ true → found ≡ None → ⊥
-repeated None found m some none = absurd (cc)
-repeated (Some name) found m some none = let same : None ≡ Some name.now = sym none ∙ m in absurd cc
+repeated : (found : Option (List ℕ)) → is_some found ≡ true → found ≡ None → ⊥
+repeated None some none = absurd (cc)
+repeated (Some name) some none = absurd (cc)
 
 none_left : (bytes : List ℕ) → length bytes ≡ 0 → bytes ≡ []
 none_left [] e = refl
@@ -32,12 +31,12 @@ returns-in-Ok c =
     let at : c.args.at + (length c.args.bytes.now - length rest) ≡ c.args.at + length (document (elements t.0)) = omega (arith, ap length is, length-append (document (elements t.0)) rest) in
     behind_document t.0 rest (is_document t.0 d t.1) is (fails (λ none. some (ap length none)) (c.fault_at-in-Ok.ensures ∙ ap (λ (n : ℕ). query_fault n TrailingBytes) at))
 
-pub returns-then-is_some : goal.returns-then-is_some
-returns-then-is_some c =
+pub returns-then-has_repeated_name : goal.returns-then-has_repeated_name
+returns-then-has_repeated_name c =
     let rest : List ℕ = c.in-Ok.rest.now in
     let d : List ℕ = document_bytes c.in-Ok.field-0-0 in
     let t = c.in-Ok.ensures.found.1 in
     let is = c.in-Ok.ensures.found.0 ∙ ap (λ (x : List ℕ). x ++ rest) t.1.parts in
     let empty : length rest ≡ 0 = grind (arith, nat_tests) in
     behind_document t.0 rest (is_document t.0 d t.1) is
-    (holds (none_left rest empty) (fails (repeated c.first_repeated_name.result _ (c.first_repeated_name.ensures t.0 t.1) (sym c.is_some.ensures ∙ c.if-is_some.true)) c.fault_at-then-is_some.ensures))
+    (holds (none_left rest empty) (fails (repeated _ (sym (c.has_repeated_name.ensures t.0 t.1) ∙ c.if-has_repeated_name.true)) c.fault_at-then-has_repeated_name.ensures))
