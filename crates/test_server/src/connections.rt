@@ -6,7 +6,6 @@ ghost use Rattle.wire_peer.specs.{log_of};
 ghost use Rattle.test_server.specs.Serving.{served_line};
 ghost use Rattle.test_server.specs.Transcript.{told_text};
 
-use crate::store::Store;
 use crate::transcript::{write_end, write_entries, write_new};
 use mio::net::{TcpListener, TcpStream};
 use mio::{Events, Interest, Poll, Token};
@@ -16,6 +15,7 @@ use std::io;
 use std::io::{BufWriter, ErrorKind, Write};
 use std::net::{Net, SocketAddr, ToSocketAddrs};
 use std::time::Duration;
+use test_store::Store;
 use wire_front::FrontCause;
 use wire_hall::{Hall, Leave, Turned};
 use wire_peer::ServerCause;

@@ -1,4 +1,4 @@
-//! `test_server` is a server for trying out drivers. It keeps documents in memory, answers the
+//! `test_server` is a server for trying out drivers. It has a `Store` of test_store answer the
 //! commands that README.md lists, and writes down each request with its answer.
 //!
 //! It serves many connections at once, in one thread. Bytes that are neither a message nor the
@@ -9,41 +9,13 @@
 //! command line is at fault, 3 if listening, accepting a connection or writing the output failed,
 //! and 4 if memory ran out.
 //!
-//! Uses bson_doc, wire_hall and wire_text. Read first: `store`, then `commands`, and then
-//! `connections`.
+//! Uses test_store, wire_hall and wire_text. Read first: `connections`, and then `transcript`.
 #![tactic(auto)]
 
-mod adding;
-mod answer;
-mod changing;
 mod choice;
 mod command_line;
-mod commands;
-mod comparing;
-mod conditions;
 mod connections;
-mod counts;
-mod deletes;
-mod failure;
-mod fields;
-mod filters;
-mod handling;
-mod identity;
-mod increments;
-mod inserted;
-mod namespace;
-mod numbers;
-mod operators;
-mod options;
-mod owned;
-mod pipeline;
-mod selection;
-mod sorting;
-mod store;
 mod transcript;
-mod uncompared;
-mod updates;
-mod upserts;
 
 ghost use Rattle.std.specs.Prelude.{◌≡◌, map};
 ghost use Rattle.test_server.specs.ExitStatus.{IsStatusFor, IsStatusOf, exit_status};

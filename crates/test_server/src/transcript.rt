@@ -9,10 +9,10 @@ ghost use Rattle.test_server.specs.Transcript.{answer_text, cause_text, end_text
 ghost use Rattle.test_server.specs.Transcript.{leave_text, new_text, outcome_text, payload_text};
 ghost use Rattle.test_server.specs.Transcript.{request_text, server_cause_text, told_text};
 
-use crate::commands::name_of;
 use bson_text::{dump_to, quoted_to};
 use std::io;
 use std::io::Write;
+use test_store::name_of;
 use wire_front::FrontCause;
 use wire_hall::Leave;
 use wire_msg::{Payload, PayloadBuf};

@@ -1,0 +1,155 @@
+-- The conditions of filters: what the operators ask of a field (MongoDB manual, Query and
+-- Projection Operators: Comparison, and Element).
+use Rattle.std.specs.Prelude.{ℕ, List, [], ◌∷◌, Bool, true, false, not, ◌&&◌, ◌||◌, ◌==◌}
+use Rattle.std.specs.Prelude.{Option, Some, None, codes, if◌then◌else◌}
+use Rattle.std.specs.Ordering.{is_eq, is_ge, is_gt, is_le, is_lt}
+use Rattle.std.specs.Str.{bytes_eq}
+use Rattle.std.specs.declared.cmp.Ordering.{Ordering}
+use Rattle.bson_elem.specs.declared.kinds.Kind.TheVariants as kinds
+use Rattle.bson_elem.specs.{Tree, boolean_value, inner_pair, leaf_pair, no_pairs, raw_value}
+use Rattle.bson_raw.specs.{TreeValue, document_value, leaf_value}
+use Rattle.bson_doc.specs.{coded_value, same}
+use Rattle.doc_query.specs.declared.conditions.Operator.{Operator}
+use Rattle.doc_query.specs.declared.conditions.Operator.TheVariants as operators
+use Rattle.doc_query.specs.Comparing.{PlaceView, place, place_order}
+use Rattle.doc_query.specs.Owned.{values_in}
+
+-- the operator with this name
+abbrev pub operator_of : List ℕ → Option Operator
+operator_of name =
+    if bytes_eq name (codes "$eq") then Some operators.Eq else
+    if bytes_eq name (codes "$ne") then Some operators.Ne else
+    if bytes_eq name (codes "$gt") then Some operators.Gt else
+    if bytes_eq name (codes "$gte") then Some operators.Gte else
+    if bytes_eq name (codes "$lt") then Some operators.Lt else
+    if bytes_eq name (codes "$lte") then Some operators.Lte else
+    if bytes_eq name (codes "$in") then Some operators.In else
+    if bytes_eq name (codes "$nin") then Some operators.Nin else
+    if bytes_eq name (codes "$exists") then Some operators.Exists else None
+
+-- ---- operands
+
+-- A value may be equal to others. A regex asks for a match in its place, and a decimal128 isn't
+-- compared.
+abbrev pub is_equated : TreeValue → Bool
+is_equated (leaf_value kinds.Decimal128 v) = false
+is_equated (leaf_value kinds.Regex v) = false
+is_equated _ = true
+
+abbrev pub are_equated : List TreeValue → Bool
+are_equated [] = true
+are_equated (v ∷ vs) = is_equated v && are_equated vs
+
+abbrev pub has_place : Option PlaceView → Bool
+has_place None = false
+has_place (Some p) = true
+
+-- a value may be less or greater than others of its bracket
+abbrev pub is_ranked : TreeValue → Bool
+is_ranked (leaf_value kinds.MinKey v) = false
+is_ranked (leaf_value kinds.MaxKey v) = false
+is_ranked v = has_place (place v)
+
+abbrev pub is_list : TreeValue → Bool
+is_list (document_value kinds.Array b t) = are_equated (values_in t)
+is_list _ = false
+
+abbrev pub is_truth : TreeValue → Bool
+is_truth (leaf_value kinds.Boolean (boolean_value b)) = true
+is_truth _ = false
+
+-- the operand is one that the operator takes
+abbrev pub is_operand : Operator → TreeValue → Bool
+is_operand operators.Eq v = is_equated v
+is_operand operators.Ne v = is_equated v
+is_operand operators.In v = is_list v
+is_operand operators.Nin v = is_list v
+is_operand operators.Exists v = is_truth v
+is_operand _ v = is_ranked v
+
+-- ---- one value
+
+-- the operator asks for this order of a value and the operand
+abbrev pub accepts : Operator → Ordering → Bool
+accepts operators.Gt o = is_gt o
+accepts operators.Gte o = is_ge o
+accepts operators.Lt o = is_lt o
+accepts operators.Lte o = is_le o
+accepts _ o = is_eq o
+
+-- Values are compared in one bracket alone. Those without a place are equal if they are the same.
+abbrev pub passes_at : Operator → TreeValue → TreeValue → Option PlaceView → Option PlaceView → Bool
+passes_at op own v (Some p) (Some q) = (p.bracket == q.bracket) && accepts op (place_order p q)
+passes_at op own v None None = same coded_value own v
+passes_at op own v _ _ = false
+
+abbrev pub passes : Operator → TreeValue → TreeValue → Bool
+passes op own v = passes_at op own v (place own) (place v)
+
+abbrev pub any_passes : Operator → List TreeValue → TreeValue → Bool
+any_passes op [] v = false
+any_passes op (own ∷ owns) v = passes op own v || any_passes op owns v
+
+-- ---- the value of a field
+
+abbrev pub null : TreeValue
+null = leaf_value kinds.Null (raw_value [])
+
+-- the values of an array
+abbrev pub elements : TreeValue → List TreeValue
+elements (document_value kinds.Array b t) = values_in t
+elements _ = []
+
+-- The value of a field passes, or an element of it does if it is an array. A missing field is as
+-- null.
+abbrev pub finds : Operator → Option TreeValue → TreeValue → Bool
+finds op None v = passes op null v
+finds op (Some own) v = passes op own v || any_passes op (elements own) v
+
+-- it equals one of these
+abbrev pub finds_one : Option TreeValue → List TreeValue → Bool
+finds_one own [] = false
+finds_one own (v ∷ vs) = finds operators.Eq own v || finds_one own vs
+
+abbrev pub is_there : Option TreeValue → Bool
+is_there None = false
+is_there (Some own) = true
+
+abbrev pub is_true : TreeValue → Bool
+is_true (leaf_value kinds.Boolean (boolean_value b)) = b
+is_true _ = false
+
+-- the value of a field is as the operator asks
+abbrev pub meets : Operator → Option TreeValue → TreeValue → Bool
+meets operators.Ne own v = not (finds operators.Eq own v)
+meets operators.In own v = finds_one own (elements v)
+meets operators.Nin own v = not (finds_one own (elements v))
+meets operators.Exists own v = if is_true v then is_there own else not (is_there own)
+meets op own v = finds op own v
+
+-- ---- documents of operators
+
+-- an operator is carried out with this operand
+abbrev pub is_named_operand : Option Operator → TreeValue → Bool
+is_named_operand None v = false
+is_named_operand (Some op) v = is_operand op v
+
+-- all pairs of a document are operators, each with an operand that it is carried out with
+abbrev pub are_conditions : Tree → Bool
+are_conditions no_pairs = true
+are_conditions (leaf_pair n k v ps) =
+    is_named_operand (operator_of n) (leaf_value k v) && are_conditions ps
+are_conditions (inner_pair n k b inner ps) =
+    is_named_operand (operator_of n) (document_value k b inner) && are_conditions ps
+
+abbrev pub meets_named : Option Operator → Option TreeValue → TreeValue → Bool
+meets_named None own v = false
+meets_named (Some op) own v = meets op own v
+
+-- the value of a field is as all the operators ask
+abbrev pub meets_all : Tree → Option TreeValue → Bool
+meets_all no_pairs own = true
+meets_all (leaf_pair n k v ps) own =
+    meets_named (operator_of n) own (leaf_value k v) && meets_all ps own
+meets_all (inner_pair n k b inner ps) own =
+    meets_named (operator_of n) own (document_value k b inner) && meets_all ps own

@@ -1,0 +1,228 @@
+//! Says why a command isn't carried out.
+
+ghost use Rattle.std.specs.Prelude.{◌≡◌};
+
+use std::alloc::AllocError;
+
+/// What a sort is by.
+const UNSORTED: &str =
+    "documents are sorted by numbers, strings, booleans, dates, ObjectIds and null alone";
+
+/// What is wrong with a command, or with what it asks for.
+#[derive(Clone, Copy, Debug, PartialEq, Eq)]
+pub enum CommandError {
+    /// `$db` isn't a string.
+    Database,
+    /// The field `insert` isn't a string.
+    Insert,
+    /// The field `find` isn't a string.
+    Find,
+    /// The field `drop` isn't a string.
+    Drop,
+    /// The field `getMore` isn't an int64.
+    GetMore,
+    /// The field `collection` isn't a string.
+    Collection,
+    /// The field `delete` isn't a string.
+    Delete,
+    /// The field `aggregate` isn't a string.
+    Aggregate,
+    /// The pipeline isn't an array of stages that are carried out.
+    Stage,
+    /// The field `cursor` isn't a document.
+    Cursor,
+    /// The field `count` isn't a string.
+    Count,
+    /// A statement of delete hasn't just the fields `q` and `limit`, of which this is 0 or 1.
+    Deletes,
+    /// The field `update` isn't a string.
+    Update,
+    /// A statement of update isn't one, or has other fields than `q`, `u`, `multi` and `upsert`.
+    Updates,
+    /// A statement of update would insert a document by a filter with a field that isn't carried
+    /// out there.
+    Upsert,
+    /// The `_id` of a document that a statement of update would insert is taken.
+    Duplicate,
+    /// A statement of update puts a document in the place of many.
+    Many,
+    /// An update has other operators than `$set`, `$unset` and `$inc`, or fields beside them.
+    Modifiers,
+    /// An operator of an update names no field, or one inside another field.
+    Path,
+    /// Two operators of an update name one field.
+    Conflict,
+    /// `$inc` adds something else than a number, or to something else.
+    Increment,
+    /// The sum that `$inc` makes is no int64.
+    Overflow,
+    /// An update would change an `_id`.
+    ImmutableId,
+    /// The field `killCursors` isn't a string.
+    KillCursors,
+    /// The field `cursors` isn't an array.
+    Cursors,
+    /// A name is repeated in the body, or in a document inside.
+    Repeated,
+    /// What the command brings isn't 1 to 100,000 documents, or a name is repeated in one.
+    Documents,
+    /// The field `ordered` isn't a boolean.
+    Ordered,
+    /// The filter isn't a document, or a name is repeated in it.
+    Filter,
+    /// The filter has an operator or an operand that isn't carried out.
+    Operator,
+    /// The filter would compare a decimal128.
+    Decimal,
+    /// The field `sort` isn't a document, or a name is repeated in it.
+    Sort,
+    /// A field of the sort isn't a key with a direction.
+    Direction,
+    /// A document has a value that isn't compared in a field by which they are sorted.
+    Unsorted,
+    /// The number of documents to skip isn't a whole number.
+    Skip,
+    /// The most documents to find isn't a whole number.
+    Limit,
+    /// The number of documents in the first batch isn't a whole number.
+    FirstBatchSize,
+    /// The field `singleBatch` isn't a boolean.
+    SingleBatch,
+    /// The number of documents in a later batch isn't a whole number that is at least 1.
+    NextBatchSize,
+    /// No open cursor has this id and this namespace.
+    CursorNotFound,
+    /// No collection has this namespace.
+    NamespaceNotFound,
+}
+
+impl CommandError {
+    ghost use Rattle.doc_query.specs.Errors.{code_name_of, code_of, words_of};
+
+    /// Returns the number of the error.
+    pub fn code(self) -> i32
+        ensures { result ≡ code_of self }
+    {
+        match self {
+            CommandError::CursorNotFound => 43,
+            CommandError::NamespaceNotFound => 26,
+            CommandError::Direction => 15975,
+            CommandError::Conflict => 40,
+            CommandError::Increment => 14,
+            CommandError::Overflow => 2,
+            CommandError::ImmutableId => 66,
+            CommandError::Duplicate => 11000,
+            _ => 9,
+        }
+    }
+
+    /// Returns the name of the error, which goes with its number.
+    pub fn code_name(self) -> &'static str
+        ensures { result.now ≡ code_name_of self }
+    {
+        match self {
+            CommandError::CursorNotFound => "CursorNotFound",
+            CommandError::NamespaceNotFound => "NamespaceNotFound",
+            CommandError::Direction => "Location15975",
+            CommandError::Conflict => "ConflictingUpdateOperators",
+            CommandError::Increment => "TypeMismatch",
+            CommandError::Overflow => "BadValue",
+            CommandError::ImmutableId => "ImmutableField",
+            CommandError::Duplicate => "DuplicateKey",
+            _ => "FailedToParse",
+        }
+    }
+
+    /// Returns what is wrong, in words that name the field.
+    pub fn words(self) -> &'static str
+        ensures { result.now ≡ words_of self }
+    {
+        match self {
+            CommandError::Database => "the field '$db' must be a string",
+            CommandError::Insert => "the field 'insert' must be a string",
+            CommandError::Find => "the field 'find' must be a string",
+            CommandError::Drop => "the field 'drop' must be a string",
+            CommandError::GetMore => "the field 'getMore' must be an int64",
+            CommandError::Collection => "the field 'collection' must be a string",
+            CommandError::KillCursors => "the field 'killCursors' must be a string",
+            CommandError::Cursors => "the field 'cursors' must be an array",
+            CommandError::Repeated => "a document of the command has a name twice",
+            CommandError::Delete => "the field 'delete' must be a string",
+            CommandError::Aggregate => "the field 'aggregate' must be a string",
+            CommandError::Stage => {
+                "the stages must be $match, $skip, $limit and {$group: {_id: 1, n: {$sum: 1}}}"
+            }
+            CommandError::Cursor => "the field 'cursor' must be a document",
+            CommandError::Count => "the field 'count' must be a string",
+            CommandError::Deletes =>
+                "a statement must have a filter 'q' and a 'limit' of 0 or 1 alone",
+            CommandError::Update => "the field 'update' must be a string",
+            CommandError::Updates => {
+                "a statement must have a filter 'q', an update 'u', and 'multi' and 'upsert' alone"
+            }
+            CommandError::Upsert => "a filter with $in or a field without a name can't be upserted",
+            CommandError::Duplicate => "E11000 duplicate key error index: _id_",
+            CommandError::Many => "multi update is not supported for replacement-style update",
+            CommandError::Modifiers => {
+                "an update must be a document, or have the operators $set, $unset and $inc alone"
+            }
+            CommandError::Path =>
+                "an operator must name fields of the document itself, with no '.' and no '$'",
+            CommandError::Conflict => "two operators of an update must not name one field",
+            CommandError::Increment => "$inc must add an int32 or an int64 to one",
+            CommandError::Overflow => "the sum that $inc makes must be an int64",
+            CommandError::ImmutableId => "an update must not change the immutable field '_id'",
+            CommandError::Documents => {
+                "the command must bring from 1 to 100000 documents, with no name twice in one"
+            }
+            CommandError::Ordered => "the field 'ordered' must be a boolean",
+            CommandError::Filter => "the field 'filter' must be a document with no name twice",
+            CommandError::Operator => {
+                "a filter must ask for values or $eq, $ne, $gt, $gte, $lt, $lte, $in, $nin, $exists"
+            }
+            CommandError::Decimal => "a filter must compare no decimal128",
+            CommandError::Sort => "the field 'sort' must be a document with no name twice",
+            CommandError::Direction => {
+                "$sort key ordering must be 1 (for ascending) or -1 (for descending)"
+            }
+            CommandError::Unsorted => UNSORTED,
+            CommandError::Skip => "the field 'skip' must be a whole number",
+            CommandError::Limit => "the field 'limit' must be a whole number",
+            CommandError::SingleBatch => "the field 'singleBatch' must be a boolean",
+            CommandError::FirstBatchSize => "the field 'batchSize' must be a whole number",
+            CommandError::NextBatchSize => "the field 'batchSize' must be a whole number from 1 on",
+            CommandError::CursorNotFound =>
+                "no open cursor of this namespace has the id in 'getMore'",
+            CommandError::NamespaceNotFound => "ns not found",
+        }
+    }
+}
+
+/// Why a command has no answer of its own.
+#[derive(Clone, Copy, Debug, PartialEq, Eq)]
+pub enum Failure {
+    /// The answer is this error.
+    Refused(CommandError),
+    /// Memory ran out.
+    OutOfMemory,
+}
+
+impl From<CommandError> for Failure {
+    ghost use Rattle.doc_query.specs.declared.failure.Failure.TheVariants.{Refused};
+
+    ghost from_gives = { λ e failure. failure ≡ Refused e };
+
+    fn from(error: CommandError) -> Failure {
+        Failure::Refused(error)
+    }
+}
+
+impl From<AllocError> for Failure {
+    ghost use Rattle.doc_query.specs.declared.failure.Failure.TheVariants.{OutOfMemory};
+
+    ghost from_gives = { λ _ failure. failure ≡ OutOfMemory };
+
+    fn from(_error: AllocError) -> Failure {
+        Failure::OutOfMemory
+    }
+}

@@ -1,0 +1,45 @@
+//! Makes values, and sets the fields of documents.
+
+ghost use Rattle.std.specs.Prelude.{◌≡◌, ◌<◌, ◌^◌, OnOk, OnSome, string_bytes};
+ghost use Rattle.bson_doc.specs.{put, value_of};
+ghost use Rattle.doc_query.specs.Values.{count_value};
+
+use bson_doc::{Bson, Document};
+use std::alloc::{AllocError, Global};
+
+/// Sets the field with this name of a document.
+fn put_field(document: &mut Document, name: String, value: Bson) -> Option<()>
+    ensures { OnSome result (document.new ≡ put (string_bytes name) (value_of value) document.old) }
+{
+    document.insert(name, value).ok()?;
+    Some(())
+}
+
+/// Sets a field of a document.
+///
+/// # Errors
+///
+/// Returns `AllocError` if memory runs out.
+pub fn set(
+    alloc: Global,
+    document: &mut Document,
+    name: &str,
+    value: Bson,
+) -> Result<(), AllocError>
+    ensures { OnOk result (document.new ≡ put name.now (value_of value) document.old) }
+{
+    let name = String::from_str(alloc, name)?;
+    put_field(document, name, value).ok_or(AllocError)
+}
+
+/// Returns a number as a value: an int32 if it fits, and otherwise an int64.
+pub fn count_value(count: usize) -> Bson
+    requires { count < 2 ^ 63 }
+    ensures { value_of result ≡ count_value count }
+{
+    if count < 0x8000_0000 {
+        Bson::Int32(count as i32)
+    } else {
+        Bson::Int64(count as i64)
+    }
+}

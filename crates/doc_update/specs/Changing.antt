@@ -1,0 +1,75 @@
+-- What an update makes of a document (MongoDB manual, Update Operators, and Database Commands:
+-- update).
+use Rattle.std.specs.Prelude.{[], ◌∷◌, Bool, false, not, Option, Some, None, Result, Ok, Err, codes}
+use Rattle.std.specs.Prelude.{is_some, if◌then◌else◌}
+use Rattle.bson_raw.specs.{TreeValue}
+use Rattle.bson_doc.specs.{coded_value, same}
+use Rattle.bson_doc.specs.Document.{put, value_named, without}
+use Rattle.doc_query.specs.declared.failure.CommandError.{CommandError}
+use Rattle.doc_query.specs.declared.failure.CommandError.TheVariants as errors
+use Rattle.doc_update.specs.declared.increments.Number.{Number}
+use Rattle.doc_update.specs.declared.operators.Change.{Change}
+use Rattle.doc_update.specs.declared.operators.Change.TheVariants.{Operate, Replace}
+use Rattle.doc_update.specs.declared.operators.Operators.{Operators}
+use Rattle.doc_query.specs.{and_then}
+use Rattle.doc_update.specs.Pairs.{Pairs}
+use Rattle.doc_update.specs.Identity.{put_each}
+use Rattle.doc_update.specs.Increments.{number_of, sum}
+
+-- ---- operators
+
+-- the document without the fields of these names
+abbrev pub without_each : Pairs → Pairs → Pairs
+without_each [] ps = ps
+without_each (f ∷ fs) ps = without_each fs (without f.0 ps)
+
+abbrev pub added : Option Number → Option Number → Result TreeValue CommandError
+added None b = Err errors.Increment
+added (Some a) None = Err errors.Increment
+added (Some a) (Some b) = sum a b
+
+-- what becomes of a value that is incremented; a field that is missing is set
+abbrev pub incremented : Option TreeValue → TreeValue → Result TreeValue CommandError
+incremented None by = Ok by
+incremented (Some v) by = added (number_of v) (number_of by)
+
+-- the document with each of these fields incremented, in order
+abbrev pub increment_each : Pairs → Pairs → Result Pairs CommandError
+increment_each [] ps = Ok ps
+increment_each (f ∷ fs) ps =
+    and_then (incremented (value_named f.0 ps) f.1) (λ v. increment_each fs (put f.0 v ps))
+
+abbrev pub operated : Operators → Pairs → Result Pairs CommandError
+operated o ps = increment_each o.increments (without_each o.unset (put_each o.set ps))
+
+-- ---- documents
+
+abbrev pub id_alone : Option TreeValue → Pairs
+id_alone None = []
+id_alone (Some id) = (codes "_id", id) ∷ []
+
+-- a document in the place of another one, whose `_id` it keeps as its first field
+abbrev pub replaced : Pairs → Pairs → Pairs
+replaced new ps = put_each new (id_alone (value_named (codes "_id") ps))
+
+-- what an update makes of the fields of a document
+abbrev pub changed_fields : Change → Pairs → Result Pairs CommandError
+changed_fields (Replace new) ps = Ok (replaced new ps)
+changed_fields (Operate o) ps = operated o ps
+
+-- a field has this value still: they are of one kind, and their bytes are the same
+abbrev pub still_has : Option TreeValue → TreeValue → Bool
+still_has None v = false
+still_has (Some own) v = same coded_value own v
+
+-- an `_id` isn't set, changed or removed
+abbrev pub keeps_id : Option TreeValue → Option TreeValue → Bool
+keeps_id None new = not (is_some new)
+keeps_id (Some id) new = still_has new id
+
+-- what an update makes of a document, whose `_id` it must keep
+abbrev pub changed : Change → Pairs → Result Pairs CommandError
+changed c ps =
+    and_then (changed_fields c ps) (λ qs.
+    if keeps_id (value_named (codes "_id") ps) (value_named (codes "_id") qs) then Ok qs
+    else Err errors.ImmutableId)

@@ -1,0 +1,64 @@
+-- What the statements of delete leave of the documents (MongoDB manual, Database Commands: delete).
+use Rattle.std.specs.Prelude.{ℕ, List, [], ◌∷◌, ◌==◌, Bool, true, false, Option, Some, None}
+use Rattle.std.specs.Prelude.{Result, Ok, Err, codes, if◌then◌else◌, length}
+use Rattle.bson_elem.specs.declared.kinds.Kind.TheVariants as kinds
+use Rattle.bson_elem.specs.{Tree}
+use Rattle.bson_raw.specs.{TreeValue, document_value, first_named, names_of}
+use Rattle.bson_doc.specs.{tree_of}
+use Rattle.doc_update.specs.declared.deletes.Delete.{Delete}
+use Rattle.doc_query.specs.declared.failure.CommandError.{CommandError}
+use Rattle.doc_query.specs.declared.failure.CommandError.TheVariants as errors
+use Rattle.doc_query.specs.{and_then, compared, count_of, filter_in, filter_value, matches}
+
+pub record DeleteView : Type 0 where
+  pub filter : Tree
+  -- the first document that matches is deleted alone
+  pub is_single : Bool
+
+abbrev pub delete_view : Delete → DeleteView
+delete_view d = record { filter = tree_of d.filter.now; is_single = d.is_single }
+
+-- ---- what a statement asks for
+
+-- the filter of a statement is in its field `q`
+abbrev pub filter_at : Tree → Result Tree CommandError
+filter_at t = filter_value (first_named (codes "q") t)
+
+-- 0 is for all documents that match, and 1 for the first of them
+abbrev pub single_of : Option ℕ → Result Bool CommandError
+single_of None = Err errors.Deletes
+single_of (Some n) = if n == 0 then Ok false else if n == 1 then Ok true else Err errors.Deletes
+
+abbrev pub single_value : Option TreeValue → Result Bool CommandError
+single_value None = Err errors.Deletes
+single_value (Some v) = single_of (count_of v)
+
+abbrev pub single_at : Tree → Result Bool CommandError
+single_at t = single_value (first_named (codes "limit") t)
+
+-- a statement has these two fields alone
+abbrev pub delete_in : Tree → Result DeleteView CommandError
+delete_in t =
+    if length (names_of t) == 2
+    then and_then (filter_at t) (λ f.
+    and_then (single_at t) (λ single. Ok (record { filter = f; is_single = single })))
+    else Err errors.Deletes
+
+abbrev pub delete_of : TreeValue → Result DeleteView CommandError
+delete_of (document_value kinds.Document b t) = delete_in t
+delete_of _ = Err errors.Deletes
+
+-- ---- what is left
+
+abbrev pub survivors : DeleteView → List TreeValue → List TreeValue
+survivors d [] = []
+survivors d (v ∷ vs) =
+    if matches d.filter v then (if d.is_single then vs else survivors d vs) else v ∷ survivors d vs
+
+-- what is left after all statements, in order, or the error of the first that is malformed or that
+-- compares what isn't compared
+abbrev pub after_deletes : List TreeValue → List TreeValue → Result (List TreeValue) CommandError
+after_deletes [] vs = Ok vs
+after_deletes (v ∷ statements) vs =
+    and_then (delete_of v) (λ d.
+    and_then (compared d.filter vs) (λ all. after_deletes statements (survivors d all)))

@@ -1,0 +1,232 @@
+//! Reads what an update asks for: a document in the place of another one, or operators.
+
+ghost use Rattle.std.specs.Prelude.{◌≡◌, IfErr, IfOk, drop, is_some};
+ghost use Rattle.bson_doc.specs.Document.{value_named};
+ghost use Rattle.doc_query.specs.{IsFailure};
+ghost use Rattle.doc_update.specs.Operators.{are_modifiers, are_numbers, are_plain, change_in};
+ghost use Rattle.doc_update.specs.Operators.{has_common, has_conflict, has_stop, increments_in};
+ghost use Rattle.doc_update.specs.Operators.{is_modifier, is_plain, names_operator, operand};
+ghost use Rattle.doc_update.specs.Operators.{operators_in, plain_fields, replacement_in};
+
+use crate::increments::number_of;
+use bson_doc::{Bson, Document};
+use doc_query::{CommandError, Failure, begins_with_operator, is_operator};
+use std::alloc::Global;
+
+/// The fields that the operators of an update name, each with its operand.
+#[derive(Debug, Drop)]
+pub struct Operators {
+    /// Those of `$set`.
+    pub set: Document,
+    /// Those of `$unset`, whose operands mean nothing.
+    pub unset: Document,
+    /// Those of `$inc`.
+    pub increments: Document,
+}
+
+/// What an update makes of a document.
+#[derive(Debug, Drop)]
+pub enum Change {
+    /// Puts this document in its place, except for the `_id`.
+    Replace(Document),
+    /// Applies these operators to its fields.
+    Operate(Operators),
+}
+
+/// Returns true if a name has a full stop.
+fn has_stop(name: &str) -> bool
+    ensures { result ≡ has_stop name.now }
+{
+    for byte in name.as_bytes() {
+        if *byte == b'.' {
+            return true;
+        }
+    }
+    false
+}
+
+/// Returns true if an operator can name a field so: if the name isn't empty, begins with no `$`,
+/// and is no path to a field inside another one.
+pub fn is_plain(name: &str) -> bool
+    ensures { result ≡ is_plain name.now }
+{
+    !(name == "" || is_operator(name) || has_stop(name))
+}
+
+/// Returns true if all names are those of fields that an operator can name.
+fn are_plain(fields: &Document) -> bool
+    ensures { result ≡ are_plain fields.now }
+{
+    for (name, _) in fields {
+        if !is_plain(name) {
+            return false;
+        }
+    }
+    true
+}
+
+/// Returns true if all values are numbers that `$inc` adds.
+fn are_numbers(fields: &Document) -> bool
+    ensures { result ≡ are_numbers fields.now }
+{
+    for (_, value) in fields {
+        if number_of(value).is_none() {
+            return false;
+        }
+    }
+    true
+}
+
+/// Returns true if this is the name of an operator that is carried out.
+fn is_modifier(name: &str) -> bool
+    ensures { result ≡ is_modifier name.now }
+{
+    match name {
+        "$set" | "$unset" | "$inc" => true,
+        _ => false,
+    }
+}
+
+/// Returns true if all names are those of operators that are carried out.
+fn are_modifiers(update: &Document) -> bool
+    ensures { result ≡ are_modifiers update.now }
+{
+    for (name, _) in update {
+        if !is_modifier(name) {
+            return false;
+        }
+    }
+    true
+}
+
+/// Returns true if one of the names is that of an operator.
+fn names_operator(fields: &Document) -> bool
+    ensures { result ≡ names_operator fields.now }
+{
+    for (name, _) in fields {
+        if is_operator(name) {
+            return true;
+        }
+    }
+    false
+}
+
+/// Returns true if a document has a field with this name.
+pub fn has_field(document: &Document, name: &str) -> bool
+    ensures { result ≡ is_some (value_named name.now document.now) }
+{
+    match document.get(name) {
+        Some(_) => true,
+        None => false,
+    }
+}
+
+/// Returns true if two documents have a name in common.
+fn has_common(a: &Document, b: &Document) -> bool
+    ensures { result ≡ has_common a.now b.now }
+{
+    for (name, _) in a {
+        if has_field(b, name) {
+            return true;
+        }
+    }
+    false
+}
+
+/// Returns true if two of the operators name one field.
+fn has_conflict(operators: &Operators) -> bool
+    ensures { result ≡ has_conflict operators.now }
+{
+    has_common(&operators.set, &operators.unset)
+        || has_common(&operators.set, &operators.increments)
+        || has_common(&operators.unset, &operators.increments)
+}
+
+/// Returns the fields that an operator of an update names. There are none if it isn't there.
+#[tactic(auto, using(crate::proofs::Owning::pairs_of_tree))]
+fn operand(alloc: Global, update: &Document, operator: &str) -> Result<Document, Failure>
+    ensures ok { IfOk result (λ d. operand operator.now update.now ≡ Ok d) }
+    ensures refused { IfErr result (λ e. IsFailure (operand operator.now update.now) e) }
+{
+    match update.get(operator) {
+        None => Ok(Document::new(alloc)),
+        Some(Bson::Document(fields)) => plain_fields(fields),
+        Some(_) => Err(Failure::Refused(CommandError::Modifiers)),
+    }
+}
+
+/// Returns a copy of the fields that an operator names.
+fn plain_fields(fields: &Document) -> Result<Document, Failure>
+    ensures ok { IfOk result (λ d. plain_fields fields.now ≡ Ok d) }
+    ensures refused { IfErr result (λ e. IsFailure (plain_fields fields.now) e) }
+{
+    if !are_plain(fields) {
+        return Err(Failure::Refused(CommandError::Path));
+    }
+    let copy = fields.try_clone()?;
+    Ok(copy)
+}
+
+/// Returns the fields that `$inc` names, each with the number that is added.
+fn increments_in(alloc: Global, update: &Document) -> Result<Document, Failure>
+    ensures ok { IfOk result (λ d. increments_in update.now ≡ Ok d) }
+    ensures refused { IfErr result (λ e. IsFailure (increments_in update.now) e) }
+{
+    let increments = operand(alloc, update, "$inc")?;
+    if !are_numbers(&increments) {
+        return Err(Failure::Refused(CommandError::Increment));
+    }
+    Ok(increments)
+}
+
+/// Reads the operators of an update.
+fn operators_in(alloc: Global, update: &Document) -> Result<Operators, Failure>
+    ensures ok { IfOk result (λ o. operators_in update.now ≡ Ok o) }
+    ensures refused { IfErr result (λ e. IsFailure (operators_in update.now) e) }
+{
+    if !are_modifiers(update) {
+        return Err(Failure::Refused(CommandError::Modifiers));
+    }
+    let set = operand(alloc, update, "$set")?;
+    let unset = operand(alloc, update, "$unset")?;
+    let increments = increments_in(alloc, update)?;
+    let operators = Operators {
+        set,
+        unset,
+        increments,
+    };
+    if has_conflict(&operators) {
+        return Err(Failure::Refused(CommandError::Conflict));
+    }
+    Ok(operators)
+}
+
+/// Returns the document that an update puts in the place of another one.
+fn replacement_in(update: &Document) -> Result<Document, Failure>
+    ensures ok { IfOk result (λ d. replacement_in update.now ≡ Ok d) }
+    ensures refused { IfErr result (λ e. IsFailure (replacement_in update.now) e) }
+{
+    if names_operator(update) {
+        return Err(Failure::Refused(CommandError::Modifiers));
+    }
+    let copy = update.try_clone()?;
+    Ok(copy)
+}
+
+/// Reads what an update asks for. Its first name says whether it is one of operators.
+///
+/// # Errors
+///
+/// Returns `Modifiers` if it has operators that aren't carried out, or operators beside fields;
+/// `Path` or `Increment` if an operand is none; and `Conflict` if two operators name one field.
+pub fn change_in(alloc: Global, update: &Document) -> Result<Change, Failure>
+    ensures ok { IfOk result (λ c. change_in update.now ≡ Ok c) }
+    ensures refused { IfErr result (λ e. IsFailure (change_in update.now) e) }
+{
+    if begins_with_operator(update) {
+        let operators = operators_in(alloc, update)?;
+        return Ok(Change::Operate(operators));
+    }
+    let replacement = replacement_in(update)?;
+    Ok(Change::Replace(replacement))
+}

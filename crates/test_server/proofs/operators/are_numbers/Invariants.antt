@@ -1,6 +1,0 @@
-use Rattle.std.proofs.Common.{◌≡◌}
-use Rattle.test_server.specs.Operators.{are_numbers}
-use Rattle.test_server.proofs.operators.are_numbers.Given as goal
-
-abbrev pub invariant-loop-value : goal.invariant-loop-value
-invariant-loop-value l = are_numbers l.fn.fields ≡ are_numbers l.value-iterator

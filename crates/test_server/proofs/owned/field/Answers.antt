@@ -1,6 +1,0 @@
-use Rattle.std.proofs.Common.{sym, ◌∙◌}
-use Rattle.test_server.proofs.Filtering.{first_in_tree}
-use Rattle.test_server.proofs.owned.field.Goals as goal
-
-pub returns : goal.returns
-returns c = c.get.ensures ∙ sym (first_in_tree c.args.name.now c.args.document.now)

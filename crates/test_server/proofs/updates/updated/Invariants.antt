@@ -1,9 +1,0 @@
-use Rattle.std.proofs.Common.{◌≡◌, drop, map}
-use Rattle.bson_doc.specs.Bson.{value_of}
-use Rattle.test_server.specs.Updating.{nothing_updated, update_view, updated, outcome_view}
-use Rattle.test_server.proofs.updates.updated.Given as goal
-
-abbrev pub invariant-loop-document : goal.invariant-loop-document
-invariant-loop-document l =
-    updated (update_view l.update) (map value_of (drop l.document-index l.documents)) (outcome_view l.outcome)
-    ≡ updated (update_view l.update) (map value_of l.documents) nothing_updated

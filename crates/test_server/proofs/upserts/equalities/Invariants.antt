@@ -1,6 +1,0 @@
-use Rattle.std.proofs.Common.{◌≡◌, []}
-use Rattle.test_server.specs.Upserts.{with_equalities}
-use Rattle.test_server.proofs.upserts.equalities.Given as goal
-
-abbrev pub invariant-loop-name : goal.invariant-loop-name
-invariant-loop-name l = with_equalities l.fn.filter [] ≡ with_equalities l.name-iterator l.fields

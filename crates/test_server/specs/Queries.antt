@@ -1,8 +1,0 @@
--- What find asks for, as it was read.
-use Rattle.test_server.specs.declared.commands.find.Query.{Query}
-use Rattle.test_server.specs.Commands.{QueryView}
-use Rattle.test_server.specs.Selecting.{selection_of}
-
-abbrev pub query_of : Query → QueryView
-query_of q =
-    record { selection = selection_of q.selection; count = q.count; is_single = q.is_single }

@@ -1,0 +1,119 @@
+-- Answers, as lists of a name and a value (MongoDB manual, Database Commands: each command's
+-- Output).
+use Rattle.std.specs.Prelude.{ℕ, ℤ, pos, List, [], ◌∷◌, Bool, true, false, codes, nat_lt}
+use Rattle.std.specs.Prelude.{if◌then◌else◌}
+use Rattle.bson_elem.specs.declared.kinds.Kind.TheVariants as kinds
+use Rattle.bson_elem.specs.{boolean_value, no_code, number_value, raw_value, text_value}
+use Rattle.bson_raw.specs.{TreeValue, document_value, leaf_value}
+use Rattle.bson_doc.specs.{array_tree, put, tree_of}
+use Rattle.test_store.specs.declared.answer.Batch.{Batch}
+use Rattle.test_store.specs.declared.answer.Batch.TheVariants.{First, Next}
+use Rattle.doc_query.specs.declared.failure.CommandError.{CommandError}
+use Rattle.doc_query.specs.{array, code_name_of, code_of, count_value, inner, int32, int64, text}
+use Rattle.doc_query.specs.{truth, words_of}
+
+-- the doubles 0 and 1
+abbrev pub double_zero : TreeValue
+double_zero = leaf_value kinds.Double (raw_value (0 ∷ 0 ∷ 0 ∷ 0 ∷ 0 ∷ 0 ∷ 0 ∷ 0 ∷ []))
+
+-- the double 1
+abbrev pub double_one : TreeValue
+double_one = leaf_value kinds.Double (raw_value (0 ∷ 0 ∷ 0 ∷ 0 ∷ 0 ∷ 0 ∷ 240 ∷ 63 ∷ []))
+
+-- ---- answers
+
+-- `ok` alone
+abbrev pub ok_alone : List (List ℕ × TreeValue)
+ok_alone = (codes "ok", double_one) ∷ []
+
+-- an error by its words, its number and its name
+abbrev pub error_pairs : List ℕ → ℤ → List ℕ → List (List ℕ × TreeValue)
+error_pairs words code name =
+    (codes "ok", double_zero) ∷ (codes "errmsg", text words) ∷ (codes "code", int32 code)
+    ∷ (codes "codeName", text name) ∷ []
+
+-- the answer to a refused command
+abbrev pub refusal_pairs : CommandError → List (List ℕ × TreeValue)
+refusal_pairs e = error_pairs (words_of e) (code_of e) (code_name_of e)
+
+-- the field that says that the server takes writes, by whether an older form of hello asks for it
+abbrev pub primary_name : Bool → List ℕ
+primary_name legacy = if legacy then codes "ismaster" else codes "isWritablePrimary"
+
+-- the answer to hello
+abbrev pub hello_pairs : Bool → List (List ℕ × TreeValue)
+hello_pairs legacy =
+    (codes "helloOk", truth true) ∷ (primary_name legacy, truth true)
+    ∷ (codes "maxBsonObjectSize", int32 (pos 16777216))
+    ∷ (codes "maxMessageSizeBytes", int32 (pos 48000000))
+    ∷ (codes "maxWriteBatchSize", int32 (pos 100000)) ∷ (codes "minWireVersion", int32 (pos 0))
+    ∷ (codes "maxWireVersion", int32 (pos 13)) ∷ (codes "readOnly", truth false) ∷ ok_alone
+
+-- the numbers of the version
+abbrev pub version_parts : List TreeValue
+version_parts = int32 (pos 5) ∷ int32 (pos 0) ∷ int32 (pos 0) ∷ int32 (pos 0) ∷ []
+
+-- the answer to buildInfo
+abbrev pub build_pairs : List (List ℕ × TreeValue)
+build_pairs =
+    (codes "version", text (codes "5.0.0")) ∷ (codes "versionArray", array version_parts)
+    ∷ (codes "maxBsonObjectSize", int32 (pos 16777216)) ∷ ok_alone
+
+-- the cursors that were closed, and the values that aren't the id of an open one
+abbrev pub killed_pairs : List TreeValue → List TreeValue → List (List ℕ × TreeValue)
+killed_pairs killed missing =
+    (codes "cursorsKilled", array killed) ∷ (codes "cursorsNotFound", array missing)
+    ∷ (codes "cursorsAlive", array []) ∷ (codes "cursorsUnknown", array []) ∷ ok_alone
+
+-- the number of documents that a command counted, deleted or changed
+abbrev pub counted_pairs : ℕ → List (List ℕ × TreeValue)
+counted_pairs n = (codes "n", count_value n) ∷ ok_alone
+
+-- the errors of a write, if there are any, and `ok`
+abbrev pub errors_pairs : List TreeValue → List (List ℕ × TreeValue)
+errors_pairs [] = ok_alone
+errors_pairs (e ∷ es) = (codes "writeErrors", array (e ∷ es)) ∷ ok_alone
+
+-- the answer to insert: how many documents were inserted, and the errors of others
+abbrev pub inserted_pairs : ℕ → List TreeValue → List (List ℕ × TreeValue)
+inserted_pairs n errors = (codes "n", count_value n) ∷ errors_pairs errors
+
+-- the fields with an array of these values at the name, unless there are none
+abbrev pub put_any : List ℕ → List TreeValue → List (List ℕ × TreeValue)
+    → List (List ℕ × TreeValue)
+put_any name [] ps = ps
+put_any name (v ∷ vs) ps = put name (array (v ∷ vs)) ps
+
+-- the answer to update: how many documents matched or were inserted, how many became others, which
+-- statements inserted one, and the errors of others
+abbrev pub updated_pairs : ℕ → ℕ → List TreeValue → List TreeValue → List (List ℕ × TreeValue)
+updated_pairs matched modified upserted errors =
+    put (codes "ok") double_one
+    (put_any (codes "writeErrors") errors
+    (put_any (codes "upserted") upserted
+    ((codes "n", count_value matched) ∷ (codes "nModified", count_value modified) ∷ [])))
+
+abbrev pub dropped_pairs : List ℕ → List (List ℕ × TreeValue)
+dropped_pairs ns = (codes "nIndexesWas", int32 (pos 1)) ∷ (codes "ns", text ns) ∷ ok_alone
+
+-- the field of a batch of documents
+abbrev pub batch_name : Batch → List ℕ
+batch_name First = codes "firstBatch"
+batch_name Next = codes "nextBatch"
+
+-- a batch of documents, the id of the cursor that has more of them (0 if none has), and the
+-- namespace
+abbrev pub cursor_pairs : Batch → List TreeValue → ℤ → List ℕ → List (List ℕ × TreeValue)
+cursor_pairs b vs id ns =
+    (batch_name b, array vs) ∷ (codes "id", int64 id) ∷ (codes "ns", text ns) ∷ []
+
+-- an answer with these fields in its field `cursor`
+abbrev pub cursor_answer : Batch → List TreeValue → ℤ → List ℕ → List (List ℕ × TreeValue)
+cursor_answer b vs id ns = (codes "cursor", inner (cursor_pairs b vs id ns)) ∷ ok_alone
+
+-- the listing of the collection with this name
+abbrev pub listing : List ℕ → TreeValue
+listing name =
+    inner ((codes "name", text name) ∷ (codes "type", text (codes "collection"))
+    ∷ (codes "options", inner [])
+    ∷ (codes "info", inner ((codes "readOnly", truth false) ∷ [])) ∷ [])

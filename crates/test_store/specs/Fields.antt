@@ -1,0 +1,55 @@
+-- The fields of a command.
+use Rattle.std.specs.Prelude.{ℕ, ℤ, pos, List, Option, Some, None, Result, Ok, Err, codes, nat_le}
+use Rattle.std.specs.Prelude.{Bool, if◌then◌else◌}
+use Rattle.bson_elem.specs.declared.kinds.Kind.TheVariants as kinds
+use Rattle.bson_elem.specs.{Tree, boolean_value, number_value, text_value}
+use Rattle.bson_raw.specs.{TreeValue, first_named, leaf_value}
+use Rattle.doc_query.specs.declared.failure.CommandError.{CommandError}
+use Rattle.doc_query.specs.declared.failure.CommandError.TheVariants as errors
+use Rattle.doc_query.specs.{and_then, asked_flag, at_least, count_of, or_error}
+use Rattle.test_store.specs.Held.{NamespaceView}
+
+-- the text of a string
+abbrev pub text_of : Option TreeValue → Option (List ℕ)
+text_of (Some (leaf_value kinds.String (text_value s))) = Some s
+text_of _ = None
+
+-- the number of an int64
+abbrev pub id_of : Option TreeValue → Option ℤ
+id_of (Some (leaf_value kinds.Int64 (number_value z))) = Some z
+id_of _ = None
+
+-- the text of the field with this name
+abbrev pub text_field : List ℕ → CommandError → Tree → Result (List ℕ) CommandError
+text_field name error t = or_error error (text_of (first_named name t))
+
+-- the namespace that a command names, whose collection is in the field with this name
+abbrev pub namespace_at : List ℕ → CommandError → Tree → Result NamespaceView CommandError
+namespace_at name error t =
+    and_then (text_field (codes "$db") errors.Database t) (λ d.
+    and_then (text_field name error t) (λ n. Ok (record { database = d; collection = n })))
+
+-- the id of the cursor
+abbrev pub id_field : Tree → Result ℤ CommandError
+id_field t = or_error errors.GetMore (id_of (first_named (codes "getMore") t))
+
+-- the number in a field, or 0 if there is no such field
+abbrev pub asked_number : CommandError → Option TreeValue → Result ℕ CommandError
+asked_number error None = Ok 0
+asked_number error (Some v) = or_error error (count_of v)
+
+abbrev pub number_field : List ℕ → CommandError → Tree → Result ℕ CommandError
+number_field name error t = asked_number error (first_named name t)
+
+-- the truth value in a field, or this one if there is no such field
+abbrev pub flag_field : List ℕ → Bool → CommandError → Tree → Result Bool CommandError
+flag_field name otherwise error t = asked_flag otherwise error (first_named name t)
+
+-- the batch size that a field asks for, or 101 if there is no such field
+abbrev pub asked_size : ℕ → CommandError → Option TreeValue → Result ℕ CommandError
+asked_size least error None = Ok 101
+asked_size least error (Some v) = at_least least error (count_of v)
+
+-- the batch size that a command asks for, which must be at least this, or 101 if it asks for none
+abbrev pub batch_size : ℕ → CommandError → Tree → Result ℕ CommandError
+batch_size least error t = asked_size least error (first_named (codes "batchSize") t)

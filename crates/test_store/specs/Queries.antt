@@ -1,0 +1,8 @@
+-- What find asks for, as it was read.
+use Rattle.test_store.specs.declared.commands.find.Query.{Query}
+use Rattle.test_store.specs.Commands.{QueryView}
+use Rattle.test_store.specs.Selecting.{selection_of}
+
+abbrev pub query_of : Query → QueryView
+query_of q =
+    record { selection = selection_of q.selection; count = q.count; is_single = q.is_single }

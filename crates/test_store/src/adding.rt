@@ -1,0 +1,108 @@
+//! Collects the documents that may be added to those of a namespace, in which no two have one
+//! `_id`.
+
+ghost use Rattle.std.specs.Prelude.{◌≡◌, ◌<◌, ◌≤◌, ◌^◌, ◌++◌, IfOk, OnOk, codes, length, map};
+ghost use Rattle.std.specs.Prelude.{string_bytes};
+ghost use Rattle.bson_doc.specs.{value_of};
+ghost use Rattle.doc_query.specs.{inner};
+ghost use Rattle.doc_update.specs.{has_error};
+ghost use Rattle.test_store.specs.Adding.{add, adding_of, duplicate_error, gathered};
+ghost use Rattle.test_store.specs.Held.{namespace_of, namespace_text};
+
+use crate::namespace::Namespace;
+use bson_doc::{Bson, Document};
+use doc_update::{id_in, identified, is_taken, write_error};
+use std::alloc::{AllocError, Global};
+
+/// What was made of the documents of a command so far.
+#[derive(Debug, Drop)]
+pub struct Adding {
+    /// The documents to add.
+    pub added: Vec<Bson>,
+    /// The errors of those whose `_id` is taken.
+    pub errors: Vec<Bson>,
+}
+
+impl Adding {
+    /// Returns true if the `_id` of a document is taken.
+    fn has_error(&self) -> bool
+        ensures { result ≡ has_error (adding_of self.now).errors }
+    {
+        !self.errors.is_empty()
+    }
+}
+
+/// Makes the words of the error of a document whose `_id` is taken.
+fn duplicate_words(alloc: Global, namespace: Namespace<'_>) -> Result<String, AllocError>
+    ensures { IfOk result (λ s. string_bytes s ≡ codes "E11000 duplicate key error collection: "
+        ++ namespace_text (namespace_of namespace.entry) ++ codes " index: _id_") }
+{
+    let text = namespace.to_text(alloc)?;
+    let mut words = String::from_str(alloc, "E11000 duplicate key error collection: ")?;
+    words.push_str(text.as_str())?;
+    words.push_str(" index: _id_")?;
+    Ok(words)
+}
+
+/// Makes the error of the document at `index`, whose `_id` is taken.
+fn duplicate_error(
+    alloc: Global,
+    index: usize,
+    namespace: Namespace<'_>,
+) -> Result<Document, AllocError>
+    requires { index < 2 ^ 63 }
+    ensures { IfOk result (λ d. inner d ≡ duplicate_error index (namespace_of namespace.entry)) }
+{
+    let words = duplicate_words(alloc, namespace)?;
+    write_error(alloc, index, 11000, words)
+}
+
+/// Adds a document, unless its `_id` is that of one that is held or was added before.
+fn add(
+    alloc: Global,
+    namespace: Namespace<'_>,
+    held: &[Bson],
+    index: usize,
+    document: Bson,
+    adding: &mut Adding,
+) -> Result<(), AllocError>
+    requires { index < 2 ^ 63 }
+    ensures { OnOk result (adding_of adding.new ≡ add (namespace_of namespace.entry)
+        (map value_of held.now) index (value_of document) (adding_of adding.old)) }
+{
+    let id = id_in(&document);
+    if is_taken(id, held) || is_taken(id, &adding.added) {
+        let error = duplicate_error(alloc, index, namespace)?;
+        adding.errors.push(Bson::Document(error))?;
+    } else {
+        adding.added.push(document)?;
+    }
+    Ok(())
+}
+
+/// Collects the documents to add, and the errors of those whose `_id` is taken. One without `_id` is
+/// given one that is free. Where they are ordered, nothing follows the first error.
+pub fn gather(
+    alloc: Global,
+    is_ordered: bool,
+    namespace: Namespace<'_>,
+    held: &[Bson],
+    documents: &[Bson],
+) -> Result<Adding, AllocError>
+    requires { length documents.now ≤ 100_000 }
+    ensures { IfOk result (λ a. adding_of a ≡ gathered is_ordered (namespace_of namespace.entry)
+        (map value_of held.now) (map value_of documents.now)) }
+{
+    let mut adding = Adding {
+        added: Vec::new(alloc),
+        errors: Vec::new(alloc),
+    };
+    for (index, document) in documents.iter().enumerate() {
+        if is_ordered && adding.has_error() {
+            return Ok(adding);
+        }
+        let document = identified(alloc, document, held, &adding.added)?;
+        add(alloc, namespace, held, index, document, &mut adding)?;
+    }
+    Ok(adding)
+}

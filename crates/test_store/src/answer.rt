@@ -1,0 +1,139 @@
+//! Makes the parts of answers.
+
+ghost use Rattle.std.specs.Prelude.{◌≡◌, ◌<◌, ◌^◌, IfOk, OnOk, OnSome, codes, map, string_bytes};
+ghost use Rattle.bson_doc.specs.{value_of, put};
+ghost use Rattle.doc_query.specs.{count_value, inner, text};
+ghost use Rattle.doc_update.specs.{write_error};
+ghost use Rattle.test_store.specs.Answers.{batch_name, counted_pairs, cursor_answer, cursor_pairs};
+ghost use Rattle.test_store.specs.Answers.{double_one, error_pairs, ok_alone, refusal_pairs};
+
+use bson_doc::{Array, Bson, Document};
+use doc_query::{CommandError, count_value, set};
+use std::alloc::{AllocError, Global};
+
+/// The number 1 as a double.
+const ONE: [u8; 8] = [0, 0, 0, 0, 0, 0, 0xf0, 0x3f];
+
+/// Which batch of a cursor an answer has.
+#[derive(Clone, Copy, Debug, PartialEq, Eq)]
+pub enum Batch {
+    /// The first one.
+    First,
+    /// A later one.
+    Next,
+}
+
+impl Batch {
+    /// Returns the name of the field for the batch.
+    fn name(self) -> &'static str
+        ensures { result.now ≡ batch_name self }
+    {
+        match self {
+            Batch::First => "firstBatch",
+            Batch::Next => "nextBatch",
+        }
+    }
+}
+
+/// Sets a field in an answer to a text.
+pub fn set_text(
+    alloc: Global,
+    answer: &mut Document,
+    name: &str,
+    words: &str,
+) -> Result<(), AllocError>
+    ensures { OnOk result (answer.new ≡ put name.now (text words.now) answer.old) }
+{
+    let words = String::from_str(alloc, words)?;
+    set(alloc, answer, name, Bson::String(words))
+}
+
+/// Sets the field `ok` in an answer to 1.
+pub fn set_ok(alloc: Global, answer: &mut Document) -> Result<(), AllocError>
+    ensures { OnOk result (answer.new ≡ put (codes "ok") double_one answer.old) }
+{
+    set(alloc, answer, "ok", Bson::Double(ONE))
+}
+
+/// Makes the answer with `ok` alone, which says that a command was carried out.
+pub fn ok_alone(alloc: Global) -> Result<Document, AllocError>
+    ensures { IfOk result (λ d. d ≡ ok_alone) }
+{
+    let mut answer = Document::new(alloc);
+    set_ok(alloc, &mut answer)?;
+    Ok(answer)
+}
+
+/// Makes the answer with a number of documents in its field `n`.
+pub fn counted_answer(alloc: Global, count: usize) -> Result<Document, AllocError>
+    requires { count < 2 ^ 63 }
+    ensures { IfOk result (λ d. d ≡ counted_pairs count) }
+{
+    let mut answer = Document::new(alloc);
+    set(alloc, &mut answer, "n", count_value(count))?;
+    set_ok(alloc, &mut answer)?;
+    Ok(answer)
+}
+
+/// Makes the answer for an error.
+pub fn error_answer(
+    alloc: Global,
+    words: &str,
+    code: i32,
+    code_name: &str,
+) -> Result<Document, AllocError>
+    ensures { IfOk result (λ d. d ≡ error_pairs words.now code code_name.now) }
+{
+    let mut answer = Document::new(alloc);
+    set(alloc, &mut answer, "ok", Bson::Double([0; 8]))?;
+    set_text(alloc, &mut answer, "errmsg", words)?;
+    set(alloc, &mut answer, "code", Bson::Int32(code))?;
+    set_text(alloc, &mut answer, "codeName", code_name)?;
+    Ok(answer)
+}
+
+/// Makes the answer to a refused command.
+pub fn refusal_answer(alloc: Global, error: CommandError) -> Result<Document, AllocError>
+    ensures { IfOk result (λ d. d ≡ refusal_pairs error) }
+{
+    error_answer(alloc, error.words(), error.code(), error.code_name())
+}
+
+/// Makes the field `cursor` of an answer: a batch of documents, the id of the cursor that has more
+/// of them (0 if none has), and the namespace.
+fn cursor_document(
+    alloc: Global,
+    which: Batch,
+    batch: Vec<Bson>,
+    id: i64,
+    namespace: String,
+) -> Result<Document, AllocError>
+    ensures { IfOk result
+        (λ d. d ≡ cursor_pairs which (map value_of batch.items) id (string_bytes namespace)) }
+{
+    let mut cursor = Document::new(alloc);
+    let batch = Array::from_vec(batch);
+    set(alloc, &mut cursor, which.name(), Bson::Array(batch))?;
+    set(alloc, &mut cursor, "id", Bson::Int64(id))?;
+    set(alloc, &mut cursor, "ns", Bson::String(namespace))?;
+    Ok(cursor)
+}
+
+/// Makes the answer with a batch of documents, the id of the cursor that has more of them (0 if
+/// none has), and the namespace.
+pub fn cursor_answer(
+    alloc: Global,
+    which: Batch,
+    batch: Vec<Bson>,
+    id: i64,
+    namespace: String,
+) -> Result<Document, AllocError>
+    ensures { IfOk result
+        (λ d. d ≡ cursor_answer which (map value_of batch.items) id (string_bytes namespace)) }
+{
+    let cursor = cursor_document(alloc, which, batch, id, namespace)?;
+    let mut answer = Document::new(alloc);
+    set(alloc, &mut answer, "cursor", Bson::Document(cursor))?;
+    set_ok(alloc, &mut answer)?;
+    Ok(answer)
+}

@@ -1,0 +1,197 @@
+//! Carries out the commands that the server knows. Each has a module of its own.
+
+mod aggregate;
+mod build_info;
+mod count;
+mod delete;
+mod drop_collection;
+mod find;
+mod get_more;
+mod hello;
+mod insert;
+mod kill_cursors;
+mod list_collections;
+mod update;
+
+ghost use Rattle.std.specs.Prelude.{◌≡◌, ◌≢◌, IfOk, OnErr};
+ghost use Rattle.bson_elem.specs.{Spells, Tree};
+ghost use Rattle.bson_raw.specs.{document_bytes};
+ghost use Rattle.wire_msg.specs.{Carries, Content};
+ghost use Rattle.test_store.specs.Commands.{IsCarriedOut, command_of, first_name, reply_to, run};
+ghost use Rattle.test_store.specs.Commands.{settled, unknown_pairs, unread_pairs};
+ghost use Rattle.test_store.specs.Held.{store_of};
+
+use crate::answer::{error_answer, ok_alone, refusal_answer};
+use crate::options::first_unread;
+use crate::store::Store;
+use aggregate::aggregate;
+use bson_doc::Document;
+use bson_raw::RawDocument;
+use build_info::build_info;
+use count::count;
+use delete::delete;
+use doc_query::Failure;
+use drop_collection::drop_collection;
+use find::find;
+use get_more::get_more;
+use hello::hello;
+use insert::insert;
+use kill_cursors::kill_cursors;
+use list_collections::list_collections;
+use std::alloc::{AllocError, Global};
+use update::update;
+use wire_msg::Payload;
+
+/// What a request asks for.
+#[derive(Clone, Copy, Debug, PartialEq, Eq)]
+pub enum Command {
+    Hello,
+    LegacyHello,
+    BuildInfo,
+    Ping,
+    EndSessions,
+    Insert,
+    Find,
+    GetMore,
+    Delete,
+    Update,
+    Count,
+    Aggregate,
+    KillCursors,
+    Drop,
+    ListCollections,
+    Unknown,
+}
+
+/// Returns the command with this name.
+fn command_of(name: &str) -> Command
+    ensures { result ≡ command_of name.now }
+{
+    match name {
+        "hello" => Command::Hello,
+        "isMaster" | "ismaster" => Command::LegacyHello,
+        "buildInfo" | "buildinfo" => Command::BuildInfo,
+        "ping" => Command::Ping,
+        "endSessions" => Command::EndSessions,
+        "insert" => Command::Insert,
+        "find" => Command::Find,
+        "getMore" => Command::GetMore,
+        "delete" => Command::Delete,
+        "update" => Command::Update,
+        "count" => Command::Count,
+        "aggregate" => Command::Aggregate,
+        "killCursors" => Command::KillCursors,
+        "drop" => Command::Drop,
+        "listCollections" => Command::ListCollections,
+        _ => Command::Unknown,
+    }
+}
+
+/// Returns the name of the command that a body asks for, which is the name of its first field.
+pub fn name_of(body: RawDocument<'_>) -> &str
+    ensures { (t : Tree) → Spells t (document_bytes body.entry) → result.now ≡ first_name t }
+{
+    match body.iter().next() {
+        Some((name, _)) => name,
+        None => "",
+    }
+}
+
+/// Makes the answer that says that no command has this name.
+fn unknown_command(alloc: Global, name: &str) -> Result<Document, AllocError>
+    ensures { IfOk result (λ d. d ≡ unknown_pairs name.now) }
+{
+    let mut words = String::from_str(alloc, "no such command: '")?;
+    words.push_str(name)?;
+    words.push_str("'")?;
+    error_answer(alloc, words.as_str(), 59, "CommandNotFound")
+}
+
+/// Carries out a command, and returns its answer.
+fn run(command: Command, store: &mut Store, payload: Payload<'_>) -> Result<Document, Failure>
+    ensures carried { (c : Content) → Carries payload.entry c
+        → IsCarriedOut (run command (store_of store.old) c) (store_of store.old) result
+        (store_of store.new) }
+    ensures kept { OnErr result
+        ((store_of store.new).collections ≡ (store_of store.old).collections) }
+    ensures steady { command ≢ Command.Insert → command ≢ Command.Drop → command ≢ Command.Delete
+        → command ≢ Command.Update
+        → (store_of store.new).collections ≡ (store_of store.old).collections }
+{
+    let alloc = store.allocator();
+    let body = payload.body();
+    match command {
+        Command::Hello => Ok(hello(alloc, false)?),
+        Command::LegacyHello => Ok(hello(alloc, true)?),
+        Command::BuildInfo => Ok(build_info(alloc)?),
+        Command::Ping | Command::EndSessions => Ok(ok_alone(alloc)?),
+        Command::Insert => insert(alloc, store, payload),
+        Command::Find => find(alloc, store, body),
+        Command::GetMore => get_more(alloc, store, body),
+        Command::Delete => delete(alloc, store, payload),
+        Command::Update => update(alloc, store, payload),
+        Command::Count => count(alloc, store, body),
+        Command::Aggregate => aggregate(alloc, store, body),
+        Command::KillCursors => kill_cursors(alloc, store, body),
+        Command::Drop => drop_collection(alloc, store, body),
+        Command::ListCollections => list_collections(alloc, store, body),
+        Command::Unknown => Ok(unknown_command(alloc, name_of(body))?),
+    }
+}
+
+/// Makes the answer that says that a command has a field which isn't carried out.
+fn unread_field(alloc: Global, name: &str) -> Result<Document, AllocError>
+    ensures { IfOk result (λ d. d ≡ unread_pairs name.now) }
+{
+    let mut words = String::from_str(alloc, "the field '")?;
+    words.push_str(name)?;
+    words.push_str("' is not carried out")?;
+    error_answer(alloc, words.as_str(), 238, "NotImplemented")
+}
+
+/// Carries out a command, and returns its answer, or that to its error.
+fn carry_out(
+    command: Command,
+    store: &mut Store,
+    payload: Payload<'_>,
+) -> Result<Document, AllocError>
+    ensures answered { (c : Content) → Carries payload.entry c
+        → IfOk result (λ d. settled (store_of store.old) (run command (store_of store.old) c)
+        ≡ record { answer = d; held = store_of store.new }) }
+    ensures kept { OnErr result
+        ((store_of store.new).collections ≡ (store_of store.old).collections) }
+    ensures steady { command ≢ Command.Insert → command ≢ Command.Drop → command ≢ Command.Delete
+        → command ≢ Command.Update
+        → (store_of store.new).collections ≡ (store_of store.old).collections }
+{
+    match run(command, store, payload) {
+        Ok(answer) => Ok(answer),
+        Err(Failure::Refused(error)) => refusal_answer(store.allocator(), error),
+        Err(Failure::OutOfMemory) => Err(AllocError),
+    }
+}
+
+/// Carries out what a request asks for, and returns its answer.
+///
+/// # Errors
+///
+/// Returns `AllocError` if memory runs out. Then the held documents are unchanged.
+pub fn answer_to(store: &mut Store, payload: Payload<'_>) -> Result<Document, AllocError>
+    ensures answered { (c : Content) → Carries payload.entry c
+        → IfOk result (λ d. reply_to (store_of store.old) c
+        ≡ record { answer = d; held = store_of store.new }) }
+    ensures kept { OnErr result
+        ((store_of store.new).collections ≡ (store_of store.old).collections) }
+    ensures steady { (c : Content) → Carries payload.entry c
+        → command_of (first_name c.body) ≢ Command.Insert
+        → command_of (first_name c.body) ≢ Command.Drop
+        → command_of (first_name c.body) ≢ Command.Delete
+        → command_of (first_name c.body) ≢ Command.Update
+        → (store_of store.new).collections ≡ (store_of store.old).collections }
+{
+    let command = command_of(name_of(payload.body()));
+    match first_unread(command, payload.body()) {
+        Some(name) => unread_field(store.allocator(), name),
+        None => carry_out(command, store, payload),
+    }
+}

@@ -1,0 +1,35 @@
+//! Carries out the command delete.
+
+ghost use Rattle.std.specs.Prelude.{◌≡◌, OnErr};
+ghost use Rattle.wire_msg.specs.{Carries, Content};
+ghost use Rattle.test_store.specs.Commands.{IsCarriedOut, delete};
+ghost use Rattle.test_store.specs.Held.{store_of};
+
+use crate::answer::counted_answer;
+use crate::fields::namespace_field;
+use crate::inserted::brought_documents;
+use crate::store::Store;
+use bson_doc::Document;
+use doc_query::{CommandError, Failure};
+use doc_update::after_deletes;
+use std::alloc::Global;
+use wire_msg::Payload;
+
+/// Deletes documents, by the statements of the array `deletes` in the body, or of the sequences
+/// with the identifier `deletes`.
+pub fn delete(alloc: Global, store: &mut Store, payload: Payload<'_>) -> Result<Document, Failure>
+    ensures carried { (c : Content) → Carries payload.entry c
+        → IsCarriedOut (delete (store_of store.old) c) (store_of store.old) result
+        (store_of store.new) }
+    ensures kept { OnErr result
+        ((store_of store.new).collections ≡ (store_of store.old).collections) }
+{
+    let namespace = namespace_field(payload.body(), "delete", CommandError::Delete)?;
+    let statements = brought_documents(alloc, payload, "deletes")?;
+    let documents = store.documents(namespace);
+    let left = after_deletes(alloc, statements.as_slice(), documents)?;
+    let count = documents.len().saturating_sub(left.len());
+    let answer = counted_answer(alloc, count)?;
+    store.put_documents(namespace, left)?;
+    Ok(answer)
+}

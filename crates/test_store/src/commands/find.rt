@@ -1,0 +1,104 @@
+//! Carries out the command find.
+
+ghost use Rattle.std.specs.Prelude.{◌≡◌, IfErr, IfOk, Ok, map};
+ghost use Rattle.bson_elem.specs.{Spells, Tree};
+ghost use Rattle.bson_raw.specs.{document_bytes};
+ghost use Rattle.bson_doc.specs.{value_of};
+ghost use Rattle.doc_query.specs.{IsFailure};
+ghost use Rattle.test_store.specs.Commands.{IsCarriedOut, find, find_reply_to, found_reply};
+ghost use Rattle.test_store.specs.Commands.{left_of, query_in};
+ghost use Rattle.test_store.specs.Held.{namespace_of, store_of};
+ghost use Rattle.test_store.specs.Queries.{query_of};
+
+use crate::answer::{Batch, cursor_answer};
+use crate::fields::{batch_size, flag_field};
+use crate::namespace::Namespace;
+use crate::selection::{Selection, selected, selection_in};
+use crate::store::Store;
+use bson_doc::{Bson, Document};
+use bson_raw::RawDocument;
+use doc_query::{CommandError, Failure, take_batch};
+use std::alloc::{AllocError, Global};
+
+/// What find asks for.
+#[derive(Debug, Drop)]
+struct Query<'a> {
+    /// The documents that are found.
+    selection: Selection<'a>,
+    /// The most documents in the first batch.
+    count: usize,
+    /// Whether no cursor is opened over the others.
+    is_single: bool,
+}
+
+/// Reads what find asks for.
+fn query_in(alloc: Global, body: RawDocument<'_>) -> Result<Query<'_>, Failure>
+    ensures ok { (t : Tree) → Spells t (document_bytes body.entry)
+        → IfOk result (λ q. query_in t ≡ Ok (query_of q)) }
+    ensures refused { (t : Tree) → Spells t (document_bytes body.entry)
+        → IfErr result (λ e. IsFailure (query_in t) e) }
+{
+    let selection = selection_in(alloc, body, "find", CommandError::Find, "filter")?;
+    let count = batch_size(body, 0, CommandError::FirstBatchSize)?;
+    let is_single = flag_field(body, "singleBatch", false, CommandError::SingleBatch)?;
+    Ok(Query {
+        selection,
+        count,
+        is_single,
+    })
+}
+
+/// Removes all documents if no cursor is to be opened over them.
+fn keep_for_cursor(left: &mut Vec<Bson>, is_single: bool)
+    ensures { left.new.items ≡ left_of is_single left.old.items }
+{
+    if is_single {
+        left.clear();
+    }
+}
+
+/// Answers with the first of the documents that were found, and opens a cursor over the others.
+pub fn answer_found(
+    alloc: Global,
+    store: &mut Store,
+    namespace: Namespace<'_>,
+    mut found: Vec<Bson>,
+    count: usize,
+    is_single: bool,
+) -> Result<Document, AllocError>
+    ensures answered { IfOk result (λ d. found_reply (store_of store.old)
+        (namespace_of namespace.entry) (map value_of found.items) count is_single
+        ≡ record { answer = d; held = store_of store.new }) }
+    ensures steady { (store_of store.new).collections ≡ (store_of store.old).collections }
+{
+    let batch = take_batch(&mut found, count)?;
+    keep_for_cursor(&mut found, is_single);
+    let id = store.open_cursor(namespace, found)?;
+    let text = namespace.to_text(alloc)?;
+    cursor_answer(alloc, Batch::First, batch, id, text)
+}
+
+/// Answers with the first documents that a query finds, and opens a cursor over the others.
+fn answer_query(alloc: Global, store: &mut Store, query: &Query<'_>) -> Result<Document, Failure>
+    ensures carried { IsCarriedOut (find_reply_to (store_of store.old) (query_of query.now))
+        (store_of store.old) result (store_of store.new) }
+    ensures steady { (store_of store.new).collections ≡ (store_of store.old).collections }
+{
+    let namespace = query.selection.namespace;
+    let found = selected(alloc, store, &query.selection)?;
+    let count = query.count;
+    let answer = answer_found(alloc, store, namespace, found, count, query.is_single)?;
+    Ok(answer)
+}
+
+/// Finds the documents of a collection that match a filter. Answers with the first of them, and
+/// opens a cursor over the others.
+pub fn find(alloc: Global, store: &mut Store, body: RawDocument<'_>) -> Result<Document, Failure>
+    ensures carried { (t : Tree) → Spells t (document_bytes body.entry)
+        → IsCarriedOut (find (store_of store.old) t) (store_of store.old) result
+        (store_of store.new) }
+    ensures steady { (store_of store.new).collections ≡ (store_of store.old).collections }
+{
+    let query = query_in(alloc, body)?;
+    answer_query(alloc, store, &query)
+}

@@ -1,0 +1,47 @@
+//! Answers requests, as the server's handler.
+
+ghost use Rattle.std.specs.Prelude.{◌≡◌, ◌++◌, ◌∷◌, [], IfErr, OnErr, OnOk};
+ghost use Rattle.bson_doc.specs.{tree_of};
+ghost use Rattle.wire_msg.specs.{body_alone};
+ghost use Rattle.wire_peer.specs.{answers_of};
+ghost use Rattle.test_store.specs.Handling.{IsUnanswerable};
+
+use crate::commands::answer_to;
+use crate::store::Store;
+use bson_doc::{DocRefusal, Document};
+use wire_msg::MsgRefusal;
+use wire_peer::{Answers, Handler, HandlerStop, Request};
+
+/// Appends `answer` to the answers of a request.
+fn put_answer(answer: &Document, answers: &mut Answers) -> Result<(), HandlerStop>
+    ensures put { OnOk result
+        (answers_of answers.new ≡ answers_of answers.old ++ body_alone (tree_of answer.now) ∷ []) }
+    ensures failed { IfErr result
+        (λ stop. stop ≡ HandlerStop.Failed → IsUnanswerable (tree_of answer.now)) }
+{
+    let body = match answer.to_raw() {
+        Ok(body) => body,
+        Err(DocRefusal::OutOfMemory) => return Err(HandlerStop::OutOfMemory),
+        Err(_) => return Err(HandlerStop::Failed),
+    };
+    match answers.push_body(body.as_raw()) {
+        Ok(()) => Ok(()),
+        Err(MsgRefusal::OutOfMemory) => Err(HandlerStop::OutOfMemory),
+        Err(_) => Err(HandlerStop::Failed),
+    }
+}
+
+impl Handler for Store {
+    ghost use Rattle.test_store.specs.Handling.{Answered, StopsAt};
+
+    ghost does = { Answered };
+
+    ghost stops = { StopsAt };
+
+    fn respond(&mut self, request: &Request<'_>, answers: &mut Answers) -> Result<(), HandlerStop> {
+        match answer_to(self, request.payload) {
+            Ok(answer) => put_answer(&answer, answers),
+            Err(_) => Err(HandlerStop::OutOfMemory),
+        }
+    }
+}

@@ -1,0 +1,309 @@
+//! Holds documents by namespace, and the cursors over what was found.
+
+ghost use Rattle.std.specs.Prelude.{◌≡◌, ◌≤◌, ◌<◌, IfErr, IfOk, MatchOption, None, OnErr, OnOk};
+ghost use Rattle.std.specs.Prelude.{Some, drop, length, map, take};
+ghost use Rattle.bson_doc.specs.{value_of};
+ghost use Rattle.test_store.specs.Held.{closed_at, collection_index, collection_of, cursor_index};
+ghost use Rattle.test_store.specs.Held.{cursor_of, documents_in, empty_store, id_if_left};
+ghost use Rattle.test_store.specs.Held.{index_of_value, is_open, namespace_of, open_at, opened};
+ghost use Rattle.test_store.specs.Held.{opened_id, store_of, with_any, with_documents, with_left};
+ghost use Rattle.test_store.specs.Held.{with_replaced, without_collection};
+ghost use Rattle.test_store.specs.Taking.{IsNextBatch, IsOpenAt};
+
+use crate::namespace::{Namespace, NamespaceBuf};
+use bson_doc::Bson;
+use doc_query::{CommandError, Failure, take_batch};
+use std::alloc::{AllocError, Global};
+use std::mem;
+
+/// The documents of a namespace, in the order in which they were inserted.
+#[derive(Debug, Drop)]
+pub struct Collection {
+    /// The namespace.
+    pub namespace: NamespaceBuf,
+    /// The documents.
+    pub documents: Vec<Bson>,
+}
+
+/// The documents that were found and not yet given. The cursor is closed if there are none.
+#[derive(Debug, Drop)]
+pub struct Cursor {
+    /// The namespace that they were found in.
+    pub namespace: NamespaceBuf,
+    /// The documents.
+    pub left: Vec<Bson>,
+}
+
+/// What the server holds.
+#[derive(Debug, Drop)]
+pub struct Store {
+    /// The collections, in the order in which the first document of each was inserted.
+    pub(crate) collections: Vec<Collection>,
+    /// The cursors. The id of each is its index, counted from `FIRST_CURSOR_ID`.
+    pub(crate) cursors: Vec<Cursor>,
+}
+
+/// The id of the first cursor. A driver may send a smaller number back as an int32.
+const FIRST_CURSOR_ID: i64 = 1 << 32;
+
+/// Returns the index of the first collection with this namespace.
+fn index_of(collections: &[Collection], namespace: Namespace<'_>) -> Option<usize>
+    ensures { result ≡ collection_index (namespace_of namespace.entry)
+        (map collection_of collections.now) }
+{
+    for (i, collection) in collections.iter().enumerate() {
+        if collection.namespace.is(namespace) {
+            return Some(i);
+        }
+    }
+    None
+}
+
+impl Store {
+    /// Makes a store without documents. Takes no memory.
+    pub fn new(alloc: Global) -> Store
+        ensures { store_of result ≡ empty_store }
+    {
+        Store {
+            collections: Vec::new(alloc),
+            cursors: Vec::new(alloc),
+        }
+    }
+
+    /// Returns the allocator that the store takes its memory from.
+    pub(crate) fn allocator(&self) -> Global {
+        *self.collections.allocator()
+    }
+
+    /// Returns the documents of a namespace, in the order in which they were inserted.
+    pub(crate) fn documents(&self, namespace: Namespace<'_>) -> &[Bson]
+        ensures { map value_of result.now
+            ≡ documents_in (namespace_of namespace.entry) (store_of self.now).collections }
+    {
+        match index_of(&self.collections, namespace) {
+            Some(i) => &self.collections[i].documents,
+            None => &[],
+        }
+    }
+
+    /// Inserts documents into a namespace, after those that are there.
+    ///
+    /// # Errors
+    ///
+    /// Returns `AllocError` if memory runs out. Then the held documents are unchanged.
+    pub(crate) fn insert(
+        &mut self,
+        namespace: Namespace<'_>,
+        mut documents: Vec<Bson>,
+    ) -> Result<(), AllocError>
+        ensures inserted { OnOk result ((store_of self.new).collections
+            ≡ with_documents (namespace_of namespace.entry) (map value_of documents.items)
+            (store_of self.old).collections) }
+        ensures unchanged { OnErr result
+            ((store_of self.new).collections ≡ (store_of self.old).collections) }
+        ensures cursors { (store_of self.new).cursors ≡ (store_of self.old).cursors }
+    {
+        match index_of(&self.collections, namespace) {
+            Some(i) => self.collections[i].documents.append(&mut documents),
+            None => {
+                let alloc = self.allocator();
+                let namespace = namespace.to_buf(alloc)?;
+                self.collections.push(Collection {
+                    namespace,
+                    documents,
+                })?;
+                Ok(())
+            }
+        }
+    }
+
+    /// Inserts documents, unless there are none.
+    fn insert_any(
+        &mut self,
+        namespace: Namespace<'_>,
+        documents: Vec<Bson>,
+    ) -> Result<(), AllocError>
+        ensures inserted { OnOk result ((store_of self.new).collections
+            ≡ with_any (namespace_of namespace.entry) (map value_of documents.items)
+            (store_of self.old).collections) }
+        ensures unchanged { OnErr result
+            ((store_of self.new).collections ≡ (store_of self.old).collections) }
+        ensures cursors { (store_of self.new).cursors ≡ (store_of self.old).cursors }
+    {
+        if documents.is_empty() {
+            return Ok(());
+        }
+        self.insert(namespace, documents)
+    }
+
+    /// Puts these documents in the place of those of a namespace.
+    ///
+    /// # Errors
+    ///
+    /// Returns `AllocError` if memory runs out. Then the held documents are unchanged.
+    pub(crate) fn put_documents(
+        &mut self,
+        namespace: Namespace<'_>,
+        documents: Vec<Bson>,
+    ) -> Result<(), AllocError>
+        ensures replaced { OnOk result ((store_of self.new).collections
+            ≡ with_replaced (namespace_of namespace.entry) (map value_of documents.items)
+            (store_of self.old).collections) }
+        ensures unchanged { OnErr result
+            ((store_of self.new).collections ≡ (store_of self.old).collections) }
+        ensures cursors { (store_of self.new).cursors ≡ (store_of self.old).cursors }
+    {
+        match index_of(&self.collections, namespace) {
+            Some(i) => {
+                self.collections[i].documents = documents;
+                Ok(())
+            }
+            None => self.insert_any(namespace, documents),
+        }
+    }
+
+    /// Drops the documents of a namespace.
+    ///
+    /// # Errors
+    ///
+    /// Returns `NamespaceNotFound` if it has none.
+    pub(crate) fn drop_collection(&mut self, namespace: Namespace<'_>) -> Result<(), CommandError>
+        ensures dropped { OnOk result
+            (without_collection (namespace_of namespace.entry) (store_of self.old).collections
+            ≡ Some (store_of self.new).collections) }
+        ensures none { IfErr result (λ e. (e ≡ CommandError.NamespaceNotFound)
+            × (without_collection (namespace_of namespace.entry) (store_of self.old).collections
+            ≡ None)) }
+        ensures unchanged { OnErr result
+            ((store_of self.new).collections ≡ (store_of self.old).collections) }
+        ensures cursors { (store_of self.new).cursors ≡ (store_of self.old).cursors }
+    {
+        match index_of(&self.collections, namespace) {
+            Some(i) => {
+                drop(self.collections.remove(i));
+                Ok(())
+            }
+            None => Err(CommandError::NamespaceNotFound),
+        }
+    }
+
+    /// Opens a cursor over the documents that were found, unless there are none. Returns its id,
+    /// or 0 if none was opened.
+    ///
+    /// # Errors
+    ///
+    /// Returns `AllocError` if memory runs out. Then the cursors are unchanged.
+    pub(crate) fn open_cursor(
+        &mut self,
+        namespace: Namespace<'_>,
+        left: Vec<Bson>,
+    ) -> Result<i64, AllocError>
+        ensures id { IfOk result
+            (λ id. id ≡ opened_id (map value_of left.items) (store_of self.old).cursors) }
+        ensures opened { OnOk result ((store_of self.new).cursors
+            ≡ opened (namespace_of namespace.entry) (map value_of left.items)
+            (store_of self.old).cursors) }
+        ensures unchanged { OnErr result
+            ((store_of self.new).cursors ≡ (store_of self.old).cursors) }
+        ensures collections { (store_of self.new).collections ≡ (store_of self.old).collections }
+    {
+        if left.is_empty() {
+            return Ok(0);
+        }
+        let alloc = self.allocator();
+        let namespace = namespace.to_buf(alloc)?;
+        let Some(id) = FIRST_CURSOR_ID.checked_add(self.cursors.len() as i64) else {
+            return Err(AllocError);
+        };
+        self.cursors.push(Cursor { namespace, left })?;
+        Ok(id)
+    }
+
+    /// Returns the index of the open cursor with this id and this namespace.
+    fn open_cursor_index(&self, id: i64, namespace: Namespace<'_>) -> Option<usize>
+        ensures { MatchOption result
+            (open_at (namespace_of namespace.entry) (cursor_index id) (store_of self.now).cursors
+            ≡ None)
+            (λ i. IsOpenAt (namespace_of namespace.entry) id self.now.cursors.items i) }
+    {
+        let index = index_of_id(id)?;
+        let cursor = self.cursors.get(index)?;
+        if cursor.namespace.is(namespace) && !cursor.left.is_empty() {
+            Some(index)
+        } else {
+            None
+        }
+    }
+}
+
+impl Store {
+    /// Closes the open cursor of this namespace whose id is a value. Returns true if there is one.
+    pub(crate) fn close_cursor(&mut self, id: &Bson, namespace: Namespace<'_>) -> bool
+        ensures closed { result ≡ is_open (namespace_of namespace.entry)
+            (index_of_value (value_of id.now)) (store_of self.old).cursors }
+        ensures cursors { (store_of self.new).cursors
+            ≡ closed_at (namespace_of namespace.entry) (index_of_value (value_of id.now))
+            (store_of self.old).cursors }
+        ensures collections { (store_of self.new).collections ≡ (store_of self.old).collections }
+    {
+        let Bson::Int64(id) = id else {
+            return false;
+        };
+        match self.open_cursor_index(*id, namespace) {
+            Some(index) => {
+                let alloc = self.allocator();
+                self.cursors[index].left = Vec::new(alloc);
+                true
+            }
+            None => false,
+        }
+    }
+}
+
+/// Returns the index of the cursor with this id.
+fn index_of_id(id: i64) -> Option<usize>
+    ensures { result ≡ cursor_index id }
+{
+    if id < FIRST_CURSOR_ID {
+        None
+    } else {
+        Some((id - FIRST_CURSOR_ID) as usize)
+    }
+}
+
+/// Returns the id of a cursor that has these documents left, or 0 if there are none.
+fn id_if_left(id: i64, left: &[Bson]) -> i64
+    ensures { result ≡ id_if_left id (map value_of left.now) }
+{
+    if left.is_empty() { 0 } else { id }
+}
+
+impl Store {
+    /// Removes the next documents, at most `count`, from the cursor with this id and this
+    /// namespace. Returns them, and the id of the cursor, or 0 if it has no more.
+    ///
+    /// # Errors
+    ///
+    /// Returns `CursorNotFound` if there is no such open cursor, and otherwise `OutOfMemory` if
+    /// memory runs out. Then the cursors are unchanged.
+    pub(crate) fn next_batch(
+        &mut self,
+        id: i64,
+        namespace: Namespace<'_>,
+        count: usize,
+    ) -> Result<(Vec<Bson>, i64), Failure>
+        ensures cursors { IsNextBatch (namespace_of namespace.entry) id count
+            (store_of self.old).cursors result
+            (store_of self.new).cursors }
+        ensures collections { (store_of self.new).collections ≡ (store_of self.old).collections }
+    {
+        let Some(index) = self.open_cursor_index(id, namespace) else {
+            return Err(Failure::Refused(CommandError::CursorNotFound));
+        };
+        let Ok(batch) = take_batch(&mut self.cursors[index].left, count) else {
+            return Err(Failure::OutOfMemory);
+        };
+        let id = id_if_left(id, &self.cursors[index].left);
+        Ok((batch, id))
+    }
+}
