@@ -136,7 +136,15 @@ module _ {L : Type 0} (sent received : L → Option (List ℕ)) where
   pub none_done : (client : EndSeen L) → (acts : List ClientAct) × EndRuns sent received client acts client
   none_done client = (
     [],
-    record { connection = refl; run = refl; sends = Appends-nil (sent client.link); came = []; receives = Appends-nil (received client.link); taken = append-nil client.inlet },
+    record {
+      connection = refl;
+      run = refl;
+      sends = Appends-nil (sent client.link);
+      came = [];
+      receives = Appends-nil (received client.link);
+      taken = append-nil client.inlet;
+      are_bytes = no_bytes;
+    },
   )
 
   pub none_served : (server : ServerEndSeen L) (logged : Logged Echo)

@@ -2,6 +2,8 @@
 use Rattle.std.proofs.Common.{◌≡◌, ◌≢◌, ℕ, suc, ◌+◌, ◌-◌, ◌<◌, List, [], ◌∷◌, ◌++◌, length, take, drop, Option, None, Some, ap, refl, sym, subst, ◌∙◌, take-append-drop, length-append, arith}
 use Rattle.std.specs.Prelude.{ℤ, Result, Ok, Err}
 use Rattle.std.proofs.Math.Seq.{take-length}
+use Rattle.bson_elem.specs.{IsBytes}
+use Rattle.bson_elem.proofs.Lemmas.{IsBytes-take}
 use Rattle.wire_msg.specs.{IsOpen, Message}
 use Rattle.wire_msg.specs.Standing.{in_header, in_message}
 use Rattle.wire_peer.specs.{ClientSeen, MayTake, Settles, Takes, allowed, holding, owner}
@@ -63,12 +65,13 @@ holds_more old new piece n live some t may = by t.settles
         absurd cc
 
 -- the bytes that it took are a piece of their own
-pub fed_of : (old new : ClientSeen) (piece : List ℕ) (n : ℕ) → MayTake old → piece ≢ [] → Takes old piece n new
-    → IsFed old piece new (drop n piece)
-fed_of old new piece n may some t = record {
+pub fed_of : (old new : ClientSeen) (piece : List ℕ) (n : ℕ) → MayTake old → piece ≢ [] → IsBytes piece
+    → Takes old piece n new → IsFed old piece new (drop n piece)
+fed_of old new piece n may some are t = record {
   bytes = take n piece;
   takes = record { may = may; takes = client_own old piece n new t };
   parts = sym (take-append-drop n piece);
+  are_bytes = IsBytes-take n piece are;
   more = holds_more old new piece n may.1 some t;
 }
 

@@ -1,5 +1,6 @@
 pub mod Runs
 pub mod Feeding
+pub mod Closing
 pub mod Giving
 pub mod ServerRuns
 pub mod ServerFeeds

@@ -3,8 +3,10 @@ use Rattle.std.proofs.Common.{◌≡◌, ℕ, List, [], ◌∷◌, ◌++◌, Opt
 use Rattle.std.specs.Prelude.{Err, Ok, map}
 use Rattle.std.specs.Io.KnownBytes.{Appends, Keeps}
 use Rattle.std.proofs.KnownBytes.{Appends-kept, Appends-nil, Appends-trans}
+use Rattle.bson_elem.specs.{IsBytes}
 use Rattle.wire_msg.specs.{Content, Message, SpellsMsg}
 use Rattle.wire_msg.specs.declared.payloads.Payload.{Payload}
+use Rattle.wire_msg.proofs.Lemmas.{bytes_append}
 use Rattle.wire_model.specs.{ClientTakes, Record, asked_as, new_record, put_at, with_client_output}
 use Rattle.wire_peer.specs.{ClientSeen, IsCalled, called, content_of, released}
 use Rattle.wire_peer.specs.declared.call_table.ReadyReply.{ReadyReply}
@@ -19,6 +21,7 @@ use Rattle.wire_end.specs.declared.next.EndFault.TheVariants as faults
 use Rattle.wire_end.specs.declared.next.Next.TheVariants.{Reply}
 use Rattle.wire_end.specs.Ends.{EndRuns, EndSeen, HandsOut, StandsAs}
 use Rattle.wire_end.specs.Steps.{ClosesNothing, Hears}
+use Rattle.wire_end.proofs.ServerRuns.{no_bytes}
 
 -- ---- one after the other
 
@@ -41,6 +44,8 @@ runs_on sent received old mid new acts more r s = record {
       ∙ ap (λ (x : List ℕ). bytes_taken acts ++ x) s.taken
       ∙ sym (append_assoc (bytes_taken acts) (bytes_taken more) new.inlet)
       ∙ ap (λ (x : List ℕ). x ++ new.inlet) (sym (taken_on acts more));
+  are_bytes = subst IsBytes (sym (taken_on acts more))
+      (bytes_append (bytes_taken acts) (bytes_taken more) r.are_bytes s.are_bytes);
 }
 
 -- pieces, and then more of them, are taken in one list of acts
@@ -102,6 +107,7 @@ no_acts sent received old new more same own kept grew held = record {
   came = more;
   receives = grew;
   taken = sym held;
+  are_bytes = no_bytes;
 }
 
 pub nothing : {L : Type 0} (sent received : L → Option (List ℕ)) (e : EndSeen L) → Hears sent received e e
@@ -114,6 +120,7 @@ nothing sent received e = (
     came = [];
     receives = Appends-nil (received e.link);
     taken = append-nil e.inlet;
+    are_bytes = no_bytes;
   },
 )
 
@@ -138,6 +145,7 @@ own_runs sent received old new act own none none' does is =
       came = [];
       receives = Appends-nil (received old.link);
       taken = append-nil old.inlet ∙ ap (λ (x : List ℕ). x ++ old.inlet) (sym none');
+      are_bytes = subst IsBytes (sym none') no_bytes;
     })
 
 -- a call was made, and has a record
@@ -190,6 +198,7 @@ sent_runs sent received old new gone same inlet parts client records went kept =
   receives = Appends-kept (received old.link) (received old.link) (received new.link) []
       (Appends-nil (received old.link)) kept;
   taken = append-nil old.inlet ∙ sym inlet;
+  are_bytes = no_bytes;
 }
   where
     own : new.own ≡ record {
@@ -203,15 +212,16 @@ sent_runs sent received old new gone same inlet parts client records went kept =
 pub taken_runs : {L : Type 0} (sent received : L → Option (List ℕ)) (old new : EndSeen L)
     (more there bytes : List ℕ) → new.connection ≡ old.connection → Keeps (sent old.link) (sent new.link)
     → Appends (received old.link) (received new.link) more → there ≡ old.inlet ++ more
-    → there ≡ bytes ++ new.inlet → ClientTakes old.own.client bytes new.own.client
+    → there ≡ bytes ++ new.inlet → IsBytes bytes → ClientTakes old.own.client bytes new.own.client
     → new.own.records ≡ old.own.records → EndRuns sent received old (TakesDown bytes ∷ []) new
-taken_runs sent received old new more there bytes same kept grew held parts takes records = record {
+taken_runs sent received old new more there bytes same kept grew held parts are takes records = record {
   connection = same;
   run = (new.own, (new.own.client, takes, own), refl);
   sends = Appends-kept (sent old.link) (sent old.link) (sent new.link) [] (Appends-nil (sent old.link)) kept;
   came = more;
   receives = grew;
   taken = sym held ∙ parts ∙ ap (λ (x : List ℕ). x ++ new.inlet) (sym (append-nil bytes));
+  are_bytes = subst IsBytes (sym (append-nil bytes)) are;
 }
   where
     own : new.own ≡ record { client = new.own.client; records = old.own.records }

@@ -1,9 +1,12 @@
 -- A client's end, and what is done with it.
-use Rattle.std.specs.Prelude.{◌≡◌, ℕ, Option, List, [], ◌∷◌, ◌++◌, map, Result, Ok, Err}
+use Rattle.std.specs.Prelude.{◌≡◌, ◌⊎◌, ℕ, Option, List, [], ◌∷◌, ◌++◌, map, Result, Ok, Err}
 use Rattle.std.specs.Io.KnownBytes.{Appends}
+use Rattle.bson_elem.specs.{IsBytes}
 use Rattle.wire_msg.specs.{Message}
 use Rattle.wire_peer.specs.{ClientSeen, MayTake, new_client}
-use Rattle.wire_peer.specs.declared.client_state.ClientState.TheVariants.{Closed}
+use Rattle.wire_peer.specs.declared.client_state.ClientCause.{ClientCause}
+use Rattle.wire_peer.specs.declared.client_state.ClientCause.TheVariants as causes
+use Rattle.wire_peer.specs.declared.client_state.ClientState.TheVariants.{Closed, Open}
 use Rattle.wire_channels.specs.{ClientAct, ClientEnd, ClientRun, Made, bytes_sent, bytes_taken}
 use Rattle.wire_channels.specs.Owners.{Collects, EndsDown, TakesDown}
 use Rattle.wire_stream.specs.{Rose}
@@ -45,6 +48,7 @@ pub record EndRuns {L : Type 0} (sent received : L → Option (List ℕ)) (old :
   pub came : List ℕ
   pub receives : Appends (received old.link) (received new.link) came
   pub taken : old.inlet ++ came ≡ bytes_taken acts ++ new.inlet
+  pub are_bytes : IsBytes (bytes_taken acts)
 
 -- the client takes bytes, and none is there
 abbrev pub IsWaiting : {L : Type 0} → EndSeen L → Type 0
@@ -73,6 +77,24 @@ StandsAs (Ok Later) new = IsWaiting new
 StandsAs (Err (faults.Closed cause)) new = new.own.client.state ≡ Closed cause
 StandsAs (Err (faults.Link fault)) new = Unit {0}
 StandsAs (Err faults.OutOfMemory) new = Unit {0}
+
+-- The client closed for this cause. The link told its end, and no bytes are held; or what came is
+-- no reply to a call.
+abbrev pub Closes : {L : Type 0} → (ends : L → ℕ) → ClientCause → EndSeen L → EndSeen L → Type 0
+Closes ends causes.Ended old new = (new.inlet ≡ []) × Rose (ends old.link) (ends new.link)
+Closes ends causes.EndedInside old new = (new.inlet ≡ []) × Rose (ends old.link) (ends new.link)
+Closes ends cause old new = ends new.link ≡ ends old.link
+
+-- The count of ends rose if the client, which was open, was told the end of the link, and no bytes
+-- are held then. Otherwise it stayed the same.
+abbrev pub NextEnds : {L : Type 0} → (ends : L → ℕ) → Result Next EndFault → EndSeen L → EndSeen L
+    → Type 0
+NextEnds ends (Ok next) old new = ends new.link ≡ ends old.link
+NextEnds ends (Err (faults.Closed cause)) old new =
+    ((old.own.client.state ≡ Closed cause) × (ends new.link ≡ ends old.link))
+    ⊎ ((old.own.client.state ≡ Open) × Closes ends cause old new)
+NextEnds ends (Err (faults.Link fault)) old new = ends new.link ≡ ends old.link
+NextEnds ends (Err faults.OutOfMemory) old new = ends new.link ≡ ends old.link
 
 -- the count of waits rose if no reply was there yet, and otherwise stayed the same
 abbrev pub NextLater : Result Next EndFault → ℕ → ℕ → Type 0

@@ -9,8 +9,8 @@ pub mod Serving
 pub mod Answering
 -- the words that clauses of other crates cite
 pub use Rattle.wire_end.specs.Records.{record_of, records_of}
-pub use Rattle.wire_end.specs.Ends.{EndRuns, EndSeen, FailsAs, HandsOut, IsWaiting, NextLater}
-pub use Rattle.wire_end.specs.Ends.{StandsAs, first_client, new_end}
+pub use Rattle.wire_end.specs.Ends.{EndRuns, EndSeen, FailsAs, HandsOut, IsWaiting, NextEnds}
+pub use Rattle.wire_end.specs.Ends.{NextLater, StandsAs, first_client, new_end}
 pub use Rattle.wire_end.specs.ServerEnds.{GoesOver, ServerEndMoves, ServerEndRuns, ServerEndSeen}
 pub use Rattle.wire_end.specs.ServerEnds.{new_server_end, with_logged}
 pub use Rattle.wire_end.specs.NextRequests.{RequestComes, RequestFails, RequestLater, TakesMore}

@@ -1,6 +1,7 @@
 -- The steps that an end is made of.
-use Rattle.std.specs.Prelude.{◌≡◌, ℕ, ◌+◌, ◌<◌, Bool, true, false, Option, None, Some, List, []}
+use Rattle.std.specs.Prelude.{◌≡◌, ℕ, ◌+◌, ◌<◌, Option, None, Some, List, []}
 use Rattle.std.specs.Prelude.{◌∷◌, ◌++◌, length, map, Result, Ok, Err}
+use Rattle.bson_elem.specs.{IsBytes}
 use Rattle.wire_msg.specs.{Message}
 use Rattle.wire_model.specs.{ClientTakes}
 use Rattle.wire_peer.specs.{ClientSeen, MayTake}
@@ -31,6 +32,7 @@ pub record IsFed (old : ClientSeen) (there : List ℕ) (new : ClientSeen) (left 
   pub bytes : List ℕ
   pub takes : ClientTakes old bytes new
   pub parts : there ≡ bytes ++ left
+  pub are_bytes : IsBytes bytes
   pub more : HoldsMore old new
 
 -- the reply that was ready is handed out, or none was
@@ -48,10 +50,12 @@ StepLater (Ok pulls.Bytes) old new = new ≡ old
 StepLater (Ok pulls.End) old new = new ≡ old
 StepLater (Err fault) old new = new ≡ old
 
-abbrev pub ReceiveLater : Result Bool EndFault → ℕ → ℕ → Type 0
-ReceiveLater (Ok false) old new = Rose old new
-ReceiveLater (Ok true) old new = new ≡ old
-ReceiveLater (Err fault) old new = new ≡ old
+-- the count of ends rose if the link told its end, and otherwise stayed the same
+abbrev pub StepEnds : Result Pulled EndFault → ℕ → ℕ → Type 0
+StepEnds (Ok pulls.End) old new = Rose old new
+StepEnds (Ok pulls.Bytes) old new = new ≡ old
+StepEnds (Ok pulls.Later) old new = new ≡ old
+StepEnds (Err fault) old new = new ≡ old
 
 -- the link failed or memory ran out, and the client isn't closed by that
 abbrev pub ClosesNothing : EndFault → Type 0

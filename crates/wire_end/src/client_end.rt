@@ -3,10 +3,10 @@
 ghost use Rattle.std.specs.Prelude.{◌≡◌, ◌≢◌, ◌∷◌, [], ℕ, List, Ok, IfErr, IfOk, OnErr, OnOk};
 ghost use Rattle.std.specs.Prelude.{false, length, option_map, slice_get, true};
 ghost use Rattle.wire_channels.specs.Owners.{Calls, ClientAct, EndsDown, SendsUp};
-ghost use Rattle.wire_end.specs.Ends.{EndRuns, FailsAs, HandsOut, IsWaiting, NextLater, StandsAs};
-ghost use Rattle.wire_end.specs.Ends.{new_end};
+ghost use Rattle.wire_end.specs.Ends.{EndRuns, FailsAs, HandsOut, IsWaiting, NextEnds, NextLater};
+ghost use Rattle.wire_end.specs.Ends.{StandsAs, new_end};
 ghost use Rattle.wire_end.specs.Records.{record_of};
-ghost use Rattle.wire_end.specs.Steps.{ClosesNothing, CollectsAs, Hears, HoldsMore, ReceiveLater};
+ghost use Rattle.wire_end.specs.Steps.{ClosesNothing, CollectsAs, Hears, HoldsMore, StepEnds};
 ghost use Rattle.wire_end.specs.Steps.{StepLater};
 ghost use Rattle.wire_peer.specs.{IsCallRefusal, MayTake, content_of};
 ghost use Rattle.wire_peer.specs.declared.calls.CallKind.TheVariants.{Exhaust, Plain};
@@ -177,11 +177,14 @@ impl<L: Link + Drop> ClientEnd<L> {
         ensures handed { (acts : List ClientAct)
             × EndRuns L.sent L.received self.old acts self.new × HandsOut result acts }
         ensures stands { StandsAs result self.new }
+        ensures ends { NextEnds L.ends result self.old self.new }
         ensures later { NextLater result (L.waits self.old.link) (L.waits self.new.link) }
         ensures fails { FailsAs result (L.failures self.old.link) (L.failures self.new.link) }
     {
-        if !self.receive()? {
-            return Ok(Next::Later);
+        match self.receive()? {
+            Pulled::Bytes => {}
+            Pulled::End => return Err(EndFault::Closed(self.end())),
+            Pulled::Later => return Ok(Next::Later),
         }
         match self.collect() {
             Ok(Some(reply)) => Ok(Next::Reply(reply)),
@@ -190,23 +193,26 @@ impl<L: Link + Drop> ClientEnd<L> {
         }
     }
 
-    /// Receives until a reply is ready, the client is closed or the link has ended. Returns false if
-    /// no more bytes come now.
-    fn receive(&mut self) -> Result<bool, EndFault>
+    /// Receives until the client takes no more bytes, since a reply is ready or it is closed; or
+    /// until the link has ended, or has no more bytes now.
+    fn receive(&mut self) -> Result<Pulled, EndFault>
         ensures heard { Hears L.sent L.received self.old self.new }
-        ensures waits { result ≡ Ok false → IsWaiting self.new }
+        ensures taken { result ≡ Ok Pulled.Bytes → MayTake self.new.own.client → ⊥ }
+        ensures ended { result ≡ Ok Pulled.End → IsWaiting self.new }
+        ensures waits { result ≡ Ok Pulled.Later → IsWaiting self.new }
         ensures closes { IfErr result (λ e. ClosesNothing e) }
-        ensures later { ReceiveLater result (L.waits self.old.link) (L.waits self.new.link) }
+        ensures ends { StepEnds result (L.ends self.old.link) (L.ends self.new.link) }
+        ensures later { StepLater result (L.waits self.old.link) (L.waits self.new.link) }
         ensures fails { FailsAs result (L.failures self.old.link) (L.failures self.new.link) }
     {
         while self.is_receiving() {
             match self.step()? {
                 Pulled::Bytes => {}
-                Pulled::End => return Ok(true),
-                Pulled::Later => return Ok(false),
+                Pulled::End => return Ok(Pulled::End),
+                Pulled::Later => return Ok(Pulled::Later),
             }
         }
-        Ok(true)
+        Ok(Pulled::Bytes)
     }
 
     /// Returns true if the client takes bytes: it is open, and no reply is ready.
@@ -221,10 +227,12 @@ impl<L: Link + Drop> ClientEnd<L> {
     fn step(&mut self) -> Result<Pulled, EndFault>
         requires { MayTake self.old.own.client }
         ensures heard { Hears L.sent L.received self.old self.new }
+        ensures ended { result ≡ Ok Pulled.End → IsWaiting self.new }
         ensures waits { result ≡ Ok Pulled.Later → IsWaiting self.new }
         ensures closes { IfErr result (λ e. ClosesNothing e) }
         ensures more { result ≡ Ok Pulled.Bytes
             → HoldsMore self.old.own.client self.new.own.client }
+        ensures ends { StepEnds result (L.ends self.old.link) (L.ends self.new.link) }
         ensures later { StepLater result (L.waits self.old.link) (L.waits self.new.link) }
         ensures fails { FailsAs result (L.failures self.old.link) (L.failures self.new.link) }
     {

@@ -1,17 +1,18 @@
 //! The laws of ends. The contract of a function is the law.
 
-ghost use Rattle.std.specs.Prelude.{◌≡◌, ◌++◌, [], ℕ, List, length, suc};
-ghost use Rattle.wire_peer.specs.{IsLimit, log_of, new_server};
+ghost use Rattle.std.specs.Prelude.{◌≡◌, ◌++◌, [], ℕ, ℤ, List, length, suc};
+ghost use Rattle.wire_peer.specs.{IsLimit, log_of, new_client, new_server};
 ghost use Rattle.wire_peer.specs.declared.log.Logged.{Logged as LoggedBy};
-ghost use Rattle.wire_channels.specs.{AreMade, Arrive, ClientAct, Made, OwnersKnow, ServerAct};
-ghost use Rattle.wire_channels.specs.{ServerEnds, ServersGrow, Turn, acts_at, among, deeds_of};
-ghost use Rattle.wire_channels.specs.{first_servers_of, opened, opened_in, server_set};
+ghost use Rattle.wire_channels.specs.{AreMade, Arrive, ClientAct, HoldsAlone, Made, OwnersKnow};
+ghost use Rattle.wire_channels.specs.{ServerAct, ServerEnds, ServersGrow, Turn, acts_at, among};
+ghost use Rattle.wire_channels.specs.{deeds_of, first_servers_of, opened, opened_in, server_set};
 ghost use Rattle.wire_channels.specs.{Deed, server_turns, served_turns};
-ghost use Rattle.wire_end.specs.Ends.{EndRuns, EndSeen, first_client};
+ghost use Rattle.wire_end.specs.Ends.{EndRuns, EndSeen, first_client, new_end};
 ghost use Rattle.wire_end.specs.OnePair.{AreAnswered, AreInOrder, PairKnows};
 ghost use Rattle.wire_end.specs.ServerEnds.{ServerEndMoves, ServerEndRuns, ServerEndSeen};
 ghost use Rattle.wire_end.specs.ServerEnds.{new_server_end, with_logged};
 
+use wire_channels::laws::a_client_holds_alone;
 use wire_peer::Handler;
 use wire_stream::Link;
 
@@ -21,6 +22,21 @@ pub fn ends_go_on<L: Link>()
         → EndRuns L.sent L.received old acts mid → EndRuns L.sent L.received mid more new
         → EndRuns L.sent L.received old (acts ++ more) new }
 {}
+
+/// Proves what holds of a client that is kept at an end, whoever answers it, with any bytes.
+///
+/// What it took of those that came over its link splits into messages and a rest, in exactly one
+/// way. The replies that the end handed out are these messages in order, each once, each to the
+/// call that owns it, and none after a call's last one; and the records have their contents.
+pub fn an_end_holds_alone<L: Link>()
+    ensures { (connection limit window : ℕ) (first_id : ℤ) (link : L) (acts : List ClientAct)
+        (new : EndSeen L)
+        → EndRuns L.sent L.received
+        (new_end connection (new_client first_id window limit) link) acts new
+        → HoldsAlone limit acts new.own }
+{
+    a_client_holds_alone();
+}
 
 /// Proves that what the end of a server did with a handler and its log, and then did from there
 /// on, is what it did.

@@ -1,10 +1,11 @@
 //! The steps that an end is made of, over its client, its inlet and its records.
 
-ghost use Rattle.std.specs.Prelude.{◌≡◌, ◌≢◌, ℕ, [], MatchResult, OnErr, OnOk, Some, map};
+ghost use Rattle.std.specs.Prelude.{◌≡◌, ◌≢◌, ℕ, [], IfOk, MatchResult, OnErr, OnOk, Some, map};
+ghost use Rattle.bson_elem.specs.{IsBytes};
 ghost use Rattle.wire_end.specs.Records.{records_of};
 ghost use Rattle.wire_end.specs.Steps.{IsFed};
 ghost use Rattle.wire_model.specs.{lost_record, put_at};
-ghost use Rattle.wire_peer.specs.{IsCallRefusal, IsCalled, MayTake, called, content_of};
+ghost use Rattle.wire_peer.specs.{IsCallRefusal, IsCalled, MayTake, Takes, called, content_of};
 
 use crate::call_record::CallRecord;
 use std::alloc::AllocError;
@@ -31,6 +32,20 @@ pub(crate) fn call_as(
     }
 }
 
+/// Feeds `piece` to `client`. Returns how many bytes it took.
+///
+/// # Errors
+///
+/// Returns `OutOfMemory` if memory for a message runs out. Nothing changes then.
+fn feed_piece(client: &mut Client, piece: &[u8]) -> Result<usize, ReadRefusal>
+    requires { MayTake client.old }
+    ensures bytes { IsBytes piece.now }
+    ensures takes { IfOk result (λ taken. Takes client.old piece.now taken client.new) }
+    ensures unchanged { OnErr result (client.new ≡ client.old) }
+{
+    client.feed(piece)
+}
+
 /// Feeds `client` the bytes that `inlet` holds, and drops those that it took.
 ///
 /// # Errors
@@ -42,7 +57,7 @@ pub(crate) fn feed(client: &mut Client, inlet: &mut Inlet) -> Result<(), ReadRef
     ensures fed { OnOk result (IsFed client.old inlet.old client.new inlet.new) }
     ensures unchanged { OnErr result ((client.new ≡ client.old) × (inlet.new ≡ inlet.old)) }
 {
-    let taken = client.feed(inlet.bytes())?;
+    let taken = feed_piece(client, inlet.bytes())?;
     inlet.used(taken);
     Ok(())
 }

@@ -8,6 +8,7 @@ invariant-loop-self g l =
     let L = g.L.Link in
     record {
       heard : Hears L.sent L.received l.initial.self l.self;
+      ends : L.ends l.self.link ≡ L.ends l.initial.self.link;
       later : L.waits l.self.link ≡ L.waits l.initial.self.link;
       fails : L.failures l.self.link ≡ L.failures l.initial.self.link;
     }

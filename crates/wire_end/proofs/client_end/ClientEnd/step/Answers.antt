@@ -37,7 +37,7 @@ returns-clause-heard g c =
           let fed = w.in-Ok.ensures.fed in (
             fed.bytes ∷ [],
             taken_runs L.sent L.received _ _ more.0 c.pull.new.self fed.bytes refl
-                c.pull.ensures.sent more.1 more.2 fed.parts fed.takes refl,
+                c.pull.ensures.sent more.1 more.2 fed.parts fed.are_bytes fed.takes refl,
           )
       | in-Err-feed w ↦
           let same = w.in-Err-feed.ensures.unchanged in (
