@@ -13,3 +13,5 @@ pub mod PartLaws
 pub mod SplitLaws
 pub mod TextLaws
 pub mod QuickLaws
+pub mod FormLaws
+pub mod SpanLaws
