@@ -15,3 +15,4 @@ pub mod TextLaws
 pub mod QuickLaws
 pub mod FormLaws
 pub mod SpanLaws
+pub mod OffsetLaws

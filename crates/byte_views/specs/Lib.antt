@@ -18,3 +18,4 @@ pub mod Headers
 pub mod Forms
 pub mod Spans
 pub mod Shown
+pub mod Offsets
