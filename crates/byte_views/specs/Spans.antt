@@ -1,11 +1,11 @@
 -- The innermost element that has a byte, and where what is at fault ends.
-use Rattle.std.specs.Prelude.{◌≡◌, ◌≢◌, ◌≤◌, ◌<◌, ℕ, ◌+◌, ◌-◌, ◌^◌, List, [], ◌∷◌, length, take, drop}
-use Rattle.std.specs.Prelude.{min, nat_lt, nat_le, ◌||◌, if◌then◌else◌, position, slice_range}
+use Rattle.std.specs.Prelude.{◌≡◌, ◌≢◌, ◌≤◌, ◌<◌, ℕ, ◌+◌, ◌-◌, ◌^◌, List, [], ◌∷◌, length, take}
+use Rattle.std.specs.Prelude.{drop, min, nat_lt, nat_le, ◌||◌, if◌then◌else◌, position, slice_range}
 use Rattle.std.specs.Prelude.{Option, Some, None, Ok}
 use Rattle.std.specs.Int.{w32, from_le_bytes}
 use Rattle.bson_elem.specs.declared.kinds.Kind.{Kind}
-use Rattle.bson_elem.specs.{Form, binary_form, document_at, form_of, int32_form, int64_form, is_zero}
-use Rattle.bson_elem.specs.{kind_of, pointer_form, raw_form, regex_form, string_form}
+use Rattle.bson_elem.specs.{Form, binary_form, document_at, form_of, int32_form, int64_form}
+use Rattle.bson_elem.specs.{is_zero, kind_of, pointer_form, raw_form, regex_form, string_form}
 use Rattle.bson_elem.specs.{timestamp_form}
 use Rattle.bson_elem.specs.Kinds.{boolean_form, document_form, scope_form}
 use Rattle.byte_views.specs.declared.element.Element.{Element}
