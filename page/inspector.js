@@ -4,7 +4,6 @@
 const PER_PAGE = 100; // items of the list that are shown at once
 const MOST_TYPED = 40_000; // bytes that the field shows as digits
 const MOST_SHARED = 24_000; // bytes that go into an address
-const MOST_SOUGHT = 2_000; // nodes among which an array that isn't canonical is sought
 const TEXT_FORMS = ["relaxed", "canonical", "dump"];
 
 const inWords = (count, one, many = `${one}s`) => `${count.toLocaleString("en")} ${count === 1 ? one : many}`;
@@ -137,7 +136,7 @@ class Inspector {
 
   // Returns where a message at fault is to end: where its header says, or with the bytes.
   announcedEnd(at, all) {
-    const announced = all - at >= 4 ? new DataView(this.bytes.buffer, this.bytes.byteOffset + at, 4).getInt32(0, true) : 0;
+    const announced = this.proved.frontNumbers(at, all).length;
     return announced >= 20 && announced <= all - at ? at + announced : all;
   }
 
@@ -190,30 +189,31 @@ class Inspector {
     byId("verdict").dataset.fault = `${fault.number} ${name} at ${fault.offset}`;
   }
 
-  // Says whether one document is canonical.
+  // Says whether one document is canonical, or all documents of one message.
   formWords() {
-    if (this.areMessages || this.items.length !== 1) return "";
-    if (this.proved.isCanonical(0, this.bytes.length)) return ", canonical";
-    const element = this.unnumbered();
-    if (!element) return ', not canonical: the names of an array aren\'t "0", "1" and so on';
-    const place = `from ${quoted(element.name)} at offset ${hexOffset(element.start)} on`;
-    return `, not canonical: the names of ${pathOf(element.parent).join(".")}, ${place}, aren't "0", "1" and so on`;
+    if (this.items.length !== 1) return "";
+    const other = this.misnamedIn(this.tree.root);
+    return other ? `, ${this.formOf(other.node)}` : ", canonical";
   }
 
-  // Returns the first element of an array whose name isn't its index, if it is among the first nodes of the tree.
-  unnumbered() {
-    let left = MOST_SOUGHT;
-    const seek = (node) => {
-      const wrong = node.kind === "array" && node.children.find(({ name }, index) => name !== String(index));
-      if (wrong) return wrong;
-      for (const child of node.children) {
-        left -= 1;
-        const found = left > 0 && seek(child);
-        if (found) return found;
-      }
-      return undefined;
-    };
-    return this.tree.root && seek(this.tree.root);
+  // Returns the first document of a document or a message that isn't canonical, and the offset from which on it isn't.
+  misnamedIn(root) {
+    for (const node of documentsIn(root)) {
+      const { fault, canonical, offset } = this.proved.form(node.start, node.end);
+      if (!fault && !canonical) return { node, offset };
+    }
+    return undefined;
+  }
+
+  // Says whether a document is canonical, and where not.
+  formOf(node) {
+    const { fault, canonical, offset } = this.proved.form(node.start, node.end);
+    if (fault) return "no document";
+    if (canonical) return "canonical";
+    const element = innermost(node, offset);
+    const place = element.start === offset ? `from ${quoted(element.name)} at offset ${hexOffset(offset)} on` : `from offset ${hexOffset(offset)} on`;
+    const names = element.start === offset ? `the names of ${pathOf(element.parent).join(".")}` : "the names of an array";
+    return `not canonical: ${names}, ${place}, aren't "0", "1" and so on`;
   }
 
   goToFault(item, fault) {
@@ -243,10 +243,18 @@ class Inspector {
 
   itemLine(item, index) {
     const fault = this.faultOf(item);
-    const state = fault ? make("span", { class: "bad" }, `${namedFault(fault.table, fault)[0]} at ${fault.offset}`) : "";
+    const other = fault ? undefined : this.misnamedIn(this.rootOf(item));
+    const state = fault ? make("span", { class: "bad" }, `${namedFault(fault.table, fault)[0]} at ${fault.offset}`)
+      : other ? make("span", {}, `not canonical at ${other.offset}`) : "";
     return make("li", {}, make("button", { type: "button", "data-item": index, "aria-current": String(index === this.item),
       on: { click: () => this.openItem(index) } },
       make("span", {}, `#${index}`), make("span", {}, `at ${item.start}`), make("span", {}, inWords(item.end - item.start, "byte")), state));
+  }
+
+  rootOf(item) {
+    return this.areMessages
+      ? messageNode(this.proved, item, this.proved.messageParts(item.start, item.end))
+      : documentNode(this.proved, undefined, item);
   }
 
   // Shows one item of the list.
@@ -257,16 +265,14 @@ class Inspector {
       line.setAttribute("aria-current", String(Number(line.dataset.item) === index));
     }
     if (!item) return;
-    const root = this.areMessages
-      ? messageNode(this.proved, item, this.proved.messageParts(item.start, item.end))
-      : documentNode(this.proved, undefined, item);
+    const root = this.rootOf(item);
     const fault = this.faultOf(item);
     this.fault = fault;
     this.tree.show(root, fault && { offset: fault.offset, text: this.faultLine(fault) });
     this.bytesPane.show(this.bytes, item);
     this.showView(this.view);
     this.choose(root, false);
-    this.bytesPane.mark(this.faultMarks(fault, root));
+    this.bytesPane.mark(this.faultMarks(fault, item));
     if (fault) this.bytesPane.reveal({ start: fault.offset });
   }
 
@@ -274,11 +280,15 @@ class Inspector {
     return `${namedFault(fault.table, fault)[0]} at offset ${fault.offset}`;
   }
 
-  // Marks the byte of a fault, and the innermost document that it stands in up to its end.
-  faultMarks(fault, root) {
+  // Marks the byte of a fault, and what is at fault up to its end.
+  faultMarks(fault, item) {
     if (!fault) return {};
-    const around = fault.offset < this.bytes.length ? innermost(root, fault.offset) : root;
-    return { fault: fault.offset, faultName: this.faultLine(fault), inFault: { start: fault.offset, end: around.end } };
+    return { fault: fault.offset, faultName: this.faultLine(fault), inFault: { start: fault.offset, end: this.faultEnd(fault, item) } };
+  }
+
+  faultEnd({ number, offset, table, around }, { start, end }) {
+    if (table === DOCUMENT_FAULTS) return this.proved.spanAt(around ? around.offset : start, end, offset).end;
+    return MESSAGE_FAULTS[number - 1][0] === "EndedInside" ? end : this.proved.messageSpan(start, end, offset).end;
   }
 
   // ---- what is lit and chosen
@@ -317,7 +327,8 @@ class Inspector {
       ["offset", hexOffset(node.start)], ["length", inWords(node.end - node.start, "byte")],
       ...(node.valueStart === undefined ? [] : [["value at", hexOffset(node.valueStart)]]),
       ["byte", this.bytes.length ? `${this.bytes[byte]?.toString(16).padStart(2, "0")} at ${byte}` : ""],
-      ["value", node.element ? valueText(this.bytes, node.element, 4_000) : node.value],
+      ["value", clipped(node.value, 4_000)],
+      ...(node.isDocument ? [["form", this.formOf(node)]] : []),
     ];
     byId("facts").replaceChildren(...facts.map(([term, words]) => make("div", {}, make("dt", {}, term), make("dd", {}, words))));
   }
@@ -338,13 +349,7 @@ class Inspector {
     const item = this.items[this.item];
     if (!item) return "";
     if (!this.areMessages) return this.textAt(form, item);
-    const documents = [];
-    const seek = (node) => {
-      if (node instanceof Container) documents.push(node);
-      else node.children.forEach(seek);
-    };
-    seek(this.tree.root);
-    return documents.map((node) => this.textAt(form, node)).join(form === "dump" ? "" : "\n");
+    return documentsIn(this.tree.root).map((node) => this.textAt(form, node)).join(form === "dump" ? "" : "\n");
   }
 
   textAt(form, { start, end }) {

@@ -63,8 +63,17 @@ class Proved {
 
   // ---- documents
 
-  isCanonical(start, end) {
-    return Boolean(this.exports.page_is_canonical(...this.slice(start, end)));
+  // Returns whether a document is in canonical form, and the offset of the first element whose name isn't its index; or its fault.
+  form(start, end) {
+    this.exports.page_form(this.place("result"), ...this.slice(start, end));
+    const canonical = Boolean(this.view.getUint8(this.base + 16));
+    return { fault: this.fault(0, start), canonical, offset: start + this.number(24) };
+  }
+
+  // Returns the place of the innermost element that has a byte of the document that begins at `start`, or of what is at fault there.
+  spanAt(start, end, offset) {
+    this.exports.page_span(this.place("result"), ...this.slice(start, end), BigInt(offset - start));
+    return this.span(0, start);
   }
 
   // Returns how many whole documents stand one after another, how many bytes they take, and the first fault behind them.
@@ -85,12 +94,27 @@ class Proved {
 
   // Writes a text of a document: `dump`, `canonical` or `relaxed`.
   text(form, start, end) {
-    const room = [BigInt(this.base + PLACES.bytes + this.bytes.length), BigInt(ROOM)];
     const slice = this.slice(start, end);
-    if (form === "dump") this.exports.page_dump(this.place("result"), ...slice, ...room);
-    else this.exports.page_json(this.place("result"), ...slice, Number(form === "relaxed"), ...room);
+    if (form === "dump") this.exports.page_dump(this.place("result"), ...slice, ...this.room);
+    else this.exports.page_json(this.place("result"), ...slice, Number(form === "relaxed"), ...this.room);
+    return this.written(start);
+  }
+
+  get room() {
+    return [BigInt(this.base + PLACES.bytes + this.bytes.length), BigInt(ROOM)];
+  }
+
+  // Returns the text that was written, or the fault for which there is none.
+  written(start) {
     const fault = this.fault(0, start);
-    return fault ? { fault } : { text: utf8.decode(new Uint8Array(this.view.buffer, Number(room[0]), this.number(16))) };
+    return fault ? { fault } : { text: utf8.decode(new Uint8Array(this.view.buffer, Number(this.room[0]), this.number(16))) };
+  }
+
+  // Writes the value of an element that a walk went over: a space, the word of its kind, and the value.
+  valueText({ walk, start }) {
+    this.writeIter({ ...walk.iter, at: start - walk.origin });
+    this.exports.page_value(this.place("result"), ...this.slice(walk.origin, walk.limit), this.place("iter"), ...this.room);
+    return this.written(walk.origin);
   }
 
   // ---- walks
@@ -121,7 +145,7 @@ class Proved {
     walk.iter.at = this.number(PLACES.iter + 8);
     const element = this.readElement(walk.origin);
     if (element.fault || element.kind === 0) return element.fault ? element : undefined;
-    return { ...element, start: walk.origin + at, end: walk.origin + walk.iter.at, inner: this.enter(walk) };
+    return { ...element, walk, start: walk.origin + at, end: walk.origin + walk.iter.at, inner: this.enter(walk) };
   }
 
   readElement(origin) {
@@ -151,6 +175,19 @@ class Proved {
     const fault = this.fault(16, start);
     const state = ["open", "whole", "bad"][this.word(0)];
     return { state, length: this.number(8), fault, inside: fault && this.fault(32, fault.offset) };
+  }
+
+  // Returns how many of the five numbers at the front of a message are there, and the numbers.
+  frontNumbers(start, end) {
+    this.exports.page_front_numbers(this.place("result"), ...this.slice(start, end));
+    const signed = (at) => this.view.getInt32(this.base + at, true);
+    return { count: this.word(0), length: this.word(4), id: signed(8), responseTo: signed(12), opcode: signed(16), flagBits: this.word(20) };
+  }
+
+  // Returns the place of what stands at an offset of a message: a number of its header, the flags, or a section.
+  messageSpan(start, end, offset) {
+    this.exports.page_message_span(this.place("result"), ...this.slice(start, end), BigInt(offset - start));
+    return this.span(0, start);
   }
 
   messageParts(start, end) {

@@ -25,25 +25,17 @@ function asDate(bits) {
   return Number.isNaN(date.getTime()) ? "" : `${date.toISOString()}`;
 }
 
-// Returns what an element shows behind its kind.
-function valueText(bytes, element, most) {
-  const text = (span) => quoted(clipped(utf8.decode(bytes.subarray(span.start, Math.min(span.end, span.start + 4 * most))), most));
-  const hex = (span) => clipped(hexOf(bytes.subarray(span.start, Math.min(span.end, span.start + most))), 2 * most - 2);
-  const size = element.bytes.end - element.bytes.start;
-  switch (KINDS[element.kind]) {
-    case "double": return asDouble(element.bits);
-    case "string": case "code": case "symbol": return text(element.text);
-    case "document": case "array": return `${size} bytes`;
-    case "binary": return `subtype ${element.subtype.toString(16).padStart(2, "0")}, ${size} bytes ${hex(element.bytes)}`;
-    case "objectid": case "decimal128": return hex(element.bytes);
-    case "boolean": return String(element.bits === 1n);
-    case "datetime": return `${asSigned(element.bits)} ${asDate(element.bits)}`.trim();
-    case "regex": return `${text(element.text)} ${text(element.bytes)}`;
-    case "dbpointer": return `${text(element.text)} ${hex(element.bytes)}`;
-    case "codescope": return `${text(element.text)}, scope of ${size} bytes`;
-    case "int32": case "int64": return String(asSigned(element.bits));
-    case "timestamp": return `seconds ${element.bits >> 32n}, increment ${element.bits & 0xffff_ffffn}`;
-    default: return "";
+// Returns what the dump writes behind an element's kind; and behind a double's digits and a datetime's milliseconds what they mean.
+function valueText(proved, element) {
+  const kind = KINDS[element.kind];
+  const { text, fault } = proved.valueText(element);
+  if (fault) return fault.number === 254 ? "more than 64 KiB" : `(${namedFault(DOCUMENT_FAULTS, fault)[0]})`;
+  const value = text.slice(kind.length + 2);
+  switch (kind) {
+    case "double": return `${value} = ${asDouble(element.bits)}`;
+    case "datetime": return `${value} = ${asDate(element.bits)}`;
+    case "document": case "array": return `${value} bytes`;
+    default: return value;
   }
 }
 
@@ -56,7 +48,12 @@ class TreeNode {
     this.end = place.end;
     this.level = parent ? parent.level + 1 : 0;
     this.open = false;
-    Object.assign(this, { name: "", kind: "", value: "", ...shown });
+    Object.assign(this, { name: "", kind: "", text: "", ...shown });
+  }
+
+  // What is shown behind the kind; of an element it is read when it is asked for.
+  get value() {
+    return this.element ? valueText(this.proved, this.element) : this.text;
   }
 
   get isContainer() {
@@ -135,7 +132,6 @@ function elementNode(proved, parent, element) {
     element,
     name: utf8.decode(bytes.subarray(element.name.start, element.name.end)),
     kind: KINDS[element.kind] ?? `kind ${element.kind}`,
-    value: valueText(bytes, element, 120),
     valueStart: element.name.end + 1,
   };
   const node = new Container(proved, parent, element, shown, element.inner);
@@ -146,7 +142,7 @@ function elementNode(proved, parent, element) {
 // The document of these bytes. Where its length or its last byte is at fault, it has no elements.
 function documentNode(proved, parent, place, shown) {
   const walk = proved.walk(place.start, place.end);
-  const node = new Container(proved, parent, place, { kind: "document", value: `${place.end - place.start} bytes`, ...shown },
+  const node = new Container(proved, parent, place, { kind: "document", text: `${place.end - place.start} bytes`, isDocument: true, ...shown },
     walk.fault ? undefined : walk);
   node.open = true;
   return node;
@@ -154,26 +150,21 @@ function documentNode(proved, parent, place, shown) {
 
 // ---- messages
 
-// The parts of a header and the flags, by their offsets in the message.
-const HEADER = [["messageLength", 0, 4], ["requestID", 4, 8], ["responseTo", 8, 12], ["opCode", 12, 16]];
+// The numbers at the front of a message, each of four bytes.
+const NUMBERS = [["messageLength", "length"], ["requestID", "id"], ["responseTo", "responseTo"], ["opCode", "opcode"], ["flagBits", "flagBits"]];
 
 function flagWords({ flagBits, moreToCome, exhaustAllowed }) {
   const names = [...(moreToCome ? ["moreToCome"] : []), ...(exhaustAllowed ? ["exhaustAllowed"] : [])];
   return `${flagBits.toString(2).padStart(1, "0")}${names.length ? ` ${names.join(", ")}` : ""}`;
 }
 
-function numberNode(parent, bytes, name, start, end, value) {
-  const within = end <= bytes.length;
-  const number = within ? new DataView(bytes.buffer, bytes.byteOffset + start, 4).getInt32(0, true) : "missing";
-  return new TreeNode(parent, { start, end: Math.min(end, bytes.length) }, { name, kind: "int32", value: String(value ?? number) });
-}
-
 function headerNodes(proved, message, place, parts) {
-  const known = parts.fault ? {} : { requestID: parts.id, responseTo: parts.responseTo };
-  const numbers = HEADER.map(([name, from, to]) => numberNode(message, proved.bytes, name, place.start + from, place.start + to, known[name]));
-  const flags = numberNode(message, proved.bytes, "flagBits", place.start + 16, place.start + 20, parts.fault ? undefined : flagWords(parts));
-  flags.kind = "uint32";
-  return [...numbers.filter(({ start }) => start < place.end), ...(place.start + 16 < place.end ? [flags] : [])];
+  const numbers = proved.frontNumbers(place.start, place.end);
+  return NUMBERS.map(([name, key], index) => {
+    const at = { start: place.start + 4 * index, end: Math.min(place.start + 4 * index + 4, place.end) };
+    const text = key === "flagBits" ? flagWords({ ...parts, flagBits: numbers.flagBits }) : String(numbers[key]);
+    return new TreeNode(message, at, { name, kind: key === "flagBits" ? "uint32" : "int32", text: index < numbers.count ? text : "missing" });
+  }).filter(({ start }) => start < place.end);
 }
 
 function sequenceNodes(proved, sequence, { documents }) {
@@ -191,11 +182,11 @@ function sequenceNodes(proved, sequence, { documents }) {
 function sectionNode(proved, message, at, section) {
   const place = { start: at, end: section.next };
   if (section.kind === "body") {
-    return new Group(message, place, { name: "body", kind: "section 0", value: `${section.next - at} bytes` },
+    return new Group(message, place, { name: "body", kind: "section 0", text: `${section.next - at} bytes` },
       (group) => [documentNode(proved, group, section.documents, { name: "document" })]);
   }
   const name = utf8.decode(proved.bytes.subarray(section.identifier.start, section.identifier.end));
-  return new Group(message, place, { name, kind: "section 1, sequence", value: `${section.next - at} bytes` },
+  return new Group(message, place, { name, kind: "section 1, sequence", text: `${section.next - at} bytes` },
     (group) => sequenceNodes(proved, group, section));
 }
 
@@ -212,7 +203,7 @@ function sectionNodes(proved, message, place) {
 }
 
 function messageNode(proved, place, parts) {
-  return new Group(undefined, place, { name: "message", kind: "OP_MSG", value: `${place.end - place.start} bytes` },
+  return new Group(undefined, place, { name: "message", kind: "OP_MSG", text: `${place.end - place.start} bytes` },
     (message) => [...headerNodes(proved, message, place, parts), ...sectionNodes(proved, message, place)]);
 }
 
@@ -239,6 +230,11 @@ function childAt(node, offset) {
     else high = middle;
   }
   return low < children.length && children[low].start <= offset ? children[low] : undefined;
+}
+
+// Returns the documents that a document or a message has: itself, or those of its sections.
+function documentsIn(node) {
+  return node.isDocument ? [node] : node.children.flatMap(documentsIn);
 }
 
 // Returns the names from the outermost node to this one.

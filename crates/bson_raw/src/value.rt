@@ -59,7 +59,7 @@ impl<'a> RawBson<'a> {
     ghost use Rattle.bson_raw.specs.RawBson.{Shows};
 
     /// Returns the value of an item of a checked document.
-    pub(crate) fn of_item(item: Item<'a>) -> RawBson<'a>
+    pub fn of_item(item: Item<'a>) -> RawBson<'a>
         requires { HoldsSpelled item }
         ensures { (v : TreeValue) → IsItemOf item.entry v → Shows result v }
     {

@@ -2,3 +2,4 @@ pub mod Indent
 pub mod Quoted
 pub mod Lines
 pub mod Ends
+pub mod Items

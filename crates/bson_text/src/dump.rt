@@ -25,7 +25,10 @@ use std::io::Write;
 use text_writer::{Failed, TextWriter, write_number};
 
 /// Writes the word of the value's kind, and the value, as they follow an element's name.
-fn write_value<W: Write>(value: RawBson<'_>, out: &mut TextWriter<W>) -> Result<(), Failed>
+pub(crate) fn write_value<W: Write>(
+    value: RawBson<'_>,
+    out: &mut TextWriter<W>,
+) -> Result<(), Failed>
     ensures { (v : TreeValue) → Shows value.entry v → OnOk result
         (WritesOut (text_contents W.contents) out.old out.new (value_text v)) }
 {

@@ -13,3 +13,6 @@ pub mod PartLaws
 pub mod SplitLaws
 pub mod TextLaws
 pub mod QuickLaws
+pub mod FormLaws
+pub mod SpanLaws
+pub mod OffsetLaws

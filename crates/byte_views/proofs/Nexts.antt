@@ -20,7 +20,7 @@ use Rattle.byte_views.specs.Pairs.{GivesNext, PairsFrom, ShowsBeside, gives, no_
 use Rattle.byte_views.specs.Views.{IsView, view}
 use Rattle.byte_views.proofs.Places.{leaf_keeps, leaf_shows, part_is, slice_size}
 
-none_left : (t : Tree) → length (elements t) ≡ 0 → t ≡ no_pairs
+pub none_left : (t : Tree) → length (elements t) ≡ 0 → t ≡ no_pairs
 none_left no_pairs e = refl
 none_left (leaf_pair n k v ps) e = absurd (omega (arith, e))
 none_left (inner_pair n k b inner ps) e = absurd (omega (arith, e))
@@ -131,7 +131,7 @@ inner_given bytes s next name k b inner ps short from low high rest =
 -- ---- what is read is the next pair
 
 -- the first pair of a tree, as it is read
-first_read : (t : Tree) (depth start at : ℕ) → Fits depth t → 0 < length (elements t) → (e : ElementRead) × (element_at depth start at (elements t) ≡ Ok e)
+unfoldable pub first_read : (t : Tree) (depth start at : ℕ) → Fits depth t → 0 < length (elements t) → (e : ElementRead) × (element_at depth start at (elements t) ≡ Ok e)
 first_read no_pairs depth start at fits lt = absurd (omega (arith, lt))
 first_read (leaf_pair name k v ps) depth start at fits lt =
     let e : ElementRead = made name k (a_leaf v) (elements ps) in

@@ -14,3 +14,8 @@ pub mod Sections
 pub mod Splits
 pub mod Texts
 pub mod Quick
+pub mod Headers
+pub mod Forms
+pub mod Spans
+pub mod Shown
+pub mod Offsets

@@ -45,7 +45,7 @@ impl ElementIter {
 
     /// Returns true if the offsets are in range of `bytes`.
     #[inline(always)]
-    fn is_inside(&self, bytes: &[u8]) -> bool
+    pub(crate) fn is_inside(&self, bytes: &[u8]) -> bool
         ensures { IsTrue result ↔ IsInside bytes.now self.now }
     {
         self.at <= self.end && self.end < bytes.len()
@@ -138,7 +138,7 @@ fn quick_step(bytes: &[u8], iter: ElementIter) -> Option<(Element, usize)>
 // Not inlined, so that there is one copy of the code that tells the kinds apart, into which all
 // that it calls is inlined.
 #[inline(never)]
-fn step(bytes: &[u8], iter: ElementIter, element: &mut Element) -> usize
+pub(crate) fn step(bytes: &[u8], iter: ElementIter, element: &mut Element) -> usize
     ensures { IsStep bytes.now iter element.new result }
 {
     if !iter.is_inside(bytes) {

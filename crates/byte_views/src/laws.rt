@@ -1,8 +1,8 @@
-//! Proves that for given bytes each definition allows only one result. The contract of each
-//! function is the law; the function does nothing.
+//! Proves that for given bytes each definition allows only one result, and that a walk has the
+//! offsets of the text. The contract of each function is the law; the function does nothing.
 
 ghost use Rattle.std.specs.Prelude.{◌≡◌, ℕ, List};
-ghost use Rattle.bson_elem.specs.{IsBytes};
+ghost use Rattle.bson_elem.specs.{IsBytes, Tree};
 ghost use Rattle.byte_views.specs.declared.documents.DocumentsCheck.{DocumentsCheck};
 ghost use Rattle.byte_views.specs.declared.fault.FirstFault.{FirstFault};
 ghost use Rattle.byte_views.specs.declared.front.MessageFront.{MessageFront};
@@ -11,7 +11,12 @@ ghost use Rattle.byte_views.specs.declared.messages.MessageCheck.{MessageCheck};
 ghost use Rattle.byte_views.specs.declared.messages.MessagesCheck.{MessagesCheck};
 ghost use Rattle.byte_views.specs.Documents.{IsDocumentCheck, IsDocumentsCheck};
 ghost use Rattle.byte_views.specs.Walk.{IsDocumentsWalk};
+ghost use Rattle.byte_views.specs.declared.element.Element.{Element};
+ghost use Rattle.byte_views.specs.declared.iter.ElementIter.{ElementIter};
 ghost use Rattle.byte_views.specs.Front.{IsMessageFront};
+ghost use Rattle.byte_views.specs.Iters.{IsStep};
+ghost use Rattle.byte_views.specs.Offsets.{HasOffsets};
+ghost use Rattle.byte_views.specs.Pairs.{PairsFrom};
 ghost use Rattle.byte_views.specs.Messages.{IsMessageCheck, IsMessagesCheck};
 
 /// Proves that the check of bytes as one document has one result.
@@ -48,4 +53,11 @@ pub fn one_messages_check()
 pub fn one_message_front()
     ensures { (limit : ℕ) (bytes : List ℕ) (a b : MessageFront) → IsBytes bytes
         → IsMessageFront limit bytes a → IsMessageFront limit bytes b → a ≡ b }
+{}
+
+/// Proves that a step of a walk over a document has the offsets that its text with offsets has: of
+/// the element, of the next one, and of the first one in a document that the element holds.
+pub fn walked_offsets()
+    ensures { (bytes : List ℕ) (s : ElementIter) (e : Element) (next deep : ℕ) (t : Tree)
+        → PairsFrom bytes s t → IsStep bytes s e next → HasOffsets s e next deep t }
 {}

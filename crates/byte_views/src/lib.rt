@@ -17,22 +17,28 @@
 mod documents;
 mod element;
 mod fault;
+mod form;
 mod front;
+mod header;
 mod iter;
 pub mod laws;
 mod messages;
 mod parts;
 mod quick;
 mod reading;
+mod span;
 mod split;
 mod text;
+mod value;
 mod view;
 mod walk;
 
 pub use documents::{DocumentsCheck, check_document, check_documents, is_canonical};
 pub use element::Element;
 pub use fault::FirstFault;
+pub use form::{FormPlace, form_place};
 pub use front::{MessageFront, message_front};
+pub use header::{FrontNumbers, front_numbers};
 pub use iter::{
     ElementIter, FirstElement, walk_enter, walk_find, walk_first, walk_get, walk_next,
     walk_next_elements,
@@ -40,7 +46,9 @@ pub use iter::{
 pub use messages::{MessageCheck, MessagesCheck, check_message, check_messages};
 pub use parts::{MessageParts, Section, message_parts, section_at};
 pub use reading::{InPlace, Reading};
+pub use span::{message_span, span_at};
 pub use split::next_document;
 pub use text::{TextWritten, put_canonical, put_dump, put_json, put_short_dump, put_short_json};
+pub use value::put_value;
 pub use view::View;
 pub use walk::{DocumentsWalk, walk_documents};

@@ -34,7 +34,7 @@ pub struct TextWritten {
 
 impl TextWritten {
     /// Returns that there is no text, by this fault.
-    fn none(fault: FirstFault) -> TextWritten
+    pub(crate) fn none(fault: FirstFault) -> TextWritten
         ensures { result ≡ no_text fault }
     {
         TextWritten {
@@ -45,7 +45,7 @@ impl TextWritten {
     }
 
     /// Returns that there is no memory for the text.
-    fn no_memory() -> TextWritten
+    pub(crate) fn no_memory() -> TextWritten
         ensures { result ≡ no_text memory_fault }
     {
         TextWritten::none(FirstFault {
@@ -77,7 +77,7 @@ impl TextWritten {
 }
 
 /// Puts a text to the front of `room`, if it has as many bytes.
-fn put(text: &[u8], room: &mut [u8]) -> TextWritten
+pub(crate) fn put(text: &[u8], room: &mut [u8]) -> TextWritten
     ensures { IsPut text.now room.old room.new result }
 {
     let length = text.len();

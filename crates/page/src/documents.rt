@@ -5,19 +5,21 @@ ghost use Rattle.bson_elem.specs.{Tree, document, elements};
 ghost use Rattle.bson_json.specs.{IsJson};
 ghost use Rattle.bson_raw.specs.{AreDocuments, documents_bytes};
 ghost use Rattle.byte_views.specs.Documents.{IsCanonical, IsDocumentsCheck};
+ghost use Rattle.byte_views.specs.Forms.{IsFormPlace};
 ghost use Rattle.byte_views.specs.Splits.{IsSplit};
 ghost use Rattle.byte_views.specs.Texts.{IsDump, IsTextWritten, json_mode};
 ghost use Rattle.byte_views.specs.Views.{IsView};
 
-use byte_views::{DocumentsCheck, TextWritten, View};
+use byte_views::{DocumentsCheck, FormPlace, TextWritten, View};
 
-/// Returns true if `bytes` are exactly one document, in canonical form, as
-/// `byte_views::is_canonical` does.
+/// Tells whether the document that `bytes` are is in canonical form, and where not, as
+/// `byte_views::form_place` does.
 #[unsafe(no_mangle)]
-pub extern "C" fn page_is_canonical(bytes: &[u8]) -> bool
-    ensures { IsTrue result ↔ IsCanonical bytes.now }
+pub extern "C" fn page_form(bytes: &[u8]) -> FormPlace
+    ensures place { IsFormPlace bytes.now result }
+    ensures canonical { IsTrue result.canonical ↔ IsCanonical bytes.now }
 {
-    byte_views::is_canonical(bytes)
+    byte_views::form_place(bytes)
 }
 
 /// Checks the documents that `bytes` hold one after another, as `byte_views::check_documents` does.

@@ -5,8 +5,10 @@ ghost use Rattle.bson_elem.specs.{Spells, Tree};
 ghost use Rattle.byte_views.specs.Iters.{CanEnter, IsFirst, IsStep, first_begins, inner_iter};
 ghost use Rattle.byte_views.specs.Iters.{moved, wrong_iter};
 ghost use Rattle.byte_views.specs.Pairs.{GivesNext, PairsFrom};
+ghost use Rattle.byte_views.specs.Shown.{IsValueWritten};
+ghost use Rattle.byte_views.specs.Spans.{IsDocumentSpan};
 
-use byte_views::{Element, ElementIter, FirstElement};
+use byte_views::{Element, ElementIter, FirstElement, TextWritten, View};
 
 /// Begins a walk over the document that `bytes` are, as `byte_views::walk_first` does.
 #[unsafe(no_mangle)]
@@ -39,4 +41,22 @@ pub extern "C" fn page_enter(iter: &ElementIter, element: &Element) -> ElementIt
     ensures wrong { (CanEnter iter.now element.now → ⊥) → result ≡ wrong_iter }
 {
     byte_views::walk_enter(iter, element)
+}
+
+/// Writes the value of the element at the iterator to the front of `room`, as
+/// `byte_views::put_value` does.
+#[unsafe(no_mangle)]
+pub extern "C" fn page_value(bytes: &[u8], iter: &ElementIter, room: &mut [u8]) -> TextWritten
+    ensures { IsValueWritten bytes.now iter.now room.old room.new result }
+{
+    byte_views::put_value(bytes, iter, room)
+}
+
+/// Returns the view of the innermost element that has the byte at `offset` of the document in front
+/// of `bytes`, as `byte_views::span_at` does.
+#[unsafe(no_mangle)]
+pub extern "C" fn page_span(bytes: &[u8], offset: usize) -> View
+    ensures { IsDocumentSpan bytes.now offset result }
+{
+    byte_views::span_at(bytes, offset)
 }
