@@ -8,7 +8,7 @@ use Rattle.bson_doc.specs.{tree_of}
 use Rattle.doc_update.specs.declared.deletes.Delete.{Delete}
 use Rattle.doc_query.specs.declared.failure.CommandError.{CommandError}
 use Rattle.doc_query.specs.declared.failure.CommandError.TheVariants as errors
-use Rattle.doc_query.specs.{and_then, compared, count_of, filter_in, filter_value, matches}
+use Rattle.doc_query.specs.{and_then, compared, count_of, filter_value, matches}
 
 pub record DeleteView : Type 0 where
   pub filter : Tree

@@ -2,7 +2,7 @@
 
 ghost use Rattle.std.specs.Prelude.{◌≡◌, Err, IfErr, IfOk, MatchResult, Ok, map};
 ghost use Rattle.bson_doc.specs.{tree_of, value_of};
-ghost use Rattle.doc_query.specs.{IsFailure, count_of};
+ghost use Rattle.doc_query.specs.{IsFailure};
 ghost use Rattle.doc_update.specs.Deleting.{after_deletes, delete_in, delete_of, delete_view};
 ghost use Rattle.doc_update.specs.Deleting.{filter_at, single_at, survivors};
 

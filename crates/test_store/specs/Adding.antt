@@ -1,5 +1,5 @@
 -- Adding documents to those of a namespace, in which no two have one `_id`.
-use Rattle.std.specs.Prelude.{ℕ, pos, ◌+◌, List, [], ◌∷◌, ◌++◌, Bool, true, false, ◌&&◌, ◌||◌}
+use Rattle.std.specs.Prelude.{ℕ, pos, ◌+◌, List, [], ◌∷◌, ◌++◌, Bool, ◌&&◌, ◌||◌}
 use Rattle.std.specs.Prelude.{codes, map, if◌then◌else◌}
 use Rattle.bson_raw.specs.{TreeValue}
 use Rattle.bson_doc.specs.{value_of}

@@ -1,11 +1,11 @@
 -- Answers, as lists of a name and a value (MongoDB manual, Database Commands: each command's
 -- Output).
-use Rattle.std.specs.Prelude.{ℕ, ℤ, pos, List, [], ◌∷◌, Bool, true, false, codes, nat_lt}
+use Rattle.std.specs.Prelude.{ℕ, ℤ, pos, List, [], ◌∷◌, Bool, true, false, codes}
 use Rattle.std.specs.Prelude.{if◌then◌else◌}
 use Rattle.bson_elem.specs.declared.kinds.Kind.TheVariants as kinds
-use Rattle.bson_elem.specs.{boolean_value, no_code, number_value, raw_value, text_value}
-use Rattle.bson_raw.specs.{TreeValue, document_value, leaf_value}
-use Rattle.bson_doc.specs.{array_tree, put, tree_of}
+use Rattle.bson_elem.specs.{raw_value}
+use Rattle.bson_raw.specs.{TreeValue, leaf_value}
+use Rattle.bson_doc.specs.{put}
 use Rattle.test_store.specs.declared.answer.Batch.{Batch}
 use Rattle.test_store.specs.declared.answer.Batch.TheVariants.{First, Next}
 use Rattle.doc_query.specs.declared.failure.CommandError.{CommandError}

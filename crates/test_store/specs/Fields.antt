@@ -1,8 +1,8 @@
 -- The fields of a command.
-use Rattle.std.specs.Prelude.{ℕ, ℤ, pos, List, Option, Some, None, Result, Ok, Err, codes, nat_le}
-use Rattle.std.specs.Prelude.{Bool, if◌then◌else◌}
+use Rattle.std.specs.Prelude.{ℕ, ℤ, List, Option, Some, None, Result, Ok, codes}
+use Rattle.std.specs.Prelude.{Bool}
 use Rattle.bson_elem.specs.declared.kinds.Kind.TheVariants as kinds
-use Rattle.bson_elem.specs.{Tree, boolean_value, number_value, text_value}
+use Rattle.bson_elem.specs.{Tree, number_value, text_value}
 use Rattle.bson_raw.specs.{TreeValue, first_named, leaf_value}
 use Rattle.doc_query.specs.declared.failure.CommandError.{CommandError}
 use Rattle.doc_query.specs.declared.failure.CommandError.TheVariants as errors

@@ -1,9 +1,8 @@
 //! Makes the parts of answers.
 
-ghost use Rattle.std.specs.Prelude.{◌≡◌, ◌<◌, ◌^◌, IfOk, OnOk, OnSome, codes, map, string_bytes};
+ghost use Rattle.std.specs.Prelude.{◌≡◌, ◌<◌, ◌^◌, IfOk, OnOk, codes, map, string_bytes};
 ghost use Rattle.bson_doc.specs.{value_of, put};
-ghost use Rattle.doc_query.specs.{count_value, inner, text};
-ghost use Rattle.doc_update.specs.{write_error};
+ghost use Rattle.doc_query.specs.{text};
 ghost use Rattle.test_store.specs.Answers.{batch_name, counted_pairs, cursor_answer, cursor_pairs};
 ghost use Rattle.test_store.specs.Answers.{double_one, error_pairs, ok_alone, refusal_pairs};
 

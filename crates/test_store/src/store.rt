@@ -1,7 +1,7 @@
 //! Holds documents by namespace, and the cursors over what was found.
 
 ghost use Rattle.std.specs.Prelude.{◌≡◌, ◌≤◌, ◌<◌, IfErr, IfOk, MatchOption, None, OnErr, OnOk};
-ghost use Rattle.std.specs.Prelude.{Some, drop, length, map, take};
+ghost use Rattle.std.specs.Prelude.{Some, length, map};
 ghost use Rattle.bson_doc.specs.{value_of};
 ghost use Rattle.test_store.specs.Held.{closed_at, collection_index, collection_of, cursor_index};
 ghost use Rattle.test_store.specs.Held.{cursor_of, documents_in, empty_store, id_if_left};
@@ -14,7 +14,6 @@ use crate::namespace::{Namespace, NamespaceBuf};
 use bson_doc::Bson;
 use doc_query::{CommandError, Failure, take_batch};
 use std::alloc::{AllocError, Global};
-use std::mem;
 
 /// The documents of a namespace, in the order in which they were inserted.
 #[derive(Debug, Drop)]

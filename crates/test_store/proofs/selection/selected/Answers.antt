@@ -1,9 +1,8 @@
-use Rattle.std.proofs.Common.{◌≡◌, List, Result, Ok, map, drop, sym, ap, ◌∙◌}
+use Rattle.std.proofs.Common.{List, Ok, map, drop, sym, ap, ◌∙◌}
 use Rattle.std.proofs.lemmas.List.{drop-map}
 use Rattle.bson_raw.specs.{TreeValue}
 use Rattle.bson_doc.specs.Bson.{value_of}
 use Rattle.bson_doc.specs.Document.{tree_of}
-use Rattle.doc_query.specs.declared.failure.CommandError.{CommandError}
 use Rattle.doc_query.specs.{and_then, found_in, sorted_in}
 use Rattle.test_store.specs.Selecting.{limited}
 use Rattle.test_store.proofs.Replies.{limited-map}
