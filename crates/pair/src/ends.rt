@@ -68,8 +68,8 @@ impl<H: Handler + Drop> Ends<H> {
         ensures { OnOk result (Moves H.does H.stops self.old self.new) }
     {
         let alloc = *self.calls.allocator();
-        let record = new_record(alloc, kind, payload)?;
         self.calls.try_reserve(1)?;
+        let record = new_record(alloc, kind, payload)?;
         match call_as(&mut self.client, kind, payload) {
             Ok(_) => self.calls.push_reserved(record),
             Err(CallRefusal::OutOfMemory) => return Err(AllocError),

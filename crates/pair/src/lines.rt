@@ -5,6 +5,7 @@ ghost use Rattle.std.specs.Io.KnownBytes.{Appends};
 ghost use Rattle.pair.specs.Lines.{call_line, call_lines, kind_word, run_text, state_word};
 
 use crate::ends::Ends;
+use anyhow::Result;
 use std::io;
 use std::io::Write;
 use wire_end::{CallRecord, CallState};
@@ -56,12 +57,13 @@ fn write_calls<W: Write>(calls: &[CallRecord], out: &mut W) -> io::Result<()>
 }
 
 /// Writes a line for each call, and a last one with the numbers of calls and of entries in the log.
-pub(crate) fn write_run<H, W: Write>(ends: &Ends<H>, out: &mut W) -> io::Result<()>
+pub(crate) fn write_run<H, W: Write>(ends: &Ends<H>, out: &mut W) -> Result<()>
     ensures { OnOk result
         (Appends (W.contents out.old) (W.contents out.new) (run_text ends.now)) }
 {
     write_calls(&ends.calls, out)?;
     let calls = ends.calls.len();
     let entries = ends.logged.entries().len();
-    writeln!(out, "calls {calls} entries {entries}")
+    writeln!(out, "calls {calls} entries {entries}")?;
+    Ok(())
 }

@@ -49,8 +49,7 @@ fn report<H: Handler + Drop, W: Write>(
         × Appends (W.contents out.old) (W.contents out.new) (run_text ends)) }
 {
     let ends = run(alloc, handler, seed, calls)?;
-    write_run(&ends, out)?;
-    Ok(())
+    write_run(&ends, out)
 }
 
 fn main(rt: HostRuntime) -> Result<()> {

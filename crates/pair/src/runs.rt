@@ -37,8 +37,9 @@ fn payload_of(alloc: Global, number: u8) -> Result<PayloadBuf, AllocError>
     let Ok(mut body) = RawDocumentBuf::new(alloc) else {
         return Err(AllocError);
     };
+    let appended = body.append("s", &Bson::Int32(i32::from(number)));
     // A body so short is refused only if memory runs out.
-    let Ok(()) = body.append("s", &Bson::Int32(i32::from(number))) else {
+    let Ok(()) = appended else {
         return Err(AllocError);
     };
     match PayloadBuf::new(alloc, body.as_raw()) {

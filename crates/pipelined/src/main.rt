@@ -68,12 +68,12 @@ fn main(rt: HostRuntime) -> Result<()> {
     let Some(address) = env::args(&rt)?.nth(1) else {
         bail!("usage: pipelined ADDRESS");
     };
-    let stream = TcpStream::connect(&rt, address.as_str())?;
-    let client = Client::new(alloc, 1, CALLS as usize, MAX_MESSAGE_LEN)?;
-    let mut end = ClientEnd::new(alloc, 1, client, TcpLink::new(stream))?;
     let Ok(body) = RawDocument::from_bytes(PING) else {
         bail!("PING is no document");
     };
     let payload = PayloadBuf::new(alloc, body)?;
+    let stream = TcpStream::connect(&rt, address.as_str())?;
+    let client = Client::new(alloc, 1, CALLS as usize, MAX_MESSAGE_LEN)?;
+    let mut end = ClientEnd::new(alloc, 1, client, TcpLink::new(stream))?;
     pipeline(&mut end, payload.as_payload(), &mut io::writer(&rt))
 }

@@ -4,15 +4,12 @@
 
 ghost use Rattle.std.specs.Prelude.{◌<◌};
 
-use bson_raw::RawDocument;
+use crate::links::{client_over, link_over, one, stands};
 use std::alloc::Global;
 use wire_end::{CallRecord, CallState, ClientEnd, EndFault, Next};
-use wire_msg::{MsgCause, MsgFault, PayloadBuf};
-use wire_peer::{CallNo, Client, ClientCause, ClientState, ReadyReply};
+use wire_msg::{MsgCause, MsgFault, Payload};
+use wire_peer::{CallNo, ClientCause, ClientState, ReadyReply};
 use wire_stream::{Flushed, MemLink};
-
-/// `{"a": 1}`.
-const ONE: &[u8] = b"\x0c\0\0\0\x10a\0\x01\0\0\0\0";
 
 /// `{"a": 1}` as the requests 1 to 3.
 const REQUESTS: &[u8; 99] =
@@ -41,200 +38,218 @@ const INSIDE: &[u8] = b"\x21\0\0\0\x06\0\0\0\x02\0\0\0\xdd\x07\0\0\0\0\0\0\0\x0c
 /// A header of opcode 2004.
 const QUERY: &[u8] = b"\x21\0\0\0\x01\0\0\0\0\0\0\0\xd4\x07\0\0";
 
+/// The bodies of the replies.
 const N1: &[u8] = b"\x0c\0\0\0\x10n\0\x01\0\0\0\0";
 
 const N2: &[u8] = b"\x0c\0\0\0\x10n\0\x02\0\0\0\0";
 
 const N3: &[u8] = b"\x0c\0\0\0\x10n\0\x03\0\0\0\0";
 
-/// What comes next: the only reply to a call, or the cause for which none comes any more.
+/// What a server sends.
 #[derive(Clone, Copy)]
-enum Wanted {
-    Reply(u64),
-    Closed(ClientCause),
+enum Sent {
+    First,
+    Second,
+    Third,
+    Strange,
+    Part,
+    Inside,
+    Query,
 }
 
-/// What a server sends; what comes of it; and the reply that the record of each call has then. A
-/// call without one is lost.
+impl Sent {
+    /// Returns its bytes.
+    fn bytes(self) -> &'static [u8] {
+        match self {
+            Sent::First => FIRST,
+            Sent::Second => SECOND,
+            Sent::Third => THIRD,
+            Sent::Strange => STRANGE,
+            Sent::Part => PART,
+            Sent::Inside => INSIDE,
+            Sent::Query => QUERY,
+        }
+    }
+}
+
+/// What a server sends; the calls whose replies come, in order; and the cause for which no others
+/// come. The other calls are lost.
 struct Row {
-    sends: [&'static [u8]; 4],
-    comes: [Wanted; 4],
-    records: [Option<&'static [u8]>; 3],
+    sends: &'static [Sent],
+    replies: &'static [u64],
+    cause: ClientCause,
 }
-
-const ENDED: Wanted = Wanted::Closed(ClientCause::Ended);
-
-const INSIDE_ENDED: Wanted = Wanted::Closed(ClientCause::EndedInside);
-
-const NOT_ALLOWED: Wanted = Wanted::Closed(ClientCause::MoreNotAllowed);
-
-const UNKNOWN_1: Wanted = Wanted::Closed(ClientCause::UnknownReply(1));
-
-const UNKNOWN_9: Wanted = Wanted::Closed(ClientCause::UnknownReply(9));
-
-const BAD: Wanted = Wanted::Closed(ClientCause::Message(MsgFault {
-    at: 12,
-    cause: MsgCause::Opcode(2004),
-}));
 
 const ROWS: [Row; 9] = [
     Row {
-        sends: [FIRST, SECOND, THIRD, b""],
-        comes: [Wanted::Reply(0), Wanted::Reply(1), Wanted::Reply(2), ENDED],
-        records: [Some(N1), Some(N2), Some(N3)],
+        sends: &[Sent::First, Sent::Second, Sent::Third],
+        replies: &[0, 1, 2],
+        cause: ClientCause::Ended,
     },
     Row {
-        sends: [THIRD, SECOND, FIRST, b""],
-        comes: [Wanted::Reply(2), Wanted::Reply(1), Wanted::Reply(0), ENDED],
-        records: [Some(N1), Some(N2), Some(N3)],
+        sends: &[Sent::Third, Sent::Second, Sent::First],
+        replies: &[2, 1, 0],
+        cause: ClientCause::Ended,
     },
     Row {
-        sends: [SECOND, STRANGE, FIRST, b""],
-        comes: [Wanted::Reply(1), UNKNOWN_9, UNKNOWN_9, UNKNOWN_9],
-        records: [None, Some(N2), None],
+        sends: &[Sent::Second, Sent::Strange, Sent::First],
+        replies: &[1],
+        cause: ClientCause::UnknownReply(9),
     },
     Row {
-        sends: [FIRST, FIRST, SECOND, b""],
-        comes: [Wanted::Reply(0), UNKNOWN_1, UNKNOWN_1, UNKNOWN_1],
-        records: [Some(N1), None, None],
+        sends: &[Sent::First, Sent::First, Sent::Second],
+        replies: &[0],
+        cause: ClientCause::UnknownReply(1),
     },
     Row {
-        sends: [FIRST, INSIDE, b"", b""],
-        comes: [Wanted::Reply(0), INSIDE_ENDED, INSIDE_ENDED, INSIDE_ENDED],
-        records: [Some(N1), None, None],
+        sends: &[Sent::First, Sent::Inside],
+        replies: &[0],
+        cause: ClientCause::EndedInside,
     },
     Row {
-        sends: [SECOND, QUERY, THIRD, b""],
-        comes: [Wanted::Reply(1), BAD, BAD, BAD],
-        records: [None, Some(N2), None],
+        sends: &[Sent::Second, Sent::Query, Sent::Third],
+        replies: &[1],
+        cause: ClientCause::Message(MsgFault {
+            at: 12,
+            cause: MsgCause::Opcode(2004),
+        }),
     },
     Row {
-        sends: [SECOND, PART, b"", b""],
-        comes: [Wanted::Reply(1), NOT_ALLOWED, NOT_ALLOWED, NOT_ALLOWED],
-        records: [None, Some(N2), None],
+        sends: &[Sent::Second, Sent::Part],
+        replies: &[1],
+        cause: ClientCause::MoreNotAllowed,
     },
     Row {
-        sends: [b"", b"", b"", b""],
-        comes: [ENDED, ENDED, ENDED, ENDED],
-        records: [None, None, None],
+        sends: &[],
+        replies: &[],
+        cause: ClientCause::Ended,
     },
     Row {
-        sends: [THIRD, FIRST, SECOND, INSIDE],
-        comes: [
-            Wanted::Reply(2),
-            Wanted::Reply(0),
-            Wanted::Reply(1),
-            INSIDE_ENDED,
-        ],
-        records: [Some(N1), Some(N2), Some(N3)],
+        sends: &[Sent::Third, Sent::First, Sent::Second, Sent::Inside],
+        replies: &[2, 0, 1],
+        cause: ClientCause::EndedInside,
     },
 ];
 
-/// Returns an end over a link that gives these bytes, in pieces of at most `most`, and has room for
-/// the requests.
-pub(crate) fn end_over(alloc: Global, sends: &[&[u8]], most: usize) -> Option<ClientEnd<MemLink>>
+/// Returns a link that gives what a server sends.
+fn sending(alloc: Global, sends: &[Sent]) -> Option<MemLink> {
+    let mut bytes = Vec::new(alloc);
+    for sent in sends {
+        bytes.extend_from_slice(sent.bytes()).ok()?;
+    }
+    link_over(alloc, bytes)
+}
+
+/// Returns an end over such a link, which moves at most `most` bytes a call.
+fn end_over(alloc: Global, sends: &[Sent], most: usize) -> Option<ClientEnd<MemLink>>
     requires { 0 < most }
 {
-    let mut bytes = Vec::new(alloc);
-    for part in sends {
-        bytes.extend_from_slice(part).ok()?;
+    match sending(alloc, sends) {
+        Some(link) => client_over(alloc, link.moving_at_most(most)),
+        None => None,
     }
-    let link = MemLink::new(alloc, bytes, 99).ok()?;
-    let client = Client::new(alloc, 1, 8, 48_000_000).ok()?;
-    ClientEnd::new(alloc, 1, client, link.moving_at_most(most)).ok()
 }
 
-/// Returns the payload `{"a": 1}`.
-pub(crate) fn one(alloc: Global) -> Option<PayloadBuf> {
-    let body = RawDocument::from_bytes(ONE).ok()?;
-    PayloadBuf::new(alloc, body).ok()
-}
-
-/// Returns true if three calls are made and sent, as the requests 1 to 3.
-fn calls_three(alloc: Global, end: &mut ClientEnd<MemLink>) -> bool {
-    let Some(payload) = one(alloc) else {
-        return false;
-    };
+/// Returns true if three calls are made, as the requests 1 to 3.
+fn makes_three(end: &mut ClientEnd<MemLink>, payload: Payload<'_>) -> bool {
     for number in 0..3u8 {
         let call = CallNo {
             number: u64::from(number),
             id: i32::from(number) + 1,
         };
-        if end.call(payload.as_payload()) != Ok(call) {
+        if end.call(payload) != Ok(call) {
             return false;
         }
     }
     end.outstanding() == 3
-        && end.flush() == Ok(Flushed::All)
-        && end.link().sent_bytes() == REQUESTS.as_slice()
 }
 
-/// Returns true if a record has this one part and is done, or none and is lost.
-fn shows(record: Option<&CallRecord>, wanted: Option<&'static [u8]>) -> bool {
-    let Some(record) = record else {
-        return false;
-    };
-    match (record.parts.first(), wanted) {
-        (Some(part), Some(body)) => {
-            record.parts.len() == 1
-                && part.as_payload().body().as_bytes() == body
-                && record.state == CallState::Done
-        }
-        (None, None) => record.state == CallState::Lost,
-        _ => false,
+/// Returns true if the requests are sent.
+fn are_sent(end: &mut ClientEnd<MemLink>) -> bool {
+    end.flush() == Ok(Flushed::All) && end.link().sent_bytes() == REQUESTS.as_slice()
+}
+
+/// Returns true if three calls are made and sent.
+fn calls_three(alloc: Global, end: &mut ClientEnd<MemLink>) -> bool {
+    match one(alloc) {
+        Some(payload) => makes_three(end, payload.as_payload()) && are_sent(end),
+        None => false,
     }
 }
 
-/// Returns true if this is what was to come.
-fn is_wanted(found: Result<Next, EndFault>, wanted: Wanted) -> bool {
-    match wanted {
-        Wanted::Reply(call) => found == Ok(Next::Reply(ReadyReply { call, last: true })),
-        Wanted::Closed(cause) => found == Err(EndFault::Closed(cause)),
-    }
-}
-
-/// Returns true if what comes is what the row says.
-fn replies_come(end: &mut ClientEnd<MemLink>, row: &Row) -> bool {
-    for wanted in &row.comes {
-        if !is_wanted(end.next_reply(), *wanted) {
+/// Returns true if the replies to these calls come, in this order, each the only one.
+fn replies_come(end: &mut ClientEnd<MemLink>, calls: &[u64]) -> bool {
+    for call in calls {
+        let reply = ReadyReply {
+            call: *call,
+            last: true,
+        };
+        if end.next_reply() != Ok(Next::Reply(reply)) {
             return false;
         }
     }
     true
 }
 
-/// Returns true if the records of the calls are what the row says.
-fn records_show(end: &ClientEnd<MemLink>, row: &Row) -> bool {
-    for (number, wanted) in row.records.iter().enumerate() {
-        if !shows(end.record(number as u64), *wanted) {
-            return false;
-        }
+/// Returns true if no more replies come, and the cause stays.
+fn closes(end: &mut ClientEnd<MemLink>, cause: ClientCause) -> bool {
+    let closed = Err(EndFault::Closed(cause));
+    end.next_reply() == closed
+        && end.next_reply() == closed
+        && end.next_reply() == closed
+        && end.state() == ClientState::Closed(cause)
+}
+
+/// Returns true if the first part of a call is this.
+fn has_reply(record: &CallRecord, reply: &[u8]) -> bool {
+    match record.parts.first() {
+        Some(part) => part.as_payload().body().as_bytes() == reply,
+        None => false,
     }
-    end.record(3).is_none()
+}
+
+/// Returns true if a call was made, and is done with this reply alone; or is lost without one, if
+/// it isn't replied to.
+fn shows(record: Option<&CallRecord>, reply: &[u8], replied: bool) -> bool {
+    match record {
+        Some(record) if replied => has_reply(record, reply) && stands(record, 1, CallState::Done),
+        Some(record) => stands(record, 0, CallState::Lost),
+        None => false,
+    }
+}
+
+/// Returns true if three calls were made, of which these have their replies.
+fn records_show(end: &ClientEnd<MemLink>, calls: &[u64]) -> bool {
+    shows(end.record(0), N1, calls.contains(&0))
+        && shows(end.record(1), N2, calls.contains(&1))
+        && shows(end.record(2), N3, calls.contains(&2))
+        && end.record(3).is_none()
 }
 
 /// Returns true if the three calls come to what the row says, over a link that moves at most `most`
 /// bytes a call.
-fn comes_to(alloc: Global, row: &Row, most: usize) -> bool {
-    match end_over(alloc, &row.sends, most.max(1)) {
-        Some(mut end) => {
-            calls_three(alloc, &mut end)
-                && replies_come(&mut end, row)
-                && records_show(&end, row)
-                && end.state() != ClientState::Open
-        }
-        None => false,
-    }
+fn comes_to(alloc: Global, row: &Row, most: usize) -> bool
+    requires { 0 < most }
+{
+    let Some(mut end) = end_over(alloc, row.sends, most) else {
+        return false;
+    };
+    let holds = calls_three(alloc, &mut end)
+        && replies_come(&mut end, row.replies)
+        && closes(&mut end, row.cause)
+        && records_show(&end, row.replies);
+    drop(end);
+    holds
+}
+
+/// Returns true if they do so at once, in pieces, and byte by byte.
+fn comes_by_any(alloc: Global, row: &Row) -> bool {
+    comes_to(alloc, row, 200) && comes_to(alloc, row, 7) && comes_to(alloc, row, 1)
 }
 
 #[test]
 fn replies_go_to_their_calls(rt: HostRuntime) {
     for (number, row) in ROWS.iter().enumerate() {
-        for most in &[200, 7, 1] {
-            assert!(rt;
-                comes_to(rt.alloc(), row, *most),
-                "row {number} by {most} bytes"
-            );
-        }
+        assert!(rt; comes_by_any(rt.alloc(), row), "row {number}");
     }
 }

@@ -2,8 +2,8 @@
 //! each of their allocations refused in turn. No other one is refused then, so what is asked for
 //! again is granted.
 
-use crate::answered::{end_over, one};
-use crate::requests::{REQUESTS, server_over};
+use crate::links::{call_stands, client_of, one};
+use crate::requests::{REQUESTS, requested};
 use std::alloc::Global;
 use wire_end::{CallState, ClientEnd, EndFault, Next, NextRequest, RequestFault, ServerEnd};
 use wire_msg::PayloadBuf;
@@ -71,20 +71,16 @@ fn comes(end: &mut ClientEnd<MemLink>) -> bool {
 
 /// Returns true if a call and its reply go on behind a refused allocation.
 fn goes_on_over(end: &mut ClientEnd<MemLink>, payload: &PayloadBuf) -> bool {
-    if !calls_each(end, payload) || end.flush() != Ok(Flushed::All) || !comes(end) {
-        return false;
-    }
-    match end.record(0) {
-        Some(record) => record.state == CallState::Done && record.parts.len() == 1,
-        None => false,
-    }
+    calls_each(end, payload)
+        && end.flush() == Ok(Flushed::All)
+        && comes(end)
+        && call_stands(end, 0, 1, CallState::Done)
 }
 
-/// Returns an end, which is made again where memory was refused.
+/// Returns an end over a link that gives the reply, which is made again where memory was refused.
 fn made_end(alloc: Global) -> Option<ClientEnd<MemLink>> {
-    let reply = [REPLY.as_slice()];
-    match end_over(alloc, &reply, 20) {
-        None => end_over(alloc, &reply, 20),
+    match client_of(alloc, REPLY, 20) {
+        None => client_of(alloc, REPLY, 20),
         made => made,
     }
 }
@@ -97,13 +93,23 @@ fn made_payload(alloc: Global) -> Option<PayloadBuf> {
     }
 }
 
-/// Returns true if a call and its reply go on behind a refused allocation. An end or a payload that
-/// isn't made is made again.
-fn goes_on(alloc: Global) -> bool {
-    match (made_end(alloc), made_payload(alloc)) {
-        (Some(mut end), Some(payload)) => goes_on_over(&mut end, &payload),
-        _ => false,
+/// Returns true if a call with a payload, which is made again where memory was refused, and its reply
+/// go on.
+fn goes_on_at(alloc: Global, end: &mut ClientEnd<MemLink>) -> bool {
+    match made_payload(alloc) {
+        Some(payload) => goes_on_over(end, &payload),
+        None => false,
     }
+}
+
+/// Returns true if a call and its reply go on behind a refused allocation.
+fn goes_on(alloc: Global) -> bool {
+    let Some(mut end) = made_end(alloc) else {
+        return false;
+    };
+    let holds = goes_on_at(alloc, &mut end);
+    drop(end);
+    holds
 }
 
 #[test]
@@ -136,10 +142,10 @@ fn is_answered_over(end: &mut ServerEnd<MemLink>, logged: &mut Logged<Echo>) -> 
 
 /// Returns the same of a new end; none, too, if memory for that is refused.
 fn is_answered(alloc: Global) -> Option<bool> {
-    let request = [&REQUESTS[..33]];
-    let mut end = server_over(alloc, &request, 20, 1)?;
-    let mut logged = Logged::new(alloc, Echo);
-    is_answered_over(&mut end, &mut logged)
+    let mut end = requested(alloc, &REQUESTS[..33], 20, 1)?;
+    let holds = is_answered_over(&mut end, &mut Logged::new(alloc, Echo));
+    drop(end);
+    holds
 }
 
 /// Returns true if a request is answered behind a refused allocation, at the second try at last.

@@ -10,6 +10,8 @@ mod answered;
 #[cfg(test)]
 mod end_refusals;
 #[cfg(test)]
+mod links;
+#[cfg(test)]
 mod requests;
 #[cfg(test)]
 mod serving;

@@ -4,7 +4,7 @@
 
 ghost use Rattle.wire_end.specs.{IsUnused};
 
-use crate::serving::serving_over;
+use crate::links::{link_of, server_over};
 use std::alloc::Global;
 use wire_end::{ServeEnd, ServerEnd};
 use wire_peer::{Echo, Entry, Logged};
@@ -76,17 +76,13 @@ fn serves(alloc: Global, end: &mut ServerEnd<MemLink>) -> Option<bool>
     outcome(why, logged.entries(), end.link().sent_bytes())
 }
 
-/// Returns a link that gives the requests, and has room for the replies.
-fn link_of(alloc: Global) -> Option<MemLink> {
-    let bytes = Vec::from_slice(alloc, REQUESTS).ok()?;
-    MemLink::new(alloc, bytes, 66).ok()
-}
-
 /// Returns the outcome of serving the requests, or `None` if there was no memory for its end.
 fn serves_requests(alloc: Global) -> Option<bool> {
-    let link = link_of(alloc)?;
-    let mut end = serving_over(alloc, link, 48_000_000)?;
-    serves(alloc, &mut end)
+    let link = link_of(alloc, REQUESTS)?;
+    let mut end = server_over(alloc, link, 1, 48_000_000)?;
+    let served = serves(alloc, &mut end);
+    drop(end);
+    served
 }
 
 /// Returns true if the requests are served, at the second try if memory runs out.

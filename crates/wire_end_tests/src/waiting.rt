@@ -2,15 +2,14 @@
 
 ghost use Rattle.std.specs.Prelude.{◌≤◌, IfOk};
 
-use crate::answered::{end_over, one};
+use crate::links::{call_stands, client_of, client_over, one, server_over};
 use std::alloc::Global;
 use std::io;
 use std::io::{ErrorKind, Read, Write};
 use wire_end::{CallState, ClientEnd, EndFault, Next, NextRequest, RequestFault, ServerEnd};
-use wire_peer::{
-    CallRefusal, Client, ClientCause, ClientState, ReadyReply, Server, ServerCause, ServerState,
-};
-use wire_stream::{Flushed, LinkFault, TcpLink};
+use wire_msg::Payload;
+use wire_peer::{CallRefusal, ClientCause, ClientState, ReadyReply, ServerCause, ServerState};
+use wire_stream::{Flushed, LinkFault, MemLink, TcpLink};
 
 /// A stream that fails each call for this reason.
 #[derive(Drop)]
@@ -32,20 +31,26 @@ impl Write for Failing {
     }
 }
 
-/// Returns an end over such a stream that has made one call.
-fn end_over_failing(alloc: Global, kind: ErrorKind) -> Option<ClientEnd<TcpLink<Failing>>> {
-    let client = Client::new(alloc, 1, 8, 48_000_000).ok()?;
-    let mut end = ClientEnd::new(alloc, 1, client, TcpLink::new(Failing(kind))).ok()?;
-    let payload = one(alloc)?;
-    let _ = end.call(payload.as_payload()).ok()?;
-    Some(end)
+/// How `ErrorKind::ConnectionReset` is told.
+const RESET: LinkFault = LinkFault {
+    kind: ErrorKind::ConnectionReset,
+};
+
+/// Returns an end over such a stream.
+fn end_over(alloc: Global, kind: ErrorKind) -> Option<ClientEnd<TcpLink<Failing>>> {
+    client_over(alloc, TcpLink::new(Failing(kind)))
 }
 
-/// Returns true if a stream that would block leaves the call pending.
-fn waits(alloc: Global) -> bool {
-    let Some(mut end) = end_over_failing(alloc, ErrorKind::WouldBlock) else {
-        return false;
-    };
+/// Makes a call.
+fn is_called(alloc: Global, end: &mut ClientEnd<TcpLink<Failing>>) -> bool {
+    match one(alloc) {
+        Some(payload) => end.call(payload.as_payload()).is_ok(),
+        None => false,
+    }
+}
+
+/// Returns true if a link that would block leaves the call pending.
+fn is_pending(end: &mut ClientEnd<TcpLink<Failing>>) -> bool {
     end.flush() == Ok(Flushed::Later)
         && end.next_reply() == Ok(Next::Later)
         && end.next_reply() == Ok(Next::Later)
@@ -53,33 +58,43 @@ fn waits(alloc: Global) -> bool {
         && end.state() == ClientState::Open
 }
 
-#[test]
-fn a_link_that_would_block_is_waited_for(rt: HostRuntime) {
-    assert!(rt; waits(rt.alloc()));
+/// Returns true if a link that fails is told, and leaves the client open.
+fn is_told(end: &mut ClientEnd<TcpLink<Failing>>) -> bool {
+    end.flush() == Err(RESET)
+        && end.next_reply() == Err(EndFault::Link(RESET))
+        && end.state() == ClientState::Open
 }
 
-/// Returns true if a stream that fails is told, and the call is lost once the end is given up.
-fn fails(alloc: Global) -> bool {
-    let fault = LinkFault {
-        kind: ErrorKind::ConnectionReset,
-    };
-    let Some(mut end) = end_over_failing(alloc, ErrorKind::ConnectionReset) else {
+/// Returns true if the call is lost once the end is given up.
+fn is_lost(end: &mut ClientEnd<TcpLink<Failing>>) -> bool {
+    end.end() == ClientCause::Ended
+        && end.end() == ClientCause::Ended
+        && call_stands(end, 0, 0, CallState::Lost)
+        && end.next_reply() == Err(EndFault::Closed(ClientCause::Ended))
+}
+
+/// Returns true if a call over such a stream stays pending if it would block, and else is lost.
+fn comes_to(alloc: Global, kind: ErrorKind) -> bool {
+    let Some(mut end) = end_over(alloc, kind) else {
         return false;
     };
-    let told = end.flush() == Err(fault) && end.next_reply() == Err(EndFault::Link(fault));
-    let open = end.state() == ClientState::Open;
-    let given_up = end.end() == ClientCause::Ended && end.end() == ClientCause::Ended;
-    let lost = match end.record(0) {
-        Some(record) => record.state == CallState::Lost,
-        None => false,
-    };
-    let closed = end.next_reply() == Err(EndFault::Closed(ClientCause::Ended));
-    told && open && given_up && lost && closed
+    let holds = is_called(alloc, &mut end)
+        && match kind {
+            ErrorKind::WouldBlock => is_pending(&mut end),
+            _ => is_told(&mut end) && is_lost(&mut end),
+        };
+    drop(end);
+    holds
+}
+
+#[test]
+fn a_link_that_would_block_is_waited_for(rt: HostRuntime) {
+    assert!(rt; comes_to(rt.alloc(), ErrorKind::WouldBlock));
 }
 
 #[test]
 fn a_link_that_fails_is_given_up(rt: HostRuntime) {
-    assert!(rt; fails(rt.alloc()));
+    assert!(rt; comes_to(rt.alloc(), ErrorKind::ConnectionReset));
 }
 
 /// The reply 5 to request 1 with moreToCome, and the reply 6 to that one, the last.
@@ -87,35 +102,47 @@ const STREAM: &[u8; 66] =
     b"\x21\0\0\0\x05\0\0\0\x01\0\0\0\xdd\x07\0\0\x02\0\0\0\0\x0c\0\0\0\x10n\0\x01\0\0\0\0\x21\0\0\0\x06\0\0\0\x05\0\0\0\xdd\x07\0\0\0\0\0\0\0\x0c\0\0\0\x10n\0\x02\0\0\0\0";
 
 /// Returns true if this is what comes next: a part of call 0.
-fn comes(found: Result<Next, EndFault>, last: bool) -> bool {
-    found == Ok(Next::Reply(ReadyReply { call: 0, last }))
+fn comes(end: &mut ClientEnd<MemLink>, last: bool) -> bool {
+    end.next_reply() == Ok(Next::Reply(ReadyReply { call: 0, last }))
+}
+
+/// Returns true if an exhaust call and an unacknowledged one are made and sent.
+fn are_called(end: &mut ClientEnd<MemLink>, payload: Payload<'_>) -> bool {
+    end.call_exhaust(payload).is_ok()
+        && end.send_unacknowledged(payload).is_ok()
+        && end.outstanding() == 1
+        && end.flush() == Ok(Flushed::All)
+}
+
+/// Returns true if the exhaust call has two parts, the unacknowledged one none, and no call is made
+/// once the link has ended.
+fn are_streamed(end: &mut ClientEnd<MemLink>, payload: Payload<'_>) -> bool {
+    comes(end, false)
+        && comes(end, true)
+        && call_stands(end, 0, 2, CallState::Done)
+        && call_stands(end, 1, 0, CallState::Sent)
+        && end.next_reply() == Err(EndFault::Closed(ClientCause::Ended))
+        && end.call(payload) == Err(CallRefusal::Closed)
+}
+
+/// Returns true if an exhaust call and an unacknowledged one over this end come to that.
+fn streams_over(alloc: Global, end: &mut ClientEnd<MemLink>) -> bool {
+    match one(alloc) {
+        Some(payload) => {
+            are_called(end, payload.as_payload()) && are_streamed(end, payload.as_payload())
+        }
+        None => false,
+    }
 }
 
 /// Returns true if an exhaust call has two parts, and an unacknowledged one none.
 fn streams(alloc: Global) -> bool {
-    let Some(mut end) = end_over(alloc, &[STREAM.as_slice()], 10) else {
+    let Some(mut end) = client_of(alloc, STREAM, 10) else {
         return false;
     };
-    let Some(payload) = one(alloc) else {
-        return false;
-    };
-    let called = end.call_exhaust(payload.as_payload()).is_ok()
-        && end.send_unacknowledged(payload.as_payload()).is_ok()
-        && end.outstanding() == 1
-        && end.flush() == Ok(Flushed::All);
-    let came = comes(end.next_reply(), false) && comes(end.next_reply(), true);
-    let (Some(first), Some(second)) = (end.record(0), end.record(1)) else {
-        return false;
-    };
-    let stand = first.parts.len() == 2
-        && first.state == CallState::Done
-        && second.parts.is_empty()
-        && second.state == CallState::Sent;
-    called
-        && came
-        && stand
-        && end.next_reply() == Err(EndFault::Closed(ClientCause::Ended))
-        && end.call(payload.as_payload()) == Err(CallRefusal::Closed)
+    let holds = streams_over(alloc, &mut end);
+    drop(end);
+    holds
 }
 
 #[test]
@@ -124,34 +151,41 @@ fn a_stream_of_replies_goes_to_one_call(rt: HostRuntime) {
 }
 
 /// Returns the end of a server over such a stream.
-fn server_over_failing(alloc: Global, kind: ErrorKind) -> Option<ServerEnd<TcpLink<Failing>>> {
-    let server = Server::new(alloc, 1, 2, 48_000_000).ok()?;
-    ServerEnd::new(alloc, server, TcpLink::new(Failing(kind))).ok()
+fn serving_over(alloc: Global, kind: ErrorKind) -> Option<ServerEnd<TcpLink<Failing>>> {
+    server_over(alloc, TcpLink::new(Failing(kind)), 2, 48_000_000)
 }
 
-/// Returns true if a stream that would block leaves the server open, and one that fails is told.
-fn server_waits(alloc: Global) -> bool {
-    let fault = LinkFault {
-        kind: ErrorKind::ConnectionReset,
-    };
-    let (Some(mut waits), Some(mut fails)) = (
-        server_over_failing(alloc, ErrorKind::WouldBlock),
-        server_over_failing(alloc, ErrorKind::ConnectionReset),
-    ) else {
+/// Returns true if a link that would block leaves the server open.
+fn is_waiting(end: &mut ServerEnd<TcpLink<Failing>>) -> bool {
+    end.next_request() == Ok(NextRequest::Later)
+        && end.next_request() == Ok(NextRequest::Later)
+        && end.flush() == Ok(Flushed::All)
+        && end.state() == ServerState::Open
+}
+
+/// Returns true if a link that fails is told, and no request comes once the end is given up.
+fn is_given_up(end: &mut ServerEnd<TcpLink<Failing>>) -> bool {
+    end.next_request() == Err(RequestFault::Link(RESET))
+        && end.state() == ServerState::Open
+        && end.end() == ServerCause::Ended
+        && end.next_request() == Err(RequestFault::Closed(ServerCause::Ended))
+}
+
+/// Returns true if a server waits for a stream that would block, and else is given up.
+fn server_ends(alloc: Global, kind: ErrorKind) -> bool {
+    let Some(mut end) = serving_over(alloc, kind) else {
         return false;
     };
-    let later = waits.next_request() == Ok(NextRequest::Later)
-        && waits.next_request() == Ok(NextRequest::Later)
-        && waits.flush() == Ok(Flushed::All)
-        && waits.state() == ServerState::Open;
-    let failed = fails.next_request() == Err(RequestFault::Link(fault))
-        && fails.state() == ServerState::Open
-        && fails.end() == ServerCause::Ended
-        && fails.next_request() == Err(RequestFault::Closed(ServerCause::Ended));
-    later && failed
+    let holds = match kind {
+        ErrorKind::WouldBlock => is_waiting(&mut end),
+        _ => is_given_up(&mut end),
+    };
+    drop(end);
+    holds
 }
 
 #[test]
 fn a_server_waits_or_is_given_up(rt: HostRuntime) {
-    assert!(rt; server_waits(rt.alloc()));
+    assert!(rt; server_ends(rt.alloc(), ErrorKind::WouldBlock));
+    assert!(rt; server_ends(rt.alloc(), ErrorKind::ConnectionReset));
 }

@@ -12,5 +12,5 @@ pub returns-in-Ok-new : goal.returns-in-Ok-new
 returns-in-Ok-new c =
     let is : to_z w32 (of_z w32 c.from.result) ≡ pos c.args.number = search rules in
     let bytes = document_bytes c.as_raw.result in
-    let spelled : Spells (leaf_pair (codes "s") Int32 (number_value (to_z w32 (of_z w32 c.from.result))) no_pairs) bytes = rw c.as_raw.ensures (c.in-Ok-append.ensures.added no_pairs c.in-Ok.ensures) in
+    let spelled : Spells (leaf_pair (codes "s") Int32 (number_value (to_z w32 (of_z w32 c.from.result))) no_pairs) bytes = rw c.as_raw.ensures (c.in-Ok-appended.ensures.added no_pairs c.in-Ok.ensures) in
     c.in-Ok-new.ensures.made (call_body c.args.number) (subst (λ (z : ℤ). Spells (leaf_pair (codes "s") Int32 (number_value z) no_pairs) bytes) is spelled)
