@@ -19,9 +19,9 @@ use Rattle.engines.specs.declared.json.Layout.{Layout}
 use Rattle.engines.specs.declared.json.Layout.TheVariants.{Lines, Array}
 use Rattle.engines.specs.declared.msg.MessageForm.{MessageForm}
 use Rattle.engines.specs.declared.msg.MessageForm.TheVariants.{Text as in_text, Json as in_json}
-use Rattle.engines.specs.{BsonText, CanonText, CheckText, DumpText, IsOutput, JsonText, MayBeJson}
-use Rattle.engines.specs.{MsgText, ScriptText, TextRule, canon_of, check_of, dump_of, told_at}
-use Rattle.engines.specs.{told_by}
+use Rattle.engines.specs.{AllMessages, AllTexts, BsonText, CanonText, CheckText, DumpText}
+use Rattle.engines.specs.{FirstMessages, FirstTexts, IsOutput, JsonText, MayBeJson, MsgText}
+use Rattle.engines.specs.{ScriptText, canon_of, check_of, dump_of, told_at, told_by}
 
 -- ---- what the matches of a subcommand hold
 
@@ -175,13 +175,24 @@ CommandText Bson = BsonText
 CommandText (Msg hex form) = IsOutput (MsgText form) hex
 CommandText Play = ScriptText
 
--- what a command writes for a document, if it reads documents
-abbrev pub document_rule : Command → TextRule
-document_rule (Dump hex offsets) = told_at (dump_of offsets)
-document_rule (Check hex) = told_by check_of
-document_rule (Canon hex) = told_by (canon_of 2147483647 hex)
-document_rule (Json hex mode layout) = MayBeJson mode layout
-document_rule _ = told_by (λ t. None)
+-- Whether these are the texts of the first few documents or messages in some bytes, if a command
+-- reads its input piece by piece.
+abbrev pub FirstOf : Command → List ℕ → List ℕ → Type 0
+FirstOf (Dump hex offsets) = FirstTexts (told_at (dump_of offsets))
+FirstOf (Check hex) = FirstTexts (told_by check_of)
+FirstOf (Canon hex) = FirstTexts (told_by (canon_of 2147483647 hex))
+FirstOf (Json hex mode layout) = FirstTexts (MayBeJson mode layout)
+FirstOf (Msg hex form) = FirstMessages form
+FirstOf _ = λ bytes texts. ⊥
+
+-- Whether these are the texts of all of them, up to the first fault.
+abbrev pub AllOf : Command → List ℕ → List ℕ → Type 0
+AllOf (Dump hex offsets) = AllTexts (told_at (dump_of offsets))
+AllOf (Check hex) = AllTexts (told_by check_of)
+AllOf (Canon hex) = AllTexts (told_by (canon_of 2147483647 hex))
+AllOf (Json hex mode layout) = AllTexts (MayBeJson mode layout)
+AllOf (Msg hex form) = AllMessages form
+AllOf _ = λ bytes texts. ⊥
 
 -- whether a command reads all of its input before it writes
 abbrev pub reads_first : Command → Bool
@@ -189,9 +200,5 @@ reads_first (Dump hex offsets) = hex
 reads_first (Check hex) = hex
 reads_first (Canon hex) = hex
 reads_first (Json hex mode layout) = hex
+reads_first (Msg hex form) = hex
 reads_first _ = true
-
--- whether a command may run out of memory after it wrote its first byte
-abbrev pub wants_memory : Command → Bool
-wants_memory (Msg hex form) = false
-wants_memory _ = true

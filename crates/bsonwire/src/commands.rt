@@ -6,9 +6,9 @@ ghost use Rattle.std.specs.List.{list_any};
 ghost use Rattle.std.specs.Str.{chars};
 ghost use Rattle.core.specs.Char.{is_control};
 ghost use Rattle.std.specs.IoError.{error_kind, raw_os_error};
-ghost use Rattle.bsonwire.specs.Choices.{CommandText, document_rule, reads_first, wants_memory};
+ghost use Rattle.bsonwire.specs.Choices.{AllOf, CommandText, FirstOf, reads_first};
 ghost use Rattle.bsonwire.specs.ExitStatus.{IsStatusFor, exit_status, tells_done, tells_fault};
-ghost use Rattle.engines.specs.{AppendsFirst, AppendsText, AppendsUpTo, WritesAll, end_of_error};
+ghost use Rattle.engines.specs.{AppendsOne, AppendsText, AppendsUpTo, WritesRead, end_of_error};
 ghost use Rattle.engines.specs.{is_done, is_fault, loop_text};
 
 use crate::choice::{Choice, Command};
@@ -173,10 +173,8 @@ fn status_over<E: Eprint + Clock, R: Read, W: Write>(
         (W.contents writer.old) (W.contents writer.new)) }
     ensures late { reads_first command ≡ true → (IsAtEnd (R.remaining reader.new.inner)) ⊎
         Keeps (W.contents writer.old) (W.contents writer.new) }
-    ensures memory { result ≡ 4 → wants_memory command ≡ false →
-        Keeps (W.contents writer.old) (W.contents writer.new) }
     ensures first { result ≡ 4 → reads_first command ≡ false → IfSome (R.remaining reader.old.inner)
-        (λ input. AppendsFirst (document_rule command) input
+        (λ input. AppendsOne (FirstOf command input)
         (W.contents writer.old) (W.contents writer.new)) }
 {
     let end = run_over(rt, alloc, command, input, reader, writer);
@@ -220,13 +218,11 @@ fn run_over<E: Eprint, R: Read, W: Write>(
         (W.contents writer.old) (W.contents writer.new)) }
     ensures late { reads_first command ≡ true → (IsAtEnd (R.remaining reader.new)) ⊎
         Keeps (W.contents writer.old) (W.contents writer.new) }
-    ensures memory { result ≡ RunEnd.Memory → wants_memory command ≡ false →
-        Keeps (W.contents writer.old) (W.contents writer.new) }
     ensures unread { result ≡ RunEnd.Unread → reads_first command ≡ false →
-        WritesAll (document_rule command) (R.remaining reader.old) (R.remaining reader.new)
+        WritesRead (AllOf command) (R.remaining reader.old) (R.remaining reader.new)
         (W.contents writer.old) (W.contents writer.new) }
     ensures first { result ≡ RunEnd.Memory → reads_first command ≡ false →
-        IfSome (R.remaining reader.old) (λ input. AppendsFirst (document_rule command) input
+        IfSome (R.remaining reader.old) (λ input. AppendsOne (FirstOf command input)
         (W.contents writer.old) (W.contents writer.new)) }
 {
     match command {

@@ -1,11 +1,11 @@
 -- What a command makes of documents back to back.
 use Rattle.std.specs.Prelude.{◌≡◌, ◌≢◌, ℕ, ◌+◌, List, [], ◌∷◌, ◌++◌, length, Bool, true, false}
 use Rattle.std.specs.Prelude.{Option, None, Some}
-use Rattle.std.specs.Io.KnownBytes.{Appends, Consumes}
 use Rattle.bson_elem.specs.declared.fault.BsonFault.{BsonFault}
 use Rattle.bson_elem.specs.{FrontFault, Spells, Tree, document, elements}
 use Rattle.bson_raw.specs.{AreDocuments, documents_bytes}
 use Rattle.engines.specs.InputFault.{bson_line, too_large_line}
+use Rattle.engines.specs.Output.{AppendsOne, WritesRead}
 
 -- ---- what a command writes for a document
 
@@ -81,23 +81,24 @@ nothing any = []
 
 -- ---- where an input isn't read to its end
 
+-- the texts of the first few documents in some bytes
+abbrev pub FirstTexts : TextRule → List ℕ → List ℕ → Type 0
+FirstTexts rule bytes texts =
+    (documents : List Tree) × (rest : List ℕ) × HaveTexts rule 0 bytes documents texts rest
+
+-- the texts of all documents in some bytes, up to the first without one
+abbrev pub AllTexts : TextRule → List ℕ → List ℕ → Type 0
+AllTexts rule bytes texts =
+    (documents : List Tree) × (rest : List ℕ) × (last : Option (List ℕ))
+    × HaveTexts rule 0 bytes documents texts rest
+    × IsLast rule (length (documents_bytes documents)) rest last
+
 -- Known bytes grow by the texts of the first few documents in some bytes.
 abbrev pub AppendsFirst : TextRule → List ℕ → Option (List ℕ) → Option (List ℕ)
     → Type 0
-AppendsFirst rule bytes old new =
-    (documents : List Tree) × (texts : List ℕ) × (rest : List ℕ)
-    × HaveTexts rule 0 bytes documents texts rest × Appends old new texts
-
--- Known bytes grow by the texts of all documents in some bytes, up to the first without one.
-abbrev pub AppendsAll : TextRule → List ℕ → Option (List ℕ) → Option (List ℕ)
-    → Type 0
-AppendsAll rule bytes old new =
-    (documents : List Tree) × (texts : List ℕ) × (rest : List ℕ) × (last : Option (List ℕ))
-    × HaveTexts rule 0 bytes documents texts rest
-    × IsLast rule (length (documents_bytes documents)) rest last × Appends old new texts
+AppendsFirst rule bytes = AppendsOne (FirstTexts rule bytes)
 
 -- Bytes were read, and the texts of all documents in them were written.
 abbrev pub WritesAll : TextRule → Option (List ℕ) → Option (List ℕ)
     → Option (List ℕ) → Option (List ℕ) → Type 0
-WritesAll rule from to old new =
-    (read : List ℕ) × Consumes from to read × AppendsAll rule read old new
+WritesAll rule = WritesRead (AllTexts rule)

@@ -8,6 +8,8 @@ pub mod InputFault
 pub mod Documents
 pub mod Source
 pub mod Walk
+pub mod DocumentWalk
+pub mod MessageWalk
 pub mod Check
 pub mod BsonOf
 pub mod Canon
@@ -20,11 +22,12 @@ pub mod Play
 pub use Rattle.engines.specs.BsonOf.{BsonText, IsAnything, StopsAt, WritesTexts}
 pub use Rattle.engines.specs.Canon.{CanonText, canon_of}
 pub use Rattle.engines.specs.Check.{CheckText, check_of}
-pub use Rattle.engines.specs.Documents.{AppendsFirst, TextRule, WritesAll, told_at, told_by}
+pub use Rattle.engines.specs.Documents.{AllTexts, AppendsFirst, FirstTexts, TextRule, WritesAll}
+pub use Rattle.engines.specs.Documents.{told_at, told_by}
 pub use Rattle.engines.specs.Dump.{DumpText, dump_of}
 pub use Rattle.engines.specs.Json.{JsonText, MayBeJson}
 pub use Rattle.engines.specs.Loopback.{AppendsUpTo, HaveRun, HaveTold, loop_text}
-pub use Rattle.engines.specs.Msg.{MsgText}
-pub use Rattle.engines.specs.Output.{AppendsText, IsOutput}
+pub use Rattle.engines.specs.Msg.{AllMessages, FirstMessages, MsgText}
+pub use Rattle.engines.specs.Output.{AppendsOne, AppendsText, IsOutput, WritesRead}
 pub use Rattle.engines.specs.Play.{ScriptText}
 pub use Rattle.engines.specs.Run.{end_of_error, is_done, is_fault}

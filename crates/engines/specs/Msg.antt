@@ -2,7 +2,7 @@
 use Rattle.std.specs.Prelude.{◌≡◌, ◌⊎◌, ℕ, ◌+◌, List, [], ◌∷◌, ◌++◌, codes, Bool, Option, None}
 use Rattle.std.specs.Prelude.{Some}
 use Rattle.wire_msg.specs.declared.fault.MsgFault.{MsgFault}
-use Rattle.wire_msg.specs.{IsBad, IsOpen, Message, Split, message_len}
+use Rattle.wire_msg.specs.{AreSpelled, IsBad, IsOpen, Message, Split, message_len}
 use Rattle.wire_text.specs.{IsMessageJson, message_text}
 use Rattle.engines.specs.declared.msg.MessageForm.{MessageForm}
 use Rattle.engines.specs.declared.msg.MessageForm.TheVariants.{Text, Json}
@@ -49,3 +49,22 @@ abbrev pub MsgText : MessageForm → List ℕ → List ℕ → Bool → Type 0
 MsgText form bytes text fault =
     (texts : List ℕ) × (last : Option (List ℕ)) × MessagesAre form 48000000 bytes texts last
     × (text ≡ texts ++ or_nothing last) × (fault ≡ is_there last)
+
+-- ---- where an input isn't read to its end
+
+-- The bytes are messages within the limit, which have these texts, joined, and a rest.
+pub record HaveMessages (form : MessageForm) (limit : ℕ) (bytes texts rest : List ℕ) : Type 0 where
+  pub messages : List Message
+  pub joined : List ℕ
+  pub spelled : AreSpelled limit messages joined
+  pub parts : bytes ≡ joined ++ rest
+  pub texts_are : MayBeMessages form messages texts
+
+-- the texts of the first few messages in some bytes
+abbrev pub FirstMessages : MessageForm → List ℕ → List ℕ → Type 0
+FirstMessages form bytes texts = (rest : List ℕ) × HaveMessages form 48000000 bytes texts rest
+
+-- the texts of all messages in some bytes, up to the first fault
+abbrev pub AllMessages : MessageForm → List ℕ → List ℕ → Type 0
+AllMessages form bytes texts =
+    (last : Option (List ℕ)) × MessagesAre form 48000000 bytes texts last

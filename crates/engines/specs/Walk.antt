@@ -1,73 +1,78 @@
--- What is written for the documents of an input, piece by piece.
-use Rattle.std.specs.Prelude.{◌≡◌, ℕ, ◌+◌, List, ◌++◌, length, Bool, Option, None, Some}
-use Rattle.std.specs.Io.KnownBytes.{Appends, Keeps}
-use Rattle.bson_elem.specs.{Tree}
-use Rattle.bson_raw.specs.{documents_bytes}
-use Rattle.bson_stream.specs.{IsOpen, Reading}
-use Rattle.engines.specs.declared.documents.Stop.{Stop}
-use Rattle.engines.specs.declared.documents.Stop.TheVariants as stop
-use Rattle.engines.specs.declared.documents.Written.{Written}
-use Rattle.engines.specs.declared.documents.Written.TheVariants.{Whole, TooLarge, OutOfMemory}
+-- What is told of an input that is gone over piece by piece, and what is written for it.
+use Rattle.std.specs.Prelude.{◌≡◌, ℕ, List, ◌++◌, Bool, true, false, Option, None, Some}
+use Rattle.std.specs.Io.KnownBytes.{Appends, Consumes, Keeps}
 use Rattle.engines.specs.declared.pieces.Ending.{Ending}
 use Rattle.engines.specs.declared.pieces.Ending.TheVariants as ending
 use Rattle.engines.specs.declared.run.RunEnd.{RunEnd}
 use Rattle.engines.specs.declared.run.RunEnd.TheVariants as run
-use Rattle.engines.specs.Documents.{HaveTexts, IsLast, TextRule}
+use Rattle.engines.specs.declared.walk.Stop.{Stop}
+use Rattle.engines.specs.declared.walk.Stop.TheVariants as stop
 use Rattle.engines.specs.InputFault.{input_fault_line, line_of}
 
--- what was written for a document for which this may be written: a text, or none
-abbrev pub IsWritten : (Option (List ℕ) → Type 0) → Written → Option (List ℕ) → Option (List ℕ)
-    → Type 0
-IsWritten May Whole old new = (text : List ℕ) × May (Some text) × Appends old new text
-IsWritten May TooLarge old new = May None × Keeps old new
-IsWritten May OutOfMemory old new = Keeps old new
+-- What a command tells of bytes, and of the texts of the documents or messages in them: how a
+-- reader stands that more bytes may follow; where bytes end, and their last line; the texts of the
+-- first few; those of all, up to the first fault; and the whole text, and whether it ends with a
+-- fault line.
+pub record Tells (Reader : Type 0) : Type 1 where
+  pub stands : Reader → List ℕ → List ℕ → Type 0
+  pub ends : Reader → List ℕ → List ℕ → Option (List ℕ) → Type 0
+  pub first : List ℕ → List ℕ → Type 0
+  pub all : List ℕ → List ℕ → Type 0
+  pub whole : List ℕ → List ℕ → Bool → Type 0
 
--- The bytes, which begin at offset `base`, are documents whose texts were written, and a rest that
--- begins at offset `start`.
-pub record AreWritten (rule : TextRule) (bytes : List ℕ) (base start : ℕ)
-    (rest : List ℕ) (old new : Option (List ℕ)) : Type 0 where
-  pub documents : List Tree
-  pub texts : List ℕ
-  pub have : HaveTexts rule base bytes documents texts rest
-  pub start_is : start ≡ base + length (documents_bytes documents)
-  pub appends : Appends old new texts
+-- whatever follows the bytes, these are the texts of the first few
+abbrev pub StaysFirst : {R : Type 0} → Tells R → List ℕ → List ℕ → Type 0
+StaysFirst t bytes texts = (more : List ℕ) → t.first (bytes ++ more) texts
 
--- Why nothing more was written, where this rest begins where the reader stands: the reader holds
--- it, and more bytes decide; it is at fault, whatever follows it; or memory ran out.
-abbrev pub IsStop : TextRule → Reading → List ℕ → Option Stop → Type 0
-IsStop rule r rest None = (rest ≡ r.held) × IsOpen r.held
-IsStop rule r rest (Some (stop.Fault f)) =
-    (more : List ℕ) → IsLast rule r.start (rest ++ more) (Some (input_fault_line f))
-IsStop rule r rest (Some stop.OutOfMemory) = Unit {0}
+-- These bytes were read, and these texts were written for them, all there are. More bytes may
+-- follow.
+pub record IsBetween {R : Type 0} (t : Tells R) (r : R) (read texts : List ℕ) : Type 0 where
+  pub stands : t.stands r read texts
+  pub all : t.all read texts
+  pub first : StaysFirst t read texts
 
--- A reader was fed a piece, and the texts of the documents that became whole were written.
-abbrev pub Walks : TextRule → Reading → List ℕ → Reading → Option Stop
+-- The bytes are at fault where the reader stands.
+pub record IsAtFault {R : Type 0} (t : Tells R) (r : R) (bytes texts line : List ℕ) : Type 0 where
+  pub ends : t.ends r bytes texts (Some line)
+  pub all : t.all bytes texts
+  pub first : StaysFirst t bytes texts
+
+-- Why nothing more was written for these bytes: more of them decide; they are at fault, whatever
+-- follows them; or memory ran out.
+abbrev pub IsStop : {R : Type 0} → Tells R → R → List ℕ → List ℕ → Option Stop → Type 0
+IsStop t r bytes texts None = IsBetween t r bytes texts
+IsStop t r bytes texts (Some (stop.Fault f)) =
+    (more : List ℕ) → IsAtFault t r (bytes ++ more) texts (input_fault_line f)
+IsStop t r bytes texts (Some stop.OutOfMemory) = StaysFirst t bytes texts
+
+-- The bytes end with a piece, for which more texts were written than these.
+abbrev pub Walks : {R : Type 0} → Tells R → R → List ℕ → List ℕ → Option Stop
     → Option (List ℕ) → Option (List ℕ) → Type 0
-Walks rule old piece new stop from to =
-    (rest : List ℕ) × AreWritten rule (old.held ++ piece) old.start new.start rest from to
-    × IsStop rule new rest stop
+Walks t new bytes texts stop from to =
+    (more : List ℕ) × Appends from to more × IsStop t new bytes (texts ++ more) stop
 
--- How an input ended whose rest begins at this offset: all of it was read, and this is its fault;
--- reading failed behind the rest; or memory ran out.
-abbrev pub IsEnding : TextRule → ℕ → List ℕ → Ending → Type 0
-IsEnding rule start rest (ending.Whole last) = IsLast rule start rest (line_of last)
-IsEnding rule start rest (ending.Cut run.Unread) =
-    (last : Option (List ℕ)) × IsLast rule start rest last
-IsEnding rule start rest (ending.Cut run.Memory) = Unit {0}
-IsEnding rule start rest _ = ⊥
+-- How an input ended of which these bytes were read: all of it was read, and this is its fault;
+-- reading failed; or memory ran out.
+abbrev pub IsEnding : {R : Type 0} → Tells R → R → List ℕ → List ℕ → Ending → Type 0
+IsEnding t r read texts (ending.Whole last) = t.ends r read texts (line_of last)
+IsEnding t r read texts (ending.Cut run.Unread) = t.all read texts
+IsEnding t r read texts (ending.Cut run.Memory) = StaysFirst t read texts
+IsEnding t r read texts _ = ⊥
 
--- These bytes were read, and the texts of the documents before the reader's written.
-abbrev pub Ends : TextRule → List ℕ → Reading → Ending → Option (List ℕ)
+-- Bytes were read, texts were written for them, and the input ended so.
+abbrev pub Ends : {R : Type 0} → Tells R → R → Ending → Option (List ℕ) → Option (List ℕ)
+    → Option (List ℕ) → Option (List ℕ) → Type 0
+Ends t r k from to old new =
+    (read : List ℕ) × (texts : List ℕ) × Consumes from to read × Appends old new texts
+    × IsEnding t r read texts k
+
+-- What was written behind the texts of what was read, where the run ends so.
+abbrev pub IsFinish : {R : Type 0} → Tells R → List ℕ → List ℕ → RunEnd → Option (List ℕ)
     → Option (List ℕ) → Type 0
-Ends rule read r k old new =
-    (rest : List ℕ) × AreWritten rule read 0 r.start rest old new
-    × IsEnding rule r.start rest k
-
--- how a run ends whose input ended so, and what is written behind the texts
-abbrev pub IsFinish : (Bool → List ℕ) → Bool → Ending → RunEnd → Option (List ℕ)
-    → Option (List ℕ) → Type 0
-IsFinish closing any (ending.Whole None) end old new =
-    (end ≡ run.Good) × Appends old new (closing any)
-IsFinish closing any (ending.Whole (Some f)) end old new =
-    (end ≡ run.Fault) × Appends old new (closing any ++ input_fault_line f)
-IsFinish closing any (ending.Cut why) end old new = (end ≡ why) × Keeps old new
+IsFinish t read texts run.Good old new =
+    (behind : List ℕ) × t.whole read (texts ++ behind) false × Appends old new behind
+IsFinish t read texts run.Fault old new =
+    (behind : List ℕ) × t.whole read (texts ++ behind) true × Appends old new behind
+IsFinish t read texts run.Unread old new = t.all read texts × Keeps old new
+IsFinish t read texts run.Memory old new = StaysFirst t read texts × Keeps old new
+IsFinish t read texts run.InOut old new = Unit {0}

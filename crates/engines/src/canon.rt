@@ -8,10 +8,9 @@ ghost use Rattle.engines.specs.Documents.{AppendsFirst, WritesAll, told_by};
 ghost use Rattle.engines.specs.Input.{bytes_of};
 ghost use Rattle.engines.specs.Output.{AppendsText, IsOutput};
 ghost use Rattle.engines.specs.Run.{is_done, is_fault};
-ghost use Rattle.engines.specs.Walk.{IsWritten};
+ghost use Rattle.engines.specs.DocumentWalk.{IsWritten};
 
-use crate::documents::{EachDocument, Written};
-use crate::pieces::run_documents;
+use crate::documents::{EachDocument, Written, run_documents};
 use crate::run::RunEnd;
 use bson_doc::{DocRefusal, renumbered};
 use bson_elem::MAX_LEN;
@@ -132,5 +131,5 @@ pub fn run_canon_within<R: Read, W: Write>(
         (W.contents writer.old) (W.contents writer.new))) }
 {
     let canon = Canon { alloc, hex, limit };
-    run_documents(alloc, &canon, hex, reader, writer)
+    run_documents(alloc, canon, hex, reader, writer)
 }

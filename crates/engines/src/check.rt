@@ -8,8 +8,7 @@ ghost use Rattle.engines.specs.Input.{bytes_of};
 ghost use Rattle.engines.specs.Output.{AppendsText, IsOutput};
 ghost use Rattle.engines.specs.Run.{is_done, is_fault};
 
-use crate::documents::{EachDocument, Written};
-use crate::pieces::run_documents;
+use crate::documents::{EachDocument, Written, run_documents};
 use crate::run::RunEnd;
 use bson_raw::RawDocument;
 use bson_text::number_to;
@@ -18,6 +17,7 @@ use std::io;
 use std::io::{Read, Write};
 
 /// The command `check`.
+#[derive(Drop)]
 struct Check;
 
 /// Returns the end of the line of a document.
@@ -83,5 +83,5 @@ pub fn run_check<R: Read, W: Write>(
         (λ input. IfOk (bytes_of hex input) (λ bytes. AppendsFirst (told_by check_of) bytes
         (W.contents writer.old) (W.contents writer.new))) }
 {
-    run_documents(alloc, &Check, hex, reader, writer)
+    run_documents(alloc, Check, hex, reader, writer)
 }

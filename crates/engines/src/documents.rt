@@ -1,21 +1,30 @@
-//! Documents out of a piece of an input, for each of which a command writes a text.
+//! Documents out of an input, for each of which a command writes a text.
 
-ghost use Rattle.std.specs.Prelude.{◌≡◌, ◌+◌, ◌<◌, ◌^◌, ℕ, Bool, List, Option, IfErr, IfOk};
-ghost use Rattle.std.specs.Prelude.{OnOk, false, length};
-ghost use Rattle.std.specs.Io.KnownBytes.{Appends};
+ghost use Rattle.std.specs.Prelude.{◌≡◌, ◌⊎◌, ◌+◌, ◌<◌, ◌^◌, ℕ, Bool, List, Option, IfErr, IfOk};
+ghost use Rattle.std.specs.Prelude.{IfSome, OnOk, false, length, true};
+ghost use Rattle.std.specs.Io.KnownBytes.{Appends, IsAtEnd, Keeps};
 ghost use Rattle.bson_elem.specs.{Spells, Tree};
 ghost use Rattle.bson_raw.specs.{document_bytes, is_plain};
 ghost use Rattle.bson_stream.specs.{IsOpen};
-ghost use Rattle.engines.specs.Documents.{TextRule, is_there, or_nothing};
+ghost use Rattle.engines.specs.DocumentWalk.{GoesOver, IsWritten, document_tells};
+ghost use Rattle.engines.specs.Documents.{AppendsFirst, IsWholeText, TextRule, WritesAll, is_there};
+ghost use Rattle.engines.specs.Documents.{or_nothing};
+ghost use Rattle.engines.specs.Input.{bytes_of};
 ghost use Rattle.engines.specs.InputFault.{line_of};
-ghost use Rattle.engines.specs.Walk.{IsWritten, Walks};
+ghost use Rattle.engines.specs.Output.{AppendsText, IsOutput};
+ghost use Rattle.engines.specs.Run.{is_done, is_fault};
+ghost use Rattle.engines.specs.Walk.{Tells};
 
 use crate::input_fault::InputFault;
+use crate::pieces::run_walk;
 use crate::run::RunEnd;
+use crate::walk::{Stop, Walk};
+use bson_elem::MAX_LEN;
 use bson_raw::RawDocument;
 use bson_stream::{DocumentReader, ReaderState};
+use std::alloc::Global;
 use std::io;
-use std::io::Write;
+use std::io::{Read, Write};
 
 /// What became of the text of a document.
 #[derive(Clone, Copy)]
@@ -57,19 +66,10 @@ pub trait EachDocument {
             (closing self.now any)) };
 }
 
-/// Why no more documents are read.
-#[derive(Clone, Copy)]
-pub enum Stop {
-    /// The input has this fault, whatever follows the piece.
-    Fault(InputFault),
-    /// Memory ran out.
-    OutOfMemory,
-}
-
 /// Feeds `piece` to `documents`, and writes the text of each document that becomes whole. Returns
 /// why no more documents are read, if none are: then the reader stands where that is. Errs if the
 /// writer does.
-pub fn write_piece<E: EachDocument, W: Write>(
+fn write_each<E: EachDocument, W: Write>(
     each: &E,
     documents: &mut DocumentReader,
     piece: &[u8],
@@ -77,7 +77,7 @@ pub fn write_piece<E: EachDocument, W: Write>(
 ) -> io::Result<Option<Stop>>
     requires { IsOpen documents.old.held }
     ensures { IfOk result (λ stop.
-        Walks (E.rule each.now) documents.old piece.now documents.new stop
+        GoesOver (E.rule each.now) documents.old piece.now documents.new stop
         (W.contents out.old) (W.contents out.new)) }
 {
     let mut rest = piece;
@@ -105,6 +105,69 @@ pub fn write_piece<E: EachDocument, W: Write>(
             Written::OutOfMemory => return Ok(Some(Stop::OutOfMemory)),
         }
     }
+}
+
+/// The documents of an input, and what a command writes for them.
+#[derive(Drop)]
+struct Documents<E> {
+    each: E,
+}
+
+impl<E: EachDocument> Walk for Documents<E> {
+    type Reader = DocumentReader;
+
+    ghost tells = { λ d. document_tells (E.rule d.each) (E.closing d.each) };
+
+    fn start(&self, alloc: Global) -> DocumentReader {
+        DocumentReader::new(alloc, MAX_LEN as u32)
+    }
+
+    fn write_piece<W: Write>(
+        &self,
+        reader: &mut DocumentReader,
+        piece: &[u8],
+        out: &mut W,
+    ) -> io::Result<Option<Stop>> {
+        write_each(&self.each, reader, piece, out)
+    }
+
+    fn fault_at_end(&self, reader: &DocumentReader) -> Option<InputFault> {
+        match reader.end() {
+            Ok(()) => None,
+            Err(fault) => Some(InputFault::Bson(fault)),
+        }
+    }
+
+    fn write_closing<W: Write>(&self, reader: &DocumentReader, out: &mut W) -> io::Result<()> {
+        let any = reader.start() > 0;
+        self.each.write_closing(any, out)
+    }
+}
+
+/// Writes what a command makes of the documents in the input. If `hex` is true, the input is
+/// hexadecimal text, which is read whole.
+pub fn run_documents<E: EachDocument + Drop, R: Read, W: Write>(
+    alloc: Global,
+    each: E,
+    hex: bool,
+    reader: &mut R,
+    writer: &mut W,
+) -> RunEnd
+    ensures read { is_done result ≡ true → IsAtEnd (R.remaining reader.new) }
+    ensures written { IfSome (R.remaining reader.old) (λ input. is_done result ≡ true →
+        AppendsText (IsOutput (IsWholeText (E.rule each) (E.closing each)) hex input)
+        (is_fault result) (W.contents writer.old) (W.contents writer.new)) }
+    ensures unread { hex ≡ false → result ≡ RunEnd.Unread → WritesAll (E.rule each)
+        (R.remaining reader.old) (R.remaining reader.new)
+        (W.contents writer.old) (W.contents writer.new) }
+    ensures late { hex ≡ true → (IsAtEnd (R.remaining reader.new)) ⊎
+        Keeps (W.contents writer.old) (W.contents writer.new) }
+    ensures memory { result ≡ RunEnd.Memory → IfSome (R.remaining reader.old)
+        (λ input. IfOk (bytes_of hex input) (λ bytes. AppendsFirst (E.rule each) bytes
+        (W.contents writer.old) (W.contents writer.new))) }
+{
+    let documents = Documents { each };
+    run_walk(alloc, &documents, hex, reader, writer)
 }
 
 /// Writes the line of `fault`, if there is one. Returns true if there is.

@@ -11,8 +11,7 @@ ghost use Rattle.engines.specs.Input.{bytes_of};
 ghost use Rattle.engines.specs.Output.{AppendsText, IsOutput};
 ghost use Rattle.engines.specs.Run.{is_done, is_fault};
 
-use crate::documents::{EachDocument, Written};
-use crate::pieces::run_documents;
+use crate::documents::{EachDocument, Written, run_documents};
 use crate::run::RunEnd;
 use bson_raw::RawDocument;
 use bson_text::{dump_to, dump_with_offsets};
@@ -88,5 +87,5 @@ pub fn run_dump<R: Read, W: Write>(
         AppendsFirst (told_at (dump_of offsets)) bytes
         (W.contents writer.old) (W.contents writer.new))) }
 {
-    run_documents(alloc, &Dump { offsets }, hex, reader, writer)
+    run_documents(alloc, Dump { offsets }, hex, reader, writer)
 }

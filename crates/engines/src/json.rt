@@ -8,8 +8,7 @@ ghost use Rattle.engines.specs.Json.{JsonText, MayBeJson, behind_values, front_o
 ghost use Rattle.engines.specs.Output.{AppendsText, IsOutput};
 ghost use Rattle.engines.specs.Run.{is_done, is_fault};
 
-use crate::documents::{EachDocument, Written};
-use crate::pieces::run_documents;
+use crate::documents::{EachDocument, Written, run_documents};
 use crate::run::RunEnd;
 use bson_json::{Mode, write_json};
 use bson_raw::RawDocument;
@@ -112,5 +111,5 @@ pub fn run_json<R: Read, W: Write>(
         (W.contents writer.old) (W.contents writer.new))) }
 {
     let json = Json { mode, layout };
-    run_documents(alloc, &json, hex, reader, writer)
+    run_documents(alloc, json, hex, reader, writer)
 }

@@ -1,16 +1,16 @@
 //! The commands of the program `bsonwire`, each a function over a writer, and all but `loop` over a
 //! reader.
 //!
-//! `run_dump`, `run_check`, `run_canon` and `run_json` read documents piece by piece, and write as
-//! these come. `run_bson`, `run_msg` and `run_play` read all that the reader has before they write.
-//! Each writes one text for its input, and tells how that ended. Documents or messages stand back
-//! to back in the input, as bytes or as hexadecimal text, which is read whole; the input of
-//! `run_bson` is Extended JSON, and that of `run_play` a script of events. A fault in the input is
-//! told by the last line of the text, and by `run_bson` in what it returns. `run_loop` reads
+//! `run_dump`, `run_check`, `run_canon` and `run_json` read documents piece by piece, and `run_msg`
+//! messages, and write as these come. `run_bson` and `run_play` read all that the reader has before
+//! they write. Each writes one text for its input, and tells how that ended. Documents or messages
+//! stand back to back in the input, as bytes or as hexadecimal text, which is read whole; the input
+//! of `run_bson` is Extended JSON, and that of `run_play` a script of events. A fault in the input
+//! is told by the last line of the text, and by `run_bson` in what it returns. `run_loop` reads
 //! nothing: it makes calls over a connection of the program with itself.
 //!
-//! Stands on bson_json_read, bson_stream, wire_msg, wire_end and wire_play. bsonwire stands on it.
-//! Read first: `documents`, `pieces`, and then `dump`.
+//! Stands on bson_json_read, bson_stream, wire_stream, wire_end and wire_play. bsonwire stands on
+//! it. Read first: `walk`, `pieces`, `documents`, and then `dump`.
 #![tactic(auto)]
 
 mod bson;
@@ -32,6 +32,7 @@ mod pieces;
 mod play;
 mod run;
 mod source;
+mod walk;
 
 pub use bson::{TextStop, run_bson};
 pub use bson_json::Mode;

@@ -1,32 +1,23 @@
-//! Messages back to back, and the text of each.
+//! Messages out of an input, and the text of each.
 
-ghost use Rattle.std.specs.Prelude.{◌≡◌, ◌+◌, ◌<◌, ◌^◌, List, ℕ, IfErr, IfOk, OnOk};
-ghost use Rattle.std.specs.Io.KnownBytes.{Appends};
+ghost use Rattle.std.specs.Prelude.{◌≡◌, ◌⊎◌, ◌+◌, IfOk, IfSome, OnOk, false, true};
+ghost use Rattle.std.specs.Io.KnownBytes.{IsAtEnd, Keeps};
 ghost use Rattle.bson_json.specs.{WritesOne};
-ghost use Rattle.engines.specs.InputFault.{input_fault_line, line_of, msg_line};
-ghost use Rattle.engines.specs.Msg.{MayBeMessage, MessagesAre, MsgText};
-ghost use Rattle.engines.specs.Output.{AppendsText};
-ghost use Rattle.wire_msg.specs.{Message, SpellsMsg, msg_bytes};
+ghost use Rattle.engines.specs.InputFault.{input_fault_line, msg_line};
+ghost use Rattle.engines.specs.MessageWalk.{GoesOverMessages, message_tells};
+ghost use Rattle.engines.specs.Msg.{MayBeMessage};
+ghost use Rattle.engines.specs.Walk.{Tells};
+ghost use Rattle.wire_msg.specs.{IsOpen, Message, SpellsMsg, msg_bytes};
 
-use crate::documents::write_last;
 use crate::input_fault::InputFault;
 use crate::msg::MessageForm;
-use crate::run::RunEnd;
+use crate::walk::{Stop, Walk};
 use std::alloc::Global;
 use std::io;
 use std::io::Write;
-use wire_msg::{MAX_MESSAGE_LEN, MsgFault, MsgFront, RawMsg};
+use wire_msg::{MAX_MESSAGE_LEN, MsgFault, RawMsg};
+use wire_stream::{MsgReader, ReadEnd, ReaderState};
 use wire_text::{write_message, write_message_json};
-
-/// Returns the fault of a message that begins at offset `start` of the input.
-fn fault_in_message(start: usize, fault: MsgFault) -> InputFault
-    requires { start + fault.at < 2 ^ 64 }
-    ensures { input_fault_line result ≡ msg_line (start + fault.at) fault.cause }
-{
-    let at = start + fault.at;
-    let cause = fault.cause;
-    InputFault::Msg(MsgFault { at, cause })
-}
 
 /// Writes a message in this form.
 fn write_in_form<W: Write>(form: MessageForm, message: RawMsg<'_>, out: &mut W) -> io::Result<()>
@@ -42,50 +33,98 @@ fn write_in_form<W: Write>(form: MessageForm, message: RawMsg<'_>, out: &mut W) 
     }
 }
 
-/// Writes the messages in `bytes`, up to the first fault. Returns that fault, if there is one.
-fn write_each<W: Write>(
-    alloc: Global,
-    form: MessageForm,
-    bytes: &[u8],
-    out: &mut W,
-) -> Result<Option<InputFault>, RunEnd>
-    ensures written { IfOk result (λ fault. (texts : List ℕ)
-        × MessagesAre form MAX_MESSAGE_LEN bytes.now texts (line_of fault)
-        × Appends (W.contents out.old) (W.contents out.new) texts) }
-    ensures stopped { IfErr result (λ end. end ≡ RunEnd.InOut) }
-{
-    let mut rest = bytes;
-    while !rest.is_empty() {
-        let start = bytes.len() - rest.len();
-        match RawMsg::front_with(alloc, rest, MAX_MESSAGE_LEN) {
-            MsgFront::Whole {
-                message,
-                rest: after,
-            } => match write_in_form(form, message, out) {
-                Ok(()) => rest = after,
-                Err(_) => return Err(RunEnd::InOut),
-            },
-            MsgFront::Open => return Ok(Some(InputFault::EndedInside { offset: start })),
-            MsgFront::Bad(fault) => return Ok(Some(fault_in_message(start, fault))),
-        }
-    }
-    Ok(None)
+/// Reads the messages of an input.
+#[derive(Drop)]
+pub struct MessageReader {
+    /// Holds the message that isn't whole yet.
+    messages: MsgReader,
+    /// The offset at which it begins.
+    start: usize,
 }
 
-/// Writes the messages in `bytes` in this form, and then the line of the first fault. Returns true if
-/// there is one.
-///
-/// Where memory is refused, the names in a message are compared in pairs.
-pub fn write_messages<W: Write>(
-    alloc: Global,
-    form: MessageForm,
-    bytes: &[u8],
-    out: &mut W,
-) -> Result<bool, RunEnd>
-    ensures written { IfOk result (λ fault. AppendsText (MsgText form bytes.now) fault
-        (W.contents out.old) (W.contents out.new)) }
-    ensures stopped { IfErr result (λ end. end ≡ RunEnd.InOut) }
+/// Returns the stop at a message that begins at offset `start` and has this fault. No offset above
+/// 2 ^ 64 - 1 is told: an input of so many bytes isn't read to its end.
+fn stop_at(start: usize, fault: MsgFault) -> Stop
+    ensures { (f : InputFault) → result ≡ Stop.Fault f
+        → input_fault_line f ≡ msg_line (start + fault.at) fault.cause }
 {
-    let fault = write_each(alloc, form, bytes, out)?;
-    write_last(fault, out)
+    let Some(at) = start.checked_add(fault.at) else {
+        return Stop::OutOfMemory;
+    };
+    let cause = fault.cause;
+    Stop::Fault(InputFault::Msg(MsgFault { at, cause }))
+}
+
+/// Feeds `piece` to `reader`, and writes the text of each message that becomes whole. Returns why
+/// no more messages are read, if none are: then the reader stands where that is. Errs if the writer
+/// does.
+fn write_each<W: Write>(
+    form: MessageForm,
+    reader: &mut MessageReader,
+    piece: &[u8],
+    out: &mut W,
+) -> io::Result<Option<Stop>>
+    requires { IsOpen reader.old.messages.limit reader.old.messages.held }
+    ensures { IfOk result (λ stop. GoesOverMessages form reader.old piece.now reader.new stop
+        (W.contents out.old) (W.contents out.new)) }
+{
+    let mut rest = piece;
+    loop {
+        let Ok(fed) = reader.messages.feed(rest) else {
+            return Ok(Some(Stop::OutOfMemory));
+        };
+        rest = &rest[fed.taken..];
+        match fed.state {
+            ReaderState::Need => return Ok(None),
+            ReaderState::Ready => {}
+            ReaderState::Bad(fault) => return Ok(Some(stop_at(reader.start, fault))),
+        }
+        let Some(message) = reader.messages.message() else {
+            unreachable!()
+        };
+        let Some(behind) = reader.start.checked_add(message.as_bytes().len()) else {
+            return Ok(Some(Stop::OutOfMemory));
+        };
+        write_in_form(form, message, out)?;
+        reader.messages.release();
+        reader.start = behind;
+    }
+}
+
+/// The messages of an input, which are written in this form.
+#[derive(Drop)]
+pub struct Messages {
+    pub form: MessageForm,
+}
+
+impl Walk for Messages {
+    type Reader = MessageReader;
+
+    ghost tells = { λ m. message_tells m.form };
+
+    fn start(&self, alloc: Global) -> MessageReader {
+        let messages = MsgReader::new(alloc, MAX_MESSAGE_LEN);
+        MessageReader { messages, start: 0 }
+    }
+
+    fn write_piece<W: Write>(
+        &self,
+        reader: &mut MessageReader,
+        piece: &[u8],
+        out: &mut W,
+    ) -> io::Result<Option<Stop>> {
+        write_each(self.form, reader, piece, out)
+    }
+
+    fn fault_at_end(&self, reader: &MessageReader) -> Option<InputFault> {
+        let offset = reader.start;
+        match reader.messages.end() {
+            ReadEnd::Ended => None,
+            ReadEnd::EndedInside => Some(InputFault::EndedInside { offset }),
+        }
+    }
+
+    fn write_closing<W: Write>(&self, _reader: &MessageReader, _out: &mut W) -> io::Result<()> {
+        Ok(())
+    }
 }

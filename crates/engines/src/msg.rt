@@ -1,13 +1,15 @@
 //! The command `msg`: the text of each message, or one JSON object.
 
-ghost use Rattle.std.specs.Prelude.{◌≡◌, ◌⊎◌, IfSome, false, true};
+ghost use Rattle.std.specs.Prelude.{◌≡◌, ◌⊎◌, IfOk, IfSome, false, true};
 ghost use Rattle.std.specs.Io.KnownBytes.{IsAtEnd, Keeps};
-ghost use Rattle.engines.specs.Msg.{MsgText};
-ghost use Rattle.engines.specs.Output.{AppendsText, IsOutput};
+ghost use Rattle.engines.specs.Input.{bytes_of};
+ghost use Rattle.engines.specs.Msg.{AllMessages, FirstMessages, MsgText};
+ghost use Rattle.engines.specs.Output.{AppendsOne, AppendsText, IsOutput, WritesRead};
 ghost use Rattle.engines.specs.Run.{is_done, is_fault};
 
-use crate::messages::write_messages;
-use crate::run::{Engine, RunEnd, run};
+use crate::messages::Messages;
+use crate::pieces::run_walk;
+use crate::run::RunEnd;
 use bson_json::Mode;
 use std::alloc::Global;
 use std::io::{Read, Write};
@@ -21,25 +23,10 @@ pub enum MessageForm {
     Json(Mode),
 }
 
-/// The command `msg`.
-#[derive(Drop)]
-struct Msg {
-    alloc: Global,
-    form: MessageForm,
-}
-
-impl Engine for Msg {
-    ghost is_text = { λ m. MsgText m.form };
-
-    ghost wants_memory = { λ _. false };
-
-    fn write_text<W: Write>(&self, bytes: &[u8], out: &mut W) -> Result<bool, RunEnd> {
-        write_messages(self.alloc, self.form, bytes, out)
-    }
-}
-
 /// Writes each message in the input, which has at most 48,000,000 bytes, in this form. If `hex` is
 /// true, the input is hexadecimal text.
+///
+/// Where a message has many names and memory for their list is refused, they are compared in pairs.
 pub fn run_msg<R: Read, W: Write>(
     alloc: Global,
     form: MessageForm,
@@ -51,11 +38,14 @@ pub fn run_msg<R: Read, W: Write>(
     ensures written { IfSome (R.remaining reader.old) (λ input. is_done result ≡ true →
         AppendsText (IsOutput (MsgText form) hex input) (is_fault result)
         (W.contents writer.old) (W.contents writer.new)) }
-    ensures late { (IsAtEnd (R.remaining reader.new)) ⊎
+    ensures unread { hex ≡ false → result ≡ RunEnd.Unread → WritesRead (AllMessages form)
+        (R.remaining reader.old) (R.remaining reader.new)
+        (W.contents writer.old) (W.contents writer.new) }
+    ensures late { hex ≡ true → (IsAtEnd (R.remaining reader.new)) ⊎
         Keeps (W.contents writer.old) (W.contents writer.new) }
-    ensures memory { result ≡ RunEnd.Memory →
-        Keeps (W.contents writer.old) (W.contents writer.new) }
+    ensures memory { result ≡ RunEnd.Memory → IfSome (R.remaining reader.old)
+        (λ input. IfOk (bytes_of hex input) (λ bytes. AppendsOne (FirstMessages form bytes)
+        (W.contents writer.old) (W.contents writer.new))) }
 {
-    let msg = Msg { alloc, form };
-    run(alloc, &msg, hex, reader, writer)
+    run_walk(alloc, &Messages { form }, hex, reader, writer)
 }

@@ -1,30 +1,25 @@
-//! Reads an input piece by piece, and writes what a command makes of its documents.
+//! Reads an input piece by piece, and writes what a command makes of its documents or messages.
 //!
-//! Between two pieces there is the document that isn't whole yet, and the text that the writer
-//! didn't take yet. Nothing else of the input is held.
+//! Between two pieces there is the document or message that isn't whole yet, and the text that the
+//! writer didn't take yet. Nothing else of the input is held.
 
-ghost use Rattle.std.specs.Prelude.{◌≡◌, ◌≢◌, ◌⊎◌, ◌<◌, ◌≤◌, IfErr, IfOk, IfSome, List, None, Ok};
+ghost use Rattle.std.specs.Prelude.{◌≡◌, ◌⊎◌, ◌<◌, ◌≤◌, ◌++◌, IfErr, IfOk, IfSome, List, None, Ok};
 ghost use Rattle.std.specs.Prelude.{OnErr, OnOk, Option, [], false, length, take, true, ℕ};
 ghost use Rattle.std.specs.Io.KnownBytes.{Appends, Consumes, IsAtEnd, Keeps, append_known};
-ghost use Rattle.bson_elem.specs.{Tree};
-ghost use Rattle.bson_stream.specs.{IsOpen};
 ghost use Rattle.engines.specs.Buffered.{buffered_contents};
-ghost use Rattle.engines.specs.Documents.{AppendsFirst, IsLast, IsWholeText, WritesAll};
 ghost use Rattle.engines.specs.Input.{bytes_of};
-ghost use Rattle.engines.specs.InputFault.{hex_line, input_fault_line, line_of};
-ghost use Rattle.engines.specs.Output.{AppendsText, IsOutput};
+ghost use Rattle.engines.specs.InputFault.{hex_line};
+ghost use Rattle.engines.specs.Output.{AppendsOne, AppendsText, IsOutput, WritesRead};
 ghost use Rattle.engines.specs.Run.{IsCutShort, is_done, is_fault};
 ghost use Rattle.engines.specs.Source.{given};
-ghost use Rattle.engines.specs.Walk.{Ends, IsEnding, IsFinish, Walks};
+ghost use Rattle.engines.specs.Walk.{Ends, IsBetween, IsEnding, IsFinish, Tells, Walks};
 
 use crate::buffered::Buffered;
-use crate::documents::{EachDocument, Stop, write_piece};
 use crate::hex_input::Input;
 use crate::input_fault::InputFault;
-use crate::run::{BUFFER, RunEnd, read_input};
+use crate::run::{BUFFER, RunEnd, read_hex};
 use crate::source::{read_once, read_rest};
-use bson_elem::MAX_LEN;
-use bson_stream::DocumentReader;
+use crate::walk::{Stop, Walk};
 use core::mem::replace_with;
 use std::alloc::Global;
 use std::io;
@@ -44,29 +39,32 @@ pub enum Ending {
 
 /// What there is between two pieces.
 #[derive(Drop)]
-struct Between {
-    /// The document that isn't whole yet.
-    documents: DocumentReader,
+struct Between<S> {
+    /// The document or message that isn't whole yet.
+    reader: S,
     /// The text that waits for the writer.
     text: Vec<u8>,
 }
 
-/// A piece whose documents' texts are to be written.
+/// A piece whose texts are to be written.
 #[derive(Drop)]
-struct Job<'a, E> {
+struct Job<'a, E, S> {
     each: &'a E,
-    before: Between,
+    before: Between<S>,
     piece: &'a [u8],
 }
 
 /// Like `pass_piece`, but takes the writer by value and returns it.
-fn pass_through<E: EachDocument, W: Write>(
+fn pass_through<E: Walk, W: Write>(
     writer: W,
-    job: Job<'_, E>,
-) -> (W, (Between, io::Result<Option<Stop>>))
-    requires { IsOpen job.before.documents.held }
-    ensures { IfOk result.1.1 (λ stop. Walks (E.rule job.entry.each.now)
-        job.entry.before.documents job.entry.piece.now result.1.0.documents stop
+    job: Job<'_, E, E::Reader>,
+) -> (W, (Between<E::Reader>, io::Result<Option<Stop>>))
+    requires { (read : List ℕ) × (texts : List ℕ)
+        × IsBetween (E.tells job.each.now) job.before.reader read texts }
+    ensures { (read texts : List ℕ)
+        → IsBetween (E.tells job.entry.each.now) job.entry.before.reader read texts
+        → IfOk result.1.1 (λ stop. Walks (E.tells job.entry.each.now) result.1.0.reader
+        (read ++ job.entry.piece.now) texts stop
         (append_known (W.contents writer) job.entry.before.text.items)
         (append_known (W.contents result.0) result.1.0.text.items)) }
 {
@@ -75,27 +73,25 @@ fn pass_through<E: EachDocument, W: Write>(
         before,
         piece,
     } = job;
-    let Between {
-        mut documents,
-        text,
-    } = before;
+    let Between { mut reader, text } = before;
     let mut out = Buffered::new(writer, text);
-    let stop = write_piece(each, &mut documents, piece, &mut out);
+    let stop = each.write_piece(&mut reader, piece, &mut out);
     let (writer, text) = out.into_parts();
-    (writer, (Between { documents, text }, stop))
+    (writer, (Between { reader, text }, stop))
 }
 
-/// Writes the texts of the documents that become whole by `piece`, as `write_piece` does, behind the
-/// text that waits for the writer.
-fn pass_piece<E: EachDocument, W: Write>(
+/// Writes the texts of what becomes whole by `piece`, behind the text that waits for the writer.
+fn pass_piece<E: Walk, W: Write>(
     each: &E,
-    before: Between,
+    before: Between<E::Reader>,
     piece: &[u8],
     writer: &mut W,
-) -> (Between, io::Result<Option<Stop>>)
-    requires { IsOpen before.documents.held }
-    ensures { IfOk result.1 (λ stop. Walks (E.rule each.now)
-        before.documents piece.now result.0.documents stop
+) -> (Between<E::Reader>, io::Result<Option<Stop>>)
+    requires { (read : List ℕ) × (texts : List ℕ)
+        × IsBetween (E.tells each.now) before.reader read texts }
+    ensures { (read texts : List ℕ) → IsBetween (E.tells each.now) before.reader read texts
+        → IfOk result.1 (λ stop. Walks (E.tells each.now) result.0.reader
+        (read ++ piece.now) texts stop
         (append_known (W.contents writer.old) before.text.items)
         (append_known (W.contents writer.new) result.0.text.items)) }
 {
@@ -107,9 +103,10 @@ fn pass_piece<E: EachDocument, W: Write>(
     replace_with(writer, job, pass_through)
 }
 
-/// Reads the next piece into `room`, as `read_once` does. Errs also where no offset counts its bytes.
+/// Reads the next piece into `room`, as `read_once` does. Errs also where no offset counts its
+/// bytes, of which `so_far` were read.
 fn read_piece<R: Read>(
-    documents: &DocumentReader,
+    so_far: usize,
     reader: &mut R,
     room: &mut [u8],
 ) -> Result<Option<usize>, RunEnd>
@@ -122,38 +119,21 @@ fn read_piece<R: Read>(
     ensures unread { OnErr result (Keeps (R.remaining reader.old) (R.remaining reader.new)) }
     ensures stopped { IfErr result (λ end. IsCutShort end) }
 {
-    if documents.start().saturating_add(documents.held()) > usize::MAX - PIECE {
+    if so_far > usize::MAX - PIECE {
         return Err(RunEnd::Unread);
     }
     read_once(reader, room)
 }
 
-/// Returns how an input ended that was read to its end, behind the bytes that `documents` holds.
-fn ending_of<E: EachDocument>(each: &E, documents: &DocumentReader) -> Ending
-    requires { IsOpen documents.now.held }
-    ensures { IsEnding (E.rule each.now) documents.now.start documents.now.held result }
-{
-    match documents.end() {
-        Ok(()) => Ending::Whole(None),
-        Err(fault) => Ending::Whole(Some(InputFault::Bson(fault))),
-    }
-}
-
 /// Reads the rest of an input that has this fault. Returns how the input ended.
-fn ending_at<E: EachDocument, R: Read>(
-    each: &E,
-    fault: InputFault,
-    reader: &mut R,
-    room: &mut [u8],
-) -> Ending
+fn ending_at<R: Read>(fault: InputFault, reader: &mut R, room: &mut [u8]) -> Ending
     requires { 0 < length room.old }
     ensures read { (more : List ℕ)
         × Consumes (R.remaining reader.old) (R.remaining reader.new) more }
     ensures whole { (last : Option InputFault) → result ≡ Ending.Whole last
         → IsAtEnd (R.remaining reader.new) }
-    ensures ending { (start : ℕ) (rest : List ℕ)
-        → IsLast (E.rule each.now) start rest (Some (input_fault_line fault))
-        → IsEnding (E.rule each.now) start rest result }
+    ensures ending { (result ≡ Ending.Whole (Option.Some fault))
+        ⊎ ((end : RunEnd) × (result ≡ Ending.Cut end) × IsCutShort end) }
 {
     match read_rest(reader, room) {
         Ok(()) => Ending::Whole(Some(fault)),
@@ -161,60 +141,69 @@ fn ending_at<E: EachDocument, R: Read>(
     }
 }
 
-/// Writes the texts of the documents in the input, up to the first fault, behind the `text` that
-/// waits for the writer. `room` takes a piece. Returns how the input ended, and what there is then.
-/// Errs if the writer does.
-fn write_pieces<E: EachDocument, R: Read, W: Write>(
+/// Writes the texts of what is in the input, up to the first fault, behind the `text` that waits
+/// for the writer. `room` takes a piece. Returns how the input ended, and what there is then. Errs
+/// if the writer does.
+fn write_pieces<E: Walk, R: Read, W: Write>(
     each: &E,
     reader: &mut R,
     room: &mut [u8],
-    mut between: Between,
+    mut between: Between<E::Reader>,
     writer: &mut W,
-) -> io::Result<(Ending, Between)>
+) -> io::Result<(Ending, Between<E::Reader>)>
     requires room { 0 < length room.old }
-    requires fresh { between.documents.held ≡ [] }
-    requires first { between.documents.start ≡ 0 }
+    requires fresh { IsBetween (E.tells each.now) between.reader [] [] }
     ensures whole { IfOk result (λ r. (last : Option InputFault) → r.0 ≡ Ending.Whole last
         → IsAtEnd (R.remaining reader.new)) }
-    ensures written { IfOk result (λ r. (read : List ℕ)
-        × Consumes (R.remaining reader.old) (R.remaining reader.new) read
-        × Ends (E.rule each.now) read r.1.documents r.0
+    ensures written { IfOk result (λ r. Ends (E.tells each.now) r.1.reader r.0
+        (R.remaining reader.old) (R.remaining reader.new)
         (append_known (W.contents writer.old) between.text.items)
         (append_known (W.contents writer.new) r.1.text.items)) }
 {
+    let mut so_far = 0;
     for _ in 0..u64::MAX {
-        let n = match read_piece(&between.documents, reader, room) {
+        let n = match read_piece(so_far, reader, room) {
             Ok(Some(n)) => n,
-            Ok(None) => return Ok((ending_of(each, &between.documents), between)),
+            Ok(None) => {
+                let last = each.fault_at_end(&between.reader);
+                return Ok((Ending::Whole(last), between));
+            }
             Err(end) => return Ok((Ending::Cut(end), between)),
         };
+        so_far = so_far.saturating_add(n);
         let (after, stop) = pass_piece(each, between, &room[..n], writer);
         between = after;
         match stop? {
             None => {}
-            Some(Stop::Fault(fault)) => return Ok((ending_at(each, fault, reader, room), between)),
+            Some(Stop::Fault(fault)) => return Ok((ending_at(fault, reader, room), between)),
             Some(Stop::OutOfMemory) => return Ok((Ending::Cut(RunEnd::Memory), between)),
         }
     }
     Err(io::Error::from(ErrorKind::Interrupted))
 }
 
-/// Writes what is behind the texts, and passes all of it on. `any` says whether there is a document.
-/// Returns how the run ends. Errs if the writer does.
-fn write_ending<E: EachDocument, W: Write>(
+/// Writes what is behind the texts, and passes all of it on. Returns how the run ends. Errs if the
+/// writer does.
+fn write_ending<E: Walk, W: Write>(
     each: &E,
-    any: bool,
+    reader: &E::Reader,
     ending: Ending,
     out: &mut Buffered<W>,
 ) -> io::Result<RunEnd>
-    ensures written { IfOk result (λ end. IsFinish (E.closing each.now) any ending end
+    ensures written { (read texts : List ℕ)
+        → IsEnding (E.tells each.now) reader.now read texts ending
+        → IfOk result (λ end. IsFinish (E.tells each.now) read texts end
         (buffered_contents W.contents out.old) (buffered_contents W.contents out.new)) }
+    ensures done { (read texts : List ℕ)
+        → IsEnding (E.tells each.now) reader.now read texts ending
+        → IfOk result (λ end. is_done end ≡ true
+        → (last : Option InputFault) × (ending ≡ Ending.Whole last)) }
     ensures empty { OnOk result (out.new.buffer.items ≡ []) }
 {
     let end = match ending {
         Ending::Cut(end) => end,
         Ending::Whole(last) => {
-            each.write_closing(any, out)?;
+            each.write_closing(reader, out)?;
             match last {
                 None => RunEnd::Good,
                 Some(fault) => {
@@ -228,24 +217,35 @@ fn write_ending<E: EachDocument, W: Write>(
     Ok(end)
 }
 
-/// How an input ended, whether there is a document in it, and the text that waits for the writer.
+/// How an input ended, where its reader stands, and the text that waits for the writer.
 #[derive(Drop)]
-struct Last<'a, E> {
+struct Last<'a, E, S> {
     each: &'a E,
-    any: bool,
+    reader: S,
     ending: Ending,
     text: Vec<u8>,
 }
 
 /// Writes what is behind the texts, and passes all of it on. Returns the writer, and how the run
 /// ends.
-fn finish<E: EachDocument, W: Write>(writer: W, last: Last<'_, E>) -> (W, RunEnd)
-    ensures { result.1 ≢ RunEnd.InOut →
-        IsFinish (E.closing last.entry.each.now) last.entry.any last.entry.ending
-        result.1 (append_known (W.contents writer) last.entry.text.items) (W.contents result.0) }
+fn finish<E: Walk, W: Write>(writer: W, last: Last<'_, E, E::Reader>) -> (W, RunEnd)
+    ensures written { (read texts : List ℕ)
+        → IsEnding (E.tells last.entry.each.now) last.entry.reader read texts last.entry.ending
+        → IsFinish (E.tells last.entry.each.now) read texts result.1
+        (append_known (W.contents writer) last.entry.text.items) (W.contents result.0) }
+    ensures done { (read texts : List ℕ)
+        → IsEnding (E.tells last.entry.each.now) last.entry.reader read texts last.entry.ending
+        → is_done result.1 ≡ true
+        → (fault : Option InputFault) × (last.entry.ending ≡ Ending.Whole fault) }
 {
-    let mut out = Buffered::new(writer, last.text);
-    let end = write_ending(last.each, last.any, last.ending, &mut out);
+    let Last {
+        each,
+        reader,
+        ending,
+        text,
+    } = last;
+    let mut out = Buffered::new(writer, text);
+    let end = write_ending(each, &reader, ending, &mut out);
     let writer = out.into_inner();
     match end {
         Ok(end) => (writer, end),
@@ -253,25 +253,28 @@ fn finish<E: EachDocument, W: Write>(writer: W, last: Last<'_, E>) -> (W, RunEnd
     }
 }
 
-/// Writes what a command makes of the documents in the input, piece by piece.
+/// Writes what a command makes of what is in the input, piece by piece, by a reader that has `begun`.
 ///
 /// Beside what the command takes, the memory is one piece and one buffer of text, taken before the
-/// first byte is read, and at most twice the document that isn't whole yet.
-fn run_pieces<E: EachDocument, R: Read, W: Write>(
+/// first byte is read, and what the reader takes.
+fn run_pieces<E: Walk, R: Read, W: Write>(
     alloc: Global,
     each: &E,
+    begun: E::Reader,
     reader: &mut R,
     writer: &mut W,
 ) -> RunEnd
+    requires { IsBetween (E.tells each.now) begun [] [] }
     ensures read { is_done result ≡ true → IsAtEnd (R.remaining reader.new) }
     ensures written { IfSome (R.remaining reader.old) (λ input. is_done result ≡ true →
-        AppendsText (IsWholeText (E.rule each.now) (E.closing each.now) input) (is_fault result)
+        AppendsText (Tells.whole (E.tells each.now) input) (is_fault result)
         (W.contents writer.old) (W.contents writer.new)) }
-    ensures unread { result ≡ RunEnd.Unread → WritesAll (E.rule each.now)
+    ensures unread { result ≡ RunEnd.Unread → WritesRead (Tells.all (E.tells each.now))
         (R.remaining reader.old) (R.remaining reader.new)
         (W.contents writer.old) (W.contents writer.new) }
     ensures memory { result ≡ RunEnd.Memory → IfSome (R.remaining reader.old) (λ input.
-        AppendsFirst (E.rule each.now) input (W.contents writer.old) (W.contents writer.new)) }
+        AppendsOne (Tells.first (E.tells each.now) input)
+        (W.contents writer.old) (W.contents writer.new)) }
 {
     let Ok(text) = Vec::with_capacity(alloc, BUFFER) else {
         return RunEnd::Memory;
@@ -280,23 +283,24 @@ fn run_pieces<E: EachDocument, R: Read, W: Write>(
     let Ok(()) = room.resize(PIECE, 0) else {
         return RunEnd::Memory;
     };
-    let documents = DocumentReader::new(alloc, MAX_LEN as u32);
-    let between = Between { documents, text };
+    let between = Between {
+        reader: begun,
+        text,
+    };
     let Ok((ending, last)) = write_pieces(each, reader, room.as_mut_slice(), between, writer) else {
         return RunEnd::InOut;
     };
-    let any = last.documents.start() > 0;
-    let text = last.text;
-    replace_with(
-        writer,
-        Last {
-            each,
-            any,
-            ending,
-            text,
-        },
-        finish,
-    )
+    let Between {
+        reader: stands,
+        text,
+    } = last;
+    let last = Last {
+        each,
+        reader: stands,
+        ending,
+        text,
+    };
+    replace_with(writer, last, finish)
 }
 
 /// Writes the line of an input that isn't hexadecimal text. Returns how the run ends.
@@ -315,9 +319,9 @@ fn write_not_hex<W: Write>(offset: usize, writer: &mut W) -> RunEnd
     }
 }
 
-/// Writes what a command makes of the documents in the input. If `hex` is true, the input is
-/// hexadecimal text, which is read whole.
-pub fn run_documents<E: EachDocument, R: Read, W: Write>(
+/// Writes what a command makes of what is in the input. If `hex` is true, the input is hexadecimal
+/// text, which is read whole.
+pub fn run_walk<E: Walk, R: Read, W: Write>(
     alloc: Global,
     each: &E,
     hex: bool,
@@ -326,22 +330,25 @@ pub fn run_documents<E: EachDocument, R: Read, W: Write>(
 ) -> RunEnd
     ensures read { is_done result ≡ true → IsAtEnd (R.remaining reader.new) }
     ensures written { IfSome (R.remaining reader.old) (λ input. is_done result ≡ true →
-        AppendsText (IsOutput (IsWholeText (E.rule each.now) (E.closing each.now)) hex input)
+        AppendsText (IsOutput (Tells.whole (E.tells each.now)) hex input)
         (is_fault result) (W.contents writer.old) (W.contents writer.new)) }
-    ensures unread { hex ≡ false → result ≡ RunEnd.Unread → WritesAll (E.rule each.now)
+    ensures unread { hex ≡ false → result ≡ RunEnd.Unread
+        → WritesRead (Tells.all (E.tells each.now))
         (R.remaining reader.old) (R.remaining reader.new)
         (W.contents writer.old) (W.contents writer.new) }
     ensures late { hex ≡ true → (IsAtEnd (R.remaining reader.new)) ⊎
         Keeps (W.contents writer.old) (W.contents writer.new) }
     ensures memory { result ≡ RunEnd.Memory → IfSome (R.remaining reader.old)
-        (λ input. IfOk (bytes_of hex input) (λ bytes. AppendsFirst (E.rule each.now) bytes
+        (λ input. IfOk (bytes_of hex input) (λ bytes.
+        AppendsOne (Tells.first (E.tells each.now) bytes)
         (W.contents writer.old) (W.contents writer.new))) }
 {
+    let begun = each.start(alloc);
     if !hex {
-        return run_pieces(alloc, each, reader, writer);
+        return run_pieces(alloc, each, begun, reader, writer);
     }
-    match read_input(alloc, true, reader) {
-        Ok(Input::Bytes(bytes)) => run_pieces(alloc, each, &mut bytes.as_slice(), writer),
+    match read_hex(alloc, reader) {
+        Ok(Input::Bytes(bytes)) => run_pieces(alloc, each, begun, &mut bytes.as_slice(), writer),
         Ok(Input::NotHex { offset }) => write_not_hex(offset, writer),
         Err(end) => end,
     }

@@ -43,8 +43,6 @@ fn end_of_stop(stop: PlayStop) -> RunEnd
 impl Engine for Play {
     ghost is_text = { λ _. ScriptText };
 
-    ghost wants_memory = { λ _. true };
-
     fn write_text<W: Write>(&self, bytes: &[u8], out: &mut W) -> Result<bool, RunEnd> {
         match wire_play::play(self.alloc, bytes, out) {
             Ok(line) => write_last(script_fault(line), out),
@@ -66,5 +64,5 @@ pub fn run_play<R: Read, W: Write>(alloc: Global, reader: &mut R, writer: &mut W
         Keeps (W.contents writer.old) (W.contents writer.new) }
 {
     let play = Play { alloc };
-    run(alloc, &play, false, reader, writer)
+    run(alloc, &play, reader, writer)
 }

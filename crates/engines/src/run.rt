@@ -1,18 +1,17 @@
-//! The frame of a command: reads all of the input, decodes it, writes through a buffer, and tells
-//! how that ended.
+//! The frame of a command that reads all of its input: writes through a buffer, and tells how that
+//! ended.
 
 ghost use Rattle.std.specs.Prelude.{◌≡◌, ◌⊎◌, [], ℕ, Bool, List, IfErr, IfOk, IfSome, IsSome, None};
 ghost use Rattle.std.specs.Prelude.{Err, OnOk, Ok, codes, true, false};
-ghost use Rattle.std.specs.Io.KnownBytes.{Appends, IsAtEnd, Keeps};
+ghost use Rattle.std.specs.Io.KnownBytes.{IsAtEnd, Keeps};
 ghost use Rattle.std.specs.IoError.{error_kind, raw_os_error};
 ghost use Rattle.engines.specs.Buffered.{buffered_contents};
 ghost use Rattle.engines.specs.Input.{bytes_of, read_bytes};
-ghost use Rattle.engines.specs.Output.{AppendsText, IsOutput, IsTextOf};
+ghost use Rattle.engines.specs.Output.{AppendsText};
 ghost use Rattle.engines.specs.Run.{IsCutShort, end_of_error, is_done, is_fault};
 
 use crate::buffered::Buffered;
 use crate::hex_input::{Input, decode_hex};
-use crate::input_fault::InputFault;
 use core::mem::replace_with;
 use std::alloc::Global;
 use std::io;
@@ -40,39 +39,33 @@ pub enum RunEnd {
 pub trait Engine {
     // The texts of some bytes, and whether a text ends with a fault line.
     ghost is_text: { Self → List ℕ → List ℕ → Bool → Type 0 };
-    // Whether writing may want memory.
-    ghost wants_memory: { Self → Bool };
 
     /// Writes the text of `bytes`. Returns true if it ends with a fault line. Errs if the writer
     /// does, and if memory runs out.
     fn write_text<W: Write>(&self, bytes: &[u8], out: &mut W) -> Result<bool, RunEnd>
         ensures written { IfOk result (λ fault. AppendsText (is_text self.now bytes.now) fault
             (W.contents out.old) (W.contents out.new)) }
-        ensures stopped { IfErr result (λ end. (is_done end ≡ false)
-            × (end ≡ RunEnd.Memory → wants_memory self.now ≡ true)) };
+        ensures stopped { IfErr result (λ end. is_done end ≡ false) };
 }
 
-/// Writes the text of the whole input. If `hex` is true, the input is hexadecimal text.
+/// Writes the text of the whole input.
 ///
-/// Beside the input, the bytes that it spells and what the engine takes, the only memory is one
-/// buffer. It is taken before the first byte is written.
+/// Beside the input and what the engine takes, the only memory is one buffer. It is taken before
+/// the first byte is written.
 pub fn run<E: Engine, R: Read, W: Write>(
     alloc: Global,
     engine: &E,
-    hex: bool,
     reader: &mut R,
     writer: &mut W,
 ) -> RunEnd
     ensures read { is_done result ≡ true → IsAtEnd (R.remaining reader.new) }
     ensures written { IfSome (R.remaining reader.old) (λ input. is_done result ≡ true →
-        AppendsText (IsOutput (E.is_text engine.now) hex input) (is_fault result)
+        AppendsText (E.is_text engine.now input) (is_fault result)
         (W.contents writer.old) (W.contents writer.new)) }
     ensures late { (IsAtEnd (R.remaining reader.new)) ⊎
         Keeps (W.contents writer.old) (W.contents writer.new) }
-    ensures memory { result ≡ RunEnd.Memory → E.wants_memory engine.now ≡ false →
-        Keeps (W.contents writer.old) (W.contents writer.new) }
 {
-    let input = match read_input(alloc, hex, reader) {
+    let input = match read_whole(alloc, reader) {
         Ok(input) => input,
         Err(end) => return end,
     };
@@ -87,18 +80,15 @@ pub fn run<E: Engine, R: Read, W: Write>(
     replace_with(writer, job, write_through)
 }
 
-/// Reads the whole input, and decodes it if `hex` is true. Errs with the end of the run.
-pub fn read_input<R: Read>(alloc: Global, hex: bool, reader: &mut R) -> Result<Input, RunEnd>
+/// Reads the whole input, which is hexadecimal text, and decodes it. Errs with the end of the run.
+pub fn read_hex<R: Read>(alloc: Global, reader: &mut R) -> Result<Input, RunEnd>
     ensures bytes { IfOk result (λ input. IfSome (R.remaining reader.old)
-        (λ all. read_bytes input ≡ bytes_of hex all)) }
+        (λ all. read_bytes input ≡ bytes_of true all)) }
     ensures read { OnOk result (IsAtEnd (R.remaining reader.new)) }
     ensures cut { IfErr result (λ end. is_done end ≡ false) }
 {
-    let input = read_whole(alloc, reader)?;
-    if !hex {
-        return Ok(Input::Bytes(input));
-    }
-    match decode_hex(alloc, input) {
+    let text = read_whole(alloc, reader)?;
+    match decode_hex(alloc, text) {
         Ok(input) => Ok(input),
         Err(_) => Err(RunEnd::Memory),
     }
@@ -143,38 +133,20 @@ pub fn end_of_read(error: &io::Error) -> RunEnd
 #[derive(Drop)]
 struct Job<'a, E> {
     engine: &'a E,
-    input: Input,
+    input: Vec<u8>,
     buffer: Vec<u8>,
 }
 
 /// Writes the text of a job. Returns the writer, and how the run ended.
 fn write_through<E: Engine, W: Write>(writer: W, job: Job<'_, E>) -> (W, RunEnd)
     requires { job.buffer.items ≡ [] }
-    ensures written { is_done result.1 ≡ true →
-        AppendsText (IsTextOf (E.is_text job.entry.engine.now) (read_bytes job.entry.input))
+    ensures { is_done result.1 ≡ true →
+        AppendsText (E.is_text job.entry.engine.now job.entry.input.items)
         (is_fault result.1) (W.contents writer) (W.contents result.0) }
-    ensures memory { result.1 ≡ RunEnd.Memory → E.wants_memory job.entry.engine.now ≡ true }
 {
     let mut out = Buffered::new(writer, job.buffer);
-    let written = write_output(job.engine, &job.input, &mut out);
+    let written = job.engine.write_text(&job.input, &mut out);
     finish(out, written)
-}
-
-/// Writes the text of `input`. Returns true if it ends with a fault line.
-fn write_output<E: Engine, W: Write>(engine: &E, input: &Input, out: &mut W) -> Result<bool, RunEnd>
-    ensures written { IfOk result (λ fault.
-        AppendsText (IsTextOf (E.is_text engine.now) (read_bytes input.now)) fault
-        (W.contents out.old) (W.contents out.new)) }
-    ensures stopped { IfErr result (λ end. (is_done end ≡ false)
-        × (end ≡ RunEnd.Memory → E.wants_memory engine.now ≡ true)) }
-{
-    match input {
-        Input::Bytes(bytes) => engine.write_text(bytes, out),
-        Input::NotHex { offset } => match (InputFault::Hex { offset: *offset }).write(out) {
-            Ok(()) => Ok(true),
-            Err(_) => Err(RunEnd::InOut),
-        },
-    }
 }
 
 /// Passes on what is left in the buffer. Returns the inner writer, and how a run ended of which the
@@ -185,7 +157,6 @@ fn finish<W: Write>(mut out: Buffered<W>, written: Result<bool, RunEnd>) -> (W, 
     ensures told { is_done result.1 ≡ true → written ≡ Ok (is_fault result.1) }
     ensures kept { is_done result.1 ≡ true →
         Keeps (buffered_contents W.contents out) (W.contents result.0) }
-    ensures memory { result.1 ≡ RunEnd.Memory → written ≡ Err RunEnd.Memory }
 {
     let end = match written {
         Err(end) => end,

@@ -1,6 +1,7 @@
-//! That documents come out of an input whole, however this is cut into pieces, and what is written where reading or writing fails.
+//! That documents and messages come out of an input whole, however this is cut into pieces, and what is written where reading or
+//! writing fails.
 
-use engines::{RunEnd, run_check};
+use engines::{MessageForm, RunEnd, run_check, run_msg};
 use std::alloc::{AllocError, Global};
 use std::io;
 use std::io::{Read, Write};
@@ -143,5 +144,102 @@ fn are_all_told(alloc: Global, document: &[u8], len: usize) -> Result<bool, Allo
 fn a_document_may_end_with_a_piece_or_go_on_behind_it(rt: HostRuntime) -> Result<(), AllocError> {
     assert!(rt; are_all_told(rt.alloc(), b"\x05\0\0\0\0", 300_000)?);
     assert!(rt; are_all_told(rt.alloc(), b"\x08\0\0\0\x0aa\0\0", 300_000)?);
+    Ok(())
+}
+
+/// Two messages of 26 bytes, and 17 bytes of a third: its header, and one more.
+const MESSAGES: &[u8] =
+    b"\x1a\0\0\0\x01\0\0\0\0\0\0\0\xdd\x07\0\0\0\0\0\0\0\x05\0\0\0\0\x1a\0\0\0\x02\0\0\0\0\0\0\0\xdd\x07\0\0\0\0\0\0\0\x05\0\0\0\0\x1a\0\0\0\x03\0\0\0\0\0\0\0\xdd\x07\0\0\0";
+
+const ONE_MESSAGE: &str = "message 26 id 1 to 0 flags -\nbody 5\n";
+
+const TWO_MESSAGES: &str =
+    "message 26 id 1 to 0 flags -\nbody 5\nmessage 26 id 2 to 0 flags -\nbody 5\n";
+
+const ALL_MESSAGES: &str =
+    "message 26 id 1 to 0 flags -\nbody 5\nmessage 26 id 2 to 0 flags -\nbody 5\nfault 14 EndedInside at 52\n";
+
+/// The most bytes that a read of `MESSAGES` gives, the number of the one that fails or 0, what `msg` writes, and how it ends.
+const MESSAGE_READS: [(usize, u64, &str, RunEnd); 12] = [
+    (69, 0, ALL_MESSAGES, RunEnd::Fault),
+    (52, 0, ALL_MESSAGES, RunEnd::Fault),
+    (26, 0, ALL_MESSAGES, RunEnd::Fault),
+    (16, 0, ALL_MESSAGES, RunEnd::Fault),
+    (1, 0, ALL_MESSAGES, RunEnd::Fault),
+    (1, 1, NONE, RunEnd::Unread),
+    (1, 26, NONE, RunEnd::Unread),
+    (1, 27, ONE_MESSAGE, RunEnd::Unread),
+    (1, 52, ONE_MESSAGE, RunEnd::Unread),
+    (1, 69, TWO_MESSAGES, RunEnd::Unread),
+    (26, 2, ONE_MESSAGE, RunEnd::Unread),
+    (69, 2, TWO_MESSAGES, RunEnd::Unread),
+];
+
+/// Returns true if `msg` writes this text for the input, which comes in such steps, and ends so.
+fn is_read_as_messages(
+    alloc: Global,
+    input: &[u8],
+    step: usize,
+    fails_at: u64,
+    text: &str,
+    end: RunEnd,
+) -> bool {
+    let mut reader = Steps {
+        rest: input,
+        step,
+        fails_at,
+        calls: 0,
+    };
+    let mut writer = Vec::new(alloc);
+    let ended = run_msg(alloc, MessageForm::Text, false, &mut reader, &mut writer);
+    ended == end && writer.as_slice() == text.as_bytes()
+}
+
+#[test]
+fn messages_that_were_read_before_a_failed_read_are_written(rt: HostRuntime) {
+    for (step, fails_at, text, end) in &MESSAGE_READS {
+        assert!(rt;
+            is_read_as_messages(rt.alloc(), MESSAGES, *step, *fails_at, text, *end),
+            "at {step} and {fails_at}"
+        );
+    }
+}
+
+/// A bad header of 16 bytes, and the same with bytes behind it, which are read and let go.
+const BAD: [&[u8]; 2] = [
+    b"\x0f\0\0\0\x01\0\0\0\0\0\0\0\xdd\x07\0\0",
+    b"\x0f\0\0\0\x01\0\0\0\0\0\0\0\xdd\x07\0\0\x1a\0\0\0\x01\0\0\0\0\0\0\0",
+];
+
+#[test]
+fn a_bad_header_is_told_however_it_comes(rt: HostRuntime) {
+    let line = "fault 1 Length at 0\n";
+    for bad in &BAD {
+        for step in 1..20 {
+            assert!(rt;
+                is_read_as_messages(rt.alloc(), bad, step, 0, line, RunEnd::Fault),
+                "at {step}"
+            );
+        }
+    }
+}
+
+/// Returns true if `msg` writes a text of `len` bytes for 5,000 messages.
+fn are_all_written(alloc: Global, message: &[u8], len: usize) -> Result<bool, AllocError> {
+    let input = copies(alloc, message, 5_000)?;
+    let mut writer = Vec::new(alloc);
+    let mut reader = input.as_slice();
+    let end = run_msg(alloc, MessageForm::Text, false, &mut reader, &mut writer);
+    Ok(end == RunEnd::Good && writer.len() == len)
+}
+
+/// A message of 32 bytes ends with each piece, and one of 33 doesn't.
+#[test]
+fn a_message_may_end_with_a_piece_or_go_on_behind_it(rt: HostRuntime) -> Result<(), AllocError> {
+    let ends = b"\x20\0\0\0\x01\0\0\0\0\0\0\0\xdd\x07\0\0\0\0\0\0\0\x05\0\0\0\0\x01\x05\0\0\0\0";
+    let goes_on =
+        b"\x21\0\0\0\x01\0\0\0\0\0\0\0\xdd\x07\0\0\0\0\0\0\0\x05\0\0\0\0\x01\x06\0\0\0a\0";
+    assert!(rt; are_all_written(rt.alloc(), ends, 250_000)?);
+    assert!(rt; are_all_written(rt.alloc(), goes_on, 255_000)?);
     Ok(())
 }

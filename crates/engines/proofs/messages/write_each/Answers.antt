@@ -1,50 +1,47 @@
-use Rattle.std.proofs.Common.{rules, ◌≡◌, ◌<◌, ◌+◌, ◌++◌, length, sym, subst, ap, arith, ◌∙◌, length-append}
-use Rattle.std.specs.Prelude.{List, ℕ, Some}
-use Rattle.std.proofs.KnownBytes.{Appends-trans}
-use Rattle.wire_msg.specs.RawMsg.{msg_bytes}
-use Rattle.wire_msg.specs.Standing.{IsOpen, in_header}
-use Rattle.wire_msg.proofs.Lemmas.{cut_smaller}
-use Rattle.engines.specs.Msg.{MessagesAre}
-use Rattle.engines.proofs.MessageReadings.{ended, ended_inside, faulted, message_more}
+use Rattle.std.proofs.Common.{◌≡◌, ◌≤◌, ◌+◌, ◌-◌, ◌++◌, ◌∙◌, [], ℕ, List, ap, arith, drop, length, refl, subst, sym, take}
+use Rattle.wire_msg.specs.{SpellsMsg, msg_bytes}
+use Rattle.wire_msg.proofs.Lemmas.{bad_longer}
+use Rattle.wire_stream.specs.{Reading, StandsAt}
+use Rattle.engines.proofs.MessageReadings.{message_fed, message_released, message_smaller, no_message, released_open, stop_told}
 use Rattle.engines.proofs.messages.write_each.Goals as goal
 
-pub loop-rest-smaller : goal.loop-rest-smaller
-loop-rest-smaller g c =
-    let found = c.in-Whole.ensures.front in
-    cut_smaller 48000000 c.loop-rest.rest.now c.in-Whole.after.now (msg_bytes c.in-Whole.message) found.0 found.1
+pub loop-fed-init : goal.loop-fed-init
+loop-fed-init g c = (c.requires, refl, no_message _ _ _ _ _ _ refl)
 
-pub loop-rest-preserved : goal.loop-rest-preserved
-loop-rest-preserved g c =
-    let i = c.loop-rest.invariant in
-    let found = c.in-Whole.ensures.front in
-    let front = msg_bytes c.in-Whole.message in
-    let m = found.1.1.0 in
-    let text = c.in-Ok.ensures m found.1.1.1 in
-    let size : length c.loop-rest.rest.now ≡ length front + length c.in-Whole.after.now = ap length found.0 ∙ length-append front c.in-Whole.after.now in (
-      omega (arith, size, i.0),
-      (
-        i.1.0 ++ text.0,
-        Appends-trans _ _ _ i.1.0 text.0 i.1.1 text.2,
-        message_more c.args.form c.args.bytes.now c.loop-rest.rest.now front c.in-Whole.after.now i.1.0 text.0 m found.1.1.1 found.1.0 found.0 text.1 i.1.2,
-      ),
+pub returns-in-Bad : goal.returns-in-Bad
+returns-in-Bad g c =
+    let i = c.loop-fed.invariant in
+    let new = c.feed.new.self in
+    let rest = take (length c.loop-fed.rest.now - c.in-Ok.fed.taken) (drop c.in-Ok.fed.taken c.loop-fed.rest.now) in
+    let f = c.in-Ok.ensures.fed i.0 in
+    let bad = subst (StandsAt new.limit new.held) c.in-Bad.is c.in-Ok.ensures.state in
+    let w = message_fed _ _ _ _ c.loop-fed.reader.messages.held new.held c.loop-fed.rest.now _ _ c.in-Ok.fed _ _ i.2 f in
+    record {
+      limit = c.in-Ok.ensures.limit ∙ i.1;
+      rest = new.held ++ rest;
+      written = w;
+      stopped = stop_told (record { messages = new; start = c.loop-fed.reader.start }) (new.held ++ rest) c.in-Bad.fault c.stop_at.result (bad_longer new.limit new.held rest c.in-Bad.fault bad) c.stop_at.ensures;
+    }
+
+pub loop-fed-smaller : goal.loop-fed-smaller
+loop-fed-smaller g c =
+    let i = c.loop-fed.invariant in
+    let ready = c.in-Some.ensures.some in
+    let none = ap (λ (r : Reading). r.held) (c.release.ensures.ready ready.1) in
+    message_smaller _ _ c.loop-fed.reader.messages.held c.feed.new.self.held c.loop-fed.rest.now c.release.new.self.held c.in-Ok.fed (c.in-Ok.ensures.fed i.0) ready.1 none
+
+pub loop-fed-preserved : goal.loop-fed-preserved
+loop-fed-preserved g c =
+    let i = c.loop-fed.invariant in
+    let new = c.feed.new.self in
+    let ready = c.in-Some.ensures.some in
+    let m = ready.1.1.0 in
+    let behind = c.release.ensures.ready ready.1 in
+    let w = message_fed _ _ _ _ c.loop-fed.reader.messages.held new.held c.loop-fed.rest.now _ _ c.in-Ok.fed _ _ i.2 (c.in-Ok.ensures.fed i.0) in
+    let written = c.in_ok-write_in_form.ensures m (subst (SpellsMsg m) (sym ready.0) ready.1.1.1) in
+    let within : length new.held ≤ c.args.reader.now.messages.limit = omega (arith, ready.1.0, c.in-Ok.ensures.limit, i.1) in
+    let next : c.in-Some-checked_add.behind ≡ c.loop-fed.reader.start + length new.held = c.in-Some-checked_add.ensures.1 ∙ ap (λ (x : List ℕ). c.loop-fed.reader.start + length x) (c.as_bytes.ensures ∙ ready.0) in (
+      released_open _ c.release.new.self behind,
+      ap (λ (r : Reading). r.limit) behind ∙ c.in-Ok.ensures.limit ∙ i.1,
+      message_released _ _ _ new.held c.release.new.self.held _ written.0 _ _ _ m _ _ _ w ready.1.1.1 within written.1 written.2 next (ap (λ (r : Reading). r.held) behind),
     )
-
-pub returns-in-Open-clause-written : goal.returns-in-Open-clause-written
-returns-in-Open-clause-written g c =
-    let i = c.loop-rest.invariant in
-    let some : 0 < length c.loop-rest.rest.now = search rules in
-    (i.1.0, ended_inside c.args.form c.args.bytes.now c.loop-rest.rest.now i.1.0 some c.in-Open.ensures.front i.1.2, i.1.1)
-
-pub returns-in-Bad-clause-written : goal.returns-in-Bad-clause-written
-returns-in-Bad-clause-written g c =
-    let i = c.loop-rest.invariant in
-    let some : 0 < length c.loop-rest.rest.now = search rules in
-    let bad = faulted c.args.form c.args.bytes.now c.loop-rest.rest.now i.1.0 c.in-Bad.fault (λ i. (c.type_inv.bytes i).fits) some c.in-Bad.ensures.front.0 i.1.2 in
-    (i.1.0, subst (λ (x : List ℕ). MessagesAre c.args.form 48000000 c.args.bytes.now i.1.0 (Some x)) (sym c.fault_in_message.ensures) bad, i.1.1)
-
-pub returns-clause-written : goal.returns-clause-written
-returns-clause-written g c =
-    let i = c.loop-rest.invariant in
-    let none : length c.loop-rest.rest.now ≡ 0 = search rules in
-    let cut : IsOpen 48000000 c.loop-rest.rest.now = in_header (omega (arith, none)) in
-    (i.1.0, ended c.args.form c.args.bytes.now c.loop-rest.rest.now i.1.0 none cut i.1.2, i.1.1)

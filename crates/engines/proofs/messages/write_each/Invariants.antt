@@ -1,13 +1,15 @@
-use Rattle.std.proofs.Common.{◌≤◌, ℕ, List, length}
-use Rattle.std.specs.Io.KnownBytes.{Appends}
-use Rattle.engines.proofs.MessageReadings.{Written}
+use Rattle.std.proofs.Common.{◌≡◌, ◌+◌, ◌++◌, length}
+use Rattle.wire_msg.specs.{IsOpen}
+use Rattle.engines.specs.MessageWalk.{MessagesWritten}
 use Rattle.engines.proofs.messages.write_each.Given as goal
 
--- what was read, and what was written for it
-abbrev pub invariant-loop-rest : goal.invariant-loop-rest
-invariant-loop-rest g l =
-    (length l.rest ≤ length l.bytes) ×
-    ((texts : List ℕ) × Appends (g.W.Write.contents l.initial.out) (g.W.Write.contents l.out) texts × Written l.form l.bytes l.rest texts)
+-- the texts of the messages so far were written, and the rest is what the reader holds and what it wasn't fed yet
+abbrev pub invariant-loop-fed : goal.invariant-loop-fed
+invariant-loop-fed g l =
+    IsOpen l.reader.messages.limit l.reader.messages.held
+    × (l.reader.messages.limit ≡ l.initial.reader.messages.limit)
+    × MessagesWritten l.form l.initial.reader.messages.limit (l.initial.reader.messages.held ++ l.piece) l.initial.reader.start l.reader.start (l.reader.messages.held ++ l.rest)
+    (g.W.Write.contents l.initial.out) (g.W.Write.contents l.out)
 
-abbrev pub decreases-loop-rest : goal.decreases-loop-rest
-decreases-loop-rest g l = length l.rest
+abbrev pub decreases-loop-fed : goal.decreases-loop-fed
+decreases-loop-fed g l = length l.rest + length l.reader.messages.held

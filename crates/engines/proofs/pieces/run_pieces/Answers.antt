@@ -1,29 +1,36 @@
 use Rattle.std.specs.Io.KnownBytes.{append_known}
-use Rattle.engines.proofs.PieceLemmas.{finish_at, from_empty, run_done, run_short}
+use Rattle.engines.proofs.PieceLemmas.{from_empty, run_done, run_read, run_short, run_unread}
 use Rattle.engines.proofs.pieces.run_pieces.Goals as goal
+
+pub returns-clause-read : goal.returns-clause-read
+returns-clause-read g c =
+    let t = g.E.Walk.tells c.args.each.now in
+    run_read t _ (g.R.Read.remaining c.write_pieces.new.reader) _ _ c.in-Ok-write_pieces.last.reader c.in-Ok-write_pieces.ending c.replace_with.result
+    c.in-Ok-write_pieces.ensures.written c.replace_with.ensures.1 c.in-Ok-write_pieces.ensures.whole
 
 pub returns-clause-written : goal.returns-clause-written
 returns-clause-written g c =
-    let rule = g.E.EachDocument.rule c.args.each.now in
-    let r = c.in-Ok-write_pieces.last.documents in
+    let t = g.E.Walk.tells c.args.each.now in
+    let r = c.in-Ok-write_pieces.last.reader in
     let k = c.in-Ok-write_pieces.ending in
     let mid = append_known (g.W.Write.contents c.write_pieces.new.writer) c.in-Ok-write_pieces.last.text.items in
-    let ended = from_empty rule _ (g.R.Read.remaining c.write_pieces.new.reader) _ mid c.in-Ok.text.items r k c.in-Ok.ensures.items c.in-Ok-write_pieces.ensures.written in
-    let closing = g.E.EachDocument.closing c.args.each.now in
-    let end = c.replace_with.result in
-    let new = g.W.Write.contents c.replace_with.new.dest in
-    let finish = finish_at closing c.start-any.result r.start k end mid new c.start-any.ensures c.replace_with.ensures in
-    run_done rule closing _ _ _ mid new r k end ended finish c.in-Ok-write_pieces.ensures.whole
+    let ended = from_empty t _ (g.R.Read.remaining c.write_pieces.new.reader) _ mid c.in-Ok.text.items r k c.in-Ok.ensures.items c.in-Ok-write_pieces.ensures.written in
+    run_done t _ _ _ mid (g.W.Write.contents c.replace_with.new.dest) r k c.replace_with.result ended c.replace_with.ensures.0 c.replace_with.ensures.1 c.in-Ok-write_pieces.ensures.whole
+
+pub returns-clause-unread : goal.returns-clause-unread
+returns-clause-unread g c =
+    let t = g.E.Walk.tells c.args.each.now in
+    let r = c.in-Ok-write_pieces.last.reader in
+    let k = c.in-Ok-write_pieces.ending in
+    let mid = append_known (g.W.Write.contents c.write_pieces.new.writer) c.in-Ok-write_pieces.last.text.items in
+    let ended = from_empty t _ (g.R.Read.remaining c.write_pieces.new.reader) _ mid c.in-Ok.text.items r k c.in-Ok.ensures.items c.in-Ok-write_pieces.ensures.written in
+    run_unread t _ _ _ mid (g.W.Write.contents c.replace_with.new.dest) r k c.replace_with.result ended c.replace_with.ensures.0
 
 pub returns-clause-memory : goal.returns-clause-memory
 returns-clause-memory g c =
-    let rule = g.E.EachDocument.rule c.args.each.now in
-    let r = c.in-Ok-write_pieces.last.documents in
+    let t = g.E.Walk.tells c.args.each.now in
+    let r = c.in-Ok-write_pieces.last.reader in
     let k = c.in-Ok-write_pieces.ending in
     let mid = append_known (g.W.Write.contents c.write_pieces.new.writer) c.in-Ok-write_pieces.last.text.items in
-    let ended = from_empty rule _ (g.R.Read.remaining c.write_pieces.new.reader) _ mid c.in-Ok.text.items r k c.in-Ok.ensures.items c.in-Ok-write_pieces.ensures.written in
-    let closing = g.E.EachDocument.closing c.args.each.now in
-    let end = c.replace_with.result in
-    let new = g.W.Write.contents c.replace_with.new.dest in
-    let finish = finish_at closing c.start-any.result r.start k end mid new c.start-any.ensures c.replace_with.ensures in
-    run_short rule closing _ _ _ mid new r k end ended finish
+    let ended = from_empty t _ (g.R.Read.remaining c.write_pieces.new.reader) _ mid c.in-Ok.text.items r k c.in-Ok.ensures.items c.in-Ok-write_pieces.ensures.written in
+    run_short t _ _ _ mid (g.W.Write.contents c.replace_with.new.dest) r k c.replace_with.result ended c.replace_with.ensures.0

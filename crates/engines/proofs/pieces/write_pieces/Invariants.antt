@@ -7,5 +7,5 @@ use Rattle.engines.proofs.pieces.write_pieces.Given as goal
 abbrev pub invariant-loop : goal.invariant-loop
 invariant-loop g l =
     (0 < length l.room)
-    × Between (g.E.EachDocument.rule l.each) (g.R.Read.remaining l.initial.reader) (g.R.Read.remaining l.reader) l.between.documents
+    × Between (g.E.Walk.tells l.each) (g.R.Read.remaining l.initial.reader) (g.R.Read.remaining l.reader) l.between.reader
     (append_known (g.W.Write.contents l.initial.writer) l.initial.between.text.items) (append_known (g.W.Write.contents l.writer) l.between.text.items)

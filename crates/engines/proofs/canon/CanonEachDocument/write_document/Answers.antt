@@ -6,7 +6,7 @@ use Rattle.bson_doc.specs.Plain.{plain}
 use Rattle.bson_doc.proofs.Lemmas.{plain_where_named}
 use Rattle.engines.specs.declared.documents.Written.{Written}
 use Rattle.engines.specs.Canon.{canon_of, in_form}
-use Rattle.engines.specs.Walk.{IsWritten}
+use Rattle.engines.specs.DocumentWalk.{IsWritten}
 use Rattle.engines.proofs.canon.CanonEachDocument.write_document.Goals as goal
 
 -- the bytes of the canonical form were written

@@ -1,7 +1,7 @@
 use Rattle.std.proofs.Common.{◌+◌, ◌++◌, length}
 use Rattle.bson_stream.specs.{IsOpen}
-use Rattle.engines.specs.Walk.{AreWritten}
-use Rattle.engines.proofs.documents.write_piece.Given as goal
+use Rattle.engines.specs.DocumentWalk.{AreWritten}
+use Rattle.engines.proofs.documents.write_each.Given as goal
 
 -- the texts of the documents so far were written, and the rest is what the reader holds and what it wasn't fed yet
 abbrev pub invariant-loop-fed : goal.invariant-loop-fed

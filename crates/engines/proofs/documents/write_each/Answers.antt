@@ -4,10 +4,10 @@ use Rattle.bson_stream.specs.{StandsAt}
 use Rattle.engines.specs.declared.documents.Written.{Written}
 use Rattle.engines.specs.Documents.{IsLast}
 use Rattle.engines.specs.InputFault.{too_large_line}
-use Rattle.engines.specs.Walk.{IsWritten}
-use Rattle.engines.proofs.PieceLemmas.{fed_on, kept_on, released, released_open}
+use Rattle.engines.specs.DocumentWalk.{IsWritten}
+use Rattle.engines.proofs.DocumentLemmas.{fed_on, kept_on, released, released_open}
 use Rattle.engines.proofs.Readings.{stays_bad, stays_too_large}
-use Rattle.engines.proofs.documents.write_piece.Goals as goal
+use Rattle.engines.proofs.documents.write_each.Goals as goal
 
 pub returns-in-Bad : goal.returns-in-Bad
 returns-in-Bad g c =
