@@ -6,7 +6,7 @@
 //! values, and `value` reads documents and arrays by them. `JsonTexts` reads the documents of an
 //! input of several texts.
 //!
-//! Uses bson_doc and bson_json. Read first: `text`, and then `value`.
+//! Uses bson_doc and bson_json. Used by engines. Read first: `text`, and then `value`.
 #![tactic(auto)]
 
 mod bytes;

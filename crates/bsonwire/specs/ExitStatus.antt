@@ -6,7 +6,7 @@ use Rattle.clap.specs.declared.error.kind.ErrorKind.TheVariants as kind
 use Rattle.command_words.specs.{words_status}
 use Rattle.engines.specs.declared.run.RunEnd.{RunEnd}
 use Rattle.engines.specs.declared.run.RunEnd.TheVariants.{Good, Fault, Unread, InOut}
-use Rattle.engines.specs.declared.run.RunEnd.TheVariants.{Memory}
+use Rattle.engines.specs.declared.run.RunEnd.TheVariants.{OutOfMemory}
 use Rattle.bsonwire.specs.declared.choice.Choice.{Choice}
 use Rattle.bsonwire.specs.declared.choice.Choice.TheVariants.{Loop, Over}
 use Rattle.bsonwire.specs.Choices.{IsChosen, words_fault}
@@ -17,7 +17,7 @@ exit_status Good = 0
 exit_status Fault = 1
 exit_status Unread = 3
 exit_status InOut = 3
-exit_status Memory = 4
+exit_status OutOfMemory = 4
 
 -- the status says that the whole text was written
 abbrev pub tells_done : ℕ → Bool

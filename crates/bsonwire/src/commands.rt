@@ -35,7 +35,7 @@ fn status_of(end: RunEnd) -> u8
         RunEnd::Good => 0,
         RunEnd::Fault => 1,
         RunEnd::Unread | RunEnd::InOut => IN_OUT,
-        RunEnd::Memory => MEMORY,
+        RunEnd::OutOfMemory => MEMORY,
     }
 }
 
@@ -221,7 +221,7 @@ fn run_over<E: Eprint, R: Read, W: Write>(
     ensures unread { result ≡ RunEnd.Unread → reads_first command ≡ false →
         WritesRead (AllOf command) (R.remaining reader.old) (R.remaining reader.new)
         (W.contents writer.old) (W.contents writer.new) }
-    ensures first { result ≡ RunEnd.Memory → reads_first command ≡ false →
+    ensures first { result ≡ RunEnd.OutOfMemory → reads_first command ≡ false →
         IfSome (R.remaining reader.old) (λ input. AppendsOne (FirstOf command input)
         (W.contents writer.old) (W.contents writer.new)) }
 {
@@ -253,7 +253,7 @@ fn tell_loop(rt: &impl Eprint, end: RunEnd) -> u8
 {
     let _ = match end {
         RunEnd::InOut => { eprintln!(rt; "bsonwire: the connection or standard output failed") }
-        RunEnd::Memory => eprintln!(rt; "bsonwire: out of memory"),
+        RunEnd::OutOfMemory => eprintln!(rt; "bsonwire: out of memory"),
         RunEnd::Good | RunEnd::Fault | RunEnd::Unread => Ok(()),
     };
     status_of(end)
@@ -267,7 +267,7 @@ fn tell(rt: &impl Eprint, end: RunEnd, input: InputName<'_>) -> u8
     let _ = match end {
         RunEnd::Unread => eprintln!(rt; "bsonwire: could not read {input}"),
         RunEnd::InOut => eprintln!(rt; "bsonwire: could not write standard output"),
-        RunEnd::Memory => eprintln!(rt; "bsonwire: {input}: out of memory"),
+        RunEnd::OutOfMemory => eprintln!(rt; "bsonwire: {input}: out of memory"),
         RunEnd::Good | RunEnd::Fault => Ok(()),
     };
     status_of(end)

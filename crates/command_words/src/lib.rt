@@ -3,6 +3,8 @@
 //!
 //! A line on standard error begins with the program's name. If standard error takes no line, there
 //! is only the exit status.
+//!
+//! Uses clap. Used by bsonwire and test_server.
 #![tactic(auto)]
 
 mod program;

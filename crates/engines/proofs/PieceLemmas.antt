@@ -6,7 +6,7 @@ use Rattle.engines.specs.declared.input_fault.InputFault.{InputFault}
 use Rattle.engines.specs.declared.pieces.Ending.{Ending}
 use Rattle.engines.specs.declared.pieces.Ending.TheVariants.{Whole, Cut}
 use Rattle.engines.specs.declared.run.RunEnd.{RunEnd}
-use Rattle.engines.specs.declared.run.RunEnd.TheVariants.{Good, Fault, Unread, InOut, Memory}
+use Rattle.engines.specs.declared.run.RunEnd.TheVariants.{Good, Fault, Unread, InOut, OutOfMemory}
 use Rattle.engines.specs.declared.walk.Stop.{Stop}
 use Rattle.engines.specs.declared.walk.Stop.TheVariants as stop
 use Rattle.engines.specs.InputFault.{input_fault_line, line_of}
@@ -79,7 +79,7 @@ ends_gone t from mid to last old known new r after piece more f k (read, texts, 
 
 -- where memory ran out
 pub ends_short : {R : Type 0} (t : Tells R) (from mid to old known new : Option (List ℕ)) (r after : R) (piece : List ℕ) (b : Between t from mid r old known)
-    → Consumes mid to piece → Walks t after (b.0 ++ piece) b.1 (Some stop.OutOfMemory) known new → Ends t after (Cut Memory) from to old new
+    → Consumes mid to piece → Walks t after (b.0 ++ piece) b.1 (Some stop.OutOfMemory) known new → Ends t after (Cut OutOfMemory) from to old new
 ends_short t from mid to old known new r after piece (read, texts, c, a, w) more (text, b, first) =
     (read ++ piece, texts ++ text, Consumes-trans from mid to read piece c more, Appends-trans old known new texts text a b, first)
 
@@ -105,7 +105,7 @@ text_whole : {R : Type 0} (t : Tells R) (read texts : List ℕ) (end : RunEnd) (
 text_whole t read texts Good old mid new a (behind, whole, b) done = (texts ++ behind, whole, Appends-trans old mid new texts behind a b)
 text_whole t read texts Fault old mid new a (behind, whole, b) done = (texts ++ behind, whole, Appends-trans old mid new texts behind a b)
 text_whole t read texts Unread old mid new a f done = absurd cc
-text_whole t read texts Memory old mid new a f done = absurd cc
+text_whole t read texts OutOfMemory old mid new a f done = absurd cc
 text_whole t read texts InOut old mid new a f done = absurd cc
 
 pub run_done : {R : Type 0} (t : Tells R) (from to old mid new : Option (List ℕ)) (r : R) (k : Ending) (end : RunEnd) → Ends t r k from to old mid → Finishes t r k end mid new
@@ -139,7 +139,7 @@ first_of_all t (Some input) None old new read texts c first a = absurd c
 first_of_all t (Some input) (Some left) old new read texts c first a = (texts, subst (λ (x : List ℕ). t.first x texts) (sym c) (first left), a)
 
 pub run_short : {R : Type 0} (t : Tells R) (from to old mid new : Option (List ℕ)) (r : R) (k : Ending) (end : RunEnd) → Ends t r k from to old mid → Finishes t r k end mid new
-    → end ≡ Memory → IfSome from (λ input. AppendsOne (t.first input) old new)
+    → end ≡ OutOfMemory → IfSome from (λ input. AppendsOne (t.first input) old new)
 run_short t from to old mid new r k end (read, texts, c, a, ending) finish is =
     let told = subst (λ (e : RunEnd). IsFinish t read texts e mid new) is (finish read texts ending) in
     first_of_all t from to old new read texts c told.0 (Appends-kept old mid new texts a told.1)

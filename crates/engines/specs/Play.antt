@@ -4,7 +4,7 @@ use Rattle.wire_play.specs.{TextUpTo}
 use Rattle.wire_play.specs.declared.playing.PlayStop.{PlayStop}
 use Rattle.wire_play.specs.declared.playing.PlayStop.TheVariants.{Failed, OutOfMemory}
 use Rattle.engines.specs.declared.run.RunEnd.{RunEnd}
-use Rattle.engines.specs.declared.run.RunEnd.TheVariants.{InOut, Memory}
+use Rattle.engines.specs.declared.run.RunEnd.TheVariants as run
 use Rattle.engines.specs.Documents.{or_nothing, is_there}
 use Rattle.engines.specs.InputFault.{script_line}
 
@@ -22,5 +22,5 @@ ScriptText script text fault =
 
 -- the run ends so where the play stopped so
 abbrev pub end_of_stop : PlayStop → RunEnd
-end_of_stop Failed = InOut
-end_of_stop OutOfMemory = Memory
+end_of_stop Failed = run.InOut
+end_of_stop OutOfMemory = run.OutOfMemory

@@ -3,7 +3,8 @@ use Rattle.std.specs.Prelude.{◌≡◌, ◌⊎◌, ℤ, Bool, true, false, Opti
 use Rattle.std.specs.declared.io.ErrorKind.{ErrorKind}
 use Rattle.std.specs.declared.io.ErrorKind.TheVariants.{OutOfMemory}
 use Rattle.engines.specs.declared.run.RunEnd.{RunEnd}
-use Rattle.engines.specs.declared.run.RunEnd.TheVariants.{Good, Fault, Unread, InOut, Memory}
+use Rattle.engines.specs.declared.run.RunEnd.TheVariants.{Good, Fault, Unread, InOut}
+use Rattle.engines.specs.declared.run.RunEnd.TheVariants as run
 
 -- the run wrote its whole text
 abbrev pub is_done : RunEnd → Bool
@@ -18,9 +19,9 @@ is_fault _ = false
 
 -- an error of this kind ends a run so: it is out of memory where the system gave no code
 abbrev pub end_of_error : ErrorKind → Option ℤ → RunEnd
-end_of_error OutOfMemory None = Memory
+end_of_error OutOfMemory None = run.OutOfMemory
 end_of_error kind code = InOut
 
 -- the run couldn't read on
 abbrev pub IsCutShort : RunEnd → Type 0
-IsCutShort end = (end ≡ Unread) ⊎ (end ≡ Memory)
+IsCutShort end = (end ≡ Unread) ⊎ (end ≡ run.OutOfMemory)

@@ -56,7 +56,7 @@ Walks t new bytes texts stop from to =
 abbrev pub IsEnding : {R : Type 0} → Tells R → R → List ℕ → List ℕ → Ending → Type 0
 IsEnding t r read texts (ending.Whole last) = t.ends r read texts (line_of last)
 IsEnding t r read texts (ending.Cut run.Unread) = t.all read texts
-IsEnding t r read texts (ending.Cut run.Memory) = StaysFirst t read texts
+IsEnding t r read texts (ending.Cut run.OutOfMemory) = StaysFirst t read texts
 IsEnding t r read texts _ = ⊥
 
 -- Bytes were read, texts were written for them, and the input ended so.
@@ -74,5 +74,5 @@ IsFinish t read texts run.Good old new =
 IsFinish t read texts run.Fault old new =
     (behind : List ℕ) × t.whole read (texts ++ behind) true × Appends old new behind
 IsFinish t read texts run.Unread old new = t.all read texts × Keeps old new
-IsFinish t read texts run.Memory old new = StaysFirst t read texts × Keeps old new
+IsFinish t read texts run.OutOfMemory old new = StaysFirst t read texts × Keeps old new
 IsFinish t read texts run.InOut old new = Unit {0}

@@ -48,12 +48,13 @@ fn write_bytes<W: Write>(
 ) -> Result<Option<TextStop>, RunEnd>
     ensures written { IfOk result (λ stop. WritesBytes (tree_of document) stop
         (W.contents out.old) (W.contents out.new)) }
-    ensures memory { result ≡ Err RunEnd.Memory → Keeps (W.contents out.old) (W.contents out.new) }
+    ensures memory { result ≡ Err RunEnd.OutOfMemory
+        → Keeps (W.contents out.old) (W.contents out.new) }
     ensures cut { IfErr result (λ end. is_done end ≡ false) }
 {
     let bytes = match document.to_raw() {
         Ok(bytes) => bytes,
-        Err(DocRefusal::OutOfMemory) => return Err(RunEnd::Memory),
+        Err(DocRefusal::OutOfMemory) => return Err(RunEnd::OutOfMemory),
         Err(refusal) => return Ok(Some(TextStop::Refused { refusal, number })),
     };
     match out.write_all(bytes.as_raw().as_bytes()) {
@@ -71,7 +72,7 @@ fn write_texts<W: Write>(
 ) -> Result<Option<TextStop>, RunEnd>
     ensures ok { IfOk result (λ stop. WritesTexts input.now (StopsAt stop)
         (W.contents out.old) (W.contents out.new)) }
-    ensures memory { result ≡ Err RunEnd.Memory → WritesTexts input.now IsAnything
+    ensures memory { result ≡ Err RunEnd.OutOfMemory → WritesTexts input.now IsAnything
         (W.contents out.old) (W.contents out.new) }
     ensures cut { IfErr result (λ end. is_done end ≡ false) }
 {
@@ -83,7 +84,7 @@ fn write_texts<W: Write>(
             Ok(None) => return Ok(None),
             Err(fault) => {
                 return match fault.cause {
-                    Cause::OutOfMemory => Err(RunEnd::Memory),
+                    Cause::OutOfMemory => Err(RunEnd::OutOfMemory),
                     _ => Ok(Some(TextStop::Fault(fault))),
                 };
             }
@@ -109,7 +110,7 @@ fn write_through<W: Write>(writer: W, job: Job) -> (W, Result<Option<TextStop>, 
     requires { job.buffer.items ≡ [] }
     ensures ok { IfOk result.1 (λ stop. WritesTexts job.input.items (StopsAt stop)
         (W.contents writer) (W.contents result.0)) }
-    ensures memory { result.1 ≡ Err RunEnd.Memory → WritesTexts job.input.items IsAnything
+    ensures memory { result.1 ≡ Err RunEnd.OutOfMemory → WritesTexts job.input.items IsAnything
         (W.contents writer) (W.contents result.0) }
     ensures cut { IfErr result.1 (λ end. is_done end ≡ false) }
 {
@@ -147,13 +148,13 @@ pub fn run_bson<R: Read, W: Write>(
         WritesTexts input (StopsAt stop) (W.contents writer.old) (W.contents writer.new))) }
     ensures late { (IsAtEnd (R.remaining reader.new)) ⊎
         Keeps (W.contents writer.old) (W.contents writer.new) }
-    ensures memory { IfSome (R.remaining reader.old) (λ input. result ≡ Err RunEnd.Memory →
+    ensures memory { IfSome (R.remaining reader.old) (λ input. result ≡ Err RunEnd.OutOfMemory →
         WritesTexts input IsAnything (W.contents writer.old) (W.contents writer.new)) }
     ensures cut { IfErr result (λ end. is_done end ≡ false) }
 {
     let input = read_whole(alloc, reader)?;
     let Ok(buffer) = Vec::with_capacity(alloc, BUFFER) else {
-        return Err(RunEnd::Memory);
+        return Err(RunEnd::OutOfMemory);
     };
     let job = Job {
         alloc,

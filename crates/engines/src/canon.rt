@@ -99,7 +99,7 @@ pub fn run_canon<R: Read, W: Write>(
         (W.contents writer.old) (W.contents writer.new) }
     ensures late { hex ≡ true → (IsAtEnd (R.remaining reader.new)) ⊎
         Keeps (W.contents writer.old) (W.contents writer.new) }
-    ensures memory { result ≡ RunEnd.Memory → IfSome (R.remaining reader.old)
+    ensures memory { result ≡ RunEnd.OutOfMemory → IfSome (R.remaining reader.old)
         (λ input. IfOk (bytes_of hex input) (λ bytes.
         AppendsFirst (told_by (canon_of MAX_LEN hex)) bytes
         (W.contents writer.old) (W.contents writer.new))) }
@@ -125,7 +125,7 @@ pub fn run_canon_within<R: Read, W: Write>(
         (W.contents writer.old) (W.contents writer.new) }
     ensures late { hex ≡ true → (IsAtEnd (R.remaining reader.new)) ⊎
         Keeps (W.contents writer.old) (W.contents writer.new) }
-    ensures memory { result ≡ RunEnd.Memory → IfSome (R.remaining reader.old)
+    ensures memory { result ≡ RunEnd.OutOfMemory → IfSome (R.remaining reader.old)
         (λ input. IfOk (bytes_of hex input) (λ bytes.
         AppendsFirst (told_by (canon_of limit hex)) bytes
         (W.contents writer.old) (W.contents writer.new))) }

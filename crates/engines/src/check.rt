@@ -79,7 +79,7 @@ pub fn run_check<R: Read, W: Write>(
         (W.contents writer.old) (W.contents writer.new) }
     ensures late { hex ≡ true → (IsAtEnd (R.remaining reader.new)) ⊎
         Keeps (W.contents writer.old) (W.contents writer.new) }
-    ensures memory { result ≡ RunEnd.Memory → IfSome (R.remaining reader.old)
+    ensures memory { result ≡ RunEnd.OutOfMemory → IfSome (R.remaining reader.old)
         (λ input. IfOk (bytes_of hex input) (λ bytes. AppendsFirst (told_by check_of) bytes
         (W.contents writer.old) (W.contents writer.new))) }
 {

@@ -162,7 +162,7 @@ pub fn run_documents<E: EachDocument + Drop, R: Read, W: Write>(
         (W.contents writer.old) (W.contents writer.new) }
     ensures late { hex ≡ true → (IsAtEnd (R.remaining reader.new)) ⊎
         Keeps (W.contents writer.old) (W.contents writer.new) }
-    ensures memory { result ≡ RunEnd.Memory → IfSome (R.remaining reader.old)
+    ensures memory { result ≡ RunEnd.OutOfMemory → IfSome (R.remaining reader.old)
         (λ input. IfOk (bytes_of hex input) (λ bytes. AppendsFirst (E.rule each) bytes
         (W.contents writer.old) (W.contents writer.new))) }
 {

@@ -92,15 +92,15 @@ fn payload_of(alloc: Global, number: u8) -> Result<PayloadBuf, RunEnd>
     ensures stopped { IfErr result (λ end. is_done end ≡ false) }
 {
     let Ok(mut body) = RawDocumentBuf::new(alloc) else {
-        return Err(RunEnd::Memory);
+        return Err(RunEnd::OutOfMemory);
     };
     // A body so short is refused only if memory runs out.
     let Ok(()) = body.append("n", &Bson::Int32(i32::from(number))) else {
-        return Err(RunEnd::Memory);
+        return Err(RunEnd::OutOfMemory);
     };
     match PayloadBuf::new(alloc, body.as_raw()) {
         Ok(payload) => Ok(payload),
-        Err(_) => Err(RunEnd::Memory),
+        Err(_) => Err(RunEnd::OutOfMemory),
     }
 }
 
@@ -124,7 +124,7 @@ fn ask<L: Link + Drop>(end: &mut ClientEnd<L>, payload: Payload<'_>) -> Result<C
 {
     let call = match end.call(payload) {
         Ok(call) => call,
-        Err(CallRefusal::OutOfMemory) => return Err(RunEnd::Memory),
+        Err(CallRefusal::OutOfMemory) => return Err(RunEnd::OutOfMemory),
         Err(_) => return Err(RunEnd::InOut),
     };
     whole(end.flush())?;
@@ -143,13 +143,13 @@ fn answer<L: Link + Drop>(end: &mut ServerEnd<L>, logged: &mut Logged<Echo>) -> 
 {
     match end.next_request() {
         Ok(NextRequest::Waits) => {}
-        Err(RequestFault::OutOfMemory) => return Err(RunEnd::Memory),
+        Err(RequestFault::OutOfMemory) => return Err(RunEnd::OutOfMemory),
         Ok(_) | Err(_) => return Err(RunEnd::InOut),
     }
     match end.answer(0, logged) {
         Ok(_) => {}
         Err(AnswerRefusal::OutOfMemory | AnswerRefusal::NowClosed(ServerCause::NoMemory)) => {
-            return Err(RunEnd::Memory);
+            return Err(RunEnd::OutOfMemory);
         }
         Err(_) => return Err(RunEnd::InOut),
     }
@@ -173,7 +173,7 @@ fn take_reply<L: Link + Drop>(
 {
     match end.next_reply() {
         Ok(Next::Reply(_)) => {}
-        Err(EndFault::OutOfMemory) => return Err(RunEnd::Memory),
+        Err(EndFault::OutOfMemory) => return Err(RunEnd::OutOfMemory),
         Ok(Next::Later) | Err(_) => return Err(RunEnd::InOut),
     }
     match end.record(call) {

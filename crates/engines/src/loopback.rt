@@ -75,7 +75,7 @@ fn write_call<W: Write>(alloc: Global, call: CallNo, out: &mut W) -> Result<(), 
 {
     let CallNo { number, id } = call;
     let Ok(line) = format!(in alloc; "call {number} id {id} done\n") else {
-        return Err(RunEnd::Memory);
+        return Err(RunEnd::OutOfMemory);
     };
     write_line(line.as_bytes(), out)
 }
@@ -87,7 +87,7 @@ fn write_last<W: Write>(alloc: Global, calls: u8, out: &mut W) -> Result<(), Run
     ensures stopped { IfErr result (λ end. is_done end ≡ false) }
 {
     let Ok(line) = format!(in alloc; "loop {calls} done\n") else {
-        return Err(RunEnd::Memory);
+        return Err(RunEnd::OutOfMemory);
     };
     write_line(line.as_bytes(), out)
 }
@@ -137,7 +137,7 @@ fn run_calls<R: Net + AllocGlobal, W: Write>(rt: &R, calls: u8, out: &mut W) -> 
         Err(error) => return Err(end_of(&error)),
     };
     let Ok(mut loopback) = Loopback::new(alloc, TcpLink::new(near), TcpLink::new(far)) else {
-        return Err(RunEnd::Memory);
+        return Err(RunEnd::OutOfMemory);
     };
     make_calls(alloc, &mut loopback, calls, out)
 }

@@ -176,7 +176,7 @@ fn write_pieces<E: Walk, R: Read, W: Write>(
         match stop? {
             None => {}
             Some(Stop::Fault(fault)) => return Ok((ending_at(fault, reader, room), between)),
-            Some(Stop::OutOfMemory) => return Ok((Ending::Cut(RunEnd::Memory), between)),
+            Some(Stop::OutOfMemory) => return Ok((Ending::Cut(RunEnd::OutOfMemory), between)),
         }
     }
     Err(io::Error::from(ErrorKind::Interrupted))
@@ -272,16 +272,16 @@ fn run_pieces<E: Walk, R: Read, W: Write>(
     ensures unread { result ≡ RunEnd.Unread → WritesRead (Tells.all (E.tells each.now))
         (R.remaining reader.old) (R.remaining reader.new)
         (W.contents writer.old) (W.contents writer.new) }
-    ensures memory { result ≡ RunEnd.Memory → IfSome (R.remaining reader.old) (λ input.
+    ensures memory { result ≡ RunEnd.OutOfMemory → IfSome (R.remaining reader.old) (λ input.
         AppendsOne (Tells.first (E.tells each.now) input)
         (W.contents writer.old) (W.contents writer.new)) }
 {
     let Ok(text) = Vec::with_capacity(alloc, BUFFER) else {
-        return RunEnd::Memory;
+        return RunEnd::OutOfMemory;
     };
     let mut room = Vec::new(alloc);
     let Ok(()) = room.resize(PIECE, 0) else {
-        return RunEnd::Memory;
+        return RunEnd::OutOfMemory;
     };
     let between = Between {
         reader: begun,
@@ -338,7 +338,7 @@ pub fn run_walk<E: Walk, R: Read, W: Write>(
         (W.contents writer.old) (W.contents writer.new) }
     ensures late { hex ≡ true → (IsAtEnd (R.remaining reader.new)) ⊎
         Keeps (W.contents writer.old) (W.contents writer.new) }
-    ensures memory { result ≡ RunEnd.Memory → IfSome (R.remaining reader.old)
+    ensures memory { result ≡ RunEnd.OutOfMemory → IfSome (R.remaining reader.old)
         (λ input. IfOk (bytes_of hex input) (λ bytes.
         AppendsOne (Tells.first (E.tells each.now) bytes)
         (W.contents writer.old) (W.contents writer.new))) }

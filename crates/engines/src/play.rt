@@ -36,7 +36,7 @@ fn end_of_stop(stop: PlayStop) -> RunEnd
 {
     match stop {
         PlayStop::Failed => RunEnd::InOut,
-        PlayStop::OutOfMemory => RunEnd::Memory,
+        PlayStop::OutOfMemory => RunEnd::OutOfMemory,
     }
 }
 

@@ -32,7 +32,7 @@ pub enum RunEnd {
     /// Writing failed, or the network.
     InOut,
     /// Memory ran out.
-    Memory,
+    OutOfMemory,
 }
 
 /// What a command writes for the bytes of its input.
@@ -70,7 +70,7 @@ pub fn run<E: Engine, R: Read, W: Write>(
         Err(end) => return end,
     };
     let Ok(buffer) = Vec::with_capacity(alloc, BUFFER) else {
-        return RunEnd::Memory;
+        return RunEnd::OutOfMemory;
     };
     let job = Job {
         engine,
@@ -90,7 +90,7 @@ pub fn read_hex<R: Read>(alloc: Global, reader: &mut R) -> Result<Input, RunEnd>
     let text = read_whole(alloc, reader)?;
     match decode_hex(alloc, text) {
         Ok(input) => Ok(input),
-        Err(_) => Err(RunEnd::Memory),
+        Err(_) => Err(RunEnd::OutOfMemory),
     }
 }
 
@@ -113,7 +113,7 @@ pub fn end_of(error: &io::Error) -> RunEnd
     ensures { result ≡ end_of_error (error_kind error.now) (raw_os_error error.now) }
 {
     if error.kind() == ErrorKind::OutOfMemory && error.raw_os_error().is_none() {
-        RunEnd::Memory
+        RunEnd::OutOfMemory
     } else {
         RunEnd::InOut
     }
@@ -124,7 +124,7 @@ pub fn end_of_read(error: &io::Error) -> RunEnd
     ensures { IsCutShort result }
 {
     match end_of(error) {
-        RunEnd::Memory => RunEnd::Memory,
+        RunEnd::OutOfMemory => RunEnd::OutOfMemory,
         _ => RunEnd::Unread,
     }
 }

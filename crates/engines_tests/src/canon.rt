@@ -148,7 +148,7 @@ fn is_whole_or_refused(alloc: Global) -> bool {
     let mut input = b"140000000461000c000000107800010000000000".as_slice();
     let mut writer = Vec::new(alloc);
     match run_canon(alloc, true, &mut input, &mut writer) {
-        RunEnd::Memory => writer.is_empty(),
+        RunEnd::OutOfMemory => writer.is_empty(),
         end => end == RunEnd::Good && writer.len() == 41,
     }
 }

@@ -236,7 +236,7 @@ fn a_read_without_memory_ends_for_want_of_it(rt: HostRuntime) {
         &mut Refused,
         &mut Counter::failing_at(0),
     );
-    assert!(rt; end == RunEnd::Memory);
+    assert!(rt; end == RunEnd::OutOfMemory);
 }
 
 #[test]
@@ -301,7 +301,7 @@ fn is_whole_or_refused(alloc: Global) -> bool {
     let mut reader = b"0500000000".as_slice();
     let mut writer = Counter::failing_at(0);
     match run_dump(alloc, false, true, &mut reader, &mut writer) {
-        RunEnd::Memory => writer.calls == 0,
+        RunEnd::OutOfMemory => writer.calls == 0,
         end => end == RunEnd::Good && writer.taken == 11,
     }
 }

@@ -14,7 +14,7 @@ const TWO: &str = "0500000000 19000000 04 7600 11000000 10 00 07000000 10 00 080
 fn writes(alloc: Global) -> Option<bool> {
     let mut writer = Counter::failing_at(0);
     match run_canon_within(alloc, 27, true, &mut TWO.as_bytes(), &mut writer) {
-        RunEnd::Memory if writer.taken == 0 || writer.taken == 10 => None,
+        RunEnd::OutOfMemory if writer.taken == 0 || writer.taken == 10 => None,
         end => Some(end == RunEnd::Good && writer.taken == 65),
     }
 }
@@ -35,7 +35,7 @@ fn plays(alloc: Global) -> Option<bool> {
     let mut script = SCRIPT;
     match run_play(alloc, &mut script, &mut writer) {
         RunEnd::Good => is_played(writer.text()),
-        RunEnd::Memory if writer.text().is_empty() || ends_refused(writer.text()) => None,
+        RunEnd::OutOfMemory if writer.text().is_empty() || ends_refused(writer.text()) => None,
         _ => Some(false),
     }
 }

@@ -363,7 +363,7 @@ fn is_failed_or_refused(alloc: Global) -> bool {
     let mut input = b"1a000000 01000000 00000000 dd070000 00000000 00 0500000000".as_slice();
     let mut writer = Counter::failing_at(1);
     match run_msg(alloc, MessageForm::Text, true, &mut input, &mut writer) {
-        RunEnd::Memory => writer.calls == 0,
+        RunEnd::OutOfMemory => writer.calls == 0,
         end => end == RunEnd::InOut,
     }
 }

@@ -5,7 +5,7 @@
 //! takes no memory is here: messages are read without sorting the names of a body, and texts have
 //! at most 64 KiB. `page/build` builds these sources for wasm64.
 //!
-//! Uses byte_views. Used by `page/module.js`.
+//! Uses byte_views. Used by `page/module.js`. Read first: `documents`.
 #![tactic(auto)]
 
 mod documents;

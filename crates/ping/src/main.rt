@@ -1,6 +1,6 @@
 //! `ping ADDRESS` connects to a server over TCP, pings it, and prints the body of the reply.
 //!
-//! Stands on wire_end and bson_text.
+//! Uses wire_end and bson_text. Read first: `ping`.
 #![tactic(auto)]
 
 ghost use Rattle.std.specs.Prelude.{◌≡◌, ◌∷◌, List, OnOk, Some, slice_get};

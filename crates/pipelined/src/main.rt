@@ -2,7 +2,7 @@
 //! prints a line for each reply when it comes. The server may answer in any order: each reply goes
 //! to its own call.
 //!
-//! Stands on wire_end.
+//! Uses wire_end. Read first: `pipeline`.
 #![tactic(auto)]
 
 ghost use Rattle.std.specs.Prelude.{◌≡◌, ◌<◌, ℕ, OnOk, Some, slice_get, true};

@@ -5,13 +5,14 @@ use Rattle.clap.specs.declared.error.kind.ErrorKind.{ErrorKind}
 use Rattle.clap.specs.declared.error.kind.ErrorKind.TheVariants as kind
 use Rattle.command_words.specs.{words_status}
 use Rattle.test_server.specs.declared.choice.Choice.{Choice}
-use Rattle.test_server.specs.declared.connections.RunEnd.{RunEnd}
-use Rattle.test_server.specs.declared.connections.RunEnd.TheVariants.{Served, InOut, OutOfMemory}
+use Rattle.test_server.specs.declared.connections.ServingEnd.{ServingEnd}
+use Rattle.test_server.specs.declared.connections.ServingEnd.TheVariants.{Served, InOut}
+use Rattle.test_server.specs.declared.connections.ServingEnd.TheVariants.{OutOfMemory}
 use Rattle.test_server.specs.Choices.{IsChosen}
 use Rattle.test_server.specs.CommandLine.{command_line}
 
 -- the exit status of each end; 2 means a fault in the command line
-abbrev pub exit_status : RunEnd → ℕ
+abbrev pub exit_status : ServingEnd → ℕ
 exit_status (Served n) = 0
 exit_status InOut = 3
 exit_status OutOfMemory = 4
@@ -22,7 +23,7 @@ exit_status OutOfMemory = 4
 -- asked for
 abbrev pub IsStatusFor : Choice → ℕ → Type 0
 IsStatusFor choice status =
-    (end : RunEnd) × ((n : ℕ) → end ≡ Served n → n ≡ choice.connections)
+    (end : ServingEnd) × ((n : ℕ) → end ≡ Served n → n ≡ choice.connections)
     × (status ≡ exit_status end)
 
 -- memory ran out, or the words have a fault of this kind

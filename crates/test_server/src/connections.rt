@@ -1,12 +1,11 @@
 //! Serves many connections in one thread.
 
-ghost use Rattle.std.specs.Prelude.{◌≡◌, [], OnOk, flat_map, ℕ};
+ghost use Rattle.std.specs.Prelude.{◌≡◌, ◌≤◌, IfOk, List, OnOk, ℕ};
 ghost use Rattle.text_writer.specs.{WritesOut};
-ghost use Rattle.wire_peer.specs.{log_of};
-ghost use Rattle.test_server.specs.Serving.{served_line};
-ghost use Rattle.test_server.specs.Transcript.{told_text};
+ghost use Rattle.test_server.specs.Serving.{GoesOnServing, HasBegun, HasServed, IsRun};
+ghost use Rattle.test_server.specs.Serving.{listening_line, served_line};
 
-use crate::transcript::{write_end, write_entries, write_new};
+use crate::serving::{Serving, Stop, settle};
 use mio::net::{TcpListener, TcpStream};
 use mio::{Events, Interest, Poll, Token};
 use std::alloc::Global;
@@ -16,26 +15,17 @@ use std::io::{BufWriter, ErrorKind, Write};
 use std::net::{Net, SocketAddr, ToSocketAddrs};
 use std::time::Duration;
 use test_store::Store;
-use wire_front::FrontCause;
-use wire_hall::{Hall, Leave, Turned};
-use wire_peer::ServerCause;
-use wire_stream::{Link, TcpLink};
+use wire_hall::Turned;
+use wire_stream::TcpLink;
 
 /// Why the server ends.
 #[derive(Clone, Copy, Debug, PartialEq, Eq)]
-pub enum RunEnd {
+pub enum ServingEnd {
     /// This many connections were served.
     Served(u64),
     /// Listening, accepting a connection or writing the output failed.
     InOut,
     /// Memory ran out.
-    OutOfMemory,
-}
-
-/// Why the server stops early.
-#[derive(Clone, Copy, Debug, PartialEq, Eq)]
-enum Stop {
-    InOut,
     OutOfMemory,
 }
 
@@ -51,43 +41,23 @@ const ACCEPTS: usize = 16;
 /// The most connections that are open at once. More of them wait at the listener.
 const ROOM: usize = 1024;
 
-/// The most steps of a turn.
-const STEPS: u32 = 32;
-
 /// How many milliseconds the server waits where accepting failed, before it tries again.
 const PAUSE: u64 = 50;
-
-/// Writes the entries that were made, in order, and forgets them.
-fn tell<L: Link + Drop, W: Write>(hall: &mut Hall<L, Store>, out: &mut W) -> io::Result<()>
-    ensures told { OnOk result (WritesOut W.contents out.old out.new
-        (flat_map told_text (log_of hall.old.logged.entries.items))) }
-    ensures forgotten { OnOk result (log_of hall.new.logged.entries.items ≡ []) }
-    ensures handler { hall.new.logged.handler ≡ hall.old.logged.handler }
-    ensures seats { hall.new.seats ≡ hall.old.seats }
-    ensures next { hall.new.next ≡ hall.old.next }
-{
-    write_entries(hall.entries(), out)?;
-    let told = hall.entries().len();
-    hall.forget(told);
-    Ok(())
-}
 
 /// A listener, and its connections.
 #[derive(Drop)]
 struct Connections {
     poll: Poll,
     listener: TcpListener,
-    hall: Hall<TcpLink<TcpStream>, Store>,
+    serving: Serving<TcpLink<TcpStream>, Store>,
     /// The keys of connections whose turns ended before there was nothing to do.
     again: VecDeque<usize>,
     /// A connection may wait at the listener.
     ready: bool,
     /// Accepting failed, and is tried again after a pause.
     pausing: bool,
-    /// How many connections are to be served, and how many were accepted, and closed.
-    count: u64,
-    accepted: u64,
-    closed: u64,
+    /// How many more connections are accepted.
+    wanted: u64,
 }
 
 impl Connections {
@@ -97,7 +67,9 @@ impl Connections {
         alloc: Global,
         listener: TcpListener,
         count: u64,
-    ) -> io::Result<Connections> {
+    ) -> io::Result<Connections>
+        ensures { IfOk result (λ c. HasBegun c.serving) }
+    {
         let poll = Poll::new(net)?;
         let mut listener = listener;
         poll.registry()
@@ -105,74 +77,87 @@ impl Connections {
         Ok(Connections {
             poll,
             listener,
-            hall: Hall::new(alloc, Store::new(alloc)),
+            serving: Serving::new(alloc, Store::new(alloc)),
             again: VecDeque::new(alloc),
             ready: true,
             pausing: false,
-            count,
-            accepted: 0,
-            closed: 0,
+            wanted: count,
         })
     }
 
-    /// Accepts connections, until none waits.
-    fn accept_some<W: Write>(&mut self, out: &mut W) -> Result<(), Stop> {
-        for _ in 0..ACCEPTS {
-            if self.accepted >= self.count || self.hall.len() >= ROOM {
-                self.ready = false;
-                return Ok(());
+    /// Opens the connection over `stream`. If the system can't tell of its events, it is closed,
+    /// and others are served.
+    fn open<W: Write>(&mut self, stream: TcpStream, out: &mut W) -> Result<(), Stop>
+        ensures { OnOk result (GoesOnServing self.old.serving self.new.serving
+            (W.contents out.old) (W.contents out.new)) }
+    {
+        let mut stream = stream;
+        let token = Token(self.serving.next_key());
+        let interest = Interest::READABLE | Interest::WRITABLE;
+        let registry = self.poll.registry();
+        if stream.set_nodelay(true).is_err()
+            || registry.register(&mut stream, token, interest).is_err()
+        {
+            return Ok(());
+        }
+        self.wanted = self.wanted.saturating_sub(1);
+        self.serving.open(TcpLink::new(stream), out)
+    }
+
+    /// Accepts a connection, if one waits and one more is wanted. Returns true if another may wait.
+    fn accept_one<W: Write>(&mut self, out: &mut W) -> Result<bool, Stop>
+        ensures { OnOk result (GoesOnServing self.old.serving self.new.serving
+            (W.contents out.old) (W.contents out.new)) }
+    {
+        if self.wanted == 0 || self.serving.len() >= ROOM {
+            self.ready = false;
+            return Ok(false);
+        }
+        match self.listener.accept() {
+            Ok((stream, _)) => {
+                self.open(stream, out)?;
+                Ok(true)
             }
-            match self.listener.accept() {
-                Ok((stream, _)) => self.open(stream, out)?,
-                Err(error) => {
-                    self.ready = false;
-                    self.pausing = error.kind() != ErrorKind::WouldBlock;
-                    return Ok(());
-                }
+            Err(error) => {
+                self.ready = false;
+                self.pausing = error.kind() != ErrorKind::WouldBlock;
+                Ok(false)
+            }
+        }
+    }
+
+    /// Accepts connections, until none waits, and no more than `ACCEPTS`.
+    fn accept_some<W: Write>(&mut self, out: &mut W) -> Result<(), Stop>
+        ensures { OnOk result (GoesOnServing self.old.serving self.new.serving
+            (W.contents out.old) (W.contents out.new)) }
+    {
+        for _ in 0..ACCEPTS {
+            if !self.accept_one(out)? {
+                break;
             }
         }
         Ok(())
     }
 
-    /// Opens the connection over `stream`.
-    fn open<W: Write>(&mut self, stream: TcpStream, out: &mut W) -> Result<(), Stop> {
-        let mut stream = stream;
-        let key = self.hall.next_key();
-        let interest = Interest::READABLE | Interest::WRITABLE;
-        let registry = self.poll.registry();
-        if stream.set_nodelay(true).is_err()
-            || registry
-                .register(&mut stream, Token(key), interest)
-                .is_err()
-        {
-            // It is closed, and others are served.
-            return Ok(());
-        }
-        let number = self.hall.next_number();
-        if self.hall.open(TcpLink::new(stream)).is_err() {
-            return Err(Stop::OutOfMemory);
-        }
-        self.accepted = self.accepted.saturating_add(1);
-        write_new(number, out).map_err(|_| Stop::InOut)
-    }
-
-    /// Has a connection take a turn, and writes the entries that it made.
-    fn take_turn<W: Write>(&mut self, key: usize, out: &mut W) -> Result<(), Stop> {
-        let Some(turned) = self.hall.turn(key, STEPS) else {
-            return Ok(());
-        };
-        if tell(&mut self.hall, out).is_err() {
-            return Err(Stop::InOut);
-        }
-        match turned {
-            Turned::Again => self.take_up(key),
-            Turned::Waits => Ok(()),
-            Turned::Over(leave) => self.close(key, leave, out),
+    /// Has a connection take a turn. Returns why the server stops, if it does.
+    fn take_turn<W: Write>(&mut self, key: usize, out: &mut W) -> Result<(), Stop>
+        ensures { OnOk result (GoesOnServing self.old.serving self.new.serving
+            (W.contents out.old) (W.contents out.new)) }
+    {
+        match self.serving.turn(key, out)? {
+            Some(Turned::Again) => self.take_up(key),
+            Some(Turned::Over(leave)) => {
+                self.ready = true;
+                settle(leave)
+            }
+            Some(Turned::Waits) | None => Ok(()),
         }
     }
 
     /// Notes that a connection is to take another turn.
-    fn take_up(&mut self, key: usize) -> Result<(), Stop> {
+    fn take_up(&mut self, key: usize) -> Result<(), Stop>
+        ensures { self.new.serving ≡ self.old.serving }
+    {
         if self.again.contains(&key) {
             return Ok(());
         }
@@ -182,36 +167,39 @@ impl Connections {
         }
     }
 
-    /// Closes a connection.
-    fn close<W: Write>(&mut self, key: usize, leave: Leave, out: &mut W) -> Result<(), Stop> {
-        let number = match self.hall.seat(key) {
-            Some(seat) => seat.connection(),
-            None => return Ok(()),
-        };
-        self.hall.close(key);
-        self.closed = self.closed.saturating_add(1);
-        self.ready = true;
-        if write_end(number, leave, out).is_err() {
-            return Err(Stop::InOut);
-        }
-        match leave {
-            Leave::OutOfMemory
-            | Leave::Closed(FrontCause::NoMemory | FrontCause::Server(ServerCause::NoMemory)) => {
-                Err(Stop::OutOfMemory)
+    /// Has each connection that isn't done take another turn.
+    fn take_up_turns<W: Write>(&mut self, out: &mut W) -> Result<(), Stop>
+        ensures { OnOk result (GoesOnServing self.old.serving self.new.serving
+            (W.contents out.old) (W.contents out.new)) }
+    {
+        let due = self.again.len();
+        for _ in 0..due {
+            if let Some(key) = self.again.pop_front() {
+                self.take_turn(key, out)?;
             }
-            _ => Ok(()),
         }
+        Ok(())
     }
 
-    /// Waits for events, and serves what they are of.
-    fn serve_some<W: Write>(
-        &mut self,
-        events: &mut Events<Global>,
-        out: &mut W,
-    ) -> Result<(), Stop> {
-        if out.flush().is_err() {
-            return Err(Stop::InOut);
+    /// Has each connection of which these events are take a turn.
+    fn take_turns<W: Write>(&mut self, events: &Events<Global>, out: &mut W) -> Result<(), Stop>
+        ensures { OnOk result (GoesOnServing self.old.serving self.new.serving
+            (W.contents out.old) (W.contents out.new)) }
+    {
+        for event in events.iter() {
+            if event.token() == LISTENER {
+                self.ready = true;
+            } else {
+                self.take_turn(event.token().0, out)?;
+            }
         }
+        Ok(())
+    }
+
+    /// Waits for events: not at all if there is more to do, and for a pause if accepting failed.
+    fn wait(&mut self, events: &mut Events<Global>) -> Result<(), Stop>
+        ensures { self.new.serving ≡ self.old.serving }
+    {
         let timeout = if !self.again.is_empty() || self.ready {
             Some(Duration::from_millis(0))
         } else if self.pausing {
@@ -221,26 +209,27 @@ impl Connections {
         };
         match self.poll.poll(events, timeout) {
             Ok(()) => {}
-            Err(error) if error.kind() == ErrorKind::Interrupted => return Ok(()),
+            Err(error) if error.kind() == ErrorKind::Interrupted => {}
             Err(_) => return Err(Stop::InOut),
         }
         if self.pausing {
             self.pausing = false;
             self.ready = true;
         }
-        let due = self.again.len();
-        for _ in 0..due {
-            if let Some(key) = self.again.pop_front() {
-                self.take_turn(key, out)?;
-            }
-        }
-        for event in events.iter() {
-            if event.token() == LISTENER {
-                self.ready = true;
-            } else {
-                self.take_turn(event.token().0, out)?;
-            }
-        }
+        Ok(())
+    }
+
+    /// Waits for events, and serves the connections that they are of.
+    fn serve_some<W: Write>(&mut self, events: &mut Events<Global>, out: &mut W) -> Result<(), Stop>
+        ensures { OnOk result (GoesOnServing self.old.serving self.new.serving
+            (W.contents out.old) (W.contents out.new)) }
+    {
+        let Ok(()) = out.flush() else {
+            return Err(Stop::InOut);
+        };
+        self.wait(events)?;
+        self.take_up_turns(out)?;
+        self.take_turns(events, out)?;
         if self.ready {
             self.accept_some(out)?;
         }
@@ -257,39 +246,63 @@ fn first_address<R: Net>(rt: &R, address: &str) -> io::Result<SocketAddr> {
     }
 }
 
-/// Listens at `address`, writes to `out` where that is, and serves `count` connections.
+/// Listens at `address` for `count` connections, and writes to `out` where that is.
 fn listen<R: Net, W: Write>(
     rt: &R,
     alloc: Global,
     address: &str,
     count: u64,
     out: &mut W,
-) -> io::Result<Connections> {
+) -> io::Result<Connections>
+    ensures told { OnOk result ((local : List ℕ)
+        × WritesOut W.contents out.old out.new (listening_line local)) }
+    ensures begun { IfOk result (λ c. HasBegun c.serving) }
+{
     let listener = TcpListener::bind(rt, first_address(rt, address)?)?;
-    writeln!(out, "listening {}", listener.local_addr()?)?;
+    let local = listener.local_addr()?;
+    writeln!(out, "listening {local}")?;
     Connections::new(rt, alloc, listener, count)
 }
 
-/// Serves `count` connections at `address`.
+/// Serves connections until `count` of them ended.
+fn serve_until<W: Write>(
+    connections: &mut Connections,
+    events: &mut Events<Global>,
+    count: u64,
+    out: &mut W,
+) -> Result<(), Stop>
+    ensures enough { OnOk result (count ≤ connections.new.serving.ended) }
+    ensures served { OnOk result (GoesOnServing connections.old.serving connections.new.serving
+        (W.contents out.old) (W.contents out.new)) }
+{
+    for _ in 0..u64::MAX {
+        if connections.serving.ended() >= count {
+            return Ok(());
+        }
+        connections.serve_some(events, out)?;
+    }
+    // No server serves some that often.
+    Err(Stop::InOut)
+}
+
+/// Listens at `address`, writes to `out` where that is, and serves connections until `count` of
+/// them ended.
 fn serve_all<R: Net, W: Write>(
     rt: &R,
     alloc: Global,
     address: &str,
     count: u64,
     out: &mut W,
-) -> Result<(), Stop> {
+) -> Result<(), Stop>
+    ensures { OnOk result (HasServed count (W.contents out.old) (W.contents out.new)) }
+{
     let Ok(mut events) = Events::with_capacity(alloc, EVENTS) else {
         return Err(Stop::OutOfMemory);
     };
     let Ok(mut connections) = listen(rt, alloc, address, count, out) else {
         return Err(Stop::InOut);
     };
-    for _ in 0..u64::MAX {
-        if connections.closed >= count {
-            break;
-        }
-        connections.serve_some(&mut events, out)?;
-    }
+    serve_until(&mut connections, &mut events, count, out)?;
     Ok(())
 }
 
@@ -309,19 +322,19 @@ fn serve_at<R: Net, W: Write>(
     address: &str,
     count: u64,
     out: &mut W,
-) -> RunEnd
-    ensures { (n : ℕ) → result ≡ RunEnd.Served n → n ≡ count }
+) -> ServingEnd
+    ensures { IsRun count result (W.contents out.old) (W.contents out.new) }
 {
     if count > 0 {
         match serve_all(rt, alloc, address, count, out) {
             Ok(()) => {}
-            Err(Stop::InOut) => return RunEnd::InOut,
-            Err(Stop::OutOfMemory) => return RunEnd::OutOfMemory,
+            Err(Stop::InOut) => return ServingEnd::InOut,
+            Err(Stop::OutOfMemory) => return ServingEnd::OutOfMemory,
         }
     }
     match write_last(count, out) {
-        Ok(()) => RunEnd::Served(count),
-        Err(_) => RunEnd::InOut,
+        Ok(()) => ServingEnd::Served(count),
+        Err(_) => ServingEnd::InOut,
     }
 }
 
@@ -332,11 +345,11 @@ pub fn run<R: Net, W: Write + Drop>(
     address: &str,
     count: u64,
     out: W,
-) -> RunEnd
-    ensures { (n : ℕ) → result ≡ RunEnd.Served n → n ≡ count }
+) -> ServingEnd
+    ensures { (n : ℕ) → result ≡ ServingEnd.Served n → n ≡ count }
 {
     match BufWriter::new(alloc, out) {
         Ok(mut out) => serve_at(rt, alloc, address, count, &mut out),
-        Err(_) => RunEnd::OutOfMemory,
+        Err(_) => ServingEnd::OutOfMemory,
     }
 }

@@ -1,5 +1,5 @@
 //! `test_server` is a server for trying out drivers. It has a `Store` of test_store answer the
-//! commands that README.md lists, and writes down each request with its answer.
+//! commands that docs/TESTSERVER.md lists, and writes down each request with its answer.
 //!
 //! It serves many connections at once, in one thread. Bytes that are neither a message nor the
 //! query of a command, or a request that can't be answered, end at most that connection. The server
@@ -9,12 +9,13 @@
 //! command line is at fault, 3 if listening, accepting a connection or writing the output failed,
 //! and 4 if memory ran out.
 //!
-//! Uses test_store, wire_hall and wire_text. Read first: `connections`, and then `transcript`.
+//! Uses test_store, wire_hall and wire_text. Read first: `serving`, and then `connections`.
 #![tactic(auto)]
 
 mod choice;
 mod command_line;
 mod connections;
+mod serving;
 mod transcript;
 
 ghost use Rattle.std.specs.Prelude.{◌≡◌, map};
@@ -22,7 +23,7 @@ ghost use Rattle.test_server.specs.ExitStatus.{IsStatusFor, IsStatusOf, exit_sta
 
 use choice::{Choice, choose};
 use command_words::{IN_OUT, MEMORY, Program, texts};
-use connections::{RunEnd, run};
+use connections::{ServingEnd, run};
 use std::io;
 use std::process::ExitCode;
 
@@ -73,25 +74,25 @@ fn run_choice(rt: &HostRuntime, choice: Choice<'_>) -> u8
 }
 
 /// Says on standard error why serving stopped early, if it did. Returns the exit status.
-fn tell(rt: &impl Eprint, end: RunEnd, address: &str) -> u8
+fn tell(rt: &impl Eprint, end: ServingEnd, address: &str) -> u8
     ensures { result ≡ exit_status end }
 {
     // If standard error takes no line, there is only the status.
     let _ = match end {
-        RunEnd::InOut => eprintln!(rt; "test_server: could not serve at {address:?}"),
-        RunEnd::OutOfMemory => eprintln!(rt; "test_server: out of memory"),
-        RunEnd::Served(_) => Ok(()),
+        ServingEnd::InOut => eprintln!(rt; "test_server: could not serve at {address:?}"),
+        ServingEnd::OutOfMemory => eprintln!(rt; "test_server: out of memory"),
+        ServingEnd::Served(_) => Ok(()),
     };
     status_of(end)
 }
 
 /// Returns the exit status of an end.
-fn status_of(end: RunEnd) -> u8
+fn status_of(end: ServingEnd) -> u8
     ensures { result ≡ exit_status end }
 {
     match end {
-        RunEnd::Served(_) => 0,
-        RunEnd::InOut => IN_OUT,
-        RunEnd::OutOfMemory => MEMORY,
+        ServingEnd::Served(_) => 0,
+        ServingEnd::InOut => IN_OUT,
+        ServingEnd::OutOfMemory => MEMORY,
     }
 }

@@ -7,7 +7,7 @@
 //! its log are asked nothing but messages. Requests are taken in turns: no byte is taken while a
 //! request waits or a reply isn't sent, so replies go out in the order of the requests.
 //!
-//! Uses wire_peer and wire_query. Read first: `front`, and then `passing`.
+//! Uses wire_peer and wire_query. Used by wire_hall. Read first: `front`, and then `passing`.
 #![tactic(auto)]
 
 mod cause;

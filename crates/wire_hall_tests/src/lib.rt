@@ -1,6 +1,8 @@
 //! Tests of seats and halls by what no contract says: that requests are answered where memory is
 //! there, and what is sent byte for byte. They stand in a crate of their own, since a crate is
 //! proved once more with its tests.
+//!
+//! Uses wire_hall. Read first: `halls`.
 #![tactic(auto)]
 
 #[cfg(test)]

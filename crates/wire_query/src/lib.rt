@@ -7,6 +7,8 @@
 //! OP_REPLY with one document.
 //!
 //! Queries of collections other than `$cmd` are refused by a cause of their own.
+//!
+//! Uses bson_raw and wire_msg. Used by wire_front. Read first: `query`, and then `check`.
 #![tactic(auto)]
 
 mod check;

@@ -1,0 +1,6 @@
+use Rattle.test_server.specs.Serving.{GoesOnServing}
+use Rattle.test_server.proofs.connections.serve_until.Given as goal
+
+-- the server served on so far
+abbrev pub invariant-loop : goal.invariant-loop
+invariant-loop g l = GoesOnServing l.initial.connections.serving l.connections.serving (g.W.Write.contents l.initial.out) (g.W.Write.contents l.out)

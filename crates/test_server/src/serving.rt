@@ -1,0 +1,163 @@
+//! Serves the connections of a hall, and writes what they ask and how they end.
+
+ghost use Rattle.std.specs.Prelude.{◌≡◌, ◌+◌, ◌≤◌, [], None, OnErr, OnOk, Some, flat_map};
+ghost use Rattle.slab.specs.Slab.{Updates, get};
+ghost use Rattle.text_writer.specs.{WritesOut};
+ghost use Rattle.wire_hall.specs.{SeatSeen, tells};
+ghost use Rattle.wire_peer.specs.{log_of};
+ghost use Rattle.test_server.specs.Serving.{IsServing, ServesOn, settled};
+ghost use Rattle.test_server.specs.Transcript.{end_text, told_text};
+
+use crate::transcript::{write_end, write_entries, write_new};
+use std::alloc::Global;
+use std::io;
+use std::io::Write;
+use wire_front::FrontCause;
+use wire_hall::{Hall, Leave, Turned};
+use wire_peer::{Handler, ServerCause};
+use wire_stream::Link;
+
+/// Why the server stops early.
+#[derive(Clone, Copy, Debug, PartialEq, Eq)]
+pub enum Stop {
+    /// Listening, accepting a connection or writing the output failed.
+    InOut,
+    /// Memory ran out.
+    OutOfMemory,
+}
+
+/// The most steps of a turn.
+const STEPS: u32 = 32;
+
+/// Writes the entries that were made, in order, and forgets them.
+fn tell<L: Link + Drop, H: Handler + Drop, W: Write>(
+    hall: &mut Hall<L, H>,
+    out: &mut W,
+) -> io::Result<()>
+    ensures told { OnOk result (WritesOut W.contents out.old out.new
+        (flat_map told_text (log_of hall.old.logged.entries.items))) }
+    ensures forgotten { OnOk result (log_of hall.new.logged.entries.items ≡ []) }
+    ensures handler { hall.new.logged.handler ≡ hall.old.logged.handler }
+    ensures seats { hall.new.seats ≡ hall.old.seats }
+    ensures next { hall.new.next ≡ hall.old.next }
+{
+    write_entries(hall.entries(), out)?;
+    let told = hall.entries().len();
+    hall.forget(told);
+    Ok(())
+}
+
+/// Returns `Ok` if the server goes on after a connection that is over for this reason.
+pub fn settle(leave: Leave) -> Result<(), Stop>
+    ensures { result ≡ settled leave }
+{
+    match leave {
+        Leave::OutOfMemory
+        | Leave::Closed(FrontCause::NoMemory | FrontCause::Server(ServerCause::NoMemory)) => {
+            Err(Stop::OutOfMemory)
+        }
+        _ => Ok(()),
+    }
+}
+
+/// The connections that are served, and how many ended.
+#[derive(Drop)]
+pub struct Serving<L, H> {
+    hall: Hall<L, H>,
+    ended: u64,
+}
+
+impl<L: Link + Drop, H: Handler + Drop> Serving<L, H> {
+    /// Begins without connections. Requests are asked of `handler`.
+    pub fn new(alloc: Global, handler: H) -> Serving<L, H>
+        ensures { IsServing H.does H.stops (tells L.received L.sent L.ends L.waits) handler
+            result 0 [] }
+    {
+        Serving {
+            hall: Hall::new(alloc, handler),
+            ended: 0,
+        }
+    }
+
+    /// Returns how many connections are open.
+    pub fn len(&self) -> usize {
+        self.hall.len()
+    }
+
+    /// Returns how many connections ended.
+    pub fn ended(&self) -> u64
+        ensures { result ≡ self.now.ended }
+    {
+        self.ended
+    }
+
+    /// Returns the key that the next connection has.
+    pub fn next_key(&self) -> usize {
+        self.hall.next_key()
+    }
+
+    /// Opens the connection over `link`, and writes its line.
+    ///
+    /// # Errors
+    ///
+    /// Returns `OutOfMemory` if there is no memory or no number for it, and `InOut` if writing
+    /// fails.
+    pub fn open<W: Write>(&mut self, link: L, out: &mut W) -> Result<(), Stop>
+        ensures { OnOk result (ServesOn H.does H.stops (tells L.received L.sent L.ends L.waits)
+            self.old self.new (W.contents out.old) (W.contents out.new)) }
+    {
+        let number = self.hall.next_number();
+        let Ok(_key) = self.hall.open(link) else {
+            return Err(Stop::OutOfMemory);
+        };
+        match write_new(number, out) {
+            Ok(()) => Ok(()),
+            Err(_) => Err(Stop::InOut),
+        }
+    }
+
+    /// Forgets the connection of this key, which is over, and writes its last line.
+    fn close<W: Write>(&mut self, key: usize, leave: Leave, out: &mut W) -> io::Result<()>
+        ensures told { (seat : SeatSeen L) → get self.old.hall.seats key ≡ Some seat
+            → OnOk result (WritesOut W.contents out.old out.new
+            (end_text seat.front.server.connection leave)) }
+        ensures seats { Updates self.old.hall.seats self.new.hall.seats key None }
+        ensures logged { self.new.hall.logged ≡ self.old.hall.logged }
+        ensures next { self.new.hall.next ≡ self.old.hall.next }
+        ensures ended { self.new.ended ≤ self.old.ended + 1 }
+    {
+        let number = match self.hall.seat(key) {
+            Some(seat) => seat.connection(),
+            None => return Ok(()),
+        };
+        self.hall.close(key);
+        self.ended = self.ended.saturating_add(1);
+        write_end(number, leave, out)
+    }
+
+    /// Has the connection of this key take a turn, and writes the entries that it made. If it is
+    /// over then, forgets it and writes its last line. Returns what the turn came to, or `None` if
+    /// there is no such connection.
+    ///
+    /// # Errors
+    ///
+    /// Returns `InOut` if writing fails.
+    pub fn turn<W: Write>(&mut self, key: usize, out: &mut W) -> Result<Option<Turned>, Stop>
+        ensures { OnOk result (ServesOn H.does H.stops (tells L.received L.sent L.ends L.waits)
+            self.old self.new (W.contents out.old) (W.contents out.new)) }
+    {
+        let Some(turned) = self.hall.turn(key, STEPS) else {
+            return Ok(None);
+        };
+        let Ok(()) = tell(&mut self.hall, out) else {
+            return Err(Stop::InOut);
+        };
+        match turned {
+            Turned::Over(leave) => match self.close(key, leave, out) {
+                Ok(()) => Ok(Some(turned)),
+                Err(_) => Err(Stop::InOut),
+            },
+            Turned::Again | Turned::Waits => Ok(Some(turned)),
+        }
+    }
+}
