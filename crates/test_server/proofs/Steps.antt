@@ -5,13 +5,12 @@ use Rattle.std.specs.Io.KnownBytes.{Appends, Keeps}
 use Rattle.std.proofs.KnownBytes.{Appends-trans}
 use Rattle.slab.specs.Slab.{Slab, Updates, get}
 use Rattle.wire_hall.specs.{IsTurned, SeatSeen, Tells, new_seat}
-use Rattle.wire_hall.specs.declared.hall.Hall.{Hall}
 use Rattle.wire_hall.specs.declared.turned.Leave.{Leave}
 use Rattle.wire_hall.specs.declared.turned.Turned.{Turned}
 use Rattle.wire_hall.specs.declared.turned.Turned.TheVariants as turns
 use Rattle.wire_peer.specs.{Does, Stops, log_of}
 use Rattle.wire_peer.specs.declared.log.Logged.{Logged}
-use Rattle.test_server.specs.Serving.{GoesOn, IsForgotten, IsServing, Serves, ServesOn, opened, turned, over}
+use Rattle.test_server.specs.Serving.{GoesOn, IsForgotten, Serves, ServesOn, opened, turned, over}
 use Rattle.test_server.specs.Transcript.{end_text, new_text, told_text}
 use Rattle.test_server.specs.declared.serving.Serving.{Serving}
 

@@ -1,5 +1,5 @@
 -- Text that is written piece by piece.
-use Rattle.std.proofs.Common.{◌≡◌, ◌++◌, ◌∷◌, [], ℕ, ◌+◌, ◌<◌, List, Option, Some, None, Result, Ok, Err, map, take, get_or, length, sym, ap, subst, ◌∙◌, append_assoc, codes}
+use Rattle.std.proofs.Common.{◌≡◌, ◌++◌, ◌∷◌, [], ℕ, ◌+◌, ◌<◌, List, Option, Some, None, Result, Ok, Err, map, take, get_or, length, sym, ap, ◌∙◌}
 use Rattle.std.specs.Prelude.{OnOk, flat_map}
 use Rattle.std.specs.Coded.{coded_ℕ, coded_list}
 use base.Stored.{Coded-set}

@@ -50,7 +50,8 @@ struct Connections {
     poll: Poll,
     listener: TcpListener,
     serving: Serving<TcpLink<TcpStream>, Store>,
-    /// The keys of connections whose turns ended before there was nothing to do.
+    /// The keys of connections whose turns ended before there was nothing to do, each once. It has
+    /// room for those of all connections, so another turn wants no memory.
     again: VecDeque<usize>,
     /// A connection may wait at the listener.
     ready: bool,
@@ -61,12 +62,13 @@ struct Connections {
 }
 
 impl Connections {
-    /// Begins to listen for `count` connections.
+    /// Begins to listen for `count` connections. `again` is empty.
     fn new(
         net: &impl Net,
         alloc: Global,
         listener: TcpListener,
         count: u64,
+        again: VecDeque<usize>,
     ) -> io::Result<Connections>
         ensures { IfOk result (λ c. HasBegun c.serving) }
     {
@@ -78,7 +80,7 @@ impl Connections {
             poll,
             listener,
             serving: Serving::new(alloc, Store::new(alloc)),
-            again: VecDeque::new(alloc),
+            again,
             ready: true,
             pausing: false,
             wanted: count,
@@ -252,6 +254,7 @@ fn listen<R: Net, W: Write>(
     alloc: Global,
     address: &str,
     count: u64,
+    again: VecDeque<usize>,
     out: &mut W,
 ) -> io::Result<Connections>
     ensures told { OnOk result ((local : List ℕ)
@@ -261,7 +264,7 @@ fn listen<R: Net, W: Write>(
     let listener = TcpListener::bind(rt, first_address(rt, address)?)?;
     let local = listener.local_addr()?;
     writeln!(out, "listening {local}")?;
-    Connections::new(rt, alloc, listener, count)
+    Connections::new(rt, alloc, listener, count, again)
 }
 
 /// Serves connections until `count` of them ended.
@@ -299,7 +302,10 @@ fn serve_all<R: Net, W: Write>(
     let Ok(mut events) = Events::with_capacity(alloc, EVENTS) else {
         return Err(Stop::OutOfMemory);
     };
-    let Ok(mut connections) = listen(rt, alloc, address, count, out) else {
+    let Ok(again) = VecDeque::with_capacity(alloc, ROOM) else {
+        return Err(Stop::OutOfMemory);
+    };
+    let Ok(mut connections) = listen(rt, alloc, address, count, again, out) else {
         return Err(Stop::InOut);
     };
     serve_until(&mut connections, &mut events, count, out)?;

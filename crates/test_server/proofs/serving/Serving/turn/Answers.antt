@@ -1,4 +1,4 @@
-use Rattle.std.proofs.Common.{refl, sym, subst, ◌∙◌, ◌≡◌, ℕ, Some, None}
+use Rattle.std.proofs.Common.{refl, sym, subst, ◌∙◌, ◌≡◌, Some, None}
 use Rattle.slab.specs.Slab.{Updates, get}
 use Rattle.wire_hall.specs.{IsTurned, tells}
 use Rattle.test_server.proofs.Steps.{turns_on, turns_over}
