@@ -1,6 +1,7 @@
 //! Serves the connections of a hall, and writes what they ask and how they end.
 
-ghost use Rattle.std.specs.Prelude.{◌≡◌, ◌+◌, ◌≤◌, [], None, OnErr, OnOk, Some, flat_map};
+ghost use Rattle.std.specs.Prelude.{◌≡◌, ◌+◌, ◌≤◌, [], None, Ok, OnErr, OnOk, Some};
+ghost use Rattle.std.specs.Prelude.{flat_map};
 ghost use Rattle.slab.specs.Slab.{Updates, get};
 ghost use Rattle.text_writer.specs.{WritesOut};
 ghost use Rattle.wire_hall.specs.{SeatSeen, tells};
@@ -92,7 +93,9 @@ impl<L: Link + Drop, H: Handler + Drop> Serving<L, H> {
     }
 
     /// Returns the key that the next connection has.
-    pub fn next_key(&self) -> usize {
+    pub fn next_key(&self) -> usize
+        ensures { result ≡ self.now.hall.seats.vacant_key }
+    {
         self.hall.next_key()
     }
 
@@ -103,7 +106,9 @@ impl<L: Link + Drop, H: Handler + Drop> Serving<L, H> {
     /// Returns `OutOfMemory` if there is no memory or no number for it, and `InOut` if writing
     /// fails.
     pub fn open<W: Write>(&mut self, link: L, out: &mut W) -> Result<(), Stop>
-        ensures { OnOk result (ServesOn H.does H.stops (tells L.received L.sent L.ends L.waits)
+        ensures opened { OnOk result (self.new.hall.next ≡ self.old.hall.next + 1) }
+        ensures served { OnOk result (ServesOn H.does H.stops
+            (tells L.received L.sent L.ends L.waits)
             self.old self.new (W.contents out.old) (W.contents out.new)) }
     {
         let number = self.hall.next_number();
@@ -143,7 +148,9 @@ impl<L: Link + Drop, H: Handler + Drop> Serving<L, H> {
     ///
     /// Returns `InOut` if writing fails.
     pub fn turn<W: Write>(&mut self, key: usize, out: &mut W) -> Result<Option<Turned>, Stop>
-        ensures { OnOk result (ServesOn H.does H.stops (tells L.received L.sent L.ends L.waits)
+        ensures none { result ≡ Ok None → get self.old.hall.seats key ≡ None }
+        ensures served { OnOk result (ServesOn H.does H.stops
+            (tells L.received L.sent L.ends L.waits)
             self.old self.new (W.contents out.old) (W.contents out.new)) }
     {
         let Some(turned) = self.hall.turn(key, STEPS) else {

@@ -4,8 +4,8 @@ use Rattle.wire_hall.specs.{IsTurned, tells}
 use Rattle.test_server.proofs.Steps.{turns_on, turns_over}
 use Rattle.test_server.proofs.serving.Serving.turn.Goals as goal
 
-pub returns-in-Ok-close : goal.returns-in-Ok-close
-returns-in-Ok-close g c =
+pub returns-in-Ok-close-clause-served : goal.returns-in-Ok-close-clause-served
+returns-in-Ok-close-clause-served g c =
     let t = tells g.L.Link.received g.L.Link.sent g.L.Link.ends g.L.Link.waits in
     let seat = c.in-Some.ensures.turned.1 in
     let there = c.in-Some.ensures.turned.3.changed in
@@ -16,8 +16,8 @@ returns-in-Ok-close g c =
     c.close.ensures.logged (c.close.ensures.next ∙ c.tell.ensures.next ∙ c.turn.ensures.next) c.close.ensures.ended
     c.in-Ok.ensures.told (c.in-Ok-close.ensures.told seat (subst (λ s. get s c.args.key ≡ Some seat) (sym c.tell.ensures.seats) there))
 
-pub returns-in-Again : goal.returns-in-Again
-returns-in-Again g c =
+pub returns-in-Again-clause-served : goal.returns-in-Again-clause-served
+returns-in-Again-clause-served g c =
     turns_on g.H.Handler.does g.H.Handler.stops (tells g.L.Link.received g.L.Link.sent g.L.Link.ends g.L.Link.waits) c.args.self.now _ c.turn.new.self.seats c.turn.new.self.logged c.args.key _ c.in-Some.turned _ _
     c.in-Again.is c.in-Some.ensures.turned c.tell.ensures.seats (c.in-Ok.ensures.forgotten, c.tell.ensures.handler) (c.tell.ensures.next ∙ c.turn.ensures.next) refl
     c.in-Ok.ensures.told
