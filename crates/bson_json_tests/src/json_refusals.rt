@@ -11,7 +11,7 @@ const TEXT: &str =
 /// A text that has a name twice, with an escape.
 const REPEATED: &str = "{\"a\":\n[{\"b\":\"c\",\"\\u0062\":1}]}";
 
-/// Two texts, of which the second has a name twice.
+/// Two texts. The second one has a name twice.
 const SEVERAL: &str = "{\"a\":[{\"b\":\"c\"}]} {\"a\":1,\"a\":2}";
 
 /// Returns true if both tries came right, or one did and memory was refused to the other.
