@@ -125,9 +125,19 @@ const INPUTS: [(bool, &str, &str, RunEnd); 14] = [
     (true, "4a 4A\r\n\t4f4", "fault 0 Hex at 7\n", RunEnd::Fault),
     (true, "0g", "fault 0 Hex at 1\n", RunEnd::Fault),
     (true, "g0 h", "fault 0 Hex at 0\n", RunEnd::Fault),
-    (true, "05000000 00 05z", "document 5\nfault 0 Hex at 12\n", RunEnd::Fault),
+    (
+        true,
+        "05000000 00 05z",
+        "document 5\nfault 0 Hex at 12\n",
+        RunEnd::Fault,
+    ),
     (true, "0500000000\n", "document 5\n", RunEnd::Good),
-    (true, "0500000000 0", "document 5\nfault 0 Hex at 11\n", RunEnd::Fault),
+    (
+        true,
+        "0500000000 0",
+        "document 5\nfault 0 Hex at 11\n",
+        RunEnd::Fault,
+    ),
     // What more bytes don't decide is told, and no fault behind it.
     (true, "0500000001 z", "fault 3 End at 0\n", RunEnd::Fault),
     (true, "04000000 0", "fault 2 Length at 0\n", RunEnd::Fault),

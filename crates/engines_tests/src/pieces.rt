@@ -144,8 +144,14 @@ fn digits_that_were_read_before_a_failed_read_are_written(rt: HostRuntime) {
 
 /// Two documents, and then what isn't hexadecimal text; and two of which the second is at fault before that.
 const FAULTS: [(&[u8], &str); 2] = [
-    (b"0500000000 0500000000 0 g0", "ok 5 canonical\nok 5 canonical\nfault 0 Hex at 21\n"),
-    (b"0500000000 0500000001 0 g0", "ok 5 canonical\nfault 3 End at 5\n"),
+    (
+        b"0500000000 0500000000 0 g0",
+        "ok 5 canonical\nok 5 canonical\nfault 0 Hex at 21\n",
+    ),
+    (
+        b"0500000000 0500000001 0 g0",
+        "ok 5 canonical\nfault 3 End at 5\n",
+    ),
 ];
 
 #[test]
@@ -191,12 +197,7 @@ fn copies(alloc: Global, document: &[u8], count: usize) -> Result<Vec<u8>, Alloc
 }
 
 /// Returns true if `check` writes a text of `len` bytes for 20,000 documents. A piece is 65,536 bytes.
-fn are_all_told(
-    alloc: Global,
-    hex: bool,
-    document: &[u8],
-    len: usize,
-) -> Result<bool, AllocError> {
+fn are_all_told(alloc: Global, hex: bool, document: &[u8], len: usize) -> Result<bool, AllocError> {
     let input = copies(alloc, document, 20_000)?;
     let mut writer = Vec::new(alloc);
     let end = run_check(alloc, hex, &mut input.as_slice(), &mut writer);
