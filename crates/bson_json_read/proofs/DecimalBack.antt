@@ -1,14 +1,13 @@
 -- The bytes of a decimal128 are read of its text.
-use Rattle.std.proofs.Common.{◌≡◌, ℕ, ◌+◌, ◌*◌, ◌%◌, ◌^◌, ◌<◌, ◌≤◌, ◌⊎◌, inl, inr, Bool, true, false, cond, List, ◌++◌, length, get_or, Some, None, refl, sym, ap, ◌∙◌, subst, arith, codes, length-append}
-use Rattle.std.specs.Prelude.{nat_lt, decimal, ◌==◌, option_map}
-use Rattle.std.specs.Int.{w128, to_le_bytes}
+use Rattle.std.proofs.Common.{◌≡◌, ℕ, ◌+◌, ◌*◌, ◌%◌, ◌^◌, ◌<◌, ◌≤◌, inl, inr, Bool, true, false, List, ◌++◌, length, Some, refl, sym, ap, ◌∙◌, subst, arith, codes, length-append}
+use Rattle.std.specs.Prelude.{nat_lt, ◌==◌}
 use Rattle.std.specs.Fmt.{sign_text}
 use Rattle.std.proofs.lemmas.Bool.Decides.{nat_tests}
 use Rattle.bson_elem.specs.Spelling.{AreBytes}
 use Rattle.bson_json.specs.Decimals.{biased_exponent, bits_of, bits_text, coefficient, combination, decimal128_text, finite_text, is_negative}
-use Rattle.bson_json_read.specs.DecimalText.{decimal128_of, decimal_bits, finite_bits, sign_bit}
+use Rattle.bson_json_read.specs.DecimalText.{decimal128_of, decimal_bits, sign_bit}
 use Rattle.bson_json_read.specs.Lossless.{IsCanonicalDecimal}
-use Rattle.bson_json_read.proofs.Numerals.{IsNumeralOf, decimal_text_is, signed_read}
+use Rattle.bson_json_read.proofs.Numerals.{decimal_text_is, signed_read}
 use Rattle.bson_json_read.proofs.DecimalBytes.{bytes_back, coefficient_small, exponent_small, finite_is, number_small}
 use Rattle.bson_json_read.proofs.PlainTexts.{IsPlain, plain-append, plain_all, plain_numeral, plain_sign}
 

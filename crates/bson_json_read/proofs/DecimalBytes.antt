@@ -1,11 +1,11 @@
 -- The bits of a decimal128, and its bytes.
-use Rattle.std.proofs.Common.{◌≡◌, ℕ, zero, suc, ◌+◌, ◌-◌, ◌*◌, ◌/◌, ◌%◌, ◌^◌, ◌<◌, ◌≤◌, Bool, true, false, cond, List, [], ◌∷◌, length, get_or, refl, sym, ap, ◌∙◌, subst, arith}
+use Rattle.std.proofs.Common.{◌≡◌, ℕ, zero, suc, ◌+◌, ◌*◌, ◌/◌, ◌%◌, ◌^◌, ◌<◌, ◌≤◌, true, false, cond, List, [], ◌∷◌, length, get_or, refl, sym, ap, ◌∙◌, subst, arith}
 use Rattle.std.specs.Prelude.{nat_le, nat_lt}
 use Rattle.std.specs.Int.{w128, bytes_low_first, byte_worth, sum_through, from_le_bytes, to_le_bytes}
 use Rattle.std.proofs.Math.Nat.{div-div-eq-div-mul}
 use Rattle.std.proofs.lemmas.Bool.Decides.{nat_tests}
-use Rattle.bson_json.specs.Decimals.{biased_exponent, bits_of, combination, coefficient, is_negative}
-use Rattle.bson_json_read.specs.DecimalText.{finite_bits, sign_bit}
+use Rattle.bson_json.specs.Decimals.{biased_exponent, combination, coefficient, is_negative}
+use Rattle.bson_json_read.specs.DecimalText.{finite_bits}
 
 -- ---- bytes
 

@@ -1,10 +1,8 @@
 -- A document is read of its canonical JSON.
-use Rattle.std.proofs.Common.{◌≡◌, ℕ, suc, ◌+◌, ◌*◌, ◌≤◌, List, [], ◌∷◌, ◌++◌, Some, Ok, true, IsUtf8, Result, Err, inl, inr, refl, sym, ap, ◌∙◌, subst, arith}
+use Rattle.std.proofs.Common.{◌≡◌, ℕ, suc, List, [], ◌∷◌, ◌++◌, Some, Ok, true, IsUtf8, Result, Err, inl, inr, refl, sym, ap, ◌∙◌, subst, arith}
 use Rattle.std.specs.Prelude.{IfErr, IfOk, MatchResult, OnOk, false, is_err}
 use Rattle.std.specs.Io.KnownBytes.{Appends}
-use Rattle.json.specs.Find.{as_object}
 use Rattle.json.specs.Json as json
-use Rattle.json.specs.Tree.{depth, json_tokens}
 use Rattle.bson_elem.specs.declared.kinds.Kind.TheVariants as kinds
 use Rattle.bson_elem.specs.Spelling.{Spells}
 use Rattle.bson_elem.specs.Trees.{Tree}

@@ -1,11 +1,11 @@
 -- Leaves are read of their canonical JSON.
-use Rattle.std.proofs.Common.{◌≡◌, ℕ, ℤ, pos, negsuc, zero, suc, ◌+◌, ◌*◌, ◌<◌, ◌≤◌, ◌^◌, List, [], ◌∷◌, ◌++◌, length, get_or, Bool, true, false, cond, ◌&&◌, T, not, Some, None, Ok, refl, sym, ap, ◌∙◌, subst, arith, append_assoc, codes, IsUtf8}
-use Rattle.std.specs.Prelude.{decimal, is_nan, nat_lt, to_bits, from_bits}
+use Rattle.std.proofs.Common.{◌≡◌, ℕ, ℤ, pos, negsuc, zero, suc, ◌<◌, ◌≤◌, ◌^◌, List, [], ◌∷◌, ◌++◌, length, get_or, true, false, cond, ◌&&◌, T, not, Some, Ok, refl, sym, ap, ◌∙◌, subst, arith, append_assoc, codes, IsUtf8}
+use Rattle.std.specs.Prelude.{decimal, is_nan, nat_lt, to_bits}
 use Rattle.std.specs.Int.{w64, from_le_bytes, to_le_bytes}
 use Rattle.std.specs.Float.{Float, binary64}
 use Rattle.std.specs.Float.Ieee.{nan, inf, fin}
-use Rattle.std.specs.Fmt.{sign_text, signed_decimal}
-use Rattle.std.specs.Str.Parse.{AllDigits, digits_value, without_leading_plus}
+use Rattle.std.specs.Fmt.{signed_decimal}
+use Rattle.std.specs.Str.Parse.{AllDigits, without_leading_plus}
 use Rattle.std.proofs.lemmas.Nat.{le_bytes_8}
 use Rattle.std.proofs.lemmas.Bool.{lt-ltb, ne_eqb}
 use Rattle.std.proofs.lemmas.Fmt.{decimal_digit, decimal_is_IsNumeral}
@@ -34,12 +34,12 @@ use Rattle.bson_raw.specs.Pairs.{leaf_value}
 use Rattle.bson_doc.specs.Unwritable.{has_zero}
 use Rattle.bson_json.specs.declared.mode.Mode.TheVariants.{Canonical}
 use Rattle.bson_json.specs.Decimals.{decimal128_text}
-use Rattle.bson_json.specs.Json.{IsLeafJson, IsNumberText, leaf_json, object_id_json}
+use Rattle.bson_json.specs.Json.{IsLeafJson, IsNumberText, object_id_json}
 use Rattle.bson_json_read.specs.declared.form.Form.{Form}
 use Rattle.bson_json_read.specs.declared.form.Form.TheVariants as forms
 use Rattle.bson_json_read.specs.Forms.{form_name}
 use Rattle.bson_json_read.specs.Lossless.{IsLosslessDouble, IsLosslessLeaf}
-use Rattle.bson_json_read.specs.Numbers.{fits, is_numeral, unsigned_of}
+use Rattle.bson_json_read.specs.Numbers.{is_numeral, unsigned_of}
 use Rattle.bson_json_read.specs.Values.{value_read}
 use Rattle.bson_json_read.proofs.DecimalBack.{decimal128_back, decimal128_plain}
 use Rattle.bson_json_read.proofs.Integers.{both, fits_passes, numeral_passes}

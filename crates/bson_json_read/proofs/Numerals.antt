@@ -1,20 +1,17 @@
 -- A decimal128 is read of its text.
-use Rattle.std.proofs.Common.{◌≡◌, ℕ, zero, suc, ◌+◌, ◌-◌, ◌*◌, ◌/◌, ◌%◌, ◌^◌, ◌<◌, ◌≤◌, Bool, true, false, cond, ◌&&◌, ◌||◌, eqb, List, [], ◌∷◌, ◌++◌, length, get_or, take, drop, replicate, map, Some, None, refl, sym, ap, ◌∙◌, subst, arith, append_assoc, append-nil, length-append, length-drop, ne_eqb, eq-eqb, lt-ltb, codes}
+use Rattle.std.proofs.Common.{◌≡◌, ℕ, zero, suc, ◌+◌, ◌-◌, ◌*◌, ◌^◌, ◌<◌, ◌≤◌, Bool, true, false, cond, ◌&&◌, eqb, List, [], ◌∷◌, ◌++◌, length, get_or, take, drop, replicate, Some, refl, sym, ap, ◌∙◌, subst, arith, append_assoc, append-nil, length-append, length-drop, ne_eqb, eq-eqb, lt-ltb, codes}
 use Rattle.std.specs.Prelude.{nat_lt, nat_le, ◌==◌, option_and_then, decimal}
-use Rattle.std.specs.Str.{bytes_eq}
-use Rattle.std.specs.Bool.{Decides}
 use Rattle.std.specs.Char.{digit_value, to_ascii_lowercase}
 use Rattle.std.specs.Fmt.{sign_text}
 use Rattle.std.specs.Str.Parse.{AllDigits, digits_value, digits_value_after}
-use Rattle.std.specs.Float.Numeral.{Parts, has_digits, scan_numeral, tens_down, tens_up}
-use Rattle.std.proofs.lemmas.Slice.Eq.{bytes_eq-Decides}
+use Rattle.std.specs.Float.Numeral.{tens_down, tens_up}
 use Rattle.std.proofs.lemmas.Bool.Decides.{nat_tests}
 use Rattle.std.proofs.lemmas.List.{length-replicate, length-take-le, take-append-drop}
 use Rattle.std.proofs.lemmas.Str.{digit_value_digit}
 use Rattle.std.proofs.lemmas.Str.Parse.{digit_from_value}
 use Rattle.std.proofs.lemmas.Fmt.{decimal_is_IsNumeral_wide, length-decimal-le_wide}
 use Rattle.bson_json.specs.Decimals.{behind_first, digits_text, pointed, signed_exponent}
-use Rattle.bson_json_read.specs.DecimalText.{coefficient_of, decimal_bits, finite_bits, is_infinity, is_numeral_text, is_word, numeral_bits, placed, placed_at, unsigned_bits}
+use Rattle.bson_json_read.specs.DecimalText.{coefficient_of, decimal_bits, finite_bits, is_word, numeral_bits, placed, placed_at, unsigned_bits}
 use Rattle.bson_json_read.proofs.Scanned.{Exponent, none, above, below, exponent_text, exponent_digits, is_below, numeral_parts, numeral_text, scanned}
 
 -- ---- coefficients

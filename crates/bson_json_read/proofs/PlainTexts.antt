@@ -1,8 +1,7 @@
 -- Text that stands in a JSON string as it is.
-use Rattle.std.proofs.Common.{◌≡◌, ℕ, ℤ, pos, negsuc, zero, suc, ◌+◌, ◌*◌, ◌/◌, ◌%◌, ◌^◌, ◌<◌, ◌≤◌, Bool, true, false, cond, ◌&&◌, ◌==◌, List, [], ◌∷◌, ◌++◌, length, get_or, replicate, refl, sym, ap, ap₂, ◌∙◌, subst, arith, append_assoc, codes, IsUtf8}
+use Rattle.std.proofs.Common.{◌≡◌, ℕ, ℤ, pos, negsuc, zero, suc, ◌+◌, ◌*◌, ◌/◌, ◌%◌, ◌^◌, ◌<◌, ◌≤◌, Bool, true, false, cond, ◌&&◌, ◌==◌, List, [], ◌∷◌, ◌++◌, length, get_or, replicate, refl, sym, ap, ap₂, ◌∙◌, subst, arith, append_assoc, IsUtf8}
 use Rattle.std.specs.Prelude.{decimal, nat_lt}
 use Rattle.std.specs.List.{list_all}
-use Rattle.std.specs.Float.{Float, binary64}
 use Rattle.std.specs.Fmt.{sign_text, signed_decimal}
 use Rattle.std.specs.Str.Parse.{AllDigits}
 use Rattle.std.proofs.lemmas.Bool.{and_parts, or_parts, not-true, eqb-false, ltb-false, lt-ltb, le-ltb, ne_eqb}
@@ -18,8 +17,8 @@ use Rattle.json.specs.Print.{escape, escape_byte}
 use Rattle.json.specs.Run.{is_plain}
 use Rattle.json.proofs.Printed.Strings.{escape_byte_plain}
 use Rattle.json.proofs.Printed.Utf8.{IsUtf8-are_ascii}
-use Rattle.ryu.specs.Plain.{IsPlusNumber, exponent_sign, exponent_with}
-use Rattle.bson_json_read.proofs.Scanned.{Exponent, none, above, below, exponent_text, exponent_digits, numeral_text}
+use Rattle.ryu.specs.Plain.{IsPlusNumber, exponent_with}
+use Rattle.bson_json_read.proofs.Scanned.{Exponent, none, above, below, exponent_text, exponent_digits}
 use Rattle.bson_json_read.proofs.Numerals.{IsNumeralOf}
 
 -- the text is ASCII, and no byte of it needs an escape

@@ -2,7 +2,7 @@
 use Rattle.std.proofs.Common.{◌≡◌, ℕ, Bool, true, false, List, [], ◌∷◌, ◌++◌, refl, sym, ap, ◌∙◌, append_assoc, append-nil}
 use Rattle.json.specs.Json.{Json, null, boolean, number, string, array, object, Items, no_items, item, Members, no_members, member}
 use Rattle.json.specs.Token.{Token}
-use Rattle.json.specs.Print.{print, print_from, quoted, separator}
+use Rattle.json.specs.Print.{print, print_from, quoted}
 use Rattle.json.specs.Tree.{json_tokens, items_tokens, members_tokens}
 
 abbrev pub comma : Bool → List ℕ

@@ -1,8 +1,7 @@
 -- Documents are read of their canonical JSON: the pairs that a value holds, one after another.
-use Rattle.std.proofs.Common.{◌≡◌, ℕ, zero, suc, ◌+◌, ◌-◌, ◌*◌, ◌<◌, ◌≤◌, ◌^◌, ◌⊎◌, inl, inr, List, [], ◌∷◌, ◌++◌, length, max, map, Bool, true, false, cond, not, ◌&&◌, ◌||◌, Option, Some, None, Ok, refl, sym, ap, ap₂, ◌∙◌, subst, arith, append_assoc, append-nil, codes, IsUtf8}
-use Rattle.std.specs.Prelude.{decimal, is_some, option_and_then}
+use Rattle.std.proofs.Common.{◌≡◌, ℕ, suc, ◌+◌, ◌-◌, ◌*◌, ◌<◌, ◌≤◌, List, [], ◌∷◌, ◌++◌, length, max, map, Bool, true, false, cond, not, Option, Some, None, Ok, refl, sym, ap, ap₂, ◌∙◌, subst, arith, append_assoc, append-nil, codes, IsUtf8}
 use Rattle.std.specs.Bool.{Decides}
-use Rattle.std.specs.List.{AllByRecursion, list_any}
+use Rattle.std.specs.List.{AllByRecursion}
 use Rattle.std.specs.Str.{bytes_eq}
 use Rattle.std.proofs.lemmas.Bool.{or_parts}
 use Rattle.std.proofs.lemmas.Str.{IsUtf8-append, IsUtf8-nil}
@@ -17,21 +16,21 @@ use Rattle.bson_elem.specs.Kinds.{form_of}
 use Rattle.bson_elem.specs.Spelling.{Fits, IsName, StandsIn}
 use Rattle.bson_elem.specs.Trees.{Beside, Leaf, Tree, inner_pair, leaf_pair, no_code, no_pairs, with_code}
 use Rattle.bson_raw.specs.Naming.{is_array_kind, name_at}
-use Rattle.bson_raw.specs.Pairs.{TreeValue, document_value, is_among, leaf_value, names_of, with_first}
+use Rattle.bson_raw.specs.Pairs.{TreeValue, document_value, is_among, leaf_value, names_of}
 use Rattle.bson_doc.specs.Array.{array_tree}
 use Rattle.bson_doc.specs.Document.{tree_of, value_named}
 use Rattle.bson_doc.specs.Plain.{plain_from}
-use Rattle.bson_doc.specs.Repeats.{first_of, repeat_in, seen_with}
+use Rattle.bson_doc.specs.Repeats.{first_of, repeat_in}
 use Rattle.bson_doc.specs.Unwritable.{has_zero}
 use Rattle.bson_json.specs.declared.mode.Mode.TheVariants.{Canonical}
 use Rattle.bson_json.specs.Json.{IsPairsJson, closing, comma, label, opening}
 use Rattle.bson_json_read.specs.Forms.{first_form, form_in, form_named}
 use Rattle.bson_json_read.specs.Lossless.{AreLossless, IsNoForm}
-use Rattle.bson_json_read.specs.Reads.{Read, and_map, and_then, within}
-use Rattle.bson_json_read.specs.Values.{Pair, array_of, array_read, document_of, document_read, items_read, name_refused, pair_read, pairs_read, scope_of, value_read}
+use Rattle.bson_json_read.specs.Reads.{Read, and_then, within}
+use Rattle.bson_json_read.specs.Values.{Pair, items_read, name_refused, pair_read, pairs_read, value_read}
 use Rattle.bson_json_read.proofs.Leaves.{LeafBack, leaf_told, no_zero}
 use Rattle.bson_json_read.proofs.Printing.{items_text, json_text, members_text}
-use Rattle.bson_json_read.proofs.Walking.{array_at, document_at, value_at}
+use Rattle.bson_json_read.proofs.Walking.{value_at}
 
 -- ---- the pairs of a tree
 
