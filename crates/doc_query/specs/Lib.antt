@@ -4,10 +4,12 @@ pub mod Owned
 pub mod Numbers
 pub mod Comparing
 pub mod Conditions
-pub mod Uncompared
+pub mod Criteria
+pub mod Paths
 pub mod Filters
 pub mod Sorting
 pub mod Pipelines
+pub mod Projection
 -- the words that clauses of other crates cite
 pub use Rattle.doc_query.specs.Errors.{IsFailure, and_then, code_name_of, code_of, or_error}
 pub use Rattle.doc_query.specs.Errors.{words_of}
@@ -18,3 +20,4 @@ pub use Rattle.doc_query.specs.Filters.{begins_with_operator, compared, filter_f
 pub use Rattle.doc_query.specs.Filters.{filter_value, found, found_in, is_operator, matches}
 pub use Rattle.doc_query.specs.Sorting.{sort_field, sorted_in}
 pub use Rattle.doc_query.specs.Pipelines.{after_stages}
+pub use Rattle.doc_query.specs.Projection.{projected, projection_field}
