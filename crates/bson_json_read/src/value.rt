@@ -135,7 +135,7 @@ fn code_with_scope(alloc: Global, code: &str, scope: Document) -> Result<Bson, J
     }
 }
 
-/// Appends the pair of a member. In its value, so many documents and arrays may be nested.
+/// Appends the pair of a member, in whose value at most `room` documents and arrays may be nested.
 #[cycle(read)]
 fn read_pair<'a>(
     alloc: Global,
@@ -184,7 +184,7 @@ pub(crate) fn read_document<'a>(
     Ok(document)
 }
 
-/// Appends an item. In it, so many documents and arrays may be nested.
+/// Appends an item, in which at most `room` documents and arrays may be nested.
 #[cycle(read)]
 fn read_item<'a>(
     alloc: Global,
@@ -271,7 +271,7 @@ fn read_object<'a>(
     }
 }
 
-/// Returns the value of a JSON value. In it, so many documents and arrays may be nested.
+/// Returns the value of a JSON value, in which at most `room` documents and arrays may be nested.
 #[cycle(read)]
 #[tactic(auto, using(crate::proofs::Walking::of_string, crate::proofs::Walking::of_number, crate::proofs::Walking::of_object, crate::proofs::Walking::of_array, crate::proofs::Walking::of_boolean, crate::proofs::Walking::of_null))]
 fn read_value<'a>(alloc: Global, value: &Value<'a>, room: u32) -> Result<Bson, JsonFault>

@@ -82,7 +82,7 @@ fn write_each<E: EachDocument, W: Write>(
     let mut rest = piece;
     loop {
         // The limit is that of all documents, and an offset counts the bytes of the piece: a reader
-        // refuses to be fed for want of memory alone.
+        // refuses to be fed only if memory runs out.
         let Ok(fed) = documents.feed(rest) else {
             return Ok(Some(Stop::OutOfMemory));
         };

@@ -31,7 +31,7 @@ impl Answers {
     ///
     /// # Errors
     ///
-    /// Want of memory. The answers are as they were then.
+    /// Returns `AllocError` if memory runs out. Then the answers are unchanged.
     pub fn push(&mut self, answer: Payload<'_>) -> Result<(), AllocError>
         ensures added { OnOk result (answers_of self.new
             ≡ answers_of self.old ++ content_of answer.entry ∷ []) }
@@ -66,7 +66,7 @@ impl Answers {
     ///
     /// # Errors
     ///
-    /// Want of memory. The answers are as they were then.
+    /// Returns `AllocError` if memory runs out. Then the answers are unchanged.
     pub fn push_buf(&mut self, answer: PayloadBuf) -> Result<(), AllocError>
         ensures added { OnOk result (answers_of self.new
             ≡ answers_of self.old ++ buf_content answer ∷ []) }

@@ -103,7 +103,7 @@ impl CallTable {
     ///
     /// # Errors
     ///
-    /// Want of memory. Nothing changes then.
+    /// Returns `AllocError` if memory runs out. Then nothing changes.
     pub(crate) fn push(&mut self, id: i32, call: u64, kind: CallKind) -> Result<(), AllocError>
         requires { bearer id self.old ≡ None }
         ensures pushed { OnOk result
