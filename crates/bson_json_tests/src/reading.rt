@@ -181,7 +181,7 @@ fn names_are_refused_where_they_stand(rt: HostRuntime) {
 }
 
 /// Objects that have the name of a form and aren't of it.
-const WRONG: [(&str, Form); 38] = [
+const WRONG: [(&str, Form); 39] = [
     ("{\"$oid\":5}", Form::ObjectId),
     ("{\"$oid\":\"56e1fc72e0c917e9c471416\"}", Form::ObjectId),
     ("{\"$oid\":\"56e1fc72e0c917e9c471416g\"}", Form::ObjectId),
@@ -245,6 +245,7 @@ const WRONG: [(&str, Form); 38] = [
     ),
     ("{\"$date\":1356351330501}", Form::DateTime),
     ("{\"$date\":\"2001-02-29T00:00:00Z\"}", Form::DateTime),
+    ("{\"$date\":\"10000-01-01T00:00:00Z\"}", Form::DateTime),
     ("{\"$date\":\"2001-02-28T24:00:00Z\"}", Form::DateTime),
     ("{\"$date\":\"2001-02-28T00:00:00.1Z\"}", Form::DateTime),
     ("{\"$minKey\":true}", Form::MinKey),
