@@ -57,7 +57,7 @@ logical_of name =
     if bytes_eq name (codes "$and") then Some logicals.And else
     if bytes_eq name (codes "$or") then Some logicals.Or else None
 
--- why it isn't carried out where it has no array
+-- why a logical operator isn't carried out that has no array
 abbrev pub no_array : Logical → CommandError
 no_array logicals.And = errors.AndArray
 no_array logicals.Or = errors.OrArray
@@ -171,6 +171,7 @@ abbrev pub joined : Logical → Bool → Bool → Bool
 joined logicals.And a b = a && b
 joined logicals.Or a b = a || b
 
+-- where none is left, $and asks for nothing, and $or for what nothing can be
 abbrev pub joined_none : Logical → Bool
 joined_none logicals.And = true
 joined_none logicals.Or = false
@@ -214,6 +215,7 @@ has_pair n (document_value k b inner) p t =
     unless_logical (logical_at n k) (has_field p (values_at n t) (document_value k b inner))
     (λ l. has_clauses inner (joining p l) p t)
 
+-- a value is a document that has each field of the filter, as that asks
 abbrev pub matches : Tree → TreeValue → Bool
 matches f (document_value kinds.Document b t) = has_fields f purposes.Match t
 matches f _ = false

@@ -70,7 +70,7 @@ single_at (s ∷ ss) (Some (document_value kinds.Document b t)) = single_at ss (
 single_at (s ∷ ss) (Some (document_value kinds.Array b t)) = Some (document_value kinds.Array b t)
 single_at (s ∷ ss) own = None
 
--- those of the code
+-- the values that are reached by a path and a document of the code
 abbrev pub own_values : OwnValues → Reached
 own_values own = values_at own.path.now (tree_of own.document.now)
 

@@ -82,7 +82,7 @@ projection_of None = Ok no_pairs
 projection_of (Some (document_value kinds.Document b t)) = read_projection t
 projection_of (Some _) = Err errors.Projection
 
--- that of a command
+-- the projection that a command asks for
 abbrev pub projection_field : Tree → Result Tree CommandError
 projection_field t = projection_of (first_named (codes "projection") t)
 
@@ -100,6 +100,7 @@ kept p no_pairs = no_pairs
 kept p (leaf_pair n k v ps) = if keeps p n then leaf_pair n k v (kept p ps) else kept p ps
 kept p (inner_pair n k b t ps) = if keeps p n then inner_pair n k b t (kept p ps) else kept p ps
 
+-- the document with the fields that a projection keeps
 abbrev pub projected : Tree → TreeValue → TreeValue
 projected p (document_value kinds.Document b t) = document_value kinds.Document b (kept p t)
 projected p v = v
