@@ -142,6 +142,80 @@ static void try_rooms(void)
 }
 
 /* Walks over a copy of the document at each alignment, which ends where its block does. */
+/* Appends an int32 in a room of this length, at its end, with the builder's numbers. */
+static struct lughemra_built built_in(size_t room_length, struct lughemra_builder builder, uint32_t kind)
+{
+    struct lughemra_builder before = builder;
+    struct lughemra_built built;
+    uint8_t *room = malloc(room_length + 1), *copy = malloc(room_length + 1);
+    if (!room || !copy)
+        exit(2);
+    memset(room, 0xee, room_length + 1);
+    memcpy(copy, room, room_length + 1);
+    built = lughemra_append_integer(room, room_length, &builder, "a", 1, kind, 7);
+    if (built.refusal != LUGHEMRA_DONE)
+        expect(memcmp(room, copy, room_length + 1) == 0 && memcmp(&builder, &before, sizeof builder) == 0,
+               "a refusal changes nothing");
+    expect(room[room_length] == 0xee, "nothing behind the room is written");
+    free(room);
+    free(copy);
+    return built;
+}
+
+static void try_builders(void)
+{
+    struct lughemra_builder first = lughemra_build(), inner, wrong;
+    struct lughemra_value value = {LUGHEMRA_OBJECT_ID, 0, 0};
+    uint8_t room[16], bytes[12] = {0};
+    for (size_t length = 0; length < 16; length++) {
+        struct lughemra_built built = built_in(length, first, LUGHEMRA_INT32);
+        expect(built.wanted == 12 && built.refusal == (length < 12 ? LUGHEMRA_NO_ROOM : LUGHEMRA_DONE), "a room of each length");
+        built = lughemra_finish(room, length, &first);
+        expect(built.wanted == 5 && built.refusal == (length < 5 ? LUGHEMRA_NO_ROOM : LUGHEMRA_DONE), "the end in each room");
+    }
+    for (uint32_t kind = 0; kind < 300; kind++) {
+        uint32_t refusal = built_in(15, first, kind).refusal;
+        bool alone = (kind == 6 || (kind >= 8 && kind <= 10) || (kind >= 16 && kind <= 18) || kind == 1 || kind == 127 ||
+                      kind == 255 || kind == 2 || kind == 5 || kind == 11 || kind == 13 || kind == 14);
+        bool known = kind == 0xff || kind == 0x7f || (kind >= 1 && kind <= 0x13);
+        expect(refusal == (!known ? LUGHEMRA_BAD_KIND : !alone ? LUGHEMRA_BAD_VALUE : refusal), "each kind");
+    }
+    for (size_t k = 0; k < 64; k++) {
+        wrong = first;
+        wrong.end = (size_t)1 << k;
+        expect(built_in(15, wrong, LUGHEMRA_NULL).refusal != 1, "an end of each size");
+        wrong = first;
+        wrong.start = (size_t)1 << k;
+        expect(built_in(15, wrong, LUGHEMRA_NULL).refusal == LUGHEMRA_OUT_OF_RANGE, "a start behind the end");
+        wrong = first;
+        wrong.count = (size_t)1 << k;
+        expect(built_in(15, wrong, LUGHEMRA_NULL).refusal == (k < 3 ? LUGHEMRA_DONE : LUGHEMRA_OUT_OF_RANGE), "a count of each size");
+    }
+    wrong = first;
+    wrong.end = (size_t)INT32_MAX - 4;
+    expect(built_in(15, wrong, LUGHEMRA_NULL).refusal == LUGHEMRA_NO_ROOM, "2,147,483,647 bytes");
+    wrong.end++;
+    expect(built_in(15, wrong, LUGHEMRA_NULL).refusal == LUGHEMRA_TOO_LARGE, "2,147,483,648 bytes");
+    wrong = first;
+    wrong.depth = 0;
+    expect(built_in(15, wrong, LUGHEMRA_NULL).refusal == LUGHEMRA_OUT_OF_RANGE, "depth 0");
+    wrong.depth = 201;
+    expect(built_in(15, wrong, LUGHEMRA_NULL).refusal == LUGHEMRA_OUT_OF_RANGE, "depth 201");
+    wrong.depth = 200;
+    expect(lughemra_begin(room, 16, &wrong, "a", 1, LUGHEMRA_ARRAY, &inner).refusal == LUGHEMRA_TOO_DEEP, "a container of depth 201");
+    expect(lughemra_begin(room, 16, &first, "a", 1, LUGHEMRA_NULL, &inner).refusal == LUGHEMRA_BAD_KIND, "a null is opened");
+    expect(lughemra_begin(room, 16, &first, "a\0", 2, LUGHEMRA_ARRAY, &inner).refusal == LUGHEMRA_BAD_NAME, "a name with 00");
+    inner = first;
+    expect(lughemra_end(room, 16, &first, &inner).refusal == LUGHEMRA_OUT_OF_RANGE, "a container ends in itself");
+    expect(lughemra_append(room, 16, &first, "a", 1, value, NULL, 0, bytes, 11).refusal == LUGHEMRA_BAD_VALUE, "11 bytes");
+    expect(lughemra_append(room, 16, &first, "\xff", 1, value, NULL, 0, bytes, 12).refusal == LUGHEMRA_BAD_NAME, "no UTF-8");
+    expect(lughemra_append(NULL, 16, &first, "a", 1, value, NULL, 0, bytes, 12).wanted == 20, "null is no room");
+    expect(lughemra_append(room, 16, NULL, "a", 1, value, NULL, 0, bytes, 12).refusal == LUGHEMRA_OUT_OF_RANGE, "no builder");
+    expect(lughemra_begin(room, 16, &first, "a", 1, LUGHEMRA_ARRAY, NULL).refusal == LUGHEMRA_OUT_OF_RANGE, "no inner builder");
+    expect(lughemra_end(room, 16, NULL, &first).refusal == LUGHEMRA_OUT_OF_RANGE, "no outer builder");
+    expect(lughemra_finish(room, 16, NULL).refusal == LUGHEMRA_OUT_OF_RANGE, "nothing is finished");
+}
+
 static void try_alignments(void)
 {
     for (size_t shift = 0; shift < 16; shift++) {
@@ -167,6 +241,7 @@ int main(void)
     try_views();
     try_sections();
     try_rooms();
+    try_builders();
     try_alignments();
     if (!failed)
         printf("ok\n");

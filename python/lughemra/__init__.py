@@ -1,4 +1,4 @@
-"""Reads BSON 1.1 documents and messages of OP_MSG over the C library of Lughemra, in which all bytes are checked and read by
+"""Reads and writes BSON 1.1 documents, and reads messages of OP_MSG, over the C library of Lughemra, in which all bytes are checked and read by
 functions that are proved to meet their contracts.
 
     >>> import lughemra
@@ -13,7 +13,7 @@ from ._library import MAX_LIMIT
 from ._library import PATH as LIBRARY_PATH
 from .checks import DocumentsWalk, check, check_documents, documents, is_canonical, walk_documents
 from .document import Array, Document, Element, Value
-from .errors import DocumentError, Fault, LibraryNotFound, MessageError
+from .errors import DocumentError, EncodeError, Fault, LibraryNotFound, MessageError
 from .message import DocumentSequence, Flags, Header, Message, Reader, check_message, check_messages
 from .values import (
     Binary,
@@ -30,6 +30,7 @@ from .values import (
     Timestamp,
     Undefined,
 )
+from .writer import encode
 
 __version__ = "0.1.0"
 
@@ -45,6 +46,7 @@ __all__ = [
     "DocumentSequence",
     "DocumentsWalk",
     "Element",
+    "EncodeError",
     "Fault",
     "Flags",
     "Header",
@@ -68,6 +70,7 @@ __all__ = [
     "check_message",
     "check_messages",
     "documents",
+    "encode",
     "is_canonical",
     "walk_documents",
 ]

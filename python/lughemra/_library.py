@@ -231,6 +231,40 @@ class Text(ctypes.Structure):
     written: bool
 
 
+class Builder(ctypes.Structure):
+    """Lays out struct lughemra_builder."""
+
+    _fields_ = [
+        ("start", c_size_t),
+        ("end", c_size_t),
+        ("count", c_size_t),
+        ("depth", c_uint32),
+        ("kind", c_uint32),
+    ]
+    start: int
+    end: int
+    count: int
+    depth: int
+    kind: int
+
+
+class Numbers(ctypes.Structure):
+    """Lays out struct lughemra_value."""
+
+    _fields_ = [("kind", c_uint32), ("subtype", c_uint32), ("bits", c_uint64)]
+    kind: int
+    subtype: int
+    bits: int
+
+
+class Built(ctypes.Structure):
+    """Lays out struct lughemra_built."""
+
+    _fields_ = [("refusal", c_uint32), ("wanted", c_size_t)]
+    refusal: int
+    wanted: int
+
+
 # Each function of the library, with what it returns.
 FUNCTIONS: dict[str, Optional[type]] = {
     "check_document": FaultStruct,
@@ -252,6 +286,10 @@ FUNCTIONS: dict[str, Optional[type]] = {
     "find": None,
     "get": None,
     "enter": Iter,
+    "append": Built,
+    "begin": Built,
+    "end": Built,
+    "finish": Built,
 }
 
 
@@ -263,6 +301,8 @@ class Functions:
             function = library[f"lughemra_{name}_nonnull"]
             function.restype = returned
             setattr(self, name, function)
+        self.build = library["lughemra_build"]
+        self.build.restype = Builder
 
     def __getattr__(self, name: str) -> Any:
         raise AttributeError(name)

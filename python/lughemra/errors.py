@@ -71,6 +71,29 @@ class DocumentError(Fault):
     NAMES = DOCUMENT_FAULTS
 
 
+class EncodeError(ValueError):
+    """Tells why a document isn't written, by the numbers and names of enum lughemra_refusal."""
+
+    KIND, NAME, VALUE, DEPTH, ROOM = 1, 2, 3, 4, 5
+    NAMES = {
+        KIND: "BadKind",
+        NAME: "BadName",
+        VALUE: "BadValue",
+        DEPTH: "TooDeep",
+        253: "TooLarge",
+        255: "OutOfRange",
+    }
+
+    def __init__(self, number: int, words: str = "") -> None:
+        super().__init__(number, words)
+        self.number = number
+        self.name = self.NAMES.get(number, "")
+        self.words = words
+
+    def __str__(self) -> str:
+        return f"{self.name}: {self.words}" if self.words else self.name
+
+
 class MessageError(Fault):
     """Tells the first fault of a message.
 

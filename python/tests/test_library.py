@@ -31,6 +31,9 @@ STRUCTS = {
     "first": _library.First,
     "element": _library.Element,
     "text": _library.Text,
+    "builder": _library.Builder,
+    "value": _library.Numbers,
+    "built": _library.Built,
 }
 # Fields that have another name here.
 RENAMED = {
@@ -48,7 +51,7 @@ def test_the_functions_are_those_that_are_exported():
     exported = re.findall(r"lughemra_(\w+)_nonnull;", (INCLUDE / "lughemra.map").read_text(encoding="utf-8"))
     assert sorted(_library.FUNCTIONS) == sorted(exported)
     for name, returned in _library.FUNCTIONS.items():
-        (told,) = re.findall(rf"^(.*) lughemra_{name}_nonnull\(const", HEADER, re.M)
+        (told,) = re.findall(rf"^(.*) lughemra_{name}_nonnull\((?:const|uint8_t)", HEADER, re.M)
         wanted = {None: "void", ctypes.c_bool: "bool", ctypes.c_size_t: "size_t"}.get(returned)
         assert told == (wanted or f"struct lughemra_{next(key for key, it in STRUCTS.items() if it is returned)}")
 

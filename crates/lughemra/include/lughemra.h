@@ -1,5 +1,6 @@
 /* Lughemra for C: checks of BSON 1.1 documents and of MongoDB's OP_MSG, walks over both, and messages that come in pieces,
- * over bytes that the caller holds.
+ * over bytes that the caller holds;
+ * and building of documents in a room of the caller's.
  *
  * Each function reads `length` bytes at `bytes`, and keeps nothing. What it returns is proved, for all bytes, from what
  * the caller owes:
@@ -334,6 +335,50 @@ struct lughemra_text {
 #define LUGHEMRA_NO_MEMORY 254
 #define LUGHEMRA_TOO_LARGE 253
 
+/* Where a document or an array stands that is built in the program's room. It may be copied; of two copies one goes on. */
+struct lughemra_builder {
+    /* The offset of its first byte. */
+    size_t start;
+    /* The offset after its last pair. */
+    size_t end;
+    /* The number of its pairs. */
+    size_t count;
+    /* Its depth: 1 for the outermost document. */
+    uint32_t depth;
+    /* LUGHEMRA_DOCUMENT or LUGHEMRA_ARRAY. */
+    uint32_t kind;
+};
+
+/* The numbers of a value that is appended. What its kind doesn't have isn't looked at. */
+struct lughemra_value {
+    /* The kind, an enum lughemra_kind. */
+    uint32_t kind;
+    /* The subtype of a binary. */
+    uint32_t subtype;
+    /* The `value` of a struct lughemra_element. Of BOOL 0 is false, and anything else true. */
+    uint64_t bits;
+};
+
+enum lughemra_refusal {
+    LUGHEMRA_DONE = 0,
+    LUGHEMRA_BAD_KIND = 1,    /* no such kind, or for lughemra_begin one that is neither DOCUMENT nor ARRAY */
+    LUGHEMRA_BAD_NAME = 2,    /* the name isn't UTF-8, or has a 00 */
+    LUGHEMRA_BAD_VALUE = 3,   /* no value of this kind, or one that holds a document */
+    LUGHEMRA_TOO_DEEP = 4,    /* the container would be deeper than 200 */
+    LUGHEMRA_NO_ROOM = 5      /* the room has fewer than `wanted` bytes */
+                              /* LUGHEMRA_TOO_LARGE: the document would have more than 2,147,483,647 bytes */
+                              /* LUGHEMRA_OUT_OF_RANGE: the numbers of a builder are out of range of the room */
+};
+
+/* What became of a call that builds. Where it isn't done, nothing changed. */
+struct lughemra_built {
+    /* An enum lughemra_refusal, LUGHEMRA_TOO_LARGE or LUGHEMRA_OUT_OF_RANGE. */
+    uint32_t refusal;
+    /* How many bytes the room has to have for what was asked, and for the ends of all containers that are open. After
+     * lughemra_finish, the number of bytes of the document. Where it isn't done, and not for want of room, 0. */
+    size_t wanted;
+};
+
 /* ---- the functions of the library, to which no pointer may be null: use those below */
 
 struct lughemra_fault lughemra_check_document_nonnull(const uint8_t *bytes, size_t length);
@@ -361,6 +406,15 @@ void lughemra_find_nonnull(const uint8_t *bytes, size_t length, const uint8_t *n
 void lughemra_get_nonnull(const uint8_t *bytes, size_t length, const uint8_t *name, size_t name_length,
                           struct lughemra_element *element);
 struct lughemra_iter lughemra_enter_nonnull(const struct lughemra_iter *iter, const struct lughemra_element *element);
+struct lughemra_built lughemra_append_nonnull(uint8_t *room, size_t room_length, struct lughemra_builder *builder,
+                                              const uint8_t *name, size_t name_length, const struct lughemra_value *value,
+                                              const uint8_t *text, size_t text_length, const uint8_t *bytes, size_t length);
+struct lughemra_built lughemra_begin_nonnull(uint8_t *room, size_t room_length, const struct lughemra_builder *outer,
+                                             const uint8_t *name, size_t name_length, uint32_t kind,
+                                             struct lughemra_builder *inner);
+struct lughemra_built lughemra_end_nonnull(uint8_t *room, size_t room_length, struct lughemra_builder *outer,
+                                           const struct lughemra_builder *inner);
+struct lughemra_built lughemra_finish_nonnull(uint8_t *room, size_t room_length, const struct lughemra_builder *builder);
 
 /* Returns `bytes`, or if that is null the address of a byte, which is no one's to read. */
 static inline const uint8_t *lughemra_nonnull(const uint8_t *bytes)
@@ -549,6 +603,132 @@ static inline struct lughemra_text lughemra_canonical(const uint8_t *bytes, size
 {
     return lughemra_canonical_nonnull(lughemra_nonnull(bytes), lughemra_length(bytes, length), lughemra_nonnull_room(room),
                                       lughemra_length(room, room_length));
+}
+
+/* ---- building: a document is put together in a room of the program's, from its front on, and takes no memory. The struct
+ * says where it stands, so that a room that is too short may be moved to a longer one, and the call made again. The room
+ * overlaps nothing else that is handed in. */
+
+/* Returns the builder of a document at the front of a room, with no pairs. */
+struct lughemra_builder lughemra_build(void);
+
+/* Returns what is told where a pointer is null. */
+static inline struct lughemra_built lughemra_not_built(void)
+{
+    static const struct lughemra_built none = {LUGHEMRA_OUT_OF_RANGE, 0};
+    return none;
+}
+
+/* Appends a pair of this name, of `name_length` bytes, to what the builder builds. The text is that of STRING, CODE and SYMBOL,
+ * the namespace of DB_POINTER or the pattern of REGEX; the bytes are the data of BINARY, of subtype 02 without its inner
+ * count, the 12 or 16 bytes of OBJECT_ID, of that in DB_POINTER and of DECIMAL128, or the options of REGEX. In an array the
+ * name is the index, and the given one isn't looked at. A name may be there already. */
+static inline struct lughemra_built lughemra_append(uint8_t *room, size_t room_length, struct lughemra_builder *builder,
+                                                    const char *name, size_t name_length, struct lughemra_value value,
+                                                    const char *text, size_t text_length, const uint8_t *bytes,
+                                                    size_t length)
+{
+    const uint8_t *named = (const uint8_t *)name, *words = (const uint8_t *)text;
+    if (builder == NULL)
+        return lughemra_not_built();
+    return lughemra_append_nonnull(lughemra_nonnull_room(room), lughemra_length(room, room_length), builder,
+                                   lughemra_nonnull(named), lughemra_length(named, name_length), &value,
+                                   lughemra_nonnull(words), lughemra_length(words, text_length), lughemra_nonnull(bytes),
+                                   lughemra_length(bytes, length));
+}
+
+/* Appends a value that is a number alone: of BOOL, DATETIME, INT32, INT64, NULL, UNDEFINED, MIN_KEY or MAX_KEY. */
+static inline struct lughemra_built lughemra_append_integer(uint8_t *room, size_t room_length,
+                                                            struct lughemra_builder *builder, const char *name,
+                                                            size_t name_length, uint32_t kind, int64_t integer)
+{
+    struct lughemra_value value = {kind, 0, (uint64_t)integer};
+    return lughemra_append(room, room_length, builder, name, name_length, value, NULL, 0, NULL, 0);
+}
+
+/* Appends a DOUBLE. */
+static inline struct lughemra_built lughemra_append_double(uint8_t *room, size_t room_length,
+                                                           struct lughemra_builder *builder, const char *name,
+                                                           size_t name_length, double real)
+{
+    struct lughemra_value value = {LUGHEMRA_DOUBLE, 0, 0};
+    union {
+        double real;
+        uint64_t bits;
+    } number;
+    number.real = real;
+    value.bits = number.bits;
+    return lughemra_append(room, room_length, builder, name, name_length, value, NULL, 0, NULL, 0);
+}
+
+/* Appends a text: a STRING, a CODE or a SYMBOL. */
+static inline struct lughemra_built lughemra_append_text(uint8_t *room, size_t room_length,
+                                                         struct lughemra_builder *builder, const char *name,
+                                                         size_t name_length, uint32_t kind, const char *text,
+                                                         size_t text_length)
+{
+    struct lughemra_value value = {kind, 0, 0};
+    return lughemra_append(room, room_length, builder, name, name_length, value, text, text_length, NULL, 0);
+}
+
+/* Appends a BINARY of this subtype, an OBJECT_ID or a DECIMAL128. */
+static inline struct lughemra_built lughemra_append_bytes(uint8_t *room, size_t room_length,
+                                                          struct lughemra_builder *builder, const char *name,
+                                                          size_t name_length, uint32_t kind, uint32_t subtype,
+                                                          const uint8_t *bytes, size_t length)
+{
+    struct lughemra_value value = {kind, subtype, 0};
+    return lughemra_append(room, room_length, builder, name, name_length, value, NULL, 0, bytes, length);
+}
+
+/* Appends an element that was read from these bytes, but for one that holds a document: that is opened by lughemra_begin,
+ * and its elements are appended. */
+static inline struct lughemra_built lughemra_append_element(uint8_t *room, size_t room_length,
+                                                            struct lughemra_builder *builder, const uint8_t *bytes,
+                                                            size_t length, const struct lughemra_element *element)
+{
+    struct lughemra_value value;
+    if (bytes == NULL || element == NULL || element->name.offset > length || element->text.offset > length ||
+        element->bytes.offset > length || element->name.length > length - element->name.offset ||
+        element->text.length > length - element->text.offset || element->bytes.length > length - element->bytes.offset)
+        return lughemra_not_built();
+    value.kind = element->kind;
+    value.subtype = element->subtype;
+    value.bits = element->value.bits;
+    return lughemra_append(room, room_length, builder, (const char *)bytes + element->name.offset, element->name.length,
+                           value, (const char *)bytes + element->text.offset, element->text.length,
+                           bytes + element->bytes.offset, element->bytes.length);
+}
+
+/* Opens a document or an array, LUGHEMRA_DOCUMENT or LUGHEMRA_ARRAY, as the value of the next pair of `outer`, and makes `inner`
+ * its builder. Until lughemra_end, only `inner` is appended to. */
+static inline struct lughemra_built lughemra_begin(uint8_t *room, size_t room_length, const struct lughemra_builder *outer,
+                                                   const char *name, size_t name_length, uint32_t kind,
+                                                   struct lughemra_builder *inner)
+{
+    const uint8_t *named = (const uint8_t *)name;
+    if (outer == NULL || inner == NULL)
+        return lughemra_not_built();
+    return lughemra_begin_nonnull(lughemra_nonnull_room(room), lughemra_length(room, room_length), outer,
+                                  lughemra_nonnull(named), lughemra_length(named, name_length), kind, inner);
+}
+
+/* Ends the document or the array `inner`, which is a pair of `outer` then. */
+static inline struct lughemra_built lughemra_end(uint8_t *room, size_t room_length, struct lughemra_builder *outer,
+                                                 const struct lughemra_builder *inner)
+{
+    if (outer == NULL || inner == NULL)
+        return lughemra_not_built();
+    return lughemra_end_nonnull(lughemra_nonnull_room(room), lughemra_length(room, room_length), outer, inner);
+}
+
+/* Ends the outermost document: the first `wanted` bytes of the room are it. */
+static inline struct lughemra_built lughemra_finish(uint8_t *room, size_t room_length,
+                                                    const struct lughemra_builder *builder)
+{
+    if (builder == NULL)
+        return lughemra_not_built();
+    return lughemra_finish_nonnull(lughemra_nonnull_room(room), lughemra_length(room, room_length), builder);
 }
 
 #ifdef __cplusplus

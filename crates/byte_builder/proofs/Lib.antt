@@ -1,0 +1,5 @@
+pub mod Bytes
+pub mod Places
+pub mod Trees
+pub mod Building
+pub mod Nesting

@@ -1,0 +1,100 @@
+-- Containers that are opened inside others, and ended.
+use Rattle.std.specs.Prelude.{◌≡◌, ◌≢◌, ◌≤◌, ◌<◌, ℕ, ◌+◌, ◌-◌, ◌^◌, List, [], ◌∷◌, ◌++◌, length}
+use Rattle.std.specs.Prelude.{Option, Some, None, take, if◌then◌else◌, nat_eq}
+use Rattle.bson_elem.specs.declared.kinds.Kind.{Kind}
+use Rattle.bson_elem.specs.declared.kinds.Kind.TheVariants as kinds
+use Rattle.bson_elem.specs.{byte_of, cstring, form_of, little}
+use Rattle.bson_elem.specs.Kinds.{document_form}
+use Rattle.bson_elem.specs.Spelling.{IsName}
+use Rattle.byte_builder.specs.declared.builder.Builder.{Builder}
+use Rattle.byte_builder.specs.declared.built.Built.{Built}
+use Rattle.byte_builder.specs.Appends.{IsPushedNamed, done, no_room, refused}
+use Rattle.byte_builder.specs.Builders.{IsInRange}
+use Rattle.byte_builder.specs.Placing.{placed}
+
+-- a document that begins at the front of a room, with no pairs
+abbrev pub first_builder : Builder
+first_builder = record { start = 0; end = 4; count = 0; depth = 1; kind = 3 }
+
+-- the kind of a container that is opened: a document or an array
+abbrev pub container_of : ℕ → Option Kind
+container_of n =
+    if nat_eq n 3 then Some kinds.Document else if nat_eq n 4 then Some kinds.Array else None
+
+-- The inner container stands behind the pairs of the outer one, as the value of a pair of this kind
+-- and name.
+pub record StandsBehind (room : List ℕ) (outer inner : Builder) (k : Kind) (name : List ℕ)
+    : Type 0 where
+  pub head_is : take inner.start room ≡ take outer.end room ++ (byte_of k ∷ cstring name)
+  pub start_is : inner.start ≡ outer.end + length name + 2
+  pub deeper : inner.depth ≡ outer.depth + 1
+  pub named : IsName name
+  pub kind_is : form_of k ≡ document_form
+
+-- the builder whose pairs one deeper container is put behind
+abbrev pub deeper : Builder → Builder
+deeper b = record b { depth = b.depth + 1 }
+
+-- the container whose four bytes end where this builder does
+abbrev pub opened : Builder → ℕ → Builder
+opened b kind =
+    record { start = b.end - 4; end = b.end; count = 0; depth = b.depth; kind = kind }
+
+abbrev pub four_zeros : List ℕ
+four_zeros = 0 ∷ 0 ∷ 0 ∷ 0 ∷ []
+
+-- The container is opened; or it isn't, as a pair isn't appended, or since the numbers of the outer
+-- one are out of range, the kind is no container's, or it would be deeper than 200.
+pub data IsBegun (room : List ℕ) (outer : Builder) (name : List ℕ) (kind : ℕ) (old : Builder)
+    (new : List ℕ) (inner : Builder) : Built → Type 0 where
+  is_open : {w : Built} (k : Kind) (after : Builder) → IsInRange outer → outer.depth < 200
+      → container_of kind ≡ Some k
+      → IsPushedNamed room (deeper outer) k name four_zeros new after w → w.refusal ≡ 0
+      → inner ≡ opened after kind → IsBegun room outer name kind old new inner w
+  is_shut : {w : Built} (k : Kind) (after : Builder) → IsInRange outer → outer.depth < 200
+      → container_of kind ≡ Some k
+      → IsPushedNamed room (deeper outer) k name four_zeros new after w → w.refusal ≢ 0
+      → inner ≡ old → IsBegun room outer name kind old new inner w
+  out_of_range : {w : Built} → (IsInRange outer → ⊥) → w ≡ refused 255 → new ≡ room
+      → inner ≡ old → IsBegun room outer name kind old new inner w
+  no_kind : {w : Built} → container_of kind ≡ None → w ≡ refused 1 → new ≡ room → inner ≡ old
+      → IsBegun room outer name kind old new inner w
+  too_deep : {w : Built} → 200 ≤ outer.depth → w ≡ refused 4 → new ≡ room → inner ≡ old
+      → IsBegun room outer name kind old new inner w
+
+-- the room with the container's length and its last 00
+abbrev pub closed : ℕ → ℕ → List ℕ → List ℕ
+closed start end room = placed end (0 ∷ []) (placed start (little (end + 1 - start)) room)
+
+-- the container has room for its last 00
+pub record CanClose (room : List ℕ) (b : Builder) : Type 0 where
+  pub in_range : IsInRange b
+  pub has_room : b.end < length room
+
+-- it is behind the outer one, and one deeper
+pub record CanEnd (room : List ℕ) (outer inner : Builder) : Type 0 where
+  pub outer_is : IsInRange outer
+  pub closes : CanClose room inner
+  pub in_order : outer.end < inner.start
+  pub deeper : inner.depth ≡ outer.depth + 1
+
+abbrev pub with_inner : Builder → Builder → Builder
+with_inner outer inner = record outer { end = inner.end + 1; count = outer.count + 1 }
+
+-- The inner container is ended and is a pair of the outer one; or the numbers are out of range.
+pub data IsEnded (room : List ℕ) (outer inner : Builder) (new : List ℕ) (after : Builder)
+    : Built → Type 0 where
+  is_ended : {w : Built} → CanEnd room outer inner → new ≡ closed inner.start inner.end room
+      → after ≡ with_inner outer inner → w ≡ done (inner.end + 1 + outer.depth)
+      → IsEnded room outer inner new after w
+  cannot_end : {w : Built} → (CanEnd room outer inner → ⊥) → w ≡ refused 255 → new ≡ room
+      → after ≡ outer → IsEnded room outer inner new after w
+
+-- The document is ended; or there is no room for its last 00, or the numbers are out of range.
+pub data IsFinished (room : List ℕ) (b : Builder) (new : List ℕ) : Built → Type 0 where
+  is_finished : {w : Built} → CanClose room b → new ≡ closed b.start b.end room
+      → w ≡ done (b.end + 1) → IsFinished room b new w
+  no_place : {w : Built} → IsInRange b → length room ≤ b.end → w ≡ no_room (b.end + 1)
+      → new ≡ room → IsFinished room b new w
+  cannot_finish : {w : Built} → (IsInRange b → ⊥) → w ≡ refused 255 → new ≡ room
+      → IsFinished room b new w

@@ -1,0 +1,85 @@
+//! Exports what builds a document in the caller's room.
+
+ghost use Rattle.std.specs.Prelude.{◌≡◌, ◌≤◌, List, ℕ, length, take};
+ghost use Rattle.bson_elem.specs.declared.kinds.Kind.{Kind};
+ghost use Rattle.bson_elem.specs.{Spells, Tree, no_code, no_pairs};
+ghost use Rattle.bson_raw.specs.{document_value};
+ghost use Rattle.bson_doc.specs.Appended.{with_pair_appended};
+ghost use Rattle.byte_builder.specs.Appends.{AppendsLeaf, IsAppended};
+ghost use Rattle.byte_builder.specs.Builders.{Builds, next_name};
+ghost use Rattle.byte_builder.specs.Nesting.{IsBegun, IsEnded, IsFinished, StandsBehind};
+ghost use Rattle.byte_builder.specs.Nesting.{first_builder};
+
+use byte_builder::{Builder, Built, ValueNumbers};
+
+/// Returns the builder of a document that begins at the front of a room, with no pairs.
+#[unsafe(no_mangle)]
+pub extern "C" fn lughemra_build() -> Builder
+    ensures first { result ≡ first_builder }
+    ensures empty { (room : List ℕ) → 5 ≤ length room → Builds room result no_pairs }
+{
+    byte_builder::first()
+}
+
+/// Appends a pair to what `builder` builds in `room`, as `byte_builder::append` does.
+#[unsafe(no_mangle)]
+pub extern "C" fn lughemra_append_nonnull(
+    room: &mut [u8],
+    builder: &mut Builder,
+    name: &[u8],
+    value: &ValueNumbers,
+    text: &[u8],
+    bytes: &[u8],
+) -> Built
+    ensures appended { IsAppended room.old builder.old name.now value.now text.now bytes.now
+        room.new builder.new result }
+    ensures pairs { (t : Tree) → Builds room.old builder.old t → result.refusal ≡ 0
+        → AppendsLeaf room.new builder.old name.now value.now text.now bytes.now builder.new t }
+{
+    byte_builder::append(room, builder, name, value, text, bytes)
+}
+
+/// Opens a document or an array inside `outer`, as `byte_builder::begin` does.
+#[unsafe(no_mangle)]
+pub extern "C" fn lughemra_begin_nonnull(
+    room: &mut [u8],
+    outer: &Builder,
+    name: &[u8],
+    kind: u32,
+    inner: &mut Builder,
+) -> Built
+    ensures begun { IsBegun room.old outer.now name.now kind inner.old room.new inner.new result }
+    ensures empty { (t : Tree) → Builds room.old outer.now t → result.refusal ≡ 0
+        → Builds room.new outer.now t × Builds room.new inner.new no_pairs
+        × ((k : Kind) × StandsBehind room.new outer.now inner.new k
+        (next_name outer.now name.now)) }
+{
+    byte_builder::begin(room, outer, name, kind, inner)
+}
+
+/// Ends the document or the array `inner`, as `byte_builder::end` does.
+#[unsafe(no_mangle)]
+pub extern "C" fn lughemra_end_nonnull(
+    room: &mut [u8],
+    outer: &mut Builder,
+    inner: &Builder,
+) -> Built
+    ensures ended { IsEnded room.old outer.old inner.now room.new outer.new result }
+    ensures pairs { (t u : Tree) (k : Kind) (name : List ℕ) → Builds room.old outer.old t
+        → Builds room.old inner.now u → StandsBehind room.old outer.old inner.now k name
+        → result.refusal ≡ 0
+        → Builds room.new outer.new (with_pair_appended name (document_value k no_code u) t) }
+{
+    byte_builder::end(room, outer, inner)
+}
+
+/// Ends the outermost document, as `byte_builder::finish` does.
+#[unsafe(no_mangle)]
+pub extern "C" fn lughemra_finish_nonnull(room: &mut [u8], builder: &Builder) -> Built
+    ensures finished { IsFinished room.old builder.now room.new result }
+    ensures document { (t : Tree) → Builds room.old builder.now t → builder.now.start ≡ 0
+        → builder.now.depth ≡ 1 → result.refusal ≡ 0
+        → Spells t (take result.wanted room.new) }
+{
+    byte_builder::finish(room, builder)
+}

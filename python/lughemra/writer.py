@@ -1,0 +1,142 @@
+"""Writes documents: pair by pair, by the library's builder, in a room that grows as it is told."""
+
+from __future__ import annotations
+
+import ctypes
+import datetime
+import struct
+from collections.abc import Iterable, Mapping, Sequence
+from typing import Any, Callable
+
+from . import _library as lib
+
+from .errors import EncodeError
+from .leaves import EPOCH
+from .values import (
+    Binary,
+    Code,
+    DatetimeMS,
+    DBPointer,
+    Decimal128,
+    Kind,
+    MaxKey,
+    MinKey,
+    ObjectId,
+    Regex,
+    Symbol,
+    Timestamp,
+    Undefined,
+)
+
+# A value: its kind, its subtype, its 64 bits, its text and its bytes.
+Given = tuple[int, int, int, bytes, bytes]
+
+MASK = (1 << 64) - 1
+MILLISECOND = datetime.timedelta(milliseconds=1)
+
+
+def _integer(value: int) -> Given:
+    """Returns an int32 if the number is one, and else an int64."""
+    if -(1 << 31) <= value < 1 << 31:
+        return Kind.INT32, 0, value & MASK, b"", b""
+    if -(1 << 63) <= value < 1 << 63:
+        return Kind.INT64, 0, value & MASK, b"", b""
+    raise OverflowError(f"{value} is no int64")
+
+
+def _date(value: datetime.datetime) -> Given:
+    """Returns a date; one without a time zone is in UTC."""
+    aware = value if value.tzinfo is not None else value.replace(tzinfo=datetime.timezone.utc)
+    return Kind.DATETIME, 0, (aware - EPOCH) // MILLISECOND & MASK, b"", b""
+
+
+def _code(value: Code) -> Given:
+    """Returns a code without a scope."""
+    if value.scope is not None:
+        raise EncodeError(EncodeError.VALUE, "a code with scope isn't written")
+    return Kind.CODE, 0, 0, value.text.encode(), b""
+
+
+GIVEN: dict[type, Callable[[Any], Given]] = {
+    float: lambda it: (Kind.DOUBLE, 0, struct.unpack("<Q", struct.pack("<d", it))[0], b"", b""),
+    str: lambda it: (Kind.STRING, 0, 0, it.encode(), b""),
+    bytes: lambda it: (Kind.BINARY, 0, 0, b"", it),
+    Binary: lambda it: (Kind.BINARY, it.subtype, 0, b"", it.data),
+    Undefined: lambda it: (Kind.UNDEFINED, 0, 0, b"", b""),
+    ObjectId: lambda it: (Kind.OBJECT_ID, 0, 0, b"", it.data),
+    bool: lambda it: (Kind.BOOL, 0, int(it), b"", b""),
+    datetime.datetime: _date,
+    DatetimeMS: lambda it: (Kind.DATETIME, 0, it.milliseconds & MASK, b"", b""),
+    type(None): lambda it: (Kind.NULL, 0, 0, b"", b""),
+    Regex: lambda it: (Kind.REGEX, 0, 0, it.pattern.encode(), it.options.encode()),
+    DBPointer: lambda it: (Kind.DB_POINTER, 0, 0, it.namespace.encode(), it.id.data),
+    Code: _code,
+    Symbol: lambda it: (Kind.SYMBOL, 0, 0, it.text.encode(), b""),
+    int: _integer,
+    Timestamp: lambda it: (Kind.TIMESTAMP, 0, it.seconds << 32 | it.increment, b"", b""),
+    Decimal128: lambda it: (Kind.DECIMAL128, 0, 0, b"", it.data),
+    MinKey: lambda it: (Kind.MIN_KEY, 0, 0, b"", b""),
+    MaxKey: lambda it: (Kind.MAX_KEY, 0, 0, b"", b""),
+}
+
+
+class _Room:
+    """Holds the room that a document is built in."""
+
+    def __init__(self) -> None:
+        self.held = bytearray(512)
+
+    def build(self, function: Callable[..., Any], *arguments: Any) -> int:
+        """Calls a function of the builder, again in a longer room if it tells so. Returns how many bytes it wants."""
+        while True:
+            pointer = ctypes.byref(ctypes.c_char.from_buffer(self.held))
+            told = function(pointer, lib.size(len(self.held)), *arguments)
+            if told.refusal == EncodeError.ROOM:
+                del pointer
+                self.held = self.held + bytes(max(told.wanted, 2 * len(self.held)) - len(self.held))
+            elif told.refusal:
+                raise EncodeError(told.refusal)
+            else:
+                wanted: int = told.wanted
+                return wanted
+
+    def append(self, builder: lib.Builder, name: bytes, value: Any) -> None:
+        """Appends a pair, at all depths."""
+        if isinstance(value, (Mapping, Sequence)) and not isinstance(value, (str, bytes)):
+            inner = lib.Builder()
+            is_array = not isinstance(value, Mapping)
+            kind = lib.limit_of(Kind.ARRAY if is_array else Kind.DOCUMENT)
+            outer_argument, inner_argument = ctypes.byref(builder), ctypes.byref(inner)
+            self.build(lib.short.begin, outer_argument, name, lib.size(len(name)), kind, inner_argument)
+            self.append_all(inner, (("", it) for it in value) if is_array else value.items())
+            self.build(lib.short.end, outer_argument, inner_argument)
+            return
+        given = GIVEN.get(type(value))
+        if given is None:
+            raise TypeError(f"{type(value).__name__} stands for no value of BSON")
+        kind_byte, subtype, bits, text, content = given(value)
+        numbers = ctypes.byref(lib.Numbers(kind_byte, subtype, bits))
+        sizes = [lib.size(len(it)) for it in (name, text, content)]
+        self.build(
+            lib.short.append, ctypes.byref(builder), name, sizes[0], numbers, text, sizes[1], content, sizes[2]
+        )
+
+    def append_all(self, builder: lib.Builder, pairs: Iterable[tuple[str, Any]]) -> None:
+        """Appends the pairs in their order."""
+        for name, value in pairs:
+            self.append(builder, name.encode(), value)
+
+
+def encode(pairs: Mapping[str, Any]) -> bytes:
+    """Returns the bytes of a document with these pairs.
+
+    The values are those that a `Document` gives. A list, or any sequence, is an array; an `int` is an int32 if it is one, and
+    else an int64; a `datetime` without a time zone is in UTC. Raises EncodeError for what BSON can't spell.
+    """
+    room = _Room()
+    builder = lib.short.build()
+    room.append_all(builder, pairs.items())
+    length = room.build(lib.short.finish, ctypes.byref(builder))
+    return bytes(room.held[:length])
+
+
