@@ -30,4 +30,4 @@ pub use filters::{
 pub use making::{count_value, set};
 pub use owned::{array_field, field, is_same, owned_body, whole_of};
 pub use pipeline::after_stages;
-pub use sorting::{sort_field, sort_in};
+pub use sorting::{is_down, is_up, sort_field, sort_in};

@@ -23,14 +23,14 @@ use std::alloc::{AllocError, Global};
 use std::cmp::Ordering;
 
 /// Returns true if a direction is up: if it is the number 1.
-fn is_up(direction: &Bson) -> bool
+pub fn is_up(direction: &Bson) -> bool
     ensures { result ≡ is_up (value_of direction.now) }
 {
     passes(Operator::Eq, direction, &Bson::Int32(1))
 }
 
 /// Returns true if a direction is down: if it is the number -1.
-fn is_down(direction: &Bson) -> bool
+pub fn is_down(direction: &Bson) -> bool
     ensures { result ≡ is_down (value_of direction.now) }
 {
     passes(Operator::Eq, direction, &Bson::Int32(-1))
