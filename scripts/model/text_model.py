@@ -344,12 +344,16 @@ def message_lines(b):
 
 
 def read_hex(text):
-    """Returns the bytes that the text spells, or the place of its fault."""
+    """Returns the bytes that the text spells up to its fault, and the place of that, if it has one."""
     left = re.sub(rb"[ \t\r\n]", b"", text)
-    if len(left) % 2:
-        return None, len(left)
-    wrong = re.search(rb"[^0-9a-fA-F]", left)
-    return (None, wrong.start()) if wrong else (bytes.fromhex(left.decode()), None)
+    digits = re.match(rb"[0-9a-fA-F]*", left).group()
+    spelled = bytes.fromhex(digits[: len(digits) // 2 * 2].decode())
+    return spelled, len(digits) if len(digits) % 2 or len(digits) < len(left) else None
+
+
+def is_open(b):
+    """Returns whether more bytes would decide what document begins with these."""
+    return len(b) < 4 or 5 <= number(b, 0) < 2**31 and len(b) < number(b, 0)
 
 
 # The commands over a FILE.
@@ -381,8 +385,6 @@ def output(command, flags, given):
     """Returns what the command with these flags writes for an input, and its status."""
     is_hex, is_array = "--hex" in flags, "--array" in flags
     b, place = read_hex(given) if is_hex else (given, None)
-    if b is None:
-        return b"fault 0 Hex at %d\n" % place, 1
     at, text, fault = 0, b"", None
     while at < len(b) and not fault:
         try:
@@ -393,6 +395,8 @@ def output(command, flags, given):
             text, at = text + part, at + (length or 0)
         except (Bad, BadMessage) as found:
             fault = found.line(at)
+    if place is not None and (not fault or fault.startswith("14 ") or command != "msg" and is_open(b[at:])):
+        fault = f"0 Hex at {place}"
     if command == "canon" and is_hex and text:
         text = text.hex().encode() + b"\n"
     if is_array:

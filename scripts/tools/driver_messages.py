@@ -17,7 +17,7 @@ ROOT = os.path.dirname(os.path.dirname(os.path.dirname(os.path.realpath(__file__
 sys.path.insert(0, os.path.join(ROOT, "bench"))
 from generate import document, element, string  # noqa: E402
 
-STRING, DOCUMENT, ARRAY, BOOLEAN, INT32, INT64 = 0x02, 0x03, 0x04, 0x08, 0x10, 0x12
+DOUBLE, STRING, DOCUMENT, ARRAY, BOOLEAN, INT32, INT64 = 0x01, 0x02, 0x03, 0x04, 0x08, 0x10, 0x12
 
 
 def int32(number):
@@ -26,6 +26,10 @@ def int32(number):
 
 def int64(number):
     return struct.pack("<q", number)
+
+
+def double(number):
+    return struct.pack("<d", number)
 
 
 def message(number, body, documents=()):
@@ -72,6 +76,7 @@ def is_answered(link, sent):
 
 
 COLLECTION = (STRING, string("c"))
+PATHS = (STRING, string("q"))
 ONE = (INT32, int32(1))
 GROUP = document([element(INT32, "_id", int32(1)), element(DOCUMENT, "n", document([element(INT32, "$sum", int32(1))]))])
 COUNTING = document([
@@ -529,7 +534,7 @@ document 323
   "ordered" boolean false
   "$db" string "test"
 answer
-document 311
+document 330
   "n" int32 2
   "nModified" int32 0
   "upserted" array 61
@@ -539,11 +544,11 @@ document 311
     "1" document 25
       "index" int32 3
       "_id" int32 8
-  "writeErrors" array 188
-    "0" document 100
+  "writeErrors" array 207
+    "0" document 119
       "index" int32 1
       "code" int32 9
-      "errmsg" string "a filter with $in or a field without a name can't be upserted"
+      "errmsg" string "a filter with $and, $or, $in, a path or a field without a name can't be upserted"
     "1" document 77
       "index" int32 2
       "code" int32 11000
@@ -574,6 +579,229 @@ document 122
         "b" int32 4
     "id" int64 0
     "ns" string "test.c"
+  "ok" double 000000000000f03f
+""",
+    ),
+    (
+        command("insert", PATHS),
+        [document([field("_id", 1), element(DOCUMENT, "a", document([field("b", 1)])), field("n", 1)]), document([field("_id", 2), element(ARRAY, "a", document([element(DOCUMENT, "0", document([field("b", 2)])), element(DOCUMENT, "1", document([field("b", 3)]))])), field("n", 2)]), document([field("_id", 3), element(ARRAY, "a", document([field("0", 5)])), field("n", 3)])],
+        """\
+request "insert"
+document 33
+  "insert" string "q"
+  "$db" string "test"
+sequence "documents" 3
+answer
+document 24
+  "n" int32 3
+  "ok" double 000000000000f03f
+""",
+    ),
+    (
+        command("find", PATHS, element(DOCUMENT, "filter", document([element(ARRAY, "$or", document([element(DOCUMENT, "0", document([field("a.b", 3)])), element(DOCUMENT, "1", document([field("a.0", 5)]))]))])), element(DOCUMENT, "projection", document([field("a", 0)]))),
+        (),
+        """\
+request "find"
+document 112
+  "find" string "q"
+  "filter" document 49
+    "$or" array 39
+      "0" document 14
+        "a.b" int32 3
+      "1" document 14
+        "a.0" int32 5
+  "projection" document 12
+    "a" int32 0
+  "$db" string "test"
+answer
+document 122
+  "cursor" document 97
+    "firstBatch" array 53
+      "0" document 21
+        "_id" int32 2
+        "n" int32 2
+      "1" document 21
+        "_id" int32 3
+        "n" int32 3
+    "id" int64 0
+    "ns" string "test.q"
+  "ok" double 000000000000f03f
+""",
+    ),
+    (
+        command("find", PATHS, element(DOCUMENT, "filter", document([element(ARRAY, "$and", document([element(DOCUMENT, "0", document([element(DOCUMENT, "n", document([field("$lt", 3)]))])), element(DOCUMENT, "1", document([element(DOCUMENT, "a.b", document([element(BOOLEAN, "$exists", b"\1")]))]))]))])), element(DOCUMENT, "sort", document([field("n", -1)])), element(DOCUMENT, "projection", document([field("_id", 0), element(BOOLEAN, "n", b"\1")]))),
+        (),
+        """\
+request "find"
+document 156
+  "find" string "q"
+  "filter" document 69
+    "$and" array 58
+      "0" document 22
+        "n" document 14
+          "$lt" int32 3
+      "1" document 25
+        "a.b" document 15
+          "$exists" boolean true
+  "sort" document 12
+    "n" int32 -1
+  "projection" document 18
+    "_id" int32 0
+    "n" boolean true
+  "$db" string "test"
+answer
+document 104
+  "cursor" document 79
+    "firstBatch" array 35
+      "0" document 12
+        "n" int32 2
+      "1" document 12
+        "n" int32 1
+    "id" int64 0
+    "ns" string "test.q"
+  "ok" double 000000000000f03f
+""",
+    ),
+    (
+        command("find", PATHS, element(DOCUMENT, "filter", document([element(DOCUMENT, "a.b", document([element(ARRAY, "$in", document([field("0", 1), field("1", 7)]))]))]))),
+        (),
+        """\
+request "find"
+document 78
+  "find" string "q"
+  "filter" document 39
+    "a.b" document 29
+      "$in" array 19
+        "0" int32 1
+        "1" int32 7
+  "$db" string "test"
+answer
+document 113
+  "cursor" document 88
+    "firstBatch" array 44
+      "0" document 36
+        "_id" int32 1
+        "a" document 12
+          "b" int32 1
+        "n" int32 1
+    "id" int64 0
+    "ns" string "test.q"
+  "ok" double 000000000000f03f
+""",
+    ),
+    (
+        command("find", PATHS, element(DOCUMENT, "filter", document([element(ARRAY, "$and", document([]))]))),
+        (),
+        """\
+request "find"
+document 55
+  "find" string "q"
+  "filter" document 16
+    "$and" array 5
+  "$db" string "test"
+answer
+document 101
+  "ok" double 0000000000000000
+  "errmsg" string "$and/$or/$nor must be a nonempty array"
+  "code" int32 2
+  "codeName" string "BadValue"
+""",
+    ),
+    (
+        command("find", PATHS, element(DOCUMENT, "projection", document([field("a", 1), field("n", 0)]))),
+        (),
+        """\
+request "find"
+document 62
+  "find" string "q"
+  "projection" document 19
+    "a" int32 1
+    "n" int32 0
+  "$db" string "test"
+answer
+document 122
+  "ok" double 0000000000000000
+  "errmsg" string "Cannot do exclusion on a field in inclusion projection"
+  "code" int32 31254
+  "codeName" string "Location31254"
+""",
+    ),
+    (
+        command("find", PATHS, element(DOCUMENT, "sort", document([field("a.b", 1)]))),
+        (),
+        """\
+request "find"
+document 51
+  "find" string "q"
+  "sort" document 14
+    "a.b" int32 1
+  "$db" string "test"
+answer
+document 151
+  "ok" double 0000000000000000
+  "errmsg" string "documents are sorted by numbers, strings, booleans, dates, ObjectIds and null alone"
+  "code" int32 9
+  "codeName" string "FailedToParse"
+""",
+    ),
+    (
+        command("update", PATHS, element(ARRAY, "updates", document([element(DOCUMENT, "0", document([element(DOCUMENT, "q", document([field("_id", 1)])), element(DOCUMENT, "u", document([element(DOCUMENT, "$inc", document([element(DOUBLE, "n", double(0.5))]))]))]))]))),
+        (),
+        """\
+request "update"
+document 102
+  "update" string "q"
+  "updates" array 60
+    "0" document 52
+      "q" document 14
+        "_id" int32 1
+      "u" document 27
+        "$inc" document 16
+          "n" double 000000000000e03f
+  "$db" string "test"
+answer
+document 39
+  "n" int32 1
+  "nModified" int32 1
+  "ok" double 000000000000f03f
+""",
+    ),
+    (
+        command("find", PATHS, element(DOCUMENT, "filter", document([element(DOUBLE, "n", double(1.5))])), element(DOCUMENT, "projection", document([field("n", 1)]))),
+        (),
+        """\
+request "find"
+document 79
+  "find" string "q"
+  "filter" document 16
+    "n" double 000000000000f83f
+  "projection" document 12
+    "n" int32 1
+  "$db" string "test"
+answer
+document 102
+  "cursor" document 77
+    "firstBatch" array 33
+      "0" document 25
+        "_id" int32 1
+        "n" double 000000000000f83f
+    "id" int64 0
+    "ns" string "test.q"
+  "ok" double 000000000000f03f
+""",
+    ),
+    (
+        command("drop", PATHS),
+        (),
+        """\
+request "drop"
+document 31
+  "drop" string "q"
+  "$db" string "test"
+answer
+document 49
+  "nIndexesWas" int32 1
+  "ns" string "test.q"
   "ok" double 000000000000f03f
 """,
     ),

@@ -101,8 +101,8 @@ fn tree_with(
     Ok(tree)
 }
 
-/// Returns the places of `names` and a name behind them: a table with so many slots, or a tree if
-/// the slot of the name is full.
+/// Returns the places of `names` and a name behind them: a table of `slots` slots, or a tree if the
+/// slot of the name is full.
 fn table_with(
     alloc: Global,
     names: &[String],

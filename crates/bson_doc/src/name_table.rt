@@ -10,8 +10,8 @@ ghost use Rattle.bson_doc.specs.NameSlots.{HasNames};
 use std::alloc::{AllocError, Global};
 use std::hash::{FoldHasher, Hasher};
 
-/// The most names of one slot. Of a million names whose hashes are spread the fullest slot has
-/// about ten, so a slot with so many has names that were chosen for it.
+/// The most names of one slot. Of a million names whose hashes are spread, the fullest slot has
+/// about ten. So a slot with this many has names that were chosen for it.
 const MOST: usize = 16;
 
 /// The names of a list in slots, by their hashes. A slot knows its last name, and a name the one
@@ -26,7 +26,7 @@ pub(crate) struct NameTable {
     pub ghost some: { 0 < vec_len last },
 }
 
-/// Returns the slot of a name, of so many slots.
+/// Returns the slot of a name in a table of `slots` slots.
 fn slot_of(name: &str, slots: usize) -> usize
     requires { 0 < slots }
     ensures slot { result ≡ spec.slot_of slots name.now }
@@ -52,7 +52,7 @@ impl NameTable {
         Ok(NameTable { last, before })
     }
 
-    /// Returns the table of `names`, with so many slots.
+    /// Returns the table of `names`, which has `slots` slots.
     pub(crate) fn of(alloc: Global, names: &[String], slots: usize) -> Result<NameTable, AllocError>
         requires some { 0 < slots }
         requires room { length names.now ≤ slots }

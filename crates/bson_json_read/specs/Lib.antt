@@ -1,5 +1,5 @@
 pub mod Bytes
-pub mod Canonical
+pub mod Lossless
 pub mod Causes
 pub mod DecimalText
 pub mod Extents

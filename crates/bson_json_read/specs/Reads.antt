@@ -25,6 +25,7 @@ abbrev pub and_then : {A B : Type 0} → Read A → (A → Read B) → Read B
 and_then (Ok x) next = next x
 and_then (Err f) next = Err f
 
+-- what f makes of the value that was read
 abbrev pub and_map : {A B : Type 0} → (A → B) → Read A → Read B
 and_map f (Ok x) = Ok (f x)
 and_map f (Err e) = Err e

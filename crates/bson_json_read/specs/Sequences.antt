@@ -1,6 +1,6 @@
 -- The documents that the texts of an input give, one after another.
-use Rattle.std.specs.Prelude.{◌≡◌, ◌⊎◌, ⊤, ℕ, List, [], ◌∷◌, take, drop, Option, Some, None}
-use Rattle.std.specs.Prelude.{Result, Ok, Err, if◌then◌else◌}
+use Rattle.std.specs.Prelude.{◌≡◌, ⊤, ℕ, List, [], ◌∷◌, take, drop, Option, Some, None}
+use Rattle.std.specs.Prelude.{Ok, Err, if◌then◌else◌}
 use Rattle.std.specs.Str.{is_utf8}
 use Rattle.bson_json_read.specs.declared.fault.Cause.{Cause}
 use Rattle.bson_json_read.specs.declared.fault.Cause.TheVariants as causes

@@ -2,7 +2,9 @@
 //! `scripts/checks/try-refusals` runs them with each of their allocations refused in turn. Only one
 //! is refused in a run, so what is tried again succeeds.
 
+use bson_json_read::laws::round_trip;
 use bson_json_read::{Cause, JsonFault, JsonTexts, Place, from_json};
+use bson_raw::RawDocument;
 use std::alloc::Global;
 
 const TEXT: &str =
@@ -11,8 +13,11 @@ const TEXT: &str =
 /// A text that has a name twice, with an escape.
 const REPEATED: &str = "{\"a\":\n[{\"b\":\"c\",\"\\u0062\":1}]}";
 
-/// Two texts, of which the second has a name twice.
+/// Two texts. The second one has a name twice.
 const SEVERAL: &str = "{\"a\":[{\"b\":\"c\"}]} {\"a\":1,\"a\":2}";
+
+/// A document that holds an array of one boolean.
+const DOCUMENT: [u8; 17] = [17, 0, 0, 0, 4, b'a', 0, 9, 0, 0, 0, 8, b'0', 0, 1, 0, 0];
 
 /// Returns true if both tries came right, or one did and memory was refused to the other.
 fn comes_right(first: Result<bool, Cause>, second: Result<bool, Cause>) -> bool {
@@ -84,6 +89,26 @@ fn reads_several(alloc: Global) -> Result<bool, Cause> {
         ),
         Err(fault) => Err(fault.cause),
     }
+}
+
+/// Returns whether the document is read of its JSON as the same one.
+fn keeps(alloc: Global) -> Result<bool, Cause> {
+    let Ok(document) = RawDocument::from_bytes(&DOCUMENT) else {
+        return Ok(false);
+    };
+    match round_trip(alloc, document) {
+        Ok(read) => match read.to_raw() {
+            Ok(raw) => Ok(raw.as_raw().as_bytes() == document.as_bytes()),
+            Err(_) => Err(Cause::OutOfMemory),
+        },
+        Err(fault) => Err(fault.cause),
+    }
+}
+
+#[test]
+fn a_round_trip_is_made_again(rt: HostRuntime) {
+    let alloc = rt.alloc();
+    assert!(rt; comes_right(keeps(alloc), keeps(alloc)));
 }
 
 #[test]

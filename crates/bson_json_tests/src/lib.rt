@@ -14,6 +14,8 @@ mod failures;
 #[cfg(test)]
 mod json_refusals;
 #[cfg(test)]
+mod lossy;
+#[cfg(test)]
 mod reading;
 #[cfg(test)]
 mod several;

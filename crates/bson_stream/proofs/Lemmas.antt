@@ -1,3 +1,3 @@
 -- The lemmas that proofs of other crates stand on: what a reader has read, and how bytes end.
 pub use Rattle.bson_stream.proofs.Gatherings.{ends_bad, ends_inside, ends_whole, fed_more, let_go, nothing_read, passed}
-pub use Rattle.bson_stream.proofs.Standings.{fault_longer, nothing_open, open_fault, spelled_not_open}
+pub use Rattle.bson_stream.proofs.Standings.{fault_longer, nothing_open, open_fault, open_front, spelled_not_open}

@@ -1,7 +1,7 @@
 -- How bytes stand that come in pieces.
-use Rattle.std.proofs.Common.{◌≡◌, ℕ, ◌+◌, ◌-◌, ◌^◌, ◌<◌, ◌≤◌, Bool, true, false, cond, ltb, leb, eqb, ◌||◌, List, [], ◌∷◌, ◌++◌, length, get_or, take, drop, Result, Ok, Err, refl, sym, ap, ◌∙◌, arith, append-nil, length-append, length-drop}
+use Rattle.std.proofs.Common.{◌≡◌, ℕ, ◌+◌, ◌-◌, ◌^◌, ◌<◌, ◌≤◌, Bool, true, false, cond, ltb, leb, eqb, ◌||◌, List, [], ◌∷◌, ◌++◌, length, get_or, take, drop, Result, Ok, Err, refl, sym, ap, subst, ◌∙◌, arith, append-nil, length-append, length-drop}
 use Rattle.std.specs.Int.{w32, from_le_bytes}
-use Rattle.std.proofs.lemmas.Bool.{ltb-false, leb-false, le-ltb, lt-ltb, lt-leb, or_parts}
+use Rattle.std.proofs.lemmas.Bool.{ltb-false, leb-false, leb-true, le-ltb, lt-ltb, lt-leb, or_parts}
 use Rattle.std.proofs.lemmas.List.{take-append-le, drop-append-le, get_or_append_left, take-take, take_at}
 use Rattle.std.proofs.lemmas.Nat.{from_le_bytes-to_le_bytes_4}
 use Rattle.bson_elem.specs.declared.fault.BsonCause.TheVariants.{Truncated, Length, End}
@@ -35,6 +35,18 @@ spelled_length t b s = (omega (arith, ap length s.parts, length-document (elemen
 
 pub four_there : (b : List ℕ) → (IsOpen b → ⊥) → 4 ≤ length b
 four_there b decided = let lt : length b < 4 → ⊥ = λ h. decided (in_length h) in omega (arith, lt)
+
+-- what more bytes would decide, bytes in front of it would too
+pub open_front : (a b : List ℕ) → IsOpen (a ++ b) → IsOpen a
+open_front a b (in_length lt) = in_length (omega (arith, lt, length-append a b))
+open_front a b (in_document four is lt) = front (leb 4 (length a)) refl
+  where
+    front : (known : Bool) → leb 4 (length a) ≡ known → IsOpen a
+    front false e = in_length (leb-false _ _ e)
+    front true e =
+        let le : 4 ≤ length a = leb-true _ _ e in
+        let same = announced_front a b le in
+        in_document le (subst IsLength same is) (omega (arith, lt, same, length-append a b))
 
 pub whole_there : (b : List ℕ) → (IsOpen b → ⊥) → IsLength (announced b) → announced b ≤ length b
 whole_there b decided is = let lt : length b < announced b → ⊥ = λ h. decided (in_document (four_there b decided) is h) in omega (arith, lt)

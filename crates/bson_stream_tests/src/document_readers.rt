@@ -13,7 +13,7 @@ const OTHER: &[u8; 17] = b"\x11\0\0\0\x04a\0\x09\0\0\0\x081\0\x01\0\0";
 /// The state of a reader that has a document in canonical form.
 const CANONICAL: ReaderState = ReaderState::Ready { canonical: true };
 
-/// Returns true if the reader takes so many bytes of `piece` and stands there then.
+/// Returns true if the reader takes `taken` bytes of `piece`, and its state is `state` then.
 fn takes(reader: &mut DocumentReader, piece: &[u8], taken: usize, state: ReaderState) -> bool {
     reader.feed(piece) == Ok(Fed { taken, state })
 }
@@ -26,7 +26,7 @@ fn lends(reader: &DocumentReader, bytes: &[u8]) -> bool {
     }
 }
 
-/// Returns true if the reader holds so many bytes, which begin at `start`.
+/// Returns true if the reader holds `held` bytes, which begin at `start`.
 fn stands(reader: &DocumentReader, start: usize, held: usize) -> bool {
     reader.start() == start && reader.held() == held
 }
@@ -83,7 +83,8 @@ fn a_document_is_passed_where_it_is_whole(rt: HostRuntime) {
     assert!(rt; passes_one(rt.alloc()));
 }
 
-/// Returns true if the bytes in front of `THREE` and so many more are wanted to their end.
+/// Returns true if a reader that was fed `held` bytes of a document behind those of `THREE` tells at
+/// the end that this document is cut.
 fn ends_inside(alloc: Global, held: usize) -> bool {
     let truncated = BsonFault {
         at: 5,

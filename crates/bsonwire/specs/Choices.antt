@@ -21,7 +21,7 @@ use Rattle.engines.specs.declared.msg.MessageForm.{MessageForm}
 use Rattle.engines.specs.declared.msg.MessageForm.TheVariants.{Text as in_text, Json as in_json}
 use Rattle.engines.specs.{AllMessages, AllTexts, BsonText, CanonText, CheckText, DumpText}
 use Rattle.engines.specs.{FirstMessages, FirstTexts, IsOutput, JsonText, MayBeJson, MsgText}
-use Rattle.engines.specs.{ScriptText, canon_of, check_of, dump_of, told_at, told_by}
+use Rattle.engines.specs.{ScriptText, bytes_of, canon_of, check_of, dump_of, told_at, told_by}
 
 -- ---- what the matches of a subcommand hold
 
@@ -175,30 +175,28 @@ CommandText Bson = BsonText
 CommandText (Msg hex form) = IsOutput (MsgText form) hex
 CommandText Play = ScriptText
 
--- Whether these are the texts of the first few documents or messages in some bytes, if a command
--- reads its input piece by piece.
+-- Whether these are the texts of the first few documents or messages in an input, if a command
+-- reads it piece by piece.
 abbrev pub FirstOf : Command → List ℕ → List ℕ → Type 0
-FirstOf (Dump hex offsets) = FirstTexts (told_at (dump_of offsets))
-FirstOf (Check hex) = FirstTexts (told_by check_of)
-FirstOf (Canon hex) = FirstTexts (told_by (canon_of 2147483647 hex))
-FirstOf (Json hex mode layout) = FirstTexts (MayBeJson mode layout)
-FirstOf (Msg hex form) = FirstMessages form
-FirstOf _ = λ bytes texts. ⊥
+FirstOf (Dump hex offsets) = λ input. FirstTexts (told_at (dump_of offsets)) (bytes_of hex input)
+FirstOf (Check hex) = λ input. FirstTexts (told_by check_of) (bytes_of hex input)
+FirstOf (Canon hex) =
+    λ input. FirstTexts (told_by (canon_of 2147483647 hex)) (bytes_of hex input)
+FirstOf (Json hex mode layout) = λ input. FirstTexts (MayBeJson mode layout) (bytes_of hex input)
+FirstOf (Msg hex form) = λ input. FirstMessages form (bytes_of hex input)
+FirstOf _ = λ input texts. ⊥
 
 -- Whether these are the texts of all of them, up to the first fault.
 abbrev pub AllOf : Command → List ℕ → List ℕ → Type 0
-AllOf (Dump hex offsets) = AllTexts (told_at (dump_of offsets))
-AllOf (Check hex) = AllTexts (told_by check_of)
-AllOf (Canon hex) = AllTexts (told_by (canon_of 2147483647 hex))
-AllOf (Json hex mode layout) = AllTexts (MayBeJson mode layout)
-AllOf (Msg hex form) = AllMessages form
-AllOf _ = λ bytes texts. ⊥
+AllOf (Dump hex offsets) = λ input. AllTexts (told_at (dump_of offsets)) (bytes_of hex input)
+AllOf (Check hex) = λ input. AllTexts (told_by check_of) (bytes_of hex input)
+AllOf (Canon hex) = λ input. AllTexts (told_by (canon_of 2147483647 hex)) (bytes_of hex input)
+AllOf (Json hex mode layout) = λ input. AllTexts (MayBeJson mode layout) (bytes_of hex input)
+AllOf (Msg hex form) = λ input. AllMessages form (bytes_of hex input)
+AllOf _ = λ input texts. ⊥
 
 -- whether a command reads all of its input before it writes
 abbrev pub reads_first : Command → Bool
-reads_first (Dump hex offsets) = hex
-reads_first (Check hex) = hex
-reads_first (Canon hex) = hex
-reads_first (Json hex mode layout) = hex
-reads_first (Msg hex form) = hex
-reads_first _ = true
+reads_first Bson = true
+reads_first Play = true
+reads_first _ = false

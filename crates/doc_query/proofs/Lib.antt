@@ -2,6 +2,9 @@ pub mod Scaling
 pub mod Filtering
 pub mod Shown
 pub mod Naming
+pub mod PathLaws
+pub mod Depths
+pub mod Keeping
 pub mod StableSorts
 pub mod SortOrders
 pub mod Owning

@@ -1,7 +1,8 @@
 -- The conditions of filters: what the operators ask of a field (MongoDB manual, Query and
 -- Projection Operators: Comparison, and Element).
 use Rattle.std.specs.Prelude.{ℕ, List, [], ◌∷◌, Bool, true, false, not, ◌&&◌, ◌||◌, ◌==◌}
-use Rattle.std.specs.Prelude.{Option, Some, None, codes, if◌then◌else◌}
+use Rattle.std.specs.Prelude.{Option, Some, None, codes, is_some, unwrap_or, if◌then◌else◌}
+use Rattle.std.specs.List.{list_any}
 use Rattle.std.specs.Ordering.{is_eq, is_ge, is_gt, is_le, is_lt}
 use Rattle.std.specs.Str.{bytes_eq}
 use Rattle.std.specs.declared.cmp.Ordering.{Ordering}
@@ -86,11 +87,7 @@ passes_at op own v _ _ = false
 abbrev pub passes : Operator → TreeValue → TreeValue → Bool
 passes op own v = passes_at op own v (place own) (place v)
 
-abbrev pub any_passes : Operator → List TreeValue → TreeValue → Bool
-any_passes op [] v = false
-any_passes op (own ∷ owns) v = passes op own v || any_passes op owns v
-
--- ---- the value of a field
+-- ---- the values of a field, of which None is one that is missing
 
 abbrev pub null : TreeValue
 null = leaf_value kinds.Null (raw_value [])
@@ -100,32 +97,29 @@ abbrev pub elements : TreeValue → List TreeValue
 elements (document_value kinds.Array b t) = values_in t
 elements _ = []
 
--- The value of a field passes, or an element of it does if it is an array. A missing field is as
--- null.
-abbrev pub finds : Operator → Option TreeValue → TreeValue → Bool
-finds op None v = passes op null v
-finds op (Some own) v = passes op own v || any_passes op (elements own) v
+-- one of the values passes; a missing one is as null
+abbrev pub finds : Operator → List (Option TreeValue) → TreeValue → Bool
+finds op owns v = list_any (λ own. passes op (unwrap_or own null) v) owns
 
--- it equals one of these
-abbrev pub finds_one : Option TreeValue → List TreeValue → Bool
-finds_one own [] = false
-finds_one own (v ∷ vs) = finds operators.Eq own v || finds_one own vs
+-- one equals one of these
+abbrev pub finds_one : List (Option TreeValue) → List TreeValue → Bool
+finds_one owns [] = false
+finds_one owns (v ∷ vs) = finds operators.Eq owns v || finds_one owns vs
 
-abbrev pub is_there : Option TreeValue → Bool
-is_there None = false
-is_there (Some own) = true
+abbrev pub is_there : List (Option TreeValue) → Bool
+is_there owns = list_any is_some owns
 
 abbrev pub is_true : TreeValue → Bool
 is_true (leaf_value kinds.Boolean (boolean_value b)) = b
 is_true _ = false
 
--- the value of a field is as the operator asks
-abbrev pub meets : Operator → Option TreeValue → TreeValue → Bool
-meets operators.Ne own v = not (finds operators.Eq own v)
-meets operators.In own v = finds_one own (elements v)
-meets operators.Nin own v = not (finds_one own (elements v))
-meets operators.Exists own v = if is_true v then is_there own else not (is_there own)
-meets op own v = finds op own v
+-- the values of a field are as the operator asks
+abbrev pub meets : Operator → List (Option TreeValue) → TreeValue → Bool
+meets operators.Ne owns v = not (finds operators.Eq owns v)
+meets operators.In owns v = finds_one owns (elements v)
+meets operators.Nin owns v = not (finds_one owns (elements v))
+meets operators.Exists owns v = if is_true v then is_there owns else not (is_there owns)
+meets op owns v = finds op owns v
 
 -- ---- documents of operators
 
@@ -142,14 +136,14 @@ are_conditions (leaf_pair n k v ps) =
 are_conditions (inner_pair n k b inner ps) =
     is_named_operand (operator_of n) (document_value k b inner) && are_conditions ps
 
-abbrev pub meets_named : Option Operator → Option TreeValue → TreeValue → Bool
-meets_named None own v = false
-meets_named (Some op) own v = meets op own v
+abbrev pub meets_named : Option Operator → List (Option TreeValue) → TreeValue → Bool
+meets_named None owns v = false
+meets_named (Some op) owns v = meets op owns v
 
--- the value of a field is as all the operators ask
-abbrev pub meets_all : Tree → Option TreeValue → Bool
-meets_all no_pairs own = true
-meets_all (leaf_pair n k v ps) own =
-    meets_named (operator_of n) own (leaf_value k v) && meets_all ps own
-meets_all (inner_pair n k b inner ps) own =
-    meets_named (operator_of n) own (document_value k b inner) && meets_all ps own
+-- the values of a field are as all the operators ask
+abbrev pub meets_all : Tree → List (Option TreeValue) → Bool
+meets_all no_pairs owns = true
+meets_all (leaf_pair n k v ps) owns =
+    meets_named (operator_of n) owns (leaf_value k v) && meets_all ps owns
+meets_all (inner_pair n k b inner ps) owns =
+    meets_named (operator_of n) owns (document_value k b inner) && meets_all ps owns

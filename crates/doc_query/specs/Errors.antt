@@ -9,9 +9,15 @@ abbrev pub code_of : CommandError → ℤ
 code_of errors.CursorNotFound = pos 43
 code_of errors.NamespaceNotFound = pos 26
 code_of errors.Direction = pos 15975
+code_of errors.Inclusion = pos 31253
+code_of errors.Exclusion = pos 31254
 code_of errors.Conflict = pos 40
 code_of errors.Increment = pos 14
 code_of errors.Overflow = pos 2
+code_of errors.AndArray = pos 2
+code_of errors.OrArray = pos 2
+code_of errors.NoClauses = pos 2
+code_of errors.Clause = pos 2
 code_of errors.ImmutableId = pos 66
 code_of errors.Duplicate = pos 11000
 code_of errors.Index = pos 67
@@ -23,9 +29,15 @@ abbrev pub code_name_of : CommandError → List ℕ
 code_name_of errors.CursorNotFound = codes "CursorNotFound"
 code_name_of errors.NamespaceNotFound = codes "NamespaceNotFound"
 code_name_of errors.Direction = codes "Location15975"
+code_name_of errors.Inclusion = codes "Location31253"
+code_name_of errors.Exclusion = codes "Location31254"
 code_name_of errors.Conflict = codes "ConflictingUpdateOperators"
 code_name_of errors.Increment = codes "TypeMismatch"
 code_name_of errors.Overflow = codes "BadValue"
+code_name_of errors.AndArray = codes "BadValue"
+code_name_of errors.OrArray = codes "BadValue"
+code_name_of errors.NoClauses = codes "BadValue"
+code_name_of errors.Clause = codes "BadValue"
 code_name_of errors.ImmutableId = codes "ImmutableField"
 code_name_of errors.Duplicate = codes "DuplicateKey"
 code_name_of errors.Index = codes "CannotCreateIndex"
@@ -53,7 +65,8 @@ words_of errors.Deletes = codes "a statement must have a filter 'q' and a 'limit
 words_of errors.Update = codes "the field 'update' must be a string"
 words_of errors.Updates =
     codes "a statement must have a filter 'q', an update 'u', and 'multi' and 'upsert' alone"
-words_of errors.Upsert = codes "a filter with $in or a field without a name can't be upserted"
+words_of errors.Upsert =
+    codes "a filter with $and, $or, $in, a path or a field without a name can't be upserted"
 words_of errors.Duplicate = codes "E11000 duplicate key error index: _id_"
 words_of errors.Many = codes "multi update is not supported for replacement-style update"
 words_of errors.Modifiers =
@@ -61,7 +74,7 @@ words_of errors.Modifiers =
 words_of errors.Path =
     codes "an operator must name fields of the document itself, with no '.' and no '$'"
 words_of errors.Conflict = codes "two operators of an update must not name one field"
-words_of errors.Increment = codes "$inc must add an int32 or an int64 to one"
+words_of errors.Increment = codes "$inc must add an int32, an int64 or a double to one"
 words_of errors.Overflow = codes "the sum that $inc makes must be an int64"
 words_of errors.ImmutableId = codes "an update must not change the immutable field '_id'"
 words_of errors.Documents =
@@ -69,13 +82,24 @@ words_of errors.Documents =
 words_of errors.Ordered = codes "the field 'ordered' must be a boolean"
 words_of errors.Filter = codes "the field 'filter' must be a document with no name twice"
 words_of errors.Operator =
-    codes "a filter must ask for values or $eq, $ne, $gt, $gte, $lt, $lte, $in, $nin, $exists"
+    codes
+    "a filter must ask for values or $eq, $ne, $gt, $gte, $lt, $lte, $in, $nin, $exists, $and, $or"
+words_of errors.AndArray = codes "$and must be an array"
+words_of errors.OrArray = codes "$or must be an array"
+words_of errors.NoClauses = codes "$and/$or/$nor must be a nonempty array"
+words_of errors.Clause = codes "$or/$and/$nor entries need to be full objects"
 words_of errors.Decimal = codes "a filter must compare no decimal128"
 words_of errors.Sort = codes "the field 'sort' must be a document with no name twice"
 words_of errors.Direction =
     codes "$sort key ordering must be 1 (for ascending) or -1 (for descending)"
 words_of errors.Unsorted =
     codes "documents are sorted by numbers, strings, booleans, dates, ObjectIds and null alone"
+words_of errors.Projection =
+    codes "the field 'projection' must be a document with no name twice"
+words_of errors.Projected =
+    codes "a projection must name fields of the document itself, each with 1, true, 0 or false"
+words_of errors.Inclusion = codes "Cannot do inclusion on a field in exclusion projection"
+words_of errors.Exclusion = codes "Cannot do exclusion on a field in inclusion projection"
 words_of errors.Skip = codes "the field 'skip' must be a whole number"
 words_of errors.Limit = codes "the field 'limit' must be a whole number"
 words_of errors.SingleBatch = codes "the field 'singleBatch' must be a boolean"

@@ -1,18 +1,25 @@
 -- The filters of find: which ones are accepted, and which documents match them.
 use Rattle.std.specs.Prelude.{ℕ, List, [], ◌∷◌, Bool, true, false, not, ◌&&◌, ◌||◌, ◌==◌}
-use Rattle.std.specs.Prelude.{Option, Some, None, Result, Ok, Err, if◌then◌else◌}
+use Rattle.std.specs.Prelude.{Option, Some, None, Result, Ok, Err, codes, if◌then◌else◌}
 use Rattle.std.specs.List.{list_any}
+use Rattle.std.specs.Option.{option_or}
+use Rattle.std.specs.Str.{bytes_eq}
+use Rattle.bson_elem.specs.declared.kinds.Kind.{Kind}
 use Rattle.bson_elem.specs.declared.kinds.Kind.TheVariants as kinds
 use Rattle.bson_elem.specs.{Tree, inner_pair, leaf_pair, no_pairs}
 use Rattle.bson_raw.specs.{TreeValue, document_value, first_named, leaf_value}
 use Rattle.doc_query.specs.declared.conditions.Operator.TheVariants as operators
 use Rattle.doc_query.specs.declared.failure.CommandError.{CommandError}
 use Rattle.doc_query.specs.declared.failure.CommandError.TheVariants as errors
-use Rattle.doc_query.specs.declared.uncompared.Purpose.TheVariants as purposes
+use Rattle.doc_query.specs.declared.logical.Logical.{Logical}
+use Rattle.doc_query.specs.declared.logical.Logical.TheVariants as logicals
+use Rattle.doc_query.specs.declared.logical.Purpose.{Purpose}
+use Rattle.doc_query.specs.declared.logical.Purpose.TheVariants as purposes
 use Rattle.doc_query.specs.Conditions.{are_conditions, finds, is_equated, meets_all}
 use Rattle.doc_query.specs.Errors.{and_then, or_error}
+use Rattle.doc_query.specs.Criteria.{is_decimal}
 use Rattle.doc_query.specs.Owned.{owned}
-use Rattle.doc_query.specs.Uncompared.{any_uncompared}
+use Rattle.doc_query.specs.Paths.{Reached, values_at}
 
 -- ---- which filters are accepted
 
@@ -37,21 +44,89 @@ is_asked (document_value kinds.Document b t) =
     if begins_with_operator t then are_conditions t else true
 is_asked v = is_equated v
 
--- a filter has a field that isn't carried out: an operator of filters, a path, or what it may not
--- be asked for
+-- a field of a filter isn't carried out: an operator of filters, or what it may not be asked for
 abbrev pub is_refused_field : List ℕ → TreeValue → Bool
-is_refused_field n v = is_operator n || is_path n || not (is_asked v)
+is_refused_field n v = is_operator n || not (is_asked v)
 
-abbrev pub has_refused_field : Tree → Bool
-has_refused_field no_pairs = false
-has_refused_field (leaf_pair n k v ps) =
-    is_refused_field n (leaf_value k v) || has_refused_field ps
-has_refused_field (inner_pair n k b inner ps) =
-    is_refused_field n (document_value k b inner) || has_refused_field ps
+abbrev pub field_fault : List ℕ → TreeValue → Option CommandError
+field_fault n v = if is_refused_field n v then Some errors.Operator else None
+
+-- the logical operator with this name
+abbrev pub logical_of : List ℕ → Option Logical
+logical_of name =
+    if bytes_eq name (codes "$and") then Some logicals.And else
+    if bytes_eq name (codes "$or") then Some logicals.Or else None
+
+-- why it isn't carried out where it has no array
+abbrev pub no_array : Logical → CommandError
+no_array logicals.And = errors.AndArray
+no_array logicals.Or = errors.OrArray
+
+abbrev pub is_array : Kind → Bool
+is_array kinds.Array = true
+is_array k = false
+
+abbrev pub is_document : Kind → Bool
+is_document kinds.Document = true
+is_document k = false
+
+-- there is one clause at least
+abbrev pub unless_empty : Tree → Option CommandError → Option CommandError
+unless_empty no_pairs fault = Some errors.NoClauses
+unless_empty t fault = fault
+
+-- what a logical operator has is an array of clauses, and these have this fault, if any
+abbrev pub in_array_of : Logical → Kind → Tree → Option CommandError → Option CommandError
+in_array_of l k t fault = if is_array k then unless_empty t fault else Some (no_array l)
+
+-- what a field gives itself, or what a logical operator gives
+abbrev pub unless_logical : {A : Type 0} → Option Logical → A → (Logical → A) → A
+unless_logical None own joined = own
+unless_logical (Some l) own joined = joined l
+
+abbrev mutual
+  -- why a filter isn't carried out, by its first field that isn't
+  pub filter_fault : Tree → Option CommandError
+  filter_fault no_pairs = None
+  filter_fault (leaf_pair n k v ps) =
+      option_or
+      (unless_logical (logical_of n) (field_fault n (leaf_value k v)) (λ l. Some (no_array l)))
+      (filter_fault ps)
+  filter_fault (inner_pair n k b inner ps) =
+      option_or
+      (unless_logical (logical_of n) (field_fault n (document_value k b inner))
+      (λ l. in_array_of l k inner (clauses_fault inner)))
+      (filter_fault ps)
+
+  -- why the clauses of a logical operator aren't: each is a filter
+  pub clauses_fault : Tree → Option CommandError
+  clauses_fault no_pairs = None
+  clauses_fault (leaf_pair n k v ps) = Some errors.Clause
+  clauses_fault (inner_pair n k b f ps) =
+      option_or (if is_document k then filter_fault f else Some errors.Clause) (clauses_fault ps)
+
+-- of one clause, of all clauses in an array, and of one field
+abbrev pub clause_fault : TreeValue → Option CommandError
+clause_fault (leaf_value k v) = Some errors.Clause
+clause_fault (document_value k b f) = if is_document k then filter_fault f else Some errors.Clause
+
+abbrev pub array_fault : Tree → Option CommandError
+array_fault t = unless_empty t (clauses_fault t)
+
+abbrev pub value_fault : List ℕ → TreeValue → Option CommandError
+value_fault n (leaf_value k v) =
+    unless_logical (logical_of n) (field_fault n (leaf_value k v)) (λ l. Some (no_array l))
+value_fault n (document_value k b t) =
+    unless_logical (logical_of n) (field_fault n (document_value k b t))
+    (λ l. in_array_of l k t (clauses_fault t))
+
+abbrev pub unless_fault : Option CommandError → Tree → Result Tree CommandError
+unless_fault None f = Ok f
+unless_fault (Some e) f = Err e
 
 -- the filter, unless a field of it isn't carried out
 abbrev pub filter_in : Tree → Result Tree CommandError
-filter_in f = if has_refused_field f then Err errors.Operator else Ok f
+filter_in f = unless_fault (filter_fault f) f
 
 -- the filter that is a value which is kept
 abbrev pub filter_value : Option TreeValue → Result Tree CommandError
@@ -74,22 +149,73 @@ filter_field name t = filter_of (first_named name t)
 
 -- ---- which documents match
 
--- the value of a field is as all operators ask, or equals the value in the filter
-abbrev pub has_value : Option TreeValue → TreeValue → Bool
-has_value own (document_value kinds.Document b t) =
-    if begins_with_operator t then meets_all t own
-    else finds operators.Eq own (document_value kinds.Document b t)
-has_value own v = finds operators.Eq own v
+-- the values of a field are as all operators ask, or one equals the value in the filter
+abbrev pub has_value : Reached → TreeValue → Bool
+has_value owns (document_value kinds.Document b t) =
+    if begins_with_operator t then meets_all t owns
+    else finds operators.Eq owns (document_value kinds.Document b t)
+has_value owns v = finds operators.Eq owns v
 
--- a document has each field of the filter, as that asks
-abbrev pub has_fields : Tree → Tree → Bool
-has_fields no_pairs t = true
-has_fields (leaf_pair n k v ps) t = has_value (first_named n t) (leaf_value k v) && has_fields ps t
-has_fields (inner_pair n k b inner ps) t =
-    has_value (first_named n t) (document_value k b inner) && has_fields ps t
+-- a filter doesn't compare a decimal128
+abbrev pub is_uncompared : Reached → Bool
+is_uncompared owns = list_any is_decimal owns
+
+-- what is asked of the values of a field: that they are as the filter says, or that it compares
+-- them
+abbrev pub has_field : Purpose → Reached → TreeValue → Bool
+has_field purposes.Match owns v = has_value owns v
+has_field purposes.Compare owns v = not (is_uncompared owns)
+
+-- $and asks for all of its clauses, and $or for one of them
+abbrev pub joined : Logical → Bool → Bool → Bool
+joined logicals.And a b = a && b
+joined logicals.Or a b = a || b
+
+abbrev pub joined_none : Logical → Bool
+joined_none logicals.And = true
+joined_none logicals.Or = false
+
+-- all clauses must be compared, also those of $or
+abbrev pub joining : Purpose → Logical → Logical
+joining purposes.Match l = l
+joining purposes.Compare l = logicals.And
+
+-- the logical operator with this name, if its value is an array
+abbrev pub logical_at : List ℕ → Kind → Option Logical
+logical_at n k = if is_array k then logical_of n else None
+
+abbrev mutual
+  -- a document has each field of a filter, as is asked
+  pub has_fields : Tree → Purpose → Tree → Bool
+  has_fields no_pairs p t = true
+  has_fields (leaf_pair n k v ps) p t =
+      has_field p (values_at n t) (leaf_value k v) && has_fields ps p t
+  has_fields (inner_pair n k b inner ps) p t =
+      unless_logical (logical_at n k) (has_field p (values_at n t) (document_value k b inner))
+      (λ l. has_clauses inner (joining p l) p t)
+      && has_fields ps p t
+
+  -- it has those of the clauses, as the logical operator joins them
+  pub has_clauses : Tree → Logical → Purpose → Tree → Bool
+  has_clauses no_pairs l p t = joined_none l
+  has_clauses (leaf_pair n k v ps) l p t = joined l false (has_clauses ps l p t)
+  has_clauses (inner_pair n k b f ps) l p t =
+      joined l (is_document k && has_fields f p t) (has_clauses ps l p t)
+
+-- it is as one clause asks
+abbrev pub has_clause : TreeValue → Purpose → Tree → Bool
+has_clause (leaf_value k v) p t = false
+has_clause (document_value k b f) p t = is_document k && has_fields f p t
+
+-- it has one field of a filter, as is asked
+abbrev pub has_pair : List ℕ → TreeValue → Purpose → Tree → Bool
+has_pair n (leaf_value k v) p t = has_field p (values_at n t) (leaf_value k v)
+has_pair n (document_value k b inner) p t =
+    unless_logical (logical_at n k) (has_field p (values_at n t) (document_value k b inner))
+    (λ l. has_clauses inner (joining p l) p t)
 
 abbrev pub matches : Tree → TreeValue → Bool
-matches f (document_value kinds.Document b t) = has_fields f t
+matches f (document_value kinds.Document b t) = has_fields f purposes.Match t
 matches f _ = false
 
 -- the documents that match, in order
@@ -97,9 +223,18 @@ abbrev pub found : Tree → List TreeValue → List TreeValue
 found f [] = []
 found f (v ∷ vs) = if matches f v then v ∷ found f vs else found f vs
 
+-- a filter compares all values of a document that it asks for
+abbrev pub compares : Tree → TreeValue → Bool
+compares f (document_value kinds.Document b t) = has_fields f purposes.Compare t
+compares f _ = true
+
+abbrev pub compares_all : Tree → List TreeValue → Bool
+compares_all f [] = true
+compares_all f (v ∷ vs) = compares f v && compares_all f vs
+
 -- the documents, unless one has a value that the filter doesn't compare
 abbrev pub compared : Tree → List TreeValue → Result (List TreeValue) CommandError
-compared f vs = if any_uncompared purposes.Filter f vs then Err errors.Decimal else Ok vs
+compared f vs = if compares_all f vs then Ok vs else Err errors.Decimal
 
 -- the documents that match, in order, or an error if one has a value that isn't compared
 abbrev pub found_in : Tree → List TreeValue → Result (List TreeValue) CommandError

@@ -4,10 +4,12 @@ pub mod Owned
 pub mod Numbers
 pub mod Comparing
 pub mod Conditions
-pub mod Uncompared
+pub mod Criteria
+pub mod Paths
 pub mod Filters
 pub mod Sorting
 pub mod Pipelines
+pub mod Projection
 -- the words that clauses of other crates cite
 pub use Rattle.doc_query.specs.Errors.{IsFailure, and_then, code_name_of, code_of, or_error}
 pub use Rattle.doc_query.specs.Errors.{words_of}
@@ -16,5 +18,6 @@ pub use Rattle.doc_query.specs.Values.{int32, int64, text, text_of, truth}
 pub use Rattle.doc_query.specs.Owned.{array_in, body_of, owned}
 pub use Rattle.doc_query.specs.Filters.{begins_with_operator, compared, filter_field, filter_in}
 pub use Rattle.doc_query.specs.Filters.{filter_value, found, found_in, is_operator, matches}
-pub use Rattle.doc_query.specs.Sorting.{is_down, is_up, sort_field, sorted_in}
+pub use Rattle.doc_query.specs.Sorting.{are_keys, sort_field, sorted_in}
 pub use Rattle.doc_query.specs.Pipelines.{after_stages}
+pub use Rattle.doc_query.specs.Projection.{projected, projection_field}

@@ -10,13 +10,12 @@ use Rattle.bson_raw.specs.{TreeValue, document_value, first_named, leaf_value}
 use Rattle.doc_query.specs.declared.conditions.Operator.TheVariants as operators
 use Rattle.doc_query.specs.declared.failure.CommandError.{CommandError}
 use Rattle.doc_query.specs.declared.failure.CommandError.TheVariants as errors
-use Rattle.doc_query.specs.declared.uncompared.Purpose.TheVariants as purposes
 use Rattle.doc_query.specs.Comparing.{PlaceView, numbered, place, place_order}
-use Rattle.doc_query.specs.Conditions.{passes}
+use Rattle.doc_query.specs.Conditions.{has_place, passes}
 use Rattle.doc_query.specs.Errors.{and_then, or_error}
-use Rattle.doc_query.specs.Filters.{is_operator, is_path}
+use Rattle.doc_query.specs.Filters.{is_operator}
 use Rattle.doc_query.specs.Owned.{owned}
-use Rattle.doc_query.specs.Uncompared.{any_uncompared}
+use Rattle.doc_query.specs.Paths.{single_at, steps}
 use Rattle.doc_query.specs.Values.{int32}
 
 -- ---- which keys are accepted
@@ -29,7 +28,7 @@ abbrev pub is_down : TreeValue → Bool
 is_down v = passes operators.Eq v (int32 (negsuc 0))
 
 abbrev pub is_key : List ℕ → TreeValue → Bool
-is_key n v = not (is_operator n || is_path n) && (is_up v || is_down v)
+is_key n v = not (is_operator n) && (is_up v || is_down v)
 
 abbrev pub are_keys : Tree → Bool
 are_keys no_pairs = true
@@ -59,10 +58,9 @@ abbrev pub field_place : Option TreeValue → PlaceView
 field_place None = numbered 1 (pos 0)
 field_place (Some v) = unwrap_or (place v) (numbered 1 (pos 0))
 
--- the value of a field of a document
+-- the value of a field of a document, in which an array on the way to it stands for it
 abbrev pub field_in : List ℕ → TreeValue → Option TreeValue
-field_in name (document_value kinds.Document b t) = first_named name t
-field_in name _ = None
+field_in path v = single_at (steps path) (Some v)
 
 -- the order of two documents by one key
 abbrev pub key_order : List ℕ → TreeValue → TreeValue → TreeValue → Ordering
@@ -79,6 +77,24 @@ keys_order (leaf_pair n k d ps) v w =
 keys_order (inner_pair n k b inner ps) v w =
     ordering_then (key_order n (document_value k b inner) v w) (keys_order ps v w)
 
+-- ---- which documents are sorted
+
+-- a missing field has a place, and so have values of some kinds
+abbrev pub is_ordered : Option TreeValue → Bool
+is_ordered None = true
+is_ordered (Some v) = has_place (place v)
+
+-- all values of a document by which it is sorted have a place
+abbrev pub are_ordered : Tree → TreeValue → Bool
+are_ordered no_pairs v = true
+are_ordered (leaf_pair n k d ps) v = is_ordered (field_in n v) && are_ordered ps v
+are_ordered (inner_pair n k b inner ps) v = is_ordered (field_in n v) && are_ordered ps v
+
+-- and all those of these documents
+abbrev pub all_ordered : Tree → List TreeValue → Bool
+all_ordered keys [] = true
+all_ordered keys (v ∷ vs) = are_ordered keys v && all_ordered keys vs
+
 -- ---- the sort, which keeps documents that are equal by all keys in their order
 
 abbrev pub insert_sorted : {A : Type 0} → (A → A → Ordering) → A → List A → List A
@@ -93,5 +109,4 @@ sorted order (v ∷ vs) = insert_sorted order v (sorted order vs)
 -- the documents in order, unless one has a value that has no place
 abbrev pub sorted_in : Tree → List TreeValue → Result (List TreeValue) CommandError
 sorted_in keys vs =
-    if any_uncompared purposes.Sort keys vs then Err errors.Unsorted
-    else Ok (sorted (keys_order keys) vs)
+    if all_ordered keys vs then Ok (sorted (keys_order keys) vs) else Err errors.Unsorted

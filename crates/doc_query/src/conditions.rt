@@ -1,13 +1,11 @@
-//! Applies the conditions of a filter to the value of a field: the operators that are carried out,
-//! each with its operand.
+//! The operators of filters that are carried out: which operands each of them takes, and what it
+//! asks of one value.
 
-ghost use Rattle.std.specs.Prelude.{◌≡◌, map, option_map};
+ghost use Rattle.std.specs.Prelude.{◌≡◌, map};
 ghost use Rattle.bson_doc.specs.{tree_of, value_of};
-ghost use Rattle.doc_query.specs.Conditions.{accepts, any_passes, are_conditions, are_equated};
-ghost use Rattle.doc_query.specs.Conditions.{elements, finds, finds_one, is_equated, is_list};
-ghost use Rattle.doc_query.specs.Conditions.{is_named_operand, is_operand, is_ranked, is_true};
-ghost use Rattle.doc_query.specs.Conditions.{is_truth, meets, meets_all, meets_named, operator_of};
-ghost use Rattle.doc_query.specs.Conditions.{passes};
+ghost use Rattle.doc_query.specs.Conditions.{accepts, are_conditions, are_equated, elements};
+ghost use Rattle.doc_query.specs.Conditions.{is_equated, is_list, is_named_operand, is_operand};
+ghost use Rattle.doc_query.specs.Conditions.{is_ranked, is_truth, operator_of, passes};
 
 use crate::comparing::{place_of, place_order};
 use crate::owned::is_same;
@@ -29,7 +27,7 @@ pub enum Operator {
 }
 
 /// Returns the operator with this name.
-fn operator_of(name: &str) -> Option<Operator>
+pub fn operator_of(name: &str) -> Option<Operator>
     ensures { result ≡ operator_of name.now }
 {
     match name {
@@ -135,18 +133,6 @@ pub fn passes(operator: Operator, own: &Bson, operand: &Bson) -> bool
     }
 }
 
-/// Returns true if one of these values is ordered against the operand as the operator asks.
-fn any_passes(operator: Operator, owns: &[Bson], operand: &Bson) -> bool
-    ensures { result ≡ any_passes operator (map value_of owns.now) (value_of operand.now) }
-{
-    for own in owns {
-        if passes(operator, own, operand) {
-            return true;
-        }
-    }
-    false
-}
-
 /// Returns the values of an array, or none if the value is no array.
 #[tactic(auto, using(crate::proofs::Owning::values_of_array))]
 pub fn elements(value: &Bson) -> &[Bson]
@@ -155,63 +141,6 @@ pub fn elements(value: &Bson) -> &[Bson]
     match value {
         Bson::Array(values) => values.as_slice(),
         _ => &[],
-    }
-}
-
-/// Returns true if the value of a field, or an element of it, is ordered against the operand as the
-/// operator asks.
-pub fn finds(operator: Operator, own: Option<&Bson>, operand: &Bson) -> bool
-    ensures { result
-        ≡ finds operator (option_map (λ v. value_of v.now) own.entry) (value_of operand.now) }
-{
-    match own {
-        None => passes(operator, &Bson::Null, operand),
-        Some(own) => {
-            passes(operator, own, operand) || any_passes(operator, elements(own), operand)
-        }
-    }
-}
-
-/// Returns true if the value of a field, or an element of it, equals one of the operands.
-fn finds_one(own: Option<&Bson>, operands: &[Bson]) -> bool
-    ensures { result
-        ≡ finds_one (option_map (λ v. value_of v.now) own.entry) (map value_of operands.now) }
-{
-    for operand in operands {
-        if finds(Operator::Eq, own, operand) {
-            return true;
-        }
-    }
-    false
-}
-
-/// Returns true if a value is the boolean true.
-fn is_true(value: &Bson) -> bool
-    ensures { result ≡ is_true (value_of value.now) }
-{
-    match value {
-        Bson::Boolean(truth) => *truth,
-        _ => false,
-    }
-}
-
-/// Returns true if the value of a field is as the operator asks.
-fn meets(operator: Operator, own: Option<&Bson>, operand: &Bson) -> bool
-    ensures { result
-        ≡ meets operator (option_map (λ v. value_of v.now) own.entry) (value_of operand.now) }
-{
-    match operator {
-        Operator::Ne => !finds(Operator::Eq, own, operand),
-        Operator::In => finds_one(own, elements(operand)),
-        Operator::Nin => !finds_one(own, elements(operand)),
-        Operator::Exists => {
-            if is_true(operand) {
-                own.is_some()
-            } else {
-                own.is_none()
-            }
-        }
-        _ => finds(operator, own, operand),
     }
 }
 
@@ -231,30 +160,6 @@ pub fn are_conditions(conditions: &Document) -> bool
 {
     for (name, operand) in conditions {
         if !is_named_operand(name, operand) {
-            return false;
-        }
-    }
-    true
-}
-
-/// Returns true if the value of a field is as the operator with this name asks.
-fn meets_named(name: &str, own: Option<&Bson>, operand: &Bson) -> bool
-    ensures { result ≡ meets_named (operator_of name.now)
-        (option_map (λ v. value_of v.now) own.entry) (value_of operand.now) }
-{
-    match operator_of(name) {
-        Some(operator) => meets(operator, own, operand),
-        None => false,
-    }
-}
-
-/// Returns true if the value of a field is as all operators of a document ask.
-pub fn meets_all(conditions: &Document, own: Option<&Bson>) -> bool
-    ensures { result
-        ≡ meets_all (tree_of conditions.now) (option_map (λ v. value_of v.now) own.entry) }
-{
-    for (name, operand) in conditions {
-        if !meets_named(name, own, operand) {
             return false;
         }
     }

@@ -8,6 +8,14 @@ use std::alloc::AllocError;
 const UNSORTED: &str =
     "documents are sorted by numbers, strings, booleans, dates, ObjectIds and null alone";
 
+/// What a filter is made of.
+const OPERATORS: &str =
+    "a filter must ask for values or $eq, $ne, $gt, $gte, $lt, $lte, $in, $nin, $exists, $and, $or";
+
+/// What a projection is made of.
+const PROJECTED: &str =
+    "a projection must name fields of the document itself, each with 1, true, 0 or false";
+
 /// What is wrong with a command, or with what it asks for.
 #[derive(Clone, Copy, Debug, PartialEq, Eq)]
 pub enum CommandError {
@@ -72,6 +80,14 @@ pub enum CommandError {
     Filter,
     /// The filter has an operator or an operand that isn't carried out.
     Operator,
+    /// `$and` of a filter isn't an array.
+    AndArray,
+    /// `$or` of a filter isn't an array.
+    OrArray,
+    /// `$and` or `$or` of a filter joins no filters.
+    NoClauses,
+    /// `$and` or `$or` of a filter joins something else than documents.
+    Clause,
     /// The filter would compare a decimal128.
     Decimal,
     /// The field `sort` isn't a document, or a name is repeated in it.
@@ -80,6 +96,15 @@ pub enum CommandError {
     Direction,
     /// A document has a value that isn't compared in a field by which they are sorted.
     Unsorted,
+    /// The field `projection` isn't a document, or a name is repeated in it.
+    Projection,
+    /// A field of the projection names no field of the document itself, or asks for something else
+    /// than that it is included or excluded.
+    Projected,
+    /// A field is included by a projection that excludes.
+    Inclusion,
+    /// A field is excluded by a projection that includes.
+    Exclusion,
     /// The number of documents to skip isn't a whole number.
     Skip,
     /// The most documents to find isn't a whole number.
@@ -121,9 +146,15 @@ impl CommandError {
             CommandError::CursorNotFound => 43,
             CommandError::NamespaceNotFound => 26,
             CommandError::Direction => 15975,
+            CommandError::Inclusion => 31253,
+            CommandError::Exclusion => 31254,
             CommandError::Conflict => 40,
             CommandError::Increment => 14,
             CommandError::Overflow => 2,
+            CommandError::AndArray
+            | CommandError::OrArray
+            | CommandError::NoClauses
+            | CommandError::Clause => 2,
             CommandError::ImmutableId => 66,
             CommandError::Duplicate => 11000,
             CommandError::Index => 67,
@@ -141,9 +172,15 @@ impl CommandError {
             CommandError::CursorNotFound => "CursorNotFound",
             CommandError::NamespaceNotFound => "NamespaceNotFound",
             CommandError::Direction => "Location15975",
+            CommandError::Inclusion => "Location31253",
+            CommandError::Exclusion => "Location31254",
             CommandError::Conflict => "ConflictingUpdateOperators",
             CommandError::Increment => "TypeMismatch",
             CommandError::Overflow => "BadValue",
+            CommandError::AndArray
+            | CommandError::OrArray
+            | CommandError::NoClauses
+            | CommandError::Clause => "BadValue",
             CommandError::ImmutableId => "ImmutableField",
             CommandError::Duplicate => "DuplicateKey",
             CommandError::Index => "CannotCreateIndex",
@@ -180,7 +217,8 @@ impl CommandError {
             CommandError::Updates => {
                 "a statement must have a filter 'q', an update 'u', and 'multi' and 'upsert' alone"
             }
-            CommandError::Upsert => "a filter with $in or a field without a name can't be upserted",
+            CommandError::Upsert =>
+                "a filter with $and, $or, $in, a path or a field without a name can't be upserted",
             CommandError::Duplicate => "E11000 duplicate key error index: _id_",
             CommandError::Many => "multi update is not supported for replacement-style update",
             CommandError::Modifiers => {
@@ -189,7 +227,7 @@ impl CommandError {
             CommandError::Path =>
                 "an operator must name fields of the document itself, with no '.' and no '$'",
             CommandError::Conflict => "two operators of an update must not name one field",
-            CommandError::Increment => "$inc must add an int32 or an int64 to one",
+            CommandError::Increment => "$inc must add an int32, an int64 or a double to one",
             CommandError::Overflow => "the sum that $inc makes must be an int64",
             CommandError::ImmutableId => "an update must not change the immutable field '_id'",
             CommandError::Documents => {
@@ -197,15 +235,22 @@ impl CommandError {
             }
             CommandError::Ordered => "the field 'ordered' must be a boolean",
             CommandError::Filter => "the field 'filter' must be a document with no name twice",
-            CommandError::Operator => {
-                "a filter must ask for values or $eq, $ne, $gt, $gte, $lt, $lte, $in, $nin, $exists"
-            }
+            CommandError::Operator => OPERATORS,
+            CommandError::AndArray => "$and must be an array",
+            CommandError::OrArray => "$or must be an array",
+            CommandError::NoClauses => "$and/$or/$nor must be a nonempty array",
+            CommandError::Clause => "$or/$and/$nor entries need to be full objects",
             CommandError::Decimal => "a filter must compare no decimal128",
             CommandError::Sort => "the field 'sort' must be a document with no name twice",
             CommandError::Direction => {
                 "$sort key ordering must be 1 (for ascending) or -1 (for descending)"
             }
             CommandError::Unsorted => UNSORTED,
+            CommandError::Projection =>
+                "the field 'projection' must be a document with no name twice",
+            CommandError::Projected => PROJECTED,
+            CommandError::Inclusion => "Cannot do inclusion on a field in exclusion projection",
+            CommandError::Exclusion => "Cannot do exclusion on a field in inclusion projection",
             CommandError::Skip => "the field 'skip' must be a whole number",
             CommandError::Limit => "the field 'limit' must be a whole number",
             CommandError::SingleBatch => "the field 'singleBatch' must be a boolean",

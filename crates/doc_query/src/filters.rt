@@ -2,20 +2,26 @@
 //! that the filter asks for.
 
 ghost use Rattle.std.specs.Prelude.{◌≡◌, Err, IfErr, IfOk, MatchOption, None, Ok, OnOk, Option};
-ghost use Rattle.std.specs.Prelude.{map, option_map};
+ghost use Rattle.std.specs.Prelude.{map};
 ghost use Rattle.bson_elem.specs.{Spells, Tree};
 ghost use Rattle.bson_raw.specs.{ShowsFound, TreeValue, document_bytes};
-ghost use Rattle.bson_doc.specs.{value_of, tree_of};
+ghost use Rattle.bson_doc.specs.{array_tree, tree_of, value_of};
 ghost use Rattle.doc_query.specs.Errors.{IsFailure};
-ghost use Rattle.doc_query.specs.Filters.{begins_with_operator, compared, filter_field, filter_in};
-ghost use Rattle.doc_query.specs.Filters.{filter_of, found, found_in, has_fields};
-ghost use Rattle.doc_query.specs.Filters.{has_refused_field, has_value, is_asked, is_operator};
-ghost use Rattle.doc_query.specs.Filters.{is_path, is_refused_field, matches, read_filter};
+ghost use Rattle.doc_query.specs.Filters.{array_fault, begins_with_operator, clause_fault};
+ghost use Rattle.doc_query.specs.Filters.{compared, compares, compares_all, field_fault};
+ghost use Rattle.doc_query.specs.Filters.{filter_fault, filter_field, filter_in, filter_of, found};
+ghost use Rattle.doc_query.specs.Filters.{found_in, has_clause, has_clauses, has_field, has_fields};
+ghost use Rattle.doc_query.specs.Filters.{has_pair, has_value, is_asked, is_operator, is_path};
+ghost use Rattle.doc_query.specs.Filters.{is_refused_field, is_uncompared, matches, read_filter};
+ghost use Rattle.doc_query.specs.Filters.{value_fault};
+ghost use Rattle.doc_query.specs.Paths.{own_values};
 
-use crate::conditions::{Operator, are_conditions, finds, is_equated, meets_all};
+use crate::conditions::{Operator, are_conditions, is_equated};
+use crate::criteria::Criterion;
 use crate::failure::{CommandError, Failure};
-use crate::owned::field;
-use crate::uncompared::{Purpose, any_uncompared};
+use crate::logical::{Logical, Purpose, joined_none, joining, logical_of, no_array};
+use crate::meeting::{finds, meets_all};
+use crate::paths::OwnValues;
 use bson_doc::{Bson, DocRefusal, Document};
 use bson_raw::{RawBson, RawDocument};
 use std::alloc::{AllocError, Global};
@@ -60,35 +66,87 @@ fn is_asked(value: &Bson) -> bool
 fn is_refused_field(name: &str, value: &Bson) -> bool
     ensures { result ≡ is_refused_field name.now (value_of value.now) }
 {
-    is_operator(name) || is_path(name) || !is_asked(value)
+    is_operator(name) || !is_asked(value)
 }
 
-/// Returns true if a filter has a field that isn't carried out.
-fn has_refused_field(filter: &Document) -> bool
-    ensures { result ≡ has_refused_field (tree_of filter.now) }
+/// Returns why a field isn't carried out that is no logical operator.
+fn field_fault(name: &str, value: &Bson) -> Option<CommandError>
+    ensures { result ≡ field_fault name.now (value_of value.now) }
 {
-    for (name, value) in filter {
-        if is_refused_field(name, value) {
-            return true;
+    if is_refused_field(name, value) {
+        Some(CommandError::Operator)
+    } else {
+        None
+    }
+}
+
+/// Returns why a field of a filter isn't carried out.
+#[cycle(faults)]
+fn value_fault(name: &str, value: &Bson) -> Option<CommandError>
+    ensures { result ≡ value_fault name.now (value_of value.now) }
+{
+    let Some(logical) = logical_of(name) else {
+        return field_fault(name, value);
+    };
+    match value {
+        Bson::Array(clauses) => array_fault(clauses.as_slice()),
+        _ => Some(no_array(logical)),
+    }
+}
+
+/// Returns why the array of a logical operator isn't carried out.
+#[cycle(faults)]
+fn array_fault(clauses: &[Bson]) -> Option<CommandError>
+    ensures { result ≡ array_fault (array_tree 0 (map value_of clauses.now)) }
+{
+    if clauses.is_empty() {
+        return Some(CommandError::NoClauses);
+    }
+    for clause in clauses {
+        if let Some(fault) = clause_fault(clause) {
+            return Some(fault);
         }
     }
-    false
+    None
+}
+
+/// Returns why a clause isn't carried out.
+#[cycle(faults)]
+fn clause_fault(clause: &Bson) -> Option<CommandError>
+    ensures { result ≡ clause_fault (value_of clause.now) }
+{
+    match clause {
+        Bson::Document(filter) => filter_fault(filter),
+        _ => Some(CommandError::Clause),
+    }
+}
+
+/// Returns why a filter isn't carried out, by its first field that isn't.
+#[cycle(faults)]
+fn filter_fault(filter: &Document) -> Option<CommandError>
+    ensures { result ≡ filter_fault (tree_of filter.now) }
+{
+    for (name, value) in filter {
+        if let Some(fault) = value_fault(name, value) {
+            return Some(fault);
+        }
+    }
+    None
 }
 
 /// Checks that a filter can be applied.
 ///
 /// # Errors
 ///
-/// Returns `Operator` if it has a field that isn't carried out.
+/// Returns the fault of the first field that isn't carried out.
 pub fn applicable(filter: &Document) -> Result<(), CommandError>
     ensures ok { OnOk result
         (filter_in (tree_of filter.now) ≡ Ok (tree_of filter.now)) }
     ensures refused { IfErr result (λ e. filter_in (tree_of filter.now) ≡ Err e) }
 {
-    if has_refused_field(filter) {
-        Err(CommandError::Operator)
-    } else {
-        Ok(())
+    match filter_fault(filter) {
+        Some(fault) => Err(fault),
+        None => Ok(()),
     }
 }
 
@@ -131,8 +189,8 @@ fn filter_of(alloc: Global, value: Option<RawBson<'_>>) -> Result<Document, Fail
 ///
 /// # Errors
 ///
-/// Returns `Filter` if it isn't a document or a name is repeated in it, and otherwise `Operator`
-/// if it has a field that isn't carried out.
+/// Returns `Filter` if it isn't a document or a name is repeated in it, and otherwise the fault of
+/// the first field that isn't carried out.
 pub fn filter_field(alloc: Global, body: RawDocument<'_>, name: &str) -> Result<Document, Failure>
     ensures ok { (t : Tree) → Spells t (document_bytes body.entry)
         → IfOk result (λ d. filter_field name.now t ≡ Ok (tree_of d)) }
@@ -142,10 +200,10 @@ pub fn filter_field(alloc: Global, body: RawDocument<'_>, name: &str) -> Result<
     filter_of(alloc, body.get(name))
 }
 
-/// Returns true if the value of a field is as all operators ask, or equals the value in the filter.
-fn has_value(own: Option<&Bson>, value: &Bson) -> bool
-    ensures { result
-        ≡ has_value (option_map (λ v. value_of v.now) own.entry) (value_of value.now) }
+/// Returns true if the values of a field are as all operators ask, or one equals the value in the
+/// filter.
+fn has_value(own: OwnValues<'_>, value: &Bson) -> bool
+    ensures { result ≡ has_value (own_values own.entry) (value_of value.now) }
 {
     match value {
         Bson::Document(conditions) => {
@@ -159,12 +217,78 @@ fn has_value(own: Option<&Bson>, value: &Bson) -> bool
     }
 }
 
-/// Returns true if a document has each field of the filter, as that asks.
-fn has_fields(filter: &Document, document: &Document) -> bool
-    ensures { result ≡ has_fields (tree_of filter.now) (tree_of document.now) }
+/// Returns true if the filter doesn't compare one of the values of a field.
+fn is_uncompared(own: OwnValues<'_>) -> bool
+    ensures { result ≡ is_uncompared (own_values own.entry) }
+{
+    own.any(Criterion::IsDecimal)
+}
+
+/// Returns true if the values of a field are as is asked.
+fn has_field(purpose: Purpose, own: OwnValues<'_>, value: &Bson) -> bool
+    ensures { result ≡ has_field purpose (own_values own.entry) (value_of value.now) }
+{
+    match purpose {
+        Purpose::Match => has_value(own, value),
+        Purpose::Compare => !is_uncompared(own),
+    }
+}
+
+/// Returns true if a document has a field of the filter, as is asked.
+#[cycle(asking)]
+fn has_pair(purpose: Purpose, name: &str, value: &Bson, document: &Document) -> bool
+    ensures { result
+        ≡ has_pair name.now (value_of value.now) purpose (tree_of document.now) }
+{
+    match (logical_of(name), value) {
+        (Some(logical), Bson::Array(clauses)) => {
+            has_clauses(
+                joining(purpose, logical),
+                purpose,
+                clauses.as_slice(),
+                document,
+            )
+        }
+        _ => {
+            let path = name;
+            has_field(purpose, OwnValues { document, path }, value)
+        }
+    }
+}
+
+/// Returns true if a document is as the clauses ask, joined so.
+#[cycle(asking)]
+fn has_clauses(logical: Logical, purpose: Purpose, clauses: &[Bson], document: &Document) -> bool
+    ensures { result ≡ has_clauses (array_tree 0 (map value_of clauses.now)) logical purpose
+        (tree_of document.now) }
+{
+    let otherwise = joined_none(logical);
+    for clause in clauses {
+        if has_clause(purpose, clause, document) != otherwise {
+            return !otherwise;
+        }
+    }
+    otherwise
+}
+
+/// Returns true if a document is as one clause asks.
+#[cycle(asking)]
+fn has_clause(purpose: Purpose, clause: &Bson, document: &Document) -> bool
+    ensures { result ≡ has_clause (value_of clause.now) purpose (tree_of document.now) }
+{
+    match clause {
+        Bson::Document(filter) => has_fields(purpose, filter, document),
+        _ => false,
+    }
+}
+
+/// Returns true if a document has each field of the filter, as is asked.
+#[cycle(asking)]
+fn has_fields(purpose: Purpose, filter: &Document, document: &Document) -> bool
+    ensures { result ≡ has_fields (tree_of filter.now) purpose (tree_of document.now) }
 {
     for (name, value) in filter {
-        if !has_value(field(document, name), value) {
+        if !has_pair(purpose, name, value, document) {
             return false;
         }
     }
@@ -176,7 +300,7 @@ pub fn is_match(filter: &Document, value: &Bson) -> bool
     ensures { result ≡ matches (tree_of filter.now) (value_of value.now) }
 {
     match value {
-        Bson::Document(document) => has_fields(filter, document),
+        Bson::Document(document) => has_fields(Purpose::Match, filter, document),
         _ => false,
     }
 }
@@ -203,7 +327,29 @@ pub fn matching(
     Ok(found)
 }
 
-/// Checks that the filter compares all values of the documents.
+/// Returns true if the filter compares all values of a document that it asks for.
+fn compares(filter: &Document, value: &Bson) -> bool
+    ensures { result ≡ compares (tree_of filter.now) (value_of value.now) }
+{
+    match value {
+        Bson::Document(document) => has_fields(Purpose::Compare, filter, document),
+        _ => true,
+    }
+}
+
+/// Returns true if the filter compares all values of the documents that it asks for.
+fn compares_all(filter: &Document, documents: &[Bson]) -> bool
+    ensures { result ≡ compares_all (tree_of filter.now) (map value_of documents.now) }
+{
+    for document in documents {
+        if !compares(filter, document) {
+            return false;
+        }
+    }
+    true
+}
+
+/// Checks that the filter compares all values of the documents that it asks for.
 ///
 /// # Errors
 ///
@@ -214,10 +360,10 @@ pub fn compared(filter: &Document, documents: &[Bson]) -> Result<(), CommandErro
     ensures refused { IfErr result
         (λ e. compared (tree_of filter.now) (map value_of documents.now) ≡ Err e) }
 {
-    if any_uncompared(Purpose::Filter, filter, documents) {
-        Err(CommandError::Decimal)
-    } else {
+    if compares_all(filter, documents) {
         Ok(())
+    } else {
+        Err(CommandError::Decimal)
     }
 }
 

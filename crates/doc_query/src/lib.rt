@@ -1,25 +1,30 @@
-//! Queries of documents: filters, sorts and pipelines.
+//! Queries of documents: filters, sorts, projections and pipelines.
 //!
-//! A filter says which documents match it, a sort in which order they come, and each stage of a
-//! pipeline makes documents of those that the stage before left. What is carried out of MongoDB's
-//! own query language is a stated part of it, and all else is refused by a `CommandError`. Values
-//! are compared by their place in a stated order, and numbers of all kinds by value, exactly.
+//! A filter says which documents match it, a sort in which order they come, a projection which of
+//! their fields are kept, and each stage of a pipeline makes documents of those that the stage
+//! before left. What is carried out of MongoDB's own query language is a stated part of it, and all
+//! else is refused by a `CommandError`. Values are compared by their place in a stated order, and
+//! numbers of all kinds by value, exactly.
 //!
-//! Stands on bson_doc. doc_update and test_store stand on it. Read first: `comparing`, `conditions`
-//! and `filters`, and then `sorting` and `pipeline`.
+//! Stands on bson_doc. doc_update and test_store stand on it. Read first: `comparing`, `conditions`,
+//! `paths` and `filters`, and then `sorting`, `projection` and `pipeline`.
 #![tactic(auto)]
 
 mod batches;
 mod comparing;
 mod conditions;
+mod criteria;
 mod failure;
 mod filters;
+mod logical;
 mod making;
+mod meeting;
 mod numbers;
 mod owned;
+mod paths;
 mod pipeline;
+mod projection;
 mod sorting;
-mod uncompared;
 
 pub use batches::{copies, take_batch};
 pub use failure::{CommandError, Failure};
@@ -30,4 +35,5 @@ pub use filters::{
 pub use making::{count_value, set};
 pub use owned::{array_field, field, is_same, owned_body, whole_of};
 pub use pipeline::after_stages;
-pub use sorting::{is_down, is_up, sort_field, sort_in};
+pub use projection::{projected, projection_field};
+pub use sorting::{are_keys, sort_field, sort_in};

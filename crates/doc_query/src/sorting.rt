@@ -7,30 +7,30 @@ ghost use Rattle.bson_raw.specs.{ShowsFound, TreeValue, document_bytes};
 ghost use Rattle.bson_doc.specs.{tree_of, value_of};
 ghost use Rattle.doc_query.specs.Comparing.{place_view};
 ghost use Rattle.doc_query.specs.Errors.{IsFailure};
-ghost use Rattle.doc_query.specs.Sorting.{are_keys, field_in, field_place, is_down, is_key, is_up};
+ghost use Rattle.doc_query.specs.Sorting.{all_ordered, are_keys, are_ordered, field_in};
+ghost use Rattle.doc_query.specs.Sorting.{field_place, is_down, is_key, is_ordered, is_up};
 ghost use Rattle.doc_query.specs.Sorting.{key_order, keys_in, keys_of, keys_order, read_keys};
 ghost use Rattle.doc_query.specs.Sorting.{sort_field, sorted, sorted_in};
 
 use crate::comparing::{NULL_PLACE, Place, place_of, place_order};
 use crate::conditions::{Operator, passes};
 use crate::failure::{CommandError, Failure};
-use crate::filters::{is_operator, is_path};
-use crate::owned::field;
-use crate::uncompared::{Purpose, any_uncompared};
+use crate::filters::is_operator;
+use crate::paths::single_from;
 use bson_doc::{Bson, DocRefusal, Document};
 use bson_raw::{RawBson, RawDocument};
 use std::alloc::{AllocError, Global};
 use std::cmp::Ordering;
 
 /// Returns true if a direction is up: if it is the number 1.
-pub fn is_up(direction: &Bson) -> bool
+fn is_up(direction: &Bson) -> bool
     ensures { result ≡ is_up (value_of direction.now) }
 {
     passes(Operator::Eq, direction, &Bson::Int32(1))
 }
 
 /// Returns true if a direction is down: if it is the number -1.
-pub fn is_down(direction: &Bson) -> bool
+fn is_down(direction: &Bson) -> bool
     ensures { result ≡ is_down (value_of direction.now) }
 {
     passes(Operator::Eq, direction, &Bson::Int32(-1))
@@ -40,11 +40,11 @@ pub fn is_down(direction: &Bson) -> bool
 fn is_key(name: &str, direction: &Bson) -> bool
     ensures { result ≡ is_key name.now (value_of direction.now) }
 {
-    !(is_operator(name) || is_path(name)) && (is_up(direction) || is_down(direction))
+    !is_operator(name) && (is_up(direction) || is_down(direction))
 }
 
 /// Returns true if all fields of a sort are keys.
-fn are_keys(keys: &Document) -> bool
+pub fn are_keys(keys: &Document) -> bool
     ensures { result ≡ are_keys (tree_of keys.now) }
 {
     for (name, direction) in keys {
@@ -121,14 +121,12 @@ fn field_place(own: Option<&Bson>) -> Place<'_>
     }
 }
 
-/// Returns the value of a field, if the value is a document that has it.
-fn field_in<'a>(value: &'a Bson, name: &str) -> Option<&'a Bson>
-    ensures { option_map (λ v. value_of v.now) result ≡ field_in name.now (value_of value.now) }
+/// Returns the value that a document is sorted by, if it has one. An array on the way to it stands
+/// for it.
+fn field_in<'a>(value: &'a Bson, path: &str) -> Option<&'a Bson>
+    ensures { option_map (λ v. value_of v.now) result ≡ field_in path.now (value_of value.now) }
 {
-    match value {
-        Bson::Document(document) => field(document, name),
-        _ => None,
-    }
+    single_from(Some(path), Some(value))
 }
 
 /// Compares two documents by one key.
@@ -158,6 +156,40 @@ fn keys_order(keys: &Document, a: &Bson, b: &Bson) -> Ordering
     Ordering::Equal
 }
 
+/// Returns true if the value of a field has a place in the order of values.
+fn is_ordered(own: Option<&Bson>) -> bool
+    ensures { result ≡ is_ordered (option_map (λ v. value_of v.now) own.entry) }
+{
+    match own {
+        Some(own) => place_of(own).is_some(),
+        None => true,
+    }
+}
+
+/// Returns true if all values of a document by which it is sorted have a place.
+fn are_ordered(keys: &Document, value: &Bson) -> bool
+    ensures { result ≡ are_ordered (tree_of keys.now) (value_of value.now) }
+{
+    for (name, _) in keys {
+        if !is_ordered(field_in(value, name)) {
+            return false;
+        }
+    }
+    true
+}
+
+/// Returns true if all values by which these documents are sorted have a place.
+fn all_ordered(keys: &Document, documents: &[Bson]) -> bool
+    ensures { result ≡ all_ordered (tree_of keys.now) (map value_of documents.now) }
+{
+    for document in documents {
+        if !are_ordered(keys, document) {
+            return false;
+        }
+    }
+    true
+}
+
 /// Sorts documents. Those that are equal by all keys stay in their order.
 fn sort(keys: &Document, documents: &mut Vec<Bson>) -> Result<(), AllocError>
     ensures { OnOk result (map value_of documents.new.items
@@ -179,7 +211,7 @@ pub fn sort_in(keys: &Document, documents: &mut Vec<Bson>) -> Result<(), Failure
     ensures refused { IfErr result (λ e. IsFailure
         (sorted_in (tree_of keys.now) (map value_of documents.old.items)) e) }
 {
-    if any_uncompared(Purpose::Sort, keys, documents.as_slice()) {
+    if !all_ordered(keys, documents.as_slice()) {
         return Err(Failure::Refused(CommandError::Unsorted));
     }
     Ok(sort(keys, documents)?)

@@ -1,7 +1,6 @@
 -- What was read of the documents of an input and written for them, piece by piece.
-use Rattle.std.proofs.Common.{◌≡◌, ◌+◌, ◌-◌, ◌++◌, [], ◌∷◌, ℕ, List, Option, None, Some, Bool, length, take, drop, refl, sym, ap, subst, ◌∙◌, append_assoc, arith, length-append, length-drop, take-append-drop}
+use Rattle.std.proofs.Common.{◌≡◌, inl, ◌+◌, ◌-◌, ◌++◌, [], ◌∷◌, ℕ, List, Option, None, Some, Bool, length, take, drop, refl, sym, ap, subst, ◌∙◌, append_assoc, arith, length-append, length-drop, take-append-drop}
 use Rattle.std.proofs.Math.Seq.{take-length}
-use Rattle.std.specs.Prelude.{nat_lt}
 use Rattle.std.specs.Io.KnownBytes.{Appends, Keeps}
 use Rattle.std.proofs.KnownBytes.{Appends-kept, Appends-nil, Appends-trans}
 use Rattle.bson_elem.specs.Trees.{Tree}
@@ -13,11 +12,11 @@ use Rattle.bson_stream.specs.{Feeds, IsOpen, Reading}
 use Rattle.bson_stream.proofs.Lemmas.{nothing_open}
 use Rattle.engines.specs.declared.walk.Stop.{Stop}
 use Rattle.engines.specs.declared.walk.Stop.TheVariants as stop
-use Rattle.engines.specs.Documents.{FirstTexts, HaveTexts, IsLast, IsWholeText, TextRule, are_any, is_there, or_nothing}
+use Rattle.engines.specs.Documents.{FirstTexts, HaveTexts, IsLast, IsLastAt, TextRule}
 use Rattle.engines.specs.DocumentWalk.{AreWritten, GoesOver, StandBefore, document_tells}
 use Rattle.engines.specs.InputFault.{input_fault_line}
 use Rattle.engines.specs.Walk.{IsAtFault, IsBetween, Walks}
-use Rattle.engines.proofs.Readings.{any_there, document_more, ends_somehow, more_came, none_read, read_on, read_so_far}
+use Rattle.engines.proofs.Readings.{document_more, ends_somehow, more_came, none_read, read_on, read_so_far}
 
 -- ---- texts that were written
 
@@ -118,6 +117,7 @@ between rule closing r read texts s wants =
       stands = (s, wants);
       all = (s.0, r.held, last.0, s.1, subst (λ (n : ℕ). IsLast rule n r.held last.0) s.2 last.1);
       first = λ more. still_first rule r (read ++ more) texts (r.held ++ more) (came_before rule r read texts r.held more s);
+      cut = λ place. (r.held, s, inl (wants, refl));
     }
 
 pub begun : (rule : TextRule) (closing : Bool → List ℕ) (r : Reading) → r.held ≡ [] → r.start ≡ 0 → IsBetween (document_tells rule closing) r [] []
@@ -126,11 +126,11 @@ begun rule closing r none zero =
     between rule closing r [] [] s (subst IsOpen (sym none) nothing_open)
 
 -- at a fault
-at_fault_line : (rule : TextRule) (closing : Bool → List ℕ) (r : Reading) (bytes texts rest line : List ℕ) → StandBefore rule r bytes texts rest → IsLast rule r.start rest (Some line)
-    → IsAtFault (document_tells rule closing) r bytes texts line
+at_fault_line : (rule : TextRule) (closing : Bool → List ℕ) (r : Reading) (bytes texts rest line : List ℕ) → StandBefore rule r bytes texts rest
+    → ((place : Option ℕ) → IsLastAt rule r.start place rest (Some line)) → IsAtFault (document_tells rule closing) r bytes texts line
 at_fault_line rule closing r bytes texts rest line s last = record {
-  ends = (rest, s, last);
-  all = (s.0, rest, Some line, s.1, subst (λ (n : ℕ). IsLast rule n rest (Some line)) s.2 last);
+  ends = λ place. (rest, s, last place);
+  all = (s.0, rest, Some line, s.1, subst (λ (n : ℕ). IsLast rule n rest (Some line)) s.2 (last None));
   first = λ more. still_first rule r (bytes ++ more) texts (rest ++ more) (came_before rule r bytes texts rest more s);
 }
 
@@ -145,7 +145,7 @@ gone_over rule closing old new piece (Some (stop.Fault f)) from to read texts b 
       w.texts,
       w.appends,
       (λ more. at_fault_line rule closing new ((read ++ piece) ++ more) (texts ++ w.texts) (rest ++ more) (input_fault_line f)
-          (came_before rule new (read ++ piece) (texts ++ w.texts) rest more s) (bad more)),
+          (came_before rule new (read ++ piece) (texts ++ w.texts) rest more s) (λ place. bad place more)),
     )
 gone_over rule closing old new piece (Some stop.OutOfMemory) from to read texts b (rest, w, any) =
     let s = gone_on rule old new read piece texts rest from to b.stands.0 w in

@@ -7,3 +7,5 @@ pub mod MessageLaws
 pub mod Rounds
 pub mod LoopLemmas
 pub mod TextsRead
+pub mod HexLemmas
+pub mod HexWalkLemmas

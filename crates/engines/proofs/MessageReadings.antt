@@ -7,10 +7,10 @@ use Rattle.wire_msg.specs.declared.fault.MsgFault.{MsgFault}
 use Rattle.wire_msg.specs.declared.header.MsgHeader.{MsgHeader}
 use Rattle.wire_msg.specs.Messages.{Message}
 use Rattle.wire_msg.specs.Spelling.{SpellsMsg}
-use Rattle.wire_msg.specs.Splits.{AreSpelled, Split}
+use Rattle.wire_msg.specs.Splits.{Split}
 use Rattle.wire_msg.specs.Standing.{IsOpen, IsBad, IsWhole, bad_header, bad_message, in_header}
-use Rattle.wire_msg.specs.{FaultMsg, HeaderFault, IsGoodHeader, IsMessage, header_of, number_at}
-use Rattle.wire_msg.proofs.Lemmas.{bad_longer, bad_not_whole, header_front, least_length, length-spelled, msg_are_bytes, open_ends, spelled-append, spelled_alone, whole_read}
+use Rattle.wire_msg.specs.{FaultMsg, HeaderFault, IsGoodHeader, IsMessage, number_at}
+use Rattle.wire_msg.proofs.Lemmas.{bad_longer, bad_not_whole, header_front, least_length, length-spelled, msg_are_bytes, open_ends, open_not_bad, spelled-append, spelled_alone, whole_read}
 use Rattle.wire_stream.specs.declared.reader_state.Fed.{Fed}
 use Rattle.wire_stream.specs.{Feeds, Reading}
 use Rattle.engines.specs.declared.input_fault.InputFault.{InputFault}
@@ -20,7 +20,7 @@ use Rattle.engines.specs.declared.walk.Stop.{Stop}
 use Rattle.engines.specs.declared.walk.Stop.TheVariants as stop
 use Rattle.engines.specs.InputFault.{ended_inside_line, input_fault_line, msg_line}
 use Rattle.engines.specs.MessageWalk.{GoesOverMessages, IsStoppedAt, MessagesWritten, StandAt, message_tells}
-use Rattle.engines.specs.Msg.{FirstMessages, HaveMessages, IsLastMsg, MayBeMessage, MayBeMessages, MessagesAre, messages_len}
+use Rattle.engines.specs.Msg.{FirstMessages, HaveMessages, IsLastMsg, IsLastMsgAt, MayBeMessage, MayBeMessages, MessagesAre, messages_len}
 use Rattle.engines.specs.Walk.{IsAtFault, IsBetween, Walks}
 
 -- ---- messages that have texts
@@ -150,6 +150,10 @@ last_bad : (limit start : ℕ) (rest : List ℕ) (f : MsgFault) (line : List ℕ
 last_bad limit start [] f line bad is = absurd (bad_long limit f bad)
 last_bad limit start (x ∷ xs) f line bad is = inr (f, bad, ap Some is)
 
+last_settled : (limit start : ℕ) (place : Option ℕ) (rest : List ℕ) (f : MsgFault) (line : List ℕ) → IsBad limit rest f → line ≡ msg_line (start + f.at) f.cause → IsLastMsgAt limit start place rest (Some line)
+last_settled limit start None rest f line bad is = last_bad limit start rest f line bad is
+last_settled limit start (Some offset) rest f line bad is = inr ((λ wants. open_not_bad limit rest f wants bad), last_bad limit start rest f line bad is)
+
 -- the last line of bytes that more bytes would decide
 last_open : (limit start : ℕ) (rest : List ℕ) → IsOpen limit rest → (last : Option (List ℕ)) × IsLastMsg limit start rest last
 last_open limit start [] wants = (None, refl)
@@ -164,24 +168,24 @@ last_inside limit start [] wants some = absurd (some refl)
 last_inside limit start (x ∷ xs) wants some = inl (wants, refl)
 
 -- messages, and then bytes with this last line
-open_are : (form : MessageForm) (bytes texts rest : List ℕ) (start : ℕ) (last : Option (List ℕ)) (h : HaveMessages form 48000000 bytes texts rest) → start ≡ messages_len h.messages
-    → IsOpen 48000000 rest → IsLastMsg 48000000 start rest last → MessagesAre form 48000000 bytes texts last
-open_are form bytes texts rest start last h at wants is = (
+open_are : (form : MessageForm) (place : Option ℕ) (bytes texts rest : List ℕ) (start : ℕ) (last : Option (List ℕ)) (h : HaveMessages form 48000000 bytes texts rest) → start ≡ messages_len h.messages
+    → IsOpen 48000000 rest → IsLastMsgAt 48000000 start place rest last → MessagesAre form 48000000 place bytes texts last
+open_are form place bytes texts rest start last h at wants is = (
   h.messages,
   rest,
   subst (λ (x : List ℕ). Split 48000000 x h.messages rest) (sym h.parts) (open_ends 48000000 h.messages h.joined rest h.spelled wants),
   h.texts_are,
-  subst (λ (n : ℕ). IsLastMsg 48000000 n rest last) at is,
+  subst (λ (n : ℕ). IsLastMsgAt 48000000 n place rest last) at is,
 )
 
-bad_are : (form : MessageForm) (bytes texts rest line : List ℕ) (start : ℕ) (f : MsgFault) (h : HaveMessages form 48000000 bytes texts rest) → start ≡ messages_len h.messages
-    → IsBad 48000000 rest f → line ≡ msg_line (start + f.at) f.cause → MessagesAre form 48000000 bytes texts (Some line)
-bad_are form bytes texts rest line start f h at bad is = (
+bad_are : (form : MessageForm) (place : Option ℕ) (bytes texts rest line : List ℕ) (start : ℕ) (f : MsgFault) (h : HaveMessages form 48000000 bytes texts rest) → start ≡ messages_len h.messages
+    → IsBad 48000000 rest f → line ≡ msg_line (start + f.at) f.cause → MessagesAre form 48000000 place bytes texts (Some line)
+bad_are form place bytes texts rest line start f h at bad is = (
   h.messages,
   rest,
   record { joined = h.joined; spelled = h.spelled; parts = h.parts; none_begins = λ m after w. bad_begins_none 48000000 rest after m f bad w },
   h.texts_are,
-  subst (λ (n : ℕ). IsLastMsg 48000000 n rest (Some line)) at (last_bad 48000000 start rest f line bad is),
+  subst (λ (n : ℕ). IsLastMsgAt 48000000 n place rest (Some line)) at (last_settled 48000000 start place rest f line bad is),
 )
 
 -- ---- what is told of messages
@@ -202,8 +206,9 @@ between form r read texts s wants =
     let last = last_open 48000000 r.start r.messages.held wants in
     record {
       stands = (s, wants);
-      all = (last.0, open_are form read texts r.messages.held r.start last.0 s.have s.start_is wants last.1);
+      all = (last.0, open_are form None read texts r.messages.held r.start last.0 s.have s.start_is wants last.1);
       first = λ more. still_first form r (read ++ more) texts (r.messages.held ++ more) (stand_before form r read texts r.messages.held more s);
+      cut = λ place. open_are form (Some place) read texts r.messages.held r.start _ s.have s.start_is wants (inl (wants, refl));
     }
 
 pub message_begun : (form : MessageForm) (r : MessageReader) → r.messages ≡ record { limit = 48000000; held = [] } → r.start ≡ 0 → IsBetween (message_tells form) r [] []
@@ -225,10 +230,10 @@ gone_on form old new read piece texts rest from to s limit w = record {
 at_bad : (form : MessageForm) (r : MessageReader) (bytes texts rest line : List ℕ) (f : MsgFault) → StandAt form r bytes texts rest → IsBad 48000000 rest f → line ≡ msg_line (r.start + f.at) f.cause
     → IsAtFault (message_tells form) r bytes texts line
 at_bad form r bytes texts rest line f s bad is =
-    let are = bad_are form bytes texts rest line r.start f s.have s.start_is bad is in
+    let are = λ (place : Option ℕ). bad_are form place bytes texts rest line r.start f s.have s.start_is bad is in
     record {
       ends = are;
-      all = (Some line, are);
+      all = (Some line, are None);
       first = λ more. still_first form r (bytes ++ more) texts (rest ++ more) (stand_before form r bytes texts rest more s);
     }
 
@@ -269,13 +274,13 @@ pub may_feed : (form : MessageForm) (r : MessageReader) (read texts : List ℕ) 
 may_feed form r read texts b = subst (λ (n : ℕ). IsOpen n r.messages.held) (sym b.stands.0.limit) b.stands.1
 
 -- at the end of the input
-pub ends_between : (form : MessageForm) (r : MessageReader) (read texts : List ℕ) → IsBetween (message_tells form) r read texts → (r.messages.held ≢ [] → ⊥) → MessagesAre form 48000000 read texts None
+pub ends_between : (form : MessageForm) (r : MessageReader) (read texts : List ℕ) → IsBetween (message_tells form) r read texts → (r.messages.held ≢ [] → ⊥) → MessagesAre form 48000000 None read texts None
 ends_between form r read texts b none =
     let s = b.stands.0 in
-    open_are form read texts r.messages.held r.start None s.have s.start_is b.stands.1 (last_none 48000000 r.start r.messages.held none)
+    open_are form None read texts r.messages.held r.start None s.have s.start_is b.stands.1 (last_none 48000000 r.start r.messages.held none)
 
 pub ends_inside : (form : MessageForm) (r : MessageReader) (read texts : List ℕ) → IsBetween (message_tells form) r read texts → r.messages.held ≢ []
-    → MessagesAre form 48000000 read texts (Some (ended_inside_line r.start))
+    → MessagesAre form 48000000 None read texts (Some (ended_inside_line r.start))
 ends_inside form r read texts b some =
     let s = b.stands.0 in
-    open_are form read texts r.messages.held r.start _ s.have s.start_is b.stands.1 (last_inside 48000000 r.start r.messages.held b.stands.1 some)
+    open_are form None read texts r.messages.held r.start _ s.have s.start_is b.stands.1 (last_inside 48000000 r.start r.messages.held b.stands.1 some)

@@ -1,5 +1,5 @@
 -- The texts of documents back to back, one piece of the input after another.
-use Rattle.std.proofs.Common.{◌≡◌, ◌≢◌, ◌+◌, ◌++◌, [], ◌∷◌, ℕ, List, Option, None, Some, length, refl, sym, ap, subst, ◌∙◌, append_assoc, append-nil, arith, length-append}
+use Rattle.std.proofs.Common.{◌≡◌, ◌≢◌, inr, ◌+◌, ◌++◌, [], ◌∷◌, ℕ, List, Option, None, Some, length, refl, sym, ap, subst, ◌∙◌, append_assoc, append-nil, arith, length-append}
 use Rattle.std.proofs.lemmas.Bool.{lt-ltb}
 use Rattle.std.specs.Prelude.{nat_lt}
 use Rattle.bson_elem.specs.declared.fault.BsonCause.TheVariants.{Truncated}
@@ -11,10 +11,10 @@ use Rattle.bson_elem.proofs.Lemmas.{length-document}
 use Rattle.bson_raw.specs.Split.{documents_bytes}
 use Rattle.bson_raw.proofs.Lemmas.{AreDocuments-append, documents_bytes-append, is_document}
 use Rattle.bson_stream.specs.{IsBad, IsOpen}
-use Rattle.bson_stream.proofs.Lemmas.{fault_longer, nothing_open, open_fault}
+use Rattle.bson_stream.proofs.Lemmas.{fault_longer, nothing_open, open_fault, open_front, spelled_not_open}
 use Rattle.engines.specs.declared.input_fault.InputFault.TheVariants.{Bson}
 use Rattle.engines.specs.InputFault.{bson_line, input_fault_line, too_large_line}
-use Rattle.engines.specs.Documents.{AreTexts, HaveTexts, IsLast, TextRule, at_document, at_end, at_fault, are_any}
+use Rattle.engines.specs.Documents.{AreTexts, HaveTexts, IsLast, IsLastAt, TextRule, at_document, at_end, at_fault, are_any}
 
 -- ---- documents that have texts
 
@@ -79,22 +79,31 @@ any_there (t ∷ ts) = lt-ltb 0 (length (documents_bytes (t ∷ ts))) (omega (ar
 
 -- ---- where a walk stops
 
+-- the last line of what more bytes don't decide, where hexadecimal text is at fault behind it
+pub settled : (rule : TextRule) (start : ℕ) (place : Option ℕ) (rest : List ℕ) (last : Option (List ℕ)) → (IsOpen rest → ⊥) → IsLast rule start rest last → IsLastAt rule start place rest last
+settled rule start None rest last decided is = is
+settled rule start (Some offset) rest last decided is = inr (decided, is)
+
 not_empty : (held more : List ℕ) → (IsOpen held → ⊥) → held ++ more ≢ []
 not_empty [] more decided = absurd (decided nothing_open)
 not_empty (x ∷ xs) more decided = λ none. absurd cc
 
 -- bad bytes stay at fault, whatever follows them
-pub stays_bad : (rule : TextRule) (start : ℕ) (held rest : List ℕ) (f : BsonFault) (more : List ℕ) → IsBad start held f
-    → IsLast rule start ((held ++ rest) ++ more) (Some (input_fault_line (Bson f)))
-stays_bad rule start held rest f more bad =
+pub stays_bad : (rule : TextRule) (start : ℕ) (held rest : List ℕ) (f : BsonFault) (place : Option ℕ) (more : List ℕ) → IsBad start held f
+    → IsLastAt rule start place ((held ++ rest) ++ more) (Some (input_fault_line (Bson f)))
+stays_bad rule start held rest f place more bad =
     let line : bson_line start bad.own ≡ input_fault_line (Bson f) = ap (λ (x : BsonFault). input_fault_line (Bson x)) (sym bad.told) in
     let last : IsLast rule start (held ++ (rest ++ more)) (Some (bson_line start bad.own)) = at_fault bad.own (not_empty held (rest ++ more) bad.decided) (fault_longer held (rest ++ more) bad.own bad.decided bad.first) in
-    subst (λ (x : List ℕ). IsLast rule start ((held ++ rest) ++ more) (Some x)) line (subst (λ (x : List ℕ). IsLast rule start x (Some (bson_line start bad.own))) (sym (append_assoc held rest more)) last)
+    let at : IsLast rule start ((held ++ rest) ++ more) (Some (input_fault_line (Bson f))) =
+    subst (λ (x : List ℕ). IsLast rule start ((held ++ rest) ++ more) (Some x)) line (subst (λ (x : List ℕ). IsLast rule start x (Some (bson_line start bad.own))) (sym (append_assoc held rest more)) last) in
+    settled rule start place ((held ++ rest) ++ more) _ (λ wants. bad.decided (open_front held rest (open_front (held ++ rest) more wants))) at
 
 -- a document without a text stays in front
-pub stays_too_large : (rule : TextRule) (start : ℕ) (held rest more : List ℕ) (t : Tree) → Spells t held → rule start t None
-    → IsLast rule start ((held ++ rest) ++ more) (Some (too_large_line start))
-stays_too_large rule start held rest more t s none = at_document t held (rest ++ more) s (append_assoc held rest more) none
+pub stays_too_large : (rule : TextRule) (start : ℕ) (held rest : List ℕ) (place : Option ℕ) (more : List ℕ) (t : Tree) → Spells t held → rule start t None
+    → IsLastAt rule start place ((held ++ rest) ++ more) (Some (too_large_line start))
+stays_too_large rule start held rest place more t s none =
+    settled rule start place ((held ++ rest) ++ more) _ (λ wants. spelled_not_open held (t, s) (open_front held rest (open_front (held ++ rest) more wants)))
+    (at_document t held (rest ++ more) s (append_assoc held rest more) none)
 
 -- the last line of bytes that more bytes would decide
 pub ends_open : (rule : TextRule) (start : ℕ) (held : List ℕ) → IsOpen held → held ≢ [] → IsLast rule start held (Some (bson_line start (fault 0 Truncated)))

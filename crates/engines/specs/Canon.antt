@@ -5,6 +5,7 @@ use Rattle.hex.specs.Hex.{encode_lower}
 use Rattle.bson_elem.specs.{Tree, document, elements}
 use Rattle.bson_doc.specs.{canonical_len, plain}
 use Rattle.engines.specs.Documents.{IsWholeText, told_by}
+use Rattle.engines.specs.Output.{TextOf}
 
 -- bytes as they are, or as hexadecimal text
 abbrev pub in_form : Bool → List ℕ → List ℕ
@@ -29,5 +30,5 @@ behind_forms true any = line_end any
 
 -- what `canon` writes for bytes, as bytes or as hexadecimal text in one line, and whether it ends
 -- with a fault line
-abbrev pub CanonText : ℕ → Bool → List ℕ → List ℕ → Bool → Type 0
+abbrev pub CanonText : ℕ → Bool → TextOf
 CanonText limit hex = IsWholeText (told_by (canon_of limit hex)) (behind_forms hex)

@@ -5,6 +5,7 @@ use Rattle.bson_elem.specs.{Tree}
 use Rattle.bson_raw.specs.{is_plain}
 use Rattle.bson_text.specs.{document_size}
 use Rattle.engines.specs.Documents.{IsWholeText, nothing, told_by}
+use Rattle.engines.specs.Output.{TextOf}
 
 -- the end of a document's line, by whether it is in canonical form
 abbrev pub form_word : Bool → List ℕ
@@ -23,5 +24,5 @@ abbrev pub check_of : Tree → Option (List ℕ)
 check_of t = Some (check_line t)
 
 -- what `check` writes for bytes, and whether it ends with a fault line
-abbrev pub CheckText : List ℕ → List ℕ → Bool → Type 0
+abbrev pub CheckText : TextOf
 CheckText = IsWholeText (told_by check_of) nothing

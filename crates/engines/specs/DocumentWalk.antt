@@ -8,7 +8,8 @@ use Rattle.engines.specs.declared.documents.Written.{Written}
 use Rattle.engines.specs.declared.documents.Written.TheVariants.{Whole, TooLarge, OutOfMemory}
 use Rattle.engines.specs.declared.walk.Stop.{Stop}
 use Rattle.engines.specs.declared.walk.Stop.TheVariants as stop
-use Rattle.engines.specs.Documents.{AllTexts, FirstTexts, HaveTexts, IsLast, IsWholeText, TextRule}
+use Rattle.engines.specs.Documents.{AllTexts, FirstTexts, HaveTexts, IsLastAt, IsWholeText}
+use Rattle.engines.specs.Documents.{TextRule}
 use Rattle.engines.specs.InputFault.{input_fault_line}
 use Rattle.engines.specs.Walk.{Tells}
 
@@ -34,7 +35,8 @@ pub record AreWritten (rule : TextRule) (bytes : List ℕ) (base start : ℕ)
 abbrev pub IsStopped : TextRule → Reading → List ℕ → Option Stop → Type 0
 IsStopped rule r rest None = (rest ≡ r.held) × IsOpen r.held
 IsStopped rule r rest (Some (stop.Fault f)) =
-    (more : List ℕ) → IsLast rule r.start (rest ++ more) (Some (input_fault_line f))
+    (place : Option ℕ) (more : List ℕ)
+    → IsLastAt rule r.start place (rest ++ more) (Some (input_fault_line f))
 IsStopped rule r rest (Some stop.OutOfMemory) = Unit {0}
 
 -- A reader was fed a piece, and the texts of the documents that became whole were written.
@@ -54,8 +56,9 @@ StandBefore rule r bytes texts rest =
 abbrev pub document_tells : TextRule → (Bool → List ℕ) → Tells Reading
 document_tells rule closing = record {
   stands = λ r read texts. StandBefore rule r read texts r.held × IsOpen r.held;
-  ends = λ r bytes texts last.
-      (rest : List ℕ) × StandBefore rule r bytes texts rest × IsLast rule r.start rest last;
+  ends = λ r place bytes texts last.
+      (rest : List ℕ) × StandBefore rule r bytes texts rest
+      × IsLastAt rule r.start place rest last;
   first = FirstTexts rule;
   all = AllTexts rule;
   whole = IsWholeText rule closing;

@@ -5,7 +5,9 @@ use Rattle.bson_elem.specs.declared.fault.BsonFault.{BsonFault}
 use Rattle.bson_elem.specs.{FrontFault, Spells, Tree, document, elements}
 use Rattle.bson_raw.specs.{AreDocuments, documents_bytes}
 use Rattle.engines.specs.InputFault.{bson_line, too_large_line}
-use Rattle.engines.specs.Output.{AppendsOne, WritesRead}
+use Rattle.bson_stream.specs.{IsOpen}
+use Rattle.engines.specs.Input.{bytes_of}
+use Rattle.engines.specs.Output.{AppendsOne, IsLastBefore, TextOf, WritesRead}
 
 -- ---- what a command writes for a document
 
@@ -65,14 +67,18 @@ abbrev pub are_any : List Tree → Bool
 are_any [] = false
 are_any (t ∷ ts) = true
 
+-- the last line for a rest that begins at this offset, behind which the input isn't hexadecimal
+-- text at this place, if there is one
+abbrev pub IsLastAt : TextRule → ℕ → Option ℕ → List ℕ → Option (List ℕ) → Type 0
+IsLastAt rule start place rest last = IsLastBefore IsOpen (IsLast rule start) place rest last
+
 -- The whole text of bytes, and whether it ends with a fault line: the texts of the documents up to
 -- the first without one, what follows them all, by whether there are any, and the last line.
-abbrev pub IsWholeText : TextRule → (Bool → List ℕ) → List ℕ → List ℕ → Bool
-    → Type 0
-IsWholeText rule closing bytes text fault =
+abbrev pub IsWholeText : TextRule → (Bool → List ℕ) → TextOf
+IsWholeText rule closing place bytes text fault =
     (documents : List Tree) × (texts : List ℕ) × (rest : List ℕ) × (last : Option (List ℕ))
     × HaveTexts rule 0 bytes documents texts rest
-    × IsLast rule (length (documents_bytes documents)) rest last
+    × IsLastAt rule (length (documents_bytes documents)) place rest last
     × (text ≡ texts ++ (closing (are_any documents) ++ or_nothing last)) × (fault ≡ is_there last)
 
 -- nothing follows the texts
@@ -93,12 +99,11 @@ AllTexts rule bytes texts =
     × HaveTexts rule 0 bytes documents texts rest
     × IsLast rule (length (documents_bytes documents)) rest last
 
--- Known bytes grow by the texts of the first few documents in some bytes.
-abbrev pub AppendsFirst : TextRule → List ℕ → Option (List ℕ) → Option (List ℕ)
-    → Type 0
-AppendsFirst rule bytes = AppendsOne (FirstTexts rule bytes)
+-- Known bytes grow by the texts of the first few documents in the bytes of an input.
+abbrev pub AppendsFirst : TextRule → Bool → List ℕ → Option (List ℕ) → Option (List ℕ) → Type 0
+AppendsFirst rule hex input = AppendsOne (FirstTexts rule (bytes_of hex input))
 
--- Bytes were read, and the texts of all documents in them were written.
-abbrev pub WritesAll : TextRule → Option (List ℕ) → Option (List ℕ)
+-- An input was read so far, and the texts of all documents in its bytes were written.
+abbrev pub WritesAll : TextRule → Bool → Option (List ℕ) → Option (List ℕ)
     → Option (List ℕ) → Option (List ℕ) → Type 0
-WritesAll rule = WritesRead (AllTexts rule)
+WritesAll rule hex = WritesRead (λ read. AllTexts rule (bytes_of hex read))

@@ -3,6 +3,7 @@ use Rattle.std.specs.Prelude.{ℕ, List, Bool, true, false, Option, Some}
 use Rattle.bson_elem.specs.{Tree}
 use Rattle.bson_text.specs.{document_text, document_text_at}
 use Rattle.engines.specs.Documents.{IsWholeText, nothing, told_at}
+use Rattle.engines.specs.Output.{TextOf}
 
 -- the text of a document that begins at this offset, by whether with offsets
 abbrev pub dump_text : Bool → ℕ → Tree → List ℕ
@@ -14,5 +15,5 @@ abbrev pub dump_of : Bool → ℕ → Tree → Option (List ℕ)
 dump_of offsets start t = Some (dump_text offsets start t)
 
 -- what `dump` writes for bytes, and whether it ends with a fault line
-abbrev pub DumpText : Bool → List ℕ → List ℕ → Bool → Type 0
+abbrev pub DumpText : Bool → TextOf
 DumpText offsets = IsWholeText (told_at (dump_of offsets)) nothing

@@ -5,6 +5,7 @@ use Rattle.bson_json.specs.{IsJson}
 use Rattle.engines.specs.declared.json.Layout.{Layout}
 use Rattle.engines.specs.declared.json.Layout.TheVariants.{Lines, Array}
 use Rattle.engines.specs.Documents.{IsWholeText, TextRule}
+use Rattle.engines.specs.Output.{TextOf}
 
 -- what stands before the value of a document that begins at this offset, and behind it
 abbrev pub front_of : Layout → ℕ → List ℕ
@@ -28,5 +29,5 @@ behind_values Lines any = []
 behind_values Array any = if any then codes "]\n" else codes "[]\n"
 
 -- what `json` writes for bytes, and whether it ends with a fault line
-abbrev pub JsonText : Mode → Layout → List ℕ → List ℕ → Bool → Type 0
+abbrev pub JsonText : Mode → Layout → TextOf
 JsonText mode layout = IsWholeText (MayBeJson mode layout) (behind_values layout)

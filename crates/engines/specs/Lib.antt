@@ -8,6 +8,7 @@ pub mod InputFault
 pub mod Documents
 pub mod Source
 pub mod Walk
+pub mod HexWalk
 pub mod DocumentWalk
 pub mod MessageWalk
 pub mod Check
@@ -25,9 +26,10 @@ pub use Rattle.engines.specs.Check.{CheckText, check_of}
 pub use Rattle.engines.specs.Documents.{AllTexts, AppendsFirst, FirstTexts, TextRule, WritesAll}
 pub use Rattle.engines.specs.Documents.{told_at, told_by}
 pub use Rattle.engines.specs.Dump.{DumpText, dump_of}
+pub use Rattle.engines.specs.Input.{bytes_of, hex_fault}
 pub use Rattle.engines.specs.Json.{JsonText, MayBeJson}
 pub use Rattle.engines.specs.Loopback.{AppendsUpTo, HaveRun, HaveTold, loop_text}
 pub use Rattle.engines.specs.Msg.{AllMessages, FirstMessages, MsgText}
-pub use Rattle.engines.specs.Output.{AppendsOne, AppendsText, IsOutput, WritesRead}
+pub use Rattle.engines.specs.Output.{AppendsOne, AppendsText, IsOutput, TextOf, WritesRead}
 pub use Rattle.engines.specs.Play.{ScriptText}
 pub use Rattle.engines.specs.Run.{end_of_error, is_done, is_fault}

@@ -51,7 +51,7 @@ abbrev pub message_tells : MessageForm → Tells MessageReader
 message_tells form = record {
   stands = λ r read texts.
       StandAt form r read texts r.messages.held × IsOpen 48000000 r.messages.held;
-  ends = λ r bytes texts last. MessagesAre form 48000000 bytes texts last;
+  ends = λ r place bytes texts last. MessagesAre form 48000000 place bytes texts last;
   first = FirstMessages form;
   all = AllMessages form;
   whole = MsgText form;

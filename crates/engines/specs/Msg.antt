@@ -1,5 +1,5 @@
 -- What `msg` writes for messages back to back.
-use Rattle.std.specs.Prelude.{◌≡◌, ◌⊎◌, ℕ, ◌+◌, List, [], ◌∷◌, ◌++◌, codes, Bool, Option, None}
+use Rattle.std.specs.Prelude.{◌≡◌, ◌⊎◌, ℕ, ◌+◌, List, [], ◌∷◌, ◌++◌, codes, Option, None}
 use Rattle.std.specs.Prelude.{Some}
 use Rattle.wire_msg.specs.declared.fault.MsgFault.{MsgFault}
 use Rattle.wire_msg.specs.{AreSpelled, IsBad, IsOpen, Message, Split, message_len}
@@ -8,6 +8,7 @@ use Rattle.engines.specs.declared.msg.MessageForm.{MessageForm}
 use Rattle.engines.specs.declared.msg.MessageForm.TheVariants.{Text, Json}
 use Rattle.engines.specs.Documents.{or_nothing, is_there}
 use Rattle.engines.specs.InputFault.{msg_line, ended_inside_line}
+use Rattle.engines.specs.Output.{IsLastBefore, TextOf}
 
 -- what may be written for a message: its text; or a line with one JSON object, of which there are
 -- several where the message holds doubles
@@ -36,18 +37,24 @@ IsLastMsg limit start (b ∷ bs) last =
     (IsOpen limit (b ∷ bs) × (last ≡ Some (ended_inside_line start)))
     ⊎ ((f : MsgFault) × IsBad limit (b ∷ bs) f × (last ≡ Some (msg_line (start + f.at) f.cause)))
 
+-- the same, where behind the rest the input isn't hexadecimal text at this place, if there is one
+abbrev pub IsLastMsgAt : ℕ → ℕ → Option ℕ → List ℕ → Option (List ℕ) → Type 0
+IsLastMsgAt limit start place rest last =
+    IsLastBefore (IsOpen limit) (IsLastMsg limit start) place rest last
+
 -- The bytes are split into messages within the limit and a rest: what may be written for the
 -- messages, joined, and the last line.
-abbrev pub MessagesAre : MessageForm → ℕ → List ℕ → List ℕ → Option (List ℕ) → Type 0
-MessagesAre form limit bytes texts last =
+abbrev pub MessagesAre : MessageForm → ℕ → Option ℕ → List ℕ → List ℕ → Option (List ℕ) → Type 0
+MessagesAre form limit place bytes texts last =
     (messages : List Message) × (rest : List ℕ) × Split limit bytes messages rest
-    × MayBeMessages form messages texts × IsLastMsg limit (messages_len messages) rest last
+    × MayBeMessages form messages texts
+    × IsLastMsgAt limit (messages_len messages) place rest last
 
 -- What `msg` writes for bytes, and whether it ends with a fault line. The message limit is
 -- 48,000,000 bytes.
-abbrev pub MsgText : MessageForm → List ℕ → List ℕ → Bool → Type 0
-MsgText form bytes text fault =
-    (texts : List ℕ) × (last : Option (List ℕ)) × MessagesAre form 48000000 bytes texts last
+abbrev pub MsgText : MessageForm → TextOf
+MsgText form place bytes text fault =
+    (texts : List ℕ) × (last : Option (List ℕ)) × MessagesAre form 48000000 place bytes texts last
     × (text ≡ texts ++ or_nothing last) × (fault ≡ is_there last)
 
 -- ---- where an input isn't read to its end
@@ -67,4 +74,4 @@ FirstMessages form bytes texts = (rest : List ℕ) × HaveMessages form 48000000
 -- the texts of all messages in some bytes, up to the first fault
 abbrev pub AllMessages : MessageForm → List ℕ → List ℕ → Type 0
 AllMessages form bytes texts =
-    (last : Option (List ℕ)) × MessagesAre form 48000000 bytes texts last
+    (last : Option (List ℕ)) × MessagesAre form 48000000 None bytes texts last

@@ -1,17 +1,26 @@
 -- What a command writes for an input.
-use Rattle.std.specs.Prelude.{◌≡◌, ℕ, Bool, true, List, Option, Result, Ok, Err}
+use Rattle.std.specs.Prelude.{◌≡◌, ◌⊎◌, ℕ, Bool, List, Option, None, Some}
 use Rattle.std.specs.Io.KnownBytes.{Appends, Consumes}
 use Rattle.engines.specs.InputFault.{hex_line}
-use Rattle.engines.specs.Input.{bytes_of}
+use Rattle.engines.specs.Input.{bytes_of, hex_fault}
 
--- the text of bytes, as Text has it, or the one line of a fault in hexadecimal text
-abbrev pub IsTextOf : (List ℕ → List ℕ → Bool → Type 0) → Result (List ℕ) ℕ → List ℕ → Bool → Type 0
-IsTextOf Text (Ok bytes) text fault = Text bytes text fault
-IsTextOf Text (Err offset) text fault = (text ≡ hex_line offset) × (fault ≡ true)
+-- What a command may write for bytes, and whether that ends with a fault line. Behind the bytes the
+-- input isn't hexadecimal text, at this offset, if there is one.
+abbrev pub TextOf : Type 1
+TextOf = Option ℕ → List ℕ → List ℕ → Bool → Type 0
 
--- what a command writes for an input, where `Text bytes text fault` says what it writes for bytes
-abbrev pub IsOutput : (List ℕ → List ℕ → Bool → Type 0) → Bool → List ℕ → List ℕ → Bool → Type 0
-IsOutput Text hex input text fault = IsTextOf Text (bytes_of hex input) text fault
+-- what a command writes for an input, by what it writes for bytes
+abbrev pub IsOutput : TextOf → Bool → List ℕ → List ℕ → Bool → Type 0
+IsOutput Text hex input = Text (hex_fault hex input) (bytes_of hex input)
+
+-- The last line of a rest, behind which the input isn't hexadecimal text at this offset, if there
+-- is one: that of this fault, where more bytes would decide what the rest is, which `Open` tells;
+-- and else what `Last` tells.
+abbrev pub IsLastBefore : (List ℕ → Type 0) → (List ℕ → Option (List ℕ) → Type 0) → Option ℕ
+    → List ℕ → Option (List ℕ) → Type 0
+IsLastBefore Open Last None rest last = Last rest last
+IsLastBefore Open Last (Some offset) rest last =
+    (Open rest × (last ≡ Some (hex_line offset))) ⊎ ((Open rest → ⊥) × Last rest last)
 
 -- known bytes grow by a text, and fault says whether it ends with a fault line
 abbrev pub AppendsText : (List ℕ → Bool → Type 0) → Bool → Option (List ℕ) → Option (List ℕ)

@@ -2,10 +2,9 @@
 
 ghost use Rattle.std.specs.Prelude.{◌≡◌, ◌⊎◌, ◌≤◌, ◌<◌, ◌^◌, IfOk, IfSome, None, Some, false};
 ghost use Rattle.std.specs.Prelude.{if◌then◌else◌, length, nat_lt, true};
-ghost use Rattle.std.specs.Io.KnownBytes.{IsAtEnd, Keeps};
+ghost use Rattle.std.specs.Io.KnownBytes.{IsAtEnd};
 ghost use Rattle.engines.specs.Canon.{CanonText, behind_forms, canon_of, in_form};
 ghost use Rattle.engines.specs.Documents.{AppendsFirst, WritesAll, told_by};
-ghost use Rattle.engines.specs.Input.{bytes_of};
 ghost use Rattle.engines.specs.Output.{AppendsText, IsOutput};
 ghost use Rattle.engines.specs.Run.{is_done, is_fault};
 ghost use Rattle.engines.specs.DocumentWalk.{IsWritten};
@@ -93,16 +92,12 @@ pub fn run_canon<R: Read, W: Write>(
     ensures written { IfSome (R.remaining reader.old) (λ input. is_done result ≡ true →
         AppendsText (IsOutput (CanonText MAX_LEN hex) hex input) (is_fault result)
         (W.contents writer.old) (W.contents writer.new)) }
-    ensures unread { hex ≡ false → result ≡ RunEnd.Unread
-        → WritesAll (told_by (canon_of MAX_LEN hex))
+    ensures unread { result ≡ RunEnd.Unread → WritesAll (told_by (canon_of MAX_LEN hex)) hex
         (R.remaining reader.old) (R.remaining reader.new)
         (W.contents writer.old) (W.contents writer.new) }
-    ensures late { hex ≡ true → (IsAtEnd (R.remaining reader.new)) ⊎
-        Keeps (W.contents writer.old) (W.contents writer.new) }
-    ensures memory { result ≡ RunEnd.OutOfMemory → IfSome (R.remaining reader.old)
-        (λ input. IfOk (bytes_of hex input) (λ bytes.
-        AppendsFirst (told_by (canon_of MAX_LEN hex)) bytes
-        (W.contents writer.old) (W.contents writer.new))) }
+    ensures memory { result ≡ RunEnd.OutOfMemory → IfSome (R.remaining reader.old) (λ input.
+        AppendsFirst (told_by (canon_of MAX_LEN hex)) hex input
+        (W.contents writer.old) (W.contents writer.new)) }
 {
     run_canon_within(alloc, MAX_LEN, hex, reader, writer)
 }
@@ -120,15 +115,12 @@ pub fn run_canon_within<R: Read, W: Write>(
     ensures written { IfSome (R.remaining reader.old) (λ input. is_done result ≡ true →
         AppendsText (IsOutput (CanonText limit hex) hex input) (is_fault result)
         (W.contents writer.old) (W.contents writer.new)) }
-    ensures unread { hex ≡ false → result ≡ RunEnd.Unread → WritesAll (told_by (canon_of limit hex))
+    ensures unread { result ≡ RunEnd.Unread → WritesAll (told_by (canon_of limit hex)) hex
         (R.remaining reader.old) (R.remaining reader.new)
         (W.contents writer.old) (W.contents writer.new) }
-    ensures late { hex ≡ true → (IsAtEnd (R.remaining reader.new)) ⊎
-        Keeps (W.contents writer.old) (W.contents writer.new) }
-    ensures memory { result ≡ RunEnd.OutOfMemory → IfSome (R.remaining reader.old)
-        (λ input. IfOk (bytes_of hex input) (λ bytes.
-        AppendsFirst (told_by (canon_of limit hex)) bytes
-        (W.contents writer.old) (W.contents writer.new))) }
+    ensures memory { result ≡ RunEnd.OutOfMemory → IfSome (R.remaining reader.old) (λ input.
+        AppendsFirst (told_by (canon_of limit hex)) hex input
+        (W.contents writer.old) (W.contents writer.new)) }
 {
     let canon = Canon { alloc, hex, limit };
     run_documents(alloc, canon, hex, reader, writer)

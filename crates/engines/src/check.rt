@@ -1,10 +1,9 @@
 //! The command `check`: a line for each document.
 
 ghost use Rattle.std.specs.Prelude.{◌≡◌, ◌⊎◌, IfOk, IfSome, OnOk, false, true};
-ghost use Rattle.std.specs.Io.KnownBytes.{Appends, IsAtEnd, Keeps};
+ghost use Rattle.std.specs.Io.KnownBytes.{Appends, IsAtEnd};
 ghost use Rattle.engines.specs.Check.{CheckText, check_of, form_word, sized_line};
 ghost use Rattle.engines.specs.Documents.{AppendsFirst, WritesAll, nothing, told_by};
-ghost use Rattle.engines.specs.Input.{bytes_of};
 ghost use Rattle.engines.specs.Output.{AppendsText, IsOutput};
 ghost use Rattle.engines.specs.Run.{is_done, is_fault};
 
@@ -74,14 +73,11 @@ pub fn run_check<R: Read, W: Write>(
     ensures written { IfSome (R.remaining reader.old) (λ input. is_done result ≡ true →
         AppendsText (IsOutput CheckText hex input) (is_fault result)
         (W.contents writer.old) (W.contents writer.new)) }
-    ensures unread { hex ≡ false → result ≡ RunEnd.Unread → WritesAll (told_by check_of)
+    ensures unread { result ≡ RunEnd.Unread → WritesAll (told_by check_of) hex
         (R.remaining reader.old) (R.remaining reader.new)
         (W.contents writer.old) (W.contents writer.new) }
-    ensures late { hex ≡ true → (IsAtEnd (R.remaining reader.new)) ⊎
-        Keeps (W.contents writer.old) (W.contents writer.new) }
-    ensures memory { result ≡ RunEnd.OutOfMemory → IfSome (R.remaining reader.old)
-        (λ input. IfOk (bytes_of hex input) (λ bytes. AppendsFirst (told_by check_of) bytes
-        (W.contents writer.old) (W.contents writer.new))) }
+    ensures memory { result ≡ RunEnd.OutOfMemory → IfSome (R.remaining reader.old) (λ input.
+        AppendsFirst (told_by check_of) hex input (W.contents writer.old) (W.contents writer.new)) }
 {
     run_documents(alloc, Check, hex, reader, writer)
 }

@@ -2,14 +2,13 @@
 
 ghost use Rattle.std.specs.Prelude.{◌≡◌, ◌⊎◌, ◌+◌, ◌<◌, ◌^◌, ℕ, Bool, List, Option, IfErr, IfOk};
 ghost use Rattle.std.specs.Prelude.{IfSome, OnOk, false, length, true};
-ghost use Rattle.std.specs.Io.KnownBytes.{Appends, IsAtEnd, Keeps};
+ghost use Rattle.std.specs.Io.KnownBytes.{Appends, IsAtEnd};
 ghost use Rattle.bson_elem.specs.{Spells, Tree};
 ghost use Rattle.bson_raw.specs.{document_bytes, is_plain};
 ghost use Rattle.bson_stream.specs.{IsOpen};
 ghost use Rattle.engines.specs.DocumentWalk.{GoesOver, IsWritten, document_tells};
 ghost use Rattle.engines.specs.Documents.{AppendsFirst, IsWholeText, TextRule, WritesAll, is_there};
 ghost use Rattle.engines.specs.Documents.{or_nothing};
-ghost use Rattle.engines.specs.Input.{bytes_of};
 ghost use Rattle.engines.specs.InputFault.{line_of};
 ghost use Rattle.engines.specs.Output.{AppendsText, IsOutput};
 ghost use Rattle.engines.specs.Run.{is_done, is_fault};
@@ -145,7 +144,7 @@ impl<E: EachDocument> Walk for Documents<E> {
 }
 
 /// Writes what a command makes of the documents in the input. If `hex` is true, the input is
-/// hexadecimal text, which is read whole.
+/// hexadecimal text.
 pub fn run_documents<E: EachDocument + Drop, R: Read, W: Write>(
     alloc: Global,
     each: E,
@@ -157,14 +156,11 @@ pub fn run_documents<E: EachDocument + Drop, R: Read, W: Write>(
     ensures written { IfSome (R.remaining reader.old) (λ input. is_done result ≡ true →
         AppendsText (IsOutput (IsWholeText (E.rule each) (E.closing each)) hex input)
         (is_fault result) (W.contents writer.old) (W.contents writer.new)) }
-    ensures unread { hex ≡ false → result ≡ RunEnd.Unread → WritesAll (E.rule each)
+    ensures unread { result ≡ RunEnd.Unread → WritesAll (E.rule each) hex
         (R.remaining reader.old) (R.remaining reader.new)
         (W.contents writer.old) (W.contents writer.new) }
-    ensures late { hex ≡ true → (IsAtEnd (R.remaining reader.new)) ⊎
-        Keeps (W.contents writer.old) (W.contents writer.new) }
-    ensures memory { result ≡ RunEnd.OutOfMemory → IfSome (R.remaining reader.old)
-        (λ input. IfOk (bytes_of hex input) (λ bytes. AppendsFirst (E.rule each) bytes
-        (W.contents writer.old) (W.contents writer.new))) }
+    ensures memory { result ≡ RunEnd.OutOfMemory → IfSome (R.remaining reader.old) (λ input.
+        AppendsFirst (E.rule each) hex input (W.contents writer.old) (W.contents writer.new)) }
 {
     let documents = Documents { each };
     run_walk(alloc, &documents, hex, reader, writer)

@@ -1,9 +1,8 @@
 //! The command `json`: each document as MongoDB Extended JSON.
 
 ghost use Rattle.std.specs.Prelude.{◌≡◌, ◌⊎◌, IfOk, IfSome, OnOk, false, true};
-ghost use Rattle.std.specs.Io.KnownBytes.{Appends, IsAtEnd, Keeps};
+ghost use Rattle.std.specs.Io.KnownBytes.{Appends, IsAtEnd};
 ghost use Rattle.engines.specs.Documents.{AppendsFirst, WritesAll};
-ghost use Rattle.engines.specs.Input.{bytes_of};
 ghost use Rattle.engines.specs.Json.{JsonText, MayBeJson, behind_values, front_of, end_of_value};
 ghost use Rattle.engines.specs.Output.{AppendsText, IsOutput};
 ghost use Rattle.engines.specs.Run.{is_done, is_fault};
@@ -101,14 +100,12 @@ pub fn run_json<R: Read, W: Write>(
     ensures written { IfSome (R.remaining reader.old) (λ input. is_done result ≡ true →
         AppendsText (IsOutput (JsonText mode layout) hex input) (is_fault result)
         (W.contents writer.old) (W.contents writer.new)) }
-    ensures unread { hex ≡ false → result ≡ RunEnd.Unread → WritesAll (MayBeJson mode layout)
+    ensures unread { result ≡ RunEnd.Unread → WritesAll (MayBeJson mode layout) hex
         (R.remaining reader.old) (R.remaining reader.new)
         (W.contents writer.old) (W.contents writer.new) }
-    ensures late { hex ≡ true → (IsAtEnd (R.remaining reader.new)) ⊎
-        Keeps (W.contents writer.old) (W.contents writer.new) }
-    ensures memory { result ≡ RunEnd.OutOfMemory → IfSome (R.remaining reader.old)
-        (λ input. IfOk (bytes_of hex input) (λ bytes. AppendsFirst (MayBeJson mode layout) bytes
-        (W.contents writer.old) (W.contents writer.new))) }
+    ensures memory { result ≡ RunEnd.OutOfMemory → IfSome (R.remaining reader.old) (λ input.
+        AppendsFirst (MayBeJson mode layout) hex input
+        (W.contents writer.old) (W.contents writer.new)) }
 {
     let json = Json { mode, layout };
     run_documents(alloc, json, hex, reader, writer)

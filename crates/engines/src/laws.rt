@@ -9,18 +9,20 @@ ghost use Rattle.engines.specs.declared.msg.MessageForm.TheVariants.{Text};
 
 /// Proves that bytes have at most one text as documents, which ends with a fault line or doesn't,
 /// whatever a command writes for a document and behind all of them, if a function of the document
-/// and of the offset at which it begins tells it.
+/// and of the offset at which it begins tells it; also where the input isn't hexadecimal text at
+/// some place behind the bytes.
 pub fn one_text()
-    ensures { (text_of : ℕ → Tree → Option (List ℕ)) (closing : Bool → List ℕ)
+    ensures { (text_of : ℕ → Tree → Option (List ℕ)) (closing : Bool → List ℕ) (place : Option ℕ)
         (bytes text other : List ℕ) (fault other_fault : Bool) → IsBytes bytes
-        → IsWholeText (told_at text_of) closing bytes text fault
-        → IsWholeText (told_at text_of) closing bytes other other_fault
+        → IsWholeText (told_at text_of) closing place bytes text fault
+        → IsWholeText (told_at text_of) closing place bytes other other_fault
         → (text ≡ other) × (fault ≡ other_fault) }
 {}
 
 /// Proves that bytes have at most one text as messages, which ends with a fault line or doesn't.
 pub fn one_text_of_messages()
-    ensures { (bytes text other : List ℕ) (fault other_fault : Bool) → IsBytes bytes
-        → MsgText Text bytes text fault → MsgText Text bytes other other_fault
+    ensures { (place : Option ℕ) (bytes text other : List ℕ) (fault other_fault : Bool)
+        → IsBytes bytes → MsgText Text place bytes text fault
+        → MsgText Text place bytes other other_fault
         → (text ≡ other) × (fault ≡ other_fault) }
 {}

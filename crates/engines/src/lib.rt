@@ -4,10 +4,10 @@
 //! `run_dump`, `run_check`, `run_canon` and `run_json` read documents piece by piece, and `run_msg`
 //! messages, and write as these come. `run_bson` and `run_play` read all that the reader has before
 //! they write. Each writes one text for its input, and tells how that ended. Documents or messages
-//! stand back to back in the input, as bytes or as hexadecimal text, which is read whole; the input
-//! of `run_bson` is Extended JSON, and that of `run_play` a script of events. A fault in the input
-//! is told by the last line of the text, and by `run_bson` in what it returns. `run_loop` reads
-//! nothing: it makes calls over a connection of the program with itself.
+//! stand back to back in the input, as bytes or as hexadecimal text; the input of `run_bson` is
+//! Extended JSON, and that of `run_play` a script of events. A fault in the input is told by the
+//! last line of the text, and by `run_bson` in what it returns. `run_loop` reads nothing: it makes
+//! calls over a connection of the program with itself.
 //!
 //! Stands on bson_json_read, bson_stream, wire_stream, wire_end and wire_play. bsonwire stands on
 //! it. Read first: `walk`, `pieces`, `documents`, and then `dump`.
@@ -21,6 +21,7 @@ mod documents;
 mod dump;
 mod fault_line;
 mod hex_input;
+mod hex_walk;
 mod input_fault;
 mod json;
 pub mod laws;

@@ -38,14 +38,13 @@ pub fn run_msg<R: Read, W: Write>(
     ensures written { IfSome (R.remaining reader.old) (λ input. is_done result ≡ true →
         AppendsText (IsOutput (MsgText form) hex input) (is_fault result)
         (W.contents writer.old) (W.contents writer.new)) }
-    ensures unread { hex ≡ false → result ≡ RunEnd.Unread → WritesRead (AllMessages form)
+    ensures unread { result ≡ RunEnd.Unread
+        → WritesRead (λ read. AllMessages form (bytes_of hex read))
         (R.remaining reader.old) (R.remaining reader.new)
         (W.contents writer.old) (W.contents writer.new) }
-    ensures late { hex ≡ true → (IsAtEnd (R.remaining reader.new)) ⊎
-        Keeps (W.contents writer.old) (W.contents writer.new) }
-    ensures memory { result ≡ RunEnd.OutOfMemory → IfSome (R.remaining reader.old)
-        (λ input. IfOk (bytes_of hex input) (λ bytes. AppendsOne (FirstMessages form bytes)
-        (W.contents writer.old) (W.contents writer.new))) }
+    ensures memory { result ≡ RunEnd.OutOfMemory → IfSome (R.remaining reader.old) (λ input.
+        AppendsOne (FirstMessages form (bytes_of hex input))
+        (W.contents writer.old) (W.contents writer.new)) }
 {
     run_walk(alloc, &Messages { form }, hex, reader, writer)
 }

@@ -1,23 +1,22 @@
 //! Reads an input piece by piece, and writes what a command makes of its documents or messages.
 //!
 //! Between two pieces there is the document or message that isn't whole yet, and the text that the
-//! writer didn't take yet. Nothing else of the input is held.
+//! writer didn't take yet. Nothing else of the input is held, but for a digit of hexadecimal text.
 
 ghost use Rattle.std.specs.Prelude.{◌≡◌, ◌⊎◌, ◌<◌, ◌≤◌, ◌++◌, IfErr, IfOk, IfSome, List, None, Ok};
-ghost use Rattle.std.specs.Prelude.{OnErr, OnOk, Option, [], false, length, take, true, ℕ};
-ghost use Rattle.std.specs.Io.KnownBytes.{Appends, Consumes, IsAtEnd, Keeps, append_known};
+ghost use Rattle.std.specs.Prelude.{OnErr, OnOk, Option, [], length, take, true, ℕ};
+ghost use Rattle.std.specs.Io.KnownBytes.{Consumes, IsAtEnd, Keeps, append_known};
 ghost use Rattle.engines.specs.Buffered.{buffered_contents};
 ghost use Rattle.engines.specs.Input.{bytes_of};
-ghost use Rattle.engines.specs.InputFault.{hex_line};
 ghost use Rattle.engines.specs.Output.{AppendsOne, AppendsText, IsOutput, WritesRead};
 ghost use Rattle.engines.specs.Run.{IsCutShort, is_done, is_fault};
 ghost use Rattle.engines.specs.Source.{given};
 ghost use Rattle.engines.specs.Walk.{Ends, IsBetween, IsEnding, IsFinish, Tells, Walks};
 
 use crate::buffered::Buffered;
-use crate::hex_input::Input;
+use crate::hex_walk::HexWalk;
 use crate::input_fault::InputFault;
-use crate::run::{BUFFER, RunEnd, read_hex};
+use crate::run::{BUFFER, RunEnd};
 use crate::source::{read_once, read_rest};
 use crate::walk::{Stop, Walk};
 use core::mem::replace_with;
@@ -267,7 +266,7 @@ fn run_pieces<E: Walk, R: Read, W: Write>(
     requires { IsBetween (E.tells each.now) begun [] [] }
     ensures read { is_done result ≡ true → IsAtEnd (R.remaining reader.new) }
     ensures written { IfSome (R.remaining reader.old) (λ input. is_done result ≡ true →
-        AppendsText (Tells.whole (E.tells each.now) input) (is_fault result)
+        AppendsText (Tells.whole (E.tells each.now) None input) (is_fault result)
         (W.contents writer.old) (W.contents writer.new)) }
     ensures unread { result ≡ RunEnd.Unread → WritesRead (Tells.all (E.tells each.now))
         (R.remaining reader.old) (R.remaining reader.new)
@@ -303,24 +302,8 @@ fn run_pieces<E: Walk, R: Read, W: Write>(
     replace_with(writer, last, finish)
 }
 
-/// Writes the line of an input that isn't hexadecimal text. Returns how the run ends.
-fn write_not_hex<W: Write>(offset: usize, writer: &mut W) -> RunEnd
-    ensures end { (result ≡ RunEnd.Fault) ⊎ (result ≡ RunEnd.InOut) }
-    ensures written { result ≡ RunEnd.Fault →
-        Appends (W.contents writer.old) (W.contents writer.new) (hex_line offset) }
-{
-    let fault = InputFault::Hex { offset };
-    let Ok(()) = fault.write(writer) else {
-        return RunEnd::InOut;
-    };
-    match writer.flush() {
-        Ok(()) => RunEnd::Fault,
-        Err(_) => RunEnd::InOut,
-    }
-}
-
 /// Writes what a command makes of what is in the input. If `hex` is true, the input is hexadecimal
-/// text, which is read whole.
+/// text, which is decoded piece by piece.
 pub fn run_walk<E: Walk, R: Read, W: Write>(
     alloc: Global,
     each: &E,
@@ -332,24 +315,17 @@ pub fn run_walk<E: Walk, R: Read, W: Write>(
     ensures written { IfSome (R.remaining reader.old) (λ input. is_done result ≡ true →
         AppendsText (IsOutput (Tells.whole (E.tells each.now)) hex input)
         (is_fault result) (W.contents writer.old) (W.contents writer.new)) }
-    ensures unread { hex ≡ false → result ≡ RunEnd.Unread
-        → WritesRead (Tells.all (E.tells each.now))
+    ensures unread { result ≡ RunEnd.Unread
+        → WritesRead (λ read. Tells.all (E.tells each.now) (bytes_of hex read))
         (R.remaining reader.old) (R.remaining reader.new)
         (W.contents writer.old) (W.contents writer.new) }
-    ensures late { hex ≡ true → (IsAtEnd (R.remaining reader.new)) ⊎
-        Keeps (W.contents writer.old) (W.contents writer.new) }
-    ensures memory { result ≡ RunEnd.OutOfMemory → IfSome (R.remaining reader.old)
-        (λ input. IfOk (bytes_of hex input) (λ bytes.
-        AppendsOne (Tells.first (E.tells each.now) bytes)
-        (W.contents writer.old) (W.contents writer.new))) }
+    ensures memory { result ≡ RunEnd.OutOfMemory → IfSome (R.remaining reader.old) (λ input.
+        AppendsOne (Tells.first (E.tells each.now) (bytes_of hex input))
+        (W.contents writer.old) (W.contents writer.new)) }
 {
-    let begun = each.start(alloc);
-    if !hex {
-        return run_pieces(alloc, each, begun, reader, writer);
+    if hex {
+        let walk = HexWalk { each };
+        return run_pieces(alloc, &walk, walk.start(alloc), reader, writer);
     }
-    match read_hex(alloc, reader) {
-        Ok(Input::Bytes(bytes)) => run_pieces(alloc, each, begun, &mut bytes.as_slice(), writer),
-        Ok(Input::NotHex { offset }) => write_not_hex(offset, writer),
-        Err(end) => end,
-    }
+    run_pieces(alloc, each, each.start(alloc), reader, writer)
 }

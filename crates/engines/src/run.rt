@@ -6,12 +6,10 @@ ghost use Rattle.std.specs.Prelude.{Err, OnOk, Ok, codes, true, false};
 ghost use Rattle.std.specs.Io.KnownBytes.{IsAtEnd, Keeps};
 ghost use Rattle.std.specs.IoError.{error_kind, raw_os_error};
 ghost use Rattle.engines.specs.Buffered.{buffered_contents};
-ghost use Rattle.engines.specs.Input.{bytes_of, read_bytes};
 ghost use Rattle.engines.specs.Output.{AppendsText};
 ghost use Rattle.engines.specs.Run.{IsCutShort, end_of_error, is_done, is_fault};
 
 use crate::buffered::Buffered;
-use crate::hex_input::{Input, decode_hex};
 use core::mem::replace_with;
 use std::alloc::Global;
 use std::io;
@@ -78,20 +76,6 @@ pub fn run<E: Engine, R: Read, W: Write>(
         buffer,
     };
     replace_with(writer, job, write_through)
-}
-
-/// Reads the whole input, which is hexadecimal text, and decodes it. Errs with the end of the run.
-pub fn read_hex<R: Read>(alloc: Global, reader: &mut R) -> Result<Input, RunEnd>
-    ensures bytes { IfOk result (λ input. IfSome (R.remaining reader.old)
-        (λ all. read_bytes input ≡ bytes_of true all)) }
-    ensures read { OnOk result (IsAtEnd (R.remaining reader.new)) }
-    ensures cut { IfErr result (λ end. is_done end ≡ false) }
-{
-    let text = read_whole(alloc, reader)?;
-    match decode_hex(alloc, text) {
-        Ok(input) => Ok(input),
-        Err(_) => Err(RunEnd::OutOfMemory),
-    }
 }
 
 /// Reads the whole input. Errs with the end of the run.

@@ -6,7 +6,7 @@ use bson_elem::MAX_LEN;
 use engines::{RunEnd, run_canon, run_canon_within};
 use std::alloc::Global;
 
-const TEXTS: [(&str, &str, RunEnd); 10] = [
+const TEXTS: [(&str, &str, RunEnd); 11] = [
     ("", "", RunEnd::Good),
     ("0500000000", "0500000000\n", RunEnd::Good),
     (
@@ -45,6 +45,11 @@ const TEXTS: [(&str, &str, RunEnd); 10] = [
     ),
     ("0500", "fault 1 Truncated at 0\n", RunEnd::Fault),
     ("050", "fault 0 Hex at 3\n", RunEnd::Fault),
+    (
+        "0500000000 0500x",
+        "0500000000\nfault 0 Hex at 14\n",
+        RunEnd::Fault,
+    ),
 ];
 
 /// Without `--hex` the documents stand back to back, and a fault line follows at once.

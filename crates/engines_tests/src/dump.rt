@@ -107,7 +107,7 @@ const FAULTS: [(&str, &str, RunEnd); 13] = [
 ];
 
 /// Bytes that are text already, without `--hex`, with digits of either case and white space with it.
-const INPUTS: [(bool, &str, &str, RunEnd); 9] = [
+const INPUTS: [(bool, &str, &str, RunEnd); 14] = [
     (false, "\x05\0\0\0\0", "document 5\n", RunEnd::Good),
     (true, " \t\r\n", "", RunEnd::Good),
     (
@@ -124,7 +124,23 @@ const INPUTS: [(bool, &str, &str, RunEnd); 9] = [
     ),
     (true, "4a 4A\r\n\t4f4", "fault 0 Hex at 7\n", RunEnd::Fault),
     (true, "0g", "fault 0 Hex at 1\n", RunEnd::Fault),
-    (true, "g0 h", "fault 0 Hex at 3\n", RunEnd::Fault),
+    (true, "g0 h", "fault 0 Hex at 0\n", RunEnd::Fault),
+    (
+        true,
+        "05000000 00 05z",
+        "document 5\nfault 0 Hex at 12\n",
+        RunEnd::Fault,
+    ),
+    (true, "0500000000\n", "document 5\n", RunEnd::Good),
+    (
+        true,
+        "0500000000 0",
+        "document 5\nfault 0 Hex at 11\n",
+        RunEnd::Fault,
+    ),
+    // What more bytes don't decide is told, and no fault behind it.
+    (true, "0500000001 z", "fault 3 End at 0\n", RunEnd::Fault),
+    (true, "04000000 0", "fault 2 Length at 0\n", RunEnd::Fault),
     (true, "00 00 g0 0h", "fault 0 Hex at 4\n", RunEnd::Fault),
     (true, "00\x0b0", "fault 0 Hex at 2\n", RunEnd::Fault),
 ];

@@ -69,7 +69,7 @@ const TEXTS: [(Mode, Layout, &str, &str, RunEnd); 11] = [
         Mode::Canonical,
         Layout::Array,
         "050",
-        "fault 0 Hex at 3\n",
+        "[]\nfault 0 Hex at 3\n",
         RunEnd::Fault,
     ),
 ];

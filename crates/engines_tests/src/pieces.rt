@@ -79,16 +79,25 @@ const READS: [(usize, u64, &str, RunEnd); 12] = [
     (13, 2, TWO, RunEnd::Unread),
 ];
 
-/// Returns true if `check` writes this text for `INPUT`, which comes in such steps, and ends so.
-fn is_read(alloc: Global, step: usize, fails_at: u64, text: &str, end: RunEnd) -> bool {
+/// Returns true if `check` writes this text for the input, as `steps` has it: the most bytes that a read gives, and the number of
+/// the one that fails, or 0; and if it ends so.
+fn is_read(
+    alloc: Global,
+    hex: bool,
+    input: &[u8],
+    steps: (usize, u64),
+    text: &str,
+    end: RunEnd,
+) -> bool {
+    let (step, fails_at) = steps;
     let mut reader = Steps {
-        rest: INPUT,
+        rest: input,
         step,
         fails_at,
         calls: 0,
     };
     let mut writer = Vec::new(alloc);
-    let ended = run_check(alloc, false, &mut reader, &mut writer);
+    let ended = run_check(alloc, hex, &mut reader, &mut writer);
     ended == end && writer.as_slice() == text.as_bytes()
 }
 
@@ -96,9 +105,64 @@ fn is_read(alloc: Global, step: usize, fails_at: u64, text: &str, end: RunEnd) -
 fn what_was_read_before_a_failed_read_is_written(rt: HostRuntime) {
     for (step, fails_at, text, end) in &READS {
         assert!(rt;
-            is_read(rt.alloc(), *step, *fails_at, text, *end),
+            is_read(rt.alloc(), false, INPUT, (*step, *fails_at), text, *end),
             "at {step} and {fails_at}"
         );
+    }
+}
+
+/// The digits of two documents of five bytes, and three more, the last of them alone.
+const DIGITS: &[u8] = b"05000000 00\n0500000000 05 0";
+
+const ALL_OF_DIGITS: &str = "ok 5 canonical\nok 5 canonical\nfault 0 Hex at 23\n";
+
+/// The most bytes that a read of `DIGITS` gives, the number of the one that fails or 0, what `check` writes, and how it ends.
+const DIGIT_READS: [(usize, u64, &str, RunEnd); 12] = [
+    (27, 0, ALL_OF_DIGITS, RunEnd::Fault),
+    (11, 0, ALL_OF_DIGITS, RunEnd::Fault),
+    (10, 0, ALL_OF_DIGITS, RunEnd::Fault),
+    (3, 0, ALL_OF_DIGITS, RunEnd::Fault),
+    (1, 0, ALL_OF_DIGITS, RunEnd::Fault),
+    (1, 1, NONE, RunEnd::Unread),
+    (1, 11, NONE, RunEnd::Unread),
+    (1, 12, ONE, RunEnd::Unread),
+    (1, 22, ONE, RunEnd::Unread),
+    (1, 23, TWO, RunEnd::Unread),
+    (27, 2, TWO, RunEnd::Unread),
+    (11, 2, ONE, RunEnd::Unread),
+];
+
+#[test]
+fn digits_that_were_read_before_a_failed_read_are_written(rt: HostRuntime) {
+    for (step, fails_at, text, end) in &DIGIT_READS {
+        assert!(rt;
+            is_read(rt.alloc(), true, DIGITS, (*step, *fails_at), text, *end),
+            "at {step} and {fails_at}"
+        );
+    }
+}
+
+/// Two documents, and then what isn't hexadecimal text; and two of which the second is at fault before that.
+const FAULTS: [(&[u8], &str); 2] = [
+    (
+        b"0500000000 0500000000 0 g0",
+        "ok 5 canonical\nok 5 canonical\nfault 0 Hex at 21\n",
+    ),
+    (
+        b"0500000000 0500000001 0 g0",
+        "ok 5 canonical\nfault 3 End at 5\n",
+    ),
+];
+
+#[test]
+fn a_fault_in_digits_is_told_however_they_come(rt: HostRuntime) {
+    for (input, text) in &FAULTS {
+        for step in 1..28 {
+            assert!(rt;
+                is_read(rt.alloc(), true, input, (step, 0), text, RunEnd::Fault),
+                "at {step}"
+            );
+        }
     }
 }
 
@@ -133,17 +197,25 @@ fn copies(alloc: Global, document: &[u8], count: usize) -> Result<Vec<u8>, Alloc
 }
 
 /// Returns true if `check` writes a text of `len` bytes for 20,000 documents. A piece is 65,536 bytes.
-fn are_all_told(alloc: Global, document: &[u8], len: usize) -> Result<bool, AllocError> {
+fn are_all_told(alloc: Global, hex: bool, document: &[u8], len: usize) -> Result<bool, AllocError> {
     let input = copies(alloc, document, 20_000)?;
     let mut writer = Vec::new(alloc);
-    let end = run_check(alloc, false, &mut input.as_slice(), &mut writer);
+    let end = run_check(alloc, hex, &mut input.as_slice(), &mut writer);
     Ok(end == RunEnd::Good && writer.len() == len)
 }
 
 #[test]
 fn a_document_may_end_with_a_piece_or_go_on_behind_it(rt: HostRuntime) -> Result<(), AllocError> {
-    assert!(rt; are_all_told(rt.alloc(), b"\x05\0\0\0\0", 300_000)?);
-    assert!(rt; are_all_told(rt.alloc(), b"\x08\0\0\0\x0aa\0\0", 300_000)?);
+    assert!(rt; are_all_told(rt.alloc(), false, b"\x05\0\0\0\0", 300_000)?);
+    assert!(rt; are_all_told(rt.alloc(), false, b"\x08\0\0\0\x0aa\0\0", 300_000)?);
+    Ok(())
+}
+
+/// Eleven bytes of text for each document: the first digit of a byte is often the last of a piece.
+#[test]
+fn a_byte_may_begin_in_one_piece_and_end_in_the_next(rt: HostRuntime) -> Result<(), AllocError> {
+    assert!(rt; are_all_told(rt.alloc(), true, b"0500000000", 300_000)?);
+    assert!(rt; are_all_told(rt.alloc(), true, b"0500000000 ", 300_000)?);
     Ok(())
 }
 

@@ -133,8 +133,8 @@ impl<H: Handler + Drop> Ends<H> {
         Ok(())
     }
 
-    /// Has the server answer the request of this index, if so many wait. Errs if memory runs out
-    /// for the entry.
+    /// Has the server answer the request at `index` of those that wait, if there is one. Errs if
+    /// memory runs out for the entry.
     pub(crate) fn answer(&mut self, index: usize) -> Result<(), AllocError>
         ensures { OnOk result (Moves H.does H.stops self.old self.new) }
     {
@@ -157,7 +157,7 @@ impl<H: Handler + Drop> Ends<H> {
         Ok(())
     }
 
-    /// Cuts both ways: at most so many of the bytes in flight still arrive.
+    /// Cuts both ways. Of the bytes in flight, at most `up` and `down` still arrive.
     pub(crate) fn cut(&mut self, up: usize, down: usize)
         ensures { Moves H.does H.stops self.old self.new }
     {

@@ -29,7 +29,7 @@ fn kind_of(word: u32) -> CallKind {
     }
 }
 
-/// Returns the payload `{"s": number}`, which asks for so many replies to an exhaust call. Errs if
+/// Returns the payload `{"s": number}`. In an exhaust call it asks for `number` replies. Errs if
 /// memory runs out.
 fn payload_of(alloc: Global, number: u8) -> Result<PayloadBuf, AllocError>
     ensures { IfOk result (λ payload. BufCarries payload (body_alone (call_body number))) }

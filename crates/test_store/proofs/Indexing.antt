@@ -7,19 +7,15 @@ use Rattle.bson_raw.specs.{TreeValue, document_value, leaf_value, with_first}
 use Rattle.bson_doc.specs.Document.{tree_of}
 use Rattle.doc_query.specs.declared.failure.CommandError.{CommandError}
 use Rattle.doc_query.specs.declared.failure.CommandError.TheVariants as errors
-use Rattle.doc_query.specs.{or_error}
-use Rattle.test_store.specs.Indexes.{IndexView, are_index_keys, has_index_fields, index_in, is_index_field, is_index_key, is_key_document, with_index, with_indexes}
-
-pub keys_with_first : (name : List ℕ) (v : TreeValue) (others : Tree) → are_index_keys (with_first name v others) ≡ (is_index_key name v && are_index_keys others)
-keys_with_first name (leaf_value k v) others = refl
-keys_with_first name (document_value k b t) others = refl
+use Rattle.doc_query.specs.{are_keys, or_error}
+use Rattle.test_store.specs.Indexes.{IndexView, has_index_fields, index_in, is_index_field, is_key_document, with_index, with_indexes}
 
 pub fields_with_first : (name : List ℕ) (v : TreeValue) (others : Tree) → has_index_fields (with_first name v others) ≡ (is_index_field name && has_index_fields others)
 fields_with_first name (leaf_value k v) others = refl
 fields_with_first name (document_value k b t) others = refl
 
 -- a document that isn't empty is a key by its fields alone
-pub key_document : (ps : List (List ℕ × TreeValue)) → (length ps ≢ 0) → is_key_document (document_value kinds.Document no_code (tree_of ps)) ≡ are_index_keys (tree_of ps)
+pub key_document : (ps : List (List ℕ × TreeValue)) → (length ps ≢ 0) → is_key_document (document_value kinds.Document no_code (tree_of ps)) ≡ are_keys (tree_of ps)
 key_document [] some = absurd (some refl)
 key_document ((n, leaf_value k v) ∷ ps) some = refl
 key_document ((n, document_value k b t) ∷ ps) some = refl

@@ -1,7 +1,8 @@
 -- What each command does: its answer, and what is held after it.
 use Rattle.std.specs.Prelude.{◌≡◌, ℕ, ℤ, pos, List, [], ◌∷◌, ◌++◌, Bool, true, false, is_some, not}
 use Rattle.std.specs.Prelude.{Result, Ok, Err}
-use Rattle.std.specs.Prelude.{Option, Some, None, codes, drop, length, map, take, ◌-◌, if◌then◌else◌}
+use Rattle.std.specs.Prelude.{Option, Some, None, codes, drop, length, map, take, ◌-◌}
+use Rattle.std.specs.Prelude.{if◌then◌else◌}
 use Rattle.std.specs.Str.{bytes_eq}
 use Rattle.bson_elem.specs.declared.kinds.Kind.TheVariants as kinds
 use Rattle.bson_elem.specs.{Tree, inner_pair, leaf_pair, no_pairs}
@@ -15,7 +16,7 @@ use Rattle.doc_query.specs.declared.failure.CommandError.TheVariants as errors
 use Rattle.doc_query.specs.declared.failure.Failure.{Failure}
 use Rattle.doc_query.specs.declared.failure.Failure.TheVariants.{OutOfMemory, Refused}
 use Rattle.doc_query.specs.{after_stages, and_then, array_in, body_of, filter_field, found}
-use Rattle.doc_query.specs.{or_error}
+use Rattle.doc_query.specs.{or_error, projected, projection_field}
 use Rattle.doc_update.specs.{UpdatesView, after_deletes, after_updates}
 use Rattle.test_store.specs.Adding.{AddingView, gathered}
 use Rattle.test_store.specs.Answers.{build_pairs, counted_pairs, cursor_answer, dropped_pairs}
@@ -66,13 +67,15 @@ pub record QueryView : Type 0 where
   -- of the first batch
   pub count : ℕ
   pub is_single : Bool
+  pub projection : Tree
 
 abbrev pub query_in : Tree → Result QueryView CommandError
 query_in t =
     and_then (selection_in (codes "find") errors.Find (codes "filter") t) (λ q.
     and_then (batch_size 0 errors.FirstBatchSize t) (λ count.
     and_then (flag_field (codes "singleBatch") false errors.SingleBatch t) (λ single.
-    Ok (record { selection = q; count = count; is_single = single }))))
+    and_then (projection_field t) (λ p.
+    Ok (record { selection = q; count = count; is_single = single; projection = p })))))
 
 -- what a cursor is opened over: what is left after the batch, unless that is to be the only one
 abbrev pub left_of : {A : Type 0} → Bool → List A → List A
@@ -94,7 +97,7 @@ found_reply s n vs count single =
 abbrev pub find_reply_to : StoreView → QueryView → Result Reply CommandError
 find_reply_to s q =
     and_then (selected q.selection s.collections) (λ vs.
-    Ok (found_reply s q.selection.namespace vs q.count q.is_single))
+    Ok (found_reply s q.selection.namespace (map (projected q.projection) vs) q.count q.is_single))
 
 -- the answer of find and what is held after it, or its error
 abbrev pub find : StoreView → Tree → Result Reply CommandError

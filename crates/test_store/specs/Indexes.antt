@@ -11,7 +11,7 @@ use Rattle.bson_raw.specs.{TreeValue, document_value, first_named, leaf_value}
 use Rattle.bson_doc.specs.{coded_value, same, value_of}
 use Rattle.doc_query.specs.declared.failure.CommandError.{CommandError}
 use Rattle.doc_query.specs.declared.failure.CommandError.TheVariants as errors
-use Rattle.doc_query.specs.{and_then, inner, int32, is_down, is_operator, is_up, or_error, text, text_of}
+use Rattle.doc_query.specs.{and_then, are_keys, inner, int32, or_error, text, text_of}
 use Rattle.doc_update.specs.{is_one_of}
 use Rattle.test_store.specs.declared.indexes.Index.{Index}
 
@@ -39,19 +39,10 @@ has_index_fields no_pairs = true
 has_index_fields (leaf_pair n k v ps) = is_index_field n && has_index_fields ps
 has_index_fields (inner_pair n k b t ps) = is_index_field n && has_index_fields ps
 
--- a field is up or down
-abbrev pub is_index_key : List ℕ → TreeValue → Bool
-is_index_key n v = not (is_operator n) && (is_up v || is_down v)
-
-abbrev pub are_index_keys : Tree → Bool
-are_index_keys no_pairs = true
-are_index_keys (leaf_pair n k v ps) = is_index_key n (leaf_value k v) && are_index_keys ps
-are_index_keys (inner_pair n k b t ps) = is_index_key n (document_value k b t) && are_index_keys ps
-
--- an index is by at least one field
+-- an index is by at least one field, each up or down
 abbrev pub is_key_document : TreeValue → Bool
 is_key_document (document_value kinds.Document b no_pairs) = false
-is_key_document (document_value kinds.Document b t) = are_index_keys t
+is_key_document (document_value kinds.Document b t) = are_keys t
 is_key_document _ = false
 
 abbrev pub key_of : Option TreeValue → Option TreeValue

@@ -27,7 +27,8 @@ abbrev pub is_find_field : List ℕ → Bool
 is_find_field name =
     is_one_of name
     (codes "find" ∷ codes "filter" ∷ codes "sort" ∷ codes "skip" ∷ codes "limit"
-    ∷ codes "batchSize" ∷ codes "singleBatch" ∷ codes "allowDiskUse" ∷ codes "noCursorTimeout" ∷ [])
+    ∷ codes "batchSize" ∷ codes "singleBatch" ∷ codes "projection" ∷ codes "allowDiskUse"
+    ∷ codes "noCursorTimeout" ∷ [])
 
 abbrev pub is_delete_field : List ℕ → Bool
 is_delete_field name =

@@ -5,15 +5,15 @@ ghost use Rattle.std.specs.Prelude.{map};
 ghost use Rattle.std.specs.List.{list_any};
 ghost use Rattle.bson_doc.specs.{tree_of, value_of};
 ghost use Rattle.doc_query.specs.{IsFailure, inner, or_error};
-ghost use Rattle.test_store.specs.Indexes.{are_index_keys, has_index_fields, has_key, has_name};
+ghost use Rattle.test_store.specs.Indexes.{has_index_fields, has_key, has_name};
 ghost use Rattle.test_store.specs.Indexes.{id_index, index_in, index_listing, index_view, is_index};
-ghost use Rattle.test_store.specs.Indexes.{is_index_field, is_index_key, is_key_document};
+ghost use Rattle.test_store.specs.Indexes.{is_index_field, is_key_document};
 ghost use Rattle.test_store.specs.Indexes.{with_index};
 ghost use Rattle.test_store.specs.Indexes.{with_indexes};
 
 use crate::answer::set_text;
 use bson_doc::{Bson, Document};
-use doc_query::{CommandError, Failure, field, is_down, is_operator, is_same, is_up, set};
+use doc_query::{CommandError, Failure, are_keys, field, is_same, set};
 use std::alloc::{AllocError, Global};
 
 /// An index of a collection.
@@ -74,31 +74,12 @@ fn has_index_fields(index: &Document) -> bool
     true
 }
 
-/// Returns true if an index can be by this field.
-fn is_index_key(name: &str, direction: &Bson) -> bool
-    ensures { result ≡ is_index_key name.now (value_of direction.now) }
-{
-    !is_operator(name) && (is_up(direction) || is_down(direction))
-}
-
-/// Returns true if an index can be by these fields.
-fn are_index_keys(key: &Document) -> bool
-    ensures { result ≡ are_index_keys (tree_of key.now) }
-{
-    for (name, direction) in key {
-        if !is_index_key(name, direction) {
-            return false;
-        }
-    }
-    true
-}
-
 /// Returns true if a value is a document of fields that an index can be by.
 fn is_key_document(value: &Bson) -> bool
     ensures { result ≡ is_key_document (value_of value.now) }
 {
     match value {
-        Bson::Document(key) => !key.is_empty() && are_index_keys(key),
+        Bson::Document(key) => !key.is_empty() && are_keys(key),
         _ => false,
     }
 }

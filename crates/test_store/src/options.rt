@@ -40,7 +40,7 @@ fn is_find_field(name: &str) -> bool
 {
     match name {
         "find" | "filter" | "sort" | "skip" | "limit" | "batchSize" | "singleBatch" => true,
-        "allowDiskUse" | "noCursorTimeout" => true,
+        "projection" | "allowDiskUse" | "noCursorTimeout" => true,
         _ => false,
     }
 }

@@ -98,7 +98,7 @@ module _ {H : Type 0} (does : Does H) (stops : Stops H) where
   -- ---- servers that are made one after the other
 
   module _ (limit : ℕ) (made : ℕ → Made) where
-    grows_on : (turns more : List Turn) (old mid new : ServerEnds H)
+    pub grows_on : (turns more : List Turn) (old mid new : ServerEnds H)
         → ServersGrow does stops limit made old turns mid
         → ServersGrow does stops limit made mid more new
         → ServersGrow does stops limit made old (turns ++ more) new
@@ -111,7 +111,7 @@ module _ {H : Type 0} (does : Does H) (stops : Stops H) where
     grows_on (Is (AtServer c act) ∷ turns) more old mid new (next, one, rest) run =
         (next, one, grows_on turns more next mid new rest run)
 
-    run_grows : (deeds : List Deed) (old new : ServerEnds H) → ServersRun does stops old deeds new
+    pub run_grows : (deeds : List Deed) (old new : ServerEnds H) → ServersRun does stops old deeds new
         → ServersGrow does stops limit made old (map Is deeds) new
     run_grows [] old new same = same
     run_grows (AtClient c act ∷ deeds) old new rest = run_grows deeds old new rest

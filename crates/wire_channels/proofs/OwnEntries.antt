@@ -30,7 +30,7 @@ use Rattle.wire_channels.proofs.Starts.{first_is}
 
 -- ---- the entries of a connection
 
-entries_push : (c : ℕ) (log : List LogEntry) (en : LogEntry) → en.connection ≡ c
+pub entries_push : (c : ℕ) (log : List LogEntry) (en : LogEntry) → en.connection ≡ c
     → entries_of c (log ++ en ∷ []) ≡ entries_of c log ++ en ∷ []
 entries_push c [] en is = ap (λ b. if b then en ∷ [] else []) (is_here c en.connection is)
 entries_push c (x ∷ log) en is = by (x.connection == c) (entries_push c log en is)
@@ -41,7 +41,7 @@ entries_push c (x ∷ log) en is = by (x.connection == c) (entries_push c log en
     by true e = ap (λ z. x ∷ z) e
     by false e = e
 
-entries_skip : (c : ℕ) (log : List LogEntry) (en : LogEntry) → (en.connection ≡ c → ⊥)
+pub entries_skip : (c : ℕ) (log : List LogEntry) (en : LogEntry) → (en.connection ≡ c → ⊥)
     → entries_of c (log ++ en ∷ []) ≡ entries_of c log
 entries_skip c [] en n = ap (λ b. if b then en ∷ [] else []) (is_elsewhere c en.connection n)
 entries_skip c (x ∷ log) en n =

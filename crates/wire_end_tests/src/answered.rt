@@ -218,7 +218,7 @@ fn shows(record: Option<&CallRecord>, reply: &[u8], replied: bool) -> bool {
     }
 }
 
-/// Returns true if three calls were made, of which these have their replies.
+/// Returns true if three calls were made, and `calls` are those that have their replies.
 fn records_show(end: &ClientEnd<MemLink>, calls: &[u64]) -> bool {
     shows(end.record(0), N1, calls.contains(&0))
         && shows(end.record(1), N2, calls.contains(&1))

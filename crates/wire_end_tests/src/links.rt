@@ -67,12 +67,12 @@ pub(crate) fn one(alloc: Global) -> Option<PayloadBuf> {
     PayloadBuf::new(alloc, body).ok()
 }
 
-/// Returns true if a call has so many parts, and stands so.
+/// Returns true if a call has this number of parts, and this state.
 pub(crate) fn stands(record: &CallRecord, parts: usize, state: CallState) -> bool {
     record.parts.len() == parts && record.state == state
 }
 
-/// Returns true if the call of this number was made, has so many parts, and stands so.
+/// Returns true if `call` was made, and has this number of parts, and this state.
 pub(crate) fn call_stands<L: Link + Drop>(
     end: &ClientEnd<L>,
     call: u64,

@@ -79,8 +79,8 @@ fn comes_to<H: Handler + Drop>(
     holds
 }
 
-/// Returns true if serving these bytes with `Echo`, in pieces of at most `most` bytes, ends so with
-/// so many entries. The reply to the first ping was sent if there are any.
+/// Returns true if serving these bytes with `Echo`, in pieces of at most `most` bytes, ends by `end`
+/// with this number of entries. The reply to the first ping was sent if there are any.
 fn echoes(
     alloc: Global,
     input: &[u8],
@@ -192,8 +192,8 @@ fn replies_are_sent_before_the_next_message_is_taken(rt: HostRuntime) {
 /// The most bytes that a call of the link moves, and how many calls serving the pings then makes.
 const CALLS: [(usize, u64); 4] = [(102, 3), (51, 4), (20, 10), (1, 154)];
 
-/// Returns true if serving the pings makes so many calls, and ends at each of them that fails. Each
-/// time a beginning of the reply was sent.
+/// Returns true if serving the pings makes `calls` calls of the link, and ends at the one that fails,
+/// whichever it is. Each time a beginning of the reply was sent.
 fn each_may_fail(alloc: Global, most: usize, calls: u64) -> bool {
     for before in 0..calls {
         if failing(alloc, most, before, 10, ServeEnd::Link).is_none() {

@@ -16,7 +16,7 @@ fn taken(front: &mut Front, piece: &[u8]) -> usize {
     }
 }
 
-/// Returns true if the query comes, of which a header is taken first.
+/// Returns true if the query comes: its header is taken first, and then the rest.
 fn comes(front: &mut Front) -> bool {
     taken(front, QUERY) == 16 && taken(front, &QUERY[16..]) == 42 && front.waiting() == 1
 }

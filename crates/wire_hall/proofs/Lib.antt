@@ -1,3 +1,4 @@
+pub mod Lemmas
 pub mod Runs
 pub mod Steps
 pub mod Served

@@ -5,7 +5,8 @@ use Rattle.wire_peer.specs.{LogEntry, asked_by, entered, next_id, replies, writt
 use Rattle.wire_query.specs.{Query, SpellsQuery, message_of}
 use Rattle.wire_front.specs.{FrontView, Respells, state_of}
 use Rattle.wire_front.specs.declared.cause.FrontState.TheVariants as fronts
-use Rattle.wire_hall.specs.Seats.{Answers, GoesOver, Receives, SeatAct, SeatSeen, Sends, Tells}
+use Rattle.wire_hall.specs.Seats.{Answers, GoesOver, Receives, SeatAct, SeatSeen, Sends, Takes}
+use Rattle.wire_hall.specs.Seats.{Tells}
 
 -- the bytes spell a request, as a message or as a query, and this message asks the same
 abbrev pub SpellsRequest : (queried : Bool) → Message → List ℕ → Type 0
@@ -69,6 +70,11 @@ sent_by act = []
 abbrev pub received_by : SeatAct → List ℕ
 received_by (Receives bytes) = bytes
 received_by act = []
+
+-- the bytes that the front takes
+abbrev pub taken_by : SeatAct → List ℕ
+taken_by (Takes bytes) = bytes
+taken_by act = []
 
 -- the same of the acts of turns, in order
 abbrev pub of_acts : {X : Type 0} → (SeatAct → List X) → List SeatAct → List X

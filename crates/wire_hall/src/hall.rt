@@ -1,11 +1,12 @@
 //! Many connections, with one handler and its log.
 
 ghost use Rattle.std.specs.Prelude.{◌≡◌, ◌+◌, ◌≤◌, [], ℕ, None, Some, IfOk, OnErr, OnOk, drop};
-ghost use Rattle.std.specs.Prelude.{option_copied};
+ghost use Rattle.std.specs.Prelude.{option_copied, take};
 ghost use Rattle.std.specs.Vec.{vec_len};
 ghost use Rattle.slab.specs.Slab.{Updates, get, slab_len};
 ghost use Rattle.wire_peer.specs.{log_of};
-ghost use Rattle.wire_hall.specs.Halls.{IsTurned};
+ghost use Rattle.wire_hall.specs.Halls.{HallAct, HallDoes, IsClosed, IsForgotten, IsNewHall};
+ghost use Rattle.wire_hall.specs.Halls.{IsOpened, IsSame, IsTurned, hall_seen};
 ghost use Rattle.wire_hall.specs.Seats.{new_seat, tells};
 
 use crate::seat::Seat;
@@ -32,6 +33,7 @@ impl<L: Link + Drop, H: Handler + Drop> Hall<L, H> {
         ensures handler { result.logged.handler ≡ handler }
         ensures empty { log_of result.logged.entries.items ≡ [] }
         ensures next { result.next ≡ 1 }
+        ensures act { IsNewHall handler (hall_seen result.seats result.logged result.next) }
     {
         Hall {
             alloc,
@@ -56,6 +58,12 @@ impl<L: Link + Drop, H: Handler + Drop> Hall<L, H> {
         ensures unchanged { OnErr result ((self.new.seats.slots ≡ self.old.seats.slots)
             × (self.new.next ≡ self.old.next)) }
         ensures logged { self.new.logged ≡ self.old.logged }
+        ensures act { IfOk result (λ key. IsOpened key link
+            (hall_seen self.old.seats self.old.logged self.old.next)
+            (hall_seen self.new.seats self.new.logged self.new.next)) }
+        ensures same { OnErr result (IsSame
+            (hall_seen self.old.seats self.old.logged self.old.next)
+            (hall_seen self.new.seats self.new.logged self.new.next)) }
     {
         let Some(next) = self.next.checked_add(1) else {
             return Err(OpenRefusal::NumbersSpent);
@@ -99,6 +107,10 @@ impl<L: Link + Drop, H: Handler + Drop> Hall<L, H> {
         ensures turned { IsTurned H.does H.stops (tells L.received L.sent L.ends L.waits)
             key steps result self.old.seats self.old.logged self.new.seats self.new.logged }
         ensures next { self.new.next ≡ self.old.next }
+        ensures act { (act : HallAct L)
+            × HallDoes H.does H.stops (tells L.received L.sent L.ends L.waits) act
+            (hall_seen self.old.seats self.old.logged self.old.next)
+            (hall_seen self.new.seats self.new.logged self.new.next) }
     {
         let seat = self.seats.get_mut(key)?;
         Some(seat.turn(&mut self.logged, steps))
@@ -109,6 +121,8 @@ impl<L: Link + Drop, H: Handler + Drop> Hall<L, H> {
         ensures seats { Updates self.old.seats self.new.seats key None }
         ensures logged { self.new.logged ≡ self.old.logged }
         ensures next { self.new.next ≡ self.old.next }
+        ensures act { IsClosed key (hall_seen self.old.seats self.old.logged self.old.next)
+            (hall_seen self.new.seats self.new.logged self.new.next) }
     {
         let _ = self.seats.try_remove(key);
     }
@@ -135,6 +149,9 @@ impl<L: Link + Drop, H: Handler + Drop> Hall<L, H> {
         ensures handler { self.new.logged.handler ≡ self.old.logged.handler }
         ensures seats { self.new.seats ≡ self.old.seats }
         ensures next { self.new.next ≡ self.old.next }
+        ensures act { IsForgotten (take n (log_of self.old.logged.entries.items))
+            (hall_seen self.old.seats self.old.logged self.old.next)
+            (hall_seen self.new.seats self.new.logged self.new.next) }
     {
         self.logged.forget(n);
     }

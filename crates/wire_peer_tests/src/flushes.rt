@@ -16,7 +16,7 @@ const S3: &[u8] = b"\x0c\0\0\0\x10s\0\x03\0\0\0\0";
 /// `{"a": 2}`.
 const A2: &[u8] = b"\x0c\0\0\0\x10a\0\x02\0\0\0\0";
 
-/// The requests 1 to 3 with these bodies, of which the second allows more replies.
+/// The requests 1 to 3 with these bodies. The second one allows more replies.
 const REQUESTS: [&[u8; 33]; 3] = [
     b"\x21\0\0\0\x01\0\0\0\0\0\0\0\xdd\x07\0\0\0\0\0\0\0\x0c\0\0\0\x10a\0\x01\0\0\0\0",
     b"\x21\0\0\0\x02\0\0\0\0\0\0\0\xdd\x07\0\0\0\0\x01\0\0\x0c\0\0\0\x10s\0\x03\0\0\0\0",

@@ -32,7 +32,7 @@ fn is_fed(reader: &mut MsgReader, piece: &[u8], held: usize) -> bool {
     }
 }
 
-/// Returns true if the reader reads the message, in two pieces of which the first has `held` bytes.
+/// Returns true if the reader reads the message in two pieces. The first one has `held` bytes.
 fn reads(reader: &mut MsgReader, message: &[u8], held: usize) -> bool {
     let Some((first, rest)) = message.split_at_checked(held) else {
         return false;

@@ -11,8 +11,8 @@ use std::io::{ErrorKind, Read, Write};
 use std::net::TcpStream;
 use wire_stream::{Flushed, Inlet, Link, LinkFault, Moved, OutBuf, Pulled, TcpLink, flush};
 
-/// A stream whose first reads and writes are interrupted, as many as `interrupted`. Later ones move
-/// as many bytes as `moves` says, or fail with its error.
+/// A stream whose first `interrupted` reads and writes are interrupted. Later ones move as many bytes
+/// as `moves` says, or fail with its error.
 #[derive(Drop)]
 struct Stream {
     interrupted: u32,

@@ -17,7 +17,7 @@ use crate::selection::{Selection, selected, selection_in};
 use crate::store::Store;
 use bson_doc::{Bson, Document};
 use bson_raw::RawDocument;
-use doc_query::{CommandError, Failure, take_batch};
+use doc_query::{CommandError, Failure, projected, projection_field, take_batch};
 use std::alloc::{AllocError, Global};
 
 /// What find asks for.
@@ -29,6 +29,8 @@ struct Query<'a> {
     count: usize,
     /// Whether no cursor is opened over the others.
     is_single: bool,
+    /// The fields that are kept of them.
+    projection: Document,
 }
 
 /// Reads what find asks for.
@@ -41,10 +43,12 @@ fn query_in(alloc: Global, body: RawDocument<'_>) -> Result<Query<'_>, Failure>
     let selection = selection_in(alloc, body, "find", CommandError::Find, "filter")?;
     let count = batch_size(body, 0, CommandError::FirstBatchSize)?;
     let is_single = flag_field(body, "singleBatch", false, CommandError::SingleBatch)?;
+    let projection = projection_field(alloc, body)?;
     Ok(Query {
         selection,
         count,
         is_single,
+        projection,
     })
 }
 
@@ -86,13 +90,14 @@ fn answer_query(alloc: Global, store: &mut Store, query: &Query<'_>) -> Result<D
 {
     let namespace = query.selection.namespace;
     let found = selected(alloc, store, &query.selection)?;
+    let found = projected(alloc, &query.projection, found)?;
     let count = query.count;
     let answer = answer_found(alloc, store, namespace, found, count, query.is_single)?;
     Ok(answer)
 }
 
-/// Finds the documents of a collection that match a filter. Answers with the first of them, and
-/// opens a cursor over the others.
+/// Finds the documents of a collection that match a filter, and of each the fields that a projection
+/// keeps. Answers with the first of them, and opens a cursor over the others.
 pub fn find(alloc: Global, store: &mut Store, body: RawDocument<'_>) -> Result<Document, Failure>
     ensures carried { (t : Tree) → Spells t (document_bytes body.entry)
         → IsCarriedOut (find (store_of store.old) t) (store_of store.old) result

@@ -2,7 +2,7 @@ use Rattle.std.proofs.Common.{◌-◌, ◌++◌, ℕ, None, Some, length, take, 
 use Rattle.bson_elem.specs.{Spells}
 use Rattle.bson_stream.specs.{StandsAt}
 use Rattle.engines.specs.declared.documents.Written.{Written}
-use Rattle.engines.specs.Documents.{IsLast}
+use Rattle.engines.specs.Documents.{IsLastAt}
 use Rattle.engines.specs.InputFault.{too_large_line}
 use Rattle.engines.specs.DocumentWalk.{IsWritten}
 use Rattle.engines.proofs.DocumentLemmas.{fed_on, kept_on, released, released_open}
@@ -15,7 +15,7 @@ returns-in-Bad g c =
     let new = c.feed.new.self in
     let f = c.in-Ok.ensures.fed i.0 in
     let bad = subst (StandsAt new.start new.held) c.in-Bad.is f.state in
-    (_, fed_on _ _ _ c.loop-fed.documents new c.loop-fed.rest.now c.in-Ok.fed _ _ i.1 f, (λ more. stays_bad _ new.start new.held _ c.in-Bad.fault more bad))
+    (_, fed_on _ _ _ c.loop-fed.documents new c.loop-fed.rest.now c.in-Ok.fed _ _ i.1 f, (λ place more. stays_bad _ new.start new.held _ c.in-Bad.fault place more bad))
 
 pub loop-fed-preserved : goal.loop-fed-preserved
 loop-fed-preserved g c =
@@ -45,6 +45,6 @@ returns-in-TooLarge g c =
     (c.in_ok-write_document.ensures t (subst (Spells t) (sym ready.0) ready.1.1)) in (
       new.held ++ rest,
       kept_on _ _ _ _ _ _ _ _ w written.1,
-      (λ more. subst (λ (n : ℕ). IsLast rule new.start ((new.held ++ rest) ++ more) (Some (too_large_line n))) (sym c.start-offset.ensures)
-          (stays_too_large rule new.start new.held rest more t ready.1.1 (subst (λ (n : ℕ). rule n t None) c.start-offset.ensures written.0))),
+      (λ place more. subst (λ (n : ℕ). IsLastAt rule new.start place ((new.held ++ rest) ++ more) (Some (too_large_line n))) (sym c.start-offset.ensures)
+          (stays_too_large rule new.start new.held rest place more t ready.1.1 (subst (λ (n : ℕ). rule n t None) c.start-offset.ensures written.0))),
     )

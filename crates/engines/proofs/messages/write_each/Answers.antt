@@ -1,5 +1,5 @@
-use Rattle.std.proofs.Common.{◌≡◌, ◌≤◌, ◌+◌, ◌-◌, ◌++◌, ◌∙◌, [], ℕ, List, ap, arith, drop, length, refl, subst, sym, take}
-use Rattle.wire_msg.specs.{SpellsMsg, msg_bytes}
+use Rattle.std.proofs.Common.{◌≡◌, ◌≤◌, ◌+◌, ◌-◌, ◌++◌, ◌∙◌, ℕ, List, ap, arith, drop, length, refl, subst, sym, take}
+use Rattle.wire_msg.specs.{SpellsMsg}
 use Rattle.wire_msg.proofs.Lemmas.{bad_longer}
 use Rattle.wire_stream.specs.{Reading, StandsAt}
 use Rattle.engines.proofs.MessageReadings.{message_fed, message_released, message_smaller, no_message, released_open, stop_told}

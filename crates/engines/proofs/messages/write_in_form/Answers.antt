@@ -1,8 +1,6 @@
-use Rattle.std.proofs.Common.{◌++◌, codes, refl, sym, subst}
-use Rattle.bson_json.specs.{WritesOne}
+use Rattle.std.proofs.Common.{codes, refl}
 use Rattle.bson_json.proofs.Lemmas.{exact_one, one_then_word}
 use Rattle.wire_text.specs.{message_text}
-use Rattle.engines.specs.Msg.{MayBeMessage}
 use Rattle.engines.proofs.messages.write_in_form.Goals as goal
 
 pub returns-in-Text : goal.returns-in-Text

@@ -5,7 +5,7 @@ use Rattle.engines.specs.declared.pieces.Ending.TheVariants.{Whole, Cut}
 use Rattle.engines.specs.declared.run.RunEnd.{RunEnd}
 use Rattle.engines.specs.declared.walk.Stop.TheVariants as stop
 use Rattle.engines.specs.Run.{IsCutShort}
-use Rattle.engines.proofs.PieceLemmas.{begun, came, ends_cut, ends_gone, ends_short, ends_whole, goes_on, walked}
+use Rattle.engines.proofs.PieceLemmas.{begun, came, ends_cut, ends_gone, ends_short, ends_whole, walked}
 use Rattle.engines.proofs.pieces.write_pieces.Goals as goal
 
 pub loop-init : goal.loop-init

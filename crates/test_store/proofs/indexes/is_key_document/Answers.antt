@@ -6,5 +6,5 @@ use Rattle.test_store.proofs.indexes.is_key_document.Goals as goal
 
 pub returns-then-not-is_empty : goal.returns-then-not-is_empty
 returns-then-not-is_empty c =
-    c.are_index_keys.ensures ∙ sym (key_document c.in-Document.key (search (rules, arith)))
+    c.are_keys.ensures ∙ sym (key_document c.in-Document.key (search (rules, arith)))
     ∙ sym (ap (λ v. is_key_document (value_of v)) c.in-Document.is)

@@ -1,0 +1,136 @@
+//! Documents of which canonical JSON loses something, and of which it loses nothing though they
+//! have names of forms. The bytes and the JSON are laid out by hand from the standards.
+
+use crate::examples::{BINARIES, CONTAINERS, DATES, DECIMALS, DOUBLES, INTEGERS, OTHERS, TEXTS};
+use bson_json::{Mode, write_json};
+use bson_json_read::laws::round_trip;
+use bson_raw::RawDocument;
+use bson_raw_tests::hex_bytes::read_digits;
+use std::alloc::Global;
+
+/// Documents, and their canonical JSON, of which another document is read, or none.
+const LOSSY: [(&str, &str); 9] = [
+    // a NaN with a payload, and one with a sign
+    (
+        "10000000 01 6400 120000000000f87f 00",
+        "{\"d\":{\"$numberDouble\":\"NaN\"}}",
+    ),
+    (
+        "10000000 01 6400 000000000000f8ff 00",
+        "{\"d\":{\"$numberDouble\":\"NaN\"}}",
+    ),
+    // a NaN with a sign, an infinity with a bit more, and a coefficient of 10^34
+    (
+        "18000000 13 6400 000000000000000000000000000000fc 00",
+        "{\"d\":{\"$numberDecimal\":\"NaN\"}}",
+    ),
+    (
+        "18000000 13 6400 01000000000000000000000000000078 00",
+        "{\"d\":{\"$numberDecimal\":\"Infinity\"}}",
+    ),
+    (
+        "18000000 13 6400 00000000648e8d37c087adbe09ed4130 00",
+        "{\"d\":{\"$numberDecimal\":\"0\"}}",
+    ),
+    // an array whose name isn't its index
+    (
+        "15000000 04 6100 0d000000 10 616200 0a000000 00 00",
+        "{\"a\":[{\"$numberInt\":\"10\"}]}",
+    ),
+    // a name that is there twice
+    (
+        "13000000 10 6100 01000000 10 6100 02000000 00",
+        "{\"a\":{\"$numberInt\":\"1\"},\"a\":{\"$numberInt\":\"2\"}}",
+    ),
+    // documents that have the name of a form
+    (
+        "19000000 03 6100 11000000 02 246f696400 02000000 6200 00 00",
+        "{\"a\":{\"$oid\":\"b\"}}",
+    ),
+    (
+        "1c000000 03 6100 14000000 02 2473796d626f6c00 02000000 6200 00 00",
+        "{\"a\":{\"$symbol\":\"b\"}}",
+    ),
+];
+
+/// Documents that have names of forms where those may stand: outermost, in a scope and in an array
+/// of a document with another `$`-name.
+const LOSSLESS: [(&str, &str, &str); 3] = [
+    (
+        "11000000 02 246f696400 02000000 6200 00",
+        "{\"$oid\":\"b\"}",
+        "{\"$oid\":\"b\"}",
+    ),
+    (
+        "22000000 0f 6100 1a000000 01000000 00 11000000 02 246f696400 02000000 6200 00 00",
+        "{\"a\":{\"$code\":\"\",\"$scope\":{\"$oid\":\"b\"}}}",
+        "{\"a\":{\"$code\":\"\",\"$scope\":{\"$oid\":\"b\"}}}",
+    ),
+    (
+        "16000000 03 6100 0e000000 08 2473636f706500 01 00 00",
+        "{\"a\":{\"$scope\":true}}",
+        "{\"a\":{\"$scope\":true}}",
+    ),
+];
+
+/// Returns true if the document of these digits is read of its canonical JSON as the same one.
+fn is_kept(alloc: Global, digits: &str) -> bool {
+    let Ok(bytes) = read_digits(alloc, digits) else {
+        return false;
+    };
+    let Ok(document) = RawDocument::from_bytes(&bytes) else {
+        return false;
+    };
+    let Ok(read) = round_trip(alloc, document) else {
+        return false;
+    };
+    match read.to_raw() {
+        Ok(raw) => raw.as_raw().as_bytes() == bytes.as_slice(),
+        Err(_) => false,
+    }
+}
+
+/// Returns true if the document of these digits has this canonical JSON.
+fn is_written(alloc: Global, digits: &str, json: &str) -> bool {
+    let Ok(bytes) = read_digits(alloc, digits) else {
+        return false;
+    };
+    let Ok(document) = RawDocument::from_bytes(&bytes) else {
+        return false;
+    };
+    let mut out = Vec::new(alloc);
+    write_json(document, Mode::Canonical, &mut out).is_ok() && out.as_slice() == json.as_bytes()
+}
+
+#[test]
+fn what_is_lossy_is_not_read_back(rt: HostRuntime) {
+    for (digits, json) in LOSSY {
+        assert!(rt; is_written(rt.alloc(), digits, json), "{digits}");
+        assert!(rt; !is_kept(rt.alloc(), digits), "{digits}");
+    }
+}
+
+/// Returns how many of the documents are read back.
+fn count_kept(alloc: Global, rows: &[(&str, &str, &str)]) -> usize {
+    let mut count: usize = 0;
+    for row in rows {
+        if is_kept(alloc, row.0) {
+            count = count.saturating_add(1);
+        }
+    }
+    count
+}
+
+#[test]
+fn what_is_lossless_is_read_back(rt: HostRuntime) {
+    let alloc = rt.alloc();
+    assert!(rt; count_kept(alloc, &DOUBLES) == DOUBLES.len() - 1);
+    assert!(rt; count_kept(alloc, &INTEGERS) == INTEGERS.len());
+    assert!(rt; count_kept(alloc, &DECIMALS) == DECIMALS.len() - 4);
+    assert!(rt; count_kept(alloc, &DATES) == DATES.len());
+    assert!(rt; count_kept(alloc, &TEXTS) == TEXTS.len());
+    assert!(rt; count_kept(alloc, &BINARIES) == BINARIES.len());
+    assert!(rt; count_kept(alloc, &OTHERS) == OTHERS.len());
+    assert!(rt; count_kept(alloc, &CONTAINERS) == CONTAINERS.len() - 1);
+    assert!(rt; count_kept(alloc, &LOSSLESS) == LOSSLESS.len());
+}
