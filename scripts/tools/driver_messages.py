@@ -118,6 +118,9 @@ UPSERTS = document([
     element(DOCUMENT, "3", statement([field("b", 52)], [field("b", 4), field("_id", 8)], UPSERT)),
 ])
 
+INDEX = document([element(DOCUMENT, "key", document([field("a", 1)])), element(STRING, "name", string("a_1"))])
+INDEXES = element(ARRAY, "indexes", document([element(DOCUMENT, "0", INDEX)]))
+
 # Each request: its body, the documents of its sequence, and what the server writes of it.
 REQUESTS = [
     (
@@ -822,6 +825,117 @@ document 170
           "readOnly" boolean false
     "id" int64 0
     "ns" string "test.$cmd.listCollections"
+  "ok" double 000000000000f03f
+""",
+    ),
+    (
+        command("createIndexes", COLLECTION, INDEXES),
+        (),
+        """\
+request "createIndexes"
+document 93
+  "createIndexes" string "c"
+  "indexes" array 44
+    "0" document 36
+      "key" document 12
+        "a" int32 1
+      "name" string "a_1"
+  "$db" string "test"
+answer
+document 93
+  "numIndexesBefore" int32 1
+  "numIndexesAfter" int32 2
+  "createdCollectionAutomatically" boolean false
+  "ok" double 000000000000f03f
+""",
+    ),
+    (
+        command("listIndexes", COLLECTION),
+        (),
+        """\
+request "listIndexes"
+document 38
+  "listIndexes" string "c"
+  "$db" string "test"
+answer
+document 169
+  "cursor" document 144
+    "firstBatch" array 100
+      "0" document 46
+        "v" int32 2
+        "key" document 14
+          "_id" int32 1
+        "name" string "_id_"
+      "1" document 43
+        "v" int32 2
+        "key" document 12
+          "a" int32 1
+        "name" string "a_1"
+    "id" int64 0
+    "ns" string "test.c"
+  "ok" double 000000000000f03f
+""",
+    ),
+    (
+        command("listDatabases", ONE),
+        (),
+        """\
+request "listDatabases"
+document 38
+  "listDatabases" int32 1
+  "$db" string "test"
+answer
+document 103
+  "databases" array 56
+    "0" document 48
+      "name" string "test"
+      "sizeOnDisk" int64 0
+      "empty" boolean false
+  "totalSize" int64 0
+  "ok" double 000000000000f03f
+""",
+    ),
+    (
+        command("dropDatabase", ONE),
+        (),
+        """\
+request "dropDatabase"
+document 37
+  "dropDatabase" int32 1
+  "$db" string "test"
+answer
+document 35
+  "dropped" string "test"
+  "ok" double 000000000000f03f
+""",
+    ),
+    (
+        command("listDatabases", ONE, element(BOOLEAN, "nameOnly", b"\1")),
+        (),
+        """\
+request "listDatabases"
+document 49
+  "listDatabases" int32 1
+  "nameOnly" boolean true
+  "$db" string "test"
+answer
+document 33
+  "databases" array 5
+  "ok" double 000000000000f03f
+""",
+    ),
+    (
+        command("insert", COLLECTION),
+        [document([field("_id", 1)])],
+        """\
+request "insert"
+document 33
+  "insert" string "c"
+  "$db" string "test"
+sequence "documents" 1
+answer
+document 24
+  "n" int32 1
   "ok" double 000000000000f03f
 """,
     ),

@@ -20,6 +20,9 @@ code_of errors.NoClauses = pos 2
 code_of errors.Clause = pos 2
 code_of errors.ImmutableId = pos 66
 code_of errors.Duplicate = pos 11000
+code_of errors.Index = pos 67
+code_of errors.IndexName = pos 86
+code_of errors.IndexKey = pos 85
 code_of _ = pos 9
 
 abbrev pub code_name_of : CommandError → List ℕ
@@ -37,6 +40,9 @@ code_name_of errors.NoClauses = codes "BadValue"
 code_name_of errors.Clause = codes "BadValue"
 code_name_of errors.ImmutableId = codes "ImmutableField"
 code_name_of errors.Duplicate = codes "DuplicateKey"
+code_name_of errors.Index = codes "CannotCreateIndex"
+code_name_of errors.IndexName = codes "IndexKeySpecsConflict"
+code_name_of errors.IndexKey = codes "IndexOptionsConflict"
 code_name_of _ = codes "FailedToParse"
 
 abbrev pub words_of : CommandError → List ℕ
@@ -97,6 +103,14 @@ words_of errors.Exclusion = codes "Cannot do exclusion on a field in inclusion p
 words_of errors.Skip = codes "the field 'skip' must be a whole number"
 words_of errors.Limit = codes "the field 'limit' must be a whole number"
 words_of errors.SingleBatch = codes "the field 'singleBatch' must be a boolean"
+words_of errors.NameOnly = codes "the field 'nameOnly' must be a boolean"
+words_of errors.CreateIndexes = codes "the field 'createIndexes' must be a string"
+words_of errors.Indexes = codes "the field 'indexes' must be an array"
+words_of errors.Index =
+    codes "an index must have 'key' with directions 1 and -1, 'name', 'v' and 'background' alone"
+words_of errors.IndexName = codes "another index has this name"
+words_of errors.IndexKey = codes "another index has this key"
+words_of errors.ListIndexes = codes "the field 'listIndexes' must be a string"
 words_of errors.FirstBatchSize = codes "the field 'batchSize' must be a whole number"
 words_of errors.NextBatchSize = codes "the field 'batchSize' must be a whole number from 1 on"
 words_of errors.CursorNotFound = codes "no open cursor of this namespace has the id in 'getMore'"

@@ -35,6 +35,11 @@ count_value n = if nat_lt n 2147483648 then int32 (pos n) else int64 (pos n)
 
 -- ---- reading them
 
+-- the text of a string
+abbrev pub text_of : Option TreeValue → Option (List ℕ)
+text_of (Some (leaf_value kinds.String (text_value s))) = Some s
+text_of _ = None
+
 -- the number of an int32 or an int64, if it isn't negative
 abbrev pub count_of : TreeValue → Option ℕ
 count_of (leaf_value kinds.Int32 (number_value (pos k))) = Some k

@@ -113,6 +113,20 @@ pub enum CommandError {
     FirstBatchSize,
     /// The field `singleBatch` isn't a boolean.
     SingleBatch,
+    /// The field `nameOnly` isn't a boolean.
+    NameOnly,
+    /// The field `createIndexes` isn't a string.
+    CreateIndexes,
+    /// The field `indexes` isn't an array.
+    Indexes,
+    /// What is asked for is no index that can be made.
+    Index,
+    /// Another index has this name.
+    IndexName,
+    /// Another index has this key.
+    IndexKey,
+    /// The field `listIndexes` isn't a string.
+    ListIndexes,
     /// The number of documents in a later batch isn't a whole number that is at least 1.
     NextBatchSize,
     /// No open cursor has this id and this namespace.
@@ -143,6 +157,9 @@ impl CommandError {
             | CommandError::Clause => 2,
             CommandError::ImmutableId => 66,
             CommandError::Duplicate => 11000,
+            CommandError::Index => 67,
+            CommandError::IndexName => 86,
+            CommandError::IndexKey => 85,
             _ => 9,
         }
     }
@@ -166,6 +183,9 @@ impl CommandError {
             | CommandError::Clause => "BadValue",
             CommandError::ImmutableId => "ImmutableField",
             CommandError::Duplicate => "DuplicateKey",
+            CommandError::Index => "CannotCreateIndex",
+            CommandError::IndexName => "IndexKeySpecsConflict",
+            CommandError::IndexKey => "IndexOptionsConflict",
             _ => "FailedToParse",
         }
     }
@@ -234,6 +254,15 @@ impl CommandError {
             CommandError::Skip => "the field 'skip' must be a whole number",
             CommandError::Limit => "the field 'limit' must be a whole number",
             CommandError::SingleBatch => "the field 'singleBatch' must be a boolean",
+            CommandError::NameOnly => "the field 'nameOnly' must be a boolean",
+            CommandError::CreateIndexes => "the field 'createIndexes' must be a string",
+            CommandError::Indexes => "the field 'indexes' must be an array",
+            CommandError::Index => {
+                "an index must have 'key' with directions 1 and -1, 'name', 'v' and 'background' alone"
+            }
+            CommandError::IndexName => "another index has this name",
+            CommandError::IndexKey => "another index has this key",
+            CommandError::ListIndexes => "the field 'listIndexes' must be a string",
             CommandError::FirstBatchSize => "the field 'batchSize' must be a whole number",
             CommandError::NextBatchSize => "the field 'batchSize' must be a whole number from 1 on",
             CommandError::CursorNotFound =>

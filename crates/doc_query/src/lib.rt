@@ -36,4 +36,4 @@ pub use making::{count_value, set};
 pub use owned::{array_field, field, is_same, owned_body, whole_of};
 pub use pipeline::after_stages;
 pub use projection::{projected, projection_field};
-pub use sorting::{sort_field, sort_in};
+pub use sorting::{are_keys, sort_field, sort_in};

@@ -44,7 +44,7 @@ fn is_key(name: &str, direction: &Bson) -> bool
 }
 
 /// Returns true if all fields of a sort are keys.
-fn are_keys(keys: &Document) -> bool
+pub fn are_keys(keys: &Document) -> bool
     ensures { result ≡ are_keys (tree_of keys.now) }
 {
     for (name, direction) in keys {

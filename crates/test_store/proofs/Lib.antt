@@ -5,3 +5,6 @@ pub mod Sizes
 pub mod Replies
 pub mod ReplySets
 pub mod Handled
+pub mod Indexing
+pub mod Tested
+pub mod Databases

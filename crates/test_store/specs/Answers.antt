@@ -93,8 +93,34 @@ updated_pairs matched modified upserted errors =
     (put_any (codes "upserted") upserted
     ((codes "n", count_value matched) ∷ (codes "nModified", count_value modified) ∷ [])))
 
-abbrev pub dropped_pairs : List ℕ → List (List ℕ × TreeValue)
-dropped_pairs ns = (codes "nIndexesWas", int32 (pos 1)) ∷ (codes "ns", text ns) ∷ ok_alone
+-- the answer to drop: how many indexes there were, and the namespace
+abbrev pub dropped_pairs : ℕ → List ℕ → List (List ℕ × TreeValue)
+dropped_pairs n ns = (codes "nIndexesWas", count_value n) ∷ (codes "ns", text ns) ∷ ok_alone
+
+-- the answer to createIndexes: how many indexes there were and are, and whether the collection is
+-- new
+abbrev pub created_pairs : ℕ → ℕ → Bool → List (List ℕ × TreeValue)
+created_pairs before after is_new =
+    (codes "numIndexesBefore", count_value before) ∷ (codes "numIndexesAfter", count_value after)
+    ∷ (codes "createdCollectionAutomatically", truth is_new) ∷ ok_alone
+
+-- the answer to dropDatabase, by whether there was a collection of that database
+abbrev pub dropped_database_pairs : List ℕ → Bool → List (List ℕ × TreeValue)
+dropped_database_pairs db held =
+    if held then (codes "dropped", text db) ∷ ok_alone else ok_alone
+
+-- the listing of the database with this name, by whether names alone are asked for; it has no files
+abbrev pub database_listing : Bool → List ℕ → TreeValue
+database_listing true name = inner ((codes "name", text name) ∷ [])
+database_listing false name =
+    inner ((codes "name", text name) ∷ (codes "sizeOnDisk", int64 (pos 0))
+    ∷ (codes "empty", truth false) ∷ [])
+
+-- the answer to listDatabases
+abbrev pub databases_pairs : Bool → List TreeValue → List (List ℕ × TreeValue)
+databases_pairs true vs = (codes "databases", array vs) ∷ ok_alone
+databases_pairs false vs =
+    (codes "databases", array vs) ∷ (codes "totalSize", int64 (pos 0)) ∷ ok_alone
 
 -- the field of a batch of documents
 abbrev pub batch_name : Batch → List ℕ

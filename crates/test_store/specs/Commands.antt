@@ -1,5 +1,5 @@
 -- What each command does: its answer, and what is held after it.
-use Rattle.std.specs.Prelude.{◌≡◌, ℕ, ℤ, pos, List, [], ◌∷◌, ◌++◌, Bool, true, false}
+use Rattle.std.specs.Prelude.{◌≡◌, ℕ, ℤ, pos, List, [], ◌∷◌, ◌++◌, Bool, true, false, is_some, not}
 use Rattle.std.specs.Prelude.{Result, Ok, Err}
 use Rattle.std.specs.Prelude.{Option, Some, None, codes, drop, length, map, take, ◌-◌}
 use Rattle.std.specs.Prelude.{if◌then◌else◌}
@@ -20,14 +20,16 @@ use Rattle.doc_query.specs.{or_error, projected, projection_field}
 use Rattle.doc_update.specs.{UpdatesView, after_deletes, after_updates}
 use Rattle.test_store.specs.Adding.{AddingView, gathered}
 use Rattle.test_store.specs.Answers.{build_pairs, counted_pairs, cursor_answer, dropped_pairs}
-use Rattle.test_store.specs.Answers.{error_pairs, hello_pairs, inserted_pairs, killed_pairs}
+use Rattle.test_store.specs.Answers.{created_pairs, database_listing, databases_pairs, dropped_database_pairs, error_pairs, hello_pairs, inserted_pairs, killed_pairs}
 use Rattle.test_store.specs.Answers.{listing, ok_alone, refusal_pairs, updated_pairs}
 use Rattle.test_store.specs.Fields.{asked_size, batch_size, flag_field, id_field, namespace_at}
 use Rattle.test_store.specs.Fields.{text_field}
 use Rattle.test_store.specs.Held.{CollectionView, CursorView, NamespaceView, StoreView, closed_at}
 use Rattle.test_store.specs.Held.{cursor_index, documents_in, id_if_left, index_of_value, is_open}
-use Rattle.test_store.specs.Held.{namespace_text, open_at, opened, opened_id, with_documents}
-use Rattle.test_store.specs.Held.{with_left, with_replaced, without_collection}
+use Rattle.test_store.specs.Held.{held_indexes, indexes_in, with_indexes_of}
+use Rattle.test_store.specs.Held.{database_names, has_database, namespace_text, open_at, opened, opened_id, with_documents}
+use Rattle.test_store.specs.Held.{with_left, with_replaced, without_collection, without_database}
+use Rattle.test_store.specs.Indexes.{IndexView, index_listing, with_indexes}
 use Rattle.test_store.specs.Inserted.{brought}
 use Rattle.test_store.specs.Options.{first_unread}
 use Rattle.test_store.specs.Selecting.{SelectionView, selected, selection_in}
@@ -36,6 +38,10 @@ use Rattle.test_store.specs.Selecting.{SelectionView, selected, selection_in}
 pub record Reply : Type 0 where
   pub answer : List (List ℕ × TreeValue)
   pub held : StoreView
+
+-- an answer that changes nothing
+abbrev pub unchanged : StoreView → List (List ℕ × TreeValue) → Result Reply CommandError
+unchanged s pairs = Ok (record { answer = pairs; held = s })
 
 -- ---- insert
 
@@ -233,7 +239,7 @@ kill_cursors s t =
 
 abbrev pub drop_reply : StoreView → NamespaceView → List CollectionView → Reply
 drop_reply s n others = record {
-  answer = dropped_pairs (namespace_text n);
+  answer = dropped_pairs (length (indexes_in n s.collections)) (namespace_text n);
   held = record { collections = others; cursors = s.cursors };
 }
 
@@ -243,6 +249,19 @@ drop_collection s t =
     and_then (namespace_at (codes "drop") errors.Drop t) (λ n.
     and_then (or_error errors.NamespaceNotFound (without_collection n s.collections)) (λ others.
     Ok (drop_reply s n others)))
+
+-- ---- dropDatabase
+
+abbrev pub drop_database_reply : StoreView → List ℕ → Reply
+drop_database_reply s db = record {
+  answer = dropped_database_pairs db (has_database db s.collections);
+  held = record { collections = without_database db s.collections; cursors = s.cursors };
+}
+
+-- the answer of dropDatabase and what is held after it, or its error
+abbrev pub drop_database : StoreView → Tree → Result Reply CommandError
+drop_database s t =
+    and_then (text_field (codes "$db") errors.Database t) (λ db. Ok (drop_database_reply s db))
 
 -- ---- listCollections
 
@@ -266,6 +285,56 @@ abbrev pub list_collections : StoreView → Tree → Result Reply CommandError
 list_collections s t =
     and_then (text_field (codes "$db") errors.Database t) (λ db.
     and_then (filter_field (codes "filter") t) (λ f. Ok (list_reply s db f)))
+
+-- ---- listDatabases
+
+-- the listing of each database, in the order of their first collections
+abbrev pub database_listings : Bool → List CollectionView → List TreeValue
+database_listings name_only cs = map (database_listing name_only) (database_names cs)
+
+abbrev pub databases_answer : StoreView → Bool → Tree → List (List ℕ × TreeValue)
+databases_answer s name_only f =
+    databases_pairs name_only (found f (database_listings name_only s.collections))
+
+abbrev pub databases_reply : StoreView → Bool → Tree → Reply
+databases_reply s name_only f = record { answer = databases_answer s name_only f; held = s }
+
+-- the answer of listDatabases and what is held after it, or its error
+abbrev pub list_databases : StoreView → Tree → Result Reply CommandError
+list_databases s t =
+    and_then (flag_field (codes "nameOnly") false errors.NameOnly t) (λ name_only.
+    and_then (filter_field (codes "filter") t) (λ f. Ok (databases_reply s name_only f)))
+
+-- ---- createIndexes
+
+abbrev pub created_reply : StoreView → NamespaceView → List IndexView → Reply
+created_reply s n is = record {
+  answer =
+      created_pairs (length (indexes_in n s.collections)) (length is)
+      (not (is_some (held_indexes n s.collections)));
+  held = record { collections = with_indexes_of n is s.collections; cursors = s.cursors };
+}
+
+-- the answer of createIndexes and what is held after it, or its error
+abbrev pub create_indexes : StoreView → Tree → Result Reply CommandError
+create_indexes s t =
+    and_then (namespace_at (codes "createIndexes") errors.CreateIndexes t) (λ n.
+    and_then (body_of t) (λ fields.
+    and_then (or_error errors.Indexes (array_in (first_named (codes "indexes") fields))) (λ vs.
+    and_then (with_indexes vs (indexes_in n s.collections)) (λ is. Ok (created_reply s n is)))))
+
+-- ---- listIndexes
+
+abbrev pub indexes_answer : NamespaceView → List IndexView → List (List ℕ × TreeValue)
+indexes_answer n is =
+    cursor_answer First (map index_listing is) (pos 0) (namespace_text n)
+
+-- the answer of listIndexes and what is held after it, or its error
+abbrev pub list_indexes : StoreView → Tree → Result Reply CommandError
+list_indexes s t =
+    and_then (namespace_at (codes "listIndexes") errors.ListIndexes t) (λ n.
+    and_then (or_error errors.NamespaceNotFound (held_indexes n s.collections)) (λ is.
+    unchanged s (indexes_answer n is)))
 
 -- ---- all commands
 
@@ -294,15 +363,15 @@ command_of name =
     if bytes_eq name (codes "aggregate") then commands.Aggregate else
     if bytes_eq name (codes "killCursors") then commands.KillCursors else
     if bytes_eq name (codes "drop") then commands.Drop else
-    if bytes_eq name (codes "listCollections") then commands.ListCollections else commands.Unknown
+    if bytes_eq name (codes "dropDatabase") then commands.DropDatabase else
+    if bytes_eq name (codes "listCollections") then commands.ListCollections else
+    if bytes_eq name (codes "listDatabases") then commands.ListDatabases else
+    if bytes_eq name (codes "createIndexes") then commands.CreateIndexes else
+    if bytes_eq name (codes "listIndexes") then commands.ListIndexes else commands.Unknown
 
 abbrev pub unknown_pairs : List ℕ → List (List ℕ × TreeValue)
 unknown_pairs name =
     error_pairs (codes "no such command: '" ++ name ++ codes "'") (pos 59) (codes "CommandNotFound")
-
--- an answer that changes nothing
-abbrev pub unchanged : StoreView → List (List ℕ × TreeValue) → Result Reply CommandError
-unchanged s pairs = Ok (record { answer = pairs; held = s })
 
 abbrev pub run : Command → StoreView → Content → Result Reply CommandError
 run commands.Hello s c = unchanged s (hello_pairs false)
@@ -319,7 +388,11 @@ run commands.Count s c = count s c.body
 run commands.Aggregate s c = aggregate s c.body
 run commands.KillCursors s c = kill_cursors s c.body
 run commands.Drop s c = drop_collection s c.body
+run commands.DropDatabase s c = drop_database s c.body
 run commands.ListCollections s c = list_collections s c.body
+run commands.ListDatabases s c = list_databases s c.body
+run commands.CreateIndexes s c = create_indexes s c.body
+run commands.ListIndexes s c = list_indexes s c.body
 run commands.Unknown s c = unchanged s (unknown_pairs (first_name c.body))
 
 -- an error is answered, too, and changes nothing

@@ -2,17 +2,12 @@
 use Rattle.std.specs.Prelude.{ℕ, ℤ, List, Option, Some, None, Result, Ok, codes}
 use Rattle.std.specs.Prelude.{Bool}
 use Rattle.bson_elem.specs.declared.kinds.Kind.TheVariants as kinds
-use Rattle.bson_elem.specs.{Tree, number_value, text_value}
+use Rattle.bson_elem.specs.{Tree, number_value}
 use Rattle.bson_raw.specs.{TreeValue, first_named, leaf_value}
 use Rattle.doc_query.specs.declared.failure.CommandError.{CommandError}
 use Rattle.doc_query.specs.declared.failure.CommandError.TheVariants as errors
-use Rattle.doc_query.specs.{and_then, asked_flag, at_least, count_of, or_error}
+use Rattle.doc_query.specs.{and_then, asked_flag, at_least, count_of, or_error, text_of}
 use Rattle.test_store.specs.Held.{NamespaceView}
-
--- the text of a string
-abbrev pub text_of : Option TreeValue → Option (List ℕ)
-text_of (Some (leaf_value kinds.String (text_value s))) = Some s
-text_of _ = None
 
 -- the number of an int64
 abbrev pub id_of : Option TreeValue → Option ℤ

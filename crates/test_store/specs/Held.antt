@@ -2,12 +2,14 @@
 use Rattle.std.specs.Prelude.{ℕ, zero, suc, ℤ, pos, nat_le, nat_lt, slice_get, ◌+◌, ◌-◌, ◌&&◌}
 use Rattle.std.specs.Prelude.{List, [], ◌∷◌}
 use Rattle.std.specs.Prelude.{◌++◌, Bool, Option, Some, None, codes, length, map, string_bytes}
-use Rattle.std.specs.Prelude.{if◌then◌else◌, is_some, option_map}
+use Rattle.std.specs.Prelude.{if◌then◌else◌, is_some, not, option_map, unwrap_or}
+use Rattle.std.specs.List.{filter, list_any}
 use Rattle.std.specs.Str.{bytes_eq}
 use Rattle.bson_elem.specs.declared.kinds.Kind.TheVariants as kinds
 use Rattle.bson_elem.specs.{number_value}
 use Rattle.bson_raw.specs.{TreeValue, leaf_value}
 use Rattle.bson_doc.specs.{value_of}
+use Rattle.test_store.specs.Indexes.{IndexView, id_index, index_view}
 use Rattle.test_store.specs.declared.namespace.Namespace.{Namespace}
 use Rattle.test_store.specs.declared.namespace.NamespaceBuf.{NamespaceBuf}
 use Rattle.test_store.specs.declared.store.Collection.{Collection}
@@ -19,9 +21,11 @@ pub record NamespaceView : Type 0 where
   pub database : List ℕ
   pub collection : List ℕ
 
--- the documents of a namespace, in the order in which they were inserted
+-- the indexes of a namespace, in the order in which they were made, and its documents, in the order
+-- in which they were inserted
 pub record CollectionView : Type 0 where
   pub namespace : NamespaceView
+  pub indexes : List IndexView
   pub documents : List TreeValue
 
 -- what was found in a namespace and not given yet; a cursor with nothing left is closed
@@ -29,7 +33,7 @@ pub record CursorView : Type 0 where
   pub namespace : NamespaceView
   pub left : List TreeValue
 
--- The collections, in the order in which the first document of each was inserted, and the cursors.
+-- The collections, in the order in which they were made, and the cursors.
 pub record StoreView : Type 0 where
   pub collections : List CollectionView
   pub cursors : List CursorView
@@ -49,7 +53,11 @@ namespace_buf n =
 
 abbrev pub collection_of : Collection → CollectionView
 collection_of c =
-    record { namespace = namespace_buf c.namespace; documents = map value_of c.documents.items }
+    record {
+      namespace = namespace_buf c.namespace;
+      indexes = map index_view c.indexes.items;
+      documents = map value_of c.documents.items;
+    }
 
 abbrev pub cursor_of : Cursor → CursorView
 cursor_of c = record { namespace = namespace_buf c.namespace; left = map value_of c.left.items }
@@ -78,13 +86,20 @@ abbrev pub documents_in : NamespaceView → List CollectionView → List TreeVal
 documents_in n [] = []
 documents_in n (c ∷ cs) = if is_same_namespace n c.namespace then c.documents else documents_in n cs
 
+-- a collection as it is made, with these documents
+abbrev pub collection_with : NamespaceView → List TreeValue → CollectionView
+collection_with n vs = record { namespace = n; indexes = id_index ∷ []; documents = vs }
+
+-- a collection with these documents in the place of its own
+abbrev pub holding : List TreeValue → CollectionView → CollectionView
+holding vs c = record { namespace = c.namespace; indexes = c.indexes; documents = vs }
+
 -- the collections with these documents added to a namespace, after those that are there
 abbrev pub with_documents : NamespaceView → List TreeValue → List CollectionView
     → List CollectionView
-with_documents n vs [] = record { namespace = n; documents = vs } ∷ []
+with_documents n vs [] = collection_with n vs ∷ []
 with_documents n vs (c ∷ cs) =
-    if is_same_namespace n c.namespace
-    then record { namespace = c.namespace; documents = c.documents ++ vs } ∷ cs
+    if is_same_namespace n c.namespace then holding (c.documents ++ vs) c ∷ cs
     else c ∷ with_documents n vs cs
 
 -- the same, unless there are no documents
@@ -97,9 +112,26 @@ abbrev pub with_replaced : NamespaceView → List TreeValue → List CollectionV
     → List CollectionView
 with_replaced n vs [] = with_any n vs []
 with_replaced n vs (c ∷ cs) =
+    if is_same_namespace n c.namespace then holding vs c ∷ cs else c ∷ with_replaced n vs cs
+
+-- the indexes of a namespace, if there is a collection
+abbrev pub held_indexes : NamespaceView → List CollectionView → Option (List IndexView)
+held_indexes n [] = None
+held_indexes n (c ∷ cs) =
+    if is_same_namespace n c.namespace then Some c.indexes else held_indexes n cs
+
+-- the indexes of a namespace, or those that a collection of it would be made with
+abbrev pub indexes_in : NamespaceView → List CollectionView → List IndexView
+indexes_in n cs = unwrap_or (held_indexes n cs) (id_index ∷ [])
+
+-- the collections with these indexes in the place of those of a namespace
+abbrev pub with_indexes_of : NamespaceView → List IndexView → List CollectionView
+    → List CollectionView
+with_indexes_of n is [] = record { namespace = n; indexes = is; documents = [] } ∷ []
+with_indexes_of n is (c ∷ cs) =
     if is_same_namespace n c.namespace
-    then record { namespace = c.namespace; documents = vs } ∷ cs
-    else c ∷ with_replaced n vs cs
+    then record { namespace = c.namespace; indexes = is; documents = c.documents } ∷ cs
+    else c ∷ with_indexes_of n is cs
 
 -- the collections without that of a namespace, or nothing if there is none
 abbrev pub without_collection : NamespaceView → List CollectionView → Option (List CollectionView)
@@ -107,6 +139,24 @@ without_collection n [] = None
 without_collection n (c ∷ cs) =
     if is_same_namespace n c.namespace then Some cs
     else option_map (λ others. c ∷ others) (without_collection n cs)
+
+-- whether a collection is of the database with this name
+abbrev pub is_in_database : List ℕ → CollectionView → Bool
+is_in_database db c = bytes_eq c.namespace.database db
+
+-- whether there is a collection of this database
+abbrev pub has_database : List ℕ → List CollectionView → Bool
+has_database db cs = list_any (is_in_database db) cs
+
+-- the names of the databases, each once, in the order of their first collections
+abbrev pub database_names : List CollectionView → List (List ℕ)
+database_names [] = []
+database_names (c ∷ cs) =
+    c.namespace.database ∷ filter (λ n. not (is_in_database n c)) (database_names cs)
+
+-- the collections of all other databases
+abbrev pub without_database : List ℕ → List CollectionView → List CollectionView
+without_database db cs = filter (λ c. not (is_in_database db c)) cs
 
 -- the index of the collection of a namespace
 abbrev pub collection_index : NamespaceView → List CollectionView → Option ℕ

@@ -1,3 +1,4 @@
+pub mod Indexes
 pub mod Held
 pub mod Taking
 pub mod Answers

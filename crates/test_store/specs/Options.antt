@@ -57,6 +57,11 @@ is_list_field name =
     (codes "listCollections" ∷ codes "filter" ∷ codes "nameOnly" ∷ codes "cursor"
     ∷ codes "authorizedCollections" ∷ [])
 
+abbrev pub is_databases_field : List ℕ → Bool
+is_databases_field name =
+    is_one_of name
+    (codes "listDatabases" ∷ codes "filter" ∷ codes "nameOnly" ∷ codes "authorizedDatabases" ∷ [])
+
 -- the command carries out this field, or gives one answer whatever the field is
 abbrev pub reads : Command → List ℕ → Bool
 reads commands.Insert name = is_insert_field name || is_general name
@@ -69,7 +74,13 @@ reads commands.Aggregate name = is_aggregate_field name || is_general name
 reads commands.KillCursors name =
     (bytes_eq name (codes "killCursors") || bytes_eq name (codes "cursors")) || is_general name
 reads commands.Drop name = bytes_eq name (codes "drop") || is_general name
+reads commands.DropDatabase name = bytes_eq name (codes "dropDatabase") || is_general name
 reads commands.ListCollections name = is_list_field name || is_general name
+reads commands.ListDatabases name = is_databases_field name || is_general name
+reads commands.CreateIndexes name =
+    (bytes_eq name (codes "createIndexes") || bytes_eq name (codes "indexes")) || is_general name
+reads commands.ListIndexes name =
+    (bytes_eq name (codes "listIndexes") || bytes_eq name (codes "cursor")) || is_general name
 reads _ name = true
 
 -- a field that is false asks for nothing

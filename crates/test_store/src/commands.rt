@@ -3,14 +3,18 @@
 mod aggregate;
 mod build_info;
 mod count;
+mod create_indexes;
 mod delete;
 mod drop_collection;
+mod drop_database;
 mod find;
 mod get_more;
 mod hello;
 mod insert;
 mod kill_cursors;
 mod list_collections;
+mod list_databases;
+mod list_indexes;
 mod update;
 
 ghost use Rattle.std.specs.Prelude.{◌≡◌, ◌≢◌, IfOk, OnErr};
@@ -29,15 +33,19 @@ use bson_doc::Document;
 use bson_raw::RawDocument;
 use build_info::build_info;
 use count::count;
+use create_indexes::create_indexes;
 use delete::delete;
 use doc_query::Failure;
 use drop_collection::drop_collection;
+use drop_database::drop_database;
 use find::find;
 use get_more::get_more;
 use hello::hello;
 use insert::insert;
 use kill_cursors::kill_cursors;
 use list_collections::list_collections;
+use list_databases::list_databases;
+use list_indexes::list_indexes;
 use std::alloc::{AllocError, Global};
 use update::update;
 use wire_msg::Payload;
@@ -59,7 +67,11 @@ pub enum Command {
     Aggregate,
     KillCursors,
     Drop,
+    DropDatabase,
     ListCollections,
+    ListDatabases,
+    CreateIndexes,
+    ListIndexes,
     Unknown,
 }
 
@@ -82,7 +94,11 @@ fn command_of(name: &str) -> Command
         "aggregate" => Command::Aggregate,
         "killCursors" => Command::KillCursors,
         "drop" => Command::Drop,
+        "dropDatabase" => Command::DropDatabase,
         "listCollections" => Command::ListCollections,
+        "listDatabases" => Command::ListDatabases,
+        "createIndexes" => Command::CreateIndexes,
+        "listIndexes" => Command::ListIndexes,
         _ => Command::Unknown,
     }
 }
@@ -114,8 +130,9 @@ fn run(command: Command, store: &mut Store, payload: Payload<'_>) -> Result<Docu
         (store_of store.new) }
     ensures kept { OnErr result
         ((store_of store.new).collections ≡ (store_of store.old).collections) }
-    ensures steady { command ≢ Command.Insert → command ≢ Command.Drop → command ≢ Command.Delete
-        → command ≢ Command.Update
+    ensures steady { command ≢ Command.Insert → command ≢ Command.Drop
+        → command ≢ Command.DropDatabase → command ≢ Command.CreateIndexes
+        → command ≢ Command.Delete → command ≢ Command.Update
         → (store_of store.new).collections ≡ (store_of store.old).collections }
 {
     let alloc = store.allocator();
@@ -134,7 +151,11 @@ fn run(command: Command, store: &mut Store, payload: Payload<'_>) -> Result<Docu
         Command::Aggregate => aggregate(alloc, store, body),
         Command::KillCursors => kill_cursors(alloc, store, body),
         Command::Drop => drop_collection(alloc, store, body),
+        Command::DropDatabase => drop_database(alloc, store, body),
         Command::ListCollections => list_collections(alloc, store, body),
+        Command::ListDatabases => list_databases(alloc, store, body),
+        Command::CreateIndexes => create_indexes(alloc, store, body),
+        Command::ListIndexes => list_indexes(alloc, store, body),
         Command::Unknown => Ok(unknown_command(alloc, name_of(body))?),
     }
 }
@@ -160,8 +181,9 @@ fn carry_out(
         ≡ record { answer = d; held = store_of store.new }) }
     ensures kept { OnErr result
         ((store_of store.new).collections ≡ (store_of store.old).collections) }
-    ensures steady { command ≢ Command.Insert → command ≢ Command.Drop → command ≢ Command.Delete
-        → command ≢ Command.Update
+    ensures steady { command ≢ Command.Insert → command ≢ Command.Drop
+        → command ≢ Command.DropDatabase → command ≢ Command.CreateIndexes
+        → command ≢ Command.Delete → command ≢ Command.Update
         → (store_of store.new).collections ≡ (store_of store.old).collections }
 {
     match run(command, store, payload) {
@@ -185,6 +207,8 @@ pub fn answer_to(store: &mut Store, payload: Payload<'_>) -> Result<Document, Al
     ensures steady { (c : Content) → Carries payload.entry c
         → command_of (first_name c.body) ≢ Command.Insert
         → command_of (first_name c.body) ≢ Command.Drop
+        → command_of (first_name c.body) ≢ Command.DropDatabase
+        → command_of (first_name c.body) ≢ Command.CreateIndexes
         → command_of (first_name c.body) ≢ Command.Delete
         → command_of (first_name c.body) ≢ Command.Update
         → (store_of store.new).collections ≡ (store_of store.old).collections }

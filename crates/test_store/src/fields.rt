@@ -3,9 +3,9 @@
 ghost use Rattle.std.specs.Prelude.{◌≡◌, Err, MatchOption, MatchResult, None, Ok, Option, Some};
 ghost use Rattle.bson_elem.specs.{Spells, Tree};
 ghost use Rattle.bson_raw.specs.{Shows, ShowsFound, TreeValue, document_bytes, first_named};
-ghost use Rattle.doc_query.specs.{count_of};
+ghost use Rattle.doc_query.specs.{count_of, text_of};
 ghost use Rattle.test_store.specs.Fields.{batch_size, flag_field, id_field, id_of, namespace_at};
-ghost use Rattle.test_store.specs.Fields.{number_field, text_field, text_of};
+ghost use Rattle.test_store.specs.Fields.{number_field, text_field};
 ghost use Rattle.test_store.specs.Held.{namespace_of};
 
 use crate::namespace::Namespace;

@@ -13,6 +13,7 @@ mod answer;
 mod commands;
 mod fields;
 mod handling;
+mod indexes;
 mod inserted;
 mod namespace;
 mod options;

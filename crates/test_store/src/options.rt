@@ -5,7 +5,7 @@ ghost use Rattle.std.specs.Prelude.{◌≡◌, MatchOption, None, Some};
 ghost use Rattle.bson_elem.specs.{Spells, Tree};
 ghost use Rattle.bson_raw.specs.{Shows, TreeValue, document_bytes};
 ghost use Rattle.test_store.specs.Options.{asks, first_unread, is_aggregate_field, is_count_field};
-ghost use Rattle.test_store.specs.Options.{is_delete_field, is_find_field, is_general};
+ghost use Rattle.test_store.specs.Options.{is_databases_field, is_delete_field, is_find_field, is_general};
 ghost use Rattle.test_store.specs.Options.{is_insert_field, is_list_field, is_more_field};
 ghost use Rattle.test_store.specs.Options.{is_unread, is_update_field, reads};
 
@@ -105,6 +105,16 @@ fn is_list_field(name: &str) -> bool
     }
 }
 
+/// Returns true if listDatabases carries out this field.
+fn is_databases_field(name: &str) -> bool
+    ensures { result ≡ is_databases_field name.now }
+{
+    match name {
+        "listDatabases" | "filter" | "nameOnly" | "authorizedDatabases" => true,
+        _ => false,
+    }
+}
+
 /// Returns true if a command carries out this field, or gives one answer whatever the field is.
 fn reads(command: Command, name: &str) -> bool
     ensures { result ≡ reads command name.now }
@@ -119,7 +129,13 @@ fn reads(command: Command, name: &str) -> bool
         Command::Aggregate => is_aggregate_field(name) || is_general(name),
         Command::KillCursors => name == "killCursors" || name == "cursors" || is_general(name),
         Command::Drop => name == "drop" || is_general(name),
+        Command::DropDatabase => name == "dropDatabase" || is_general(name),
         Command::ListCollections => is_list_field(name) || is_general(name),
+        Command::ListDatabases => is_databases_field(name) || is_general(name),
+        Command::CreateIndexes => {
+            name == "createIndexes" || name == "indexes" || is_general(name)
+        }
+        Command::ListIndexes => name == "listIndexes" || name == "cursor" || is_general(name),
         _ => true,
     }
 }

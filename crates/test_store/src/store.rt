@@ -4,23 +4,28 @@ ghost use Rattle.std.specs.Prelude.{◌≡◌, ◌≤◌, ◌<◌, IfErr, IfOk, 
 ghost use Rattle.std.specs.Prelude.{Some, length, map};
 ghost use Rattle.bson_doc.specs.{value_of};
 ghost use Rattle.test_store.specs.Held.{closed_at, collection_index, collection_of, cursor_index};
-ghost use Rattle.test_store.specs.Held.{cursor_of, documents_in, empty_store, id_if_left};
+ghost use Rattle.test_store.specs.Held.{cursor_of, documents_in, empty_store, has_database};
+ghost use Rattle.test_store.specs.Held.{held_indexes, id_if_left, with_indexes_of};
 ghost use Rattle.test_store.specs.Held.{index_of_value, is_open, namespace_of, open_at, opened};
 ghost use Rattle.test_store.specs.Held.{opened_id, store_of, with_any, with_documents, with_left};
-ghost use Rattle.test_store.specs.Held.{with_replaced, without_collection};
+ghost use Rattle.test_store.specs.Held.{with_replaced, without_collection, without_database};
+ghost use Rattle.test_store.specs.Indexes.{index_view};
 ghost use Rattle.test_store.specs.Taking.{IsNextBatch, IsOpenAt};
 
+use crate::indexes::{Index, first_indexes};
 use crate::namespace::{Namespace, NamespaceBuf};
 use bson_doc::Bson;
 use doc_query::{CommandError, Failure, take_batch};
 use std::alloc::{AllocError, Global};
 
-/// The documents of a namespace, in the order in which they were inserted.
+/// What is held of a namespace.
 #[derive(Debug, Drop)]
 pub struct Collection {
     /// The namespace.
     pub namespace: NamespaceBuf,
-    /// The documents.
+    /// The indexes, in the order in which they were made.
+    pub indexes: Vec<Index>,
+    /// The documents, in the order in which they were inserted.
     pub documents: Vec<Bson>,
 }
 
@@ -36,7 +41,7 @@ pub struct Cursor {
 /// What the server holds.
 #[derive(Debug, Drop)]
 pub struct Store {
-    /// The collections, in the order in which the first document of each was inserted.
+    /// The collections, in the order in which they were made.
     pub(crate) collections: Vec<Collection>,
     /// The cursors. The id of each is its index, counted from `FIRST_CURSOR_ID`.
     pub(crate) cursors: Vec<Cursor>,
@@ -56,6 +61,13 @@ fn index_of(collections: &[Collection], namespace: Namespace<'_>) -> Option<usiz
         }
     }
     None
+}
+
+/// Returns true if one of the collections is of this database.
+pub(crate) fn has_database(collections: &[Collection], database: &str) -> bool
+    ensures { result ≡ has_database database.now (map collection_of collections.now) }
+{
+    collections.iter().any(|collection| collection.namespace.database.as_str() == database)
 }
 
 impl Store {
@@ -107,8 +119,10 @@ impl Store {
             None => {
                 let alloc = self.allocator();
                 let namespace = namespace.to_buf(alloc)?;
+                let indexes = first_indexes(alloc)?;
                 self.collections.push(Collection {
                     namespace,
+                    indexes,
                     documents,
                 })?;
                 Ok(())
@@ -161,6 +175,54 @@ impl Store {
         }
     }
 
+    /// Returns the indexes of a namespace, in the order in which they were made, if there is a
+    /// collection.
+    pub(crate) fn indexes(&self, namespace: Namespace<'_>) -> Option<&[Index]>
+        ensures { MatchOption result
+            (held_indexes (namespace_of namespace.entry) (store_of self.now).collections ≡ None)
+            (λ is. held_indexes (namespace_of namespace.entry) (store_of self.now).collections
+            ≡ Some (map index_view is.now)) }
+    {
+        let i = index_of(&self.collections, namespace)?;
+        Some(self.collections[i].indexes.as_slice())
+    }
+
+    /// Puts these indexes in the place of those of a namespace, and makes its collection if there
+    /// is none.
+    ///
+    /// # Errors
+    ///
+    /// Returns `AllocError` if memory runs out. Then what is held is unchanged.
+    pub(crate) fn put_indexes(
+        &mut self,
+        namespace: Namespace<'_>,
+        indexes: Vec<Index>,
+    ) -> Result<(), AllocError>
+        ensures replaced { OnOk result ((store_of self.new).collections
+            ≡ with_indexes_of (namespace_of namespace.entry) (map index_view indexes.items)
+            (store_of self.old).collections) }
+        ensures unchanged { OnErr result
+            ((store_of self.new).collections ≡ (store_of self.old).collections) }
+        ensures cursors { (store_of self.new).cursors ≡ (store_of self.old).cursors }
+    {
+        match index_of(&self.collections, namespace) {
+            Some(i) => {
+                self.collections[i].indexes = indexes;
+                Ok(())
+            }
+            None => {
+                let alloc = self.allocator();
+                let namespace = namespace.to_buf(alloc)?;
+                self.collections.push(Collection {
+                    namespace,
+                    indexes,
+                    documents: Vec::new(alloc),
+                })?;
+                Ok(())
+            }
+        }
+    }
+
     /// Drops the documents of a namespace.
     ///
     /// # Errors
@@ -184,6 +246,15 @@ impl Store {
             }
             None => Err(CommandError::NamespaceNotFound),
         }
+    }
+
+    /// Drops all collections of this database.
+    pub(crate) fn drop_database(&mut self, database: &str)
+        ensures dropped { (store_of self.new).collections
+            ≡ without_database database.now (store_of self.old).collections }
+        ensures cursors { (store_of self.new).cursors ≡ (store_of self.old).cursors }
+    {
+        self.collections.retain(|collection| collection.namespace.database.as_str() != database);
     }
 
     /// Opens a cursor over the documents that were found, unless there are none. Returns its id,

@@ -5,7 +5,8 @@ use Rattle.bson_doc.specs.declared.bson_values.Bson.{Bson}
 use Rattle.bson_raw.specs.{TreeValue}
 use Rattle.bson_doc.specs.Bson.{value_of}
 use Rattle.test_store.specs.declared.store.Collection.{Collection}
-use Rattle.test_store.specs.Held.{NamespaceView, collection_index, collection_of, namespace_buf, namespace_of}
+use Rattle.test_store.specs.Held.{NamespaceView, collection_index, collection_of, holding, namespace_of}
+use Rattle.test_store.specs.Indexes.{IndexView, index_view}
 use Rattle.test_store.proofs.Places.{inside, longer_collection, new_collection}
 use Rattle.test_store.proofs.Sizes.{on_err, on_ok}
 use Rattle.test_store.proofs.store.Store.insert.Goals as goal
@@ -25,8 +26,8 @@ returns-in-Some-clause-inserted c =
     ap (λ (l : List Collection). collection_index n (map collection_of l)) (sym c.deref.ensures.value) ∙ sym c.index_of.ensures ∙ c.in-Some.is in
     on_ok c.append.result (λ ok.
     let appended : c.append.new.self.items ≡ x.documents.items ++ c.args.documents.items = rw ok at c.append.ensures.items in
-    longer_collection n (map value_of c.args.documents.items) items c.in-Some.i x (record { namespace = x.namespace; documents = c.append.new.self }) found c.index_mut.ensures.value
-    (ap (λ (vs : List TreeValue). record { namespace = namespace_buf x.namespace; documents = vs }) (ap (map value_of) appended ∙ map-append value_of x.documents.items c.args.documents.items)))
+    longer_collection n (map value_of c.args.documents.items) items c.in-Some.i x (record { namespace = x.namespace; indexes = x.indexes; documents = c.append.new.self }) found c.index_mut.ensures.value
+    (ap (λ (vs : List TreeValue). holding vs (collection_of x)) (ap (map value_of) appended ∙ map-append value_of x.documents.items c.args.documents.items)))
 
 pub returns-in-Some-clause-unchanged : goal.returns-in-Some-clause-unchanged
 returns-in-Some-clause-unchanged c =
@@ -34,8 +35,8 @@ returns-in-Some-clause-unchanged c =
     let x = c.index_mut.result.now in
     on_err c.append.result (λ err.
     let kept : c.append.new.self.items ≡ x.documents.items = rw err at c.append.ensures.items in
-    map-set_same collection_of items c.in-Some.i (record { namespace = x.namespace; documents = c.append.new.self }) x
-    (ap (λ (l : List Bson). record { namespace = namespace_buf x.namespace; documents = map value_of l }) kept ∙ ap collection_of c.index_mut.ensures.value))
+    map-set_same collection_of items c.in-Some.i (record { namespace = x.namespace; indexes = x.indexes; documents = c.append.new.self }) x
+    (ap (λ (l : List Bson). holding (map value_of l) (collection_of x)) kept ∙ ap collection_of c.index_mut.ensures.value))
 
 pub returns-in_ok-push-in-None-clause-inserted : goal.returns-in_ok-push-in-None-clause-inserted
 returns-in_ok-push-in-None-clause-inserted c =
@@ -43,8 +44,9 @@ returns-in_ok-push-in-None-clause-inserted c =
     let items = c.args.self.now.collections.items in
     let found : collection_index n (map collection_of items) ≡ None =
     ap (λ (l : List Collection). collection_index n (map collection_of l)) (sym c.deref.ensures.value) ∙ sym c.index_of.ensures ∙ c.in-None.is in
-    let new : Collection = record { namespace = c.in_ok-namespace-in-None.namespace; documents = c.args.documents } in
+    let new : Collection = record { namespace = c.in_ok-namespace-in-None.namespace; indexes = c.in_ok-indexes-in-None.indexes; documents = c.args.documents } in
     let pushed : c.push.new.self.items ≡ items ++ new ∷ [] = c.in_ok-push-in-None.ensures.items in
     ap (map collection_of) pushed ∙ map_push collection_of items new
-    ∙ ap (λ (v : NamespaceView). map collection_of items ++ record { namespace = v; documents = map value_of c.args.documents.items } ∷ []) c.in_ok-namespace-in-None.ensures
+    ∙ ap (λ (v : NamespaceView). map collection_of items ++ record { namespace = v; indexes = map index_view c.in_ok-indexes-in-None.indexes.items; documents = map value_of c.args.documents.items } ∷ []) c.in_ok-namespace-in-None.ensures
+    ∙ ap (λ (is : List IndexView). map collection_of items ++ record { namespace = n; indexes = is; documents = map value_of c.args.documents.items } ∷ []) c.in_ok-indexes-in-None.ensures
     ∙ sym (new_collection n (map value_of c.args.documents.items) (map collection_of items) found)

@@ -20,7 +20,7 @@ returns-in-Some-clause-replaced c =
     let x = c.index_mut.result.now in
     let found : collection_index n (map collection_of items) ≡ Some c.in-Some.i =
     ap (λ (l : List Collection). collection_index n (map collection_of l)) (sym c.deref.ensures.value) ∙ sym c.index_of.ensures ∙ c.in-Some.is in
-    let y : Collection = record { namespace = x.namespace; documents = c.args.documents } in
+    let y : Collection = record { namespace = x.namespace; indexes = x.indexes; documents = c.args.documents } in
     replaced_collection n (map value_of c.args.documents.items) items c.in-Some.i x y found c.index_mut.ensures.value refl
 
 pub returns-in-None-clause-replaced : goal.returns-in-None-clause-replaced

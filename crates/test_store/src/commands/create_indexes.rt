@@ -1,0 +1,81 @@
+//! Carries out the command createIndexes.
+
+ghost use Rattle.std.specs.Prelude.{◌≡◌, ◌<◌, ◌^◌, IfOk, OnErr, map};
+ghost use Rattle.bson_elem.specs.{Spells, Tree};
+ghost use Rattle.bson_raw.specs.{document_bytes};
+ghost use Rattle.test_store.specs.Answers.{created_pairs};
+ghost use Rattle.test_store.specs.Commands.{IsCarriedOut, create_indexes};
+ghost use Rattle.test_store.specs.Held.{indexes_in, namespace_of, store_of};
+ghost use Rattle.test_store.specs.Indexes.{index_view};
+
+use crate::answer::set_ok;
+use crate::fields::namespace_field;
+use crate::indexes::{Index, add_indexes, copies, first_indexes};
+use crate::namespace::Namespace;
+use crate::store::Store;
+use bson_doc::{Bson, Document};
+use bson_raw::RawDocument;
+use doc_query::{CommandError, Failure, array_field, count_value, owned_body, set};
+use std::alloc::{AllocError, Global};
+
+/// Makes the answer that tells how many indexes there were and are, and whether the collection is
+/// new.
+fn created_answer(
+    alloc: Global,
+    before: usize,
+    after: usize,
+    is_new: bool,
+) -> Result<Document, AllocError>
+    requires few { before < 2 ^ 63 }
+    requires fits { after < 2 ^ 63 }
+    ensures { IfOk result (λ d. d ≡ created_pairs before after is_new) }
+{
+    let mut answer = Document::new(alloc);
+    set(alloc, &mut answer, "numIndexesBefore", count_value(before))?;
+    set(alloc, &mut answer, "numIndexesAfter", count_value(after))?;
+    let is_new = Bson::Boolean(is_new);
+    set(alloc, &mut answer, "createdCollectionAutomatically", is_new)?;
+    set_ok(alloc, &mut answer)?;
+    Ok(answer)
+}
+
+/// Copies the indexes of a namespace, or makes those of a new collection.
+fn indexes_in(
+    alloc: Global,
+    store: &Store,
+    namespace: Namespace<'_>,
+) -> Result<Vec<Index>, AllocError>
+    ensures { IfOk result (λ is. map index_view is.items
+        ≡ indexes_in (namespace_of namespace.entry) (store_of store.now).collections) }
+{
+    match store.indexes(namespace) {
+        Some(indexes) => copies(alloc, indexes),
+        None => first_indexes(alloc),
+    }
+}
+
+/// Makes indexes of a collection, and the collection if there is none.
+pub fn create_indexes(
+    alloc: Global,
+    store: &mut Store,
+    body: RawDocument<'_>,
+) -> Result<Document, Failure>
+    ensures carried { (t : Tree) → Spells t (document_bytes body.entry)
+        → IsCarriedOut (create_indexes (store_of store.old) t) (store_of store.old) result
+        (store_of store.new) }
+    ensures kept { OnErr result
+        ((store_of store.new).collections ≡ (store_of store.old).collections) }
+{
+    let namespace = namespace_field(body, "createIndexes", CommandError::CreateIndexes)?;
+    let fields = owned_body(alloc, body)?;
+    let Some(asked) = array_field(&fields, "indexes") else {
+        return Err(Failure::Refused(CommandError::Indexes));
+    };
+    let is_new = store.indexes(namespace).is_none();
+    let mut indexes = indexes_in(alloc, store, namespace)?;
+    let before = indexes.len();
+    add_indexes(alloc, asked.as_slice(), &mut indexes)?;
+    let answer = created_answer(alloc, before, indexes.len(), is_new)?;
+    store.put_indexes(namespace, indexes)?;
+    Ok(answer)
+}

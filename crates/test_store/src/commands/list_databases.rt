@@ -1,0 +1,89 @@
+//! Carries out the command listDatabases.
+
+ghost use Rattle.std.specs.Prelude.{◌≡◌, IfOk, map};
+ghost use Rattle.bson_elem.specs.{Spells, Tree};
+ghost use Rattle.bson_raw.specs.{document_bytes};
+ghost use Rattle.bson_doc.specs.{tree_of, value_of};
+ghost use Rattle.doc_query.specs.{inner};
+ghost use Rattle.test_store.specs.Answers.{database_listing, databases_pairs};
+ghost use Rattle.test_store.specs.Commands.{IsCarriedOut, database_listings, databases_answer};
+ghost use Rattle.test_store.specs.Commands.{list_databases};
+ghost use Rattle.test_store.specs.Held.{collection_of, store_of};
+
+use crate::answer::{set_ok, set_text};
+use crate::fields::flag_field;
+use crate::store::{Collection, Store, has_database};
+use bson_doc::{Array, Bson, Document};
+use bson_raw::RawDocument;
+use doc_query::{CommandError, Failure, filter_field, matching, set};
+use std::alloc::{AllocError, Global};
+
+/// Makes the listing of the database with this name: with `name_only` the name alone, and else
+/// that it has something, in no files.
+fn listing(alloc: Global, name: &str, name_only: bool) -> Result<Document, AllocError>
+    ensures { IfOk result (λ d. inner d ≡ database_listing name_only name.now) }
+{
+    let mut listing = Document::new(alloc);
+    set_text(alloc, &mut listing, "name", name)?;
+    if !name_only {
+        set(alloc, &mut listing, "sizeOnDisk", Bson::Int64(0))?;
+        set(alloc, &mut listing, "empty", Bson::Boolean(false))?;
+    }
+    Ok(listing)
+}
+
+/// Makes the listing of each database, in the order of their first collections.
+fn listings(
+    alloc: Global,
+    collections: &[Collection],
+    name_only: bool,
+) -> Result<Vec<Bson>, AllocError>
+    ensures { IfOk result (λ vs. map value_of vs.items
+        ≡ database_listings name_only (map collection_of collections.now)) }
+{
+    let mut found = Vec::new(alloc);
+    for (i, collection) in collections.iter().enumerate() {
+        let name = collection.namespace.database.as_str();
+        if !has_database(&collections[..i], name) {
+            found.push(Bson::Document(listing(alloc, name, name_only)?))?;
+        }
+    }
+    Ok(found)
+}
+
+/// Makes the answer with these listings, and unless it is for names alone with their sizes' sum.
+fn databases_answer(
+    alloc: Global,
+    listings: Vec<Bson>,
+    name_only: bool,
+) -> Result<Document, AllocError>
+    ensures { IfOk result (λ d. d ≡ databases_pairs name_only (map value_of listings.items)) }
+{
+    let mut answer = Document::new(alloc);
+    let listings = Array::from_vec(listings);
+    set(alloc, &mut answer, "databases", Bson::Array(listings))?;
+    if !name_only {
+        set(alloc, &mut answer, "totalSize", Bson::Int64(0))?;
+    }
+    set_ok(alloc, &mut answer)?;
+    Ok(answer)
+}
+
+/// Answers with the listings of the databases that match a filter.
+pub fn list_databases(
+    alloc: Global,
+    store: &mut Store,
+    body: RawDocument<'_>,
+) -> Result<Document, Failure>
+    ensures carried { (t : Tree) → Spells t (document_bytes body.entry)
+        → IsCarriedOut (list_databases (store_of store.old) t) (store_of store.old) result
+        (store_of store.new) }
+    ensures steady { (store_of store.new).collections ≡ (store_of store.old).collections }
+{
+    let name_only = flag_field(body, "nameOnly", false, CommandError::NameOnly)?;
+    let filter = filter_field(alloc, body, "filter")?;
+    let all = listings(alloc, &store.collections, name_only)?;
+    let found = matching(alloc, &filter, &all)?;
+    let answer = databases_answer(alloc, found, name_only)?;
+    Ok(answer)
+}

@@ -1,0 +1,235 @@
+//! The indexes of a collection. They are listed, and change no answer.
+
+ghost use Rattle.std.specs.Prelude.{◌≡◌, ◌∷◌, [], IfErr, IfOk, MatchOption, None, Ok, OnOk, Some};
+ghost use Rattle.std.specs.Prelude.{map};
+ghost use Rattle.std.specs.List.{list_any};
+ghost use Rattle.bson_doc.specs.{tree_of, value_of};
+ghost use Rattle.doc_query.specs.{IsFailure, inner, or_error};
+ghost use Rattle.test_store.specs.Indexes.{has_index_fields, has_key, has_name};
+ghost use Rattle.test_store.specs.Indexes.{id_index, index_in, index_listing, index_view, is_index};
+ghost use Rattle.test_store.specs.Indexes.{is_index_field, is_key_document};
+ghost use Rattle.test_store.specs.Indexes.{with_index};
+ghost use Rattle.test_store.specs.Indexes.{with_indexes};
+
+use crate::answer::set_text;
+use bson_doc::{Bson, Document};
+use doc_query::{CommandError, Failure, are_keys, field, is_same, set};
+use std::alloc::{AllocError, Global};
+
+/// An index of a collection.
+#[derive(Debug, Drop)]
+pub struct Index {
+    /// Its name.
+    pub name: String,
+    /// The document of the fields that it is by, each with its direction.
+    pub key: Bson,
+}
+
+/// Makes the index on `_id`.
+fn id_index(alloc: Global) -> Result<Index, AllocError>
+    ensures { IfOk result (λ i. index_view i ≡ id_index) }
+{
+    let name = String::from_str(alloc, "_id_")?;
+    let mut key = Document::new(alloc);
+    set(alloc, &mut key, "_id", Bson::Int32(1))?;
+    Ok(Index {
+        name,
+        key: Bson::Document(key),
+    })
+}
+
+/// Makes the indexes of a new collection, which has the one on `_id`.
+///
+/// # Errors
+///
+/// Returns `AllocError` if memory runs out.
+pub fn first_indexes(alloc: Global) -> Result<Vec<Index>, AllocError>
+    ensures { IfOk result (λ is. map index_view is.items ≡ id_index ∷ []) }
+{
+    let index = id_index(alloc)?;
+    let mut indexes = Vec::new(alloc);
+    indexes.push(index)?;
+    Ok(indexes)
+}
+
+/// Returns true if this is a field of an index that can be made.
+fn is_index_field(name: &str) -> bool
+    ensures { result ≡ is_index_field name.now }
+{
+    match name {
+        "key" | "name" | "v" | "background" => true,
+        _ => false,
+    }
+}
+
+/// Returns true if an index that is asked for has no other fields.
+fn has_index_fields(index: &Document) -> bool
+    ensures { result ≡ has_index_fields (tree_of index.now) }
+{
+    for (name, _) in index {
+        if !is_index_field(name) {
+            return false;
+        }
+    }
+    true
+}
+
+/// Returns true if a value is a document of fields that an index can be by.
+fn is_key_document(value: &Bson) -> bool
+    ensures { result ≡ is_key_document (value_of value.now) }
+{
+    match value {
+        Bson::Document(key) => !key.is_empty() && are_keys(key),
+        _ => false,
+    }
+}
+
+/// Returns the name and the key of the index that a value asks for, if it can be made.
+fn parts_of(value: &Bson) -> Option<(&str, &Bson)>
+    ensures { MatchOption result (index_in (value_of value.now) ≡ None)
+        (λ p. index_in (value_of value.now)
+        ≡ Some (record { name = p.0.now; key = value_of p.1.now })) }
+{
+    let Bson::Document(index) = value else {
+        return None;
+    };
+    if !has_index_fields(index) {
+        return None;
+    }
+    match (field(index, "name"), field(index, "key")) {
+        (Some(Bson::String(name)), Some(key)) if is_key_document(key) => {
+            Some((name.as_str(), key))
+        }
+        _ => None,
+    }
+}
+
+/// Makes the index that a value asks for.
+fn index_in(alloc: Global, value: &Bson) -> Result<Index, Failure>
+    ensures ok { IfOk result (λ i. index_in (value_of value.now) ≡ Some (index_view i)) }
+    ensures refused { IfErr result
+        (λ e. IsFailure (or_error CommandError.Index (index_in (value_of value.now))) e) }
+{
+    let Some((name, key)) = parts_of(value) else {
+        return Err(Failure::Refused(CommandError::Index));
+    };
+    let name = String::from_str(alloc, name)?;
+    let key = key.try_clone()?;
+    Ok(Index { name, key })
+}
+
+/// Returns true if one of the indexes has this name.
+fn any_has_name(indexes: &[Index], name: &str) -> bool
+    ensures { result ≡ list_any (has_name name.now) (map index_view indexes.now) }
+{
+    indexes.iter().any(|index| index.name.as_str() == name)
+}
+
+/// Returns true if one of the indexes has this key.
+fn any_has_key(indexes: &[Index], key: &Bson) -> bool
+    ensures { result ≡ list_any (has_key (value_of key.now)) (map index_view indexes.now) }
+{
+    indexes.iter().any(|index| is_same(&index.key, key))
+}
+
+/// Returns true if this is one of the indexes.
+fn is_held(indexes: &[Index], index: &Index) -> bool
+    ensures { result ≡ list_any (is_index (index_view index.now)) (map index_view indexes.now) }
+{
+    let name = index.name.as_str();
+    indexes.iter().any(|other| other.name.as_str() == name && is_same(&other.key, &index.key))
+}
+
+/// Adds an index, unless it is there.
+fn add_index(index: Index, indexes: &mut Vec<Index>) -> Result<(), Failure>
+    ensures ok { OnOk result (with_index (index_view index) (map index_view indexes.old.items)
+        ≡ Ok (map index_view indexes.new.items)) }
+    ensures refused { IfErr result
+        (λ e. IsFailure (with_index (index_view index) (map index_view indexes.old.items)) e) }
+{
+    if is_held(indexes, &index) {
+        return Ok(());
+    }
+    if any_has_name(indexes, index.name.as_str()) {
+        return Err(Failure::Refused(CommandError::IndexName));
+    }
+    if any_has_key(indexes, &index.key) {
+        return Err(Failure::Refused(CommandError::IndexKey));
+    }
+    match indexes.push(index) {
+        Ok(()) => Ok(()),
+        Err(_) => Err(Failure::OutOfMemory),
+    }
+}
+
+/// Adds the indexes that the values ask for, in order.
+///
+/// # Errors
+///
+/// Returns `Index` if a value asks for none that can be made, `IndexName` or `IndexKey` if another
+/// index has its name or its key, and `OutOfMemory` if memory runs out. Then some may be added.
+pub fn add_indexes(alloc: Global, asked: &[Bson], indexes: &mut Vec<Index>) -> Result<(), Failure>
+    ensures ok { OnOk result (with_indexes (map value_of asked.now)
+        (map index_view indexes.old.items) ≡ Ok (map index_view indexes.new.items)) }
+    ensures refused { IfErr result (λ e. IsFailure
+        (with_indexes (map value_of asked.now) (map index_view indexes.old.items)) e) }
+{
+    for value in asked {
+        let index = index_in(alloc, value)?;
+        add_index(index, indexes)?;
+    }
+    Ok(())
+}
+
+/// Copies an index.
+fn copy(alloc: Global, index: &Index) -> Result<Index, AllocError>
+    ensures { IfOk result (λ i. index_view i ≡ index_view index.now) }
+{
+    let name = String::from_str(alloc, index.name.as_str())?;
+    let key = index.key.try_clone()?;
+    Ok(Index { name, key })
+}
+
+/// Copies indexes.
+///
+/// # Errors
+///
+/// Returns `AllocError` if memory runs out.
+pub fn copies(alloc: Global, indexes: &[Index]) -> Result<Vec<Index>, AllocError>
+    ensures { IfOk result (λ is. map index_view is.items ≡ map index_view indexes.now) }
+{
+    let mut copies = Vec::new(alloc);
+    for index in indexes {
+        copies.push(copy(alloc, index)?)?;
+    }
+    Ok(copies)
+}
+
+/// Makes the listing of an index.
+fn listing(alloc: Global, index: &Index) -> Result<Document, AllocError>
+    ensures { IfOk result (λ d. inner d ≡ index_listing (index_view index.now)) }
+{
+    let mut listing = Document::new(alloc);
+    set(alloc, &mut listing, "v", Bson::Int32(2))?;
+    let key = index.key.try_clone()?;
+    set(alloc, &mut listing, "key", key)?;
+    set_text(alloc, &mut listing, "name", index.name.as_str())?;
+    Ok(listing)
+}
+
+/// Makes the listings of indexes, in order.
+///
+/// # Errors
+///
+/// Returns `AllocError` if memory runs out.
+pub fn index_listings(alloc: Global, indexes: &[Index]) -> Result<Vec<Bson>, AllocError>
+    ensures { IfOk result
+        (λ vs. map value_of vs.items ≡ map index_listing (map index_view indexes.now)) }
+{
+    let mut listings = Vec::new(alloc);
+    for index in indexes {
+        let listing = listing(alloc, index)?;
+        listings.push(Bson::Document(listing))?;
+    }
+    Ok(listings)
+}
