@@ -22,7 +22,8 @@ use Rattle.engines.specs.declared.json.Layout.{Layout}
 use Rattle.engines.specs.declared.json.Layout.TheVariants.{Lines, Array}
 use Rattle.engines.specs.declared.msg.MessageForm.{MessageForm}
 use Rattle.engines.specs.declared.msg.MessageForm.TheVariants.{Text as in_text, Json as in_json}
-use Rattle.bsonwire.specs.Choices.{HoldsHex, HoldsMessageForm, IsCommand, MayChoose, HoldsFlag, is_array, is_relaxed, was_given}
+use Rattle.bsonwire.specs.Choices.{HoldsHex, HoldsMessageForm, IsCommand, MayChoose, HoldsFlag, is_array, is_relaxed}
+use Rattle.command_words.specs.{was_given}
 use Rattle.bsonwire.proofs.LeafLemmas.{IsUnfaulted, bytes_leaf_names, dump_leaf_names, json_leaf_names, leaf, loop_leaf_names, msg_leaf_names, text_leaf_names}
 use Rattle.bsonwire.proofs.RowLemmas.{Each, find_holds, no_kind, or_nil}
 

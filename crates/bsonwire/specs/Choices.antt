@@ -1,12 +1,12 @@
 -- What a choice takes from the matches that `clap` makes of the words, and what it asks for.
 use Rattle.std.specs.Prelude.{◌≡◌, ◌⊎◌, ◌≤◌, ℕ, List, Bool, true, false, Option, Some, None}
 use Rattle.std.specs.Prelude.{[], ◌∷◌, ◌&&◌, not, is_some, codes, if◌then◌else◌}
-use Rattle.std.specs.Option.{option_map_or}
 use Rattle.std.specs.Str.{bytes_eq}
 use Rattle.std.specs.Str.Parse.{IsNumeral, digits_value, without_leading_plus}
 use Rattle.clap.specs.Kinds.{or_else}
 use Rattle.clap.specs.Words.{Kinds, Row, Text, fault_of, first_of, one_of, subcommand_of}
 use Rattle.clap.specs.declared.error.kind.ErrorKind.TheVariants as kind
+use Rattle.command_words.specs.{was_given}
 use Rattle.bsonwire.specs.declared.choice.Choice.{Choice}
 use Rattle.bsonwire.specs.declared.choice.Choice.TheVariants.{Loop, Over}
 use Rattle.bsonwire.specs.declared.choice.Command.{Command}
@@ -108,10 +108,6 @@ abbrev pub IsChosen : Choice → List Text → Type 0
 IsChosen c words = IsMetSubcommand c (subcommand_of command_line words)
 
 -- ---- the faults of words
-
--- whether they hold the flag of this name, which was given
-abbrev pub was_given : Text → List Row → Bool
-was_given name rows = option_map_or (λ text. bytes_eq text (codes "true")) (one_of name rows) false
 
 -- whether the subcommand is `msg` with `--relaxed` and without `--json`
 abbrev pub lacks_json : Option (Text × List Row) → Bool

@@ -8,11 +8,12 @@ ghost use Rattle.bsonwire.specs.Choices.{HasCalls, HasFile, HasQuiet, HoldsCalls
 ghost use Rattle.bsonwire.specs.Choices.{HoldsForm, HoldsMessageForm, IsChosen, IsCommand};
 ghost use Rattle.bsonwire.specs.Choices.{IsMetSubcommand, IsSubcommand, MayChoose, NamesChoice};
 ghost use Rattle.bsonwire.specs.Choices.{NamesCommand};
-ghost use Rattle.bsonwire.specs.Choices.{flags_fault, is_array, is_relaxed, lacks_json, was_given};
+ghost use Rattle.bsonwire.specs.Choices.{flags_fault, is_array, is_relaxed, lacks_json};
 ghost use Rattle.bsonwire.specs.Choices.{words_fault};
 
 use crate::command_line::{json_wanted, program};
 use clap::{ArgMatches, Error};
+use command_words::is_given;
 use engines::{Layout, MessageForm, Mode};
 use std::alloc::Global;
 
@@ -192,16 +193,6 @@ fn choice_of<'a>(matches: &ArgMatches<'a>) -> Choice<'a>
         },
         Some((name, inner)) => over_of(name, inner),
         None => unreachable!(),
-    }
-}
-
-/// Returns true if the matches hold the flag of this name, which was given.
-fn is_given(matches: &ArgMatches<'_>, name: &str) -> bool
-    ensures { result ≡ was_given name.now (rows_of (found_of matches.now)) }
-{
-    match matches.get_one::<bool>(name) {
-        Some(given) => given,
-        None => false,
     }
 }
 

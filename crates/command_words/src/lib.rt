@@ -7,6 +7,8 @@
 //! Uses clap. Used by bsonwire and test_server.
 #![tactic(auto)]
 
+mod given;
 mod program;
 
+pub use given::is_given;
 pub use program::{IN_OUT, MEMORY, Program, USAGE, VERSION, texts};

@@ -3,3 +3,4 @@ pub mod Steps
 pub mod Made
 pub mod NumberLemmas
 pub mod ParseLemmas
+pub mod Shows

@@ -1,10 +1,11 @@
 -- What a parse of the command line holds: an address, and a number of connections where one was given.
-use Rattle.std.proofs.Common.{zero, suc, ◌≡◌, ◌∙◌, ◌<◌, ◌≤◌, ap, refl, sym, subst, ℕ, Bool, true, false, not, List, [], ◌∷◌, length, is_some, Option, Some, None, inl, inr, codes, arith, true≢false}
+use Rattle.std.proofs.Common.{zero, suc, ◌≡◌, ◌∙◌, ◌<◌, ◌≤◌, ◌&&◌, ◌||◌, ap, refl, sym, subst, ℕ, Bool, true, false, not, List, [], ◌∷◌, length, is_some, Option, Some, None, inl, inr, codes, arith, true≢false}
 use Rattle.std.specs.Prelude.{IfSome, option_and_then, option_map, map, slice_get}
 use Rattle.std.specs.Borrow.{Bor}
-use Rattle.std.specs.List.{All, slice_index_or}
+use Rattle.std.specs.List.{All, list_any, slice_index_or}
 use Rattle.std.specs.Str.{bytes_eq}
 use Rattle.std.proofs.Math.Dec.{eqb-suc-zero}
+use Rattle.std.proofs.lemmas.List.{length-map}
 use Rattle.std.proofs.lemmas.List.Elements.{All-get_or}
 use Rattle.std.proofs.lemmas.Slice.Eq.{bytes_eq-Decides}
 use Rattle.clap.specs.Built.{IsParsedFrom, IsPlain, IsPlainArg}
@@ -59,33 +60,90 @@ no_delimiter a simple =
 differs : (a b : Text) → bytes_eq a a ≡ true → bytes_eq a b ≡ false → a ≡ b → ⊥
 differs a b same other e = true≢false (sym same ∙ (ap (bytes_eq a) e ∙ other))
 
--- ---- the two arguments
+-- ---- the arguments
 
-module _ (cmd : Command) (x y : Arg) (args : args_of cmd ≡ x ∷ y ∷ []) (is_x : rule_of x ≡ address_rule) (is_y : rule_of y ≡ connections_rule)
+-- no rule but the one at this place has this id
+abbrev only_at : Text → ℕ → List Rule → Bool
+only_at id zero [] = true
+only_at id (suc k) [] = true
+only_at id zero (r ∷ rs) = not (list_any (λ s. bytes_eq s.id id) rs)
+only_at id (suc k) (r ∷ rs) = not (bytes_eq r.id id) && only_at id k rs
+
+-- a place in a list of arguments and in that of their rules
+rule_at : (l : List Arg) (j : ℕ) (d : Arg) → rule_of (slice_index_or l j d) ≡ slice_index_or (map rule_of l) j (rule_of d)
+rule_at [] j d = refl
+rule_at (a ∷ l) zero d = refl
+rule_at (a ∷ l) (suc j) d = rule_at l j d
+
+-- one of two truths, and the second of two untruths
+first_of_two : (a b : Bool) → a ≡ true → (a || b) ≡ true
+first_of_two true b is = refl
+first_of_two false b is = absurd (true≢false (sym is))
+
+second_of_two : (a b : Bool) → (a || b) ≡ false → b ≡ false
+second_of_two true b none = absurd (true≢false none)
+second_of_two false b none = none
+
+no_other : (id : Text) (rs : List Rule) (j : ℕ) (d : Rule) → list_any (λ s. bytes_eq s.id id) rs ≡ false → j < length rs
+    → bytes_eq (slice_index_or rs j d).id id ≡ true → ⊥
+no_other id [] j d none lt same = absurd (omega arith)
+no_other id (r ∷ rs) zero d none lt same = true≢false (sym (first_of_two (bytes_eq r.id id) _ same) ∙ none)
+no_other id (r ∷ rs) (suc j) d none lt same = no_other id rs j d (second_of_two (bytes_eq r.id id) _ none) (omega (arith, lt)) same
+
+only_one : (id : Text) (k : ℕ) (rs : List Rule) (d : Rule) → only_at id k rs ≡ true → (j : ℕ) → j < length rs
+    → bytes_eq (slice_index_or rs j d).id id ≡ true → j ≡ k
+only_one id zero [] d only j lt same = absurd (omega arith)
+only_one id (suc k) [] d only j lt same = absurd (omega arith)
+only_one id zero (r ∷ rs) d only zero lt same = refl
+only_one id zero (r ∷ rs) d only (suc j) lt same = absurd (no_other id rs j d (is_false _ only) (omega (arith, lt)) same)
+only_one id (suc k) (r ∷ rs) d only zero lt same = absurd (true≢false (sym same ∙ is_false _ (both (not (bytes_eq r.id id)) _ only).0))
+only_one id (suc k) (r ∷ rs) d only (suc j) lt same = ap suc (only_one id k rs d (both (not (bytes_eq r.id id)) _ only).1 j (omega (arith, lt)) same)
+
+-- each rule changes nothing of how words are read, and has no rule on another
+abbrev all_plain : List Rule → Bool
+all_plain [] = true
+all_plain (r ∷ rs) = r.is_simple && (r.is_free && all_plain rs)
+
+are_plain : (l : List Arg) → all_plain (map rule_of l) ≡ true → All IsPlainArg l
+are_plain [] plain k d lt = absurd (omega arith)
+are_plain (a ∷ l) plain zero d lt =
+    let simple = both (rule_of a).is_simple _ plain in
+    plain_arg a simple.0 (both (rule_of a).is_free _ simple.1).0
+are_plain (a ∷ l) plain (suc k) d lt =
+    let simple = both (rule_of a).is_simple _ plain in
+    are_plain l (both (rule_of a).is_free _ simple.1).1 k d (omega (arith, lt))
+
+module _ (cmd : Command) (x : Arg) (rules : map rule_of (args_of cmd) ≡ command_line.top.rules)
     (groups : groups_of cmd ≡ []) (local : (out-Command cmd).has_globals ≡ false) (negates : (out-Command cmd).subcommand_negates_reqs ≡ false)
     (m : ArgMatches) (p : IsParsedFrom cmd m) where
   abbrev first : Arg
   first = slice_index_or (args_of cmd) 0 x
 
   abbrev second : Arg
-  second = slice_index_or (args_of cmd) 1 y
+  second = slice_index_or (args_of cmd) 1 x
+
+  -- the rule at a place
+  at : (j : ℕ) → rule_of (slice_index_or (args_of cmd) j x) ≡ slice_index_or command_line.top.rules j (rule_of x)
+  at j = rule_at (args_of cmd) j x ∙ ap (λ (l : List Rule). slice_index_or l j (rule_of x)) rules
 
   is_first : rule_of first ≡ address_rule
-  is_first = ap (λ l. rule_of (slice_index_or l 0 x)) args ∙ is_x
+  is_first = at 0
 
   is_second : rule_of second ≡ connections_rule
-  is_second = ap (λ l. rule_of (slice_index_or l 1 y)) args ∙ is_y
+  is_second = at 1
 
-  two : 2 ≡ length (args_of cmd)
-  two = sym (ap (λ l. length l) args)
+  count : 5 ≡ length (args_of cmd)
+  count = sym (ap (λ (l : List Rule). length l) rules) ∙ length-map (args_of cmd) rule_of
 
   plain : IsPlain cmd
-  plain = (subst (All IsPlainArg) (sym args) each, groups)
-    where
-      each : All IsPlainArg (x ∷ y ∷ [])
-      each zero d lt = plain_arg x (ap (λ (r : Rule). r.is_simple) is_x) (ap (λ (r : Rule). r.is_free) is_x)
-      each (suc zero) d lt = plain_arg y (ap (λ (r : Rule). r.is_simple) is_y) (ap (λ (r : Rule). r.is_free) is_y)
-      each (suc (suc k)) d lt = absurd (omega arith)
+  plain = (are_plain (args_of cmd) (ap all_plain rules), groups)
+
+  -- an argument with the id of one that stands alone is that one
+  only : (id : Text) (k : ℕ) → only_at id k command_line.top.rules ≡ true → (j : ℕ) (e : Arg) → j < length (args_of cmd)
+      → bytes_eq (slice_index_or (args_of cmd) j e).id.now id ≡ true → j ≡ k
+  only id k alone j e lt same =
+      let named = ap (λ (r : Rule). bytes_eq r.id id) (rule_at (args_of cmd) j e ∙ ap (λ (l : List Rule). slice_index_or l j (rule_of e)) rules) in
+      only_one id k command_line.top.rules (rule_of e) alone j (subst (λ n. j < n) (sym count) lt) (sym named ∙ same)
 
   -- ---- the operand
 
@@ -93,22 +151,11 @@ module _ (cmd : Command) (x y : Arg) (args : args_of cmd ≡ x ∷ y ∷ []) (is
   first_id = ap (λ (r : Rule). r.id) is_first
 
   only_first : (j : ℕ) (e : Arg) → j < length (args_of cmd) → bytes_eq (slice_index_or (args_of cmd) j e).id.now first.id.now ≡ true → j ≡ 0
-  only_first j e lt same = go (args_of cmd) args j lt (subst (λ (t : Text). bytes_eq (slice_index_or (args_of cmd) j e).id.now t ≡ true) first_id same)
-    where
-      go : (l : List Arg) → l ≡ x ∷ y ∷ [] → (j : ℕ) → j < length l → bytes_eq (slice_index_or l j e).id.now (codes "address") ≡ true → j ≡ 0
-      go l is zero lt same = refl
-      go l is (suc zero) lt same =
-          let other : bytes_eq (slice_index_or l 1 e).id.now (codes "address") ≡ false =
-          ap (λ (l : List Arg). bytes_eq (slice_index_or l 1 e).id.now (codes "address")) is ∙ ap (λ (r : Rule). bytes_eq r.id (codes "address")) is_y in
-          absurd (true≢false (sym same ∙ other))
-      go l is (suc (suc k)) lt same = absurd (beyond (subst (λ (l : List Arg). suc (suc k) < length l) is lt))
-        where
-          beyond : suc (suc k) < 2 → ⊥
-          beyond lt = omega arith
+  only_first j e lt same = only (codes "address") 0 refl j e lt (subst (λ (t : Text). bytes_eq (slice_index_or (args_of cmd) j e).id.now t ≡ true) first_id same)
 
   has_address : HasAddress (rows_of (found_of m))
   has_address =
-      let has = required_has_value cmd m p plain local negates 0 x (subst (λ n. 0 < n) two (omega arith))
+      let has = required_has_value cmd m p plain local negates 0 x (subst (λ n. 0 < n) count (omega arith))
       (ap (λ (r : Rule). r.required) is_first) (ap (λ (r : Rule). r.action) is_first)
       (no_delimiter first (ap (λ (r : Rule). r.is_simple) is_first))
       (subst (λ n. 1 ≤ n) (sym (ap (λ (r : Rule). (unwrap_or_range r.range).start_inclusive) is_first)) (omega arith))
@@ -127,24 +174,13 @@ module _ (cmd : Command) (x y : Arg) (args : args_of cmd ≡ x ∷ y ∷ []) (is
   second_id = ap (λ (r : Rule). r.id) is_second
 
   only_second : (j : ℕ) (e : Arg) → j < length (args_of cmd) → bytes_eq (slice_index_or (args_of cmd) j e).id.now second.id.now ≡ true → j ≡ 1
-  only_second j e lt same = go (args_of cmd) args j lt (subst (λ (t : Text). bytes_eq (slice_index_or (args_of cmd) j e).id.now t ≡ true) second_id same)
-    where
-      go : (l : List Arg) → l ≡ x ∷ y ∷ [] → (j : ℕ) → j < length l → bytes_eq (slice_index_or l j e).id.now (codes "connections") ≡ true → j ≡ 1
-      go l is zero lt same =
-          let other : bytes_eq (slice_index_or l 0 e).id.now (codes "connections") ≡ false =
-          ap (λ (l : List Arg). bytes_eq (slice_index_or l 0 e).id.now (codes "connections")) is ∙ ap (λ (r : Rule). bytes_eq r.id (codes "connections")) is_x in
-          absurd (true≢false (sym same ∙ other))
-      go l is (suc zero) lt same = refl
-      go l is (suc (suc k)) lt same = absurd (beyond (subst (λ (l : List Arg). suc (suc k) < length l) is lt))
-        where
-          beyond : suc (suc k) < 2 → ⊥
-          beyond lt = omega arith
+  only_second j e lt same = only (codes "connections") 1 refl j e lt (subst (λ (t : Text). bytes_eq (slice_index_or (args_of cmd) j e).id.now t ≡ true) second_id same)
 
   -- an argument of the built command with the id of the option has its rules
   same_as_second : (j : ℕ) (a : Arg) → j < length (args_of p.built) → slice_index_or (args_of p.built) j a ≡ a → bytes_eq a.id.now (codes "connections") ≡ true
       → parser_of a ≡ Unsigned 0 18446744073709551615
   same_as_second j a lt at same =
-      let rules = same_rules_by_id cmd m p 1 y (subst (λ n. 1 < n) two (omega arith)) only_second
+      let rules = same_rules_by_id cmd m p 1 x (subst (λ n. 1 < n) count (omega arith)) only_second
       (λ auto. elim auto [
         | inl h ↦ differs (codes "connections") (codes "help") refl refl (sym second_id ∙ h)
         | inr h ↦ differs (codes "connections") (codes "version") refl refl (sym second_id ∙ h)
@@ -203,7 +239,7 @@ module _ (cmd : Command) (x y : Arg) (args : args_of cmd ≡ x ∷ y ∷ []) (is
 -- ---- the whole command line
 
 pub parsed_has_choice : (cmd : Command) (m : ArgMatches) → app_of cmd ≡ command_line → IsParsedFrom cmd m → HasChoice (rows_of (found_of m))
-parsed_has_choice cmd m is p = go (args_of cmd) refl (ap (λ (a : App). a.top.rules) is)
+parsed_has_choice cmd m is p = go (args_of cmd) refl
   where
     fields : (is_empty (groups_of cmd) ≡ true) × ((out-Command cmd).has_globals ≡ false)
     fields =
@@ -212,14 +248,15 @@ parsed_has_choice cmd m is p = go (args_of cmd) refl (ap (λ (a : App). a.top.ru
         let external = both (not c.allow_external_subcommands) _ groups.1 in
         (groups.0, is_false c.has_globals (both (not c.has_globals) _ external.1).0)
 
-    go : (l : List Arg) → args_of cmd ≡ l → map rule_of l ≡ address_rule ∷ connections_rule ∷ [] → HasChoice (rows_of (found_of m))
-    go [] args rules = cc
-    go (x ∷ []) args rules = cc
-    go (x ∷ y ∷ []) args rules =
-        let is_x : rule_of x ≡ address_rule = ap (λ (l : List Rule). slice_index_or l 0 (rule_of x)) rules in
-        let is_y : rule_of y ≡ connections_rule = ap (λ (l : List Rule). slice_index_or l 1 (rule_of x)) rules in
+    rules : map rule_of (args_of cmd) ≡ command_line.top.rules
+    rules = ap (λ (a : App). a.top.rules) is
+
+    go : (l : List Arg) → args_of cmd ≡ l → HasChoice (rows_of (found_of m))
+    go [] args =
+        let none : map rule_of [] ≡ command_line.top.rules = sym (ap (map rule_of) args) ∙ rules in
+        cc
+    go (x ∷ l) args =
         let negates = ap (λ (a : App). a.top.subcommand_negates_reqs) is in (
-          has_address cmd x y args is_x is_y (is_nil _ fields.0) fields.1 negates m p,
-          has_number cmd x y args is_x is_y (is_nil _ fields.0) fields.1 negates m p,
+          has_address cmd x rules (is_nil _ fields.0) fields.1 negates m p,
+          has_number cmd x rules (is_nil _ fields.0) fields.1 negates m p,
         )
-    go (x ∷ y ∷ z ∷ l) args rules = cc

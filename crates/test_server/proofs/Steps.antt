@@ -1,6 +1,6 @@
 -- What the server does next goes on what it did.
-use Rattle.std.proofs.Common.{◌≡◌, ◌≤◌, ◌+◌, ◌++◌, ℕ, suc, List, [], Option, None, Some, refl, sym, subst, ◌∙◌, append_assoc, append-nil, arith}
-use Rattle.std.specs.Prelude.{flat_map}
+use Rattle.std.proofs.Common.{◌≡◌, ◌+◌, ◌++◌, ℕ, suc, List, [], Option, None, Some, refl, sym, ap, subst, ◌∙◌, append_assoc, append-nil, arith}
+use Rattle.std.specs.Prelude.{flat_map, min}
 use Rattle.std.specs.Io.KnownBytes.{Appends, Keeps}
 use Rattle.std.proofs.KnownBytes.{Appends-trans}
 use Rattle.slab.specs.Slab.{Slab, Updates, get}
@@ -13,6 +13,10 @@ use Rattle.wire_peer.specs.declared.log.Logged.{Logged}
 use Rattle.test_server.specs.Serving.{GoesOn, IsForgotten, Serves, ServesOn, opened, turned, over}
 use Rattle.test_server.specs.Transcript.{end_text, new_text, told_text}
 use Rattle.test_server.specs.declared.serving.Serving.{Serving}
+
+-- one connection more is counted, up to a greatest number
+one_more_ended : (n : ℕ) → min (min n 18446744073709551615 + 1) 18446744073709551615 ≡ min (suc n) 18446744073709551615
+one_more_ended n = grind arith
 
 -- bytes that stay as they were grow by none
 kept_bytes : (a b : Option (List ℕ)) → Keeps a b → Appends a b []
@@ -37,7 +41,7 @@ module _ {H L : Type 0} (does : Does H) (stops : Stops H) (t : Tells L) where
     new_text old.hall.next,
     record {
       serves = next_is first n new.hall.seats old.hall.logged new.hall.logged (suc old.hall.next) new.hall.next _ (sym logged) (omega (arith, next)) (opened key link is.serves free updates);
-      counts = subst (λ x. x ≤ n) (sym ended) is.counts;
+      counts = ended ∙ is.counts;
     },
     written,
   )
@@ -53,7 +57,7 @@ module _ {H L : Type 0} (does : Does H) (stops : Stops H) (t : Tells L) where
     record {
       serves = subst (λ s. Serves does stops t first n s new.hall.logged new.hall.next (text ++ flat_map told_text (log_of to.entries.items))) (sym seats)
           (next_is first n mid new.hall.logged new.hall.logged old.hall.next new.hall.next _ refl (sym next) (turned key steps how is.serves goes is_turned forgotten));
-      counts = subst (λ x. x ≤ n) (sym ended) is.counts;
+      counts = ended ∙ is.counts;
     },
     written,
   )
@@ -61,7 +65,7 @@ module _ {H L : Type 0} (does : Does H) (stops : Stops H) (t : Tells L) where
   -- a connection took its last turn
   pub turns_over : (old new : Serving L H) (mid : Slab (SeatSeen L)) (to after : Logged H) (key steps : ℕ) (leave : Leave) (seat : SeatSeen L) (a b c : Option (List ℕ))
       → IsTurned does stops t key steps (Some (turns.Over leave)) old.hall.seats old.hall.logged mid to → IsForgotten to after
-      → get mid key ≡ Some seat → Updates mid new.hall.seats key None → new.hall.logged ≡ after → new.hall.next ≡ old.hall.next → new.ended ≤ old.ended + 1
+      → get mid key ≡ Some seat → Updates mid new.hall.seats key None → new.hall.logged ≡ after → new.hall.next ≡ old.hall.next → new.ended ≡ min (old.ended + 1) 18446744073709551615
       → Appends a b (flat_map told_text (log_of to.entries.items)) → Appends b c (end_text seat.front.server.connection leave)
       → ServesOn does stops t old new a c
   turns_over old new mid to after key steps leave seat a b c is_turned forgotten there updates logged next ended told written first n text is = (
@@ -69,7 +73,7 @@ module _ {H L : Type 0} (does : Does H) (stops : Stops H) (t : Tells L) where
     flat_map told_text (log_of to.entries.items) ++ end_text seat.front.server.connection leave,
     record {
       serves = next_is first (suc n) new.hall.seats after new.hall.logged old.hall.next new.hall.next _ (sym logged) (sym next) (over key steps leave seat is.serves is_turned forgotten there updates);
-      counts = omega (arith, ended, is.counts);
+      counts = ended ∙ (ap (λ e. min (e + 1) 18446744073709551615) is.counts ∙ one_more_ended n);
     },
     Appends-trans _ _ _ _ _ told written,
   )

@@ -1,7 +1,9 @@
 -- What a choice takes from the matches that `clap` makes of the words.
 use Rattle.std.specs.Prelude.{◌≡◌, ℕ, List, IfSome, Option, Some, None, codes, is_some, true}
+use Rattle.std.specs.Prelude.{option_map}
 use Rattle.std.specs.Str.Parse.{IsNumeral, digits_value, without_leading_plus}
 use Rattle.clap.specs.Words.{IsUnsignedIn, Row, Text, first_of, matches_of, one_of}
+use Rattle.command_words.specs.{was_given}
 use Rattle.test_server.specs.declared.choice.Choice.{Choice}
 use Rattle.test_server.specs.CommandLine.{command_line}
 
@@ -12,11 +14,13 @@ AsksFor n None = n ≡ 18446744073709551615
 AsksFor n (Some text) =
     IsNumeral 10 (without_leading_plus text) × (digits_value 10 (without_leading_plus text) ≡ n)
 
--- the matches hold the address and the number of connections
-abbrev pub IsHeld : Choice → List Row → Type 0
-IsHeld c rows =
-    (first_of (codes "address") rows ≡ Some c.address.now)
-    × AsksFor c.connections (one_of (codes "connections") rows)
+-- The matches hold the address, the number of connections, the flags and the files.
+pub record IsHeld (c : Choice) (rows : List Row) : Type 0 where
+  pub address : first_of (codes "address") rows ≡ Some c.address.now
+  pub connections : AsksFor c.connections (one_of (codes "connections") rows)
+  pub quiet : c.quiet ≡ was_given (codes "quiet") rows
+  pub until_stdin_closes : c.until_stdin_closes ≡ was_given (codes "until-stdin-closes") rows
+  pub port_file : option_map (λ file. file.now) c.port_file ≡ first_of (codes "port-file") rows
 
 -- the choice is what the command line makes of the words
 abbrev pub IsChosen : Choice → List Text → Type 0

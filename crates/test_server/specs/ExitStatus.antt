@@ -5,11 +5,12 @@ use Rattle.clap.specs.declared.error.kind.ErrorKind.{ErrorKind}
 use Rattle.clap.specs.declared.error.kind.ErrorKind.TheVariants as kind
 use Rattle.command_words.specs.{words_status}
 use Rattle.test_server.specs.declared.choice.Choice.{Choice}
-use Rattle.test_server.specs.declared.connections.ServingEnd.{ServingEnd}
-use Rattle.test_server.specs.declared.connections.ServingEnd.TheVariants.{Served, InOut}
-use Rattle.test_server.specs.declared.connections.ServingEnd.TheVariants.{OutOfMemory}
+use Rattle.test_server.specs.declared.run.ServingEnd.{ServingEnd}
+use Rattle.test_server.specs.declared.run.ServingEnd.TheVariants.{Served, InOut}
+use Rattle.test_server.specs.declared.run.ServingEnd.TheVariants.{OutOfMemory}
 use Rattle.test_server.specs.Choices.{IsChosen}
 use Rattle.test_server.specs.CommandLine.{command_line}
+use Rattle.test_server.specs.Runs.{IsEnough}
 
 -- the exit status of each end; 2 means a fault in the command line
 abbrev pub exit_status : ServingEnd → ℕ
@@ -19,11 +20,10 @@ exit_status OutOfMemory = 4
 
 -- ---- words
 
--- the status of what was chosen: that of an end; if it is good, as many connections were served as
--- asked for
+-- the status of what was chosen: that of an end; if it is good, enough connections were served
 abbrev pub IsStatusFor : Choice → ℕ → Type 0
 IsStatusFor choice status =
-    (end : ServingEnd) × ((n : ℕ) → end ≡ Served n → n ≡ choice.connections)
+    (end : ServingEnd) × ((n : ℕ) → end ≡ Served n → IsEnough choice n)
     × (status ≡ exit_status end)
 
 -- memory ran out, or the words have a fault of this kind

@@ -2,4 +2,5 @@ pub mod Transcript
 pub mod Serving
 pub mod CommandLine
 pub mod Choices
+pub mod Runs
 pub mod ExitStatus

@@ -1,11 +1,7 @@
 -- What the server does with its connections, and what it writes of that.
-use Rattle.std.specs.Prelude.{◌≡◌, ◌≤◌, ◌⊎◌, ℕ, zero, suc, List, [], ◌++◌, codes, flat_map}
-use Rattle.std.specs.Prelude.{Option, None, Some, Result, Ok, Err}
-use Rattle.std.specs.Fmt.{decimal}
-use Rattle.std.specs.Io.KnownBytes.{Appends, Keeps}
-use Rattle.mio.specs.declared.net.stream.TcpStream.{TcpStream}
-use Rattle.test_store.specs.{Answered, StopsAt, empty_store, store_of}
-use Rattle.test_store.specs.declared.store.Store.{Store}
+use Rattle.std.specs.Prelude.{◌≡◌, ◌⊎◌, ℕ, suc, min, List, [], ◌++◌, flat_map, Option, None}
+use Rattle.std.specs.Prelude.{Some, Result, Ok, Err}
+use Rattle.std.specs.Io.KnownBytes.{Appends}
 use Rattle.slab.specs.Slab.{Slab, Updates, get}
 use Rattle.wire_front.specs.declared.cause.FrontCause.TheVariants as fronts
 use Rattle.wire_hall.specs.{IsTurned, SeatSeen, Tells, new_seat, tells}
@@ -16,21 +12,10 @@ use Rattle.wire_hall.specs.declared.turned.Turned.TheVariants as turns
 use Rattle.wire_peer.specs.{Does, Stops, log_of}
 use Rattle.wire_peer.specs.declared.log.Logged.{Logged}
 use Rattle.wire_peer.specs.declared.server_state.ServerCause.TheVariants as causes
-use Rattle.wire_stream.specs.declared.tcp_link.TcpLink.{TcpLink}
-use Rattle.test_server.specs.declared.connections.ServingEnd.{ServingEnd}
-use Rattle.test_server.specs.declared.connections.ServingEnd.TheVariants as runs
 use Rattle.test_server.specs.declared.serving.Serving.{Serving}
 use Rattle.test_server.specs.declared.serving.Stop.{Stop}
 use Rattle.test_server.specs.declared.serving.Stop.TheVariants as stopped
 use Rattle.test_server.specs.Transcript.{end_text, new_text, told_text}
-
--- the first line, which says where the server listens
-abbrev pub listening_line : List ℕ → List ℕ
-listening_line local = codes "listening " ++ (local ++ codes "\n")
-
--- the last line, which says how many connections were served
-abbrev pub served_line : ℕ → List ℕ
-served_line count = codes "served " ++ (decimal count ++ codes "\n")
 
 -- the server stops after a connection that ran out of memory, and after no other
 abbrev pub settled : Leave → Result (Unit {0}) Stop
@@ -76,12 +61,12 @@ pub data Serves {H L : Type 0} (does : Does H) (stops : Stops H) (t : Tells L) (
       (text ++ (flat_map told_text (log_of to.entries.items)
       ++ end_text seat.front.server.connection leave))
 
--- The server stands so: this many connections ended, of which it counts no more, and this was
+-- The server stands so: this many connections ended, which it counts up to 2^64 - 1, and this was
 -- written.
 pub record IsServing {H L : Type 0} (does : Does H) (stops : Stops H) (t : Tells L) (first : H)
     (s : Serving L H) (ended : ℕ) (text : List ℕ) : Type 0 where
   pub serves : Serves does stops t first ended s.hall.seats s.hall.logged s.hall.next text
-  pub counts : s.ended ≤ ended
+  pub counts : s.ended ≡ min ended 18446744073709551615
 
 -- The server served on between these two moments, and wrote what it did.
 abbrev pub ServesOn : {H L : Type 0} → Does H → Stops H → Tells L → Serving L H → Serving L H
@@ -90,46 +75,3 @@ ServesOn {H} does stops t old new before after =
     (first : H) (ended : ℕ) (text : List ℕ) → IsServing does stops t first old ended text
     → (more : ℕ) × (told : List ℕ) × IsServing does stops t first new more (text ++ told)
     × Appends before after told
-
--- ---- a run
-
--- What a link over a socket tells: no bytes, since no contract says what a socket carries.
-abbrev pub socket_tells : Tells (TcpLink TcpStream)
-socket_tells = tells (λ link. None) (λ link. None) (λ link. link.ends) (λ link. link.waits)
-
--- The server served on between these two moments, over sockets and with a store, and wrote what it
--- did.
-abbrev pub GoesOnServing : Serving (TcpLink TcpStream) Store → Serving (TcpLink TcpStream) Store
-    → Option (List ℕ) → Option (List ℕ) → Type 0
-GoesOnServing old new before after = ServesOn Answered StopsAt socket_tells old new before after
-
--- no connection was served yet, and no documents are held
-pub record HasBegun (s : Serving (TcpLink TcpStream) Store) : Type 0 where
-  pub store : Store
-  pub nothing : store_of store ≡ empty_store
-  pub serving : IsServing Answered StopsAt socket_tells store s 0 []
-
--- The server listened somewhere and wrote where. From when it held no documents it served until so
--- many connections had ended, and wrote what it did.
-pub record HasServed (count : ℕ) (before after : Option (List ℕ)) : Type 0 where
-  pub store : Store
-  pub nothing : store_of store ≡ empty_store
-  pub connections : Serving (TcpLink TcpStream) Store
-  pub ended : ℕ
-  pub text : List ℕ
-  pub serving : IsServing Answered StopsAt socket_tells store connections ended text
-  pub enough : count ≤ ended
-  pub local : List ℕ
-  pub written : Appends before after (listening_line local ++ text)
-
--- what comes before the last line: nothing if no connection is asked for
-abbrev pub IsBegun : ℕ → Option (List ℕ) → Option (List ℕ) → Type 0
-IsBegun zero before after = Keeps before after
-IsBegun (suc n) before after = HasServed (suc n) before after
-
--- so many connections were served, and the last line says so
-abbrev pub IsRun : ℕ → ServingEnd → Option (List ℕ) → Option (List ℕ) → Type 0
-IsRun count (runs.Served n) before after =
-    (n ≡ count) × (mid : Option (List ℕ)) × IsBegun count before mid
-    × Appends mid after (served_line count)
-IsRun count why before after = Unit {0}

@@ -1,6 +1,7 @@
 //! Finds out what the words of the command line ask for.
 
 ghost use Rattle.std.specs.Prelude.{◌≡◌, IfOk, IsErrAnd, IsOkAnd, MatchResult, Some, codes, map};
+ghost use Rattle.std.specs.Prelude.{option_map};
 ghost use Rattle.clap.specs.Words.{FailsBy, fault_of, first_of, found_of, one_of, rows_of};
 ghost use Rattle.test_server.specs.Choices.{AsksFor, HasAddress, HasChoice, HasNumber, IsChosen};
 ghost use Rattle.test_server.specs.Choices.{IsHeld};
@@ -8,6 +9,7 @@ ghost use Rattle.test_server.specs.CommandLine.{command_line};
 
 use crate::command_line::program;
 use clap::{ArgMatches, Error};
+use command_words::is_given;
 use std::alloc::Global;
 
 /// What the command line asks for.
@@ -17,6 +19,12 @@ pub struct Choice<'a> {
     pub address: &'a str,
     /// The number of connections to serve.
     pub connections: u64,
+    /// Write no transcript.
+    pub quiet: bool,
+    /// End when standard input does.
+    pub until_stdin_closes: bool,
+    /// The file to write the port to.
+    pub port_file: Option<&'a str>,
 }
 
 /// Returns the operand ADDRESS.
@@ -42,6 +50,14 @@ fn connections_of(matches: &ArgMatches<'_>) -> u64
     }
 }
 
+/// Returns the file that the option of this name gives, if it was given.
+fn file_of<'a>(matches: &ArgMatches<'a>, name: &str) -> Option<&'a str>
+    ensures { option_map (λ file. file.now) result
+        ≡ first_of name.now (rows_of (found_of matches.now)) }
+{
+    matches.get_str(name)
+}
+
 /// Returns the choice that the matches of a parse hold, or the error of the parse.
 fn chosen(parse: Result<ArgMatches<'_>, Error>) -> Result<Choice<'_>, Error>
     requires { IfOk parse (λ m. HasChoice (rows_of (found_of m))) }
@@ -53,6 +69,9 @@ fn chosen(parse: Result<ArgMatches<'_>, Error>) -> Result<Choice<'_>, Error>
     Ok(Choice {
         address: address_of(&matches),
         connections: connections_of(&matches),
+        quiet: is_given(&matches, "quiet"),
+        until_stdin_closes: is_given(&matches, "until-stdin-closes"),
+        port_file: file_of(&matches, "port-file"),
     })
 }
 

@@ -1,55 +1,44 @@
 //! Serves many connections in one thread.
 
-ghost use Rattle.std.specs.Prelude.{◌≡◌, ◌≤◌, IfOk, List, OnOk, ℕ};
-ghost use Rattle.text_writer.specs.{WritesOut};
-ghost use Rattle.test_server.specs.Serving.{GoesOnServing, HasBegun, HasServed, IsRun};
-ghost use Rattle.test_server.specs.Serving.{listening_line, served_line};
+ghost use Rattle.std.specs.Prelude.{◌≡◌, IfOk, OnOk};
+ghost use Rattle.test_server.specs.Runs.{GoesOnServing, HasBegun};
 
+use crate::input::Watched;
 use crate::serving::{Serving, Stop, settle};
 use mio::net::{TcpListener, TcpStream};
 use mio::{Events, Interest, Poll, Token};
 use std::alloc::Global;
 use std::collections::VecDeque;
 use std::io;
-use std::io::{BufWriter, ErrorKind, Write};
-use std::net::{Net, SocketAddr, ToSocketAddrs};
+use std::io::{BufRead, ErrorKind, Write};
+use std::net::Net;
 use std::time::Duration;
 use test_store::Store;
 use wire_hall::Turned;
 use wire_stream::TcpLink;
 
-/// Why the server ends.
-#[derive(Clone, Copy, Debug, PartialEq, Eq)]
-pub enum ServingEnd {
-    /// This many connections were served.
-    Served(u64),
-    /// Listening, accepting a connection or writing the output failed.
-    InOut,
-    /// Memory ran out.
-    OutOfMemory,
-}
-
 /// The token of the listener. Those of connections are their keys.
 const LISTENER: Token = Token(usize::MAX);
 
-/// The most events that one wait tells.
-const EVENTS: usize = 64;
+/// The token of standard input.
+const INPUT: Token = Token(usize::MAX - 1);
 
 /// The most connections that are accepted at once, before others take turns.
 const ACCEPTS: usize = 16;
 
 /// The most connections that are open at once. More of them wait at the listener.
-const ROOM: usize = 1024;
+pub const ROOM: usize = 1024;
 
 /// How many milliseconds the server waits where accepting failed, before it tries again.
 const PAUSE: u64 = 50;
 
-/// A listener, and its connections.
+/// A listener and its connections, and standard input, if its end is waited for.
 #[derive(Drop)]
-struct Connections {
+pub struct Connections<I> {
     poll: Poll,
     listener: TcpListener,
-    serving: Serving<TcpLink<TcpStream>, Store>,
+    input: Option<Watched<I>>,
+    pub serving: Serving<TcpLink<TcpStream>, Store>,
     /// The keys of connections whose turns ended before there was nothing to do, each once. It has
     /// room for those of all connections, so another turn wants no memory.
     again: VecDeque<usize>,
@@ -61,30 +50,54 @@ struct Connections {
     wanted: u64,
 }
 
-impl Connections {
-    /// Begins to listen for `count` connections. `again` is empty.
-    fn new(
+impl<I: BufRead + Drop> Connections<I> {
+    /// Begins to listen for `count` connections, and to wait for the end of `input`, if it is given.
+    /// `again` is empty.
+    pub fn new(
         net: &impl Net,
         alloc: Global,
         listener: TcpListener,
+        input: Option<I>,
         count: u64,
         again: VecDeque<usize>,
-    ) -> io::Result<Connections>
+    ) -> io::Result<Connections<I>>
         ensures { IfOk result (λ c. HasBegun c.serving) }
     {
         let poll = Poll::new(net)?;
         let mut listener = listener;
         poll.registry()
             .register(&mut listener, LISTENER, Interest::READABLE)?;
+        let input = match input {
+            Some(input) => Some(Watched::new(input, poll.registry(), INPUT)),
+            None => None,
+        };
         Ok(Connections {
             poll,
             listener,
+            input,
             serving: Serving::new(alloc, Store::new(alloc)),
             again,
             ready: true,
             pausing: false,
             wanted: count,
         })
+    }
+
+    /// Returns true if standard input was waited for, and has ended.
+    pub fn has_input_ended(&self) -> bool {
+        match &self.input {
+            Some(input) => input.has_ended(),
+            None => false,
+        }
+    }
+
+    /// Takes what came over standard input, if its end is waited for.
+    fn take_input(&mut self)
+        ensures { self.new.serving ≡ self.old.serving }
+    {
+        if let Some(input) = &mut self.input {
+            input.take(self.poll.registry(), INPUT);
+        }
     }
 
     /// Opens the connection over `stream`. If the system can't tell of its events, it is closed,
@@ -189,10 +202,10 @@ impl Connections {
             (W.contents out.old) (W.contents out.new)) }
     {
         for event in events.iter() {
-            if event.token() == LISTENER {
-                self.ready = true;
-            } else {
-                self.take_turn(event.token().0, out)?;
+            match event.token() {
+                LISTENER => self.ready = true,
+                INPUT => self.take_input(),
+                Token(key) => self.take_turn(key, out)?,
             }
         }
         Ok(())
@@ -222,7 +235,11 @@ impl Connections {
     }
 
     /// Waits for events, and serves the connections that they are of.
-    fn serve_some<W: Write>(&mut self, events: &mut Events<Global>, out: &mut W) -> Result<(), Stop>
+    pub fn serve_some<W: Write>(
+        &mut self,
+        events: &mut Events<Global>,
+        out: &mut W,
+    ) -> Result<(), Stop>
         ensures { OnOk result (GoesOnServing self.old.serving self.new.serving
             (W.contents out.old) (W.contents out.new)) }
     {
@@ -236,126 +253,5 @@ impl Connections {
             self.accept_some(out)?;
         }
         Ok(())
-    }
-}
-
-/// Returns the first address that `address` names.
-fn first_address<R: Net>(rt: &R, address: &str) -> io::Result<SocketAddr> {
-    let mut found = address.to_socket_addrs(rt)?;
-    match found.next() {
-        Some(first) => Ok(first),
-        None => Err(io::Error::from(ErrorKind::InvalidInput)),
-    }
-}
-
-/// Listens at `address` for `count` connections, and writes to `out` where that is.
-fn listen<R: Net, W: Write>(
-    rt: &R,
-    alloc: Global,
-    address: &str,
-    count: u64,
-    again: VecDeque<usize>,
-    out: &mut W,
-) -> io::Result<Connections>
-    ensures told { OnOk result ((local : List ℕ)
-        × WritesOut W.contents out.old out.new (listening_line local)) }
-    ensures begun { IfOk result (λ c. HasBegun c.serving) }
-{
-    let listener = TcpListener::bind(rt, first_address(rt, address)?)?;
-    let local = listener.local_addr()?;
-    writeln!(out, "listening {local}")?;
-    Connections::new(rt, alloc, listener, count, again)
-}
-
-/// Serves connections until `count` of them ended.
-fn serve_until<W: Write>(
-    connections: &mut Connections,
-    events: &mut Events<Global>,
-    count: u64,
-    out: &mut W,
-) -> Result<(), Stop>
-    ensures enough { OnOk result (count ≤ connections.new.serving.ended) }
-    ensures served { OnOk result (GoesOnServing connections.old.serving connections.new.serving
-        (W.contents out.old) (W.contents out.new)) }
-{
-    for _ in 0..u64::MAX {
-        if connections.serving.ended() >= count {
-            return Ok(());
-        }
-        connections.serve_some(events, out)?;
-    }
-    // No server serves some that often.
-    Err(Stop::InOut)
-}
-
-/// Listens at `address`, writes to `out` where that is, and serves connections until `count` of
-/// them ended.
-fn serve_all<R: Net, W: Write>(
-    rt: &R,
-    alloc: Global,
-    address: &str,
-    count: u64,
-    out: &mut W,
-) -> Result<(), Stop>
-    ensures { OnOk result (HasServed count (W.contents out.old) (W.contents out.new)) }
-{
-    let Ok(mut events) = Events::with_capacity(alloc, EVENTS) else {
-        return Err(Stop::OutOfMemory);
-    };
-    let Ok(again) = VecDeque::with_capacity(alloc, ROOM) else {
-        return Err(Stop::OutOfMemory);
-    };
-    let Ok(mut connections) = listen(rt, alloc, address, count, again, out) else {
-        return Err(Stop::InOut);
-    };
-    serve_until(&mut connections, &mut events, count, out)?;
-    Ok(())
-}
-
-/// Writes and flushes the last line.
-fn write_last<W: Write>(count: u64, out: &mut W) -> io::Result<()>
-    ensures { OnOk result (WritesOut W.contents out.old out.new (served_line count)) }
-{
-    writeln!(out, "served {count}")?;
-    out.flush()
-}
-
-/// Serves `count` connections at `address`, and writes what was asked and answered. Opens no socket
-/// if `count` is 0.
-fn serve_at<R: Net, W: Write>(
-    rt: &R,
-    alloc: Global,
-    address: &str,
-    count: u64,
-    out: &mut W,
-) -> ServingEnd
-    ensures { IsRun count result (W.contents out.old) (W.contents out.new) }
-{
-    if count > 0 {
-        match serve_all(rt, alloc, address, count, out) {
-            Ok(()) => {}
-            Err(Stop::InOut) => return ServingEnd::InOut,
-            Err(Stop::OutOfMemory) => return ServingEnd::OutOfMemory,
-        }
-    }
-    match write_last(count, out) {
-        Ok(()) => ServingEnd::Served(count),
-        Err(_) => ServingEnd::InOut,
-    }
-}
-
-/// Serves `count` connections at `address`, and writes their transcripts through a buffer.
-pub fn run<R: Net, W: Write + Drop>(
-    rt: &R,
-    alloc: Global,
-    address: &str,
-    count: u64,
-    out: W,
-) -> ServingEnd
-    ensures { (n : ℕ) → result ≡ ServingEnd.Served n → n ≡ count }
-{
-    match BufWriter::new(alloc, out) {
-        Ok(mut out) => serve_at(rt, alloc, address, count, &mut out),
-        Err(_) => ServingEnd::OutOfMemory,
     }
 }

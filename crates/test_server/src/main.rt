@@ -5,16 +5,18 @@
 //! query of a command, or a request that can't be answered, end at most that connection. The server
 //! goes on with the others, unless memory ran out.
 //!
-//! The exit status is 0 if as many connections were served as the command line says, 2 if the
-//! command line is at fault, 3 if listening, accepting a connection or writing the output failed,
-//! and 4 if memory ran out.
+//! The exit status is 0 if as many connections were served as the command line says, or if it says
+//! to end with standard input, and that ended. It is 2 if the command line is at fault, 3 if
+//! listening, accepting a connection or writing the output failed, and 4 if memory ran out.
 //!
-//! Uses test_store, wire_hall and wire_text. Read first: `serving`, and then `connections`.
+//! Uses test_store, wire_hall and wire_text. Read first: `serving`, `connections` and then `run`.
 #![tactic(auto)]
 
 mod choice;
 mod command_line;
 mod connections;
+mod input;
+mod run;
 mod serving;
 mod transcript;
 
@@ -23,7 +25,7 @@ ghost use Rattle.test_server.specs.ExitStatus.{IsStatusFor, IsStatusOf, exit_sta
 
 use choice::{Choice, choose};
 use command_words::{IN_OUT, MEMORY, Program, texts};
-use connections::{ServingEnd, run};
+use run::{ServingEnd, run};
 use std::io;
 use std::process::ExitCode;
 
@@ -63,13 +65,7 @@ fn status_of_words(rt: &HostRuntime, words: &[&str]) -> u8
 fn run_choice(rt: &HostRuntime, choice: Choice<'_>) -> u8
     ensures { IsStatusFor choice.entry result }
 {
-    let end = run(
-        rt,
-        rt.alloc(),
-        choice.address,
-        choice.connections,
-        io::writer(rt),
-    );
+    let end = run(rt, rt.alloc(), choice, io::writer(rt));
     tell(rt, end, choice.address)
 }
 

@@ -1,7 +1,6 @@
 //! Serves the connections of a hall, and writes what they ask and how they end.
 
-ghost use Rattle.std.specs.Prelude.{◌≡◌, ◌+◌, ◌≤◌, [], None, Ok, OnErr, OnOk, Some};
-ghost use Rattle.std.specs.Prelude.{flat_map};
+ghost use Rattle.std.specs.Prelude.{◌≡◌, ◌+◌, [], None, Ok, OnErr, OnOk, Some, flat_map, min};
 ghost use Rattle.slab.specs.Slab.{Updates, get};
 ghost use Rattle.text_writer.specs.{WritesOut};
 ghost use Rattle.wire_hall.specs.{SeatSeen, tells};
@@ -85,7 +84,7 @@ impl<L: Link + Drop, H: Handler + Drop> Serving<L, H> {
         self.hall.len()
     }
 
-    /// Returns how many connections ended.
+    /// Returns how many connections ended, counted up to 2^64 - 1.
     pub fn ended(&self) -> u64
         ensures { result ≡ self.now.ended }
     {
@@ -129,7 +128,8 @@ impl<L: Link + Drop, H: Handler + Drop> Serving<L, H> {
         ensures seats { Updates self.old.hall.seats self.new.hall.seats key None }
         ensures logged { self.new.hall.logged ≡ self.old.hall.logged }
         ensures next { self.new.hall.next ≡ self.old.hall.next }
-        ensures ended { self.new.ended ≤ self.old.ended + 1 }
+        ensures ended { (seat : SeatSeen L) → get self.old.hall.seats key ≡ Some seat
+            → self.new.ended ≡ min (self.old.ended + 1) 18446744073709551615 }
     {
         let number = match self.hall.seat(key) {
             Some(seat) => seat.connection(),

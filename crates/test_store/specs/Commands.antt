@@ -20,14 +20,17 @@ use Rattle.doc_query.specs.{or_error, projected, projection_field}
 use Rattle.doc_update.specs.{UpdatesView, after_deletes, after_updates}
 use Rattle.test_store.specs.Adding.{AddingView, gathered}
 use Rattle.test_store.specs.Answers.{build_pairs, counted_pairs, cursor_answer, dropped_pairs}
-use Rattle.test_store.specs.Answers.{created_pairs, database_listing, databases_pairs, dropped_database_pairs, error_pairs, hello_pairs, inserted_pairs, killed_pairs}
+use Rattle.test_store.specs.Answers.{created_pairs, database_listing, databases_pairs}
+use Rattle.test_store.specs.Answers.{dropped_database_pairs, error_pairs, hello_pairs}
+use Rattle.test_store.specs.Answers.{inserted_pairs, killed_pairs}
 use Rattle.test_store.specs.Answers.{listing, ok_alone, refusal_pairs, updated_pairs}
 use Rattle.test_store.specs.Fields.{asked_size, batch_size, flag_field, id_field, namespace_at}
 use Rattle.test_store.specs.Fields.{text_field}
 use Rattle.test_store.specs.Held.{CollectionView, CursorView, NamespaceView, StoreView, closed_at}
 use Rattle.test_store.specs.Held.{cursor_index, documents_in, id_if_left, index_of_value, is_open}
 use Rattle.test_store.specs.Held.{held_indexes, indexes_in, with_indexes_of}
-use Rattle.test_store.specs.Held.{database_names, has_database, namespace_text, open_at, opened, opened_id, with_documents}
+use Rattle.test_store.specs.Held.{database_names, has_database, namespace_text, open_at, opened}
+use Rattle.test_store.specs.Held.{opened_id, with_documents}
 use Rattle.test_store.specs.Held.{with_left, with_replaced, without_collection, without_database}
 use Rattle.test_store.specs.Indexes.{IndexView, index_listing, with_indexes}
 use Rattle.test_store.specs.Inserted.{brought}

@@ -5,7 +5,8 @@ ghost use Rattle.std.specs.Prelude.{◌≡◌, MatchOption, None, Some};
 ghost use Rattle.bson_elem.specs.{Spells, Tree};
 ghost use Rattle.bson_raw.specs.{Shows, TreeValue, document_bytes};
 ghost use Rattle.test_store.specs.Options.{asks, first_unread, is_aggregate_field, is_count_field};
-ghost use Rattle.test_store.specs.Options.{is_databases_field, is_delete_field, is_find_field, is_general};
+ghost use Rattle.test_store.specs.Options.{is_databases_field, is_delete_field, is_find_field};
+ghost use Rattle.test_store.specs.Options.{is_general};
 ghost use Rattle.test_store.specs.Options.{is_insert_field, is_list_field, is_more_field};
 ghost use Rattle.test_store.specs.Options.{is_unread, is_update_field, reads};
 

@@ -1,7 +1,7 @@
 use Rattle.std.proofs.Common.{◌≡◌, ◌∙◌, sym, Some}
 use Rattle.clap.specs.Words.{found_of, one_text}
 use Rattle.clap.proofs.WalkLemmas.{one_text-rows}
-use Rattle.bsonwire.proofs.ChoiceLemmas.{flag_reads, flag_text}
+use Rattle.command_words.proofs.Lemmas.{flag_reads, flag_text}
 use Rattle.bsonwire.proofs.choice.flag_of.Goals as goal
 
 pub unreachable-requires : goal.unreachable-requires

@@ -1,4 +1,4 @@
-use Rattle.test_server.specs.Serving.{GoesOnServing}
+use Rattle.test_server.specs.Runs.{GoesOnServing}
 use Rattle.test_server.proofs.connections.Connections.take_turns.Given as goal
 
 -- the server served on so far

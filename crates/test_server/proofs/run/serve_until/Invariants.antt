@@ -1,5 +1,5 @@
-use Rattle.test_server.specs.Serving.{GoesOnServing}
-use Rattle.test_server.proofs.connections.serve_until.Given as goal
+use Rattle.test_server.specs.Runs.{GoesOnServing}
+use Rattle.test_server.proofs.run.serve_until.Given as goal
 
 -- the server served on so far
 abbrev pub invariant-loop : goal.invariant-loop

@@ -1,0 +1,228 @@
+//! Runs the server, from its first line to its last.
+
+ghost use Rattle.std.specs.Prelude.{◌≡◌, ◌<◌, IfOk, List, OnOk, Option, min, true, ℕ};
+ghost use Rattle.text_writer.specs.{WritesOut};
+ghost use Rattle.test_server.specs.Runs.{GoesOnServing, HasBegun, HasServed, IsEnough, IsRun};
+ghost use Rattle.test_server.specs.Runs.{ShowsServing};
+ghost use Rattle.test_server.specs.Runs.{listening_line, port_text, served_line};
+
+use crate::choice::Choice;
+use crate::connections::{Connections, ROOM};
+use crate::serving::Stop;
+use mio::Events;
+use mio::net::TcpListener;
+use std::alloc::Global;
+use std::collections::VecDeque;
+use std::fs::File;
+use std::io;
+use std::io::{BufRead, BufWriter, ErrorKind, Input, Write};
+use std::net::{Net, SocketAddr, ToSocketAddrs};
+use std::rt::Files;
+
+/// Why the server ends.
+#[derive(Clone, Copy, Debug, PartialEq, Eq)]
+pub enum ServingEnd {
+    /// This many connections were served.
+    Served(u64),
+    /// Listening, accepting a connection or writing the output failed.
+    InOut,
+    /// Memory ran out.
+    OutOfMemory,
+}
+
+/// The most events that one wait tells.
+const EVENTS: usize = 64;
+
+/// Returns the first address that `address` names.
+fn first_address<R: Net>(rt: &R, address: &str) -> io::Result<SocketAddr> {
+    let mut found = address.to_socket_addrs(rt)?;
+    match found.next() {
+        Some(first) => Ok(first),
+        None => Err(io::Error::from(ErrorKind::InvalidInput)),
+    }
+}
+
+/// Writes the port.
+fn write_port<W: Write>(port: u16, out: &mut W) -> io::Result<()>
+    ensures { OnOk result (WritesOut W.contents out.old out.new (port_text port)) }
+{
+    writeln!(out, "{port}")
+}
+
+/// Writes the port to the file, if one is given.
+fn tell_port<R: Files>(rt: &R, file: Option<&str>, port: u16) -> io::Result<()> {
+    match file {
+        Some(file) => write_port(port, &mut File::create(rt, file)?),
+        None => Ok(()),
+    }
+}
+
+/// Writes and flushes the first line.
+fn write_first<W: Write>(local: SocketAddr, out: &mut W) -> io::Result<()>
+    ensures { OnOk result ((text : List ℕ)
+        × WritesOut W.contents out.old out.new (listening_line text)) }
+{
+    writeln!(out, "listening {local}")?;
+    out.flush()
+}
+
+/// Listens where the words say, and writes to `out` where that is, and the port to its file.
+fn listen<R: Net + Files + Input, W: Write>(
+    rt: &R,
+    alloc: Global,
+    choice: Choice<'_>,
+    again: VecDeque<usize>,
+    out: &mut W,
+) -> io::Result<Connections<R::Reader>>
+    ensures told { OnOk result ((local : List ℕ)
+        × WritesOut W.contents out.old out.new (listening_line local)) }
+    ensures begun { IfOk result (λ c. HasBegun c.serving) }
+{
+    let listener = TcpListener::bind(rt, first_address(rt, choice.address)?)?;
+    let local = listener.local_addr()?;
+    write_first(local, out)?;
+    tell_port(rt, choice.port_file, local.port())?;
+    let input = if choice.until_stdin_closes {
+        Some(rt.reader())
+    } else {
+        None
+    };
+    Connections::new(rt, alloc, listener, input, choice.connections, again)
+}
+
+/// Serves connections until as many of them ended as the words ask for, or until standard input
+/// ends, if they say so.
+fn serve_until<I: BufRead + Drop, W: Write>(
+    connections: &mut Connections<I>,
+    events: &mut Events<Global>,
+    choice: Choice<'_>,
+    out: &mut W,
+) -> Result<(), Stop>
+    ensures enough { OnOk result (IsEnough choice.entry connections.new.serving.ended) }
+    ensures served { OnOk result (GoesOnServing connections.old.serving connections.new.serving
+        (W.contents out.old) (W.contents out.new)) }
+{
+    for _ in 0..u64::MAX {
+        if connections.serving.ended() >= choice.connections {
+            return Ok(());
+        }
+        if choice.until_stdin_closes && connections.has_input_ended() {
+            return Ok(());
+        }
+        connections.serve_some(events, out)?;
+    }
+    // No server serves some that often.
+    Err(Stop::InOut)
+}
+
+/// Serves connections, and writes nothing.
+fn serve_quietly<I: BufRead + Drop>(
+    connections: &mut Connections<I>,
+    events: &mut Events<Global>,
+    choice: Choice<'_>,
+) -> Result<(), Stop>
+    ensures enough { OnOk result (IsEnough choice.entry connections.new.serving.ended) }
+    ensures served { (a : Option (List ℕ)) → OnOk result (ShowsServing true
+        connections.old.serving connections.new.serving a a) }
+{
+    serve_until(connections, events, choice, &mut io::sink())
+}
+
+/// Serves connections, and writes what was asked and answered, unless the words ask for quiet.
+fn serve_shown<I: BufRead + Drop, W: Write>(
+    connections: &mut Connections<I>,
+    events: &mut Events<Global>,
+    choice: Choice<'_>,
+    out: &mut W,
+) -> Result<(), Stop>
+    ensures enough { OnOk result (IsEnough choice.entry connections.new.serving.ended) }
+    ensures served { OnOk result (ShowsServing choice.entry.quiet
+        connections.old.serving connections.new.serving
+        (W.contents out.old) (W.contents out.new)) }
+{
+    if choice.quiet {
+        serve_quietly(connections, events, choice)
+    } else {
+        serve_until(connections, events, choice, out)
+    }
+}
+
+/// Listens where the words say, and writes to `out` where that is, and serves connections until
+/// there were enough. Returns how many ended, and no more than the words ask for.
+fn serve_all<R: Net + Files + Input, W: Write>(
+    rt: &R,
+    alloc: Global,
+    choice: Choice<'_>,
+    out: &mut W,
+) -> Result<u64, Stop>
+    ensures { IfOk result (λ n. HasServed choice.entry n
+        (W.contents out.old) (W.contents out.new)) }
+{
+    let Ok(mut events) = Events::with_capacity(alloc, EVENTS) else {
+        return Err(Stop::OutOfMemory);
+    };
+    let Ok(again) = VecDeque::with_capacity(alloc, ROOM) else {
+        return Err(Stop::OutOfMemory);
+    };
+    let Ok(mut connections) = listen(rt, alloc, choice, again, out) else {
+        return Err(Stop::InOut);
+    };
+    serve_shown(&mut connections, &mut events, choice, out)?;
+    Ok(told_count(connections.serving.ended(), choice.connections))
+}
+
+/// Returns how many of the connections that ended are told: no more than were asked for, which is a
+/// number of 64 bits.
+fn told_count(ended: u64, asked: u64) -> u64
+    ensures least { result ≡ min ended asked }
+    ensures range { asked < 18446744073709551616 }
+{
+    ended.min(asked)
+}
+
+/// Writes and flushes the last line.
+fn write_last<W: Write>(count: u64, out: &mut W) -> io::Result<()>
+    ensures { OnOk result (WritesOut W.contents out.old out.new (served_line count)) }
+{
+    writeln!(out, "served {count}")?;
+    out.flush()
+}
+
+/// Serves what the words ask for, and writes what was asked and answered, unless they ask for
+/// quiet. Opens no socket if they ask for 0 connections.
+fn serve_at<R: Net + Files + Input, W: Write>(
+    rt: &R,
+    alloc: Global,
+    choice: Choice<'_>,
+    out: &mut W,
+) -> ServingEnd
+    ensures { IsRun choice.entry result (W.contents out.old) (W.contents out.new) }
+{
+    let mut count = 0;
+    if choice.connections > 0 {
+        match serve_all(rt, alloc, choice, out) {
+            Ok(served) => count = served,
+            Err(Stop::InOut) => return ServingEnd::InOut,
+            Err(Stop::OutOfMemory) => return ServingEnd::OutOfMemory,
+        }
+    }
+    match write_last(count, out) {
+        Ok(()) => ServingEnd::Served(count),
+        Err(_) => ServingEnd::InOut,
+    }
+}
+
+/// Serves what the words ask for, and writes its transcript through a buffer.
+pub fn run<R: Net + Files + Input, W: Write + Drop>(
+    rt: &R,
+    alloc: Global,
+    choice: Choice<'_>,
+    out: W,
+) -> ServingEnd
+    ensures { (n : ℕ) → result ≡ ServingEnd.Served n → IsEnough choice.entry n }
+{
+    match BufWriter::new(alloc, out) {
+        Ok(mut out) => serve_at(rt, alloc, choice, &mut out),
+        Err(_) => ServingEnd::OutOfMemory,
+    }
+}
