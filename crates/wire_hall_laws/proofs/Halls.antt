@@ -1,6 +1,5 @@
 -- What is done with a hall is what an owner of servers does: act after act.
-use Rattle.std.proofs.Common.{◌≡◌, ℕ, zero, suc, ◌⊎◌, inl, inr, Bool, List, [], ◌∷◌, ◌++◌, length, map, Option, None, Some, ap, arith, refl, sym, subst, ◌∙◌, append_assoc, append-nil}
-use Rattle.std.specs.Prelude.{◌==◌, if◌then◌else◌}
+use Rattle.std.proofs.Common.{◌≡◌, ℕ, zero, suc, ◌⊎◌, inl, inr, List, [], ◌∷◌, ◌++◌, length, map, Option, None, Some, ap, arith, refl, sym, subst, ◌∙◌, append_assoc, append-nil}
 use Rattle.std.proofs.lemmas.Option.{none-some, same_Some}
 use Rattle.slab.specs.Slab.{Slab, Updates, get}
 use Rattle.wire_peer.specs.{Asked, Does, LogEntry, RunOf, ServerView, Stops, log_of, new_server}
@@ -10,47 +9,15 @@ use Rattle.wire_hall.specs.Halls.{Acts, Closes, Forgets, IsActed, IsForgotten, I
 use Rattle.wire_hall.proofs.Lemmas.{none_served, turns_serve}
 use Rattle.wire_model.specs.{AreContents}
 use Rattle.wire_model.specs.Hostile.{entries_of}
-use Rattle.wire_model.proofs.Lemmas.{get-push_cases, get-push_new, get-push_old, is_elsewhere, is_here, length-push, log_contents, same_or_not}
+use Rattle.wire_model.proofs.Lemmas.{get-push_new, length-push, log_contents, same_or_not}
 use Rattle.wire_channels.specs.{Made, ServerAct, ServerEnd, ServerEnds, ServersGrow, ServersRun, Turn, among, at_server, bytes_sent_down, bytes_taken_up, deeds_of, first_servers_of, opened, server_acts_at, server_at, server_set}
 use Rattle.wire_channels.specs.Deeds as owners
 use Rattle.wire_channels.proofs.Lemmas.{grows_on, run_among, run_grows, sent_down_on, server_set-other, server_set-same, taken_up_on}
 use Rattle.wire_hall_laws.specs.Owning.{HasServer, OwnsServers, all_put_out, link_at, links_in, none_came, none_given}
 use Rattle.wire_hall_laws.proofs.Acts.{Fits, Owned, acts_owned, end_of, same_fits}
+use Rattle.wire_hall_laws.proofs.Places.{at_cases, at_one, at_push, found_or_not, none_past, not_past, one_far, one_here}
 use Rattle.wire_hall_laws.proofs.Told.{contents_behind, contents_front}
 use Rattle.wire_hall_laws.proofs.Counted.{acts_with_far, acts_with_here, deeds_on, link-push, many_set, no_link, no_turn, none_told, of_turns-push, one_link, seat_turns-push, these_told, turn_far, turn_here, with_acts}
-
--- the server of a connection behind one more
-at_push : (ss : List ServerView) (d : ℕ) (s x : ServerView) → server_at ss d ≡ Some s → server_at (ss ++ x ∷ []) d ≡ Some s
-at_push ss zero s x at = absurd (none-some s at)
-at_push ss (suc i) s x at = get-push_old ss i s x at
-
-at_cases : (ss : List ServerView) (d : ℕ) (s x : ServerView) → server_at (ss ++ x ∷ []) d ≡ Some s
-    → (server_at ss d ≡ Some s) ⊎ ((d ≡ suc (length ss)) × (x ≡ s))
-at_cases ss zero s x at = absurd (none-some s at)
-at_cases ss (suc i) s x at = elim (get-push_cases ss i s x at) [ inl old ↦ inl old | inr new ↦ inr (ap suc new.0, new.1) ]
-
-none_past : (ss : List ServerView) → server_at ss (suc (length ss)) ≡ None
-none_past [] = refl
-none_past (s ∷ ss) = none_past ss
-
--- the server of this connection is there, so that of the next one is another
-not_past : (ss : List ServerView) (d : ℕ) (s : ServerView) → server_at ss d ≡ Some s → d ≡ suc (length ss) → ⊥
-not_past ss d s at is = none-some s (sym (subst (λ (k : ℕ). server_at ss k ≡ None) (sym is) (none_past ss)) ∙ at)
-
--- a server at a connection, or none
-found_or_not : (o : Option ServerView) → ((s : ServerView) × (o ≡ Some s)) ⊎ (o ≡ None)
-found_or_not None = inr refl
-found_or_not (Some s) = inl (s, refl)
-
-module _ {X : Type 0} where
-  abbrev at_one : (ℕ → Option X) → ℕ → X → ℕ → Option X
-  at_one f c x d = if d == c then Some x else f d
-
-  one_here : (f : ℕ → Option X) (c d : ℕ) (x : X) → d ≡ c → at_one f c x d ≡ Some x
-  one_here f c d x is = ap (λ (b : Bool). if b then Some x else f d) (is_here c d is)
-
-  one_far : (f : ℕ → Option X) (c d : ℕ) (x : X) → (d ≡ c → ⊥) → at_one f c x d ≡ f d
-  one_far f c d x n = ap (λ (b : Bool). if b then Some x else f d) (is_elsewhere c d n)
 
 abbrev number_of : {L : Type 0} → SeatSeen L → ℕ
 number_of seat = seat.front.server.connection

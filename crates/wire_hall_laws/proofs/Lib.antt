@@ -4,4 +4,6 @@ pub mod Made
 pub mod Told
 pub mod Acts
 pub mod Counted
+pub mod Places
 pub mod Halls
+pub mod Beside

@@ -1,10 +1,13 @@
-//! The law of halls. The contract of the function is the law.
+//! The laws of halls. The contract of a function is the law.
 
-ghost use Rattle.std.specs.Prelude.{◌≡◌, List, ℕ};
-ghost use Rattle.wire_channels.specs.{Made};
+ghost use Rattle.std.specs.Prelude.{◌≡◌, Bool, List, [], false, ℕ};
+ghost use Rattle.wire_channels.specs.{AreMade, Arrive, ClientEnd, ClientRun, Made, PairsKnow};
+ghost use Rattle.wire_channels.specs.{Turn, acts_at, deeds_beside, deeds_of, first_end, opened_in};
+ghost use Rattle.wire_channels.specs.{server_turns};
 ghost use Rattle.wire_hall.specs.{HallAct, HallRun, HallSeen, IsNewHall, tells};
 ghost use Rattle.wire_hall_laws.specs.Owning.{OwnsServers};
 
+use wire_channels::laws::{servers_may_come, strangers_disturb_none};
 use wire_peer::Handler;
 use wire_stream::Link;
 
@@ -17,3 +20,24 @@ pub fn halls_own_servers<L: Link, H: Handler>()
         → HallRun H.does H.stops (tells L.received L.sent L.ends L.waits) old acts new
         → OwnsServers H.does H.stops (tells L.received L.sent L.ends L.waits) made first acts new }
 {}
+
+/// Proves that the clients of a hall know what their calls got, whoever else is connected.
+///
+/// Strangers are connections whose client ends may be anything. Where the acts of the other clients
+/// can be put among what the hall did with its servers, in one order in which bytes arrive in
+/// order, the records of these clients keep the headline, over the hall's log without the entries
+/// of strangers.
+pub fn clients_know<L: Link, H: Handler>()
+    ensures { (made : ℕ → Made) (first : H) (acts : List (HallAct L)) (hall : HallSeen H L)
+        (owned : OwnsServers H.does H.stops (tells L.received L.sent L.ends L.waits) made first
+        acts hall) (strange : ℕ → Bool) (turns : List Turn) (ends : ℕ → ClientEnd)
+        → AreMade made → server_turns turns ≡ server_turns owned.turns
+        → ((c : ℕ) → strange c ≡ false
+        → ClientRun c (first_end 48000000 made c) (acts_at c (deeds_of turns)) (ends c))
+        → Arrive (λ _. []) (λ _. []) (deeds_beside strange (deeds_of turns))
+        → PairsKnow H.does H.stops strange (opened_in turns) first (deeds_of turns) ends
+        owned.servers }
+{
+    servers_may_come::<H>();
+    strangers_disturb_none::<H>();
+}
