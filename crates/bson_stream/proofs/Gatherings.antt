@@ -148,7 +148,7 @@ errs_same f g e = cc
 
 -- ---- pieces
 
-abbrev Piece : Type 0
+abbrev pub Piece : Type 0
 Piece = Bor (List ℕ)
 
 -- the bytes of the pieces, joined
@@ -156,7 +156,7 @@ abbrev pub told : List Piece → List ℕ
 told pieces = flat_map (λ piece. piece.now) pieces
 
 -- the pieces before one, and it
-up_to : (pieces : List Piece) (i : ℕ) (d : Piece) → i < length pieces → told (take (i + 1) pieces) ≡ told (take i pieces) ++ (get_or pieces i d).now
+pub up_to : (pieces : List Piece) (i : ℕ) (d : Piece) → i < length pieces → told (take (i + 1) pieces) ≡ told (take i pieces) ++ (get_or pieces i d).now
 up_to pieces i d lt = ap told (take_more pieces i d lt) ∙ flat_map-append (λ piece. piece.now) (take i pieces) (get_or pieces i d ∷ []) ∙ ap (λ (q : List ℕ). told (take i pieces) ++ q) (append-nil (get_or pieces i d).now)
 
 -- those before it and some of it, the rest of it and those behind it
@@ -199,7 +199,7 @@ none_held : (held : List ℕ) → (held ≢ [] → ⊥) → held ≡ []
 none_held [] some = refl
 none_held (b ∷ held) some = absurd (some (λ e. absurd cc))
 
-told_all : (pieces : List Piece) (i : ℕ) → length pieces ≤ i → told (take i pieces) ≡ told pieces
+pub told_all : (pieces : List Piece) (i : ℕ) → length pieces ≤ i → told (take i pieces) ≡ told pieces
 told_all pieces i le = ap told (take_all i pieces le)
 
 -- the bytes end between documents

@@ -12,7 +12,7 @@ use bson_elem::{BsonFault, MAX_LEN, little_u32};
 use bson_raw::RawDocument;
 
 /// Returns true if a document can have `n` bytes.
-fn is_length(n: u32) -> bool
+pub(crate) fn is_length(n: u32) -> bool
     ensures { IsTrue result ↔ IsLength n }
 {
     n >= 5 && n <= MAX_LEN as u32

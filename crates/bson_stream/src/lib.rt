@@ -7,16 +7,28 @@
 //! can change it. However the bytes are cut, they give the same documents and the same fault
 //! (`read_pieces`).
 //!
+//! A `Salvager` goes on behind a fault. In bytes of which some are damaged it finds the documents
+//! and the gaps of one definition (`specs/Salvage.antt`), however the bytes are cut
+//! (`salvage_pieces`).
+//!
 //! Stands on bson_raw. engines stands on it. Read first: `reader`, and then `specs/Readers.antt`.
 #![tactic(auto)]
 
 mod document_buf;
+mod gap;
 mod gather;
+pub mod laws;
 mod pieces;
 mod reader;
 mod reader_state;
+mod salvage;
+mod salvager;
+mod seek;
 
 pub use document_buf::DocumentBuf;
+pub use gap::{Find, Gap, GapFault, GapStart};
 pub use pieces::{PiecesRead, read_pieces};
 pub use reader::DocumentReader;
 pub use reader_state::{Fed, ReadRefusal, ReaderState};
+pub use salvage::{SalvagedPart, salvage_pieces};
+pub use salvager::Salvager;

@@ -1,9 +1,13 @@
 //! Tests of what stands after a refused allocation. They pass with each of their allocations
 //! refused in turn. No other one is refused then, so what is asked for again is granted.
 
+use crate::salvages::{WRONG_BOOLEAN, are_told};
 use crate::streams::{EMPTY, LIMIT, OTHERS, TRUTH};
 use bson_raw::RawDocument;
-use bson_stream::{DocumentBuf, DocumentReader, Fed, ReadRefusal, ReaderState, read_pieces};
+use bson_stream::{
+    DocumentBuf, DocumentReader, Fed, Find, ReadRefusal, ReaderState, Salvager, read_pieces,
+    salvage_pieces,
+};
 use std::alloc::Global;
 
 /// Returns true if the reader takes all of the piece and needs more, or is refused memory and is as
@@ -69,6 +73,64 @@ fn reads_at_last(alloc: Global) -> bool {
 #[test]
 fn pieces_of_documents_can_be_read_again(rt: HostRuntime) {
     assert!(rt; reads_at_last(rt.alloc()));
+}
+
+/// Returns true if the salvager takes the piece, or is refused memory and is as before; it takes the
+/// piece then, when it is fed again.
+fn is_taken(salvager: &mut Salvager, piece: &[u8], room: usize) -> bool {
+    match salvager.feed(piece) {
+        Ok(()) => true,
+        Err(refusal) => {
+            refusal == ReadRefusal::OutOfMemory
+                && salvager.room() == room
+                && salvager.feed(piece) == Ok(())
+        }
+    }
+}
+
+/// Returns true if a salvager takes two pieces, the memory growing with each, and finds a document.
+fn salvager_takes_two(alloc: Global) -> bool {
+    let mut salvager = Salvager::new(alloc, 64);
+    let first = is_taken(&mut salvager, b"\x05\0\0", 0);
+    let room = salvager.room();
+    let second = is_taken(&mut salvager, &[0; 200], room);
+    let found = Find::Document {
+        len: 5,
+        canonical: true,
+    };
+    first && second && salvager.find(false) == found
+}
+
+#[test]
+fn a_salvager_can_be_fed_again(rt: HostRuntime) {
+    assert!(rt; salvager_takes_two(rt.alloc()));
+}
+
+/// Returns true if the parts of the stream are found in it, cut in two.
+fn salvages_again(alloc: Global, pieces: &[&[u8]]) -> bool {
+    match salvage_pieces(alloc, WRONG_BOOLEAN.limit.min(64), pieces) {
+        Ok(found) => are_told(&found, &WRONG_BOOLEAN),
+        Err(_) => false,
+    }
+}
+
+/// Returns true if they are found, or memory is refused and they are found the next time.
+fn salvages_at_last(alloc: Global) -> bool {
+    let Some((front, rest)) = WRONG_BOOLEAN.bytes.split_at_checked(20) else {
+        return false;
+    };
+    let pieces: [&[u8]; 2] = [front, rest];
+    match salvage_pieces(alloc, WRONG_BOOLEAN.limit.min(64), pieces.as_slice()) {
+        Ok(found) => are_told(&found, &WRONG_BOOLEAN),
+        Err(refusal) => {
+            refusal == ReadRefusal::OutOfMemory && salvages_again(alloc, pieces.as_slice())
+        }
+    }
+}
+
+#[test]
+fn pieces_of_a_damaged_stream_can_be_salvaged_again(rt: HostRuntime) {
+    assert!(rt; salvages_at_last(rt.alloc()));
 }
 
 /// Returns true if the copy lends these bytes.

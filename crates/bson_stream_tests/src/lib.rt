@@ -9,4 +9,6 @@ mod document_reader_refusals;
 #[cfg(test)]
 mod document_readers;
 #[cfg(test)]
+mod salvages;
+#[cfg(test)]
 mod streams;

@@ -172,7 +172,7 @@ fn streams_are_read_however_they_are_cut(rt: HostRuntime) {
 }
 
 /// Returns the bytes as pieces of `size` bytes each, and what is left.
-fn cut_into(alloc: Global, bytes: &[u8], size: usize) -> Option<Vec<&[u8]>> {
+pub(crate) fn cut_into(alloc: Global, bytes: &[u8], size: usize) -> Option<Vec<&[u8]>> {
     let mut pieces = Vec::new(alloc);
     let mut rest = bytes;
     for _ in 0..bytes.len() {
