@@ -7,6 +7,7 @@
  *     check messages [FILE [LIMIT]]    messages back to back
  *     check front [FILE [LIMIT]]       what stands in front, where more bytes may follow
  *     check parts [FILE [LIMIT]]       the numbers of exactly one message
+ *     check write [FILE [LIMIT]]       the same message, written anew, if its body comes first
  *     check dump [FILE]                the text of exactly one document
  *     check json [FILE]                the same as canonical Extended JSON
  *     check relaxed [FILE]             the same as relaxed Extended JSON
@@ -130,6 +131,24 @@ static int check_parts(const uint8_t *bytes, size_t length, uint32_t limit)
     return write_message_fault(parts.fault, parts.document_fault);
 }
 
+/* Writes a message anew, whose sections behind the body are the sequences. */
+static int write_message(const uint8_t *bytes, size_t length, uint32_t limit)
+{
+    struct lughemra_message_parts parts = lughemra_message_parts(bytes, length, limit);
+    struct lughemra_message_numbers numbers = {parts.id, parts.response_to, parts.flag_bits};
+    struct lughemra_section body = lughemra_section(bytes, length, parts.sections);
+    uint8_t room[1024];
+    struct lughemra_written written;
+    if (parts.fault.number != 0)
+        return write_message_fault(parts.fault, parts.document_fault);
+    written = lughemra_write_message(&numbers, bytes + body.documents.offset, body.documents.length, bytes + body.next,
+                                     length - body.next, limit, room, sizeof room);
+    if (written.fault.number == LUGHEMRA_NO_MEMORY)
+        fail("memory ran out");
+    fwrite(room, 1, written.length, stdout);
+    return write_message_fault(written.fault, written.document_fault);
+}
+
 /* Writes the text or the form that is asked for into the room. */
 static struct lughemra_text text_into(const char *word, const uint8_t *bytes, size_t length, uint8_t *room, size_t size)
 {
@@ -181,6 +200,8 @@ int main(int count, char **words)
         status = check_front(bytes, length, limit);
     else if (strcmp(word, "parts") == 0)
         status = check_parts(bytes, length, limit);
+    else if (strcmp(word, "write") == 0)
+        status = write_message(bytes, length, limit);
     else if (strcmp(word, "dump") == 0 || strcmp(word, "json") == 0 || strcmp(word, "relaxed") == 0
              || strcmp(word, "canonical") == 0)
         status = write_text(word, bytes, length);

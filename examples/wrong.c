@@ -232,6 +232,36 @@ static void try_alignments(void)
     }
 }
 
+/* Writes a message into rooms of each length, and with what no message has. */
+static void try_writing(void)
+{
+    const struct lughemra_message_numbers numbers = {1, 2, 0}, noise = {-1, -1, UINT32_MAX};
+    uint8_t room[64], before[64];
+    size_t end = 0, far = SIZE_MAX;
+    memset(room, 0xee, sizeof room);
+    memcpy(before, room, sizeof room);
+    for (size_t length = 0; length <= 44; length++) {
+        struct lughemra_written written = lughemra_write_message(&numbers, document, sizeof document, NULL, 0, 100, room, length);
+        bool has_room = length >= 44;
+        expect(written.fault.number == 0 && written.length == 44 && written.written == has_room, "a message in a room");
+        expect(memcmp(room + (has_room ? 44 : 0), before, sizeof room - (has_room ? 44 : 0)) == 0, "what is behind a message stays");
+    }
+    expect(lughemra_check_message(room, 44, 44).fault.number == 0, "what was written is a message");
+    expect(lughemra_write_message(NULL, document, sizeof document, NULL, 9, 44, NULL, 99).length == 44, "null numbers and room");
+    expect(lughemra_write_message(&numbers, NULL, 5, NULL, 0, 100, room, 64).document_fault.number == LUGHEMRA_TRUNCATED, "no body");
+    expect(lughemra_write_message(&numbers, document, 23, NULL, 0, 43, room, 64).fault.number == LUGHEMRA_TOO_LARGE, "a limit");
+    expect(lughemra_write_message(&noise, document, 23, NULL, 0, 100, room, 64).fault.number == LUGHEMRA_MSG_FLAGS, "noise as flags");
+    expect(lughemra_write_message(&numbers, document, 23, NULL, 0, UINT32_MAX, room, 64).fault.number
+           == LUGHEMRA_LIMIT_TOO_LARGE, "a limit too large");
+    expect(lughemra_write_message(&numbers, document, 23, document, 23, 100, room, 64).fault.number
+           == LUGHEMRA_MSG_SECTION_KIND, "sequences that aren't any");
+    expect(lughemra_append_sequence(room, sizeof room, NULL, "q", 1, NULL, 0).refusal == LUGHEMRA_OUT_OF_RANGE, "no end");
+    expect(lughemra_append_sequence(room, sizeof room, &far, "q", 1, NULL, 0).refusal == LUGHEMRA_OUT_OF_RANGE, "an end past the room");
+    expect(lughemra_append_sequence(room, 6, &end, "q", 1, NULL, 9).wanted == 7 && end == 0, "a room too short for a sequence");
+    expect(lughemra_append_sequence(room, 64, &end, "\377", 1, NULL, 0).refusal == LUGHEMRA_BAD_NAME && end == 0, "no name");
+    expect(lughemra_append_sequence(room, 64, &end, NULL, 3, NULL, 0).refusal == 0 && end == 6, "an empty name and no documents");
+}
+
 int main(void)
 {
     try_null();
@@ -242,6 +272,7 @@ int main(void)
     try_sections();
     try_rooms();
     try_builders();
+    try_writing();
     try_alignments();
     if (!failed)
         printf("ok\n");

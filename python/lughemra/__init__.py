@@ -1,4 +1,4 @@
-"""Reads and writes BSON 1.1 documents, and reads messages of OP_MSG, over the C library of Lughemra, in which all bytes are checked and read by
+"""Reads and writes BSON 1.1 documents and messages of OP_MSG, over the C library of Lughemra, in which all bytes are checked and read by
 functions that are proved to meet their contracts.
 
     >>> import lughemra
@@ -30,7 +30,7 @@ from .values import (
     Timestamp,
     Undefined,
 )
-from .writer import encode
+from .writer import encode, encode_message
 
 __version__ = "0.1.0"
 
@@ -71,6 +71,7 @@ __all__ = [
     "check_messages",
     "documents",
     "encode",
+    "encode_message",
     "is_canonical",
     "walk_documents",
 ]

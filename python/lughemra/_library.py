@@ -25,7 +25,8 @@ VARIABLE = "LUGHEMRA_LIBRARY"
 
 # The greatest limit on a message's length.
 MAX_LIMIT = 48_000_000
-# The faults of what isn't wrong with the bytes: there is no memory, or a canonical form would be longer than a document may be.
+# The faults of what isn't wrong with the bytes: there is no memory, or a canonical form would be longer than a document may be, or
+# a message than its limit.
 NO_MEMORY = 254
 TOO_LARGE = 253
 
@@ -265,6 +266,30 @@ class Built(ctypes.Structure):
     wanted: int
 
 
+class MessageNumbers(ctypes.Structure):
+    """Lays out struct lughemra_message_numbers."""
+
+    _fields_ = [("id", c_int32), ("response_to", c_int32), ("flag_bits", c_uint32)]
+    id: int
+    response_to: int
+    flag_bits: int
+
+
+class Written(ctypes.Structure):
+    """Lays out struct lughemra_written."""
+
+    _fields_ = [
+        ("fault", FaultStruct),
+        ("document_fault", FaultStruct),
+        ("length", c_size_t),
+        ("written", c_bool),
+    ]
+    fault: FaultStruct
+    document_fault: FaultStruct
+    length: int
+    written: bool
+
+
 # Each function of the library, with what it returns.
 FUNCTIONS: dict[str, Optional[type]] = {
     "check_document": FaultStruct,
@@ -290,6 +315,8 @@ FUNCTIONS: dict[str, Optional[type]] = {
     "begin": Built,
     "end": Built,
     "finish": Built,
+    "append_sequence": Built,
+    "write_message": Written,
 }
 
 

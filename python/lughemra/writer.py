@@ -1,4 +1,4 @@
-"""Writes documents: pair by pair, by the library's builder, in a room that grows as it is told."""
+"""Writes documents, pair by pair, by the library's builder, in a room that grows as it is told; and messages."""
 
 from __future__ import annotations
 
@@ -10,8 +10,10 @@ from typing import Any, Callable
 
 from . import _library as lib
 
-from .errors import EncodeError
+from .checks import check
+from .errors import DocumentError, EncodeError, MessageError
 from .leaves import EPOCH
+from .message import MAX_LIMIT, Flags
 from .values import (
     Binary,
     Code,
@@ -140,3 +142,64 @@ def encode(pairs: Mapping[str, Any]) -> bytes:
     return bytes(room.held[:length])
 
 
+def _document(given: Any) -> bytes:
+    """Returns the bytes of a document: those of a mapping, or those that are given."""
+    return encode(given) if isinstance(given, Mapping) else bytes(given)
+
+
+def _sequences(given: Iterable[tuple[str, Iterable[Any]]]) -> bytes:
+    """Returns the sections of document sequences, one behind the other."""
+    room, end = _Room(), ctypes.c_size_t(0)
+    for identifier, documents in given:
+        name, content = identifier.encode(), [_document(it) for it in documents]
+        for it in content:
+            check(it)
+        joined = b"".join(content)
+        sizes = lib.size(len(name)), lib.size(len(joined))
+        room.build(lib.short.append_sequence, ctypes.byref(end), name, sizes[0], joined, sizes[1])
+    return bytes(room.held[: end.value])
+
+
+def encode_message(
+    body: Any,
+    sequences: Iterable[tuple[str, Iterable[Any]]] = (),
+    *,
+    request_id: int = 0,
+    response_to: int = 0,
+    flags: int = Flags(0),
+    limit: int = MAX_LIMIT,
+) -> bytes:
+    """Returns the bytes of a message of at most `limit` bytes.
+
+    The body, and each document of a sequence, is a mapping, as for `encode`, or the bytes of a document. A sequence is its
+    identifier and its documents, as a `DocumentSequence` is. Raises MessageError for the first fault that the message would
+    have, DocumentError where a document of a sequence isn't one, and EncodeError for what can't be spelled: BadName for an
+    identifier, TooLarge where the message has more bytes than the limit.
+    """
+    if not 0 <= limit <= MAX_LIMIT:
+        raise ValueError(f"the limit is {limit}, and isn't one of 0 to {MAX_LIMIT}")
+    for number in (request_id, response_to):
+        if not -(1 << 31) <= number < 1 << 31:
+            raise OverflowError(f"{number} is no int32")
+    content, sections = _document(body), _sequences(sequences)
+    room = bytearray(21 + len(content) + len(sections))
+    numbers = lib.MessageNumbers(request_id, response_to, int(flags) & 0xFFFF_FFFF)
+    told = lib.long.write_message(
+        ctypes.byref(numbers),
+        content,
+        lib.size(len(content)),
+        sections,
+        lib.size(len(sections)),
+        lib.limit_of(limit),
+        ctypes.byref(ctypes.c_char.from_buffer(room)),
+        lib.size(len(room)),
+    )
+    fault, inside = told.fault, told.document_fault
+    if fault.number == lib.NO_MEMORY:
+        raise MemoryError
+    if fault.number == lib.TOO_LARGE:
+        raise EncodeError(lib.TOO_LARGE, f"the message has more than {limit} bytes")
+    if fault.number:
+        document = DocumentError(inside.number, inside.offset) if inside.number else None
+        raise MessageError(fault.number, fault.offset, document=document)
+    return bytes(room)

@@ -34,6 +34,8 @@ STRUCTS = {
     "builder": _library.Builder,
     "value": _library.Numbers,
     "built": _library.Built,
+    "message_numbers": _library.MessageNumbers,
+    "written": _library.Written,
 }
 # Fields that have another name here.
 RENAMED = {

@@ -1,4 +1,5 @@
-"""Tests what `encode` writes: each kind by its row, documents in documents, and what BSON can't spell."""
+"""Tests what `encode` and `encode_message` write: each kind by its row, documents in documents, messages by their layout, and what
+isn't spelled."""
 
 import datetime
 
@@ -6,7 +7,7 @@ import pytest
 from rows import KINDS, document, document_of, element, string
 
 import lughemra
-from lughemra import Document, EncodeError, Kind, encode
+from lughemra import Document, DocumentError, EncodeError, Flags, Kind, Message, MessageError, encode, encode_message
 
 WRITTEN = [row for row in KINDS if row[0] != Kind.CODE_WITH_SCOPE]
 
@@ -69,3 +70,68 @@ def test_what_is_no_value_is_refused():
     with pytest.raises(TypeError):
         encode({"s": {1, 2}})
     assert Document(encode(deep(200))).to_dict() == deep(200)
+
+
+def number(value):
+    return value.to_bytes(4, "little", signed=True)
+
+
+def message(body, sequences=b"", request_id=0, response_to=0, flags=0):
+    """Spells a message: header, flagBits, the body, and sections of kind 1."""
+    sections = b"\0" + body + sequences
+    return b"".join(map(number, (20 + len(sections), request_id, response_to, 2013, flags))) + sections
+
+
+def sequence(identifier, *documents):
+    """Spells a section of kind 1."""
+    content = identifier + b"\0" + b"".join(documents)
+    return b"\1" + number(4 + len(content)) + content
+
+
+def test_a_message_is_laid_out_as_the_manual_says():
+    one, two = document(element(0x10, "n", number(1))), document()
+    assert encode_message({}) == message(document())
+    numbers = {"request_id": -2, "response_to": 2**31 - 1, "flags": Flags.MORE_TO_COME | Flags.EXHAUST_ALLOWED}
+    wanted = message(one, sequence(b"a", one, two) + sequence(b""), -2, 2**31 - 1, 0x10002)
+    assert encode_message({"n": 1}, [("a", [{"n": 1}, two]), ("", [])], **numbers) == wanted
+    assert encode_message(one, [("a", [one, Document(two)]), ("", ())], **numbers) == wanted
+
+
+def test_a_message_that_was_read_is_written_again():
+    data = encode_message({"insert": "c"}, [("documents", [{"n": k} for k in range(300)])], request_id=5)
+    read = Message(data)
+    assert encode_message(read.body, read.sequences, request_id=read.header.request_id, flags=read.flags) == data
+
+
+def test_what_no_message_carries_is_refused():
+    with pytest.raises(MessageError) as refused:
+        encode_message(b"\5\0\0\0")
+    assert (refused.value.name, refused.value.offset, refused.value.document.name) == ("Document", 21, "Length")
+    with pytest.raises(MessageError) as refused:
+        encode_message(document(element(0x0A, "a", b""), element(0x0A, "a", b"")))
+    assert (refused.value.name, refused.value.offset) == ("RepeatedField", 20)
+    with pytest.raises(MessageError) as refused:
+        encode_message({"docs": None}, [("docs", [])])
+    assert (refused.value.name, refused.value.offset) == ("SequenceInBody", 21 + len(encode({"docs": None})))
+    for bits in (1, 4, 1 << 17, 1 << 31, -1):
+        with pytest.raises(MessageError) as refused:
+            encode_message({}, flags=bits)
+        assert (refused.value.name, refused.value.offset) == ("Flags", 16)
+    with pytest.raises(DocumentError):
+        encode_message({}, [("docs", [b"\5\0\0\0\1"])])
+    with pytest.raises(EncodeError) as unnamed:
+        encode_message({}, [("a\0b", [])])
+    assert unnamed.value.name == "BadName"
+
+
+def test_a_message_keeps_its_limit():
+    assert len(encode_message({}, limit=26)) == 26
+    with pytest.raises(EncodeError) as refused:
+        encode_message({}, limit=25)
+    assert refused.value.name == "TooLarge"
+    for arguments in ({"limit": lughemra.MAX_LIMIT + 1}, {"limit": -1}):
+        with pytest.raises(ValueError):
+            encode_message({}, **arguments)
+    for arguments in ({"request_id": 2**31}, {"response_to": -(2**31) - 1}):
+        with pytest.raises(OverflowError):
+            encode_message({}, **arguments)

@@ -3,3 +3,4 @@ pub mod Places
 pub mod Trees
 pub mod Building
 pub mod Nesting
+pub mod Sequences

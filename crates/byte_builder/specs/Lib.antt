@@ -5,3 +5,4 @@ pub mod Placing
 pub mod Builders
 pub mod Appends
 pub mod Nesting
+pub mod Sequences

@@ -1,12 +1,14 @@
-//! Builds documents in the room of a caller, pair by pair, by numbers alone.
+//! Builds documents in the room of a caller, pair by pair, by numbers alone, and the document
+//! sequences of a message.
 //!
 //! A `Builder` is a struct of numbers that its caller holds beside the room; a document or an array
 //! inside has one of its own, while it is open. `append` puts a pair behind the others, `begin`
 //! opens a container as the value of the next pair, `end` ends it, and `finish` the outermost one.
-//! None takes memory, and none has a `requires`: any numbers and any room have an answer. Where the
-//! room is too short nothing changes, and the answer tells how long it has to be.
+//! `append_sequence` puts a document sequence behind others. None takes memory, and none has a
+//! `requires`: any numbers and any room have an answer. Where the room is too short nothing changes,
+//! and the answer tells how long it has to be.
 //!
-//! Uses bson_doc. Used by lughemra. Read first: `builder` and `nest`.
+//! Uses bson_doc and wire_msg. Used by lughemra. Read first: `builder` and `nest`.
 #![tactic(auto)]
 
 mod builder;
@@ -16,9 +18,11 @@ mod nest;
 mod pieces;
 mod place;
 mod refusal;
+mod sequence;
 
 pub use builder::{Builder, append};
 pub use built::Built;
 pub use given::ValueNumbers;
 pub use nest::{begin, end, finish, first};
 pub use refusal::BuildRefusal;
+pub use sequence::append_sequence;

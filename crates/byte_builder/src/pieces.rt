@@ -1,4 +1,4 @@
-//! The bytes of a value, in parts that lie apart.
+//! The bytes of a value, or of a document sequence, in parts that lie apart.
 
 ghost use Rattle.std.specs.Prelude.{◌≡◌, ◌≤◌, ◌<◌, ◌+◌, ◌^◌, ◌%◌, ◌/◌, ◌++◌, FitsSigned};
 ghost use Rattle.std.specs.Prelude.{MatchOption, length};
@@ -11,13 +11,15 @@ ghost use Rattle.byte_builder.specs.Nesting.{four_zeros};
 ghost use Rattle.byte_builder.specs.Numbers.{given_leaf};
 ghost use Rattle.byte_builder.specs.Pieces.{ending, pieces_bytes};
 ghost use Rattle.byte_builder.specs.Placing.{placed};
+ghost use Rattle.byte_builder.specs.Sequences.{section_of};
 
 use crate::given::{ValueNumbers, is_name, is_text};
 use crate::place::put;
 use arrayvec::ArrayVec;
 use bson_elem::{Kind, MAX_LEN};
 
-/// The bytes of a value: a head of numbers, a text and what ends it, and data and what ends these.
+/// The bytes of a value, or of a document sequence: a head of numbers, a text and what ends it, and
+/// data and what ends these.
 #[derive(Drop)]
 pub(crate) struct Pieces<'a> {
     pub(crate) head: ArrayVec<u8, 16>,
@@ -126,6 +128,21 @@ impl<'a> Pieces<'a> {
             text: NOTHING,
             text_ends: false,
             rest,
+            rest_ends: false,
+        }
+    }
+
+    /// Returns a document sequence.
+    pub(crate) fn sequence(identifier: &'a [u8], documents: &'a [u8]) -> Pieces<'a>
+        requires { length identifier.now + length documents.now + 6 ≤ 2 ^ 31 }
+        ensures { pieces_bytes result ≡ section_of identifier.now documents.now }
+    {
+        let size = (identifier.len() + documents.len()) as u32 + 5;
+        Pieces {
+            head: head_of(&[1], &size.to_le_bytes(), NOTHING),
+            text: identifier,
+            text_ends: true,
+            rest: documents,
             rest_ends: false,
         }
     }

@@ -16,3 +16,5 @@ pub mod QuickLaws
 pub mod FormLaws
 pub mod SpanLaws
 pub mod OffsetLaws
+pub mod ContentLaws
+pub mod ContentWriting

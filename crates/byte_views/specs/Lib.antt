@@ -19,3 +19,5 @@ pub mod Forms
 pub mod Spans
 pub mod Shown
 pub mod Offsets
+pub mod Contents
+pub mod Writing

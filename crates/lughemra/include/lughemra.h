@@ -1,6 +1,5 @@
 /* Lughemra for C: checks of BSON 1.1 documents and of MongoDB's OP_MSG, walks over both, and messages that come in pieces,
- * over bytes that the caller holds;
- * and building of documents in a room of the caller's.
+ * over bytes that the caller holds; and building of documents and of messages in a room of the caller's.
  *
  * Each function reads `length` bytes at `bytes`, and keeps nothing. What it returns is proved, for all bytes, from what
  * the caller owes:
@@ -331,9 +330,33 @@ struct lughemra_text {
     bool written;
 };
 
-/* The fault of a text for which memory ran out, and that of a canonical form that would have more than 2,147,483,647 bytes. */
+/* The fault of a text or a message for which memory ran out; and that of a canonical form that would have more than
+ * 2,147,483,647 bytes, or of a message that would have more than its limit. */
 #define LUGHEMRA_NO_MEMORY 254
 #define LUGHEMRA_TOO_LARGE 253
+
+/* The numbers of a message that is written. */
+struct lughemra_message_numbers {
+    /* requestID and responseTo. */
+    int32_t id;
+    int32_t response_to;
+    /* flagBits: LUGHEMRA_MORE_TO_COME and LUGHEMRA_EXHAUST_ALLOWED, or 0. */
+    uint32_t flag_bits;
+};
+
+/* What became of a message. */
+struct lughemra_written {
+    /* The first fault that the message would have, by an enum lughemra_message_fault: FLAGS where any other bit is set, DOCUMENT
+     * where the body or a document of a sequence isn't one; or LUGHEMRA_TOO_LARGE, LUGHEMRA_NO_MEMORY or
+     * LUGHEMRA_LIMIT_TOO_LARGE. Then nothing is written. */
+    struct lughemra_fault fault;
+    /* The document's own fault, as in struct lughemra_message_check. */
+    struct lughemra_fault document_fault;
+    /* The number of bytes of the message, whether it was written or not. If there is a fault, 0. */
+    size_t length;
+    /* Whether the message was written: it has as many bytes as the room, or fewer. Else nothing is written. */
+    bool written;
+};
 
 /* Where a document or an array stands that is built in the program's room. It may be copied; of two copies one goes on. */
 struct lughemra_builder {
@@ -415,6 +438,13 @@ struct lughemra_built lughemra_begin_nonnull(uint8_t *room, size_t room_length, 
 struct lughemra_built lughemra_end_nonnull(uint8_t *room, size_t room_length, struct lughemra_builder *outer,
                                            const struct lughemra_builder *inner);
 struct lughemra_built lughemra_finish_nonnull(uint8_t *room, size_t room_length, const struct lughemra_builder *builder);
+struct lughemra_built lughemra_append_sequence_nonnull(uint8_t *room, size_t room_length, size_t *end,
+                                                       const uint8_t *identifier, size_t identifier_length,
+                                                       const uint8_t *documents, size_t length);
+struct lughemra_written lughemra_write_message_nonnull(const struct lughemra_message_numbers *numbers, const uint8_t *body,
+                                                       size_t body_length, const uint8_t *sequences,
+                                                       size_t sequences_length, uint32_t limit, uint8_t *room,
+                                                       size_t room_length);
 
 /* Returns `bytes`, or if that is null the address of a byte, which is no one's to read. */
 static inline const uint8_t *lughemra_nonnull(const uint8_t *bytes)
@@ -729,6 +759,39 @@ static inline struct lughemra_built lughemra_finish(uint8_t *room, size_t room_l
     if (builder == NULL)
         return lughemra_not_built();
     return lughemra_finish_nonnull(lughemra_nonnull_room(room), lughemra_length(room, room_length), builder);
+}
+
+/* ---- messages of the program's own */
+
+/* Appends a document sequence to those in the first `*end` bytes of the room, and moves `*end` behind it; 0 is where the first
+ * one goes. The documents stand one behind the other; lughemra_write_message checks them. The identifier, of
+ * `identifier_length` bytes, is UTF-8 without a 00, else LUGHEMRA_BAD_NAME. */
+static inline struct lughemra_built lughemra_append_sequence(uint8_t *room, size_t room_length, size_t *end,
+                                                             const char *identifier, size_t identifier_length,
+                                                             const uint8_t *documents, size_t length)
+{
+    const uint8_t *named = (const uint8_t *)identifier;
+    if (end == NULL)
+        return lughemra_not_built();
+    return lughemra_append_sequence_nonnull(lughemra_nonnull_room(room), lughemra_length(room, room_length), end,
+                                            lughemra_nonnull(named), lughemra_length(named, identifier_length),
+                                            lughemra_nonnull(documents), lughemra_length(documents, length));
+}
+
+/* Writes a message of at most `limit` bytes to the front of the room, of `room_length` bytes: with these numbers, the document
+ * that `body` is, and the sequences that lughemra_append_sequence put, which may be none. A null pointer to the numbers
+ * stands for 0, 0 and 0. Takes as much memory as the message twice. If the message has no room, nothing is written, and
+ * its length is told; a null pointer is no room. */
+static inline struct lughemra_written lughemra_write_message(const struct lughemra_message_numbers *numbers,
+                                                             const uint8_t *body, size_t body_length,
+                                                             const uint8_t *sequences, size_t sequences_length,
+                                                             uint32_t limit, uint8_t *room, size_t room_length)
+{
+    static const struct lughemra_message_numbers none = {0, 0, 0};
+    return lughemra_write_message_nonnull(numbers != NULL ? numbers : &none, lughemra_nonnull(body),
+                                          lughemra_length(body, body_length), lughemra_nonnull(sequences),
+                                          lughemra_length(sequences, sequences_length), limit,
+                                          lughemra_nonnull_room(room), lughemra_length(room, room_length));
 }
 
 #ifdef __cplusplus

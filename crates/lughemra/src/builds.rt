@@ -1,14 +1,16 @@
-//! Exports what builds a document in the caller's room.
+//! Exports what builds a document, and the document sequences of a message, in the caller's room.
 
 ghost use Rattle.std.specs.Prelude.{◌≡◌, ◌≤◌, List, ℕ, length, take};
 ghost use Rattle.bson_elem.specs.declared.kinds.Kind.{Kind};
 ghost use Rattle.bson_elem.specs.{Spells, Tree, no_code, no_pairs};
-ghost use Rattle.bson_raw.specs.{document_value};
+ghost use Rattle.bson_raw.specs.{AreDocuments, document_value, documents_bytes};
 ghost use Rattle.bson_doc.specs.Appended.{with_pair_appended};
 ghost use Rattle.byte_builder.specs.Appends.{AppendsLeaf, IsAppended};
 ghost use Rattle.byte_builder.specs.Builders.{Builds, next_name};
 ghost use Rattle.byte_builder.specs.Nesting.{IsBegun, IsEnded, IsFinished, StandsBehind};
 ghost use Rattle.byte_builder.specs.Nesting.{first_builder};
+ghost use Rattle.byte_builder.specs.Sequences.{HoldsSequences, IsSequencePut, with_sequence};
+ghost use Rattle.wire_msg.specs.{Sequence};
 
 use byte_builder::{Builder, Built, ValueNumbers};
 
@@ -82,4 +84,22 @@ pub extern "C" fn lughemra_finish_nonnull(room: &mut [u8], builder: &Builder) ->
         → Spells t (take result.wanted room.new) }
 {
     byte_builder::finish(room, builder)
+}
+
+/// Appends a document sequence to those in the first `end` bytes of `room`, as
+/// `byte_builder::append_sequence` does.
+#[unsafe(no_mangle)]
+pub extern "C" fn lughemra_append_sequence_nonnull(
+    room: &mut [u8],
+    end: &mut usize,
+    identifier: &[u8],
+    documents: &[u8],
+) -> Built
+    ensures put { IsSequencePut room.old end.old identifier.now documents.now
+        room.new end.new result }
+    ensures sequences { (qs : List Sequence) (ts : List Tree) → HoldsSequences room.old end.old qs
+        → AreDocuments ts → documents.now ≡ documents_bytes ts → result.refusal ≡ 0
+        → HoldsSequences room.new end.new (with_sequence qs identifier.now ts) }
+{
+    byte_builder::append_sequence(room, end, identifier, documents)
 }

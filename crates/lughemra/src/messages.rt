@@ -1,16 +1,21 @@
-//! Exports the checks of messages, and what reads them in pieces and by their sections. Each takes
-//! memory for the names of a body.
+//! Exports the checks of messages, what reads them in pieces and by their sections, and what writes
+//! one. What reads or writes a whole message takes memory.
 
-ghost use Rattle.std.specs.Prelude.{◌≡◌, ◌≤◌, ◌<◌};
+ghost use Rattle.std.specs.Prelude.{◌≡◌, ◌≤◌, ◌<◌, None};
 ghost use Rattle.wire_msg.specs.{Message, SpellsMsg};
 ghost use Rattle.wire_msg.specs.Faults.{Seen, body_seen};
+ghost use Rattle.byte_views.specs.Fault.{first_fault, limit_fault};
 ghost use Rattle.byte_views.specs.Front.{IsMessageFront, limit_front};
 ghost use Rattle.byte_views.specs.Messages.{IsMessageCheck, IsMessagesCheck};
 ghost use Rattle.byte_views.specs.Messages.{limit_message_check, limit_messages_check};
 ghost use Rattle.byte_views.specs.Parts.{IsMessageParts, limit_parts};
 ghost use Rattle.byte_views.specs.Sections.{GivesSection, IsSection, SectionsFrom};
+ghost use Rattle.byte_views.specs.Writing.{IsMessageWritten, no_message};
 
-use byte_views::{MessageCheck, MessageFront, MessageParts, MessagesCheck, Section};
+use byte_views::{
+    MessageCheck, MessageFront, MessageNumbers, MessageParts, MessageWritten, MessagesCheck,
+    Section,
+};
 use std::alloc::Global;
 
 /// Checks that `bytes` are exactly one message, as `byte_views::check_message` does.
@@ -77,4 +82,23 @@ pub extern "C" fn lughemra_section_nonnull(bytes: &[u8], at: usize) -> Section
         → GivesSection bytes.now result left }
 {
     byte_views::section_at(bytes, at)
+}
+
+/// Writes a message of at most `limit` bytes to the front of `room`, as `byte_views::write_message`
+/// does.
+#[unsafe(no_mangle)]
+pub extern "C" fn lughemra_write_message_nonnull(
+    alloc: Global,
+    numbers: &MessageNumbers,
+    body: &[u8],
+    sequences: &[u8],
+    limit: u32,
+    room: &mut [u8],
+) -> MessageWritten
+    ensures written { limit ≤ 48_000_000
+        → IsMessageWritten numbers.now body.now sequences.now limit room.old room.new result }
+    ensures large_limit { 48_000_000 < limit
+        → (result ≡ no_message limit_fault (first_fault None)) × (room.new ≡ room.old) }
+{
+    byte_views::write_message(alloc, numbers, body, sequences, limit, room)
 }

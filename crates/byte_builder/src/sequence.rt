@@ -1,0 +1,79 @@
+//! The document sequences of a message, which are put one behind the other (MongoDB Wire Protocol
+//! manual: OP_MSG, sections of kind 1).
+
+ghost use Rattle.std.specs.Prelude.{◌≡◌, ◌≤◌, ◌<◌, ◌+◌, ◌^◌, List, MatchOption, length};
+ghost use Rattle.bson_elem.specs.{Tree};
+ghost use Rattle.bson_raw.specs.{AreDocuments, documents_bytes};
+ghost use Rattle.wire_msg.specs.Messages.{Sequence};
+ghost use Rattle.byte_builder.specs.Sequences.{HoldsSequences, IsSequencePut, section_of};
+ghost use Rattle.byte_builder.specs.Sequences.{with_sequence};
+
+use crate::built::Built;
+use crate::given::is_name;
+use crate::pieces::Pieces;
+use crate::refusal::BuildRefusal;
+use bson_elem::MAX_LEN;
+
+/// Returns the number of bytes of a document sequence, or `None` if they are more than a document
+/// has.
+fn section_len(identifier: &[u8], documents: &[u8]) -> Option<usize>
+    ensures { MatchOption result (2 ^ 31 ≤ length (section_of identifier.now documents.now))
+        (λ n. (n ≡ length (section_of identifier.now documents.now)) × (n < 2 ^ 32 + 6)) }
+{
+    if identifier.len() > MAX_LEN {
+        return None;
+    }
+    if documents.len() > MAX_LEN {
+        return None;
+    }
+    Some(identifier.len() + documents.len() + 6)
+}
+
+/// Appends a document sequence, as `append_sequence` does.
+fn put_sequence(room: &mut [u8], end: &mut usize, identifier: &[u8], documents: &[u8]) -> Built
+    ensures { IsSequencePut room.old end.old identifier.now documents.now room.new end.new result }
+{
+    let start = *end;
+    if start > room.len() {
+        return Built::refused(BuildRefusal::OutOfRange);
+    }
+    if !is_name(identifier) {
+        return Built::refused(BuildRefusal::Name);
+    }
+    let size = match section_len(identifier, documents) {
+        Some(size) => size,
+        None => return Built::refused(BuildRefusal::TooLarge),
+    };
+    if start > MAX_LEN {
+        return Built::refused(BuildRefusal::TooLarge);
+    }
+    let wanted = start + size;
+    if wanted > MAX_LEN {
+        return Built::refused(BuildRefusal::TooLarge);
+    }
+    if wanted > room.len() {
+        return Built::no_room(wanted);
+    }
+    let section = Pieces::sequence(identifier, documents);
+    section.put(room, start);
+    *end = wanted;
+    Built::done(wanted)
+}
+
+/// Appends a document sequence of this `identifier` to those in the first `end` bytes of `room`,
+/// and moves `end` behind it. `documents` are its documents, one behind the other. They aren't
+/// checked here, nor what stands before: what reads or writes a message with the sequences does so.
+pub fn append_sequence(
+    room: &mut [u8],
+    end: &mut usize,
+    identifier: &[u8],
+    documents: &[u8],
+) -> Built
+    ensures put { IsSequencePut room.old end.old identifier.now documents.now
+        room.new end.new result }
+    ensures sequences { (qs : List Sequence) (ts : List Tree) → HoldsSequences room.old end.old qs
+        → AreDocuments ts → documents.now ≡ documents_bytes ts → result.refusal ≡ 0
+        → HoldsSequences room.new end.new (with_sequence qs identifier.now ts) }
+{
+    put_sequence(room, end, identifier, documents)
+}
