@@ -1,7 +1,7 @@
 //! Finds out what the words of the command line ask for.
 
-ghost use Rattle.std.specs.Prelude.{◌≡◌, IfErr, IfOk, IsErrAnd, Some, is_some, map};
-ghost use Rattle.std.specs.Prelude.{true, Bool, codes};
+ghost use Rattle.std.specs.Prelude.{◌≡◌, IfErr, IfOk, IsErrAnd, IsOk, Some, is_some, map};
+ghost use Rattle.std.specs.Prelude.{false, true, Bool, codes};
 ghost use Rattle.clap.specs.Words.{FailsBy, first_of, found_of, rows_of};
 ghost use Rattle.clap.specs.Words.{subcommand_rows_of};
 ghost use Rattle.bsonwire.specs.Choices.{HasCalls, HasFile, HasQuiet, HoldsCalls, HoldsFlag};
@@ -209,12 +209,14 @@ fn is_json_wanted(matches: &ArgMatches<'_>) -> bool
 }
 
 /// Returns the choice that the matches of a parse name, the error of the parse, or that of a
-/// `--relaxed` that wants `--json`.
+/// `--relaxed` that wants `--json`. Only the text of the latter takes memory.
 fn chosen<'a>(alloc: Global, parse: Result<ArgMatches<'a>, Error>) -> Result<Choice<'a>, Error>
     requires { IfOk parse (λ m. MayChoose (subcommand_rows_of m)) }
     ensures met { IfOk parse.entry
         (λ m. IfOk result (λ c. IsMetSubcommand c (subcommand_rows_of m))) }
     ensures kinds { IfOk parse.entry (λ m. FailsBy (flags_fault (subcommand_rows_of m)) result) }
+    ensures found { IfOk parse.entry
+        (λ m. lacks_json (subcommand_rows_of m) ≡ false → IsOk result) }
     ensures error { IfErr parse.entry (λ e. IsErrAnd result (λ r. r ≡ e)) }
 {
     let matches = parse?;
