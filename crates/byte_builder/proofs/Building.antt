@@ -109,5 +109,5 @@ appends_leaf room new b after name n text rest t w (is_named k inside kind form 
     (k, kind, put_leaf room new b after (next_name b name) (leaf_bytes (form_of k) (given_leaf n text rest k)) k (leaf_value k (given_leaf n text rest k)) t w refl (named, form, tt) pushed s none)
 appends_leaf room new b after name n text rest t w (is_named k inside kind form (no_name plain unnamed told new-is after-is)) s none = absurd (refusal_is w 1 told none)
 appends_leaf room new b after name n text rest t w (out_of_range outside told new-is after-is) s none = absurd (refusal_is w 254 told none)
-appends_leaf room new b after name n text rest t w (no_kind unknown told new-is after-is) s none = absurd (refusal_is w 0 told none)
-appends_leaf room new b after name n text rest t w (no_value k kind unformed told new-is after-is) s none = absurd (refusal_is w 2 told none)
+appends_leaf room new b after name n text rest t w (no_kind inside unknown told new-is after-is) s none = absurd (refusal_is w 0 told none)
+appends_leaf room new b after name n text rest t w (no_value k inside kind unformed told new-is after-is) s none = absurd (refusal_is w 2 told none)

@@ -126,8 +126,8 @@ opens room new outer old inner name kind t w (is_open k after inside low is (is_
 opens room new outer old inner name kind t w (is_open k after inside low is (no_name plain unnamed told new-is after-is) none inner-is) s zero = absurd (refusal_is w 1 told zero)
 opens room new outer old inner name kind t w (is_shut k after inside low is pushed some inner-is) s zero = absurd (some zero)
 opens room new outer old inner name kind t w (out_of_range outside told new-is inner-is) s zero = absurd (refusal_is w 254 told zero)
-opens room new outer old inner name kind t w (no_kind unknown told new-is inner-is) s zero = absurd (refusal_is w 0 told zero)
-opens room new outer old inner name kind t w (too_deep deep told new-is inner-is) s zero = absurd (refusal_is w 3 told zero)
+opens room new outer old inner name kind t w (no_kind inside unknown told new-is inner-is) s zero = absurd (refusal_is w 0 told zero)
+opens room new outer old inner name kind t w (too_deep k inside is deep told new-is inner-is) s zero = absurd (refusal_is w 3 told zero)
 
 -- ---- ending
 

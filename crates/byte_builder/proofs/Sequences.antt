@@ -57,7 +57,7 @@ holds_more room new end after identifier documents qs ts w (is_put named within 
       ap (λ (x : List ℕ). take after x) new-is ∙ ap (λ (n : ℕ). take n (placed end part room)) after-is ∙ front_of_placed room part end within ∙ ap (λ (x : List ℕ). x ++ part) holds.1
           ∙ ap (λ (x : List ℕ). sequences_bytes qs ++ x) (section_is identifier documents ts is) ∙ sym (bytes_of_more qs q),
     )
-holds_more room new end after identifier documents qs ts w (too_short less told new-is after-is) holds fit is none = absurd (omega (arith, none, ap (λ (x : Built). x.refusal) told))
-holds_more room new end after identifier documents qs ts w (too_large long told new-is after-is) holds fit is none = absurd (refusal_is w 252 told none)
-holds_more room new end after identifier documents qs ts w (no_name unnamed told new-is after-is) holds fit is none = absurd (refusal_is w 1 told none)
+holds_more room new end after identifier documents qs ts w (too_short named less short within told new-is after-is) holds fit is none = absurd (omega (arith, none, ap (λ (x : Built). x.refusal) told))
+holds_more room new end after identifier documents qs ts w (too_large named within long told new-is after-is) holds fit is none = absurd (refusal_is w 252 told none)
+holds_more room new end after identifier documents qs ts w (no_name within unnamed told new-is after-is) holds fit is none = absurd (refusal_is w 1 told none)
 holds_more room new end after identifier documents qs ts w (out_of_range outside told new-is after-is) holds fit is none = absurd (refusal_is w 254 told none)

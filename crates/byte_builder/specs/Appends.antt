@@ -51,8 +51,9 @@ pub data IsPushedNamed (room : List ℕ) (b : Builder) (k : Kind) (name value ne
   no_name : {w : Built} → in_array b ≡ false → (IsName name → ⊥) → w ≡ refused 2 → new ≡ room
       → after ≡ b → IsPushedNamed room b k name value new after w
 
--- The value that is given is appended as a pair, as above; or the numbers of the builder are out of
--- range, no kind has this number, or the value isn't one of its kind, and nothing changes.
+-- The value that is given is appended as a pair, as above; or, for the first of these reasons,
+-- nothing changes: the numbers of the builder are out of range, no kind has this number, or the
+-- value isn't one of its kind.
 pub data IsAppended (room : List ℕ) (b : Builder) (name : List ℕ) (n : ValueNumbers)
     (text rest new : List ℕ) (after : Builder) : Built → Type 0 where
   is_named : {w : Built} (k : Kind) → IsInRange b → kind_of n.kind ≡ Some k
@@ -61,9 +62,9 @@ pub data IsAppended (room : List ℕ) (b : Builder) (name : List ℕ) (n : Value
       → IsAppended room b name n text rest new after w
   out_of_range : {w : Built} → (IsInRange b → ⊥) → w ≡ refused 255 → new ≡ room → after ≡ b
       → IsAppended room b name n text rest new after w
-  no_kind : {w : Built} → kind_of n.kind ≡ None → w ≡ refused 1 → new ≡ room → after ≡ b
-      → IsAppended room b name n text rest new after w
-  no_value : {w : Built} (k : Kind) → kind_of n.kind ≡ Some k
+  no_kind : {w : Built} → IsInRange b → kind_of n.kind ≡ None → w ≡ refused 1 → new ≡ room
+      → after ≡ b → IsAppended room b name n text rest new after w
+  no_value : {w : Built} (k : Kind) → IsInRange b → kind_of n.kind ≡ Some k
       → (IsOfForm (form_of k) (given_leaf n text rest k) → ⊥) → w ≡ refused 3 → new ≡ room
       → after ≡ b → IsAppended room b name n text rest new after w
 

@@ -43,8 +43,9 @@ opened b kind =
 abbrev pub four_zeros : List ℕ
 four_zeros = 0 ∷ 0 ∷ 0 ∷ 0 ∷ []
 
--- The container is opened; or it isn't, as a pair isn't appended, or since the numbers of the outer
--- one are out of range, the kind is no container's, or it would be deeper than 200.
+-- The container is opened; or it isn't, for the first of these reasons: the numbers of the outer
+-- one are out of range, the kind is no container's, it would be deeper than 200, or a pair isn't
+-- appended.
 pub data IsBegun (room : List ℕ) (outer : Builder) (name : List ℕ) (kind : ℕ) (old : Builder)
     (new : List ℕ) (inner : Builder) : Built → Type 0 where
   is_open : {w : Built} (k : Kind) (after : Builder) → IsInRange outer → outer.depth < 200
@@ -57,9 +58,10 @@ pub data IsBegun (room : List ℕ) (outer : Builder) (name : List ℕ) (kind : �
       → inner ≡ old → IsBegun room outer name kind old new inner w
   out_of_range : {w : Built} → (IsInRange outer → ⊥) → w ≡ refused 255 → new ≡ room
       → inner ≡ old → IsBegun room outer name kind old new inner w
-  no_kind : {w : Built} → container_of kind ≡ None → w ≡ refused 1 → new ≡ room → inner ≡ old
-      → IsBegun room outer name kind old new inner w
-  too_deep : {w : Built} → 200 ≤ outer.depth → w ≡ refused 4 → new ≡ room → inner ≡ old
+  no_kind : {w : Built} → IsInRange outer → container_of kind ≡ None → w ≡ refused 1
+      → new ≡ room → inner ≡ old → IsBegun room outer name kind old new inner w
+  too_deep : {w : Built} (k : Kind) → IsInRange outer → container_of kind ≡ Some k
+      → 200 ≤ outer.depth → w ≡ refused 4 → new ≡ room → inner ≡ old
       → IsBegun room outer name kind old new inner w
 
 -- the room with the container's length and its last 00

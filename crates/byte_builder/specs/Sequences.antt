@@ -18,9 +18,9 @@ section_of identifier documents =
 abbrev pub section_end : ℕ → List ℕ → List ℕ → ℕ
 section_end end identifier documents = end + length (section_of identifier documents)
 
--- The section is put behind the first bytes of the room; or the room is too short, the bytes in it
--- would be too many, the identifier isn't a name, or there are fewer first bytes, and nothing
--- changes.
+-- The section is put behind the first bytes of the room; or, for the first of these reasons,
+-- nothing changes: there are fewer first bytes, the identifier isn't a name, the bytes would be too
+-- many, or the room is too short.
 pub data IsSequencePut (room : List ℕ) (end : ℕ) (identifier documents new : List ℕ) (after : ℕ)
     : Built → Type 0 where
   is_put : {w : Built} → IsName identifier → section_end end identifier documents ≤ length room
@@ -29,13 +29,15 @@ pub data IsSequencePut (room : List ℕ) (end : ℕ) (identifier documents new :
       → new ≡ placed end (section_of identifier documents) room
       → after ≡ section_end end identifier documents
       → IsSequencePut room end identifier documents new after w
-  too_short : {w : Built} → length room < section_end end identifier documents
+  too_short : {w : Built} → IsName identifier → length room < section_end end identifier documents
+      → section_end end identifier documents < 2 ^ 31 → end ≤ length room
       → w ≡ no_room (section_end end identifier documents) → new ≡ room → after ≡ end
       → IsSequencePut room end identifier documents new after w
-  too_large : {w : Built} → 2 ^ 31 ≤ section_end end identifier documents → w ≡ refused 253
-      → new ≡ room → after ≡ end → IsSequencePut room end identifier documents new after w
-  no_name : {w : Built} → (IsName identifier → ⊥) → w ≡ refused 2 → new ≡ room → after ≡ end
+  too_large : {w : Built} → IsName identifier → end ≤ length room
+      → 2 ^ 31 ≤ section_end end identifier documents → w ≡ refused 253 → new ≡ room → after ≡ end
       → IsSequencePut room end identifier documents new after w
+  no_name : {w : Built} → end ≤ length room → (IsName identifier → ⊥) → w ≡ refused 2
+      → new ≡ room → after ≡ end → IsSequencePut room end identifier documents new after w
   out_of_range : {w : Built} → length room < end → w ≡ refused 255 → new ≡ room → after ≡ end
       → IsSequencePut room end identifier documents new after w
 

@@ -1,7 +1,6 @@
 -- A message that is written into the room of a caller.
 use Rattle.std.specs.Prelude.{◌≡◌, ◌≤◌, ℕ, List, [], Option, None, Some, true, false, nat_eq}
 use Rattle.std.specs.Prelude.{if◌then◌else◌}
-use Rattle.bson_raw.specs.{IsSpelled}
 use Rattle.wire_msg.specs.{Content, Message, canonical, message_len, msg_fault}
 use Rattle.wire_msg.specs.Payload.{AreParts}
 use Rattle.wire_msg.specs.declared.fault.MsgCause.TheVariants as causes
@@ -56,20 +55,22 @@ content_fault refusals.OutOfMemory = no_message memory_fault (first_fault None)
 content_fault (refusals.Message f) = no_message (message_fault f) (document_fault f.cause)
 
 -- The message with these numbers, this body and these document sequences is put into the room in
--- its canonical spelling; or there is no memory for it, or no message with such flags or such a
--- content, and the room stays as it was.
+-- its canonical spelling; or, for the first of these reasons, the room stays as it was: no message
+-- has such flags, none has such a content, or there is no memory for it.
 pub data IsMessageWritten (n : MessageNumbers) (body sequences : List ℕ) (limit : ℕ)
     (old new : List ℕ) : MessageWritten → Type 0 where
   is_put : {w : MessageWritten} (flags : MsgFlags) (c : Content) (t : TextWritten)
       → flags_of n.flag_bits ≡ Some flags → AreParts [] body sequences c → message_len c ≤ limit
       → IsPut (canonical (message_of n flags c)) old new t → w ≡ message_put t
       → IsMessageWritten n body sequences limit old new w
-  no_memory : {w : MessageWritten} → IsSpelled body
+  no_memory : {w : MessageWritten} (flags : MsgFlags) (c : Content)
+      → flags_of n.flag_bits ≡ Some flags → AreParts [] body sequences c → message_len c ≤ limit
       → w ≡ no_message memory_fault (first_fault None) → new ≡ old
       → IsMessageWritten n body sequences limit old new w
   no_flags : {w : MessageWritten} → flags_of n.flag_bits ≡ None
       → w ≡ no_message flags_fault (first_fault None) → new ≡ old
       → IsMessageWritten n body sequences limit old new w
-  no_content : {w : MessageWritten} (e : ContentRefusal)
-      → IsContentRefusal limit body sequences e → w ≡ content_fault e → new ≡ old
+  no_content : {w : MessageWritten} (flags : MsgFlags) (e : ContentRefusal)
+      → flags_of n.flag_bits ≡ Some flags → IsContentRefusal limit body sequences e
+      → w ≡ content_fault e → new ≡ old
       → IsMessageWritten n body sequences limit old new w

@@ -7,10 +7,10 @@ pub returns-then-not-is_in_range : goal.returns-then-not-is_in_range
 returns-then-not-is_in_range c = out_of_range (c.is_in_range.ensures.no c.if-not-is_in_range.true) c.refused.ensures refl refl
 
 pub returns-in-None : goal.returns-in-None
-returns-in-None c = no_kind (sym c.container.ensures ∙ c.in-None.is) c.refused-in-None.ensures refl refl
+returns-in-None c = no_kind (c.is_in_range.ensures.yes c.if-not-is_in_range.false) (sym c.container.ensures ∙ c.in-None.is) c.refused-in-None.ensures refl refl
 
 pub returns-then-outer-ge-MAX_DEPTH : goal.returns-then-outer-ge-MAX_DEPTH
-returns-then-outer-ge-MAX_DEPTH c = too_deep c.if-outer-ge-MAX_DEPTH.true c.refused-then-outer-ge-MAX_DEPTH.ensures refl refl
+returns-then-outer-ge-MAX_DEPTH c = too_deep c.in-Some.container (c.is_in_range.ensures.yes c.if-not-is_in_range.false) (sym c.container.ensures ∙ c.in-Some.is) c.if-outer-ge-MAX_DEPTH.true c.refused-then-outer-ge-MAX_DEPTH.ensures refl refl
 
 pub returns-then-built-eq0 : goal.returns-then-built-eq0
 returns-then-built-eq0 c =
