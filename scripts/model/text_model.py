@@ -8,6 +8,7 @@ import re
 from json_model import document_json
 
 MAX_MESSAGE, MAX_DEPTH = 48_000_000, 200
+SALVAGED = 16_793_600  # the most bytes of a document that is found behind a fault
 BSON_CAUSES = ["", "Truncated", "Length", "End", "Kind", "Name", "Text", "TextEnd", "Boolean", "OldBinary", "Scope", "Depth"]
 MSG_CAUSES = ["", "Length", "Opcode", "Flags", "Checksum", "SectionKind", "SectionSize", "Document", "NoBody", "TwoBodies", "RepeatedField",
               "SequenceName", "SequenceInBody", "Truncated"]
@@ -381,8 +382,34 @@ def one_message(_, b, flags=(), start=0):  # pylint: disable=unused-argument
     return length, b"".join(line + b"\n" for line in message_lines(b[:length]))
 
 
+def found_at(b, at):
+    """Returns the length of the document of at most SALVAGED bytes that stands at an offset, and else why none does."""
+    if len(b) >= at + 4 and number(b, at) > SALVAGED:
+        return None, f"16 TooLarge at {at}"
+    try:
+        return front(b[at:])[0], None
+    except Bad as fault:
+        return None, fault.line(at)
+
+
+def salvaged(command, b):
+    """Returns what is written with `--salvage`: each offset is tried, one after another, and behind a document the next one."""
+    at, text, status = 0, b"", 0
+    while at < len(b):
+        length, fault = found_at(b, at)
+        if length:
+            text, at = text + one_document(command, b[at:])[1], at + length
+            continue
+        to = next((to for to in range(at + 1, len(b)) if found_at(b, to)[0]), len(b))
+        text += f"fault {fault}\ngap {at} {to}\n".encode() if command == "check" else b""
+        at, status = to, 1
+    return text, status
+
+
 def output(command, flags, given):
     """Returns what the command with these flags writes for an input, and its status."""
+    if "--salvage" in flags:
+        return salvaged(command, given)
     is_hex, is_array = "--hex" in flags, "--array" in flags
     b, place = read_hex(given) if is_hex else (given, None)
     at, text, fault = 0, b"", None

@@ -12,7 +12,7 @@ use Rattle.bson_stream.specs.declared.seek.Ahead.TheVariants as ahead
 use Rattle.bson_stream.specs.declared.seek.Sought.{Sought}
 use Rattle.bson_stream.specs.declared.seek.Stand.TheVariants as stand
 use Rattle.bson_stream.specs.Salvage.{AreParts, BeginsDocument, IsGapFault, NoneBegins, Part, Salvages, a_document, a_gap, at_document, at_gap, no_more}
-use Rattle.bson_stream.specs.Salvagers.{IsDocumentOf, IsFound, IsFront, IsGapBehind, IsInGap, IsOutcome, IsSettled, IsSought, IsStand, IsUndecided, LeavesLess, MayFollow, NoneInFront, Salvaging, SoFar, gap_on, open_gaps}
+use Rattle.bson_stream.specs.Salvagers.{ArePartsSoFar, IsDocumentOf, IsFound, IsFront, IsGapBehind, IsInGap, IsOutcome, IsSettled, IsSought, IsStand, IsUndecided, LeavesLess, MayFollow, NoneInFront, Salvaging, SoFar, gap_on, open_gaps}
 use Rattle.bson_stream.proofs.Gatherings.{tail_is}
 use Rattle.bson_stream.proofs.Salvages.{joined, none_joined, none_one}
 use Rattle.bson_stream.proofs.Standings.{nothing_open}
@@ -259,6 +259,12 @@ all_told limit fed told s so settled same =
     let none : (so.skipped ++ s.held) ++ [] ≡ [] = ap (λ (b : List ℕ). (b ++ s.held) ++ []) bare ∙ ap (λ (b : List ℕ). b ++ []) end.0 in
     subst (λ (n : ℕ). AreParts n fed told) same (subst (λ (b : List ℕ). Salvages s.limit 0 b told []) (append-nil fed)
     (subst (Salvages s.limit 0 (fed ++ []) told) none (so.parts [] (λ e. refl))))
+
+-- more bytes decide
+pub told_so_far : (limit : ℕ) (fed : List ℕ) (told : List Part) (s : Salvaging) → SoFar false fed told s → IsSettled false s → s.limit ≡ limit → ArePartsSoFar limit fed told
+told_so_far limit fed told s so settled same =
+    subst (λ (n : ℕ). ArePartsSoFar n fed told) same
+    (so.skipped, s.held, (λ more. so.parts more (λ e. absurd (true≢false (sym e)))), (λ more. so.none more (λ e. absurd (true≢false (sym e)))), settled.0 refl)
 
 -- the first parts, whatever follows
 pub told_first : (limit : ℕ) (ended : Bool) (fed more : List ℕ) (told : List Part) (s : Salvaging) → SoFar ended fed told s → s.limit ≡ limit → MayFollow ended more

@@ -13,7 +13,7 @@ pub use Rattle.bson_stream.specs.Readers.{AnnouncesMore, Feeds, HoldsNoMore, IsR
 pub use Rattle.bson_stream.specs.Readers.{Reading, StandsAt, TellsForm}
 pub use Rattle.bson_stream.specs.Salvage.{AreParts, BeginsDocument, IsGapFault, NoneBegins, Part}
 pub use Rattle.bson_stream.specs.Salvage.{Salvages, a_document, a_gap}
-pub use Rattle.bson_stream.specs.Salvagers.{IsDocumentOf, IsFound, IsSettled}
+pub use Rattle.bson_stream.specs.Salvagers.{ArePartsSoFar, IsDocumentOf, IsFound, IsSettled}
 pub use Rattle.bson_stream.specs.Salvagers.{IsUndecided, LeavesLess, MayFollow, Salvaging, SoFar}
 pub use Rattle.bson_stream.specs.Salvagers.{left_of}
 pub use Rattle.bson_stream.specs.Standing.{IsBad, IsLength, IsOpen, announced, in_stream}

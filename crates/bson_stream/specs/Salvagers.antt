@@ -147,3 +147,12 @@ abbrev pub IsNotFed : Salvaging → List ℕ → ReadRefusal → Type 0
 IsNotFed s piece OutOfMemory = Unit {0}
 IsNotFed s piece TooLong = ⊥
 IsNotFed s piece TooFar = 2 ^ 64 ≤ s.start + length s.held + length piece
+
+-- The parts of a stream of which these bytes have come, as far as they are decided: behind them is
+-- the beginning of a gap, or nothing, and then bytes of which more decide whether a document begins
+-- with them.
+abbrev pub ArePartsSoFar : ℕ → List ℕ → List Part → Type 0
+ArePartsSoFar limit bytes parts =
+    (skipped held : List ℕ)
+    × ((more : List ℕ) → Salvages limit 0 (bytes ++ more) parts ((skipped ++ held) ++ more))
+    × ((more : List ℕ) → NoneBegins limit skipped (held ++ more)) × IsUndecided limit held

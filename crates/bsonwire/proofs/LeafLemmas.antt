@@ -14,9 +14,9 @@ use Rattle.clap.specs.declared.builder.value_parser.Reading.{Reading}
 use Rattle.clap.specs.declared.builder.value_parser.Reading.TheVariants.{AsWritten}
 use Rattle.clap.specs.declared.parser.matches.ValueSource.{ValueSource}
 use Rattle.clap.specs.declared.parser.matches.ValueSource.TheVariants.{DefaultValue}
-use Rattle.bsonwire.specs.CommandLine.{bytes_flags, command_line, dump_app, dump_flags, file_app, json_app, json_flags, loop_app, msg_app, msg_flags, text_flags}
+use Rattle.bsonwire.specs.CommandLine.{command_line, dump_app, dump_flags, file_app, json_app, json_flags, loop_app, msg_app, msg_flags, salvage_flags, text_flags}
 use Rattle.bsonwire.specs.Choices.{HasCalls, HasFile, HoldsFlag}
-use Rattle.bsonwire.proofs.RowLemmas.{AreGood, Each, IsBoolText, IsCountText, IsGoodRow, KeepsUse, bytes_leaf_keeps, dump_leaf_keeps, find_holds, good_with, is_flag, json_leaf_keeps, leaf_rules, loop_leaf_keeps, msg_leaf_keeps, no_kind, no_operand, or_nil, settle_good, text_leaf_keeps, walk_good}
+use Rattle.bsonwire.proofs.RowLemmas.{AreGood, Each, IsBoolText, IsCountText, IsGoodRow, KeepsUse, dump_leaf_keeps, find_holds, good_with, is_flag, json_leaf_keeps, leaf_rules, loop_leaf_keeps, msg_leaf_keeps, no_kind, no_operand, or_nil, salvage_leaf_keeps, settle_good, text_leaf_keeps, walk_good}
 
 -- ---- the rows at the end of a walk
 
@@ -215,14 +215,15 @@ text_leaf_names name words none =
     let end : HaveFlags text_flags rows = finished_has text_flags (settled s.rules (walk s.rules [] nothing_held words).held).rows (refl, tt) is.0 in
     leaf_names text_flags rows (refl, tt) end (given_where_unfaulted (is_given (codes "file") rows) is.1)
 
-pub bytes_leaf_names : (name : Text) (words : List Text) → IsUnfaulted (leaf (file_app name bytes_flags)) words
-    → HoldAll bytes_flags (rows_of_leaf (leaf (file_app name bytes_flags)) words)
-bytes_leaf_names name words none =
-    let s = leaf (file_app name bytes_flags) in
+pub salvage_leaf_names : (name : Text) (words : List Text) → IsUnfaulted (leaf (file_app name salvage_flags)) words
+    → HoldAll salvage_flags (rows_of_leaf (leaf (file_app name salvage_flags)) words)
+salvage_leaf_names name words none =
+    let s = leaf (file_app name salvage_flags) in
     let rows = rows_of_leaf s words in
-    let is = unfaulted s bytes_leaf_keeps words none in
-    let end : HaveFlags bytes_flags rows = finished_has bytes_flags (settled s.rules (walk s.rules [] nothing_held words).held).rows (refl, (refl, tt)) is.0 in
-    leaf_names bytes_flags rows (refl, (refl, tt)) end (given_where_unfaulted (is_given (codes "file") rows) is.1)
+    let is = unfaulted s salvage_leaf_keeps words none in
+    let flags : Each IsFlag salvage_flags = (refl, (refl, (refl, tt))) in
+    let end : HaveFlags salvage_flags rows = finished_has salvage_flags (settled s.rules (walk s.rules [] nothing_held words).held).rows flags is.0 in
+    leaf_names salvage_flags rows flags end (given_where_unfaulted (is_given (codes "file") rows) is.1)
 
 pub dump_leaf_names : (words : List Text) → IsUnfaulted (leaf dump_app) words → HoldAll dump_flags (rows_of_leaf (leaf dump_app) words)
 dump_leaf_names words none =

@@ -1,4 +1,4 @@
--- What `clap` finds no fault in names a choice, but for a `--relaxed` that wants `--json`.
+-- What `clap` finds no fault in names a choice, but for a `--relaxed` that wants `--json`, and a `--salvage` beside `--hex`.
 use Rattle.std.proofs.Common.{◌≡◌, ◌∙◌, ℕ, refl, ap, sym, subst, Bool, true, false, not, ◌&&◌, ◌||◌, List, [], ◌∷◌, Option, Some, None, is_some, option_map, codes, true≢false, inl, inr}
 use Rattle.std.specs.Prelude.{⊤, IfSome, if◌then◌else◌, find, fold}
 use Rattle.std.specs.Option.{option_map_or}
@@ -13,7 +13,7 @@ use Rattle.clap.specs.Simple.{Shape, argument_words, built, entered, label_of, n
 use Rattle.clap.specs.Takes.{is_given}
 use Rattle.clap.specs.Walk.{Held, Names, Outcome, Row, Rule, Step, Text, Waiting, Walk, done, waits, plain, refused, idle, option, positional, next, trailing, subcommand, value, after_flag, after_step, answers_to, arg_by_index, finished, long_or_other, nothing_held, plain_word, settled, short_or_plain, subcommand_met, subcommand_or_other, to_positional, walk, walk_from, walked, walked_from, word_met, bundle, long_met, arg_by_long}
 use Rattle.clap.specs.declared.error.kind.ErrorKind.TheVariants as kind
-use Rattle.bsonwire.specs.CommandLine.{bytes_flags, command_line, dump_app, file_app, json_app, loop_app, msg_app, text_flags}
+use Rattle.bsonwire.specs.CommandLine.{command_line, dump_app, file_app, json_app, loop_app, msg_app, salvage_flags, text_flags}
 use Rattle.bsonwire.specs.declared.choice.Command.{Command}
 use Rattle.bsonwire.specs.declared.choice.Command.TheVariants.{Dump, Check, Canon, Json, Bson, Msg, Play}
 use Rattle.bson_json.specs.declared.mode.Mode.{Mode}
@@ -22,9 +22,11 @@ use Rattle.engines.specs.declared.json.Layout.{Layout}
 use Rattle.engines.specs.declared.json.Layout.TheVariants.{Lines, Array}
 use Rattle.engines.specs.declared.msg.MessageForm.{MessageForm}
 use Rattle.engines.specs.declared.msg.MessageForm.TheVariants.{Text as in_text, Json as in_json}
-use Rattle.bsonwire.specs.Choices.{HoldsHex, HoldsMessageForm, IsCommand, MayChoose, HoldsFlag, is_array, is_relaxed}
+use Rattle.bsonwire.specs.declared.choice.Reading.{Reading}
+use Rattle.bsonwire.specs.declared.choice.Reading.TheVariants.{Bytes, Hex, Salvage}
+use Rattle.bsonwire.specs.Choices.{HoldsFlag, HoldsHex, HoldsMessageForm, HoldsReading, IsCommand, MayChoose, is_array, is_relaxed, salvages_text}
 use Rattle.command_words.specs.{was_given}
-use Rattle.bsonwire.proofs.LeafLemmas.{IsUnfaulted, bytes_leaf_names, dump_leaf_names, json_leaf_names, leaf, loop_leaf_names, msg_leaf_names, text_leaf_names}
+use Rattle.bsonwire.proofs.LeafLemmas.{IsUnfaulted, dump_leaf_names, json_leaf_names, leaf, loop_leaf_names, msg_leaf_names, salvage_leaf_names, text_leaf_names}
 use Rattle.bsonwire.proofs.RowLemmas.{Each, find_holds, no_kind, or_nil}
 
 -- ---- a walk stops at no word `help`
@@ -119,15 +121,36 @@ module _ (s : Shape) (names : Names) (helps : s.disable_help_subcommand ≡ fals
 abbrev Chooses : Text → List Text → Shape → Type 0
 Chooses word words s = IsUnfaulted s words → MayChoose (Some (rows_at s words))
 
-bytes_leaf_chooses : (command : Bool → Command) (name word : Text) (words : List Text)
-    → ((hex : Bool) (rows : List Row) → HoldsHex hex rows → IsCommand (command hex) name rows) → Chooses word words (leaf (file_app name bytes_flags))
-bytes_leaf_chooses command name word words is none = λ _.
-    let held = bytes_leaf_names name words none in
+-- whether a flag that is held was given
+read : Option Text → Bool
+read o = option_map_or (λ text. bytes_eq text (codes "true")) o false
+
+-- the flags of `check` or `canon` make a way to read, but for a `--salvage` beside `--hex`
+reading_by : (hex salvage : Bool) (rows : List Row) → HoldsHex hex rows → HoldsFlag (codes "salvage") salvage rows
+    → (was_given (codes "salvage") rows && was_given (codes "hex") rows) ≡ false → (reading : Reading) × HoldsReading reading rows
+unfolding read
+reading_by false false rows is is' apart = (Bytes, (is, is'))
+reading_by true false rows is is' apart = (Hex, (is, is'))
+reading_by false true rows is is' apart = (Salvage, (is, is'))
+reading_by true true rows is is' apart =
+    let both : (was_given (codes "salvage") rows && was_given (codes "hex") rows) ≡ true =
+    ap (λ (o : Option Text). read o && was_given (codes "hex") rows) is' ∙ ap read is in
+    absurd (true≢false (sym both ∙ apart))
+
+salvage_leaf_chooses : (command : Reading → Command) (name word : Text) (words : List Text)
+    → ((reading : Reading) (rows : List Row) → HoldsReading reading rows → IsCommand (command reading) name rows)
+    → ((rows : List Row) → salvages_text (Some (name, rows)) ≡ (was_given (codes "salvage") rows && was_given (codes "hex") rows))
+    → Chooses word words (leaf (file_app name salvage_flags))
+salvage_leaf_chooses command name word words is same none = λ _ apart.
+    let held = salvage_leaf_names name words none in
+    let rows = (rows_at (leaf (file_app name salvage_flags)) words).1 in
     let hex = held.1.1.0 in
-    inl ((command hex.0, is hex.0 (rows_at (leaf (file_app name bytes_flags)) words).1 hex.1), held.0, held.1.0)
+    let salvage = held.1.1.1.0 in
+    let reading = reading_by hex.0 salvage.0 rows hex.1 salvage.1 (sym (same rows) ∙ apart) in
+    inl ((command reading.0, is reading.0 rows reading.1), held.0, held.1.0)
 
 dump_leaf_chooses : (word : Text) (words : List Text) → Chooses word words (leaf dump_app)
-dump_leaf_chooses word words none = λ _.
+dump_leaf_chooses word words none = λ _ _.
     let held = dump_leaf_names words none in
     let hex = held.1.1.0 in
     let offsets = held.1.1.1.0 in
@@ -142,7 +165,7 @@ layout_by false = (Lines, refl)
 layout_by true = (Array, refl)
 
 json_leaf_chooses : (word : Text) (words : List Text) → Chooses word words (leaf json_app)
-json_leaf_chooses word words none = λ _.
+json_leaf_chooses word words none = λ _ _.
     let held = json_leaf_names words none in
     let rows = (rows_at (leaf json_app) words).1 in
     let hex = held.1.1.0 in
@@ -157,6 +180,7 @@ json_leaf_chooses word words none = λ _.
 -- the flags of `msg` make a form, but for a `--relaxed` that wants `--json`
 form_by : (json relaxed : Bool) (rows : List Row) → HoldsFlag (codes "json") json rows → HoldsFlag (codes "relaxed") relaxed rows
     → (was_given (codes "relaxed") rows && not (was_given (codes "json") rows)) ≡ false → (form : MessageForm) × HoldsMessageForm form rows
+unfolding read
 form_by false false rows is is' whole = (in_text, (is, is'))
 form_by true relaxed rows is is' whole =
     let mode = mode_by relaxed in
@@ -165,12 +189,9 @@ form_by false true rows is is' whole =
     let wanted : (was_given (codes "relaxed") rows && not (was_given (codes "json") rows)) ≡ true =
     ap (λ (o : Option Text). read o && not (was_given (codes "json") rows)) is' ∙ ap (λ (o : Option Text). not (read o)) is in
     absurd (true≢false (sym wanted ∙ whole))
-  where
-    read : Option Text → Bool
-    read o = option_map_or (λ text. bytes_eq text (codes "true")) o false
 
 msg_leaf_chooses : (word : Text) (words : List Text) → Chooses word words (leaf msg_app)
-msg_leaf_chooses word words none = λ whole.
+msg_leaf_chooses word words none = λ whole _.
     let held = msg_leaf_names words none in
     let rows = (rows_at (leaf msg_app) words).1 in
     let hex = held.1.1.0 in
@@ -180,12 +201,12 @@ msg_leaf_chooses word words none = λ whole.
     inl ((Msg hex.0 form.0, (refl, hex.1, form.1)), held.0, held.1.0)
 
 text_leaf_chooses : (command : Command) (name word : Text) (words : List Text) → ((rows : List Row) → IsCommand command name rows) → Chooses word words (leaf (file_app name text_flags))
-text_leaf_chooses command name word words is none = λ _.
+text_leaf_chooses command name word words is none = λ _ _.
     let held = text_leaf_names name words none in
     inl ((command, is (rows_at (leaf (file_app name text_flags)) words).1), held.0, held.1.0)
 
 loop_leaf_chooses : (word : Text) (words : List Text) → Chooses word words (leaf loop_app)
-loop_leaf_chooses word words none = λ _. inr (refl, loop_leaf_names words none)
+loop_leaf_chooses word words none = λ _ _. inr (refl, loop_leaf_names words none)
 
 entered_chooses : (o : Option Shape) (word : Text) (words : List Text) → IfSome o (Chooses word words)
     → option_map_or (λ s. level_fault s [] nothing_held words false []) o [] ≡ [] → is_some (option_map (λ s. rows_at s words) o) ≡ true
@@ -207,9 +228,9 @@ subs_choose : (word : Text) (words : List Text) → bytes_eq word (codes "help")
 subs_choose word words differs = (
   (λ _. dump_leaf_chooses word words),
   (
-    (λ _. bytes_leaf_chooses Check (codes "check") word words (λ hex rows holds. (refl, holds))),
+    (λ _. salvage_leaf_chooses Check (codes "check") word words (λ reading rows holds. (refl, holds)) (λ rows. refl)),
     (
-      (λ _. bytes_leaf_chooses Canon (codes "canon") word words (λ hex rows holds. (refl, holds))),
+      (λ _. salvage_leaf_chooses Canon (codes "canon") word words (λ reading rows holds. (refl, holds)) (λ rows. refl)),
       (
         (λ _. msg_leaf_chooses word words),
         (

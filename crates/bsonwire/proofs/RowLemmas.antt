@@ -17,7 +17,7 @@ use Rattle.clap.specs.declared.error.kind.ErrorKind.TheVariants as kind
 use Rattle.clap.specs.declared.builder.value_parser.ValueParser.TheVariants.{Signed}
 use Rattle.clap.specs.declared.parser.matches.ValueSource.{ValueSource}
 use Rattle.clap.specs.declared.parser.matches.ValueSource.TheVariants.{CommandLine}
-use Rattle.bsonwire.specs.CommandLine.{bytes_flags, calls_rule, dump_flags, flag_rule, json_flags, msg_flags, operand_rule, text_flags}
+use Rattle.bsonwire.specs.CommandLine.{calls_rule, dump_flags, flag_rule, json_flags, msg_flags, operand_rule, salvage_flags, text_flags}
 use Rattle.bsonwire.specs.Choices.{IsCount}
 use Rattle.bsonwire.proofs.NumberLemmas.{count_text}
 
@@ -60,7 +60,7 @@ IsBoolText o = (given : Bool) × (o ≡ Some (if given then codes "true" else co
 
 -- the name is that of a flag
 abbrev pub is_flag : Text → Bool
-is_flag id = bytes_eq id (codes "quiet") || (bytes_eq id (codes "hex") || (bytes_eq id (codes "json") || (bytes_eq id (codes "relaxed") || (bytes_eq id (codes "array") || bytes_eq id (codes "offsets")))))
+is_flag id = bytes_eq id (codes "quiet") || (bytes_eq id (codes "hex") || (bytes_eq id (codes "json") || (bytes_eq id (codes "relaxed") || (bytes_eq id (codes "array") || (bytes_eq id (codes "offsets") || bytes_eq id (codes "salvage"))))))
 
 -- a flag is no operand
 pub no_operand : (name id : Text) → is_flag name ≡ true → is_flag id ≡ false → name ≡ id → ⊥
@@ -187,8 +187,8 @@ help_keeps again values rows none all = all
 pub text_leaf_keeps : Each KeepsUse (leaf_rules (operand_rule (codes "file") ∷ map flag_rule text_flags))
 text_leaf_keeps = (file_keeps, (flag_keeps (codes "quiet") refl, (help_keeps, tt)))
 
-pub bytes_leaf_keeps : Each KeepsUse (leaf_rules (operand_rule (codes "file") ∷ map flag_rule bytes_flags))
-bytes_leaf_keeps = (file_keeps, (flag_keeps (codes "quiet") refl, (flag_keeps (codes "hex") refl, (help_keeps, tt))))
+pub salvage_leaf_keeps : Each KeepsUse (leaf_rules (operand_rule (codes "file") ∷ map flag_rule salvage_flags))
+salvage_leaf_keeps = (file_keeps, (flag_keeps (codes "quiet") refl, (flag_keeps (codes "hex") refl, (flag_keeps (codes "salvage") refl, (help_keeps, tt)))))
 
 pub dump_leaf_keeps : Each KeepsUse (leaf_rules (operand_rule (codes "file") ∷ map flag_rule dump_flags))
 dump_leaf_keeps = (file_keeps, (flag_keeps (codes "quiet") refl, (flag_keeps (codes "hex") refl, (flag_keeps (codes "offsets") refl, (help_keeps, tt)))))

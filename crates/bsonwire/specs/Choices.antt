@@ -1,6 +1,6 @@
 -- What a choice takes from the matches that `clap` makes of the words, and what it asks for.
 use Rattle.std.specs.Prelude.{◌≡◌, ◌⊎◌, ◌≤◌, ℕ, List, Bool, true, false, Option, Some, None}
-use Rattle.std.specs.Prelude.{[], ◌∷◌, ◌&&◌, not, is_some, codes, if◌then◌else◌}
+use Rattle.std.specs.Prelude.{[], ◌∷◌, ◌&&◌, ◌||◌, not, is_some, codes, if◌then◌else◌}
 use Rattle.std.specs.Str.{bytes_eq}
 use Rattle.std.specs.Str.Parse.{IsNumeral, digits_value, without_leading_plus}
 use Rattle.clap.specs.Kinds.{or_else}
@@ -12,6 +12,8 @@ use Rattle.bsonwire.specs.declared.choice.Choice.TheVariants.{Loop, Over}
 use Rattle.bsonwire.specs.declared.choice.Command.{Command}
 use Rattle.bsonwire.specs.declared.choice.Command.TheVariants.{Dump, Check, Canon, Json, Msg}
 use Rattle.bsonwire.specs.declared.choice.Command.TheVariants.{Bson, Play}
+use Rattle.bsonwire.specs.declared.choice.Reading.{Reading}
+use Rattle.bsonwire.specs.declared.choice.Reading.TheVariants.{Bytes, Hex, Salvage}
 use Rattle.bsonwire.specs.CommandLine.{command_line}
 use Rattle.bson_json.specs.declared.mode.Mode.{Mode}
 use Rattle.bson_json.specs.declared.mode.Mode.TheVariants.{Canonical, Relaxed}
@@ -20,8 +22,9 @@ use Rattle.engines.specs.declared.json.Layout.TheVariants.{Lines, Array}
 use Rattle.engines.specs.declared.msg.MessageForm.{MessageForm}
 use Rattle.engines.specs.declared.msg.MessageForm.TheVariants.{Text as in_text, Json as in_json}
 use Rattle.engines.specs.{AllMessages, AllTexts, BsonText, CanonText, CheckText, DumpText}
-use Rattle.engines.specs.{FirstMessages, FirstTexts, IsOutput, JsonText, MayBeJson, MsgText}
-use Rattle.engines.specs.{ScriptText, bytes_of, canon_of, check_of, dump_of, told_at, told_by}
+use Rattle.engines.specs.{FirstMessages, FirstSalvaged, FirstTexts, IsOutput, JsonText}
+use Rattle.engines.specs.{MayBeJson, MsgText, SalvageText, SalvagedSoFar, ScriptText, bytes_of}
+use Rattle.engines.specs.{canon_of, check_of, dump_of, told_at, told_by}
 
 -- ---- what the matches of a subcommand hold
 
@@ -57,6 +60,12 @@ HoldsForm mode layout rows =
     HoldsFlag (codes "relaxed") (is_relaxed mode) rows
     × HoldsFlag (codes "array") (is_array layout) rows
 
+-- they hold the flags of `check` or `canon`: `--salvage`, or else maybe `--hex`
+abbrev pub HoldsReading : Reading → List Row → Type 0
+HoldsReading Bytes rows = HoldsHex false rows × HoldsFlag (codes "salvage") false rows
+HoldsReading Hex rows = HoldsHex true rows × HoldsFlag (codes "salvage") false rows
+HoldsReading Salvage rows = HoldsHex false rows × HoldsFlag (codes "salvage") true rows
+
 -- they hold the flags of `msg`: `--json`, and with it maybe `--relaxed`
 abbrev pub HoldsMessageForm : MessageForm → List Row → Type 0
 HoldsMessageForm in_text rows =
@@ -83,8 +92,8 @@ HoldsCalls n rows = IsCount n (one_of (codes "calls") rows)
 abbrev pub IsCommand : Command → Text → List Row → Type 0
 IsCommand (Dump hex offsets) name rows =
     (name ≡ codes "dump") × HoldsHex hex rows × HoldsFlag (codes "offsets") offsets rows
-IsCommand (Check hex) name rows = (name ≡ codes "check") × HoldsHex hex rows
-IsCommand (Canon hex) name rows = (name ≡ codes "canon") × HoldsHex hex rows
+IsCommand (Check reading) name rows = (name ≡ codes "check") × HoldsReading reading rows
+IsCommand (Canon reading) name rows = (name ≡ codes "canon") × HoldsReading reading rows
 IsCommand (Json hex mode layout) name rows =
     (name ≡ codes "json") × HoldsHex hex rows × HoldsForm mode layout rows
 IsCommand Bson name rows = name ≡ codes "bson"
@@ -116,9 +125,18 @@ lacks_json (Some met) =
     bytes_eq met.0 (codes "msg")
     && (was_given (codes "relaxed") met.1 && not (was_given (codes "json") met.1))
 
+-- whether the subcommand is `check` or `canon` with `--salvage` and `--hex`
+abbrev pub salvages_text : Option (Text × List Row) → Bool
+salvages_text None = false
+salvages_text (Some met) =
+    (bytes_eq met.0 (codes "check") || bytes_eq met.0 (codes "canon"))
+    && (was_given (codes "salvage") met.1 && was_given (codes "hex") met.1)
+
 -- the fault of flags that don't go together
 abbrev pub flags_fault : Option (Text × List Row) → Kinds
-flags_fault met = if lacks_json met then kind.MissingRequiredArgument ∷ [] else []
+flags_fault met =
+    if lacks_json met then kind.MissingRequiredArgument ∷ []
+    else if salvages_text met then kind.ArgumentConflict ∷ [] else []
 
 -- the kinds of the faults of words: those that `clap` finds, or else that of their flags
 abbrev pub words_fault : List Text → Kinds
@@ -155,17 +173,22 @@ abbrev pub NamesChoice : Option (Text × List Row) → Type 0
 NamesChoice None = ⊥
 NamesChoice (Some met) = NamesSubcommand met.0 met.1
 
--- there is a subcommand, and its matches make a choice unless it is `msg` and lacks `--json`
+-- there is a subcommand, and its matches make a choice unless it is `msg` and lacks `--json`, or
+-- has `--salvage` beside `--hex`
 abbrev pub MayChoose : Option (Text × List Row) → Type 0
-MayChoose met = lacks_json met ≡ false → NamesChoice met
+MayChoose met = lacks_json met ≡ false → salvages_text met ≡ false → NamesChoice met
 
 -- ---- what a choice asks for
 
 -- what a command writes for an input, and whether it ends with a fault line
 abbrev pub CommandText : Command → List ℕ → List ℕ → Bool → Type 0
 CommandText (Dump hex offsets) = IsOutput (DumpText offsets) hex
-CommandText (Check hex) = IsOutput CheckText hex
-CommandText (Canon hex) = IsOutput (CanonText 2147483647 hex) hex
+CommandText (Check Bytes) = IsOutput CheckText false
+CommandText (Check Hex) = IsOutput CheckText true
+CommandText (Check Salvage) = SalvageText (told_by check_of) true 16793600
+CommandText (Canon Bytes) = IsOutput (CanonText 2147483647 false) false
+CommandText (Canon Hex) = IsOutput (CanonText 2147483647 true) true
+CommandText (Canon Salvage) = SalvageText (told_by (canon_of 2147483647 false)) false 16793600
 CommandText (Json hex mode layout) = IsOutput (JsonText mode layout) hex
 CommandText Bson = BsonText
 CommandText (Msg hex form) = IsOutput (MsgText form) hex
@@ -175,9 +198,13 @@ CommandText Play = ScriptText
 -- reads it piece by piece.
 abbrev pub FirstOf : Command → List ℕ → List ℕ → Type 0
 FirstOf (Dump hex offsets) = λ input. FirstTexts (told_at (dump_of offsets)) (bytes_of hex input)
-FirstOf (Check hex) = λ input. FirstTexts (told_by check_of) (bytes_of hex input)
-FirstOf (Canon hex) =
-    λ input. FirstTexts (told_by (canon_of 2147483647 hex)) (bytes_of hex input)
+FirstOf (Check Bytes) = FirstTexts (told_by check_of)
+FirstOf (Check Hex) = λ input. FirstTexts (told_by check_of) (bytes_of true input)
+FirstOf (Check Salvage) = FirstSalvaged (told_by check_of) true 16793600
+FirstOf (Canon Bytes) = FirstTexts (told_by (canon_of 2147483647 false))
+FirstOf (Canon Hex) =
+    λ input. FirstTexts (told_by (canon_of 2147483647 true)) (bytes_of true input)
+FirstOf (Canon Salvage) = FirstSalvaged (told_by (canon_of 2147483647 false)) false 16793600
 FirstOf (Json hex mode layout) = λ input. FirstTexts (MayBeJson mode layout) (bytes_of hex input)
 FirstOf (Msg hex form) = λ input. FirstMessages form (bytes_of hex input)
 FirstOf _ = λ input texts. ⊥
@@ -185,8 +212,12 @@ FirstOf _ = λ input texts. ⊥
 -- Whether these are the texts of all of them, up to the first fault.
 abbrev pub AllOf : Command → List ℕ → List ℕ → Type 0
 AllOf (Dump hex offsets) = λ input. AllTexts (told_at (dump_of offsets)) (bytes_of hex input)
-AllOf (Check hex) = λ input. AllTexts (told_by check_of) (bytes_of hex input)
-AllOf (Canon hex) = λ input. AllTexts (told_by (canon_of 2147483647 hex)) (bytes_of hex input)
+AllOf (Check Bytes) = AllTexts (told_by check_of)
+AllOf (Check Hex) = λ input. AllTexts (told_by check_of) (bytes_of true input)
+AllOf (Check Salvage) = SalvagedSoFar (told_by check_of) true 16793600
+AllOf (Canon Bytes) = AllTexts (told_by (canon_of 2147483647 false))
+AllOf (Canon Hex) = λ input. AllTexts (told_by (canon_of 2147483647 true)) (bytes_of true input)
+AllOf (Canon Salvage) = SalvagedSoFar (told_by (canon_of 2147483647 false)) false 16793600
 AllOf (Json hex mode layout) = λ input. AllTexts (MayBeJson mode layout) (bytes_of hex input)
 AllOf (Msg hex form) = λ input. AllMessages form (bytes_of hex input)
 AllOf _ = λ input texts. ⊥

@@ -35,6 +35,10 @@ bytes_flags = codes "quiet" ∷ codes "hex" ∷ []
 abbrev pub dump_flags : List Text
 dump_flags = codes "quiet" ∷ codes "hex" ∷ codes "offsets" ∷ []
 
+-- the flags of one that reads documents, also where some bytes are damaged
+abbrev pub salvage_flags : List Text
+salvage_flags = codes "quiet" ∷ codes "hex" ∷ codes "salvage" ∷ []
+
 -- the flags of the one that reads messages
 abbrev pub msg_flags : List Text
 msg_flags = codes "quiet" ∷ codes "hex" ∷ codes "json" ∷ codes "relaxed" ∷ []
@@ -46,6 +50,14 @@ json_flags = codes "quiet" ∷ codes "hex" ∷ codes "relaxed" ∷ codes "array"
 -- the subcommand that writes the text of documents
 abbrev pub dump_app : App
 dump_app = file_app (codes "dump") dump_flags
+
+-- the subcommand that says of documents whether they are in canonical form
+abbrev pub check_app : App
+check_app = file_app (codes "check") salvage_flags
+
+-- the subcommand that writes their canonical form
+abbrev pub canon_app : App
+canon_app = file_app (codes "canon") salvage_flags
 
 -- the subcommand that reads messages
 abbrev pub msg_app : App
@@ -72,15 +84,13 @@ abbrev pub top_app : App
 top_app = on_top (λ s. record s { subcommand_required = true; has_version = true })
     (new_app (codes "bsonwire"))
 
--- the program with the subcommands that read a file
+-- the program with the subcommands that tell of documents
+abbrev pub check_line : App
+check_line = with_subcommand (with_subcommand top_app dump_app.top) check_app.top
+
+-- the program with all that read bytes, but for those of Extended JSON
 abbrev pub file_line : App
-file_line =
-    with_subcommand
-    (with_subcommand
-    (with_subcommand (with_subcommand top_app dump_app.top)
-    (file_app (codes "check") bytes_flags).top)
-    (file_app (codes "canon") bytes_flags).top)
-    msg_app.top
+file_line = with_subcommand (with_subcommand check_line canon_app.top) msg_app.top
 
 -- the program with those that write and read Extended JSON, too
 abbrev pub json_line : App

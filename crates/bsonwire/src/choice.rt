@@ -5,17 +5,28 @@ ghost use Rattle.std.specs.Prelude.{false, true, Bool, codes};
 ghost use Rattle.clap.specs.Words.{FailsBy, first_of, found_of, rows_of};
 ghost use Rattle.clap.specs.Words.{subcommand_rows_of};
 ghost use Rattle.bsonwire.specs.Choices.{HasCalls, HasFile, HasQuiet, HoldsCalls, HoldsFlag};
-ghost use Rattle.bsonwire.specs.Choices.{HoldsForm, HoldsMessageForm, IsChosen, IsCommand};
-ghost use Rattle.bsonwire.specs.Choices.{IsMetSubcommand, IsSubcommand, MayChoose, NamesChoice};
-ghost use Rattle.bsonwire.specs.Choices.{NamesCommand};
+ghost use Rattle.bsonwire.specs.Choices.{HoldsForm, HoldsMessageForm, HoldsReading, IsChosen};
+ghost use Rattle.bsonwire.specs.Choices.{IsCommand, IsMetSubcommand, IsSubcommand, MayChoose};
+ghost use Rattle.bsonwire.specs.Choices.{NamesChoice, NamesCommand};
 ghost use Rattle.bsonwire.specs.Choices.{flags_fault, is_array, is_relaxed, lacks_json};
-ghost use Rattle.bsonwire.specs.Choices.{words_fault};
+ghost use Rattle.bsonwire.specs.Choices.{salvages_text, words_fault};
 
-use crate::command_line::{json_wanted, program};
+use crate::command_line::{bytes_wanted, json_wanted, program};
 use clap::{ArgMatches, Error};
 use command_words::is_given;
 use engines::{Layout, MessageForm, Mode};
 use std::alloc::Global;
+
+/// How a command reads documents.
+#[derive(Clone, Copy, Debug, PartialEq, Eq)]
+pub enum Reading {
+    /// As bytes, up to the first fault.
+    Bytes,
+    /// As hexadecimal text, up to the first fault.
+    Hex,
+    /// As bytes of which some may be damaged.
+    Salvage,
+}
 
 /// A command that reads an input.
 #[derive(Clone, Copy, Debug, PartialEq, Eq)]
@@ -27,13 +38,9 @@ pub enum Command {
         offsets: bool,
     },
     /// Says of each document whether it is in canonical form.
-    Check {
-        hex: bool,
-    },
+    Check(Reading),
     /// Writes the canonical form of each document.
-    Canon {
-        hex: bool,
-    },
+    Canon(Reading),
     /// Writes each document as Extended JSON.
     Json {
         hex: bool,
@@ -113,6 +120,20 @@ fn layout_of(matches: &ArgMatches<'_>) -> Layout
     }
 }
 
+/// Returns how documents are read.
+fn reading_of(matches: &ArgMatches<'_>) -> Reading
+    requires { (reading : Reading) × HoldsReading reading (rows_of (found_of matches.now)) }
+    ensures { HoldsReading result (rows_of (found_of matches.now)) }
+{
+    if flag_of(matches, "salvage") {
+        Reading::Salvage
+    } else if flag_of(matches, "hex") {
+        Reading::Hex
+    } else {
+        Reading::Bytes
+    }
+}
+
 /// Returns how messages are written.
 fn form_of(matches: &ArgMatches<'_>) -> MessageForm
     requires { (form : MessageForm) × HoldsMessageForm form (rows_of (found_of matches.now)) }
@@ -147,14 +168,18 @@ fn command_of(name: &str, matches: &ArgMatches<'_>) -> Command
     if name == "bson" {
         return Command::Bson;
     }
+    if name == "check" {
+        return Command::Check(reading_of(matches));
+    }
+    if name == "canon" {
+        return Command::Canon(reading_of(matches));
+    }
     let hex = flag_of(matches, "hex");
     match name {
         "dump" => Command::Dump {
             hex,
             offsets: flag_of(matches, "offsets"),
         },
-        "check" => Command::Check { hex },
-        "canon" => Command::Canon { hex },
         "json" => Command::Json {
             hex,
             mode: mode_of(matches),
@@ -208,20 +233,37 @@ fn is_json_wanted(matches: &ArgMatches<'_>) -> bool
     }
 }
 
-/// Returns the choice that the matches of a parse name, the error of the parse, or that of a
-/// `--relaxed` that wants `--json`. Only the text of the latter takes memory.
+/// Returns true if `check` or `canon` has `--salvage` and `--hex`.
+fn is_text_salvaged(matches: &ArgMatches<'_>) -> bool
+    ensures { result ≡ salvages_text (subcommand_rows_of matches.now) }
+{
+    match matches.subcommand() {
+        Some((name, inner)) => {
+            (name == "check" || name == "canon")
+                && is_given(inner, "salvage")
+                && is_given(inner, "hex")
+        }
+        None => false,
+    }
+}
+
+/// Returns the choice that the matches of a parse name, the error of the parse, that of a
+/// `--relaxed` that wants `--json`, or that of a `--salvage` beside `--hex`.
 fn chosen<'a>(alloc: Global, parse: Result<ArgMatches<'a>, Error>) -> Result<Choice<'a>, Error>
     requires { IfOk parse (λ m. MayChoose (subcommand_rows_of m)) }
     ensures met { IfOk parse.entry
         (λ m. IfOk result (λ c. IsMetSubcommand c (subcommand_rows_of m))) }
     ensures kinds { IfOk parse.entry (λ m. FailsBy (flags_fault (subcommand_rows_of m)) result) }
-    ensures found { IfOk parse.entry
-        (λ m. lacks_json (subcommand_rows_of m) ≡ false → IsOk result) }
+    ensures found { IfOk parse.entry (λ m. lacks_json (subcommand_rows_of m) ≡ false
+        → salvages_text (subcommand_rows_of m) ≡ false → IsOk result) }
     ensures error { IfErr parse.entry (λ e. IsErrAnd result (λ r. r ≡ e)) }
 {
     let matches = parse?;
     if is_json_wanted(&matches) {
         return Err(json_wanted(alloc)?);
+    }
+    if is_text_salvaged(&matches) {
+        return Err(bytes_wanted(alloc)?);
     }
     Ok(choice_of(&matches))
 }
@@ -232,7 +274,8 @@ fn chosen<'a>(alloc: Global, parse: Result<ArgMatches<'a>, Error>) -> Result<Cho
 ///
 /// Returns `clap`'s own error: a fault in the words, a request for help or the version, or out of
 /// memory. The words that `clap` accepts always name a choice, but for those of `msg` with
-/// `--relaxed` and without `--json`, which are at fault too.
+/// `--relaxed` and without `--json`, and of `check` or `canon` with `--salvage` and `--hex`, which
+/// are at fault too.
 pub fn choose<'a>(alloc: Global, words: &'a [&'a str]) -> Result<Choice<'a>, Error>
     ensures chosen { IfOk result (λ c. IsChosen c (map (λ w. w.now) words.now)) }
     ensures kinds { FailsBy (words_fault (map (λ w. w.now) words.now)) result }

@@ -1,11 +1,12 @@
 //! Describes the command line to `clap`: the subcommands, their operands and their flags.
 ghost use Rattle.std.specs.Prelude.{◌≡◌, IfOk, codes, false};
-ghost use Rattle.clap.specs.Words.{app_of, kind_of, rule_of, with_subcommand};
+ghost use Rattle.clap.specs.Words.{app_of, kind_of, rule_of};
 ghost use Rattle.clap.specs.declared.builder.command.Command.TheViews.{out-Command};
-ghost use Rattle.bsonwire.specs.CommandLine.{bytes_flags, calls_rule, command_line, dump_app};
-ghost use Rattle.bsonwire.specs.CommandLine.{bson_app, file_app, file_line, flag_rule, json_app};
-ghost use Rattle.bsonwire.specs.CommandLine.{json_line, loop_app, msg_app, operand_rule, play_app};
-ghost use Rattle.bsonwire.specs.CommandLine.{text_flags, top_app};
+ghost use Rattle.bsonwire.specs.CommandLine.{bson_app, bytes_flags, calls_rule, canon_app};
+ghost use Rattle.bsonwire.specs.CommandLine.{check_app, check_line, command_line, dump_app};
+ghost use Rattle.bsonwire.specs.CommandLine.{file_app, file_line, flag_rule, json_app, json_line};
+ghost use Rattle.bsonwire.specs.CommandLine.{loop_app, msg_app, operand_rule, play_app};
+ghost use Rattle.bsonwire.specs.CommandLine.{salvage_flags, text_flags, top_app};
 
 use clap::error::ErrorKind;
 use clap::{Arg, ArgAction, Command, Error, value_parser};
@@ -86,6 +87,40 @@ fn dump_command<'a>(alloc: Global) -> Result<Command<'a>, AllocError>
     ))
 }
 
+/// Makes a subcommand with this name that reads documents, also where some bytes are damaged.
+fn salvage_command<'a>(
+    alloc: Global,
+    name: &'a str,
+    about: &'a str,
+    salvage: &'a str,
+) -> Result<Command<'a>, AllocError>
+    ensures app { IfOk result (λ c. app_of c ≡ file_app name.entry.now salvage_flags) }
+    ensures local { IfOk result (λ c. (out-Command c).has_globals ≡ false) }
+{
+    file_command(alloc, name, about)?.arg(flag(alloc, "salvage", salvage))
+}
+
+/// Makes the subcommand that says of documents whether they are in canonical form.
+fn check_command<'a>(alloc: Global) -> Result<Command<'a>, AllocError>
+    ensures app { IfOk result (λ c. app_of c ≡ check_app) }
+    ensures local { IfOk result (λ c. (out-Command c).has_globals ≡ false) }
+{
+    let about = "Says of each document whether it is in canonical form";
+    let salvage =
+        "Go on behind faults, and write the gaps; a document has at most 16793600 bytes then";
+    salvage_command(alloc, "check", about, salvage)
+}
+
+/// Makes the subcommand that writes the canonical form of documents.
+fn canon_command<'a>(alloc: Global) -> Result<Command<'a>, AllocError>
+    ensures app { IfOk result (λ c. app_of c ≡ canon_app) }
+    ensures local { IfOk result (λ c. (out-Command c).has_globals ≡ false) }
+{
+    let about = "Writes the canonical form of each document";
+    let salvage = "Write those behind faults too, of at most 16793600 bytes, and no fault";
+    salvage_command(alloc, "canon", about, salvage)
+}
+
 /// Makes the subcommand that reads messages.
 fn msg_command<'a>(alloc: Global) -> Result<Command<'a>, AllocError>
     ensures app { IfOk result (λ c. app_of c ≡ msg_app) }
@@ -106,6 +141,14 @@ pub fn json_wanted(alloc: Global) -> Result<Error, AllocError>
     msg_command(alloc)?
         .bin_name("bsonwire msg")?
         .error(ErrorKind::MissingRequiredArgument, wanted)
+}
+
+/// Makes the error of a `--salvage` beside `--hex`, in the form of `clap`'s own.
+pub fn bytes_wanted(alloc: Global) -> Result<Error, AllocError>
+    ensures { IfOk result (λ e. kind_of e ≡ ErrorKind.ArgumentConflict) }
+{
+    let conflict = "the argument '--salvage' cannot be used with '--hex'";
+    top(alloc).error(ErrorKind::ArgumentConflict, conflict)
 }
 
 /// Makes the subcommand that writes Extended JSON.
@@ -161,41 +204,25 @@ fn top<'a>(alloc: Global) -> Command<'a>
         .subcommand_required(true)
 }
 
-/// Adds a subcommand with this name that reads FILE.
-fn with_file_command<'a>(
-    line: Command<'a>,
-    alloc: Global,
-    name: &'a str,
-    about: &'a str,
-) -> Result<Command<'a>, AllocError>
-    requires { (out-Command line).has_globals ≡ false }
-    ensures app { IfOk result (λ c.
-        app_of c ≡ with_subcommand (app_of line.entry) (file_app name.entry.now bytes_flags).top) }
-    ensures local { IfOk result (λ c. (out-Command c).has_globals ≡ false) }
-{
-    let sub = file_command(alloc, name, about)?;
-    line.subcommand(sub)
-}
-
-/// Makes the command line with the subcommands that read FILE.
-fn file_commands<'a>(alloc: Global) -> Result<Command<'a>, AllocError>
-    ensures app { IfOk result (λ c. app_of c ≡ file_line) }
+/// Makes the command line with the subcommands that tell of documents.
+fn check_commands<'a>(alloc: Global) -> Result<Command<'a>, AllocError>
+    ensures app { IfOk result (λ c. app_of c ≡ check_line) }
     ensures local { IfOk result (λ c. (out-Command c).has_globals ≡ false) }
 {
     let dump = dump_command(alloc)?;
     let line = top(alloc).subcommand(dump)?;
-    let line = with_file_command(
-        line,
-        alloc,
-        "check",
-        "Says of each document whether it is in canonical form",
-    )?;
-    let line = with_file_command(
-        line,
-        alloc,
-        "canon",
-        "Writes the canonical form of each document",
-    )?;
+    let check = check_command(alloc)?;
+    line.subcommand(check)
+}
+
+/// Makes the command line with all that read bytes, but for those of Extended JSON.
+fn file_commands<'a>(alloc: Global) -> Result<Command<'a>, AllocError>
+    ensures app { IfOk result (λ c. app_of c ≡ file_line) }
+    ensures local { IfOk result (λ c. (out-Command c).has_globals ≡ false) }
+{
+    let line = check_commands(alloc)?;
+    let canon = canon_command(alloc)?;
+    let line = line.subcommand(canon)?;
     let msg = msg_command(alloc)?;
     line.subcommand(msg)
 }

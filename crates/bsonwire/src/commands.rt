@@ -11,12 +11,12 @@ ghost use Rattle.bsonwire.specs.ExitStatus.{IsStatusFor, exit_status, tells_done
 ghost use Rattle.engines.specs.{AppendsOne, AppendsText, AppendsUpTo, WritesRead, end_of_error};
 ghost use Rattle.engines.specs.{is_done, is_fault, loop_text};
 
-use crate::choice::{Choice, Command};
+use crate::choice::{Choice, Command, Reading};
 use crate::progress::Progress;
 use command_words::{IN_OUT, MEMORY};
 use engines::{
     RunEnd, TextStop, end_of, run_bson, run_canon, run_check, run_dump, run_json, run_loop,
-    run_msg, run_play,
+    run_msg, run_play, salvage_canon, salvage_check,
 };
 use std::alloc::Global;
 use std::fs::OpenFile;
@@ -227,8 +227,12 @@ fn run_over<E: Eprint, R: Read, W: Write>(
 {
     match command {
         Command::Dump { hex, offsets } => run_dump(alloc, offsets, hex, reader, writer),
-        Command::Check { hex } => run_check(alloc, hex, reader, writer),
-        Command::Canon { hex } => run_canon(alloc, hex, reader, writer),
+        Command::Check(Reading::Bytes) => run_check(alloc, false, reader, writer),
+        Command::Check(Reading::Hex) => run_check(alloc, true, reader, writer),
+        Command::Check(Reading::Salvage) => salvage_check(alloc, reader, writer),
+        Command::Canon(Reading::Bytes) => run_canon(alloc, false, reader, writer),
+        Command::Canon(Reading::Hex) => run_canon(alloc, true, reader, writer),
+        Command::Canon(Reading::Salvage) => salvage_canon(alloc, reader, writer),
         Command::Json { hex, mode, layout } => run_json(alloc, mode, layout, hex, reader, writer),
         Command::Bson => tell_stop(rt, run_bson(alloc, reader, writer), input),
         Command::Msg { hex, form } => run_msg(alloc, form, hex, reader, writer),

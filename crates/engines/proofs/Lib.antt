@@ -1,5 +1,6 @@
 pub mod Readings
 pub mod PieceLemmas
+pub mod SalvageLemmas
 pub mod DocumentLemmas
 pub mod TextLaws
 pub mod MessageReadings

@@ -10,6 +10,8 @@ pub mod Source
 pub mod Walk
 pub mod HexWalk
 pub mod DocumentWalk
+pub mod Salvaged
+pub mod SalvageWalk
 pub mod MessageWalk
 pub mod Check
 pub mod BsonOf
@@ -33,3 +35,4 @@ pub use Rattle.engines.specs.Msg.{AllMessages, FirstMessages, MsgText}
 pub use Rattle.engines.specs.Output.{AppendsOne, AppendsText, IsOutput, TextOf, WritesRead}
 pub use Rattle.engines.specs.Play.{ScriptText}
 pub use Rattle.engines.specs.Run.{end_of_error, is_done, is_fault}
+pub use Rattle.engines.specs.Salvaged.{FirstSalvaged, SalvageText, SalvagedSoFar}

@@ -5,12 +5,14 @@ ghost use Rattle.std.specs.Prelude.{if◌then◌else◌, length, nat_lt, true};
 ghost use Rattle.std.specs.Io.KnownBytes.{IsAtEnd};
 ghost use Rattle.engines.specs.Canon.{CanonText, behind_forms, canon_of, in_form};
 ghost use Rattle.engines.specs.Documents.{AppendsFirst, WritesAll, told_by};
-ghost use Rattle.engines.specs.Output.{AppendsText, IsOutput};
+ghost use Rattle.engines.specs.Output.{AppendsOne, AppendsText, IsOutput, WritesRead};
 ghost use Rattle.engines.specs.Run.{is_done, is_fault};
+ghost use Rattle.engines.specs.Salvaged.{FirstSalvaged, SalvageText, SalvagedSoFar};
 ghost use Rattle.engines.specs.DocumentWalk.{IsWritten};
 
 use crate::documents::{EachDocument, Written, run_documents};
 use crate::run::RunEnd;
+use crate::salvage::{SALVAGE_LIMIT, run_salvage};
 use bson_doc::{DocRefusal, renumbered};
 use bson_elem::MAX_LEN;
 use bson_raw::RawDocument;
@@ -124,4 +126,27 @@ pub fn run_canon_within<R: Read, W: Write>(
 {
     let canon = Canon { alloc, hex, limit };
     run_documents(alloc, canon, hex, reader, writer)
+}
+
+/// Writes the canonical form of each document that is found in the input, some of whose bytes may
+/// be damaged. Nothing is written for a gap, nor for a document whose form is too long.
+pub fn salvage_canon<R: Read, W: Write>(alloc: Global, reader: &mut R, writer: &mut W) -> RunEnd
+    ensures read { is_done result ≡ true → IsAtEnd (R.remaining reader.new) }
+    ensures written { IfSome (R.remaining reader.old) (λ input. is_done result ≡ true →
+        AppendsText (SalvageText (told_by (canon_of MAX_LEN false)) false SALVAGE_LIMIT input)
+        (is_fault result) (W.contents writer.old) (W.contents writer.new)) }
+    ensures unread { result ≡ RunEnd.Unread
+        → WritesRead (SalvagedSoFar (told_by (canon_of MAX_LEN false)) false SALVAGE_LIMIT)
+        (R.remaining reader.old) (R.remaining reader.new)
+        (W.contents writer.old) (W.contents writer.new) }
+    ensures memory { result ≡ RunEnd.OutOfMemory → IfSome (R.remaining reader.old) (λ input.
+        AppendsOne (FirstSalvaged (told_by (canon_of MAX_LEN false)) false SALVAGE_LIMIT input)
+        (W.contents writer.old) (W.contents writer.new)) }
+{
+    let canon = Canon {
+        alloc,
+        hex: false,
+        limit: MAX_LEN,
+    };
+    run_salvage(alloc, canon, false, SALVAGE_LIMIT, reader, writer)
 }

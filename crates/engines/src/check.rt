@@ -4,11 +4,13 @@ ghost use Rattle.std.specs.Prelude.{◌≡◌, ◌⊎◌, IfOk, IfSome, OnOk, fa
 ghost use Rattle.std.specs.Io.KnownBytes.{Appends, IsAtEnd};
 ghost use Rattle.engines.specs.Check.{CheckText, check_of, form_word, sized_line};
 ghost use Rattle.engines.specs.Documents.{AppendsFirst, WritesAll, nothing, told_by};
-ghost use Rattle.engines.specs.Output.{AppendsText, IsOutput};
+ghost use Rattle.engines.specs.Output.{AppendsOne, AppendsText, IsOutput, WritesRead};
 ghost use Rattle.engines.specs.Run.{is_done, is_fault};
+ghost use Rattle.engines.specs.Salvaged.{FirstSalvaged, SalvageText, SalvagedSoFar};
 
 use crate::documents::{EachDocument, Written, run_documents};
 use crate::run::RunEnd;
+use crate::salvage::{SALVAGE_LIMIT, run_salvage};
 use bson_raw::RawDocument;
 use bson_text::number_to;
 use std::alloc::Global;
@@ -80,4 +82,22 @@ pub fn run_check<R: Read, W: Write>(
         AppendsFirst (told_by check_of) hex input (W.contents writer.old) (W.contents writer.new)) }
 {
     run_documents(alloc, Check, hex, reader, writer)
+}
+
+/// Writes the line of each document that is found in the input, some of whose bytes may be damaged,
+/// and of each gap between them the line of its fault and that of its offsets.
+pub fn salvage_check<R: Read, W: Write>(alloc: Global, reader: &mut R, writer: &mut W) -> RunEnd
+    ensures read { is_done result ≡ true → IsAtEnd (R.remaining reader.new) }
+    ensures written { IfSome (R.remaining reader.old) (λ input. is_done result ≡ true →
+        AppendsText (SalvageText (told_by check_of) true SALVAGE_LIMIT input) (is_fault result)
+        (W.contents writer.old) (W.contents writer.new)) }
+    ensures unread { result ≡ RunEnd.Unread
+        → WritesRead (SalvagedSoFar (told_by check_of) true SALVAGE_LIMIT)
+        (R.remaining reader.old) (R.remaining reader.new)
+        (W.contents writer.old) (W.contents writer.new) }
+    ensures memory { result ≡ RunEnd.OutOfMemory → IfSome (R.remaining reader.old) (λ input.
+        AppendsOne (FirstSalvaged (told_by check_of) true SALVAGE_LIMIT input)
+        (W.contents writer.old) (W.contents writer.new)) }
+{
+    run_salvage(alloc, Check, true, SALVAGE_LIMIT, reader, writer)
 }

@@ -17,7 +17,8 @@ pub enum InputFault {
     Hex { offset: usize },
     /// No document begins where one should.
     Bson(BsonFault),
-    /// The canonical form of the document at `offset` has too many bytes for a document.
+    /// The canonical form of the document at `offset` has too many bytes for a document; or no
+    /// document is found at `offset`, since one there would be above the limit.
     TooLarge { offset: usize },
     /// A message has this fault. If the fault is a document's own, its offset inside the document
     /// is counted from the document's first byte.

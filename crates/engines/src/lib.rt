@@ -32,13 +32,14 @@ mod msg;
 mod pieces;
 mod play;
 mod run;
+mod salvage;
 mod source;
 mod walk;
 
 pub use bson::{TextStop, run_bson};
 pub use bson_json::Mode;
-pub use canon::{run_canon, run_canon_within};
-pub use check::run_check;
+pub use canon::{run_canon, run_canon_within, salvage_canon};
+pub use check::{run_check, salvage_check};
 pub use dump::run_dump;
 pub use fault_line::write_fault;
 pub use json::{Layout, run_json};

@@ -25,7 +25,7 @@ use std::io;
 use std::io::{ErrorKind, Read, Write};
 
 /// The most bytes that are read at once.
-const PIECE: usize = 64 * 1024;
+pub const PIECE: usize = 64 * 1024;
 
 /// How an input ended.
 #[derive(Clone, Copy)]
@@ -104,7 +104,7 @@ fn pass_piece<E: Walk, W: Write>(
 
 /// Reads the next piece into `room`, as `read_once` does. Errs also where no offset counts its
 /// bytes, of which `so_far` were read.
-fn read_piece<R: Read>(
+pub fn read_piece<R: Read>(
     so_far: usize,
     reader: &mut R,
     room: &mut [u8],

@@ -31,4 +31,6 @@ mod play;
 #[cfg(test)]
 mod readers;
 #[cfg(test)]
+mod salvage;
+#[cfg(test)]
 mod writers;

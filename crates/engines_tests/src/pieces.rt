@@ -8,11 +8,22 @@ use std::io::{Read, Write};
 
 /// A reader that gives at most `step` bytes at a time, and fails at its call number `fails_at`.
 #[derive(Drop)]
-struct Steps<'a> {
+pub(crate) struct Steps<'a> {
     rest: &'a [u8],
     step: usize,
     fails_at: u64,
     calls: u64,
+}
+
+impl<'a> Steps<'a> {
+    pub(crate) fn new(rest: &'a [u8], step: usize, fails_at: u64) -> Steps<'a> {
+        Steps {
+            rest,
+            step,
+            fails_at,
+            calls: 0,
+        }
+    }
 }
 
 impl Read for Steps<'_> {
@@ -90,12 +101,7 @@ fn is_read(
     end: RunEnd,
 ) -> bool {
     let (step, fails_at) = steps;
-    let mut reader = Steps {
-        rest: input,
-        step,
-        fails_at,
-        calls: 0,
-    };
+    let mut reader = Steps::new(input, step, fails_at);
     let mut writer = Vec::new(alloc);
     let ended = run_check(alloc, hex, &mut reader, &mut writer);
     ended == end && writer.as_slice() == text.as_bytes()
@@ -256,12 +262,7 @@ fn is_read_as_messages(
     text: &str,
     end: RunEnd,
 ) -> bool {
-    let mut reader = Steps {
-        rest: input,
-        step,
-        fails_at,
-        calls: 0,
-    };
+    let mut reader = Steps::new(input, step, fails_at);
     let mut writer = Vec::new(alloc);
     let ended = run_msg(alloc, MessageForm::Text, false, &mut reader, &mut writer);
     ended == end && writer.as_slice() == text.as_bytes()
