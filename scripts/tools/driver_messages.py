@@ -118,6 +118,53 @@ UPSERTS = document([
     element(DOCUMENT, "3", statement([field("b", 52)], [field("b", 4), field("_id", 8)], UPSERT)),
 ])
 
+def text(name, value):
+    return element(STRING, name, string(value))
+
+
+def inner(name, *fields):
+    return element(DOCUMENT, name, document(fields))
+
+
+def array(name, *values):
+    """Returns a field that is the array of these values, each of which is told by its name and makes a field."""
+    return element(ARRAY, name, document([value(str(at)) for at, value in enumerate(values)]))
+
+
+def updates(*statements):
+    return element(ARRAY, "updates", document([element(DOCUMENT, str(at), each) for at, each in enumerate(statements)]))
+
+
+# Of the manual, $set: "Set Fields in Embedded Documents" and "Set Elements in Arrays"; $inc; and one whose _id is a document.
+PRODUCTS = (STRING, string("products"))
+PRODUCT_DOCUMENTS = [
+    document([
+        field("_id", 100),
+        inner("details", text("model", "14QQ"), text("make", "Clothes Corp")),
+        array("tags", lambda at: text(at, "apparel"), lambda at: text(at, "clothing")),
+        array("ratings", lambda at: inner(at, text("by", "Customer007"), field("rating", 4))),
+    ]),
+    document([field("_id", 1), field("quantity", 10), inner("metrics", field("orders", 2), element(DOUBLE, "ratings", double(3.5)))]),
+    document([inner("_id", field("x", 1))]),
+]
+PRODUCT = [field("_id", 100)]
+DOTTED = updates(
+    statement(PRODUCT, [inner("$set", text("details.make", "Kustom Kidz"))]),
+    statement(PRODUCT, [inner("$set", text("tags.1", "rain gear"), field("ratings.0.rating", 2))]),
+    statement([field("_id", 1)], [inner("$inc", field("quantity", -2), field("metrics.orders", 1), field("a.b", 1))]),
+    statement([field("_id", 1)], [inner("$unset", field("metrics.ratings", 1), field("metrics.none.x", 1), field("quantity.x", 1))]),
+    statement(PRODUCT, [inner("$set", field("tags.4", 5)), inner("$unset", field("tags.0", 1), field("tags.9", 1))]),
+)
+REFUSED = updates(
+    statement(PRODUCT, [inner("$set", field("details.make.x", 1))]),
+    statement(PRODUCT, [inner("$inc", field("tags.x", 1))]),
+    statement(PRODUCT, [inner("$set", field("details", 1)), inner("$unset", field("details.make", 1))]),
+    statement(PRODUCT, [inner("$set", field("details..make", 1))]),
+    statement(PRODUCT, [inner("$set", field("tags.$", 1))]),
+    statement([field("_id.x", 1)], [inner("$set", field("_id.x", 2))]),
+    statement(PRODUCT, [inner("$set", field("tags.1500001", 1))]),
+)
+
 INDEX = document([element(DOCUMENT, "key", document([field("a", 1)])), element(STRING, "name", string("a_1"))])
 INDEXES = element(ARRAY, "indexes", document([element(DOCUMENT, "0", INDEX)]))
 
@@ -802,6 +849,222 @@ answer
 document 49
   "nIndexesWas" int32 1
   "ns" string "test.q"
+  "ok" double 000000000000f03f
+""",
+    ),
+    (
+        command("insert", PRODUCTS),
+        PRODUCT_DOCUMENTS,
+        """\
+request "insert"
+document 40
+  "insert" string "products"
+  "$db" string "test"
+sequence "documents" 3
+answer
+document 24
+  "n" int32 3
+  "ok" double 000000000000f03f
+""",
+    ),
+    (
+        command("update", PRODUCTS, DOTTED),
+        (),
+        """\
+request "update"
+document 499
+  "update" string "products"
+  "updates" array 450
+    "0" document 71
+      "q" document 14
+        "_id" int32 100
+      "u" document 46
+        "$set" document 35
+          "details.make" string "Kustom Kidz"
+    "1" document 85
+      "q" document 14
+        "_id" int32 100
+      "u" document 60
+        "$set" document 49
+          "tags.1" string "rain gear"
+          "ratings.0.rating" int32 2
+    "2" document 84
+      "q" document 14
+        "_id" int32 1
+      "u" document 59
+        "$inc" document 48
+          "quantity" int32 -2
+          "metrics.orders" int32 1
+          "a.b" int32 1
+    "3" document 100
+      "q" document 14
+        "_id" int32 1
+      "u" document 75
+        "$unset" document 62
+          "metrics.ratings" int32 1
+          "metrics.none.x" int32 1
+          "quantity.x" int32 1
+    "4" document 90
+      "q" document 14
+        "_id" int32 100
+      "u" document 65
+        "$set" document 17
+          "tags.4" int32 5
+        "$unset" document 29
+          "tags.0" int32 1
+          "tags.9" int32 1
+  "$db" string "test"
+answer
+document 39
+  "n" int32 5
+  "nModified" int32 5
+  "ok" double 000000000000f03f
+""",
+    ),
+    (
+        command("update", PRODUCTS, REFUSED, element(BOOLEAN, "ordered", b"\0")),
+        (),
+        """\
+request "update"
+document 510
+  "update" string "products"
+  "updates" array 451
+    "0" document 61
+      "q" document 14
+        "_id" int32 100
+      "u" document 36
+        "$set" document 25
+          "details.make.x" int32 1
+    "1" document 53
+      "q" document 14
+        "_id" int32 100
+      "u" document 28
+        "$inc" document 17
+          "tags.x" int32 1
+    "2" document 85
+      "q" document 14
+        "_id" int32 100
+      "u" document 60
+        "$set" document 18
+          "details" int32 1
+        "$unset" document 23
+          "details.make" int32 1
+    "3" document 60
+      "q" document 14
+        "_id" int32 100
+      "u" document 35
+        "$set" document 24
+          "details..make" int32 1
+    "4" document 53
+      "q" document 14
+        "_id" int32 100
+      "u" document 28
+        "$set" document 17
+          "tags.$" int32 1
+    "5" document 54
+      "q" document 16
+        "_id.x" int32 1
+      "u" document 27
+        "$set" document 16
+          "_id.x" int32 2
+    "6" document 59
+      "q" document 14
+        "_id" int32 100
+      "u" document 34
+        "$set" document 23
+          "tags.1500001" int32 1
+  "ordered" boolean false
+  "$db" string "test"
+answer
+document 777
+  "n" int32 0
+  "nModified" int32 0
+  "writeErrors" array 725
+    "0" document 117
+      "index" int32 0
+      "code" int32 28
+      "errmsg" string "Cannot create a field in a value that is no document, or by a name in an array"
+    "1" document 117
+      "index" int32 1
+      "code" int32 28
+      "errmsg" string "Cannot create a field in a value that is no document, or by a name in an array"
+    "2" document 111
+      "index" int32 2
+      "code" int32 40
+      "errmsg" string "no path of an update may be another one, or the beginning of another one"
+    "3" document 82
+      "index" int32 3
+      "code" int32 56
+      "errmsg" string "a path of an update must have no empty step"
+    "4" document 102
+      "index" int32 4
+      "code" int32 9
+      "errmsg" string "a path of an update must have no '$' at the beginning of a step"
+    "5" document 90
+      "index" int32 5
+      "code" int32 66
+      "errmsg" string "an update must not change the immutable field '_id'"
+    "6" document 80
+      "index" int32 6
+      "code" int32 34
+      "errmsg" string "can't backfill more than 1500000 elements"
+  "ok" double 000000000000f03f
+""",
+    ),
+    (
+        command("find", PRODUCTS),
+        (),
+        """\
+request "find"
+document 38
+  "find" string "products"
+  "$db" string "test"
+answer
+document 345
+  "cursor" document 320
+    "firstBatch" array 269
+      "0" document 164
+        "_id" int32 100
+        "details" document 43
+          "model" string "14QQ"
+          "make" string "Kustom Kidz"
+        "tags" array 38
+          "0" null
+          "1" string "rain gear"
+          "2" null
+          "3" null
+          "4" int32 5
+        "ratings" array 45
+          "0" document 37
+            "by" string "Customer007"
+            "rating" int32 2
+      "1" document 69
+        "_id" int32 1
+        "quantity" int32 8
+        "metrics" document 17
+          "orders" int32 3
+        "a" document 12
+          "b" int32 1
+      "2" document 22
+        "_id" document 12
+          "x" int32 1
+    "id" int64 0
+    "ns" string "test.products"
+  "ok" double 000000000000f03f
+""",
+    ),
+    (
+        command("drop", PRODUCTS),
+        (),
+        """\
+request "drop"
+document 38
+  "drop" string "products"
+  "$db" string "test"
+answer
+document 56
+  "nIndexesWas" int32 1
+  "ns" string "test.products"
   "ok" double 000000000000f03f
 """,
     ),

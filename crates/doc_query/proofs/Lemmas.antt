@@ -1,2 +1,2 @@
 -- The lemmas that proofs of other crates cite.
-pub use Rattle.doc_query.proofs.Owning.{names_count}
+pub use Rattle.doc_query.proofs.Owning.{names_count, values_of_array}

@@ -12,6 +12,10 @@ code_of errors.Direction = pos 15975
 code_of errors.Inclusion = pos 31253
 code_of errors.Exclusion = pos 31254
 code_of errors.Conflict = pos 40
+code_of errors.EmptyStep = pos 56
+code_of errors.Steps = pos 15
+code_of errors.NotViable = pos 28
+code_of errors.Backfill = pos 34
 code_of errors.Increment = pos 14
 code_of errors.Overflow = pos 2
 code_of errors.AndArray = pos 2
@@ -32,6 +36,10 @@ code_name_of errors.Direction = codes "Location15975"
 code_name_of errors.Inclusion = codes "Location31253"
 code_name_of errors.Exclusion = codes "Location31254"
 code_name_of errors.Conflict = codes "ConflictingUpdateOperators"
+code_name_of errors.EmptyStep = codes "EmptyFieldName"
+code_name_of errors.Steps = codes "Overflow"
+code_name_of errors.NotViable = codes "PathNotViable"
+code_name_of errors.Backfill = codes "CannotBackfillArray"
 code_name_of errors.Increment = codes "TypeMismatch"
 code_name_of errors.Overflow = codes "BadValue"
 code_name_of errors.AndArray = codes "BadValue"
@@ -71,9 +79,14 @@ words_of errors.Duplicate = codes "E11000 duplicate key error index: _id_"
 words_of errors.Many = codes "multi update is not supported for replacement-style update"
 words_of errors.Modifiers =
     codes "an update must be a document, or have the operators $set, $unset and $inc alone"
-words_of errors.Path =
-    codes "an operator must name fields of the document itself, with no '.' and no '$'"
-words_of errors.Conflict = codes "two operators of an update must not name one field"
+words_of errors.Path = codes "a path of an update must have no '$' at the beginning of a step"
+words_of errors.EmptyStep = codes "a path of an update must have no empty step"
+words_of errors.Steps = codes "a path of an update must have at most 200 steps"
+words_of errors.Conflict =
+    codes "no path of an update may be another one, or the beginning of another one"
+words_of errors.NotViable =
+    codes "Cannot create a field in a value that is no document, or by a name in an array"
+words_of errors.Backfill = codes "can't backfill more than 1500000 elements"
 words_of errors.Increment = codes "$inc must add an int32, an int64 or a double to one"
 words_of errors.Overflow = codes "the sum that $inc makes must be an int64"
 words_of errors.ImmutableId = codes "an update must not change the immutable field '_id'"

@@ -56,10 +56,19 @@ pub enum CommandError {
     Many,
     /// An update has other operators than `$set`, `$unset` and `$inc`, or fields beside them.
     Modifiers,
-    /// An operator of an update names no field, or one inside another field.
+    /// A step of a path of an update begins with `$`.
     Path,
-    /// Two operators of an update name one field.
+    /// A step of a path of an update is empty.
+    EmptyStep,
+    /// A path of an update has more than 200 steps.
+    Steps,
+    /// Two paths of an update are one, or one is the beginning of the other.
     Conflict,
+    /// A path of an update leads through a value that is no document and no array, or into an array
+    /// by what is no index.
+    NotViable,
+    /// A path of an update names an element too far behind the end of an array.
+    Backfill,
     /// `$inc` adds something else than a number, or to something else.
     Increment,
     /// The sum that `$inc` makes is no int64.
@@ -149,6 +158,10 @@ impl CommandError {
             CommandError::Inclusion => 31253,
             CommandError::Exclusion => 31254,
             CommandError::Conflict => 40,
+            CommandError::EmptyStep => 56,
+            CommandError::Steps => 15,
+            CommandError::NotViable => 28,
+            CommandError::Backfill => 34,
             CommandError::Increment => 14,
             CommandError::Overflow => 2,
             CommandError::AndArray
@@ -175,6 +188,10 @@ impl CommandError {
             CommandError::Inclusion => "Location31253",
             CommandError::Exclusion => "Location31254",
             CommandError::Conflict => "ConflictingUpdateOperators",
+            CommandError::EmptyStep => "EmptyFieldName",
+            CommandError::Steps => "Overflow",
+            CommandError::NotViable => "PathNotViable",
+            CommandError::Backfill => "CannotBackfillArray",
             CommandError::Increment => "TypeMismatch",
             CommandError::Overflow => "BadValue",
             CommandError::AndArray
@@ -224,9 +241,15 @@ impl CommandError {
             CommandError::Modifiers => {
                 "an update must be a document, or have the operators $set, $unset and $inc alone"
             }
-            CommandError::Path =>
-                "an operator must name fields of the document itself, with no '.' and no '$'",
-            CommandError::Conflict => "two operators of an update must not name one field",
+            CommandError::Path => "a path of an update must have no '$' at the beginning of a step",
+            CommandError::EmptyStep => "a path of an update must have no empty step",
+            CommandError::Steps => "a path of an update must have at most 200 steps",
+            CommandError::Conflict =>
+                "no path of an update may be another one, or the beginning of another one",
+            CommandError::NotViable => {
+                "Cannot create a field in a value that is no document, or by a name in an array"
+            }
+            CommandError::Backfill => "can't backfill more than 1500000 elements",
             CommandError::Increment => "$inc must add an int32, an int64 or a double to one",
             CommandError::Overflow => "the sum that $inc makes must be an int64",
             CommandError::ImmutableId => "an update must not change the immutable field '_id'",

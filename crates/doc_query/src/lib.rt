@@ -34,6 +34,7 @@ pub use filters::{
 };
 pub use making::{count_value, set};
 pub use owned::{array_field, field, is_same, owned_body, whole_of};
+pub use paths::{first_step, is_index};
 pub use pipeline::after_stages;
-pub use projection::{projected, projection_field};
+pub use projection::{is_plain_name, projected, projection_field};
 pub use sorting::{are_keys, sort_field, sort_in};

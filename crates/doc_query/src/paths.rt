@@ -25,7 +25,7 @@ pub struct OwnValues<'a> {
 }
 
 /// Returns the first step of a path, and the path after it, if there is one.
-fn first_step(path: &str) -> (&str, Option<&str>)
+pub fn first_step(path: &str) -> (&str, Option<&str>)
     ensures first { steps path.now ≡ result.0.now ∷ steps_left result.1 }
     ensures shorter { left_len result.1 ≤ length path.now }
 {
@@ -36,7 +36,7 @@ fn first_step(path: &str) -> (&str, Option<&str>)
 }
 
 /// Returns true if a step is the index of an element.
-fn is_index(step: &str, index: usize) -> bool
+pub fn is_index(step: &str, index: usize) -> bool
     ensures { result ≡ bytes_eq step.now (decimal index) }
 {
     let mut digits = Buffer::new();

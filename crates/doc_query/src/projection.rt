@@ -60,8 +60,9 @@ fn is_inclusion(projection: &Document) -> bool
     by_id
 }
 
-/// Returns true if a name is that of a field of the document itself.
-fn is_plain_name(name: &str) -> bool
+/// Returns true if a name is that of a field of the document itself: if it isn't empty, begins with no
+/// `$` and has no dot.
+pub fn is_plain_name(name: &str) -> bool
     ensures { result ≡ is_plain_name name.now }
 {
     !(name == "" || is_operator(name) || is_path(name))

@@ -1,3 +1,6 @@
 pub mod Owning
 pub mod Sums
 pub mod Numbering
+pub mod PathCounts
+pub mod ElementLaws
+pub mod Placings

@@ -3,7 +3,7 @@ use Rattle.std.proofs.Common.{◌≡◌, ℕ, List, [], ◌∷◌, refl, ap}
 use Rattle.bson_raw.specs.{TreeValue, document_value, leaf_value}
 use Rattle.bson_doc.specs.Document.{tree_of}
 use Rattle.doc_update.specs.Pairs.{pairs_of}
-pub use Rattle.doc_query.proofs.Lemmas.{names_count}
+pub use Rattle.doc_query.proofs.Lemmas.{names_count, values_of_array}
 
 pub pairs_of_tree : (ps : List (List ℕ × TreeValue)) → pairs_of (tree_of ps) ≡ ps
 pairs_of_tree [] = refl

@@ -4,43 +4,26 @@ use Rattle.std.specs.Prelude.{[], ◌∷◌, Bool, false, not, Option, Some, Non
 use Rattle.std.specs.Prelude.{is_some, if◌then◌else◌}
 use Rattle.bson_raw.specs.{TreeValue}
 use Rattle.bson_doc.specs.{coded_value, same}
-use Rattle.bson_doc.specs.Document.{put, value_named, without}
+use Rattle.bson_doc.specs.Document.{value_named}
 use Rattle.doc_query.specs.declared.failure.CommandError.{CommandError}
 use Rattle.doc_query.specs.declared.failure.CommandError.TheVariants as errors
-use Rattle.doc_update.specs.declared.increments.Number.{Number}
 use Rattle.doc_update.specs.declared.operators.Change.{Change}
 use Rattle.doc_update.specs.declared.operators.Change.TheVariants.{Operate, Replace}
 use Rattle.doc_update.specs.declared.operators.Operators.{Operators}
+use Rattle.doc_update.specs.declared.setting.Edit.TheVariants as edits
 use Rattle.doc_query.specs.{and_then}
 use Rattle.doc_update.specs.Pairs.{Pairs}
 use Rattle.doc_update.specs.Identity.{put_each}
-use Rattle.doc_update.specs.Increments.{number_of, sum}
+use Rattle.doc_update.specs.Removing.{without_each}
+use Rattle.doc_update.specs.Setting.{edit_each}
 
 -- ---- operators
 
--- the document without the fields of these names
-abbrev pub without_each : Pairs → Pairs → Pairs
-without_each [] ps = ps
-without_each (f ∷ fs) ps = without_each fs (without f.0 ps)
-
-abbrev pub added : Option Number → Option Number → Result TreeValue CommandError
-added None b = Err errors.Increment
-added (Some a) None = Err errors.Increment
-added (Some a) (Some b) = sum a b
-
--- what becomes of a value that is incremented; a field that is missing is set
-abbrev pub incremented : Option TreeValue → TreeValue → Result TreeValue CommandError
-incremented None by = Ok by
-incremented (Some v) by = added (number_of v) (number_of by)
-
--- the document with each of these fields incremented, in order
-abbrev pub increment_each : Pairs → Pairs → Result Pairs CommandError
-increment_each [] ps = Ok ps
-increment_each (f ∷ fs) ps =
-    and_then (incremented (value_named f.0 ps) f.1) (λ v. increment_each fs (put f.0 v ps))
-
+-- $set comes first, then $unset, and then $inc
 abbrev pub operated : Operators → Pairs → Result Pairs CommandError
-operated o ps = increment_each o.increments (without_each o.unset (put_each o.set ps))
+operated o ps =
+    and_then (edit_each edits.Set o.set ps) (λ qs.
+    edit_each edits.Increment o.increments (without_each o.unset qs))
 
 -- ---- documents
 

@@ -2,7 +2,11 @@ pub mod Pairs
 pub mod WriteErrors
 pub mod Identity
 pub mod Increments
+pub mod Paths
 pub mod Operators
+pub mod Elements
+pub mod Setting
+pub mod Removing
 pub mod Changing
 pub mod Upserts
 pub mod Deleting

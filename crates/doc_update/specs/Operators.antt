@@ -1,6 +1,6 @@
 -- What an update asks for: a document in the place of another one, or operators (MongoDB manual,
 -- Update Operators).
-use Rattle.std.specs.Prelude.{ℕ, List, [], ◌∷◌, Bool, true, false, not, ◌||◌, ◌==◌, Option, Some}
+use Rattle.std.specs.Prelude.{ℕ, List, [], ◌∷◌, Bool, true, false, ◌++◌, Option, Some}
 use Rattle.std.specs.Prelude.{None, Result, Ok, Err, codes, is_some, if◌then◌else◌}
 use Rattle.std.specs.Str.{bytes_eq}
 use Rattle.bson_elem.specs.declared.kinds.Kind.TheVariants as kinds
@@ -13,6 +13,7 @@ use Rattle.doc_update.specs.declared.operators.Change.TheVariants.{Operate, Repl
 use Rattle.doc_update.specs.declared.operators.Operators.{Operators}
 use Rattle.doc_query.specs.{and_then, begins_with_operator, is_operator}
 use Rattle.doc_update.specs.Pairs.{Pairs, pairs_of}
+use Rattle.doc_update.specs.Paths.{overlap_within, paths_fault, paths_of}
 use Rattle.doc_update.specs.Increments.{number_of}
 
 -- ---- names
@@ -21,19 +22,6 @@ use Rattle.doc_update.specs.Increments.{number_of}
 abbrev pub is_one_of : List ℕ → List (List ℕ) → Bool
 is_one_of name [] = false
 is_one_of name (n ∷ ns) = if bytes_eq name n then true else is_one_of name ns
-
--- a name with a full stop is a path to a field inside another one
-abbrev pub has_stop : List ℕ → Bool
-has_stop [] = false
-has_stop (b ∷ bs) = if b == 46 then true else has_stop bs
-
--- an operator can name a field so
-abbrev pub is_plain : List ℕ → Bool
-is_plain name = not ((bytes_eq name (codes "") || is_operator name) || has_stop name)
-
-abbrev pub are_plain : Pairs → Bool
-are_plain [] = true
-are_plain (f ∷ fs) = if is_plain f.0 then are_plain fs else false
 
 -- the operators that are carried out
 abbrev pub is_modifier : List ℕ → Bool
@@ -50,15 +38,20 @@ names_operator (f ∷ fs) = if is_operator f.0 then true else names_operator fs
 
 -- ---- operators
 
-abbrev pub plain_fields : Pairs → Result Pairs CommandError
-plain_fields fs = if are_plain fs then Ok fs else Err errors.Path
+-- the paths that an operator names, each with its operand, unless one isn't carried out
+abbrev pub unless_fault : Option CommandError → Pairs → Result Pairs CommandError
+unless_fault None fs = Ok fs
+unless_fault (Some e) fs = Err e
+
+abbrev pub paths_in : Pairs → Result Pairs CommandError
+paths_in fs = unless_fault (paths_fault fs) fs
 
 abbrev pub operand_in : Option TreeValue → Result Pairs CommandError
 operand_in None = Ok []
-operand_in (Some (document_value kinds.Document b t)) = plain_fields (pairs_of t)
+operand_in (Some (document_value kinds.Document b t)) = paths_in (pairs_of t)
 operand_in (Some _) = Err errors.Modifiers
 
--- the fields that the operator of an update with this name names, or none if it isn't there
+-- the paths that the operator of an update with this name names, or none if it isn't there
 abbrev pub operand : List ℕ → Pairs → Result Pairs CommandError
 operand name u = operand_in (value_named name u)
 
@@ -72,15 +65,10 @@ increments_in u =
     and_then (operand (codes "$inc") u) (λ fs.
     if are_numbers fs then Ok fs else Err errors.Increment)
 
--- one of the first names stands among the second ones
-abbrev pub has_common : Pairs → Pairs → Bool
-has_common [] qs = false
-has_common (f ∷ fs) qs = if is_some (value_named f.0 qs) then true else has_common fs qs
-
--- two operators name one field
+-- two paths overlap, of one operator or of two
 abbrev pub has_conflict : Operators → Bool
 has_conflict o =
-    (has_common o.set o.unset || has_common o.set o.increments) || has_common o.unset o.increments
+    overlap_within (paths_of o.set ++ (paths_of o.unset ++ paths_of o.increments))
 
 abbrev pub unless_conflict : Operators → Result Operators CommandError
 unless_conflict o = if has_conflict o then Err errors.Conflict else Ok o

@@ -8,10 +8,9 @@ use Rattle.bson_doc.specs.Document.{put, value_named}
 use Rattle.doc_query.specs.declared.failure.CommandError.{CommandError}
 use Rattle.doc_query.specs.declared.failure.CommandError.TheVariants as errors
 use Rattle.doc_update.specs.declared.operators.Change.{Change}
-use Rattle.doc_query.specs.{and_then, begins_with_operator}
+use Rattle.doc_query.specs.{and_then, begins_with_operator, is_plain_name}
 use Rattle.doc_update.specs.Pairs.{Pairs}
 use Rattle.doc_update.specs.Changing.{changed_fields, still_has}
-use Rattle.doc_update.specs.Operators.{is_plain}
 
 -- ---- the fields that the filter gives
 
@@ -30,7 +29,7 @@ asks_in v = false
 -- An upsert carries out a field that has a name and doesn't ask for $in, which a server takes as
 -- $eq where its operand is one value.
 abbrev pub is_given : List ℕ → TreeValue → Bool
-is_given name v = is_plain name && not (asks_in v)
+is_given name v = is_plain_name name && not (asks_in v)
 
 abbrev pub are_given : Pairs → Bool
 are_given [] = true

@@ -1,82 +1,19 @@
 //! Makes of a document what an update asks for.
 
-ghost use Rattle.std.specs.Prelude.{◌≡◌, Err, IfErr, IfOk, MatchResult, Ok, OnOk, codes, drop};
+ghost use Rattle.std.specs.Prelude.{◌≡◌, IfErr, IfOk, Ok, codes};
 ghost use Rattle.bson_doc.specs.{value_of};
 ghost use Rattle.bson_doc.specs.Document.{value_named};
 ghost use Rattle.doc_query.specs.{IsFailure};
-ghost use Rattle.doc_update.specs.Changing.{added, changed, changed_fields, id_alone};
-ghost use Rattle.doc_update.specs.Changing.{increment_each, incremented, keeps_id, operated};
-ghost use Rattle.doc_update.specs.Changing.{replaced, still_has, without_each};
-ghost use Rattle.doc_update.specs.Identity.{put_each};
-ghost use Rattle.doc_update.specs.Increments.{number_of};
+ghost use Rattle.doc_update.specs.Changing.{changed, changed_fields, id_alone, keeps_id, operated};
+ghost use Rattle.doc_update.specs.Changing.{replaced, still_has};
 
 use crate::identity::put_each;
-use crate::increments::{number_of, sum};
 use crate::operators::{Change, Operators, has_field};
+use crate::removing::remove_each;
+use crate::setting::{Edit, edit_each};
 use bson_doc::{Bson, Document};
 use doc_query::{CommandError, Failure, is_same, set};
 use std::alloc::{AllocError, Global};
-
-/// Removes the fields with these names from a document.
-fn remove_each(fields: &Document, document: &mut Document)
-    ensures { document.new ≡ without_each fields.now document.old }
-{
-    for (name, _) in fields {
-        drop(document.remove(name));
-    }
-}
-
-/// Returns the sum of two values.
-///
-/// # Errors
-///
-/// Returns `Increment` if one of them isn't a number, and `Overflow` if the sum of an int64 is no
-/// int64.
-fn added(value: &Bson, by: &Bson) -> Result<Bson, CommandError>
-    ensures { MatchResult result
-        (λ v. added (number_of (value_of value.now)) (number_of (value_of by.now))
-        ≡ Ok (value_of v))
-        (λ e. added (number_of (value_of value.now)) (number_of (value_of by.now)) ≡ Err e) }
-{
-    let Some(a) = number_of(value) else {
-        return Err(CommandError::Increment);
-    };
-    let Some(b) = number_of(by) else {
-        return Err(CommandError::Increment);
-    };
-    sum(a, b)
-}
-
-/// Returns what becomes of the field `name` of a document where it is incremented.
-fn incremented(document: &Document, name: &str, by: &Bson) -> Result<Bson, Failure>
-    ensures ok { IfOk result (λ v.
-        incremented (value_named name.now document.now) (value_of by.now) ≡ Ok (value_of v)) }
-    ensures refused { IfErr result (λ e.
-        IsFailure (incremented (value_named name.now document.now) (value_of by.now)) e) }
-{
-    match document.get(name) {
-        None => {
-            let copy = by.try_clone()?;
-            Ok(copy)
-        }
-        Some(value) => {
-            let sum = added(value, by)?;
-            Ok(sum)
-        }
-    }
-}
-
-/// Increments fields of a document, each by its number, in order.
-fn increment_each(alloc: Global, fields: &Document, document: &mut Document) -> Result<(), Failure>
-    ensures ok { OnOk result (increment_each fields.now document.old ≡ Ok document.new) }
-    ensures refused { IfErr result (λ e. IsFailure (increment_each fields.now document.old) e) }
-{
-    for (name, by) in fields {
-        let value = incremented(document, name, by)?;
-        set(alloc, document, name, value)?;
-    }
-    Ok(())
-}
 
 /// Returns what operators make of a document.
 fn operated(alloc: Global, operators: &Operators, document: &Document) -> Result<Document, Failure>
@@ -84,9 +21,9 @@ fn operated(alloc: Global, operators: &Operators, document: &Document) -> Result
     ensures refused { IfErr result (λ e. IsFailure (operated operators.now document.now) e) }
 {
     let mut changed = document.try_clone()?;
-    put_each(alloc, &operators.set, &mut changed)?;
-    remove_each(&operators.unset, &mut changed);
-    increment_each(alloc, &operators.increments, &mut changed)?;
+    edit_each(alloc, Edit::Set, &operators.set, &mut changed)?;
+    remove_each(alloc, &operators.unset, &mut changed)?;
+    edit_each(alloc, Edit::Increment, &operators.increments, &mut changed)?;
     Ok(changed)
 }
 
@@ -118,7 +55,8 @@ fn replaced(alloc: Global, new: &Document, document: &Document) -> Result<Docume
 ///
 /// # Errors
 ///
-/// Returns `Increment` or `Overflow` if a field can't be incremented.
+/// Returns `NotViable` or `Backfill` if nothing can be made at a path, and `Increment` or `Overflow` if
+/// a value can't be incremented.
 pub fn changed_fields(
     alloc: Global,
     change: &Change,
@@ -161,8 +99,8 @@ fn keeps_id(old: &Document, new: &Document) -> bool
 ///
 /// # Errors
 ///
-/// Returns `Increment` or `Overflow` if a field can't be incremented, and otherwise `ImmutableId`
-/// if the `_id` would change.
+/// Returns `NotViable` or `Backfill` if nothing can be made at a path, `Increment` or `Overflow` if a
+/// value can't be incremented, and otherwise `ImmutableId` if the `_id` would change.
 pub fn changed(alloc: Global, change: &Change, document: &Document) -> Result<Document, Failure>
     ensures ok { IfOk result (λ d. changed change.now document.now ≡ Ok d) }
     ensures refused { IfErr result (λ e. IsFailure (changed change.now document.now) e) }

@@ -1,19 +1,19 @@
 //! Reads what an update asks for: a document in the place of another one, or operators.
 
-ghost use Rattle.std.specs.Prelude.{◌≡◌, IfErr, IfOk, drop, is_some};
+ghost use Rattle.std.specs.Prelude.{◌≡◌, IfErr, IfOk, is_some};
 ghost use Rattle.bson_doc.specs.Document.{value_named};
 ghost use Rattle.doc_query.specs.{IsFailure};
-ghost use Rattle.doc_update.specs.Operators.{are_modifiers, are_numbers, are_plain, change_in};
-ghost use Rattle.doc_update.specs.Operators.{has_common, has_conflict, has_stop, increments_in};
-ghost use Rattle.doc_update.specs.Operators.{is_modifier, is_plain, names_operator, operand};
-ghost use Rattle.doc_update.specs.Operators.{operators_in, plain_fields, replacement_in};
+ghost use Rattle.doc_update.specs.Operators.{are_modifiers, are_numbers, change_in, has_conflict};
+ghost use Rattle.doc_update.specs.Operators.{increments_in, is_modifier, names_operator, operand};
+ghost use Rattle.doc_update.specs.Operators.{operators_in, paths_in, replacement_in};
 
 use crate::increments::number_of;
+use crate::paths::{overlap_within, paths_fault, push_paths};
 use bson_doc::{Bson, Document};
 use doc_query::{CommandError, Failure, begins_with_operator, is_operator};
-use std::alloc::Global;
+use std::alloc::{AllocError, Global};
 
-/// The fields that the operators of an update name, each with its operand.
+/// The paths that the operators of an update name, each with its operand.
 #[derive(Debug, Drop)]
 pub struct Operators {
     /// Those of `$set`.
@@ -31,38 +31,6 @@ pub enum Change {
     Replace(Document),
     /// Applies these operators to its fields.
     Operate(Operators),
-}
-
-/// Returns true if a name has a full stop.
-fn has_stop(name: &str) -> bool
-    ensures { result ≡ has_stop name.now }
-{
-    for byte in name.as_bytes() {
-        if *byte == b'.' {
-            return true;
-        }
-    }
-    false
-}
-
-/// Returns true if an operator can name a field so: if the name isn't empty, begins with no `$`,
-/// and is no path to a field inside another one.
-pub fn is_plain(name: &str) -> bool
-    ensures { result ≡ is_plain name.now }
-{
-    !(name == "" || is_operator(name) || has_stop(name))
-}
-
-/// Returns true if all names are those of fields that an operator can name.
-fn are_plain(fields: &Document) -> bool
-    ensures { result ≡ are_plain fields.now }
-{
-    for (name, _) in fields {
-        if !is_plain(name) {
-            return false;
-        }
-    }
-    true
 }
 
 /// Returns true if all values are numbers that `$inc` adds.
@@ -121,28 +89,18 @@ pub fn has_field(document: &Document, name: &str) -> bool
     }
 }
 
-/// Returns true if two documents have a name in common.
-fn has_common(a: &Document, b: &Document) -> bool
-    ensures { result ≡ has_common a.now b.now }
+/// Returns true if two paths overlap, of one operator or of two.
+fn has_conflict(alloc: Global, operators: &Operators) -> Result<bool, AllocError>
+    ensures { IfOk result (λ b. b ≡ has_conflict operators.now) }
 {
-    for (name, _) in a {
-        if has_field(b, name) {
-            return true;
-        }
-    }
-    false
+    let mut paths = Vec::new(alloc);
+    push_paths(&operators.set, &mut paths)?;
+    push_paths(&operators.unset, &mut paths)?;
+    push_paths(&operators.increments, &mut paths)?;
+    Ok(overlap_within(paths.as_slice()))
 }
 
-/// Returns true if two of the operators name one field.
-fn has_conflict(operators: &Operators) -> bool
-    ensures { result ≡ has_conflict operators.now }
-{
-    has_common(&operators.set, &operators.unset)
-        || has_common(&operators.set, &operators.increments)
-        || has_common(&operators.unset, &operators.increments)
-}
-
-/// Returns the fields that an operator of an update names. There are none if it isn't there.
+/// Returns the paths that an operator of an update names. There are none if it isn't there.
 #[tactic(auto, using(crate::proofs::Owning::pairs_of_tree))]
 fn operand(alloc: Global, update: &Document, operator: &str) -> Result<Document, Failure>
     ensures ok { IfOk result (λ d. operand operator.now update.now ≡ Ok d) }
@@ -150,24 +108,24 @@ fn operand(alloc: Global, update: &Document, operator: &str) -> Result<Document,
 {
     match update.get(operator) {
         None => Ok(Document::new(alloc)),
-        Some(Bson::Document(fields)) => plain_fields(fields),
+        Some(Bson::Document(fields)) => paths_in(fields),
         Some(_) => Err(Failure::Refused(CommandError::Modifiers)),
     }
 }
 
-/// Returns a copy of the fields that an operator names.
-fn plain_fields(fields: &Document) -> Result<Document, Failure>
-    ensures ok { IfOk result (λ d. plain_fields fields.now ≡ Ok d) }
-    ensures refused { IfErr result (λ e. IsFailure (plain_fields fields.now) e) }
+/// Returns a copy of the paths that an operator names, each with its operand.
+fn paths_in(fields: &Document) -> Result<Document, Failure>
+    ensures ok { IfOk result (λ d. paths_in fields.now ≡ Ok d) }
+    ensures refused { IfErr result (λ e. IsFailure (paths_in fields.now) e) }
 {
-    if !are_plain(fields) {
-        return Err(Failure::Refused(CommandError::Path));
+    if let Some(fault) = paths_fault(fields) {
+        return Err(Failure::Refused(fault));
     }
     let copy = fields.try_clone()?;
     Ok(copy)
 }
 
-/// Returns the fields that `$inc` names, each with the number that is added.
+/// Returns the paths that `$inc` names, each with the number that is added.
 fn increments_in(alloc: Global, update: &Document) -> Result<Document, Failure>
     ensures ok { IfOk result (λ d. increments_in update.now ≡ Ok d) }
     ensures refused { IfErr result (λ e. IsFailure (increments_in update.now) e) }
@@ -195,7 +153,7 @@ fn operators_in(alloc: Global, update: &Document) -> Result<Operators, Failure>
         unset,
         increments,
     };
-    if has_conflict(&operators) {
+    if has_conflict(alloc, &operators)? {
         return Err(Failure::Refused(CommandError::Conflict));
     }
     Ok(operators)
@@ -218,7 +176,8 @@ fn replacement_in(update: &Document) -> Result<Document, Failure>
 /// # Errors
 ///
 /// Returns `Modifiers` if it has operators that aren't carried out, or operators beside fields;
-/// `Path` or `Increment` if an operand is none; and `Conflict` if two operators name one field.
+/// `Steps`, `EmptyStep` or `Path` if a path isn't carried out; `Increment` if `$inc` adds no number;
+/// and `Conflict` if two paths overlap.
 pub fn change_in(alloc: Global, update: &Document) -> Result<Change, Failure>
     ensures ok { IfOk result (λ c. change_in update.now ≡ Ok c) }
     ensures refused { IfErr result (λ e. IsFailure (change_in update.now) e) }

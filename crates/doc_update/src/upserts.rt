@@ -8,9 +8,9 @@ ghost use Rattle.doc_update.specs.Upserts.{are_given, asks_in, equality, is_give
 ghost use Rattle.doc_update.specs.Upserts.{made_of, new_fields, with_equalities, with_equality};
 
 use crate::changing::{changed_fields, still_has};
-use crate::operators::{Change, is_plain};
+use crate::operators::Change;
 use bson_doc::{Bson, Document};
-use doc_query::{CommandError, Failure, begins_with_operator, field, set};
+use doc_query::{CommandError, Failure, begins_with_operator, field, is_plain_name, set};
 use std::alloc::{AllocError, Global};
 
 // ---- the fields that the filter gives
@@ -47,7 +47,7 @@ fn asks_in(value: &Bson) -> bool
 fn is_given(name: &str, value: &Bson) -> bool
     ensures { result ≡ is_given name.now (value_of value.now) }
 {
-    is_plain(name) && !asks_in(value)
+    is_plain_name(name) && !asks_in(value)
 }
 
 /// Returns true if an upsert carries out all fields of its filter.
@@ -122,8 +122,9 @@ fn made_of(alloc: Global, change: &Change, given: &Document) -> Result<Document,
 ///
 /// # Errors
 ///
-/// Returns `Upsert` if a field of the filter isn't carried out here; `Increment` or `Overflow` if a
-/// field can't be incremented; and otherwise `ImmutableId` if the `_id` in the filter would change.
+/// Returns `Upsert` if a field of the filter isn't carried out here; `NotViable` or `Backfill` if
+/// nothing can be made at a path of the update; `Increment` or `Overflow` if a value can't be
+/// incremented; and otherwise `ImmutableId` if the `_id` in the filter would change.
 pub fn new_fields(alloc: Global, change: &Change, filter: &Document) -> Result<Document, Failure>
     ensures ok { IfOk result (λ d. new_fields change.now filter.now ≡ Ok d) }
     ensures refused { IfErr result (λ e. IsFailure (new_fields change.now filter.now) e) }
