@@ -1,9 +1,63 @@
 /* The steps of run_drivers by libmongoc: steps_c single|pooled URI COLLECTION */
 #include <mongoc/mongoc.h>
+#include <stdatomic.h>
 #include <stdio.h>
 #include <string.h>
+#include <unistd.h>
 
 static int failed;
+
+/* What the driver's own log says. It tells no connections. */
+static atomic_int heartbeats, faults;
+
+static void fault(const char *name, const char *more)
+{
+    faults++;
+    printf("log: %s %s\n", name, more);
+}
+
+static void heartbeat_succeeded(const mongoc_apm_server_heartbeat_succeeded_t *event)
+{
+    (void)event;
+    heartbeats++;
+}
+
+static void heartbeat_failed(const mongoc_apm_server_heartbeat_failed_t *event)
+{
+    bson_error_t error;
+    mongoc_apm_server_heartbeat_failed_get_error(event, &error);
+    fault("heartbeat failed", error.message);
+}
+
+static void server_changed(const mongoc_apm_server_changed_t *event)
+{
+    const char *before = mongoc_server_description_type(mongoc_apm_server_changed_get_previous_description(event));
+    const char *now = mongoc_server_description_type(mongoc_apm_server_changed_get_new_description(event));
+    if (strcmp(before, "Unknown") != 0 && strcmp(now, "Unknown") == 0)
+        fault("server lost", before);
+}
+
+static void command_failed(const mongoc_apm_command_failed_t *event)
+{
+    fault("command failed", mongoc_apm_command_failed_get_command_name(event));
+}
+
+static void logged(mongoc_log_level_t level, const char *domain, const char *text, void *data)
+{
+    (void)data;
+    if (level <= MONGOC_LOG_LEVEL_WARNING)
+        fault(domain, text);
+}
+
+static mongoc_apm_callbacks_t *callbacks(void)
+{
+    mongoc_apm_callbacks_t *all = mongoc_apm_callbacks_new();
+    mongoc_apm_set_server_heartbeat_succeeded_cb(all, heartbeat_succeeded);
+    mongoc_apm_set_server_heartbeat_failed_cb(all, heartbeat_failed);
+    mongoc_apm_set_server_changed_cb(all, server_changed);
+    mongoc_apm_set_command_failed_cb(all, command_failed);
+    return all;
+}
 
 static void step(const char *name, bool well, const bson_error_t *error)
 {
@@ -46,10 +100,16 @@ int main(int argc, char **argv)
     if (argc != 4)
         return 2;
     mongoc_init();
+    mongoc_log_set_handler(logged, NULL);
     bson_error_t error = {0};
     mongoc_uri_t *uri = mongoc_uri_new(argv[2]);
+    mongoc_apm_callbacks_t *log = callbacks();
     mongoc_client_pool_t *pool = strcmp(argv[1], "pooled") == 0 ? mongoc_client_pool_new(uri) : NULL;
+    if (pool)
+        mongoc_client_pool_set_apm_callbacks(pool, log, NULL);
     mongoc_client_t *client = pool ? mongoc_client_pool_pop(pool) : mongoc_client_new_from_uri(uri);
+    if (!pool)
+        mongoc_client_set_apm_callbacks(client, log, NULL);
     mongoc_collection_t *items = mongoc_client_get_collection(client, "shop", argv[3]);
     bson_t *ping = BCON_NEW("ping", BCON_INT32(1));
     bson_t *two = BCON_NEW("_id", BCON_INT32(2));
@@ -63,6 +123,10 @@ int main(int argc, char **argv)
     step("delete", mongoc_collection_delete_one(items, three, NULL, NULL, &error), &error);
     step("count", mongoc_collection_count_documents(items, &all, NULL, NULL, NULL, &error) == 999, &error);
     step("drop", mongoc_collection_drop(items, &error), &error);
+    sleep(11);
+    step("ping_again", mongoc_client_command_simple(client, "admin", ping, NULL, NULL, &error), &error);
+    printf("log: %d heartbeats\n", heartbeats);
+    step("log", faults == 0 && heartbeats > 0, &error);
     bson_destroy(set);
     bson_destroy(three);
     bson_destroy(two);
@@ -74,6 +138,7 @@ int main(int argc, char **argv)
     } else {
         mongoc_client_destroy(client);
     }
+    mongoc_apm_callbacks_destroy(log);
     mongoc_uri_destroy(uri);
     mongoc_cleanup();
     return failed;

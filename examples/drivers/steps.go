@@ -5,9 +5,11 @@ import (
 	"context"
 	"fmt"
 	"os"
+	"sync"
 	"time"
 
 	"go.mongodb.org/mongo-driver/bson"
+	"go.mongodb.org/mongo-driver/event"
 	"go.mongodb.org/mongo-driver/mongo"
 	"go.mongodb.org/mongo-driver/mongo/options"
 )
@@ -43,10 +45,66 @@ func found(ctx context.Context, items *mongo.Collection) error {
 	return is(count, 7, cursor.Err())
 }
 
+// What the driver's own log says.
+type journal struct {
+	sync.Mutex
+	connections, heartbeats int
+	faults                  []string
+}
+
+func (log *journal) fault(text string, more interface{}) {
+	log.Lock()
+	defer log.Unlock()
+	log.faults = append(log.faults, fmt.Sprint(text, " ", more))
+}
+
+func (log *journal) pool() *event.PoolMonitor {
+	return &event.PoolMonitor{Event: func(e *event.PoolEvent) {
+		switch {
+		case e.Type == event.ConnectionCreated:
+			log.Lock()
+			log.connections++
+			log.Unlock()
+		case e.Type == event.PoolCleared, e.Type == event.GetFailed,
+			e.Type == event.ConnectionClosed && e.Reason != event.ReasonPoolClosed:
+			log.fault(e.Type, e.Reason)
+		}
+	}}
+}
+
+func (log *journal) server() *event.ServerMonitor {
+	return &event.ServerMonitor{
+		ServerHeartbeatSucceeded: func(e *event.ServerHeartbeatSucceededEvent) {
+			log.Lock()
+			log.heartbeats++
+			log.Unlock()
+		},
+		ServerHeartbeatFailed: func(e *event.ServerHeartbeatFailedEvent) { log.fault("heartbeat failed", e.Failure) },
+	}
+}
+
+func (log *journal) commands() *event.CommandMonitor {
+	return &event.CommandMonitor{
+		Failed: func(_ context.Context, e *event.CommandFailedEvent) { log.fault(e.CommandName, e.Failure) },
+	}
+}
+
+func (log *journal) told() error {
+	log.Lock()
+	defer log.Unlock()
+	fmt.Printf("log: %d connections, %d heartbeats\n", log.connections, log.heartbeats)
+	if len(log.faults) > 0 || log.heartbeats < 2 {
+		return fmt.Errorf("%v", log.faults)
+	}
+	return nil
+}
+
 func main() {
 	ctx, cancel := context.WithTimeout(context.Background(), 40*time.Second)
 	defer cancel()
-	client, err := mongo.Connect(ctx, options.Client().ApplyURI(os.Args[1]))
+	log := &journal{}
+	client, err := mongo.Connect(ctx, options.Client().ApplyURI(os.Args[1]).
+		SetPoolMonitor(log.pool()).SetServerMonitor(log.server()).SetMonitor(log.commands()))
 	if err != nil {
 		fmt.Println("connect FAILED", err)
 		os.Exit(1)
@@ -79,6 +137,9 @@ func main() {
 	count, err := items.CountDocuments(ctx, bson.D{})
 	step("count", is(count, 999, err))
 	step("drop", items.Drop(ctx))
+	time.Sleep(11 * time.Second)
+	step("ping_again", client.Database("admin").RunCommand(ctx, bson.D{{"ping", 1}}).Err())
 	step("close", client.Disconnect(ctx))
+	step("log", log.told())
 	os.Exit(failed)
 }

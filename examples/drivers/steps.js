@@ -15,7 +15,20 @@ const { MongoClient } = require("mongodb");
   const is = (found, wanted) => {
     if (found !== wanted) throw new Error(`${found} in place of ${wanted}`);
   };
+  // What the driver's own log says.
+  const seen = { connections: 0, heartbeats: 0 };
+  const faults = [];
+  let closing = false;
   const client = new MongoClient(process.argv[2], { useUnifiedTopology: true });
+  client.on("connectionCreated", () => seen.connections++);
+  client.on("serverHeartbeatSucceeded", () => seen.heartbeats++);
+  client.on("connectionClosed", (event) => closing || faults.push(`connection closed: ${event.reason}`));
+  for (const name of ["connectionPoolCleared", "connectionCheckOutFailed", "serverHeartbeatFailed", "commandFailed"]) {
+    client.on(name, (event) => faults.push(`${name} ${event.failure || event.reason || ""}`));
+  }
+  for (const name of ["connectionPoolClosed", "serverClosed", "close", "timeout"]) {
+    client.on(name, () => closing || faults.push(name));
+  }
   await client.connect();
   const items = client.db("shop").collection(process.argv[3]);
   const made = [...Array(1000).keys()].map((i) => ({ _id: i, a: i }));
@@ -34,6 +47,13 @@ const { MongoClient } = require("mongodb");
   await step("count", async () => is(await items.countDocuments({}), 999));
   await step("parallel", () => Promise.all([...Array(20)].map(() => client.db("admin").command({ ping: 1 }))));
   await step("drop", () => items.drop());
-  await step("close", () => client.close());
+  await step("rest", () => new Promise((rested) => setTimeout(rested, 11000)));
+  await step("ping_again", () => client.db("admin").command({ ping: 1 }));
+  await step("close", () => {
+    closing = true;
+    return client.close();
+  });
+  console.log(`log: ${seen.connections} connections, ${seen.heartbeats} heartbeats`);
+  await step("log", () => is(faults.join(", "), "") || is(seen.heartbeats > 1, true));
   process.exit(failed);
 })();
