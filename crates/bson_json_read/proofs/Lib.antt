@@ -2,6 +2,7 @@ pub mod Alike
 pub mod DecimalBack
 pub mod DecimalBytes
 pub mod DocumentBack
+pub mod FormNames
 pub mod Integers
 pub mod Leaves
 pub mod Lemmas
@@ -12,6 +13,7 @@ pub mod Printing
 pub mod ReadBack
 pub mod Scanned
 pub mod Specials
+pub mod Strings
 pub mod Tens
 pub mod TextBytes
 pub mod Trees

@@ -1,5 +1,6 @@
 -- The names that tell which value an object stands for (MongoDB Extended JSON v2: "Type wrapper").
-use Rattle.std.specs.Prelude.{ℕ, List, Option, Some, None, codes, if◌then◌else◌}
+use Rattle.std.specs.Prelude.{ℕ, List, [], ◌∷◌, Bool, false, ◌==◌, Option, Some, None, codes}
+use Rattle.std.specs.Prelude.{if◌then◌else◌}
 use Rattle.std.specs.Str.{bytes_eq}
 use Rattle.json.specs.Json as json
 use Rattle.bson_json_read.specs.declared.form.Form.{Form}
@@ -23,6 +24,11 @@ form_name forms.DateTime = codes "$date"
 form_name forms.MinKey = codes "$minKey"
 form_name forms.MaxKey = codes "$maxKey"
 form_name forms.Undefined = codes "$undefined"
+
+-- the first byte is a dollar sign
+abbrev pub begins_with_dollar : List ℕ → Bool
+begins_with_dollar [] = false
+begins_with_dollar (b ∷ bs) = b == 36
 
 -- the form of this name
 abbrev pub form_named : List ℕ → Option Form

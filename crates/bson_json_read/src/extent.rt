@@ -4,6 +4,8 @@ ghost use Rattle.std.specs.Prelude.{◌≡◌, ◌+◌, ◌<◌, ◌≤◌, ℕ,
 ghost use Rattle.bson_json_read.specs.Extents.{extent, text_len};
 ghost use Rattle.bson_json_read.specs.declared.extent.Within.TheVariants.{Code, Quoted};
 
+use memchr::memchr2;
+
 /// Where a scan stands in a text.
 #[derive(Clone, Copy)]
 pub(crate) enum Within {
@@ -22,17 +24,18 @@ fn string_len(rest: &[u8]) -> usize
         → extent Quoted count rest.now ≡ result + extent Code count (drop result rest.now) }
     ensures inside { result ≤ length rest.now }
 {
-    let mut within = Within::Quoted;
-    let mut len = 0;
-    for b in rest {
-        len += 1;
-        within = match (within, *b) {
-            (Within::Quoted, b'"') => return len,
-            (Within::Quoted, b'\\') => Within::Escaped,
-            _ => Within::Quoted,
-        };
+    let mut len: usize = 0;
+    while let Some(passed) = memchr2(b'"', b'\\', &rest[len..]) {
+        let at = len + passed;
+        if rest[at] == b'"' {
+            return at + 1;
+        }
+        if at + 2 > rest.len() {
+            return rest.len();
+        }
+        len = at + 2;
     }
-    len
+    rest.len()
 }
 
 /// Returns how many bytes the text has that begins here: to the brace that closes its first one, or

@@ -1,7 +1,7 @@
 //! The forms of objects that stand for values, and their names.
 
 ghost use Rattle.std.specs.Prelude.{◌≡◌, Some};
-ghost use Rattle.bson_json_read.specs.Forms.{form_named};
+ghost use Rattle.bson_json_read.specs.Forms.{begins_with_dollar, form_named};
 
 /// A form of objects that stand for one value, by its name.
 #[derive(Clone, Copy, Debug, PartialEq, Eq)]
@@ -70,7 +70,29 @@ impl Form {
 }
 
 /// Returns the form of this name, if there is one.
+#[tactic(auto, using(crate::proofs::FormNames::not_named))]
+#[inline(always)]
 pub(crate) fn form_of_name(name: &str) -> Option<Form>
+    ensures { result ≡ form_named name.now }
+{
+    if begins_with_dollar(name.as_bytes()) {
+        form_in_table(name)
+    } else {
+        None
+    }
+}
+
+/// Returns true if the first byte is `$`, as that of each name of a form is.
+#[inline(always)]
+fn begins_with_dollar(name: &[u8]) -> bool
+    ensures { result ≡ begins_with_dollar name.now }
+{
+    !name.is_empty() && name[0] == b'$'
+}
+
+/// Returns the form of this name, if there is one.
+#[inline(never)]
+fn form_in_table(name: &str) -> Option<Form>
     ensures { result ≡ form_named name.now }
 {
     if name == "$oid" {

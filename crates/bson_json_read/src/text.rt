@@ -47,6 +47,21 @@ fn document_of<'a>(alloc: Global, value: &Value<'a>) -> Result<Document, JsonFau
     }
 }
 
+/// Returns the document of a text like `from_json`, with this memory for reading.
+pub(crate) fn from_json_in<'a>(
+    alloc: Global,
+    text: &'a str,
+    scratch: &'a mut Scratch,
+) -> Result<Document, JsonFault>
+    ensures ok { IfOk result (λ d. document_in text.now ≡ Ok d) }
+    ensures err { IfErr result (λ e. IsFault (document_in text.now) e) }
+{
+    match json_of(alloc, text, scratch) {
+        Ok(value) => document_of(alloc, &value),
+        Err(cause) => Err(JsonFault::here(alloc, cause)),
+    }
+}
+
 /// Returns the document that the text is in MongoDB Extended JSON v2, canonical or relaxed, with
 /// the pairs in their order. An object that has one of the names of `Form` stands for the value of
 /// that form, and every other object is a document. The outermost object is always a document. A
@@ -61,9 +76,5 @@ pub fn from_json(alloc: Global, text: &str) -> Result<Document, JsonFault>
     ensures ok { IfOk result (λ d. document_in text.now ≡ Ok d) }
     ensures err { IfErr result (λ e. IsFault (document_in text.now) e) }
 {
-    let mut scratch = Scratch::new(alloc);
-    match json_of(alloc, text, &mut scratch) {
-        Ok(value) => document_of(alloc, &value),
-        Err(cause) => Err(JsonFault::here(alloc, cause)),
-    }
+    from_json_in(alloc, text, &mut Scratch::new(alloc))
 }

@@ -1,18 +1,19 @@
 //! Reads documents from an input of several texts.
 
-ghost use Rattle.std.specs.Prelude.{◌≡◌, ◌≤◌, ◌<◌, ◌⊎◌, ℕ, List, Err, IfErr, IfOk, MatchResult, Ok};
-ghost use Rattle.std.specs.Prelude.{drop, false, is_some, length, true};
+ghost use Rattle.std.specs.Prelude.{◌≡◌, ◌≤◌, ◌<◌, ◌+◌, ◌⊎◌, ℕ, List, Err, IfErr, IfOk, IfSome};
+ghost use Rattle.std.specs.Prelude.{MatchResult, Ok, drop, false, is_some, length, true};
 ghost use Rattle.std.specs.Str.{is_utf8};
 ghost use Rattle.bson_json_read.specs.Places.{StandsIn};
 ghost use Rattle.bson_json_read.specs.Sequences.{Fails, Gives, Left, next_in, utf8_read};
-ghost use Rattle.bson_json_read.specs.Seeking.{IsText, next_at};
+ghost use Rattle.bson_json_read.specs.Seeking.{IsFound, IsText, next_at};
 
 use crate::extent::text_extent;
 use crate::fault::Cause;
 use crate::frame::{Frame, Step};
 use crate::place::{Place, place_at};
-use crate::text::from_json;
+use crate::text::from_json_in;
 use bson_doc::Document;
+use json::Scratch;
 use std::alloc::Global;
 use std::fmt;
 use std::marker::Model;
@@ -80,6 +81,17 @@ struct FaultAt {
     offset: usize,
 }
 
+/// A text of an input.
+#[derive(Clone, Copy)]
+pub(crate) struct Found {
+    /// Where reading stands before it.
+    frame: Frame,
+    /// The offset of its first byte.
+    start: usize,
+    /// How many bytes it has.
+    len: usize,
+}
+
 /// Returns `bytes` as a text. Errs with the offset from which on they aren't UTF-8.
 fn text_of(bytes: &[u8]) -> Result<&str, usize>
     ensures cases { MatchResult result (λ s. (s.now ≡ bytes.now) × (is_utf8 bytes.now ≡ true))
@@ -94,7 +106,7 @@ fn text_of(bytes: &[u8]) -> Result<&str, usize>
 
 /// Returns the document of the bytes of a text.
 #[tactic(auto, using(crate::proofs::TextBytes::of_text, crate::proofs::TextBytes::of_others))]
-fn read_bytes(alloc: Global, bytes: &[u8]) -> Result<Document, FaultAt>
+fn read_bytes(alloc: Global, bytes: &[u8], scratch: &mut Scratch) -> Result<Document, FaultAt>
     ensures ok { IfOk result (λ d. utf8_read bytes.now ≡ Ok d) }
     ensures err { IfErr result (λ e. (e.cause ≡ Cause.OutOfMemory)
         ⊎ ((path : List ℕ) × (utf8_read bytes.now ≡ Err (e.cause, path)))) }
@@ -109,7 +121,7 @@ fn read_bytes(alloc: Global, bytes: &[u8]) -> Result<Document, FaultAt>
             });
         }
     };
-    let fault = match from_json(alloc, text) {
+    let fault = match from_json_in(alloc, text, scratch) {
         Ok(document) => return Ok(document),
         Err(fault) => fault,
     };
@@ -133,6 +145,8 @@ pub struct JsonTexts<'a> {
     input: &'a [u8],
     offset: usize,
     frame: Frame,
+    /// Room for reading, which each text finds as the one before left it.
+    scratch: Scratch,
 }
 
 impl<'a> Model for JsonTexts<'a> {
@@ -151,7 +165,7 @@ impl<'a> Model for JsonTexts<'a> {
 
 impl<'a> JsonTexts<'a> {
     /// Makes a reader of the documents of `input`.
-    pub fn new(input: &'a [u8]) -> JsonTexts<'a>
+    pub fn new(alloc: Global, input: &'a [u8]) -> JsonTexts<'a>
         ensures { result ≡ record {
           input = input.entry.now;
           left = record { frame = Frame.Start; rest = input.entry.now };
@@ -161,6 +175,7 @@ impl<'a> JsonTexts<'a> {
             input,
             offset: 0,
             frame: Frame::Start,
+            scratch: Scratch::new(alloc),
         }
     }
 
@@ -176,12 +191,37 @@ impl<'a> JsonTexts<'a> {
         }
     }
 
+    /// Returns the text that is next, or `None` at the end of the input.
+    fn find(&self) -> Result<Option<Found>, TextFault>
+        ensures ok { IfOk result (λ found. IsFound self.now.input
+            (next_in self.now.left.frame self.now.left.rest) found) }
+        ensures err { IfErr result (λ e.
+            Fails (next_in self.now.left.frame self.now.left.rest) e.cause) }
+        ensures place { IfErr result (λ e.
+            StandsIn self.now.input e.place.line e.place.column) }
+        ensures inside { IfOk result (λ found. IfSome found (λ f. (0 < f.len)
+            × (f.start + f.len ≤ length self.now.input)
+            × (length self.now.input ≤ f.start + length self.now.left.rest))) }
+    {
+        let (passed, sought) = seek(self.frame, &self.input[self.offset..]);
+        let start = self.offset + passed;
+        match sought {
+            Sought::Nothing => Ok(None),
+            Sought::Fault(cause) => Err(self.fault(cause, start)),
+            Sought::Text(frame) => {
+                let len = text_extent(&self.input[start..]);
+                Ok(Some(Found { frame, start, len }))
+            }
+        }
+    }
+
     /// Reads the next document. Returns `None` at the end of the input.
     ///
     /// # Errors
     ///
     /// Returns the first fault of what is next, or `OutOfMemory` if memory is refused. Then nothing
     /// is said of what is left.
+    #[tactic(auto, using(crate::proofs::TextBytes::told))]
     pub fn next(&mut self, alloc: Global) -> Result<Option<Document>, TextFault>
         ensures ok { IfOk result (λ found.
             Gives (next_in self.old.left.frame self.old.left.rest) found self.new.left) }
@@ -193,22 +233,17 @@ impl<'a> JsonTexts<'a> {
             StandsIn self.old.input e.place.line e.place.column) }
         ensures input { self.new.input ≡ self.old.input }
     {
-        let (passed, sought) = seek(self.frame, &self.input[self.offset..]);
-        let start = self.offset + passed;
-        let frame = match sought {
-            Sought::Nothing => return Ok(None),
-            Sought::Fault(cause) => return Err(self.fault(cause, start)),
-            Sought::Text(frame) => frame,
+        let Some(found) = self.find()? else {
+            return Ok(None);
         };
-        let rest = &self.input[start..];
-        let len = text_extent(rest);
-        match read_bytes(alloc, &rest[..len]) {
+        let rest = &self.input[found.start..];
+        match read_bytes(alloc, &rest[..found.len], &mut self.scratch) {
             Ok(document) => {
-                self.offset = start + len;
-                self.frame = frame.behind_text();
+                self.offset = found.start + found.len;
+                self.frame = found.frame.behind_text();
                 Ok(Some(document))
             }
-            Err(fault) => Err(self.fault(fault.cause, start + fault.offset)),
+            Err(fault) => Err(self.fault(fault.cause, found.start + fault.offset)),
         }
     }
 }

@@ -71,7 +71,7 @@ fn places(alloc: Global, fault: &JsonFault) -> Result<bool, Cause> {
 
 /// Returns whether the document of the first text is read, and the fault of the second one told.
 fn reads_several(alloc: Global) -> Result<bool, Cause> {
-    let mut texts = JsonTexts::new(SEVERAL.as_bytes());
+    let mut texts = JsonTexts::new(alloc, SEVERAL.as_bytes());
     let is_first = match texts.next(alloc) {
         Ok(Some(document)) => document.len() == 1,
         Ok(None) => false,

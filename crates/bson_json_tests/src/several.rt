@@ -131,7 +131,7 @@ const BAD: [(&[u8], &str, &str); 18] = [
 
 /// Appends the bytes of the documents. Returns the first fault, if there is one.
 fn read_all(alloc: Global, input: &[u8], bytes: &mut Vec<u8>) -> Result<Option<TextFault>, Cause> {
-    let mut texts = JsonTexts::new(input);
+    let mut texts = JsonTexts::new(alloc, input);
     for _ in 0..100 {
         let document = match texts.next(alloc) {
             Ok(Some(document)) => document,

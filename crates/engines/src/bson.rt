@@ -76,18 +76,16 @@ fn write_texts<W: Write>(
         (W.contents out.old) (W.contents out.new) }
     ensures cut { IfErr result (λ end. is_done end ≡ false) }
 {
-    let mut texts = JsonTexts::new(input);
+    let mut texts = JsonTexts::new(alloc, input);
     let mut number: usize = 1;
     loop {
         let document = match texts.next(alloc) {
             Ok(Some(document)) => document,
             Ok(None) => return Ok(None),
-            Err(fault) => {
-                return match fault.cause {
-                    Cause::OutOfMemory => Err(RunEnd::OutOfMemory),
-                    _ => Ok(Some(TextStop::Fault(fault))),
-                };
-            }
+            Err(fault) => match fault.cause {
+                Cause::OutOfMemory => return Err(RunEnd::OutOfMemory),
+                _ => return Ok(Some(TextStop::Fault(fault))),
+            },
         };
         match write_bytes(document, number, out) {
             Ok(None) => number = number.saturating_add(1),

@@ -1,9 +1,9 @@
-use Rattle.std.proofs.Common.{◌≡◌, ◌+◌, ℕ, ◌≢◌, drop}
-use Rattle.bson_json_read.specs.declared.extent.Within.TheVariants.{Code, Quoted}
-use Rattle.bson_json_read.specs.Extents.{extent}
+use Rattle.std.proofs.Common.{◌-◌, ◌≤◌, length}
+use Rattle.bson_json_read.proofs.Strings.{IsPassed}
 use Rattle.bson_json_read.proofs.extent.string_len.Given as goal
 
-abbrev pub invariant-loop-b : goal.invariant-loop-b
-invariant-loop-b l =
-    ((count : ℕ) → extent Quoted count l.rest ≡ l.b-index + extent l.within count (drop l.b-index l.rest))
-    × (l.len ≡ l.b-index) × (l.within ≢ Code)
+abbrev pub invariant-loop-passed : goal.invariant-loop-passed
+invariant-loop-passed l = IsPassed l.rest l.len × (l.len ≤ length l.rest)
+
+abbrev pub decreases-loop-passed : goal.decreases-loop-passed
+decreases-loop-passed l = length l.rest - l.len
