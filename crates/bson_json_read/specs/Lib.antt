@@ -16,6 +16,8 @@ pub mod Texts
 pub mod Values
 -- the words that clauses of other crates cite
 pub use Rattle.bson_json_read.specs.Causes.{text_fault_text}
+pub use Rattle.bson_json_read.specs.Extents.{text_len}
 pub use Rattle.bson_json_read.specs.Sequences.{AreRead, Fails, Gives, Left, ReadsTo, next_in}
-pub use Rattle.bson_json_read.specs.Sequences.{nothing}
+pub use Rattle.bson_json_read.specs.Sequences.{nothing, utf8_read}
+pub use Rattle.bson_json_read.specs.Texts.{document_in}
 pub use Rattle.bson_json_read.specs.Values.{Pair}

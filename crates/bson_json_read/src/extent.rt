@@ -40,7 +40,7 @@ fn string_len(rest: &[u8]) -> usize
 
 /// Returns how many bytes the text has that begins here: to the brace that closes its first one, or
 /// all, where none does.
-pub(crate) fn text_extent(rest: &[u8]) -> usize
+pub fn text_extent(rest: &[u8]) -> usize
     ensures len { result ≡ text_len rest.now }
     ensures inside { result ≤ length rest.now }
     ensures some { 0 < length rest.now → 0 < result }

@@ -6,7 +6,7 @@
 //! values, and `value` reads documents and arrays by them. `JsonTexts` reads the documents of an
 //! input of several texts.
 //!
-//! Uses bson_doc and bson_json. Used by engines. Read first: `text`, and then `value`.
+//! Uses bson_doc and bson_json. Used by engines and test_script. Read first: `text`, and then `value`.
 #![tactic(auto)]
 
 mod bytes;
@@ -27,6 +27,7 @@ mod value;
 mod wrapped;
 
 pub use decimal::decimal128_from_text;
+pub use extent::text_extent;
 pub use fault::{Cause, JsonFault};
 pub use form::Form;
 pub use place::Place;

@@ -12,5 +12,6 @@ pub mod Queries
 pub mod Handling
 -- the words that clauses of other crates cite
 pub use Rattle.test_store.specs.Commands.{first_name}
-pub use Rattle.test_store.specs.Handling.{Answered, StopsAt}
+pub use Rattle.test_store.specs.Answers.{error_pairs}
+pub use Rattle.test_store.specs.Handling.{Answered, IsUnanswerable, StopsAt}
 pub use Rattle.test_store.specs.Held.{empty_store, store_of}

@@ -13,7 +13,11 @@ use wire_msg::MsgRefusal;
 use wire_peer::{Answers, Handler, HandlerStop, Request};
 
 /// Appends `answer` to the answers of a request.
-fn put_answer(answer: &Document, answers: &mut Answers) -> Result<(), HandlerStop>
+///
+/// # Errors
+///
+/// Returns `Failed` if the answer can't be written, and `OutOfMemory` if memory runs out.
+pub fn put_answer(answer: &Document, answers: &mut Answers) -> Result<(), HandlerStop>
     ensures put { OnOk result
         (answers_of answers.new ≡ answers_of answers.old ++ body_alone (tree_of answer.now) ∷ []) }
     ensures failed { IfErr result

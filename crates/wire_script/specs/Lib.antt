@@ -11,4 +11,4 @@ pub use Rattle.wire_script.specs.Lent.{IsLine, Lends}
 pub use Rattle.wire_script.specs.Lines.{is_passed_over, lines_from, lines_of, script_lines}
 pub use Rattle.wire_script.specs.Naming.{Named, Names, NamesBytes, event, setup}
 pub use Rattle.wire_script.specs.Same.{IsSame}
-pub use Rattle.wire_script.specs.Words.{IsNumber, words_of}
+pub use Rattle.wire_script.specs.Words.{IsHex, IsNumber, words_of}

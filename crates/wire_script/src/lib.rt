@@ -4,7 +4,7 @@
 //! `parse_line` reads one of them: it names the limits and the handler of a world, or an event in
 //! it. What then happens in the world is no part of this crate.
 //!
-//! Uses wire_model. Used by wire_play. Read first: docs/SCRIPTS.md, and then `parse`.
+//! Uses wire_model. Used by wire_play and test_script. Read first: docs/SCRIPTS.md, and then `parse`.
 #![tactic(auto)]
 
 mod body;
@@ -12,11 +12,12 @@ mod cut;
 mod keyword;
 pub mod laws;
 mod named;
-mod number;
+mod numbers;
 mod operands;
 mod parse;
 mod script_lines;
 
 pub use named::{HandlerName, Line, LineError, ScriptEvent, Setup};
+pub use numbers::{number, number_i32};
 pub use parse::parse_line;
 pub use script_lines::{Lines, NumberedLine};

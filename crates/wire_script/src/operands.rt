@@ -11,7 +11,7 @@ ghost use Rattle.wire_script.specs.Reading.{setup_words, words_behind};
 use crate::body::{bytes_of, payload_of};
 use crate::cut::next_word;
 use crate::named::{HandlerName, LineError, Setup};
-use crate::number::{number, number_i32, number_u32};
+use crate::numbers::{number, number_i32, number_u32};
 use std::alloc::Global;
 use wire_model::WorldLimits;
 use wire_msg::PayloadBuf;

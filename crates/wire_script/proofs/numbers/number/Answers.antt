@@ -1,7 +1,7 @@
 use Rattle.std.proofs.Common.{sym, ◌∙◌}
 use Rattle.std.specs.Str.{IsValidUpTo, valid_up_to}
 use Rattle.wire_script.proofs.Numerals.{no_text, numeral_is_text}
-use Rattle.wire_script.proofs.number.number.Goals as goal
+use Rattle.wire_script.proofs.numbers.number.Goals as goal
 
 pub returns-in_err-text-clause-only : goal.returns-in_err-text-clause-only
 returns-in_err-text-clause-only c = λ n is.

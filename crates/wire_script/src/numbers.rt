@@ -7,7 +7,7 @@ ghost use Rattle.wire_script.specs.Words.{IsNumber};
 const MAX_DIGITS: usize = 20;
 
 /// Returns the number that the word spells, if it spells one that fits.
-pub(crate) fn number(word: &[u8]) -> Option<u64>
+pub fn number(word: &[u8]) -> Option<u64>
     ensures found { IfSome result (λ n. IsNumber (2 ^ 64) word.now n) }
     ensures only { (n : ℕ) → IsNumber (2 ^ 64) word.now n → result ≡ Some n }
 {
@@ -27,7 +27,7 @@ pub(crate) fn number_u32(word: &[u8]) -> Option<u32>
 }
 
 /// Returns the number that the word spells, if it spells one that fits.
-pub(crate) fn number_i32(word: &[u8]) -> Option<i32>
+pub fn number_i32(word: &[u8]) -> Option<i32>
     ensures found { IfSome result (λ i. (n : ℕ) × (i ≡ pos n) × IsNumber (2 ^ 31) word.now n) }
     ensures only { (n : ℕ) → IsNumber (2 ^ 31) word.now n → result ≡ Some (pos n) }
 {

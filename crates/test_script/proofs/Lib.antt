@@ -1,0 +1,5 @@
+pub mod Asked
+pub mod Failing
+pub mod Meets
+pub mod Parsing
+pub mod Used
