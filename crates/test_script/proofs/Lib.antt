@@ -1,5 +1,6 @@
 pub mod Asked
 pub mod Failing
+pub mod Handled
 pub mod Meets
 pub mod Parsing
 pub mod Used

@@ -18,9 +18,11 @@ mod parse;
 mod parts;
 mod rule;
 mod script;
+mod scripted;
 mod token;
 mod written;
 
 pub use action::{Action, Flow};
 pub use fault::{Cause, ScriptFault};
 pub use script::Script;
+pub use scripted::Scripted;

@@ -8,6 +8,8 @@
 #[cfg(test)]
 mod faults;
 #[cfg(test)]
+mod handling;
+#[cfg(test)]
 mod rules;
 #[cfg(test)]
 mod script_refusals;

@@ -4,8 +4,9 @@
 
 use bson_raw::RawDocument;
 use std::alloc::Global;
-use test_script::{Cause, Script};
+use test_script::{Cause, Script, Scripted};
 use wire_msg::PayloadBuf;
+use wire_peer::{Answers, Echo, Handler, HandlerStop, Request};
 
 /// `{"a": 1}`.
 const ONE: &[u8] = b"\x0c\0\0\0\x10a\0\x01\0\0\0\0";
@@ -57,4 +58,39 @@ fn meets_both(alloc: Global) -> bool {
 #[test]
 fn a_refused_request_uses_no_rule(rt: HostRuntime) {
     assert!(rt; meets_both(rt.alloc()));
+}
+
+/// Returns true if the request is answered with one answer.
+fn is_answered(alloc: Global, handler: &mut Scripted<Echo>, request: &Request<'_>) -> bool {
+    let mut answers = Answers::new(alloc);
+    match handler.respond(request, &mut answers) {
+        Ok(()) => answers.as_slice().len() == 1,
+        Err(HandlerStop::OutOfMemory) => {
+            let mut answers = Answers::new(alloc);
+            handler.respond(request, &mut answers).is_ok() && answers.as_slice().len() == 1
+        }
+        Err(HandlerStop::Failed) => false,
+    }
+}
+
+/// Returns true if `ONE` is answered twice, each time at the second try if memory runs out.
+fn answers_each(alloc: Global) -> bool {
+    let Some(script) = read_at_last(alloc) else {
+        return false;
+    };
+    let Some(one) = one(alloc) else {
+        return false;
+    };
+    let request = Request {
+        payload: one.as_payload(),
+        exhaust_allowed: false,
+        more_to_come: false,
+    };
+    let mut handler = Scripted::new(alloc, script, Echo);
+    is_answered(alloc, &mut handler, &request) && is_answered(alloc, &mut handler, &request)
+}
+
+#[test]
+fn a_refused_request_is_answered_later(rt: HostRuntime) {
+    assert!(rt; answers_each(rt.alloc()));
 }

@@ -5,8 +5,7 @@
 //! A command that errs changes nothing. It knows no connection: a server that holds one calls it.
 //!
 //! Stands on doc_query, doc_update, wire_msg and wire_peer. test_script and test_server stand on it.
-//! Read first:
-//! `store`, then `commands`, and then `handling`.
+//! Read first: `store`, then `commands`, and then `handling`.
 #![tactic(auto)]
 
 mod adding;

@@ -18,7 +18,7 @@ use Rattle.wire_front.specs.declared.cause.FrontState.TheVariants as fronts
 use Rattle.wire_hall.specs.declared.turned.Leave.TheVariants as leaves
 use Rattle.wire_hall.specs.declared.turned.Turned.{Turned}
 use Rattle.wire_hall.specs.declared.turned.Turned.TheVariants as turns
-use Rattle.wire_hall.specs.Seats.{Answers, Ends, MovesAs, Receives, SeatAct, SeatMoves, SeatSeen, Sends, StandsAs, Takes, Tells, TurnedAs, Turns}
+use Rattle.wire_hall.specs.Seats.{Answers, Ends, Fails, MovesAs, Receives, SeatAct, SeatMoves, SeatSeen, Sends, StandsAs, Takes, Tells, TurnedAs, Turns}
 use Rattle.wire_hall.proofs.Runs.{one_act}
 
 take_some : (n : ℕ) (xs : List ℕ) → 0 < n → xs ≢ [] → take n xs ≢ []
@@ -82,6 +82,14 @@ module _ {L : Type 0} (t : Tells L) where
     first = sym (take-append-drop n f.output);
     over = record { received = kept_none (t.received link) (t.received link') kept; sent = sent };
     front = is;
+    inlet = refl;
+  }
+
+  pub idles : (f : FrontView) (link link' : L) (inlet : List ℕ) → Keeps (t.received link) (t.received link') → Keeps (t.sent link) (t.sent link')
+      → SeatMoves t Fails (seat f link inlet) (seat f link' inlet)
+  idles f link link' inlet received sent = record {
+    over = record { received = kept_none (t.received link) (t.received link') received; sent = kept_none (t.sent link) (t.sent link') sent };
+    front = refl;
     inlet = refl;
   }
 

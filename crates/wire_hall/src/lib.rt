@@ -14,7 +14,9 @@ mod hall;
 pub mod laws;
 mod seat;
 mod turned;
+mod valve;
 
 pub use hall::Hall;
 pub use seat::Seat;
 pub use turned::{Leave, OpenRefusal, Turned};
+pub use valve::{Gate, Gated, Valve};

@@ -2,9 +2,11 @@
 
 ghost use Rattle.std.specs.Prelude.{◌≡◌, ◌≢◌, [], IfOk};
 ghost use Rattle.wire_front.specs.{IsReady};
-ghost use Rattle.wire_hall.specs.Seats.{MovesAs, StandsAs, Turns, new_seat, tells};
+ghost use Rattle.wire_hall.specs.Seats.{Fails, MovesAs, SeatMoves, StandsAs, Turns, new_seat};
+ghost use Rattle.wire_hall.specs.Seats.{tells};
 
 use crate::turned::{Leave, Turned};
+use crate::valve::{Gate, Gated};
 use std::alloc::{AllocError, Global};
 use std::marker::Model;
 use wire_front::{Front, FrontState};
@@ -158,5 +160,15 @@ impl<L: Link + Drop> Seat<L> {
             }
         }
         Turned::Again
+    }
+}
+
+impl<L: Gated + Drop> Seat<L> {
+    /// Says what becomes of the bytes that are sent from now on.
+    pub(crate) fn set_gate(&mut self, to: Gate)
+        ensures gate { L.gate self.new.link ≡ to }
+        ensures idle { SeatMoves (tells L.received L.sent L.ends L.waits) Fails self.old self.new }
+    {
+        self.link.set_gate(to);
     }
 }
