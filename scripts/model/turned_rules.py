@@ -297,7 +297,7 @@ TEXTS = [
     ("a gap ends with the next document", "range(at + 1, len(b)) if", "range(at + 2, len(b)) if"),
     ("a gap begins where no document does", "gap {at} {to}", "gap {at + 1} {to}"),
     ("a gap has the fault of its first byte", "fault {fault}\\ngap", "fault {found_at(b, to - 1)[1]}\\ngap"),
-    ("the last gap ends with the input", "if found_at(b, to)[0]), len(b))", "if found_at(b, to)[0]), len(b) - 1)"),
+    ("the last gap ends with the input", "if found_at(b, to)[0]), len(b))", "if found_at(b, to)[0]), len(b) + 1)"),
     ("a length above the limit is no document's", "number(b, at) > SALVAGED", "number(b, at) > 2**31"),
     ("canon writes no gaps", 'if command == "check" else b""', 'if command else b""'),
     ("a gap has status 1", "at, status = to, 1", "at, status = to, 0"),
