@@ -51,11 +51,17 @@ fn damaged_inputs(rt: HostRuntime) {
         let mut writer = Vec::new(rt.alloc());
         let mut reader = *input;
         let ended = salvage_check(rt.alloc(), &mut reader, &mut writer);
-        assert!(rt; ended == *end && writer.as_slice() == checked.as_bytes(), "at {input:?}");
+        assert!(rt;
+            ended == *end && writer.as_slice() == checked.as_bytes(),
+            "at {input:?}"
+        );
         let mut writer = Vec::new(rt.alloc());
         let mut reader = *input;
         let ended = salvage_canon(rt.alloc(), &mut reader, &mut writer);
-        assert!(rt; ended == *end && writer.as_slice() == *forms, "at {input:?}");
+        assert!(rt;
+            ended == *end && writer.as_slice() == *forms,
+            "at {input:?}"
+        );
     }
 }
 
