@@ -132,7 +132,7 @@ module _ (cmd : Command) (x : Arg) (rules : map rule_of (args_of cmd) ≡ comman
   is_second : rule_of second ≡ connections_rule
   is_second = at 1
 
-  count : 5 ≡ length (args_of cmd)
+  count : 6 ≡ length (args_of cmd)
   count = sym (ap (λ (l : List Rule). length l) rules) ∙ length-map (args_of cmd) rule_of
 
   plain : IsPlain cmd

@@ -1,20 +1,16 @@
 -- What is shown of what a server did, and how much of it is counted.
-use Rattle.std.proofs.Common.{◌≡◌, ◌∙◌, ◌≤◌, ◌<◌, ◌+◌, ◌-◌, ◌++◌, ℕ, true, List, [], Option, Some, None, Result, Ok, Err, sym, subst, append-nil, inl, inr, arith}
+use Rattle.std.proofs.Common.{◌≡◌, ◌∙◌, ◌≤◌, ◌<◌, ◌+◌, ◌-◌, ℕ, true, List, [], Option, Some, None, Result, Ok, Err, sym, subst, append-nil, inl, inr, arith}
 use Rattle.std.specs.Prelude.{OnOk, min}
 use Rattle.std.specs.Io.KnownBytes.{Appends, Keeps}
-use Rattle.mio.specs.declared.net.stream.TcpStream.{TcpStream}
-use Rattle.test_store.specs.declared.store.Store.{Store}
-use Rattle.wire_stream.specs.declared.tcp_link.TcpLink.{TcpLink}
-use Rattle.test_server.specs.Runs.{GoesOnServing, IsEnough, ShowsServing, listening_line}
+use Rattle.test_server.specs.Runs.{Connected, GoesOnServing, IsEnough, ShowsServing, listening_line}
 use Rattle.test_server.specs.declared.choice.Choice.{Choice}
-use Rattle.test_server.specs.declared.serving.Serving.{Serving}
 
 nothing_more : (a : Option (List ℕ)) → Appends a a []
 nothing_more None = tt
 nothing_more (Some x) = sym (append-nil x)
 
 -- a quiet server shows nothing of what it does
-pub quiet_shows : {E : Type 0} (r : Result (Unit {0}) E) (old new : Serving (TcpLink TcpStream) Store) (a : Option (List ℕ))
+pub quiet_shows : {E : Type 0} (r : Result (Unit {0}) E) (old new : Connected) (a : Option (List ℕ))
     → OnOk r (GoesOnServing old new None None) → OnOk r (ShowsServing true old new a a)
 quiet_shows (Ok u) old new a served = λ first ended text serving.
     let went = served first ended text serving in (went.0, went.1, went.2, nothing_more a)

@@ -1,6 +1,6 @@
 -- What the server does next goes on what it did.
-use Rattle.std.proofs.Common.{◌≡◌, ◌+◌, ◌++◌, ℕ, suc, List, [], Option, None, Some, refl, sym, ap, subst, ◌∙◌, append_assoc, append-nil, arith}
-use Rattle.std.specs.Prelude.{flat_map, min}
+use Rattle.std.proofs.Common.{◌≡◌, ◌+◌, ◌++◌, ◌∷◌, ℕ, suc, List, [], Option, None, Some, Result, Ok, Err, refl, sym, ap, subst, ◌∙◌, append_assoc, append-nil, inl, arith}
+use Rattle.std.specs.Prelude.{IfSome, OnOk, flat_map, min}
 use Rattle.std.specs.Io.KnownBytes.{Appends, Keeps}
 use Rattle.std.proofs.KnownBytes.{Appends-trans}
 use Rattle.slab.specs.Slab.{Slab, Updates, get}
@@ -8,9 +8,9 @@ use Rattle.wire_hall.specs.{IsTurned, SeatSeen, Tells, new_seat}
 use Rattle.wire_hall.specs.declared.turned.Leave.{Leave}
 use Rattle.wire_hall.specs.declared.turned.Turned.{Turned}
 use Rattle.wire_hall.specs.declared.turned.Turned.TheVariants as turns
-use Rattle.wire_peer.specs.{Does, Stops, log_of}
+use Rattle.wire_peer.specs.{Does, LogEntry, Stops, log_of}
 use Rattle.wire_peer.specs.declared.log.Logged.{Logged}
-use Rattle.test_server.specs.Serving.{GoesOn, IsForgotten, Serves, ServesOn, opened, turned, over}
+use Rattle.test_server.specs.Serving.{GoesOn, IsForgotten, Serves, ServesOn, begun, opened, turned, over}
 use Rattle.test_server.specs.Transcript.{end_text, new_text, told_text}
 use Rattle.test_server.specs.declared.serving.Serving.{Serving}
 
@@ -23,6 +23,11 @@ kept_bytes : (a b : Option (List ℕ)) → Keeps a b → Appends a b []
 kept_bytes None b keeps = tt
 kept_bytes (Some x) None keeps = absurd keeps
 kept_bytes (Some x) (Some y) keeps = keeps ∙ sym (append-nil x)
+
+-- what holds in any case holds where the result is good
+pub on_any : {T E : Type 0} {P : Type 0} (r : Result T E) → P → OnOk r P
+on_any (Ok x) p = p
+on_any (Err e) p = tt
 
 module _ {H L : Type 0} (does : Does H) (stops : Stops H) (t : Tells L) where
   -- it is the same server with this next number
@@ -102,4 +107,44 @@ module _ {H L : Type 0} (does : Does H) (stops : Stops H) (t : Tells L) where
           counts = two.2.counts;
         },
         Appends-trans _ _ _ _ _ one.3 two.3,
+      )
+
+  -- no entry is left between turns
+  none_left : {first : H} {ended next : ℕ} {seats : Slab (SeatSeen L)} {logged : Logged H} {text : List ℕ}
+      → Serves does stops t first ended seats logged next text → log_of logged.entries.items ≡ []
+  none_left (begun none empty is) = empty
+  none_left (opened key link s free updates) = none_left s
+  none_left (turned key steps how s goes is forgotten) = forgotten.0
+  none_left (over key steps leave seat s is forgotten there updates) = forgotten.0
+
+  silent : (es : List LogEntry) (a : Option (List ℕ)) → es ≡ [] → Appends a a (flat_map told_text es)
+  silent [] None e = tt
+  silent [] (Some x) e = sym (append-nil x)
+  silent (x ∷ xs) a e = absurd (cc)
+
+  -- a connection took a turn in which nothing was asked
+  pub turns_silently : (old new : Serving L H) (key : ℕ) (how : Option Turned) (a : Option (List ℕ)) → IfSome how (λ h. h ≡ turns.Again)
+      → IsTurned does stops t key 1 how old.hall.seats old.hall.logged new.hall.seats new.hall.logged → new.hall.logged ≡ old.hall.logged
+      → new.hall.next ≡ old.hall.next → new.ended ≡ old.ended → ServesOn does stops t old new a a
+  turns_silently old new key None a again (free, seats, same) logged next ended first n text is = (
+    n,
+    [],
+    record {
+      serves = subst (λ x. Serves does stops t first n new.hall.seats new.hall.logged new.hall.next x) (sym (append-nil text))
+          (subst (λ s. Serves does stops t first n s new.hall.logged new.hall.next text) (sym seats)
+          (next_is first n old.hall.seats old.hall.logged new.hall.logged old.hall.next new.hall.next text (sym logged) (sym next) is.serves));
+      counts = ended ∙ is.counts;
+    },
+    silent [] a refl,
+  )
+  turns_silently old new key (Some how) a again is_turned logged next ended first n text is =
+      let empty : log_of new.hall.logged.entries.items ≡ [] = ap (λ (l : Logged H). log_of l.entries.items) logged ∙ none_left is.serves in (
+        n,
+        flat_map told_text (log_of new.hall.logged.entries.items),
+        record {
+          serves = next_is first n new.hall.seats new.hall.logged new.hall.logged old.hall.next new.hall.next _ refl (sym next)
+              (turned key 1 how is.serves (inl again) is_turned (empty, refl));
+          counts = ended ∙ is.counts;
+        },
+        silent (log_of new.hall.logged.entries.items) a empty,
       )

@@ -21,6 +21,7 @@ pub record IsHeld (c : Choice) (rows : List Row) : Type 0 where
   pub quiet : c.quiet ≡ was_given (codes "quiet") rows
   pub until_stdin_closes : c.until_stdin_closes ≡ was_given (codes "until-stdin-closes") rows
   pub port_file : option_map (λ file. file.now) c.port_file ≡ first_of (codes "port-file") rows
+  pub script : option_map (λ file. file.now) c.script ≡ first_of (codes "script") rows
 
 -- the choice is what the command line makes of the words
 abbrev pub IsChosen : Choice → List Text → Type 0

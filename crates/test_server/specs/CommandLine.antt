@@ -40,6 +40,8 @@ abbrev pub command_line : App
 command_line =
     with_rule
     (with_rule
+    (with_rule
     (with_rule serving_line (flag_rule (codes "quiet")))
     (flag_rule (codes "until-stdin-closes")))
-    (file_rule (codes "port-file"))
+    (file_rule (codes "port-file")))
+    (file_rule (codes "script"))

@@ -6,15 +6,16 @@ use Rattle.clap.specs.declared.error.kind.ErrorKind.TheVariants as kind
 use Rattle.command_words.specs.{words_status}
 use Rattle.test_server.specs.declared.choice.Choice.{Choice}
 use Rattle.test_server.specs.declared.run.ServingEnd.{ServingEnd}
-use Rattle.test_server.specs.declared.run.ServingEnd.TheVariants.{Served, InOut}
+use Rattle.test_server.specs.declared.run.ServingEnd.TheVariants.{Served, Script, InOut}
 use Rattle.test_server.specs.declared.run.ServingEnd.TheVariants.{OutOfMemory}
 use Rattle.test_server.specs.Choices.{IsChosen}
 use Rattle.test_server.specs.CommandLine.{command_line}
 use Rattle.test_server.specs.Runs.{IsEnough}
 
--- the exit status of each end; 2 means a fault in the command line
+-- the exit status of each end; 2 also means a fault in the command line
 abbrev pub exit_status : ServingEnd → ℕ
 exit_status (Served n) = 0
+exit_status (Script fault) = 2
 exit_status InOut = 3
 exit_status OutOfMemory = 4
 

@@ -5,8 +5,11 @@ use Rattle.std.specs.Fmt.{decimal}
 use Rattle.std.specs.Io.KnownBytes.{Appends, Keeps}
 use Rattle.mio.specs.declared.net.stream.TcpStream.{TcpStream}
 use Rattle.test_store.specs.{Answered, StopsAt, empty_store, store_of}
+use Rattle.test_script.specs.{IsAnswered, IsStopped, RuleView}
+use Rattle.test_script.specs.declared.scripted.Scripted.{Scripted}
 use Rattle.test_store.specs.declared.store.Store.{Store}
 use Rattle.wire_hall.specs.{Tells, tells}
+use Rattle.wire_hall.specs.declared.valve.Valve.{Valve}
 use Rattle.wire_stream.specs.declared.tcp_link.TcpLink.{TcpLink}
 use Rattle.test_server.specs.declared.choice.Choice.{Choice}
 use Rattle.test_server.specs.declared.run.ServingEnd.{ServingEnd}
@@ -26,65 +29,78 @@ served_line count = codes "served " ++ (decimal count ++ codes "\n")
 abbrev pub port_text : ℕ → List ℕ
 port_text port = decimal port ++ codes "\n"
 
--- What a link over a socket tells: no bytes, since no contract says what a socket carries.
-abbrev pub socket_tells : Tells (TcpLink TcpStream)
-socket_tells = tells (λ link. None) (λ link. None) (λ link. link.ends) (λ link. link.waits)
+-- What a gate before a link over a socket tells: no bytes, since no contract says what a socket
+-- carries.
+abbrev pub socket_tells : Tells (Valve (TcpLink TcpStream))
+socket_tells =
+    tells (λ valve. None) (λ valve. None) (λ valve. valve.link.ends) (λ valve. valve.link.waits)
+
+-- the connections of the program
+abbrev pub Connected : Type 0
+Connected = Serving (Valve (TcpLink TcpStream)) (Scripted Store)
 
 -- what is written of a transcript: nothing by a quiet server
 abbrev pub shown : (quiet : Bool) → List ℕ → List ℕ
 shown true text = []
 shown false text = text
 
--- The server served on between these two moments, over sockets and with a store, and wrote what it
--- did.
-abbrev pub GoesOnServing : Serving (TcpLink TcpStream) Store → Serving (TcpLink TcpStream) Store
-    → Option (List ℕ) → Option (List ℕ) → Type 0
-GoesOnServing old new before after = ServesOn Answered StopsAt socket_tells old new before after
+-- The server stands so: over sockets, by rules before a store, it began with these, this many
+-- connections ended, and this was written.
+abbrev pub StandsAt : Scripted Store → Connected → (ended : ℕ) → (text : List ℕ) → Type 0
+StandsAt first s ended text =
+    IsServing (IsAnswered Answered) (IsStopped StopsAt) socket_tells first s ended text
+
+-- The server served on between these two moments, and wrote what it did.
+abbrev pub GoesOnServing : (old new : Connected) → Option (List ℕ) → Option (List ℕ) → Type 0
+GoesOnServing old new before after =
+    ServesOn (IsAnswered Answered) (IsStopped StopsAt) socket_tells old new before after
 
 -- the same, and wrote what is shown of what it did
-abbrev pub ShowsServing : (quiet : Bool) → Serving (TcpLink TcpStream) Store
-    → Serving (TcpLink TcpStream) Store → Option (List ℕ) → Option (List ℕ) → Type 0
+abbrev pub ShowsServing : (quiet : Bool) → (old new : Connected) → Option (List ℕ)
+    → Option (List ℕ) → Type 0
 ShowsServing quiet old new before after =
-    (first : Store) (ended : ℕ) (text : List ℕ)
-    → IsServing Answered StopsAt socket_tells first old ended text
-    → (more : ℕ) × (told : List ℕ)
-    × IsServing Answered StopsAt socket_tells first new more (text ++ told)
+    (first : Scripted Store) (ended : ℕ) (text : List ℕ) → StandsAt first old ended text
+    → (more : ℕ) × (told : List ℕ) × StandsAt first new more (text ++ told)
     × Appends before after (shown quiet told)
 
--- no connection was served yet, and no documents are held
-pub record HasBegun (s : Serving (TcpLink TcpStream) Store) : Type 0 where
-  pub store : Store
-  pub nothing : store_of store ≡ empty_store
-  pub serving : IsServing Answered StopsAt socket_tells store s 0 []
+-- no connection was served yet, the script has these rules, and no documents are held
+pub record HasBegun (rules : List RuleView) (s : Connected) : Type 0 where
+  pub first : Scripted Store
+  pub script : first.script.rules.items ≡ rules
+  pub nothing : store_of first.inner ≡ empty_store
+  pub serving : StandsAt first s 0 []
 
 -- as many connections were served as the words ask for, or fewer, where they say to end when
 -- standard input does
 abbrev pub IsEnough : Choice → ℕ → Type 0
 IsEnough choice n = (choice.connections ≤ n) ⊎ (choice.until_stdin_closes ≡ true)
 
--- The server listened somewhere and wrote where. From when it held no documents it served until
--- enough connections had ended, of which it counts no more than were asked for, and wrote what is
--- shown of what it did.
-pub record HasServed (choice : Choice) (count : ℕ) (before after : Option (List ℕ)) : Type 0 where
-  pub store : Store
-  pub nothing : store_of store ≡ empty_store
-  pub connections : Serving (TcpLink TcpStream) Store
+-- The server listened somewhere and wrote where. From when its script had these rules and it held
+-- no documents, it served until enough connections had ended, of which it counts no more than were
+-- asked for, and wrote what is shown of what it did.
+pub record HasServed (choice : Choice) (rules : List RuleView) (count : ℕ)
+    (before after : Option (List ℕ)) : Type 0 where
+  pub first : Scripted Store
+  pub script : first.script.rules.items ≡ rules
+  pub nothing : store_of first.inner ≡ empty_store
+  pub connections : Connected
   pub ended : ℕ
   pub text : List ℕ
-  pub serving : IsServing Answered StopsAt socket_tells store connections ended text
+  pub serving : StandsAt first connections ended text
   pub enough : IsEnough choice ended
   pub counted : count ≡ min ended choice.connections
   pub local : List ℕ
   pub written : Appends before after (listening_line local ++ shown choice.quiet text)
 
 -- what comes before the last line: nothing if no connection is asked for
-abbrev pub IsBegun : Choice → (asked count : ℕ) → Option (List ℕ) → Option (List ℕ) → Type 0
-IsBegun choice zero count before after = (count ≡ 0) × Keeps before after
-IsBegun choice (suc n) count before after = HasServed choice count before after
+abbrev pub IsBegun : Choice → List RuleView → (asked count : ℕ) → Option (List ℕ)
+    → Option (List ℕ) → Type 0
+IsBegun choice rules zero count before after = (count ≡ 0) × Keeps before after
+IsBegun choice rules (suc n) count before after = HasServed choice rules count before after
 
 -- this many connections were served, and the last line says so
-abbrev pub IsRun : Choice → ServingEnd → Option (List ℕ) → Option (List ℕ) → Type 0
-IsRun choice (runs.Served n) before after =
-    (mid : Option (List ℕ)) × IsBegun choice choice.connections n before mid
+abbrev pub IsRun : Choice → List RuleView → ServingEnd → Option (List ℕ) → Option (List ℕ) → Type 0
+IsRun choice rules (runs.Served n) before after =
+    (mid : Option (List ℕ)) × IsBegun choice rules choice.connections n before mid
     × Appends mid after (served_line n)
-IsRun choice why before after = Unit {0}
+IsRun choice rules why before after = Unit {0}

@@ -4,7 +4,7 @@ use Rattle.std.specs.Prelude.{Some, Result, Ok, Err}
 use Rattle.std.specs.Io.KnownBytes.{Appends}
 use Rattle.slab.specs.Slab.{Slab, Updates, get}
 use Rattle.wire_front.specs.declared.cause.FrontCause.TheVariants as fronts
-use Rattle.wire_hall.specs.{IsTurned, SeatSeen, Tells, new_seat, tells}
+use Rattle.wire_hall.specs.{IsTurned, SeatSeen, Tells, new_seat}
 use Rattle.wire_hall.specs.declared.turned.Leave.{Leave}
 use Rattle.wire_hall.specs.declared.turned.Leave.TheVariants as leaves
 use Rattle.wire_hall.specs.declared.turned.Turned.{Turned}

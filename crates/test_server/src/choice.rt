@@ -25,6 +25,8 @@ pub struct Choice<'a> {
     pub until_stdin_closes: bool,
     /// The file to write the port to.
     pub port_file: Option<&'a str>,
+    /// The file of the script.
+    pub script: Option<&'a str>,
 }
 
 /// Returns the operand ADDRESS.
@@ -72,6 +74,7 @@ fn chosen(parse: Result<ArgMatches<'_>, Error>) -> Result<Choice<'_>, Error>
         quiet: is_given(&matches, "quiet"),
         until_stdin_closes: is_given(&matches, "until-stdin-closes"),
         port_file: file_of(&matches, "port-file"),
+        script: file_of(&matches, "script"),
     })
 }
 

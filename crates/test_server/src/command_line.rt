@@ -82,8 +82,10 @@ pub fn program<'a>(alloc: Global) -> Result<Command<'a>, AllocError>
     let quiet = "Write only the first line and the last one";
     let until = "End when standard input does";
     let port = "Write the port and a line feed to FILE once the server listens";
+    let script = "Answer by the rules of FILE, and where they say nothing, as without them";
     serving(alloc)?
         .arg(flag(alloc, "quiet", quiet))?
         .arg(flag(alloc, "until-stdin-closes", until))?
-        .arg(file_option(alloc, "port-file", port))
+        .arg(file_option(alloc, "port-file", port))?
+        .arg(file_option(alloc, "script", script))
 }

@@ -1,10 +1,12 @@
 //! Serves many connections in one thread.
 
-ghost use Rattle.std.specs.Prelude.{◌≡◌, IfOk, OnOk};
+ghost use Rattle.std.specs.Prelude.{◌≡◌, ℕ, IfOk, List, OnOk, Option};
 ghost use Rattle.test_server.specs.Runs.{GoesOnServing, HasBegun};
 
+use crate::delays::Delays;
+use crate::guide::{Guide, gate_for};
 use crate::input::Watched;
-use crate::serving::{Serving, Stop, settle};
+use crate::serving::{STEPS, Serving, Stop, settle};
 use mio::net::{TcpListener, TcpStream};
 use mio::{Events, Interest, Poll, Token};
 use std::alloc::Global;
@@ -12,9 +14,10 @@ use std::collections::VecDeque;
 use std::io;
 use std::io::{BufRead, ErrorKind, Write};
 use std::net::Net;
-use std::time::Duration;
+use std::time::{Clock, Duration};
+use test_script::{Flow, Script, Scripted};
 use test_store::Store;
-use wire_hall::Turned;
+use wire_hall::{Gate, Turned, Valve};
 use wire_stream::TcpLink;
 
 /// The token of the listener. Those of connections are their keys.
@@ -38,7 +41,9 @@ pub struct Connections<I> {
     poll: Poll,
     listener: TcpListener,
     input: Option<Watched<I>>,
-    pub serving: Serving<TcpLink<TcpStream>, Store>,
+    pub serving: Serving<Valve<TcpLink<TcpStream>>, Scripted<Store>>,
+    /// The connections whose replies are held.
+    delays: Delays,
     /// The keys of connections whose turns ended before there was nothing to do, each once. It has
     /// room for those of all connections, so another turn wants no memory.
     again: VecDeque<usize>,
@@ -50,9 +55,25 @@ pub struct Connections<I> {
     wanted: u64,
 }
 
+/// Begins without connections, with the rules of `script` before a store without documents. Those of
+/// `guide`, which are the same, say what becomes of replies.
+fn begin(
+    alloc: Global,
+    script: Script,
+    guide: Script,
+) -> Serving<Valve<TcpLink<TcpStream>>, Scripted<Store>>
+    ensures { HasBegun script.rules.items result }
+{
+    let store = Store::new(alloc);
+    let handler = Scripted::new(alloc, script, store);
+    let guide = Guide::new(alloc, guide);
+    Serving::new(alloc, handler, guide)
+}
+
 impl<I: BufRead + Drop> Connections<I> {
-    /// Begins to listen for `count` connections, and to wait for the end of `input`, if it is given.
-    /// `again` is empty.
+    /// Begins to listen for `count` connections, and to wait for the end of `input`, if it is
+    /// given. `again` is empty. The rules of `script` come before a store without documents, and
+    /// those of `guide`, which are the same, say what becomes of replies.
     pub fn new(
         net: &impl Net,
         alloc: Global,
@@ -60,8 +81,10 @@ impl<I: BufRead + Drop> Connections<I> {
         input: Option<I>,
         count: u64,
         again: VecDeque<usize>,
+        script: Script,
+        guide: Script,
     ) -> io::Result<Connections<I>>
-        ensures { IfOk result (λ c. HasBegun c.serving) }
+        ensures { IfOk result (λ c. HasBegun script.rules.items c.serving) }
     {
         let poll = Poll::new(net)?;
         let mut listener = listener;
@@ -75,7 +98,8 @@ impl<I: BufRead + Drop> Connections<I> {
             poll,
             listener,
             input,
-            serving: Serving::new(alloc, Store::new(alloc)),
+            serving: begin(alloc, script, guide),
+            delays: Delays::new(alloc),
             again,
             ready: true,
             pausing: false,
@@ -116,7 +140,7 @@ impl<I: BufRead + Drop> Connections<I> {
             return Ok(());
         }
         self.wanted = self.wanted.saturating_sub(1);
-        self.serving.open(TcpLink::new(stream), out)
+        self.serving.open(Valve::new(TcpLink::new(stream)), out)
     }
 
     /// Accepts a connection, if one waits and one more is wanted. Returns true if another may wait.
@@ -154,12 +178,11 @@ impl<I: BufRead + Drop> Connections<I> {
         Ok(())
     }
 
-    /// Has a connection take a turn. Returns why the server stops, if it does.
-    fn take_turn<W: Write>(&mut self, key: usize, out: &mut W) -> Result<(), Stop>
-        ensures { OnOk result (GoesOnServing self.old.serving self.new.serving
-            (W.contents out.old) (W.contents out.new)) }
+    /// Goes on after a turn of a connection. Returns why the server stops, if it does.
+    fn after_turn(&mut self, key: usize, turned: Option<Turned>) -> Result<(), Stop>
+        ensures { self.new.serving ≡ self.old.serving }
     {
-        match self.serving.turn(key, out)? {
+        match turned {
             Some(Turned::Again) => self.take_up(key),
             Some(Turned::Over(leave)) => {
                 self.ready = true;
@@ -167,6 +190,85 @@ impl<I: BufRead + Drop> Connections<I> {
             }
             Some(Turned::Waits) | None => Ok(()),
         }
+    }
+
+    /// Says what becomes of the bytes that a connection sends from now on. One that was cut stays
+    /// so.
+    fn steer(&mut self, key: usize, to: Gate)
+        ensures { (a : Option (List ℕ)) → GoesOnServing self.old.serving self.new.serving a a }
+    {
+        if !self.serving.is_cut(key) {
+            self.serving.set_gate(key, to);
+        }
+    }
+
+    /// Says what becomes of the reply to the request that a connection answered in its last step,
+    /// if it answered one.
+    fn direct(&mut self, clock: &impl Clock, key: usize) -> Result<(), Stop>
+        ensures { (a : Option (List ℕ)) → GoesOnServing self.old.serving self.new.serving a a }
+    {
+        let Some(flow) = self.serving.flow() else {
+            return Ok(());
+        };
+        self.steer(key, gate_for(flow));
+        match flow {
+            Flow::Held(millis) => self.delays.hold(clock, key, millis),
+            _ => Ok(()),
+        }
+    }
+
+    /// Has a connection take a turn, in one step after another, so that what becomes of each reply
+    /// is said before any of it is sent. While its reply is held, it takes none.
+    fn take_steps<W: Write>(
+        &mut self,
+        clock: &impl Clock,
+        key: usize,
+        out: &mut W,
+    ) -> Result<(), Stop>
+        ensures { OnOk result (GoesOnServing self.old.serving self.new.serving
+            (W.contents out.old) (W.contents out.new)) }
+    {
+        for _ in 0..STEPS {
+            if self.delays.holds(key) {
+                return Ok(());
+            }
+            let turned = self.serving.turn(key, 1, out)?;
+            self.direct(clock, key)?;
+            if turned != Some(Turned::Again) {
+                return self.after_turn(key, turned);
+            }
+        }
+        self.take_up(key)
+    }
+
+    /// Has a connection take a turn. Returns why the server stops, if it does.
+    fn take_turn<W: Write>(
+        &mut self,
+        clock: &impl Clock,
+        key: usize,
+        out: &mut W,
+    ) -> Result<(), Stop>
+        ensures { OnOk result (GoesOnServing self.old.serving self.new.serving
+            (W.contents out.old) (W.contents out.new)) }
+    {
+        if !self.serving.is_unguided() {
+            return self.take_steps(clock, key, out);
+        }
+        let turned = self.serving.turn(key, STEPS, out)?;
+        self.after_turn(key, turned)
+    }
+
+    /// Has the connections take another turn whose replies were held for long enough.
+    fn release(&mut self, clock: &impl Clock) -> Result<(), Stop>
+        ensures { self.new.serving ≡ self.old.serving }
+    {
+        for _ in 0..ROOM {
+            let Some(key) = self.delays.take_due(clock)? else {
+                break;
+            };
+            self.take_up(key)?;
+        }
+        Ok(())
     }
 
     /// Notes that a connection is to take another turn.
@@ -183,21 +285,26 @@ impl<I: BufRead + Drop> Connections<I> {
     }
 
     /// Has each connection that isn't done take another turn.
-    fn take_up_turns<W: Write>(&mut self, out: &mut W) -> Result<(), Stop>
+    fn take_up_turns<W: Write>(&mut self, clock: &impl Clock, out: &mut W) -> Result<(), Stop>
         ensures { OnOk result (GoesOnServing self.old.serving self.new.serving
             (W.contents out.old) (W.contents out.new)) }
     {
         let due = self.again.len();
         for _ in 0..due {
             if let Some(key) = self.again.pop_front() {
-                self.take_turn(key, out)?;
+                self.take_turn(clock, key, out)?;
             }
         }
         Ok(())
     }
 
     /// Has each connection of which these events are take a turn.
-    fn take_turns<W: Write>(&mut self, events: &Events<Global>, out: &mut W) -> Result<(), Stop>
+    fn take_turns<W: Write>(
+        &mut self,
+        clock: &impl Clock,
+        events: &Events<Global>,
+        out: &mut W,
+    ) -> Result<(), Stop>
         ensures { OnOk result (GoesOnServing self.old.serving self.new.serving
             (W.contents out.old) (W.contents out.new)) }
     {
@@ -205,23 +312,32 @@ impl<I: BufRead + Drop> Connections<I> {
             match event.token() {
                 LISTENER => self.ready = true,
                 INPUT => self.take_input(),
-                Token(key) => self.take_turn(key, out)?,
+                Token(key) => self.take_turn(clock, key, out)?,
             }
         }
         Ok(())
     }
 
-    /// Waits for events: not at all if there is more to do, and for a pause if accepting failed.
-    fn wait(&mut self, events: &mut Events<Global>) -> Result<(), Stop>
+    /// Returns how long events are waited for: not at all if there is more to do, for a pause if
+    /// accepting failed, and no longer than a reply is held.
+    fn timeout(&self, clock: &impl Clock) -> Result<Option<Duration>, Stop> {
+        if !self.again.is_empty() || self.ready {
+            return Ok(Some(Duration::from_millis(0)));
+        }
+        let held = self.delays.least(clock)?;
+        if self.pausing {
+            let pause = Duration::from_millis(PAUSE);
+            return Ok(Some(held.map_or(pause, |held| held.min(pause))));
+        }
+        Ok(held)
+    }
+
+    /// Waits for events. Then has the connections take another turn whose replies were held for long
+    /// enough.
+    fn wait(&mut self, clock: &impl Clock, events: &mut Events<Global>) -> Result<(), Stop>
         ensures { self.new.serving ≡ self.old.serving }
     {
-        let timeout = if !self.again.is_empty() || self.ready {
-            Some(Duration::from_millis(0))
-        } else if self.pausing {
-            Some(Duration::from_millis(PAUSE))
-        } else {
-            None
-        };
+        let timeout = self.timeout(clock)?;
         match self.poll.poll(events, timeout) {
             Ok(()) => {}
             Err(error) if error.kind() == ErrorKind::Interrupted => {}
@@ -231,12 +347,13 @@ impl<I: BufRead + Drop> Connections<I> {
             self.pausing = false;
             self.ready = true;
         }
-        Ok(())
+        self.release(clock)
     }
 
     /// Waits for events, and serves the connections that they are of.
     pub fn serve_some<W: Write>(
         &mut self,
+        clock: &impl Clock,
         events: &mut Events<Global>,
         out: &mut W,
     ) -> Result<(), Stop>
@@ -246,9 +363,9 @@ impl<I: BufRead + Drop> Connections<I> {
         let Ok(()) = out.flush() else {
             return Err(Stop::InOut);
         };
-        self.wait(events)?;
-        self.take_up_turns(out)?;
-        self.take_turns(events, out)?;
+        self.wait(clock, events)?;
+        self.take_up_turns(clock, out)?;
+        self.take_turns(clock, events, out)?;
         if self.ready {
             self.accept_some(out)?;
         }

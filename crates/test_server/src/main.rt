@@ -5,9 +5,13 @@
 //! query of a command, or a request that can't be answered, end at most that connection. The server
 //! goes on with the others, unless memory ran out.
 //!
+//! With a script, the rules of that come before the `Store`, and say what becomes of the bytes of a
+//! reply, too.
+//!
 //! The exit status is 0 if as many connections were served as the command line says, or if it says
-//! to end with standard input, and that ended. It is 2 if the command line is at fault, 3 if
-//! listening, accepting a connection or writing the output failed, and 4 if memory ran out.
+//! to end with standard input, and that ended. It is 2 if the command line or the script is at
+//! fault, 3 if reading the script, listening, accepting a connection or writing the output failed,
+//! and 4 if memory ran out.
 //!
 //! Uses test_store, wire_hall and wire_text. Read first: `serving`, `connections` and then `run`.
 #![tactic(auto)]
@@ -15,6 +19,8 @@
 mod choice;
 mod command_line;
 mod connections;
+mod delays;
+mod guide;
 mod input;
 mod run;
 mod serving;
@@ -24,7 +30,7 @@ ghost use Rattle.std.specs.Prelude.{◌≡◌, map};
 ghost use Rattle.test_server.specs.ExitStatus.{IsStatusFor, IsStatusOf, exit_status};
 
 use choice::{Choice, choose};
-use command_words::{IN_OUT, MEMORY, Program, texts};
+use command_words::{IN_OUT, MEMORY, Program, USAGE, texts};
 use run::{ServingEnd, run};
 use std::io;
 use std::process::ExitCode;
@@ -75,6 +81,7 @@ fn tell(rt: &impl Eprint, end: ServingEnd, address: &str) -> u8
 {
     // If standard error takes no line, there is only the status.
     let _ = match end {
+        ServingEnd::Script(fault) => eprintln!(rt; "test_server: the script is at fault: {fault}"),
         ServingEnd::InOut => eprintln!(rt; "test_server: could not serve at {address:?}"),
         ServingEnd::OutOfMemory => eprintln!(rt; "test_server: out of memory"),
         ServingEnd::Served(_) => Ok(()),
@@ -88,6 +95,7 @@ fn status_of(end: ServingEnd) -> u8
 {
     match end {
         ServingEnd::Served(_) => 0,
+        ServingEnd::Script(_) => USAGE,
         ServingEnd::InOut => IN_OUT,
         ServingEnd::OutOfMemory => MEMORY,
     }

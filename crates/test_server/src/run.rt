@@ -1,6 +1,7 @@
 //! Runs the server, from its first line to its last.
 
-ghost use Rattle.std.specs.Prelude.{◌≡◌, ◌<◌, IfOk, List, OnOk, Option, min, true, ℕ};
+ghost use Rattle.std.specs.Prelude.{◌≡◌, ◌<◌, IfErr, IfOk, List, OnOk, Option, min, true, ℕ};
+ghost use Rattle.test_script.specs.{IsScript};
 ghost use Rattle.text_writer.specs.{WritesOut};
 ghost use Rattle.test_server.specs.Runs.{GoesOnServing, HasBegun, HasServed, IsEnough, IsRun};
 ghost use Rattle.test_server.specs.Runs.{ShowsServing};
@@ -15,15 +16,19 @@ use std::alloc::Global;
 use std::collections::VecDeque;
 use std::fs::File;
 use std::io;
-use std::io::{BufRead, BufWriter, ErrorKind, Input, Write};
+use std::io::{BufRead, BufWriter, ErrorKind, Input, Read, Write};
 use std::net::{Net, SocketAddr, ToSocketAddrs};
 use std::rt::Files;
+use std::time::Clock;
+use test_script::{Cause, Script, ScriptFault};
 
 /// Why the server ends.
 #[derive(Clone, Copy, Debug, PartialEq, Eq)]
 pub enum ServingEnd {
     /// This many connections were served.
     Served(u64),
+    /// The script is at fault.
+    Script(ScriptFault),
     /// Listening, accepting a connection or writing the output failed.
     InOut,
     /// Memory ran out.
@@ -66,17 +71,67 @@ fn write_first<W: Write>(local: SocketAddr, out: &mut W) -> io::Result<()>
     out.flush()
 }
 
+/// The rules of a script, twice: those that answers follow, and those that say what becomes of
+/// replies.
+#[derive(Drop)]
+struct Scripts {
+    script: Script,
+    guide: Script,
+}
+
+/// Reads the script out of its text.
+fn parse_scripts(alloc: Global, text: &[u8]) -> Result<Scripts, ScriptFault>
+    ensures script { IfOk result (λ s. IsScript text.now s.script.rules.items) }
+    ensures guide { IfOk result (λ s. IsScript text.now s.guide.rules.items) }
+{
+    let script = Script::parse(alloc, text)?;
+    let guide = Script::parse(alloc, text)?;
+    Ok(Scripts { script, guide })
+}
+
+/// Returns the bytes of a file.
+fn read_file<R: Files>(rt: &R, alloc: Global, file: &str) -> io::Result<Vec<u8>> {
+    let mut bytes = Vec::new(alloc);
+    File::open(rt, file)?.read_to_end(&mut bytes)?;
+    Ok(bytes)
+}
+
+/// Reads the script, if a file of one is given, and else makes the one without rules.
+fn read_scripts<R: Files>(rt: &R, alloc: Global, file: Option<&str>) -> Result<Scripts, ServingEnd>
+    ensures { IfErr result (λ end. (n : ℕ) → end ≡ ServingEnd.Served n → ⊥) }
+{
+    let Some(file) = file else {
+        return Ok(Scripts {
+            script: Script::new(alloc),
+            guide: Script::new(alloc),
+        });
+    };
+    let text = match read_file(rt, alloc, file) {
+        Ok(text) => text,
+        Err(error) if error.kind() == ErrorKind::OutOfMemory => {
+            return Err(ServingEnd::OutOfMemory);
+        }
+        Err(_) => return Err(ServingEnd::InOut),
+    };
+    match parse_scripts(alloc, text.as_slice()) {
+        Ok(scripts) => Ok(scripts),
+        Err(fault) if fault.cause == Cause::OutOfMemory => Err(ServingEnd::OutOfMemory),
+        Err(fault) => Err(ServingEnd::Script(fault)),
+    }
+}
+
 /// Listens where the words say, and writes to `out` where that is, and the port to its file.
 fn listen<R: Net + Files + Input, W: Write>(
     rt: &R,
     alloc: Global,
     choice: Choice<'_>,
     again: VecDeque<usize>,
+    scripts: Scripts,
     out: &mut W,
 ) -> io::Result<Connections<R::Reader>>
     ensures told { OnOk result ((local : List ℕ)
         × WritesOut W.contents out.old out.new (listening_line local)) }
-    ensures begun { IfOk result (λ c. HasBegun c.serving) }
+    ensures begun { IfOk result (λ c. HasBegun scripts.script.rules.items c.serving) }
 {
     let listener = TcpListener::bind(rt, first_address(rt, choice.address)?)?;
     let local = listener.local_addr()?;
@@ -87,12 +142,15 @@ fn listen<R: Net + Files + Input, W: Write>(
     } else {
         None
     };
-    Connections::new(rt, alloc, listener, input, choice.connections, again)
+    let Scripts { script, guide } = scripts;
+    let count = choice.connections;
+    Connections::new(rt, alloc, listener, input, count, again, script, guide)
 }
 
 /// Serves connections until as many of them ended as the words ask for, or until standard input
 /// ends, if they say so.
-fn serve_until<I: BufRead + Drop, W: Write>(
+fn serve_until<C: Clock, I: BufRead + Drop, W: Write>(
+    clock: &C,
     connections: &mut Connections<I>,
     events: &mut Events<Global>,
     choice: Choice<'_>,
@@ -109,14 +167,15 @@ fn serve_until<I: BufRead + Drop, W: Write>(
         if choice.until_stdin_closes && connections.has_input_ended() {
             return Ok(());
         }
-        connections.serve_some(events, out)?;
+        connections.serve_some(clock, events, out)?;
     }
     // No server serves some that often.
     Err(Stop::InOut)
 }
 
 /// Serves connections, and writes nothing.
-fn serve_quietly<I: BufRead + Drop>(
+fn serve_quietly<C: Clock, I: BufRead + Drop>(
+    clock: &C,
     connections: &mut Connections<I>,
     events: &mut Events<Global>,
     choice: Choice<'_>,
@@ -125,11 +184,12 @@ fn serve_quietly<I: BufRead + Drop>(
     ensures served { (a : Option (List ℕ)) → OnOk result (ShowsServing true
         connections.old.serving connections.new.serving a a) }
 {
-    serve_until(connections, events, choice, &mut io::sink())
+    serve_until(clock, connections, events, choice, &mut io::sink())
 }
 
 /// Serves connections, and writes what was asked and answered, unless the words ask for quiet.
-fn serve_shown<I: BufRead + Drop, W: Write>(
+fn serve_shown<C: Clock, I: BufRead + Drop, W: Write>(
+    clock: &C,
     connections: &mut Connections<I>,
     events: &mut Events<Global>,
     choice: Choice<'_>,
@@ -141,21 +201,22 @@ fn serve_shown<I: BufRead + Drop, W: Write>(
         (W.contents out.old) (W.contents out.new)) }
 {
     if choice.quiet {
-        serve_quietly(connections, events, choice)
+        serve_quietly(clock, connections, events, choice)
     } else {
-        serve_until(connections, events, choice, out)
+        serve_until(clock, connections, events, choice, out)
     }
 }
 
 /// Listens where the words say, and writes to `out` where that is, and serves connections until
 /// there were enough. Returns how many ended, and no more than the words ask for.
-fn serve_all<R: Net + Files + Input, W: Write>(
+fn serve_all<R: Net + Files + Input + Clock, W: Write>(
     rt: &R,
     alloc: Global,
     choice: Choice<'_>,
+    scripts: Scripts,
     out: &mut W,
 ) -> Result<u64, Stop>
-    ensures { IfOk result (λ n. HasServed choice.entry n
+    ensures { IfOk result (λ n. HasServed choice.entry scripts.script.rules.items n
         (W.contents out.old) (W.contents out.new)) }
 {
     let Ok(mut events) = Events::with_capacity(alloc, EVENTS) else {
@@ -164,10 +225,10 @@ fn serve_all<R: Net + Files + Input, W: Write>(
     let Ok(again) = VecDeque::with_capacity(alloc, ROOM) else {
         return Err(Stop::OutOfMemory);
     };
-    let Ok(mut connections) = listen(rt, alloc, choice, again, out) else {
+    let Ok(mut connections) = listen(rt, alloc, choice, again, scripts, out) else {
         return Err(Stop::InOut);
     };
-    serve_shown(&mut connections, &mut events, choice, out)?;
+    serve_shown(rt, &mut connections, &mut events, choice, out)?;
     Ok(told_count(connections.serving.ended(), choice.connections))
 }
 
@@ -190,17 +251,19 @@ fn write_last<W: Write>(count: u64, out: &mut W) -> io::Result<()>
 
 /// Serves what the words ask for, and writes what was asked and answered, unless they ask for
 /// quiet. Opens no socket if they ask for 0 connections.
-fn serve_at<R: Net + Files + Input, W: Write>(
+fn serve_at<R: Net + Files + Input + Clock, W: Write>(
     rt: &R,
     alloc: Global,
     choice: Choice<'_>,
+    scripts: Scripts,
     out: &mut W,
 ) -> ServingEnd
-    ensures { IsRun choice.entry result (W.contents out.old) (W.contents out.new) }
+    ensures { IsRun choice.entry scripts.script.rules.items result
+        (W.contents out.old) (W.contents out.new) }
 {
     let mut count = 0;
     if choice.connections > 0 {
-        match serve_all(rt, alloc, choice, out) {
+        match serve_all(rt, alloc, choice, scripts, out) {
             Ok(served) => count = served,
             Err(Stop::InOut) => return ServingEnd::InOut,
             Err(Stop::OutOfMemory) => return ServingEnd::OutOfMemory,
@@ -213,7 +276,7 @@ fn serve_at<R: Net + Files + Input, W: Write>(
 }
 
 /// Serves what the words ask for, and writes its transcript through a buffer.
-pub fn run<R: Net + Files + Input, W: Write + Drop>(
+pub fn run<R: Net + Files + Input + Clock, W: Write + Drop>(
     rt: &R,
     alloc: Global,
     choice: Choice<'_>,
@@ -221,8 +284,12 @@ pub fn run<R: Net + Files + Input, W: Write + Drop>(
 ) -> ServingEnd
     ensures { (n : ℕ) → result ≡ ServingEnd.Served n → IsEnough choice.entry n }
 {
+    let scripts = match read_scripts(rt, alloc, choice.script) {
+        Ok(scripts) => scripts,
+        Err(end) => return end,
+    };
     match BufWriter::new(alloc, out) {
-        Ok(mut out) => serve_at(rt, alloc, choice, &mut out),
+        Ok(mut out) => serve_at(rt, alloc, choice, scripts, &mut out),
         Err(_) => ServingEnd::OutOfMemory,
     }
 }

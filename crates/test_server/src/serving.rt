@@ -1,6 +1,7 @@
 //! Serves the connections of a hall, and writes what they ask and how they end.
 
-ghost use Rattle.std.specs.Prelude.{◌≡◌, ◌+◌, [], None, Ok, OnErr, OnOk, Some, flat_map, min};
+ghost use Rattle.std.specs.Prelude.{◌≡◌, ◌+◌, [], ℕ, List, None, Ok, OnOk, Option, Some, flat_map};
+ghost use Rattle.std.specs.Prelude.{min};
 ghost use Rattle.slab.specs.Slab.{Updates, get};
 ghost use Rattle.text_writer.specs.{WritesOut};
 ghost use Rattle.wire_hall.specs.{SeatSeen, tells};
@@ -8,12 +9,14 @@ ghost use Rattle.wire_peer.specs.{log_of};
 ghost use Rattle.test_server.specs.Serving.{IsServing, ServesOn, settled};
 ghost use Rattle.test_server.specs.Transcript.{end_text, told_text};
 
+use crate::guide::Guide;
 use crate::transcript::{write_end, write_entries, write_new};
 use std::alloc::Global;
 use std::io;
 use std::io::Write;
+use test_script::Flow;
 use wire_front::FrontCause;
-use wire_hall::{Hall, Leave, Turned};
+use wire_hall::{Gate, Gated, Hall, Leave, Turned};
 use wire_peer::{Handler, ServerCause};
 use wire_stream::Link;
 
@@ -27,7 +30,7 @@ pub enum Stop {
 }
 
 /// The most steps of a turn.
-const STEPS: u32 = 32;
+pub const STEPS: u32 = 32;
 
 /// Writes the entries that were made, in order, and forgets them.
 fn tell<L: Link + Drop, H: Handler + Drop, W: Write>(
@@ -60,22 +63,24 @@ pub fn settle(leave: Leave) -> Result<(), Stop>
     }
 }
 
-/// The connections that are served, and how many ended.
+/// The connections that are served, and how many ended, with the guide to what becomes of replies.
 #[derive(Drop)]
 pub struct Serving<L, H> {
     hall: Hall<L, H>,
     ended: u64,
+    guide: Guide,
 }
 
 impl<L: Link + Drop, H: Handler + Drop> Serving<L, H> {
-    /// Begins without connections. Requests are asked of `handler`.
-    pub fn new(alloc: Global, handler: H) -> Serving<L, H>
+    /// Begins without connections. Requests are asked of `handler`, and told to `guide`.
+    pub fn new(alloc: Global, handler: H, guide: Guide) -> Serving<L, H>
         ensures { IsServing H.does H.stops (tells L.received L.sent L.ends L.waits) handler
             result 0 [] }
     {
         Serving {
             hall: Hall::new(alloc, handler),
             ended: 0,
+            guide,
         }
     }
 
@@ -89,6 +94,19 @@ impl<L: Link + Drop, H: Handler + Drop> Serving<L, H> {
         ensures { result ≡ self.now.ended }
     {
         self.ended
+    }
+
+    /// Returns true if each reply goes as it comes.
+    pub fn is_unguided(&self) -> bool {
+        self.guide.is_idle()
+    }
+
+    /// Returns what becomes of the reply to the last request of the last turn, if one was answered
+    /// in it.
+    pub fn flow(&self) -> Option<Flow>
+        ensures { result ≡ self.now.guide.flow }
+    {
+        self.guide.flow()
     }
 
     /// Returns the key that the next connection has.
@@ -140,21 +158,29 @@ impl<L: Link + Drop, H: Handler + Drop> Serving<L, H> {
         write_end(number, leave, out)
     }
 
-    /// Has the connection of this key take a turn, and writes the entries that it made. If it is
-    /// over then, forgets it and writes its last line. Returns what the turn came to, or `None` if
-    /// there is no such connection.
+    /// Has the connection of this key take a turn of at most `steps` steps, and writes the entries
+    /// that it made. If it is over then, forgets it and writes its last line. Returns what the turn
+    /// came to, or `None` if there is no such connection.
     ///
     /// # Errors
     ///
-    /// Returns `InOut` if writing fails.
-    pub fn turn<W: Write>(&mut self, key: usize, out: &mut W) -> Result<Option<Turned>, Stop>
+    /// Returns `InOut` if writing fails, and `OutOfMemory` if memory runs out.
+    pub fn turn<W: Write>(
+        &mut self,
+        key: usize,
+        steps: u32,
+        out: &mut W,
+    ) -> Result<Option<Turned>, Stop>
         ensures none { result ≡ Ok None → get self.old.hall.seats key ≡ None }
         ensures served { OnOk result (ServesOn H.does H.stops
             (tells L.received L.sent L.ends L.waits)
             self.old self.new (W.contents out.old) (W.contents out.new)) }
     {
-        let Some(turned) = self.hall.turn(key, STEPS) else {
+        let Some(turned) = self.hall.turn(key, steps) else {
             return Ok(None);
+        };
+        let Ok(()) = self.guide.follow(self.hall.entries()) else {
+            return Err(Stop::OutOfMemory);
         };
         let Ok(()) = tell(&mut self.hall, out) else {
             return Err(Stop::InOut);
@@ -166,5 +192,25 @@ impl<L: Link + Drop, H: Handler + Drop> Serving<L, H> {
             },
             Turned::Again | Turned::Waits => Ok(Some(turned)),
         }
+    }
+}
+
+impl<L: Gated + Drop, H: Handler + Drop> Serving<L, H> {
+    /// Returns true if the connection of this key was cut.
+    pub fn is_cut(&self, key: usize) -> bool {
+        match self.hall.seat(key) {
+            Some(seat) => matches!(seat.link().gate(), Gate::Cut(_)),
+            None => false,
+        }
+    }
+
+    /// Says what becomes of the bytes that are sent over the connection of this key from now on.
+    pub fn set_gate(&mut self, key: usize, to: Gate)
+        ensures gate { (s : SeatSeen L) → get self.new.hall.seats key ≡ Some s
+            → L.gate s.link ≡ to }
+        ensures served { (a : Option (List ℕ)) → ServesOn H.does H.stops
+            (tells L.received L.sent L.ends L.waits) self.old self.new a a }
+    {
+        let _ = self.hall.set_gate(key, to);
     }
 }

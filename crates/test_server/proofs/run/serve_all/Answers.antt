@@ -8,9 +8,10 @@ pub returns : goal.returns
 returns g c =
     let begun = c.in-Ok-listen.ensures.begun in
     let told = c.in-Ok-listen.ensures.told in
-    let went = c.in_ok-serve_shown.ensures.served begun.store 0 [] begun.serving in
+    let went = c.in_ok-serve_shown.ensures.served begun.first 0 [] begun.serving in
     record {
-      store = begun.store;
+      first = begun.first;
+      script = begun.script;
       nothing = begun.nothing;
       connections = c.serve_shown.new.connections.serving;
       ended = went.0;

@@ -1,0 +1,12 @@
+use Rattle.std.proofs.Common.{◌∙◌, ap}
+use Rattle.test_store.specs.{store_of}
+use Rattle.test_script.specs.declared.script.Script.{Script}
+use Rattle.test_server.proofs.connections.begin.Goals as goal
+
+pub returns : goal.returns
+returns c = record {
+  first = c.new-handler.result;
+  script = ap (λ (s : Script). s.rules.items) c.new-handler.ensures.script;
+  nothing = ap store_of c.new-handler.ensures.inner ∙ c.new-store.ensures;
+  serving = c.new.ensures;
+}
