@@ -2,5 +2,6 @@ pub mod Owning
 pub mod Sums
 pub mod Numbering
 pub mod PathCounts
+pub mod Overlaps
 pub mod ElementLaws
 pub mod Placings

@@ -97,7 +97,7 @@ fn has_conflict(alloc: Global, operators: &Operators) -> Result<bool, AllocError
     push_paths(&operators.set, &mut paths)?;
     push_paths(&operators.unset, &mut paths)?;
     push_paths(&operators.increments, &mut paths)?;
-    Ok(overlap_within(paths.as_slice()))
+    overlap_within(paths)
 }
 
 /// Returns the paths that an operator of an update names. There are none if it isn't there.

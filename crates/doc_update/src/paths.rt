@@ -1,13 +1,16 @@
 //! Tells which paths an update may have, and which two of them conflict.
 
-ghost use Rattle.std.specs.Prelude.{◌≡◌, ◌++◌, OnOk, length, map, nat_lt};
+ghost use Rattle.std.specs.Prelude.{◌≡◌, ◌++◌, IfOk, OnOk, length, map, nat_lt};
+ghost use Rattle.std.specs.Cmp.Lexicographic.{slice_cmp};
+ghost use Rattle.std.specs.Ordering.{nat_cmp};
 ghost use Rattle.doc_query.specs.{steps, steps_left};
-ghost use Rattle.doc_update.specs.Paths.{overlap, overlap_within, overlaps_one, path_fault};
-ghost use Rattle.doc_update.specs.Paths.{paths_fault, paths_of, step_fault, steps_fault};
+ghost use Rattle.doc_update.specs.Paths.{overlap, overlap_within, path_fault, paths_fault};
+ghost use Rattle.doc_update.specs.Paths.{paths_of, step_fault, steps_fault};
 
 use bson_doc::Document;
 use doc_query::{CommandError, first_step, is_operator};
 use std::alloc::AllocError;
+use std::cmp::Ordering;
 
 /// Returns true if a path has more than 200 steps.
 fn has_many_steps(path: &str) -> bool
@@ -88,28 +91,25 @@ fn overlap(a: Option<&str>, b: Option<&str>) -> bool
     step == other && overlap(a_rest, b_rest)
 }
 
-/// Returns true if a path overlaps one of these.
-fn overlaps_one(path: &str, paths: &[&str]) -> bool
-    ensures { result ≡ overlaps_one path.now (map (λ p. p.now) paths.now) }
+/// Returns the order of two paths, by the first step in which they differ. A path comes right before
+/// those that it is the beginning of.
+fn steps_order(a: &str, b: &str) -> Ordering
+    ensures { result ≡ slice_cmp (slice_cmp nat_cmp) (steps a.now) (steps b.now) }
 {
-    for other in paths {
-        if overlap(Some(path), Some(*other)) {
-            return true;
-        }
-    }
-    false
+    a.split('.').cmp(b.split('.'))
 }
 
 /// Returns true if two of these paths overlap: if the steps of both are the same, as far as both go.
-pub fn overlap_within(paths: &[&str]) -> bool
-    ensures { result ≡ overlap_within (map (λ p. p.now) paths.now) }
+/// Sorts them, so that two of them that are neighbours overlap then.
+///
+/// # Errors
+///
+/// Returns `AllocError` if memory runs out.
+pub fn overlap_within(mut paths: Vec<&str>) -> Result<bool, AllocError>
+    ensures { IfOk result (λ b. b ≡ overlap_within (map (λ p. p.now) paths.entry.items)) }
 {
-    for (index, path) in paths.iter().enumerate() {
-        if overlaps_one(*path, &paths[index + 1..]) {
-            return true;
-        }
-    }
-    false
+    paths.sort_by(|a, b| steps_order(*a, *b))?;
+    Ok(!paths.is_sorted_by(|a, b| !overlap(Some(*a), Some(*b))))
 }
 
 /// Appends the names of fields, which are paths.

@@ -4,7 +4,7 @@ ghost use Rattle.std.specs.Prelude.{◌≡◌, IfOk, OnOk, map, option_map};
 ghost use Rattle.bson_doc.specs.{value_of};
 ghost use Rattle.doc_query.specs.{steps, steps_left};
 ghost use Rattle.doc_update.specs.Elements.{index_of};
-ghost use Rattle.doc_update.specs.Removing.{left_at, left_by, left_field, left_in, left_of};
+ghost use Rattle.doc_update.specs.Removing.{left_by, left_field, left_in, left_of};
 ghost use Rattle.doc_update.specs.Removing.{put_or_without, without_each};
 
 use crate::elements::index_of;
