@@ -1,6 +1,5 @@
 pub mod Texts
 pub mod Steps
-pub mod Made
 pub mod NumberLemmas
 pub mod ParseLemmas
 pub mod Shows

@@ -12,8 +12,8 @@ nothing_more (Some x) = sym (append-nil x)
 -- a quiet server shows nothing of what it does
 pub quiet_shows : {E : Type 0} (r : Result (Unit {0}) E) (old new : Connected) (a : Option (List ℕ))
     → OnOk r (GoesOnServing old new None None) → OnOk r (ShowsServing true old new a a)
-quiet_shows (Ok u) old new a served = λ first ended text serving.
-    let went = served first ended text serving in (went.0, went.1, went.2, nothing_more a)
+quiet_shows (Ok u) old new a served = λ first guide ended text serving.
+    let went = served first guide ended text serving in (went.0, went.1, went.2, nothing_more a)
 quiet_shows (Err e) old new a served = tt
 
 -- text that was written stands after a flush

@@ -44,41 +44,48 @@ abbrev pub shown : (quiet : Bool) → List ℕ → List ℕ
 shown true text = []
 shown false text = text
 
--- The server stands so: over sockets, by rules before a store, it began with these, this many
--- connections ended, and this was written.
-abbrev pub StandsAt : Scripted Store → Connected → (ended : ℕ) → (text : List ℕ) → Type 0
-StandsAt first s ended text =
-    IsServing (IsAnswered Answered) (IsStopped StopsAt) socket_tells first s ended text
+-- The server stands so: over sockets, by rules before a store, it began with these, and with the
+-- rules of a script that say what becomes of replies, this many connections ended, and this was
+-- written.
+abbrev pub StandsAt : Scripted Store → List RuleView → Connected → (ended : ℕ) → (text : List ℕ)
+    → Type 0
+StandsAt first guide s ended text =
+    IsServing (IsAnswered Answered) (IsStopped StopsAt) socket_tells (λ valve. valve.gate) first
+    guide s ended text
 
 -- The server served on between these two moments, and wrote what it did.
 abbrev pub GoesOnServing : (old new : Connected) → Option (List ℕ) → Option (List ℕ) → Type 0
 GoesOnServing old new before after =
-    ServesOn (IsAnswered Answered) (IsStopped StopsAt) socket_tells old new before after
+    ServesOn (IsAnswered Answered) (IsStopped StopsAt) socket_tells (λ valve. valve.gate) old new
+    before after
 
 -- the same, and wrote what is shown of what it did
 abbrev pub ShowsServing : (quiet : Bool) → (old new : Connected) → Option (List ℕ)
     → Option (List ℕ) → Type 0
 ShowsServing quiet old new before after =
-    (first : Scripted Store) (ended : ℕ) (text : List ℕ) → StandsAt first old ended text
-    → (more : ℕ) × (told : List ℕ) × StandsAt first new more (text ++ told)
+    (first : Scripted Store) (guide : List RuleView) (ended : ℕ) (text : List ℕ)
+    → StandsAt first guide old ended text
+    → (more : ℕ) × (told : List ℕ) × StandsAt first guide new more (text ++ told)
     × Appends before after (shown quiet told)
 
--- no connection was served yet, the script has these rules, and no documents are held
-pub record HasBegun (rules : List RuleView) (s : Connected) : Type 0 where
+-- no connection was served yet, the script has these rules, those that say what becomes of replies
+-- are these, and no documents are held
+pub record HasBegun (rules guide : List RuleView) (s : Connected) : Type 0 where
   pub first : Scripted Store
   pub script : first.script.rules.items ≡ rules
   pub nothing : store_of first.inner ≡ empty_store
-  pub serving : StandsAt first s 0 []
+  pub serving : StandsAt first guide s 0 []
 
 -- as many connections were served as the words ask for, or fewer, where they say to end when
 -- standard input does
 abbrev pub IsEnough : Choice → ℕ → Type 0
 IsEnough choice n = (choice.connections ≤ n) ⊎ (choice.until_stdin_closes ≡ true)
 
--- The server listened somewhere and wrote where. From when its script had these rules and it held
--- no documents, it served until enough connections had ended, of which it counts no more than were
--- asked for, and wrote what is shown of what it did.
-pub record HasServed (choice : Choice) (rules : List RuleView) (count : ℕ)
+-- The server listened somewhere and wrote where. From when its script had these rules, those that
+-- say what becomes of replies were these, and it held no documents, it served until enough
+-- connections had ended, of which it counts no more than were asked for, and wrote what is shown of
+-- what it did.
+pub record HasServed (choice : Choice) (rules guide : List RuleView) (count : ℕ)
     (before after : Option (List ℕ)) : Type 0 where
   pub first : Scripted Store
   pub script : first.script.rules.items ≡ rules
@@ -86,21 +93,23 @@ pub record HasServed (choice : Choice) (rules : List RuleView) (count : ℕ)
   pub connections : Connected
   pub ended : ℕ
   pub text : List ℕ
-  pub serving : StandsAt first connections ended text
+  pub serving : StandsAt first guide connections ended text
   pub enough : IsEnough choice ended
   pub counted : count ≡ min ended choice.connections
   pub local : List ℕ
   pub written : Appends before after (listening_line local ++ shown choice.quiet text)
 
 -- what comes before the last line: nothing if no connection is asked for
-abbrev pub IsBegun : Choice → List RuleView → (asked count : ℕ) → Option (List ℕ)
-    → Option (List ℕ) → Type 0
-IsBegun choice rules zero count before after = (count ≡ 0) × Keeps before after
-IsBegun choice rules (suc n) count before after = HasServed choice rules count before after
+abbrev pub IsBegun : Choice → (rules guide : List RuleView) → (asked count : ℕ)
+    → Option (List ℕ) → Option (List ℕ) → Type 0
+IsBegun choice rules guide zero count before after = (count ≡ 0) × Keeps before after
+IsBegun choice rules guide (suc n) count before after =
+    HasServed choice rules guide count before after
 
 -- this many connections were served, and the last line says so
-abbrev pub IsRun : Choice → List RuleView → ServingEnd → Option (List ℕ) → Option (List ℕ) → Type 0
-IsRun choice rules (runs.Served n) before after =
-    (mid : Option (List ℕ)) × IsBegun choice rules choice.connections n before mid
+abbrev pub IsRun : Choice → (rules guide : List RuleView) → ServingEnd → Option (List ℕ)
+    → Option (List ℕ) → Type 0
+IsRun choice rules guide (runs.Served n) before after =
+    (mid : Option (List ℕ)) × IsBegun choice rules guide choice.connections n before mid
     × Appends mid after (served_line n)
-IsRun choice rules why before after = Unit {0}
+IsRun choice rules guide why before after = Unit {0}

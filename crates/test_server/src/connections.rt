@@ -4,8 +4,9 @@ ghost use Rattle.std.specs.Prelude.{◌≡◌, ℕ, IfOk, List, OnOk, Option};
 ghost use Rattle.test_server.specs.Runs.{GoesOnServing, HasBegun};
 
 use crate::delays::Delays;
-use crate::guide::{Guide, gate_for};
+use crate::guide::Guide;
 use crate::input::Watched;
+use crate::output::Output;
 use crate::serving::{STEPS, Serving, Stop, settle};
 use mio::net::{TcpListener, TcpStream};
 use mio::{Events, Interest, Poll, Token};
@@ -17,7 +18,7 @@ use std::net::Net;
 use std::time::{Clock, Duration};
 use test_script::{Flow, Script, Scripted};
 use test_store::Store;
-use wire_hall::{Gate, Turned, Valve};
+use wire_hall::{Turned, Valve};
 use wire_stream::TcpLink;
 
 /// The token of the listener. Those of connections are their keys.
@@ -62,7 +63,7 @@ fn begin(
     script: Script,
     guide: Script,
 ) -> Serving<Valve<TcpLink<TcpStream>>, Scripted<Store>>
-    ensures { HasBegun script.rules.items result }
+    ensures { HasBegun script.rules.items guide.rules.items result }
 {
     let store = Store::new(alloc);
     let handler = Scripted::new(alloc, script, store);
@@ -84,7 +85,8 @@ impl<I: BufRead + Drop> Connections<I> {
         script: Script,
         guide: Script,
     ) -> io::Result<Connections<I>>
-        ensures { IfOk result (λ c. HasBegun script.rules.items c.serving) }
+        ensures { IfOk result (λ c. HasBegun script.rules.items guide.rules.items
+            c.serving) }
     {
         let poll = Poll::new(net)?;
         let mut listener = listener;
@@ -192,34 +194,22 @@ impl<I: BufRead + Drop> Connections<I> {
         }
     }
 
-    /// Says what becomes of the bytes that a connection sends from now on. One that was cut stays
-    /// so.
-    fn steer(&mut self, key: usize, to: Gate)
-        ensures { (a : Option (List ℕ)) → GoesOnServing self.old.serving self.new.serving a a }
+    /// Holds the reply to the request that a connection answered in its last turn, which came to
+    /// `turned`, if it goes on and answered one whose reply is to be held.
+    fn hold(&mut self, clock: &impl Clock, key: usize, turned: Option<Turned>) -> Result<(), Stop>
+        ensures { self.new.serving ≡ self.old.serving }
     {
-        if !self.serving.is_cut(key) {
-            self.serving.set_gate(key, to);
-        }
-    }
-
-    /// Says what becomes of the reply to the request that a connection answered in its last step,
-    /// if it answered one.
-    fn direct(&mut self, clock: &impl Clock, key: usize) -> Result<(), Stop>
-        ensures { (a : Option (List ℕ)) → GoesOnServing self.old.serving self.new.serving a a }
-    {
-        let Some(flow) = self.serving.flow() else {
-            return Ok(());
-        };
-        self.steer(key, gate_for(flow));
-        match flow {
-            Flow::Held(millis) => self.delays.hold(clock, key, millis),
+        match (turned, self.serving.flow()) {
+            (Some(Turned::Again | Turned::Waits), Some(Flow::Held(millis))) => {
+                self.delays.hold(clock, key, millis)
+            }
             _ => Ok(()),
         }
     }
 
-    /// Has a connection take a turn, in one step after another, so that what becomes of each reply
-    /// is said before any of it is sent. While its reply is held, it takes none.
-    fn take_steps<W: Write>(
+    /// Has a connection take a turn, in one step after another. While its reply is held, it takes
+    /// none.
+    fn take_steps<W: Output>(
         &mut self,
         clock: &impl Clock,
         key: usize,
@@ -232,8 +222,8 @@ impl<I: BufRead + Drop> Connections<I> {
             if self.delays.holds(key) {
                 return Ok(());
             }
-            let turned = self.serving.turn(key, 1, out)?;
-            self.direct(clock, key)?;
+            let turned = self.serving.turn(key, out)?;
+            self.hold(clock, key, turned)?;
             if turned != Some(Turned::Again) {
                 return self.after_turn(key, turned);
             }
@@ -242,7 +232,7 @@ impl<I: BufRead + Drop> Connections<I> {
     }
 
     /// Has a connection take a turn. Returns why the server stops, if it does.
-    fn take_turn<W: Write>(
+    fn take_turn<W: Output>(
         &mut self,
         clock: &impl Clock,
         key: usize,
@@ -254,7 +244,7 @@ impl<I: BufRead + Drop> Connections<I> {
         if !self.serving.is_unguided() {
             return self.take_steps(clock, key, out);
         }
-        let turned = self.serving.turn(key, STEPS, out)?;
+        let turned = self.serving.turn(key, out)?;
         self.after_turn(key, turned)
     }
 
@@ -285,7 +275,7 @@ impl<I: BufRead + Drop> Connections<I> {
     }
 
     /// Has each connection that isn't done take another turn.
-    fn take_up_turns<W: Write>(&mut self, clock: &impl Clock, out: &mut W) -> Result<(), Stop>
+    fn take_up_turns<W: Output>(&mut self, clock: &impl Clock, out: &mut W) -> Result<(), Stop>
         ensures { OnOk result (GoesOnServing self.old.serving self.new.serving
             (W.contents out.old) (W.contents out.new)) }
     {
@@ -299,7 +289,7 @@ impl<I: BufRead + Drop> Connections<I> {
     }
 
     /// Has each connection of which these events are take a turn.
-    fn take_turns<W: Write>(
+    fn take_turns<W: Output>(
         &mut self,
         clock: &impl Clock,
         events: &Events<Global>,
@@ -351,7 +341,7 @@ impl<I: BufRead + Drop> Connections<I> {
     }
 
     /// Waits for events, and serves the connections that they are of.
-    pub fn serve_some<W: Write>(
+    pub fn serve_some<W: Output>(
         &mut self,
         clock: &impl Clock,
         events: &mut Events<Global>,

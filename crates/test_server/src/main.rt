@@ -22,6 +22,7 @@ mod connections;
 mod delays;
 mod guide;
 mod input;
+mod output;
 mod run;
 mod serving;
 mod transcript;

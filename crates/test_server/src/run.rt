@@ -9,6 +9,7 @@ ghost use Rattle.test_server.specs.Runs.{listening_line, port_text, served_line}
 
 use crate::choice::Choice;
 use crate::connections::{Connections, ROOM};
+use crate::output::Output;
 use crate::serving::Stop;
 use mio::Events;
 use mio::net::TcpListener;
@@ -131,7 +132,8 @@ fn listen<R: Net + Files + Input, W: Write>(
 ) -> io::Result<Connections<R::Reader>>
     ensures told { OnOk result ((local : List ℕ)
         × WritesOut W.contents out.old out.new (listening_line local)) }
-    ensures begun { IfOk result (λ c. HasBegun scripts.script.rules.items c.serving) }
+    ensures begun { IfOk result (λ c. HasBegun scripts.script.rules.items
+        scripts.guide.rules.items c.serving) }
 {
     let listener = TcpListener::bind(rt, first_address(rt, choice.address)?)?;
     let local = listener.local_addr()?;
@@ -149,7 +151,7 @@ fn listen<R: Net + Files + Input, W: Write>(
 
 /// Serves connections until as many of them ended as the words ask for, or until standard input
 /// ends, if they say so.
-fn serve_until<C: Clock, I: BufRead + Drop, W: Write>(
+fn serve_until<C: Clock, I: BufRead + Drop, W: Output>(
     clock: &C,
     connections: &mut Connections<I>,
     events: &mut Events<Global>,
@@ -188,7 +190,7 @@ fn serve_quietly<C: Clock, I: BufRead + Drop>(
 }
 
 /// Serves connections, and writes what was asked and answered, unless the words ask for quiet.
-fn serve_shown<C: Clock, I: BufRead + Drop, W: Write>(
+fn serve_shown<C: Clock, I: BufRead + Drop, W: Output>(
     clock: &C,
     connections: &mut Connections<I>,
     events: &mut Events<Global>,
@@ -209,15 +211,15 @@ fn serve_shown<C: Clock, I: BufRead + Drop, W: Write>(
 
 /// Listens where the words say, and writes to `out` where that is, and serves connections until
 /// there were enough. Returns how many ended, and no more than the words ask for.
-fn serve_all<R: Net + Files + Input + Clock, W: Write>(
+fn serve_all<R: Net + Files + Input + Clock, W: Output>(
     rt: &R,
     alloc: Global,
     choice: Choice<'_>,
     scripts: Scripts,
     out: &mut W,
 ) -> Result<u64, Stop>
-    ensures { IfOk result (λ n. HasServed choice.entry scripts.script.rules.items n
-        (W.contents out.old) (W.contents out.new)) }
+    ensures { IfOk result (λ n. HasServed choice.entry scripts.script.rules.items
+        scripts.guide.rules.items n (W.contents out.old) (W.contents out.new)) }
 {
     let Ok(mut events) = Events::with_capacity(alloc, EVENTS) else {
         return Err(Stop::OutOfMemory);
@@ -251,15 +253,15 @@ fn write_last<W: Write>(count: u64, out: &mut W) -> io::Result<()>
 
 /// Serves what the words ask for, and writes what was asked and answered, unless they ask for
 /// quiet. Opens no socket if they ask for 0 connections.
-fn serve_at<R: Net + Files + Input + Clock, W: Write>(
+fn serve_at<R: Net + Files + Input + Clock, W: Output>(
     rt: &R,
     alloc: Global,
     choice: Choice<'_>,
     scripts: Scripts,
     out: &mut W,
 ) -> ServingEnd
-    ensures { IsRun choice.entry scripts.script.rules.items result
-        (W.contents out.old) (W.contents out.new) }
+    ensures { IsRun choice.entry scripts.script.rules.items scripts.guide.rules.items
+        result (W.contents out.old) (W.contents out.new) }
 {
     let mut count = 0;
     if choice.connections > 0 {

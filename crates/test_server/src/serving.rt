@@ -1,15 +1,17 @@
 //! Serves the connections of a hall, and writes what they ask and how they end.
 
-ghost use Rattle.std.specs.Prelude.{◌≡◌, ◌+◌, [], ℕ, List, None, Ok, OnOk, Option, Some, flat_map};
+ghost use Rattle.std.specs.Prelude.{◌≡◌, ◌≢◌, ◌↔◌, ◌+◌, [], IsTrue, None, Ok, OnOk, Some, flat_map};
 ghost use Rattle.std.specs.Prelude.{min};
 ghost use Rattle.slab.specs.Slab.{Updates, get};
 ghost use Rattle.text_writer.specs.{WritesOut};
 ghost use Rattle.wire_hall.specs.{SeatSeen, tells};
 ghost use Rattle.wire_peer.specs.{log_of};
-ghost use Rattle.test_server.specs.Serving.{IsServing, ServesOn, settled};
+ghost use Rattle.test_server.specs.Serving.{IsServing, IsSteered, IsStepped, ServesOn, gate_after};
+ghost use Rattle.test_server.specs.Serving.{settled};
 ghost use Rattle.test_server.specs.Transcript.{end_text, told_text};
 
-use crate::guide::Guide;
+use crate::guide::{Guide, gate_for};
+use crate::output::Output;
 use crate::transcript::{write_end, write_entries, write_new};
 use std::alloc::Global;
 use std::io;
@@ -33,7 +35,7 @@ pub enum Stop {
 pub const STEPS: u32 = 32;
 
 /// Writes the entries that were made, in order, and forgets them.
-fn tell<L: Link + Drop, H: Handler + Drop, W: Write>(
+fn tell<L: Link + Drop, H: Handler + Drop, W: Output>(
     hall: &mut Hall<L, H>,
     out: &mut W,
 ) -> io::Result<()>
@@ -44,7 +46,9 @@ fn tell<L: Link + Drop, H: Handler + Drop, W: Write>(
     ensures seats { hall.new.seats ≡ hall.old.seats }
     ensures next { hall.new.next ≡ hall.old.next }
 {
-    write_entries(hall.entries(), out)?;
+    if !out.is_sink() {
+        write_entries(hall.entries(), out)?;
+    }
     let told = hall.entries().len();
     hall.forget(told);
     Ok(())
@@ -63,6 +67,16 @@ pub fn settle(leave: Leave) -> Result<(), Stop>
     }
 }
 
+/// Returns the gate of a link once a reply waits that goes so: what was cut stays cut.
+fn gate_after(flow: Flow, gate: Gate) -> Gate
+    ensures { result ≡ gate_after flow gate }
+{
+    match gate {
+        Gate::Cut(left) => Gate::Cut(left),
+        Gate::Open | Gate::Swallowed => gate_for(flow),
+    }
+}
+
 /// The connections that are served, and how many ended, with the guide to what becomes of replies.
 #[derive(Drop)]
 pub struct Serving<L, H> {
@@ -71,11 +85,11 @@ pub struct Serving<L, H> {
     guide: Guide,
 }
 
-impl<L: Link + Drop, H: Handler + Drop> Serving<L, H> {
+impl<L: Gated + Drop, H: Handler + Drop> Serving<L, H> {
     /// Begins without connections. Requests are asked of `handler`, and told to `guide`.
     pub fn new(alloc: Global, handler: H, guide: Guide) -> Serving<L, H>
-        ensures { IsServing H.does H.stops (tells L.received L.sent L.ends L.waits) handler
-            result 0 [] }
+        ensures { IsServing H.does H.stops (tells L.received L.sent L.ends L.waits) L.gate handler
+            guide.script.rules.items result 0 [] }
     {
         Serving {
             hall: Hall::new(alloc, handler),
@@ -96,8 +110,10 @@ impl<L: Link + Drop, H: Handler + Drop> Serving<L, H> {
         self.ended
     }
 
-    /// Returns true if each reply goes as it comes.
-    pub fn is_unguided(&self) -> bool {
+    /// Returns true if there are no rules, so that each reply goes as it comes.
+    pub fn is_unguided(&self) -> bool
+        ensures { IsTrue result ↔ (self.now.guide.script.rules.items ≡ []) }
+    {
         self.guide.is_idle()
     }
 
@@ -116,16 +132,24 @@ impl<L: Link + Drop, H: Handler + Drop> Serving<L, H> {
         self.hall.next_key()
     }
 
-    /// Opens the connection over `link`, and writes its line.
+    /// Returns how many steps a turn has: one where there are rules.
+    fn steps(&self) -> u32
+        ensures { IsStepped self.now.guide.script.rules.items result }
+    {
+        if self.is_unguided() { STEPS } else { 1 }
+    }
+
+    /// Opens the connection over `link`, whose gate is open, and writes its line.
     ///
     /// # Errors
     ///
     /// Returns `OutOfMemory` if there is no memory or no number for it, and `InOut` if writing
     /// fails.
     pub fn open<W: Write>(&mut self, link: L, out: &mut W) -> Result<(), Stop>
+        requires { L.gate link ≡ Gate.Open }
         ensures opened { OnOk result (self.new.hall.next ≡ self.old.hall.next + 1) }
         ensures served { OnOk result (ServesOn H.does H.stops
-            (tells L.received L.sent L.ends L.waits)
+            (tells L.received L.sent L.ends L.waits) L.gate
             self.old self.new (W.contents out.old) (W.contents out.new)) }
     {
         let number = self.hall.next_number();
@@ -146,6 +170,7 @@ impl<L: Link + Drop, H: Handler + Drop> Serving<L, H> {
         ensures seats { Updates self.old.hall.seats self.new.hall.seats key None }
         ensures logged { self.new.hall.logged ≡ self.old.hall.logged }
         ensures next { self.new.hall.next ≡ self.old.hall.next }
+        ensures guide { self.new.guide ≡ self.old.guide }
         ensures ended { (seat : SeatSeen L) → get self.old.hall.seats key ≡ Some seat
             → self.new.ended ≡ min (self.old.ended + 1) 18446744073709551615 }
     {
@@ -158,24 +183,42 @@ impl<L: Link + Drop, H: Handler + Drop> Serving<L, H> {
         write_end(number, leave, out)
     }
 
-    /// Has the connection of this key take a turn of at most `steps` steps, and writes the entries
-    /// that it made. If it is over then, forgets it and writes its last line. Returns what the turn
-    /// came to, or `None` if there is no such connection.
+    /// Says what becomes of the reply to the request that the connection of this key answered last
+    /// in its turn, if it answered one. What was cut stays cut.
+    fn steer(&mut self, key: usize)
+        requires { get self.old.hall.seats key ≢ None }
+        ensures steered { IsSteered (tells L.received L.sent L.ends L.waits) L.gate
+            self.old.guide.flow key self.old.hall.seats self.new.hall.seats }
+        ensures logged { self.new.hall.logged ≡ self.old.hall.logged }
+        ensures next { self.new.hall.next ≡ self.old.hall.next }
+        ensures guide { self.new.guide ≡ self.old.guide }
+        ensures ended { self.new.ended ≡ self.old.ended }
+    {
+        let Some(flow) = self.guide.flow() else {
+            return;
+        };
+        let gate = match self.hall.seat(key) {
+            Some(seat) => seat.link().gate(),
+            None => unreachable!(),
+        };
+        self.hall.set_gate(key, gate_after(flow, gate));
+    }
+
+    /// Has the connection of this key take a turn, which is a single step where there are rules, and
+    /// writes the entries that it made. If it is over then, forgets it and writes its last line, and
+    /// else says what becomes of its replies. Returns what the turn came to, or `None` if there is
+    /// no such connection.
     ///
     /// # Errors
     ///
     /// Returns `InOut` if writing fails, and `OutOfMemory` if memory runs out.
-    pub fn turn<W: Write>(
-        &mut self,
-        key: usize,
-        steps: u32,
-        out: &mut W,
-    ) -> Result<Option<Turned>, Stop>
+    pub fn turn<W: Output>(&mut self, key: usize, out: &mut W) -> Result<Option<Turned>, Stop>
         ensures none { result ≡ Ok None → get self.old.hall.seats key ≡ None }
         ensures served { OnOk result (ServesOn H.does H.stops
-            (tells L.received L.sent L.ends L.waits)
+            (tells L.received L.sent L.ends L.waits) L.gate
             self.old self.new (W.contents out.old) (W.contents out.new)) }
     {
+        let steps = self.steps();
         let Some(turned) = self.hall.turn(key, steps) else {
             return Ok(None);
         };
@@ -190,27 +233,10 @@ impl<L: Link + Drop, H: Handler + Drop> Serving<L, H> {
                 Ok(()) => Ok(Some(turned)),
                 Err(_) => Err(Stop::InOut),
             },
-            Turned::Again | Turned::Waits => Ok(Some(turned)),
+            Turned::Again | Turned::Waits => {
+                self.steer(key);
+                Ok(Some(turned))
+            }
         }
-    }
-}
-
-impl<L: Gated + Drop, H: Handler + Drop> Serving<L, H> {
-    /// Returns true if the connection of this key was cut.
-    pub fn is_cut(&self, key: usize) -> bool {
-        match self.hall.seat(key) {
-            Some(seat) => matches!(seat.link().gate(), Gate::Cut(_)),
-            None => false,
-        }
-    }
-
-    /// Says what becomes of the bytes that are sent over the connection of this key from now on.
-    pub fn set_gate(&mut self, key: usize, to: Gate)
-        ensures gate { (s : SeatSeen L) → get self.new.hall.seats key ≡ Some s
-            → L.gate s.link ≡ to }
-        ensures served { (a : Option (List ℕ)) → ServesOn H.does H.stops
-            (tells L.received L.sent L.ends L.waits) self.old self.new a a }
-    {
-        let _ = self.hall.set_gate(key, to);
     }
 }

@@ -1,12 +1,12 @@
 //! Many connections, with one handler and its log.
 
 ghost use Rattle.std.specs.Prelude.{◌≡◌, ◌+◌, ◌≤◌, [], ℕ, None, Some, IfOk, OnErr, OnOk, drop};
-ghost use Rattle.std.specs.Prelude.{IfSome, option_copied, take};
+ghost use Rattle.std.specs.Prelude.{option_copied, take};
 ghost use Rattle.std.specs.Vec.{vec_len};
 ghost use Rattle.slab.specs.Slab.{Updates, get, slab_len};
 ghost use Rattle.wire_peer.specs.{log_of};
-ghost use Rattle.wire_hall.specs.Halls.{HallAct, HallDoes, IsClosed, IsForgotten, IsNewHall};
-ghost use Rattle.wire_hall.specs.Halls.{IsOpened, IsSame, IsTurned, hall_seen};
+ghost use Rattle.wire_hall.specs.Halls.{HallAct, HallDoes, IsClosed, IsForgotten, IsGated};
+ghost use Rattle.wire_hall.specs.Halls.{IsNewHall, IsOpened, IsSame, IsTurned, hall_seen};
 ghost use Rattle.wire_hall.specs.Seats.{SeatSeen, new_seat, tells};
 
 use crate::seat::Seat;
@@ -159,14 +159,11 @@ impl<L: Link + Drop, H: Handler + Drop> Hall<L, H> {
 }
 
 impl<L: Gated + Drop, H: Handler + Drop> Hall<L, H> {
-    /// Says what becomes of the bytes that are sent at the seat of this key from now on. It is a
-    /// turn of one step, in which nothing is done but that the link is called, and it moves no
-    /// byte. `None` if there is no such seat.
-    pub fn set_gate(&mut self, key: usize, to: Gate) -> Option<Turned>
-        ensures turned { IsTurned H.does H.stops (tells L.received L.sent L.ends L.waits)
-            key 1 result self.old.seats self.old.logged self.new.seats self.new.logged }
-        ensures again { IfSome result (λ turned. turned ≡ Turned.Again) }
-        ensures gate { (s : SeatSeen L) → get self.new.seats key ≡ Some s → L.gate s.link ≡ to }
+    /// Says what becomes of the bytes that are sent at the seat of this key from now on. Its link is
+    /// called, and moves no byte. Returns false if there is no such seat.
+    pub fn set_gate(&mut self, key: usize, to: Gate) -> bool
+        ensures gated { IsGated (tells L.received L.sent L.ends L.waits) L.gate key to result
+            self.old.seats self.new.seats }
         ensures logged { self.new.logged ≡ self.old.logged }
         ensures next { self.new.next ≡ self.old.next }
         ensures act { (act : HallAct L)
@@ -174,8 +171,10 @@ impl<L: Gated + Drop, H: Handler + Drop> Hall<L, H> {
             (hall_seen self.old.seats self.old.logged self.old.next)
             (hall_seen self.new.seats self.new.logged self.new.next) }
     {
-        let gated = self.seats.get_mut(key)?;
+        let Some(gated) = self.seats.get_mut(key) else {
+            return false;
+        };
         gated.set_gate(to);
-        Some(Turned::Again)
+        true
     }
 }

@@ -8,7 +8,7 @@ pub returns : goal.returns
 returns g c =
     let begun = c.in-Ok-listen.ensures.begun in
     let told = c.in-Ok-listen.ensures.told in
-    let went = c.in_ok-serve_shown.ensures.served begun.first 0 [] begun.serving in
+    let went = c.in_ok-serve_shown.ensures.served begun.first c.args.scripts.guide.rules.items 0 [] begun.serving in
     record {
       first = begun.first;
       script = begun.script;

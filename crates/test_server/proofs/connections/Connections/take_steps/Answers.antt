@@ -1,4 +1,4 @@
-use Rattle.std.proofs.Common.{sym, subst}
+use Rattle.std.proofs.Common.{sym, subst, ◌∙◌}
 use Rattle.test_script.specs.{IsAnswered, IsStopped}
 use Rattle.test_store.specs.{Answered, StopsAt}
 use Rattle.test_server.specs.Runs.{GoesOnServing, socket_tells}
@@ -8,10 +8,11 @@ use Rattle.test_server.proofs.connections.Connections.take_steps.Goals as goal
 pub returns-then-ne : goal.returns-then-ne
 returns-then-ne g c =
     let does = IsAnswered Answered in let stops = IsStopped StopsAt in
-    let all = serves_twice does stops socket_tells _ _ _ _ _ _ (serves_twice does stops socket_tells _ _ _ _ _ _ c.loop.invariant c.in_ok-turned.ensures.served) (c.direct.ensures _) in
-    on_any c.after_turn.result (subst (λ s. GoesOnServing c.args.self.now.serving s (g.W.Write.contents c.args.out.now) (g.W.Write.contents c.turn.new.out)) (sym c.after_turn.ensures) all)
+    let all = serves_twice does stops socket_tells (λ valve. valve.gate) _ _ _ _ _ _ c.loop.invariant c.in_ok-turned.ensures.served in
+    on_any c.after_turn.result (subst (λ s. GoesOnServing c.args.self.now.serving s (g.W.Write.contents c.args.out.now) (g.W.Write.contents c.turn.new.out)) (sym (c.after_turn.ensures ∙ c.hold.ensures)) all)
 
 pub loop-preserved : goal.loop-preserved
 loop-preserved g c =
     let does = IsAnswered Answered in let stops = IsStopped StopsAt in
-    serves_twice does stops socket_tells _ _ _ _ _ _ (serves_twice does stops socket_tells _ _ _ _ _ _ c.loop.invariant c.in_ok-turned.ensures.served) (c.direct.ensures _)
+    subst (λ s. GoesOnServing c.args.self.now.serving s (g.W.Write.contents c.args.out.now) (g.W.Write.contents c.turn.new.out)) (sym c.hold.ensures)
+    (serves_twice does stops socket_tells (λ valve. valve.gate) _ _ _ _ _ _ c.loop.invariant c.in_ok-turned.ensures.served)
