@@ -262,6 +262,43 @@ static void try_writing(void)
     expect(lughemra_append_sequence(room, 64, &end, NULL, 3, NULL, 0).refusal == 0 && end == 6, "an empty name and no documents");
 }
 
+/* Calls with handles of no core, and with one that is used wrongly. */
+static void try_handles(void)
+{
+    struct lughemra_core none = {NULL, false}, core = {NULL, false};
+    uint8_t room[64];
+    expect(lughemra_free(NULL) == LUGHEMRA_NO_CORE && lughemra_free(&none) == LUGHEMRA_NO_CORE, "nothing is freed");
+    expect(lughemra_client_call(NULL, document, 23, NULL, 0).refusal == LUGHEMRA_NO_CORE, "a call of null");
+    expect(lughemra_client_call(&none, document, 23, NULL, 0).refusal == LUGHEMRA_NO_CORE, "a call of no core");
+    expect(lughemra_client_output(&none, room, 64).refusal == LUGHEMRA_NO_CORE, "output of no core");
+    expect(lughemra_client_feed(&none, document, 23).state.refusal == LUGHEMRA_NO_CORE, "a piece for no core");
+    expect(lughemra_client_reply(&none, room, 64).refusal == LUGHEMRA_NO_CORE, "a reply of no core");
+    expect(lughemra_client_sent(&none, 1) == LUGHEMRA_NO_CORE && lughemra_client_release(&none) == LUGHEMRA_NO_CORE
+           && lughemra_client_end(&none) == LUGHEMRA_NO_CORE, "the rest of no core");
+    expect(lughemra_client_new(NULL, 1, 1, 100) == LUGHEMRA_NO_CORE, "a client in null");
+    expect(lughemra_client_new(&core, 0, 1, 100) == LUGHEMRA_BAD_FIRST_ID && !core.there, "a first id of 0");
+    expect(lughemra_client_new(&core, 1, 1025, 100) == LUGHEMRA_BAD_WINDOW && !core.there, "a window of 1,025");
+    expect(lughemra_client_new(&core, 1, 1, UINT32_MAX) == LUGHEMRA_BAD_LIMIT && !core.there, "any limit");
+    expect(lughemra_client_new(&core, INT32_MAX, 1, 44) == 0 && core.there, "a client");
+    expect(lughemra_client_new(&core, 1, 1, 100) == LUGHEMRA_IN_USE, "a client in a handle that has one");
+    expect(lughemra_client_call(&core, document, 22, NULL, 0).document_fault.number == LUGHEMRA_LENGTH, "a call of no document");
+    expect(lughemra_client_call(&core, NULL, 9, NULL, 0).fault.offset == 21, "a call of null bytes");
+    expect(lughemra_client_sent(&core, 1) == LUGHEMRA_TOO_MANY, "more was sent than waits");
+    expect(lughemra_client_call(&core, document, 23, NULL, 0).id == INT32_MAX, "a call");
+    expect(lughemra_client_call(&core, document, 23, NULL, 0).refusal == LUGHEMRA_WINDOW_FULL, "a full window");
+    expect(lughemra_client_send_unacknowledged(&core, document, 23, NULL, 0).number == 1, "a call with no reply");
+    memset(room, 0xee, sizeof room);
+    expect(lughemra_client_output(&core, room, 3).copied == 3 && room[3] == 0xee, "output in a short room");
+    expect(lughemra_client_output(&core, NULL, 9).waiting == 88, "output in no room");
+    expect(lughemra_client_reply(&core, room, 64).refusal == LUGHEMRA_NOT_READY, "no reply");
+    expect(lughemra_client_feed(&core, document, 23).state.cause == LUGHEMRA_CLOSED_BY_MESSAGE, "bytes that are no message");
+    expect(lughemra_client_state(&core).fault.number == LUGHEMRA_MSG_OPCODE, "why it was closed");
+    expect(lughemra_client_call(&core, document, 23, NULL, 0).refusal == LUGHEMRA_CLOSED, "a call of a closed client");
+    expect(lughemra_client_outstanding(&core).count == 1 && lughemra_client_outstanding(&none).count == 0, "calls that await a reply");
+    expect(lughemra_free(&core) == 0 && !core.there && lughemra_free(&core) == LUGHEMRA_NO_CORE, "freed once");
+    expect(lughemra_client_state(&core).refusal == LUGHEMRA_NO_CORE, "freed for good");
+}
+
 int main(void)
 {
     try_null();
@@ -273,6 +310,7 @@ int main(void)
     try_rooms();
     try_builders();
     try_writing();
+    try_handles();
     try_alignments();
     if (!failed)
         printf("ok\n");

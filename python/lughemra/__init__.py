@@ -12,8 +12,9 @@ docs/PYTHON.md tells what there is, and what of it is proved.
 from ._library import MAX_LIMIT
 from ._library import PATH as LIBRARY_PATH
 from .checks import DocumentsWalk, check, check_documents, documents, is_canonical, walk_documents
+from .client import Call, Client, Reply
 from .document import Array, Document, Element, Value
-from .errors import DocumentError, EncodeError, Fault, LibraryNotFound, MessageError
+from .errors import CallRefused, ClientClosed, DocumentError, EncodeError, Fault, LibraryNotFound, MessageError
 from .message import DocumentSequence, Flags, Header, Message, Reader, check_message, check_messages
 from .values import (
     Binary,
@@ -37,6 +38,10 @@ __version__ = "0.1.0"
 __all__ = [
     "Array",
     "Binary",
+    "Call",
+    "CallRefused",
+    "Client",
+    "ClientClosed",
     "Code",
     "DBPointer",
     "DatetimeMS",
@@ -61,6 +66,7 @@ __all__ = [
     "ObjectId",
     "Reader",
     "Regex",
+    "Reply",
     "Symbol",
     "Timestamp",
     "Undefined",

@@ -29,6 +29,9 @@ MAX_LIMIT = 48_000_000
 # a message than its limit.
 NO_MEMORY = 254
 TOO_LARGE = 253
+# Of the refusals of a call with a handle: the content isn't that of a message, and the room is too short.
+BAD_CONTENT = 4
+NO_ROOM = 5
 
 FRONT_OPEN, FRONT_WHOLE, FRONT_BAD = 0, 1, 2
 SECTION_BODY, SECTION_SEQUENCE = 1, 2
@@ -290,6 +293,84 @@ class Written(ctypes.Structure):
     written: bool
 
 
+class Core(ctypes.Structure):
+    """Lays out struct lughemra_core, which begins without a core."""
+
+    _fields_ = [("at", c_void_p), ("there", c_bool)]
+
+
+class CallMade(ctypes.Structure):
+    """Lays out struct lughemra_call_made."""
+
+    _fields_ = [
+        ("refusal", c_uint32),
+        ("id", c_int32),
+        ("number", c_uint64),
+        ("fault", FaultStruct),
+        ("document_fault", FaultStruct),
+    ]
+    refusal: int
+    id: int
+    number: int
+    fault: FaultStruct
+    document_fault: FaultStruct
+
+
+class Output(ctypes.Structure):
+    """Lays out struct lughemra_output."""
+
+    _fields_ = [("refusal", c_uint32), ("copied", c_size_t), ("waiting", c_size_t)]
+    refusal: int
+    copied: int
+    waiting: int
+
+
+class Reply(ctypes.Structure):
+    """Lays out struct lughemra_reply."""
+
+    _fields_ = [("refusal", c_uint32), ("last", c_bool), ("call", c_uint64), ("length", c_size_t)]
+    refusal: int
+    last: bool
+    call: int
+    length: int
+
+
+class ClientState(ctypes.Structure):
+    """Lays out struct lughemra_client."""
+
+    _fields_ = [
+        ("refusal", c_uint32),
+        ("cause", c_uint32),
+        ("id", c_int32),
+        ("ready", c_bool),
+        ("fault", FaultStruct),
+        ("document_fault", FaultStruct),
+    ]
+    refusal: int
+    cause: int
+    id: int
+    ready: bool
+    fault: FaultStruct
+    document_fault: FaultStruct
+
+
+class Fed(ctypes.Structure):
+    """Lays out struct lughemra_fed."""
+
+    _fields_ = [("refusal", c_uint32), ("taken", c_size_t), ("state", ClientState)]
+    refusal: int
+    taken: int
+    state: ClientState
+
+
+class Count(ctypes.Structure):
+    """Lays out struct lughemra_count."""
+
+    _fields_ = [("refusal", c_uint32), ("count", c_size_t)]
+    refusal: int
+    count: int
+
+
 # Each function of the library, with what it returns.
 FUNCTIONS: dict[str, Optional[type]] = {
     "check_document": FaultStruct,
@@ -317,6 +398,19 @@ FUNCTIONS: dict[str, Optional[type]] = {
     "finish": Built,
     "append_sequence": Built,
     "write_message": Written,
+    "client_new": c_uint32,
+    "free": c_uint32,
+    "client_call": CallMade,
+    "client_call_exhaust": CallMade,
+    "client_send_unacknowledged": CallMade,
+    "client_output": Output,
+    "client_sent": c_uint32,
+    "client_feed": Fed,
+    "client_reply": Reply,
+    "client_release": c_uint32,
+    "client_end": c_uint32,
+    "client_state": ClientState,
+    "client_outstanding": Count,
 }
 
 

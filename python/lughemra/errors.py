@@ -117,3 +117,56 @@ class MessageError(Fault):
 
     def __str__(self) -> str:
         return f"{super().__str__()}: {self.document}" if self.document else super().__str__()
+
+
+class CallRefused(RuntimeError):
+    """Tells why a call isn't made, by the numbers and names of enum lughemra_core_refusal. Nothing changed then."""
+
+    CLOSED, WINDOW_FULL, TOO_LARGE, NUMBERS_SPENT, TOO_MANY = 1, 2, 3, 6, 8
+    NAMES = {
+        CLOSED: "Closed",
+        WINDOW_FULL: "WindowFull",
+        TOO_LARGE: "TooLarge",
+        NUMBERS_SPENT: "NumbersSpent",
+        TOO_MANY: "TooMany",
+        255: "NoCore",
+    }
+
+    def __init__(self, number: int) -> None:
+        super().__init__(number)
+        self.number = number
+        self.name = self.NAMES.get(number, "")
+
+    def __str__(self) -> str:
+        return self.name
+
+
+class ClientClosed(ConnectionError):
+    """Tells why a client was closed, by the numbers and names of enum lughemra_client_cause.
+
+    `fault` is the fault of the message that closed it, and `response_to` the number that no call bears, if these are why.
+    """
+
+    MESSAGE, UNKNOWN_REPLY, MORE_NOT_ALLOWED, STREAM_BROKEN, ENDED, ENDED_INSIDE = 1, 2, 3, 4, 5, 6
+    NAMES = {
+        MESSAGE: "Message",
+        UNKNOWN_REPLY: "UnknownReply",
+        MORE_NOT_ALLOWED: "MoreNotAllowed",
+        STREAM_BROKEN: "StreamBroken",
+        ENDED: "Ended",
+        ENDED_INSIDE: "EndedInside",
+    }
+
+    def __init__(
+        self, number: int, response_to: Optional[int] = None, fault: Optional[MessageError] = None
+    ) -> None:
+        super().__init__(number, response_to, fault)
+        self.number = number
+        self.name = self.NAMES.get(number, "")
+        self.response_to = response_to
+        self.fault = fault
+
+    def __str__(self) -> str:
+        if self.fault:
+            return f"{self.name}: {self.fault}"
+        return f"{self.name}: {self.response_to}" if self.response_to is not None else self.name

@@ -106,11 +106,11 @@ class _Room:
         """Appends a pair, at all depths."""
         if isinstance(value, (Mapping, Sequence)) and not isinstance(value, (str, bytes)):
             inner = lib.Builder()
-            is_array = not isinstance(value, Mapping)
-            kind = lib.limit_of(Kind.ARRAY if is_array else Kind.DOCUMENT)
+            kind = lib.limit_of(Kind.DOCUMENT if isinstance(value, Mapping) else Kind.ARRAY)
+            pairs = value.items() if isinstance(value, Mapping) else (("", it) for it in value)
             outer_argument, inner_argument = ctypes.byref(builder), ctypes.byref(inner)
             self.build(lib.short.begin, outer_argument, name, lib.size(len(name)), kind, inner_argument)
-            self.append_all(inner, (("", it) for it in value) if is_array else value.items())
+            self.append_all(inner, pairs)
             self.build(lib.short.end, outer_argument, inner_argument)
             return
         given = GIVEN.get(type(value))
@@ -142,16 +142,16 @@ def encode(pairs: Mapping[str, Any]) -> bytes:
     return bytes(room.held[:length])
 
 
-def _document(given: Any) -> bytes:
+def document_bytes(given: Any) -> bytes:
     """Returns the bytes of a document: those of a mapping, or those that are given."""
     return encode(given) if isinstance(given, Mapping) else bytes(given)
 
 
-def _sequences(given: Iterable[tuple[str, Iterable[Any]]]) -> bytes:
+def sequence_bytes(given: Iterable[tuple[str, Iterable[Any]]]) -> bytes:
     """Returns the sections of document sequences, one behind the other."""
     room, end = _Room(), ctypes.c_size_t(0)
     for identifier, documents in given:
-        name, content = identifier.encode(), [_document(it) for it in documents]
+        name, content = identifier.encode(), [document_bytes(it) for it in documents]
         for it in content:
             check(it)
         joined = b"".join(content)
@@ -181,7 +181,7 @@ def encode_message(
     for number in (request_id, response_to):
         if not -(1 << 31) <= number < 1 << 31:
             raise OverflowError(f"{number} is no int32")
-    content, sections = _document(body), _sequences(sequences)
+    content, sections = document_bytes(body), sequence_bytes(sequences)
     room = bytearray(21 + len(content) + len(sections))
     numbers = lib.MessageNumbers(request_id, response_to, int(flags) & 0xFFFF_FFFF)
     told = lib.long.write_message(

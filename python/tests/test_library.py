@@ -36,6 +36,13 @@ STRUCTS = {
     "built": _library.Built,
     "message_numbers": _library.MessageNumbers,
     "written": _library.Written,
+    "core": _library.Core,
+    "call_made": _library.CallMade,
+    "output": _library.Output,
+    "reply": _library.Reply,
+    "client": _library.ClientState,
+    "fed": _library.Fed,
+    "count": _library.Count,
 }
 # Fields that have another name here.
 RENAMED = {
@@ -53,8 +60,8 @@ def test_the_functions_are_those_that_are_exported():
     exported = re.findall(r"lughemra_(\w+)_nonnull;", (INCLUDE / "lughemra.map").read_text(encoding="utf-8"))
     assert sorted(_library.FUNCTIONS) == sorted(exported)
     for name, returned in _library.FUNCTIONS.items():
-        (told,) = re.findall(rf"^(.*) lughemra_{name}_nonnull\((?:const|uint8_t)", HEADER, re.M)
-        wanted = {None: "void", ctypes.c_bool: "bool", ctypes.c_size_t: "size_t"}.get(returned)
+        (told,) = re.findall(rf"^(.*) lughemra_{name}_nonnull\((?:const|uint8_t|struct)", HEADER, re.M)
+        wanted = {None: "void", ctypes.c_bool: "bool", ctypes.c_size_t: "size_t", ctypes.c_uint32: "uint32_t"}.get(returned)
         assert told == (wanted or f"struct lughemra_{next(key for key, it in STRUCTS.items() if it is returned)}")
 
 

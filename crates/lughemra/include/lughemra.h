@@ -1,15 +1,16 @@
 /* Lughemra for C: checks of BSON 1.1 documents and of MongoDB's OP_MSG, walks over both, and messages that come in pieces,
- * over bytes that the caller holds; and building of documents and of messages in a room of the caller's.
+ * over bytes that the caller holds; building of documents and of messages in a room of the caller's; and the client's end of a
+ * connection, by a handle.
  *
- * Each function reads `length` bytes at `bytes`, and keeps nothing. What it returns is proved, for all bytes, from what
- * the caller owes:
+ * Each function reads `length` bytes at `bytes`, and keeps nothing but what a handle holds. What it returns is proved, for all
+ * bytes, from what the caller owes:
  *
  *   - `length` bytes can be read at `bytes`, and `length` is at most PTRDIFF_MAX; a null pointer is an empty input,
  *     whatever the length;
  *   - no one writes to them during the call, and what a function writes to doesn't overlap them.
  *
- * Nothing else is owed: any content, any `limit` and any number in a struct that is handed in have an answer. Calls may
- * run at once in several threads. An offset is counted from `bytes`.
+ * Nothing else is owed, but of a handle, which has a section of its own below: any content, any `limit` and any number in a struct
+ * that is handed in have an answer. Calls may run at once in several threads, each handle in one. An offset is counted from `bytes`.
  *
  * The functions for documents take no memory, but for those that write texts or canonical forms. Those for whole messages take some in
  * proportion to the number of names in a body, by malloc, realloc and free of the program, and give it back before they
@@ -402,6 +403,116 @@ struct lughemra_built {
     size_t wanted;
 };
 
+/* What the program holds of a core, which is in memory of its own between two calls. It begins with none: {NULL, false}. */
+struct lughemra_core {
+    /* Where it is. The program doesn't write to this field, nor read or write what it points to. */
+    void *at;
+    /* Whether there is one. The program doesn't write to this field. */
+    bool there;
+};
+
+/* Why a call with a handle isn't made. Then nothing changed. The first three and the sixth are the numbers that scripts have. */
+enum lughemra_core_refusal {
+    LUGHEMRA_CLOSED = 1,        /* the client is closed */
+    LUGHEMRA_WINDOW_FULL = 2,   /* as many calls await a reply as the window allows */
+    LUGHEMRA_CALL_TOO_LARGE = 3, /* the request would have more bytes than the limit */
+    LUGHEMRA_BAD_CONTENT = 4,   /* the body and the sequences aren't those of a message */
+                                /* LUGHEMRA_NO_ROOM, 5: the room is too short */
+    LUGHEMRA_NUMBERS_SPENT = 6, /* the greatest call number was given */
+    LUGHEMRA_NOT_READY = 7,     /* no reply is ready */
+    LUGHEMRA_TOO_MANY = 8,      /* fewer bytes wait than were sent */
+    LUGHEMRA_IN_USE = 9,        /* the handle has a core */
+                                /* LUGHEMRA_NO_MEMORY, 254 */
+    LUGHEMRA_NO_CORE = 255      /* the handle has no core, or the pointer to it is null */
+};
+
+/* Why a client isn't made, besides LUGHEMRA_IN_USE, LUGHEMRA_NO_MEMORY and LUGHEMRA_NO_CORE. */
+enum lughemra_client_refusal {
+    LUGHEMRA_BAD_FIRST_ID = 1, /* it isn't from 1 to 2,147,483,647 */
+    LUGHEMRA_BAD_WINDOW = 2,   /* it isn't from 1 to 1,024 */
+    LUGHEMRA_BAD_LIMIT = 3     /* it isn't from 26 to 48,000,000 */
+};
+
+/* Why a client was closed. */
+enum lughemra_client_cause {
+    LUGHEMRA_OPEN = 0,
+    LUGHEMRA_CLOSED_BY_MESSAGE = 1,   /* the bytes begin no message */
+    LUGHEMRA_UNKNOWN_REPLY = 2,       /* no call that awaits a reply bears its responseTo */
+    LUGHEMRA_MORE_NOT_ALLOWED = 3,    /* a reply says that more will come, and its call doesn't allow it */
+    LUGHEMRA_STREAM_BROKEN = 4,       /* a call has had a part, and a message answers neither its request nor that part */
+    LUGHEMRA_CLOSED_BY_END = 5,       /* no more bytes come */
+    LUGHEMRA_CLOSED_BY_END_INSIDE = 6 /* no more bytes come, and the last ones ended inside a message */
+};
+
+/* What became of a call. */
+struct lughemra_call_made {
+    /* An enum lughemra_core_refusal, or 0 if the call was made. */
+    uint32_t refusal;
+    /* The request's requestID, if the call was made, else 0. */
+    int32_t id;
+    /* The call's number among those of its client, counted from 0, if the call was made, else 0. */
+    uint64_t number;
+    /* If it is BAD_CONTENT, the first fault that a message with it would have, by an enum lughemra_message_fault. */
+    struct lughemra_fault fault;
+    /* The document's own fault, as in struct lughemra_message_check. */
+    struct lughemra_fault document_fault;
+};
+
+/* The bytes that wait to be sent. */
+struct lughemra_output {
+    /* 0, or LUGHEMRA_NO_CORE. */
+    uint32_t refusal;
+    /* How many of them were copied. */
+    size_t copied;
+    /* How many wait. */
+    size_t waiting;
+};
+
+/* The reply that is ready. */
+struct lughemra_reply {
+    /* 0 if it was copied, else LUGHEMRA_NO_ROOM, NOT_READY, NO_MEMORY or NO_CORE. Then nothing changed. */
+    uint32_t refusal;
+    /* No other reply to that call comes. */
+    bool last;
+    /* The number of the call that it belongs to. */
+    uint64_t call;
+    /* The number of its bytes, if it was copied or has no room, else 0. */
+    size_t length;
+};
+
+/* How a client stands. */
+struct lughemra_client {
+    /* 0, or LUGHEMRA_NO_CORE. */
+    uint32_t refusal;
+    /* An enum lughemra_client_cause: 0 if it is open. */
+    uint32_t cause;
+    /* If it is UNKNOWN_REPLY, the responseTo, else 0. */
+    int32_t id;
+    /* A reply is ready. */
+    bool ready;
+    /* If it is CLOSED_BY_MESSAGE, the first fault, by an enum lughemra_message_fault. */
+    struct lughemra_fault fault;
+    /* The document's own fault, as in struct lughemra_message_check. */
+    struct lughemra_fault document_fault;
+};
+
+/* What became of a piece of bytes. */
+struct lughemra_fed {
+    /* 0, or LUGHEMRA_NO_MEMORY or LUGHEMRA_NO_CORE: then nothing changed, and the piece may be fed again. */
+    uint32_t refusal;
+    /* How many of its first bytes were taken. */
+    size_t taken;
+    /* How the client stands then. */
+    struct lughemra_client state;
+};
+
+struct lughemra_count {
+    /* 0, or LUGHEMRA_NO_CORE. */
+    uint32_t refusal;
+    /* The count, or 0. */
+    size_t count;
+};
+
 /* ---- the functions of the library, to which no pointer may be null: use those below */
 
 struct lughemra_fault lughemra_check_document_nonnull(const uint8_t *bytes, size_t length);
@@ -445,6 +556,25 @@ struct lughemra_written lughemra_write_message_nonnull(const struct lughemra_mes
                                                        size_t body_length, const uint8_t *sequences,
                                                        size_t sequences_length, uint32_t limit, uint8_t *room,
                                                        size_t room_length);
+
+uint32_t lughemra_client_new_nonnull(struct lughemra_core *core, int32_t first_id, size_t window, uint32_t limit);
+uint32_t lughemra_free_nonnull(struct lughemra_core *core);
+struct lughemra_call_made lughemra_client_call_nonnull(struct lughemra_core *core, const uint8_t *body, size_t body_length,
+                                                       const uint8_t *sequences, size_t sequences_length);
+struct lughemra_call_made lughemra_client_call_exhaust_nonnull(struct lughemra_core *core, const uint8_t *body,
+                                                               size_t body_length, const uint8_t *sequences,
+                                                               size_t sequences_length);
+struct lughemra_call_made lughemra_client_send_unacknowledged_nonnull(struct lughemra_core *core, const uint8_t *body,
+                                                                      size_t body_length, const uint8_t *sequences,
+                                                                      size_t sequences_length);
+struct lughemra_output lughemra_client_output_nonnull(struct lughemra_core *core, uint8_t *room, size_t room_length);
+uint32_t lughemra_client_sent_nonnull(struct lughemra_core *core, size_t n);
+struct lughemra_fed lughemra_client_feed_nonnull(struct lughemra_core *core, const uint8_t *piece, size_t length);
+struct lughemra_reply lughemra_client_reply_nonnull(struct lughemra_core *core, uint8_t *room, size_t room_length);
+uint32_t lughemra_client_release_nonnull(struct lughemra_core *core);
+uint32_t lughemra_client_end_nonnull(struct lughemra_core *core);
+struct lughemra_client lughemra_client_state_nonnull(struct lughemra_core *core);
+struct lughemra_count lughemra_client_outstanding_nonnull(struct lughemra_core *core);
 
 /* Returns `bytes`, or if that is null the address of a byte, which is no one's to read. */
 static inline const uint8_t *lughemra_nonnull(const uint8_t *bytes)
@@ -792,6 +922,165 @@ static inline struct lughemra_written lughemra_write_message(const struct lughem
                                           lughemra_length(body, body_length), lughemra_nonnull(sequences),
                                           lughemra_length(sequences, sequences_length), limit,
                                           lughemra_nonnull_room(room), lughemra_length(room, room_length));
+}
+
+/* ---- the client's end of a connection, whose bytes go in and out by way of the program
+ *
+ * A handle holds a client, which has memory of its own until lughemra_free gives it back. Of the program a handle wants this:
+ *
+ *   - it begins as {NULL, false}, its fields are written by these functions alone, and no one reads or writes what it points to;
+ *   - it has one owner: a copy of the struct isn't used beside the original, nor after a call with that;
+ *   - one call at a time, in the thread that made it; what is handed in lies neither in the handle nor where it points to;
+ *   - malloc, realloc and free are of one allocator all the while.
+ *
+ * Nothing is lent: what waits to be sent and replies are copied into the program's room. A call may take memory; where there is
+ * none, it says so, and nothing changed. Each takes a null pointer to a handle for one of no core. */
+
+/* Puts a client into a handle of no core. Its requests have ids from `first_id` on; at most `window` calls await a reply, and
+ * messages both ways have at most `limit` bytes. Returns 0, or why not: an enum lughemra_client_refusal, LUGHEMRA_IN_USE,
+ * LUGHEMRA_NO_MEMORY or LUGHEMRA_NO_CORE. */
+static inline uint32_t lughemra_client_new(struct lughemra_core *core, int32_t first_id, size_t window, uint32_t limit)
+{
+    return core != NULL ? lughemra_client_new_nonnull(core, first_id, window, limit) : LUGHEMRA_NO_CORE;
+}
+
+/* Frees the core of a handle, which has none then. Returns 0, or LUGHEMRA_NO_CORE where it had none. */
+static inline uint32_t lughemra_free(struct lughemra_core *core)
+{
+    return core != NULL ? lughemra_free_nonnull(core) : LUGHEMRA_NO_CORE;
+}
+
+static inline struct lughemra_call_made lughemra_not_made(void)
+{
+    static const struct lughemra_call_made none = {LUGHEMRA_NO_CORE, 0, 0, {0, 0}, {0, 0}};
+    return none;
+}
+
+/* Makes a call that has one reply: with the document that `body` is, and the sequences that lughemra_append_sequence put, which
+ * may be none. Its request waits to be sent then. */
+static inline struct lughemra_call_made lughemra_client_call(struct lughemra_core *core, const uint8_t *body,
+                                                             size_t body_length, const uint8_t *sequences,
+                                                             size_t sequences_length)
+{
+    if (core == NULL)
+        return lughemra_not_made();
+    return lughemra_client_call_nonnull(core, lughemra_nonnull(body), lughemra_length(body, body_length),
+                                        lughemra_nonnull(sequences), lughemra_length(sequences, sequences_length));
+}
+
+/* The same, of a call that may have more than one reply. */
+static inline struct lughemra_call_made lughemra_client_call_exhaust(struct lughemra_core *core, const uint8_t *body,
+                                                                     size_t body_length, const uint8_t *sequences,
+                                                                     size_t sequences_length)
+{
+    if (core == NULL)
+        return lughemra_not_made();
+    return lughemra_client_call_exhaust_nonnull(core, lughemra_nonnull(body), lughemra_length(body, body_length),
+                                                lughemra_nonnull(sequences),
+                                                lughemra_length(sequences, sequences_length));
+}
+
+/* The same, of a call that has no reply, and is never LUGHEMRA_WINDOW_FULL. */
+static inline struct lughemra_call_made lughemra_client_send_unacknowledged(struct lughemra_core *core,
+                                                                            const uint8_t *body, size_t body_length,
+                                                                            const uint8_t *sequences,
+                                                                            size_t sequences_length)
+{
+    if (core == NULL)
+        return lughemra_not_made();
+    return lughemra_client_send_unacknowledged_nonnull(core, lughemra_nonnull(body), lughemra_length(body, body_length),
+                                                       lughemra_nonnull(sequences),
+                                                       lughemra_length(sequences, sequences_length));
+}
+
+/* Copies the first bytes that wait to be sent to the front of the room, of `room_length` bytes, as many as it has room for, and
+ * tells how many wait. They wait until lughemra_client_sent. */
+static inline struct lughemra_output lughemra_client_output(struct lughemra_core *core, uint8_t *room, size_t room_length)
+{
+    static const struct lughemra_output none = {LUGHEMRA_NO_CORE, 0, 0};
+    if (core == NULL)
+        return none;
+    return lughemra_client_output_nonnull(core, lughemra_nonnull_room(room), lughemra_length(room, room_length));
+}
+
+/* Takes the first `n` bytes that wait off, since they were sent. Returns 0, LUGHEMRA_TOO_MANY or LUGHEMRA_NO_CORE. */
+static inline uint32_t lughemra_client_sent(struct lughemra_core *core, size_t n)
+{
+    return core != NULL ? lughemra_client_sent_nonnull(core, n) : LUGHEMRA_NO_CORE;
+}
+
+static inline struct lughemra_client lughemra_no_client(void)
+{
+    static const struct lughemra_client none = {LUGHEMRA_NO_CORE, 0, 0, false, {0, 0}, {0, 0}};
+    return none;
+}
+
+/* Feeds the client the first bytes of a piece that came, up to the end of the current message, and tells how many it took. It
+ * takes none while a reply is ready, or once it is closed. A message that becomes whole makes a reply ready, or closes the
+ * client, as bad bytes do. */
+static inline struct lughemra_fed lughemra_client_feed(struct lughemra_core *core, const uint8_t *piece, size_t length)
+{
+    struct lughemra_fed none = {LUGHEMRA_NO_CORE, 0, {LUGHEMRA_NO_CORE, 0, 0, false, {0, 0}, {0, 0}}};
+    if (core == NULL)
+        return none;
+    return lughemra_client_feed_nonnull(core, lughemra_nonnull(piece), lughemra_length(piece, length));
+}
+
+/* Copies the reply that is ready to the front of the room, of `room_length` bytes, as a message with no ids and no flags, for
+ * lughemra_message_parts, and tells the call that it belongs to. If it has no room, nothing is written, and its length is
+ * told. It stays ready until lughemra_client_release. */
+static inline struct lughemra_reply lughemra_client_reply(struct lughemra_core *core, uint8_t *room, size_t room_length)
+{
+    static const struct lughemra_reply none = {LUGHEMRA_NO_CORE, false, 0, 0};
+    if (core == NULL)
+        return none;
+    return lughemra_client_reply_nonnull(core, lughemra_nonnull_room(room), lughemra_length(room, room_length));
+}
+
+/* Lets go of the reply that is ready, so that more bytes are taken. Where none is, nothing changes. Returns 0 or
+ * LUGHEMRA_NO_CORE. */
+static inline uint32_t lughemra_client_release(struct lughemra_core *core)
+{
+    return core != NULL ? lughemra_client_release_nonnull(core) : LUGHEMRA_NO_CORE;
+}
+
+/* Tells the client that no more bytes come, which closes it, if it is open. Returns 0 or LUGHEMRA_NO_CORE. */
+static inline uint32_t lughemra_client_end(struct lughemra_core *core)
+{
+    return core != NULL ? lughemra_client_end_nonnull(core) : LUGHEMRA_NO_CORE;
+}
+
+/* Returns how the client stands. */
+static inline struct lughemra_client lughemra_client_state(struct lughemra_core *core)
+{
+    return core != NULL ? lughemra_client_state_nonnull(core) : lughemra_no_client();
+}
+
+/* Counts the calls that await a reply. */
+static inline struct lughemra_count lughemra_client_outstanding(struct lughemra_core *core)
+{
+    static const struct lughemra_count none = {LUGHEMRA_NO_CORE, 0};
+    return core != NULL ? lughemra_client_outstanding_nonnull(core) : none;
+}
+
+/* Returns the name of an enum lughemra_core_refusal, as "WindowFull", or "" if there is none of this number. */
+static inline const char *lughemra_core_refusal_name(uint32_t number)
+{
+    static const char *const words[] = {"",       "Closed",       "WindowFull", "TooLarge", "BadContent",
+                                        "NoRoom", "NumbersSpent", "NotReady",   "TooMany",  "InUse"};
+    if (number == LUGHEMRA_NO_MEMORY)
+        return "NoMemory";
+    if (number == LUGHEMRA_NO_CORE)
+        return "NoCore";
+    return number < sizeof words / sizeof words[0] ? words[number] : "";
+}
+
+/* Returns the name of an enum lughemra_client_cause, as "UnknownReply", or "" if there is none of this number. */
+static inline const char *lughemra_client_cause_name(uint32_t number)
+{
+    static const char *const words[] = {"",      "Message",    "UnknownReply", "MoreNotAllowed", "StreamBroken",
+                                        "Ended", "EndedInside"};
+    return number < sizeof words / sizeof words[0] ? words[number] : "";
 }
 
 #ifdef __cplusplus

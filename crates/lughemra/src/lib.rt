@@ -1,17 +1,20 @@
 //! Checks documents and messages for programs in C, walks over them, writes the texts of documents,
-//! reads messages in pieces, and builds documents and messages.
+//! reads messages in pieces, builds documents and messages, and is the client's end of a connection.
 //!
-//! Each export hands its arguments to the function of byte_views or byte_builder that its comment
-//! names, and promises what that one does. None has a `requires`, so a C program only has to do
-//! what the types say. `include/lughemra.h` says what that is. It also has a second form of each
-//! function that takes pointers, without `_nonnull` in its name, which takes a null pointer for no
-//! bytes. What reads whole messages takes memory to sort the names of a body, and does it without
-//! memory, in more time, if there is none. What writes texts or messages takes memory for them.
+//! Each export hands its arguments to the function of byte_views, byte_builder or core_handles that
+//! its comment names, and promises what that one does. None has a `requires`, so a C program only
+//! has to do what the types say. `include/lughemra.h` says what that is. It also has a second form
+//! of each function that takes pointers, without `_nonnull` in its name, which takes a null pointer
+//! for no bytes, or for a handle of no core. What reads whole messages takes memory to sort the
+//! names of a body, and does it without memory, in more time, if there is none. What writes texts
+//! or messages takes memory for them, and so do handles.
 //!
-//! Uses byte_views and byte_builder. Used by programs in C. Read first: `include/lughemra.h`.
+//! Uses byte_views, byte_builder and core_handles. Used by programs in C. Read first:
+//! `include/lughemra.h`.
 #![tactic(auto)]
 
 mod builds;
+mod clients;
 mod documents;
 mod messages;
 mod texts;
