@@ -41,10 +41,11 @@ pub use Rattle.wire_peer.specs.LentReplies.{ready_of}
 pub use Rattle.wire_peer.specs.Limits.{IsLimit, IsWindow}
 pub use Rattle.wire_peer.specs.Logs.{AskStep, Does, IsGrown, LogEntry, LogStep, RunOf, Stops}
 pub use Rattle.wire_peer.specs.Logs.{entered, entry_of, log_of, outcome_of}
-pub use Rattle.wire_peer.specs.Replying.{PushStep, ReplyStep}
+pub use Rattle.wire_peer.specs.Replying.{PushStep, ReplyStep, put}
 pub use Rattle.wire_peer.specs.Requesting.{IsAccepted, IsFull, IsNextCall, IsRefused, RequestState}
 pub use Rattle.wire_peer.specs.Requesting.{after_call, awaiting, number_after}
 pub use Rattle.wire_peer.specs.Requests.{Asked, IsCount, asked, asked_by, takes_more}
-pub use Rattle.wire_peer.specs.ServerAnswers.{AnswerStep, WaitsAt}
+pub use Rattle.wire_peer.specs.ServerAnswers.{AnswerStep, WaitsAt, answered, closed_at}
+pub use Rattle.wire_peer.specs.ServerAnswers.{replies_of}
 pub use Rattle.wire_peer.specs.Servers.{IsNewServer, ServerView, TakesBytes, closed_for, end_cause}
 pub use Rattle.wire_peer.specs.Servers.{new_server}
