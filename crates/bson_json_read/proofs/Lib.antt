@@ -10,11 +10,14 @@ pub mod Numerals
 pub mod Pairs
 pub mod PlainTexts
 pub mod Printing
+pub mod Progress
 pub mod ReadBack
 pub mod Scanned
 pub mod Specials
 pub mod Strings
 pub mod Tens
 pub mod TextBytes
+pub mod Tokens
 pub mod Trees
 pub mod Walking
+pub mod Written

@@ -1,10 +1,10 @@
 -- Coefficients times powers of ten.
 use Rattle.std.proofs.Common.{◌≡◌, ◌≢◌, ℕ, ◌+◌, ◌-◌, ◌*◌, ◌%◌, ◌^◌, ◌<◌, ◌≤◌, List, [], ◌∷◌, ◌++◌, Bool, true, false, cond, ◌&&◌, ◌==◌, Some, None, refl, ap, sym, ◌∙◌, arith}
-use Rattle.std.specs.Prelude.{nat_lt, nat_le, option_and_then}
+use Rattle.std.specs.Prelude.{nat_lt, option_and_then}
 use Rattle.std.proofs.lemmas.Nat.{pow-add}
 use Rattle.std.proofs.Math.Nat.{mul-lt-mul_of_pos_right, one-le-pow, pow-le-pow_right, mul-le-mul_right}
 use Rattle.std.proofs.lemmas.Bool.Decides.{nat_tests}
-use Rattle.bson_json_read.specs.DecimalText.{coefficient_of, finite_bits, lowered, placed, raised}
+use Rattle.bson_json_read.specs.DecimalText.{coefficient_of, finite_bits, lowered, raised}
 
 some_power : (k : ℕ) → 1 ≤ 10 ^ k
 some_power k = one-le-pow k 10 (omega arith)
@@ -41,17 +41,6 @@ coefficient_append c z (x ∷ xs) ys =
         | false ↦ refl
       ]
     ]
-
--- exponents that are far out of range
-pub placed_above : (negative : Bool) (c up down : ℕ) → down + 12400 ≤ up → placed negative c up down ≡ raised negative c (up - down - 12287)
-placed_above negative c up down h =
-    let first : nat_lt up down ≡ false = grind (arith, nat_tests) in
-    let second : nat_le (up - down) 12287 ≡ false = grind (arith, nat_tests) in
-    rw (first, second) refl
-
-pub placed_below : (negative : Bool) (c up down : ℕ) → up < down → placed negative c up down ≡ lowered negative c (down - up)
-placed_below negative c up down h =
-    let first : nat_lt up down ≡ true = grind (arith, nat_tests) in rw first refl
 
 power_below : (i : ℕ) → i < 38 → 10 ^ i ≤ 10 ^ 37
 power_below i h = pow-le-pow_right {n = 10} (omega arith) {i = i} {j = 37} (omega arith)

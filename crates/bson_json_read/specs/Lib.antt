@@ -2,6 +2,7 @@ pub mod Bytes
 pub mod Lossless
 pub mod Causes
 pub mod DecimalText
+pub mod Direct
 pub mod Extents
 pub mod Forms
 pub mod Frames
@@ -17,7 +18,7 @@ pub mod Values
 -- the words that clauses of other crates cite
 pub use Rattle.bson_json_read.specs.Causes.{text_fault_text}
 pub use Rattle.bson_json_read.specs.Extents.{text_len}
-pub use Rattle.bson_json_read.specs.Sequences.{AreRead, Fails, Gives, Left, ReadsTo, next_in}
-pub use Rattle.bson_json_read.specs.Sequences.{nothing, utf8_read}
+pub use Rattle.bson_json_read.specs.Sequences.{AreRead, Fails, Gives, GivesBytes, Left, ReadsTo}
+pub use Rattle.bson_json_read.specs.Sequences.{next_in, nothing, utf8_read}
 pub use Rattle.bson_json_read.specs.Texts.{document_in}
 pub use Rattle.bson_json_read.specs.Values.{Pair}

@@ -2,6 +2,9 @@
 use Rattle.std.specs.Prelude.{◌≡◌, ⊤, ℕ, List, [], ◌∷◌, take, drop, Option, Some, None}
 use Rattle.std.specs.Prelude.{Ok, Err, if◌then◌else◌}
 use Rattle.std.specs.Str.{is_utf8}
+use Rattle.bson_elem.specs.{document, elements}
+use Rattle.bson_doc.specs.declared.refusal.DocRefusal.{DocRefusal}
+use Rattle.bson_doc.specs.{IsUnwritable, tree_of}
 use Rattle.bson_json_read.specs.declared.fault.Cause.{Cause}
 use Rattle.bson_json_read.specs.declared.fault.Cause.TheVariants as causes
 use Rattle.bson_json_read.specs.declared.frame.Frame.{Frame}
@@ -12,6 +15,8 @@ use Rattle.bson_json_read.specs.Extents.{text_len}
 use Rattle.bson_json_read.specs.Frames.{behind_text, may_end, step}
 use Rattle.bson_json_read.specs.Reads.{Read, refused}
 use Rattle.bson_json_read.specs.Texts.{document_in}
+use Rattle.bson_json_read.specs.declared.texts.NextBytes.{NextBytes}
+use Rattle.bson_json_read.specs.declared.texts.NextBytes.TheVariants.{AtEnd, Document, Refused}
 use Rattle.bson_json_read.specs.Values.{Pair}
 
 -- ---- the next text
@@ -56,6 +61,19 @@ Gives nothing None left = ⊤
 Gives (text_here frame rest) (Some d) left =
     (front_read rest ≡ Ok d) × (left ≡ behind_front frame rest)
 Gives next found left = ⊥
+
+-- the bytes of a document, or the reason why it has none
+abbrev pub IsWritten : List Pair → Option DocRefusal → List ℕ → Type 0
+IsWritten d None bytes = bytes ≡ document (elements (tree_of d))
+IsWritten d (Some refusal) bytes = IsUnwritable (tree_of d) refusal
+
+-- reading what is next gives the bytes of a document, or a document that has none, or the end
+abbrev pub GivesBytes : Next → NextBytes → List ℕ → Left → Type 0
+GivesBytes next AtEnd bytes left = next ≡ nothing
+GivesBytes next Document bytes left =
+    (d : List Pair) × Gives next (Some d) left × IsWritten d None bytes
+GivesBytes next (Refused refusal) bytes left =
+    (d : List Pair) × Gives next (Some d) left × IsWritten d (Some refusal) bytes
 
 -- reading what is next fails with this cause
 abbrev pub Fails : Next → Cause → Type 0

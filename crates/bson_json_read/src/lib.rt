@@ -11,6 +11,8 @@
 
 mod bytes;
 mod decimal;
+mod direct;
+mod element;
 mod extent;
 mod fault;
 mod form;
@@ -18,6 +20,7 @@ mod frame;
 mod iso;
 pub mod laws;
 mod members;
+mod nodes;
 mod number;
 mod owned;
 mod place;
@@ -32,4 +35,4 @@ pub use fault::{Cause, JsonFault};
 pub use form::Form;
 pub use place::Place;
 pub use text::from_json;
-pub use texts::{JsonTexts, TextFault};
+pub use texts::{JsonTexts, NextBytes, TextFault};

@@ -1,18 +1,22 @@
 //! Reads documents from an input of several texts.
 
-ghost use Rattle.std.specs.Prelude.{◌≡◌, ◌≤◌, ◌<◌, ◌+◌, ◌⊎◌, ℕ, List, Err, IfErr, IfOk, IfSome};
-ghost use Rattle.std.specs.Prelude.{MatchResult, Ok, drop, false, is_some, length, true};
+ghost use Rattle.std.specs.Prelude.{◌≡◌, ◌≢◌, ◌≤◌, ◌<◌, ◌+◌, ◌⊎◌, ℕ, List, Err, IfErr, IfOk};
+ghost use Rattle.std.specs.Prelude.{IfSome, MatchResult, None, Ok, drop, false, is_some, length};
+ghost use Rattle.std.specs.Prelude.{true};
 ghost use Rattle.std.specs.Str.{is_utf8};
 ghost use Rattle.bson_json_read.specs.Places.{StandsIn};
-ghost use Rattle.bson_json_read.specs.Sequences.{Fails, Gives, Left, next_in, utf8_read};
+ghost use Rattle.bson_json_read.specs.Sequences.{Fails, Gives, GivesBytes, IsWritten, next_in};
+ghost use Rattle.bson_json_read.specs.Sequences.{utf8_read};
 ghost use Rattle.bson_json_read.specs.Seeking.{IsFound, IsText, next_at};
+ghost use Rattle.bson_json_read.specs.Values.{Pair};
 
+use crate::direct::write_text;
 use crate::extent::text_extent;
 use crate::fault::Cause;
 use crate::frame::{Frame, Step};
 use crate::place::{Place, place_at};
 use crate::text::from_json_in;
-use bson_doc::Document;
+use bson_doc::{DocRefusal, Document};
 use json::Scratch;
 use std::alloc::Global;
 use std::fmt;
@@ -81,6 +85,12 @@ struct FaultAt {
     offset: usize,
 }
 
+/// Memory was refused.
+const OUT_OF_MEMORY: FaultAt = FaultAt {
+    cause: Cause::OutOfMemory,
+    offset: 0,
+};
+
 /// A text of an input.
 #[derive(Clone, Copy)]
 pub(crate) struct Found {
@@ -128,11 +138,80 @@ fn read_bytes(alloc: Global, bytes: &[u8], scratch: &mut Scratch) -> Result<Docu
     let cause = fault.cause;
     match fault.offset(alloc, text) {
         Ok(offset) => Err(FaultAt { cause, offset }),
-        Err(_) => Err(FaultAt {
-            cause: Cause::OutOfMemory,
-            offset: 0,
-        }),
+        Err(_) => Err(OUT_OF_MEMORY),
     }
+}
+
+/// Puts the bytes of a text's document into `out`, in place of what that holds, by way of an owned
+/// document. Returns why it has none, if it has none.
+fn write_owned(
+    alloc: Global,
+    bytes: &[u8],
+    scratch: &mut Scratch,
+    out: &mut Vec<u8>,
+) -> Result<Option<DocRefusal>, FaultAt>
+    ensures ok { IfOk result (λ refusal. (d : List Pair) × (utf8_read bytes.now ≡ Ok d)
+        × IsWritten d refusal out.new.items) }
+    ensures err { IfErr result (λ e. (e.cause ≡ Cause.OutOfMemory)
+        ⊎ ((path : List ℕ) × (utf8_read bytes.now ≡ Err (e.cause, path)))) }
+    ensures offset { IfErr result (λ e. e.offset ≤ length bytes.now) }
+{
+    let document = read_bytes(alloc, bytes, scratch)?;
+    match document.to_raw() {
+        Ok(raw) => {
+            out.clear();
+            match out.extend_from_slice(raw.as_raw().as_bytes()) {
+                Ok(()) => Ok(None),
+                Err(_) => Err(OUT_OF_MEMORY),
+            }
+        }
+        Err(DocRefusal::OutOfMemory) => Err(OUT_OF_MEMORY),
+        Err(refusal) => Ok(Some(refusal)),
+    }
+}
+
+/// Puts the bytes of a text's document into `out`, in place of what that holds, straight from its
+/// JSON. Returns true if it did, which it does of usual texts.
+fn write_direct(alloc: Global, bytes: &[u8], scratch: &mut Scratch, out: &mut Vec<u8>) -> bool
+    ensures { result ≡ true → (d : List Pair) × (utf8_read bytes.now ≡ Ok d)
+        × IsWritten d None out.new.items }
+{
+    out.clear();
+    match text_of(bytes) {
+        Ok(text) => write_text(alloc, text, scratch, out).is_some(),
+        Err(_) => false,
+    }
+}
+
+/// Puts the bytes of a text's document into `out`, in place of what that holds. Returns why it has
+/// none, if it has none.
+fn write_document(
+    alloc: Global,
+    bytes: &[u8],
+    scratch: &mut Scratch,
+    out: &mut Vec<u8>,
+) -> Result<Option<DocRefusal>, FaultAt>
+    ensures ok { IfOk result (λ refusal. (d : List Pair) × (utf8_read bytes.now ≡ Ok d)
+        × IsWritten d refusal out.new.items) }
+    ensures err { IfErr result (λ e. (e.cause ≡ Cause.OutOfMemory)
+        ⊎ ((path : List ℕ) × (utf8_read bytes.now ≡ Err (e.cause, path)))) }
+    ensures offset { IfErr result (λ e. e.offset ≤ length bytes.now) }
+{
+    if write_direct(alloc, bytes, scratch, out) {
+        return Ok(None);
+    }
+    write_owned(alloc, bytes, scratch, out)
+}
+
+/// What reading the next text as bytes comes to.
+#[derive(Clone, Copy, Debug, PartialEq, Eq)]
+pub enum NextBytes {
+    /// The input ends.
+    AtEnd,
+    /// The bytes of the text's document are there.
+    Document,
+    /// The text's document has no bytes, for this reason.
+    Refused(DocRefusal),
 }
 
 /// Reads the documents of an input, one after another. The input is Extended JSON texts that are
@@ -145,7 +224,6 @@ pub struct JsonTexts<'a> {
     input: &'a [u8],
     offset: usize,
     frame: Frame,
-    /// Room for reading, which each text finds as the one before left it.
     scratch: Scratch,
 }
 
@@ -242,6 +320,43 @@ impl<'a> JsonTexts<'a> {
                 self.offset = found.start + found.len;
                 self.frame = found.frame.behind_text();
                 Ok(Some(document))
+            }
+            Err(fault) => Err(self.fault(fault.cause, found.start + fault.offset)),
+        }
+    }
+
+    /// Reads the next document like `next`, and puts its bytes into `out`, in place of what that
+    /// holds.
+    ///
+    /// # Errors
+    ///
+    /// Returns the first fault of what is next, or `OutOfMemory` if memory is refused. Then nothing
+    /// is said of what is left, and of `out`.
+    #[tactic(auto, using(crate::proofs::TextBytes::told))]
+    pub fn next_bytes(&mut self, alloc: Global, out: &mut Vec<u8>) -> Result<NextBytes, TextFault>
+        ensures ok { IfOk result (λ read.
+            GivesBytes (next_in self.old.left.frame self.old.left.rest) read out.new.items
+            self.new.left) }
+        ensures err { IfErr result (λ e. (e.cause ≡ Cause.OutOfMemory)
+            ⊎ Fails (next_in self.old.left.frame self.old.left.rest) e.cause) }
+        ensures shorter { IfOk result (λ read. read ≢ NextBytes.AtEnd
+            → length self.new.left.rest < length self.old.left.rest) }
+        ensures place { IfErr result (λ e.
+            StandsIn self.old.input e.place.line e.place.column) }
+        ensures input { self.new.input ≡ self.old.input }
+    {
+        let Some(found) = self.find()? else {
+            return Ok(NextBytes::AtEnd);
+        };
+        let rest = &self.input[found.start..];
+        match write_document(alloc, &rest[..found.len], &mut self.scratch, out) {
+            Ok(refusal) => {
+                self.offset = found.start + found.len;
+                self.frame = found.frame.behind_text();
+                match refusal {
+                    None => Ok(NextBytes::Document),
+                    Some(refusal) => Ok(NextBytes::Refused(refusal)),
+                }
             }
             Err(fault) => Err(self.fault(fault.cause, found.start + fault.offset)),
         }

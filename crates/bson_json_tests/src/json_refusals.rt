@@ -3,7 +3,7 @@
 //! is refused in a run, so what is tried again succeeds.
 
 use bson_json_read::laws::round_trip;
-use bson_json_read::{Cause, JsonFault, JsonTexts, Place, from_json};
+use bson_json_read::{Cause, JsonFault, JsonTexts, NextBytes, Place, from_json};
 use bson_raw::RawDocument;
 use std::alloc::Global;
 
@@ -91,6 +91,22 @@ fn reads_several(alloc: Global) -> Result<bool, Cause> {
     }
 }
 
+/// Returns whether the bytes of the first text's document are written, and the fault of the second
+/// one told.
+fn writes_several(alloc: Global) -> Result<bool, Cause> {
+    let mut texts = JsonTexts::new(alloc, SEVERAL.as_bytes());
+    let mut bytes = Vec::new(alloc);
+    let is_first = match texts.next_bytes(alloc, &mut bytes) {
+        Ok(found) => found == NextBytes::Document && RawDocument::from_bytes(&bytes).is_ok(),
+        Err(fault) => return Err(fault.cause),
+    };
+    match texts.next_bytes(alloc, &mut bytes) {
+        Ok(_) => Ok(false),
+        Err(fault) if fault.cause == Cause::RepeatedName => Ok(is_first),
+        Err(fault) => Err(fault.cause),
+    }
+}
+
 /// Returns whether the document is read of its JSON as the same one.
 fn keeps(alloc: Global) -> Result<bool, Cause> {
     let Ok(document) = RawDocument::from_bytes(&DOCUMENT) else {
@@ -115,6 +131,7 @@ fn a_round_trip_is_made_again(rt: HostRuntime) {
 fn several_texts_are_read_again(rt: HostRuntime) {
     let alloc = rt.alloc();
     assert!(rt; comes_right(reads_several(alloc), reads_several(alloc)));
+    assert!(rt; comes_right(writes_several(alloc), writes_several(alloc)));
 }
 
 #[test]

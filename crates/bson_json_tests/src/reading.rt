@@ -2,7 +2,7 @@
 
 use crate::examples::{BINARIES, CONTAINERS, DATES, DECIMALS, DOUBLES, INTEGERS, OTHERS, TEXTS};
 use bson_json::{Mode, write_json};
-use bson_json_read::{Cause, Form, Place, from_json};
+use bson_json_read::{Cause, Form, JsonTexts, NextBytes, Place, from_json};
 use bson_raw::RawDocument;
 use bson_raw_tests::hex_bytes::read_digits;
 use std::alloc::Global;
@@ -14,10 +14,25 @@ fn bytes_of(alloc: Global, text: &str) -> Option<Vec<u8>> {
     Vec::from_slice(alloc, raw.as_raw().as_bytes()).ok()
 }
 
-/// Returns true if the text is read as the document of these digits.
+/// Returns the bytes of the document that the text is, as they are written of it.
+fn written_bytes(alloc: Global, text: &str) -> Option<Vec<u8>> {
+    let mut bytes = Vec::new(alloc);
+    match JsonTexts::new(alloc, text.as_bytes()).next_bytes(alloc, &mut bytes) {
+        Ok(NextBytes::Document) => Some(bytes),
+        _ => None,
+    }
+}
+
+/// Returns true if the text is read as the document of these digits, by both ways of reading.
 fn is_read(alloc: Global, text: &str, digits: &str) -> bool {
-    match (bytes_of(alloc, text), read_digits(alloc, digits)) {
-        (Some(read), Ok(bytes)) => read.as_slice() == bytes.as_slice(),
+    match (
+        bytes_of(alloc, text),
+        written_bytes(alloc, text),
+        read_digits(alloc, digits),
+    ) {
+        (Some(read), Some(written), Ok(bytes)) => {
+            read.as_slice() == bytes.as_slice() && written.as_slice() == bytes.as_slice()
+        }
         _ => false,
     }
 }

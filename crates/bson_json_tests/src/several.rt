@@ -1,7 +1,7 @@
 //! Inputs of several texts: how the documents stand in them, and the first fault of each. The bytes
 //! are those of the BSON specification.
 
-use bson_json_read::{Cause, JsonTexts, TextFault};
+use bson_json_read::{Cause, JsonTexts, NextBytes, TextFault};
 use bson_raw_tests::hex_bytes::read_digits;
 use std::alloc::Global;
 
@@ -148,6 +148,25 @@ fn read_all(alloc: Global, input: &[u8], bytes: &mut Vec<u8>) -> Result<Option<T
     Err(Cause::NotJson)
 }
 
+/// Appends the bytes of the documents, as they are written of their texts. Returns the first fault, if
+/// there is one.
+fn write_all(alloc: Global, input: &[u8], bytes: &mut Vec<u8>) -> Result<Option<TextFault>, Cause> {
+    let mut texts = JsonTexts::new(alloc, input);
+    let mut one = Vec::new(alloc);
+    for _ in 0..100 {
+        match texts.next_bytes(alloc, &mut one) {
+            Ok(NextBytes::Document) => {}
+            Ok(NextBytes::AtEnd) => return Ok(None),
+            Ok(NextBytes::Refused(_)) => return Err(Cause::NotJson),
+            Err(fault) => return Ok(Some(fault)),
+        }
+        let Ok(()) = bytes.extend_from_slice(&one) else {
+            return Err(Cause::OutOfMemory);
+        };
+    }
+    Err(Cause::NotJson)
+}
+
 /// Returns true if the fault displays so, or is none where the words are empty.
 fn is_told(alloc: Global, fault: Option<TextFault>, words: &str) -> bool {
     match fault {
@@ -159,18 +178,24 @@ fn is_told(alloc: Global, fault: Option<TextFault>, words: &str) -> bool {
     }
 }
 
-/// Returns true if the input has these documents, and its first fault displays so.
+/// Returns true if the input has these documents, by both ways of reading, and its first fault
+/// displays so.
 fn is_read(alloc: Global, input: &[u8], digits: &str, words: &str) -> bool {
-    let mut bytes = Vec::new(alloc);
-    match (
-        read_all(alloc, input, &mut bytes),
-        read_digits(alloc, digits),
-    ) {
-        (Ok(fault), Ok(wanted)) => {
-            bytes.as_slice() == wanted.as_slice() && is_told(alloc, fault, words)
-        }
-        _ => false,
-    }
+    let mut read = Vec::new(alloc);
+    let mut written = Vec::new(alloc);
+    let Ok(wanted) = read_digits(alloc, digits) else {
+        return false;
+    };
+    let (Ok(fault), Ok(same)) = (
+        read_all(alloc, input, &mut read),
+        write_all(alloc, input, &mut written),
+    ) else {
+        return false;
+    };
+    read.as_slice() == wanted.as_slice()
+        && written.as_slice() == wanted.as_slice()
+        && is_told(alloc, fault, words)
+        && is_told(alloc, same, words)
 }
 
 #[test]

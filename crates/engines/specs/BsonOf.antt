@@ -2,8 +2,7 @@
 use Rattle.std.specs.Prelude.{◌≡◌, ◌⊎◌, ⊤, ℕ, List, ◌++◌, map, codes, Bool, true, false, Option}
 use Rattle.std.specs.Prelude.{Some, None}
 use Rattle.std.specs.Fmt.{decimal}
-use Rattle.std.specs.Io.KnownBytes.{Appends, Keeps}
-use Rattle.bson_elem.specs.{Tree, document, elements}
+use Rattle.std.specs.Io.KnownBytes.{Appends}
 use Rattle.bson_raw.specs.{documents_bytes}
 use Rattle.bson_doc.specs.declared.refusal.DocRefusal.{DocRefusal}
 use Rattle.bson_doc.specs.Refusals.{refusal_text}
@@ -13,16 +12,6 @@ use Rattle.bson_json_read.specs.{Fails, Gives, Left, Pair, ReadsTo, next_in, not
 use Rattle.bson_json_read.specs.{text_fault_text}
 use Rattle.engines.specs.declared.bson.TextStop.{TextStop}
 use Rattle.engines.specs.declared.bson.TextStop.TheVariants.{Fault, Refused}
-
--- why a document isn't written
-abbrev pub IsUnwritten : Tree → TextStop → Type 0
-IsUnwritten t (Fault f) = ⊥
-IsUnwritten t (Refused refusal number) = IsUnwritable t refusal
-
--- the bytes of a document were written, or nothing, for this reason
-abbrev pub WritesBytes : Tree → Option TextStop → Option (List ℕ) → Option (List ℕ) → Type 0
-WritesBytes t None old new = Appends old new (document (elements t))
-WritesBytes t (Some stop) old new = IsUnwritten t stop × Keeps old new
 
 -- the document of the next text isn't written, for this reason
 abbrev pub IsRefused : Left → DocRefusal → Type 0

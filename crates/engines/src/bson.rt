@@ -1,15 +1,14 @@
 //! The command `bson`: the documents of Extended JSON texts.
 
 ghost use Rattle.std.specs.Prelude.{◌≡◌, ◌⊎◌, [], Err, IfErr, IfOk, IfSome, OnOk, false};
-ghost use Rattle.std.specs.Io.KnownBytes.{IsAtEnd, Keeps};
-ghost use Rattle.bson_doc.specs.{tree_of};
-ghost use Rattle.engines.specs.BsonOf.{IsAnything, StopsAt, WritesBytes, WritesTexts};
+ghost use Rattle.std.specs.Io.KnownBytes.{Appends, IsAtEnd, Keeps};
+ghost use Rattle.engines.specs.BsonOf.{IsAnything, StopsAt, WritesTexts};
 ghost use Rattle.engines.specs.Run.{is_done};
 
 use crate::buffered::Buffered;
 use crate::run::{BUFFER, RunEnd, read_whole};
-use bson_doc::{DocRefusal, Document};
-use bson_json_read::{Cause, JsonTexts, TextFault};
+use bson_doc::DocRefusal;
+use bson_json_read::{Cause, JsonTexts, NextBytes, TextFault};
 use core::mem::replace_with;
 use std::alloc::Global;
 use std::fmt;
@@ -39,26 +38,14 @@ impl fmt::Display for TextStop {
     }
 }
 
-/// Writes the bytes of `document`, which is the one of this number. Returns why it has none, if it
-/// has none.
-fn write_bytes<W: Write>(
-    document: Document,
-    number: usize,
-    out: &mut W,
-) -> Result<Option<TextStop>, RunEnd>
-    ensures written { IfOk result (λ stop. WritesBytes (tree_of document) stop
-        (W.contents out.old) (W.contents out.new)) }
-    ensures memory { result ≡ Err RunEnd.OutOfMemory
-        → Keeps (W.contents out.old) (W.contents out.new) }
-    ensures cut { IfErr result (λ end. is_done end ≡ false) }
+/// Writes the bytes of a document.
+fn write_bytes<W: Write>(bytes: &[u8], out: &mut W) -> Result<(), RunEnd>
+    ensures written { OnOk result
+        (Appends (W.contents out.old) (W.contents out.new) bytes.now) }
+    ensures cut { IfErr result (λ end. end ≡ RunEnd.InOut) }
 {
-    let bytes = match document.to_raw() {
-        Ok(bytes) => bytes,
-        Err(DocRefusal::OutOfMemory) => return Err(RunEnd::OutOfMemory),
-        Err(refusal) => return Ok(Some(TextStop::Refused { refusal, number })),
-    };
-    match out.write_all(bytes.as_raw().as_bytes()) {
-        Ok(()) => Ok(None),
+    match out.write_all(bytes) {
+        Ok(()) => Ok(()),
         Err(_) => Err(RunEnd::InOut),
     }
 }
@@ -77,21 +64,22 @@ fn write_texts<W: Write>(
     ensures cut { IfErr result (λ end. is_done end ≡ false) }
 {
     let mut texts = JsonTexts::new(alloc, input);
+    let mut bytes = Vec::new(alloc);
     let mut number: usize = 1;
     loop {
-        let document = match texts.next(alloc) {
-            Ok(Some(document)) => document,
-            Ok(None) => return Ok(None),
+        match texts.next_bytes(alloc, &mut bytes) {
+            Ok(NextBytes::Document) => {}
+            Ok(NextBytes::AtEnd) => return Ok(None),
+            Ok(NextBytes::Refused(refusal)) => {
+                return Ok(Some(TextStop::Refused { refusal, number }));
+            }
             Err(fault) => match fault.cause {
                 Cause::OutOfMemory => return Err(RunEnd::OutOfMemory),
                 _ => return Ok(Some(TextStop::Fault(fault))),
             },
-        };
-        match write_bytes(document, number, out) {
-            Ok(None) => number = number.saturating_add(1),
-            Ok(Some(stop)) => return Ok(Some(stop)),
-            Err(end) => return Err(end),
         }
+        write_bytes(&bytes, out)?;
+        number = number.saturating_add(1);
     }
 }
 

@@ -1,0 +1,38 @@
+use Rattle.std.proofs.Common.{◌≡◌, ◌+◌, ◌-◌, ◌*◌, ◌++◌, List}
+use Rattle.json.specs.Json.{Items, Members, object}
+use Rattle.json.specs.Strict.{HasUniqueKeys, ItemsHaveUniqueKeys}
+use Rattle.json.specs.Token.{Token}
+use Rattle.json.specs.Tree.{items_tokens, members_tokens}
+use Rattle.bson_json_read.proofs.Progress.{ItemsLeft, MembersLeft}
+use Rattle.bson_json_read.proofs.direct.+write.Given as goal
+
+abbrev pub decreases-write_members : goal.decreases-write_members
+decreases-write_members l = 5 * l.room
+
+abbrev pub decreases-write_items : goal.decreases-write_items
+decreases-write_items l = 5 * l.room
+
+abbrev pub decreases-write_object : goal.decreases-write_object
+decreases-write_object l = 5 * l.room + 1
+
+abbrev pub decreases-write_array : goal.decreases-write_array
+decreases-write_array l = 5 * l.room + 1
+
+abbrev pub decreases-write_value : goal.decreases-write_value
+decreases-write_value l = 5 * l.room + 2
+
+abbrev pub decreases-write_member : goal.decreases-write_member
+decreases-write_member l = 5 * l.room + 3
+
+abbrev pub decreases-write_item : goal.decreases-write_item
+decreases-write_item l = 5 * l.room + 3
+
+abbrev pub invariant-write_members-loop : goal.invariant-write_members-loop
+invariant-write_members-loop l =
+    (ms : Members) (ts : List Token) → l.fn.nodes ≡ members_tokens ms ++ ts → HasUniqueKeys (object ms)
+    → MembersLeft (l.room - 1) ms ts l.nodes l.fn.out.items l.out.items
+
+abbrev pub invariant-write_items-loop-index : goal.invariant-write_items-loop-index
+invariant-write_items-loop-index l =
+    (js : Items) (ts : List Token) → l.fn.nodes ≡ items_tokens js ++ ts → ItemsHaveUniqueKeys js
+    → ItemsLeft (l.room - 1) js ts l.nodes l.index l.fn.out.items l.out.items

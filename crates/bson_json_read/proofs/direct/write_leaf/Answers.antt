@@ -1,0 +1,39 @@
+use Rattle.std.proofs.Common.{◌∙◌, [], ap}
+use Rattle.json.specs.Json.{boolean, null, number, string}
+use Rattle.json.specs.Tape.{node_token}
+use Rattle.json.specs.declared.tape.Node.{Node}
+use Rattle.bson_elem.specs.declared.kinds.Kind.TheVariants as kinds
+use Rattle.bson_elem.specs.Trees.{boolean_value, raw_value}
+use Rattle.bson_raw.specs.Pairs.{leaf_value}
+use Rattle.bson_json_read.specs.Direct.{leaf_json}
+use Rattle.bson_json_read.specs.Table.{string_value}
+use Rattle.bson_json_read.proofs.Walking.{value_at}
+use Rattle.bson_json_read.proofs.Written.{leaf_put, on_some}
+use Rattle.bson_json_read.proofs.direct.write_leaf.Goals as goal
+
+pub returns-in-String : goal.returns-in-String
+returns-in-String c =
+    let s = c.in-String.text.now in
+    on_some c.put_string.result
+    (leaf_put (node_token c.args.node) (string s) (string_value s) _ _ _ (ap (λ (n : Node). leaf_json (node_token n)) c.in-String.is) (λ room. value_at room (string s)))
+    c.put_string.ensures
+
+pub returns-in_ok-plain_number-in-Number : goal.returns-in_ok-plain_number-in-Number
+returns-in_ok-plain_number-in-Number c =
+    let s = c.in-Number.text.now in
+    on_some c.put_leaf.result
+    (leaf_put (node_token c.args.node) (number s) _ _ _ _ (ap (λ (n : Node). leaf_json (node_token n)) c.in-Number.is) (λ room. value_at room (number s) ∙ c.in_ok-plain_number-in-Number.ensures))
+    c.put_leaf.ensures
+
+pub returns-in-Bool : goal.returns-in-Bool
+returns-in-Bool c =
+    let b = c.in-Bool.truth in
+    on_some c.put_leaf-in-Bool.result
+    (leaf_put (node_token c.args.node) (boolean b) (leaf_value kinds.Boolean (boolean_value b)) _ _ _ (ap (λ (n : Node). leaf_json (node_token n)) c.in-Bool.is) (λ room. value_at room (boolean b)))
+    c.put_leaf-in-Bool.ensures
+
+pub returns-in-Null : goal.returns-in-Null
+returns-in-Null c =
+    on_some c.put_leaf-in-Null.result
+    (leaf_put (node_token c.args.node) null (leaf_value kinds.Null (raw_value [])) _ _ _ (ap (λ (n : Node). leaf_json (node_token n)) c.in-Null.is) (λ room. value_at room null))
+    c.put_leaf-in-Null.ensures
