@@ -1,0 +1,4 @@
+pub mod Windows
+pub mod Ways
+pub mod Runs
+pub mod Passed

@@ -1,0 +1,48 @@
+-- A step on a way, by what its link did.
+use Rattle.std.proofs.Common.{◌≡◌, ◌≢◌, ℕ, ◌+◌, ◌-◌, ◌<◌, ◌≤◌, List, [], ◌++◌, length, take, drop, Option, ap, refl, sym, subst, inl, inr}
+use Rattle.std.proofs.KnownBytes.{Appends-kept, Appends-nil}
+use Rattle.std.specs.Io.KnownBytes.{Appends, Keeps}
+use Rattle.std.specs.Prelude.{Result, Ok, Err}
+use Rattle.wire_relay.specs.declared.turned.RelayFault.{RelayFault}
+use Rattle.wire_relay.specs.declared.turned.Turned.{Turned}
+use Rattle.wire_relay.specs.declared.turned.Turned.TheVariants.{Again, Waits, Over}
+use Rattle.wire_stream.specs.declared.link.Moved.TheVariants.{Bytes}
+use Rattle.wire_relay.specs.declared.way.Stage.{Stage}
+use Rattle.wire_relay.specs.declared.way.Stage.TheVariants.{Open}
+use Rattle.wire_relay.specs.Acts.{Comes, Ends, Goes, GoesOver, Tells, WayView}
+use Rattle.wire_relay.specs.Steps.{Receives, Sends, WaySteps}
+use Rattle.wire_relay.specs.WayParts.{view_of}
+use Rattle.wire_relay.proofs.Windows.{sent_part, some_first}
+
+module _ {F T : Type 0} (f : Tells F) (t : Tells T) where
+  idle_from : (from : F) → GoesOver f [] [] from from
+  idle_from from = record { received = Appends-nil (f.received from); sent = Appends-nil (f.sent from) }
+
+  idle_to : (to : T) → GoesOver t [] [] to to
+  idle_to to = record { received = Appends-nil (t.received to); sent = Appends-nil (t.sent to) }
+
+  pub sends : (result : Result Turned RelayFault) (old new : WayView) (from : F) (to to' : T) → Sends t result old new to to' → WaySteps f t result old new from from to to'
+  sends (Ok Again) old new from to to' (bytes, some, first, stage, over) = (Goes bytes, (some, first, stage, over, refl))
+  sends (Ok Waits) old new from to to' (same, over) = (same, idle_from from, over)
+  sends (Ok Over) old new from to to' x = absurd x
+  sends (Err e) old new from to to' (same, over) = (same, idle_from from, over)
+
+  pub receives : (result : Result Turned RelayFault) (old new : WayView) (from from' : F) (to : T) → old.stage ≡ Open → old.held ≡ [] → Receives f result old new from from'
+      → WaySteps f t result old new from from' to to
+  receives (Ok Again) old new from from' to is_open none (inl (some, is, over)) = (Comes new.held, (is_open, none, some, is, over, refl))
+  receives (Ok Again) old new from from' to is_open none (inr (is, told, over)) = (Ends, (is_open, none, is, told, over, refl))
+  receives (Ok Waits) old new from from' to is_open none (same, over) = (same, over, idle_to to)
+  receives (Ok Over) old new from from' to is_open none x = absurd x
+  receives (Err e) old new from from' to is_open none (same, over) = (same, over, idle_to to)
+
+-- The link took the first n of the bytes that are held.
+pub has_sent : {T : Type 0} (t : Tells T) (piece : List ℕ) (start end n : ℕ) (stage : Stage) (to to' : T) (bytes : List ℕ) → bytes ≡ take (end - start) (drop start piece)
+    → bytes ≢ [] → n ≤ length bytes → (0 < length bytes → Bytes n ≢ Bytes 0) → Keeps (t.received to) (t.received to') → Appends (t.sent to) (t.sent to') (take n bytes)
+    → Sends t (Ok Again) (view_of piece start end stage) (view_of piece (start + n) end stage) to to'
+has_sent t piece start end n stage to to' bytes is held within some keeps sent = (
+  take n bytes,
+  some_first n bytes within (λ there none. some there (ap Bytes none)) held,
+  rw is (sent_part piece start end n (rw is at within)),
+  refl,
+  record { received = Appends-kept (t.received to) (t.received to) (t.received to') [] (Appends-nil (t.received to)) keeps; sent = sent },
+)

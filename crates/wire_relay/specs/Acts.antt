@@ -1,0 +1,130 @@
+-- What is done between two links.
+use Rattle.std.specs.Prelude.{◌≡◌, ◌≢◌, ℕ, Option, List, [], ◌∷◌, ◌++◌, Result, Ok}
+use Rattle.std.specs.Io.KnownBytes.{Appends}
+use Rattle.wire_stream.specs.{Rose}
+use Rattle.wire_relay.specs.declared.turned.RelayFault.{RelayFault}
+use Rattle.wire_relay.specs.declared.turned.Turned.{Turned}
+use Rattle.wire_relay.specs.declared.turned.Turned.TheVariants as turns
+use Rattle.wire_relay.specs.declared.way.Stage.{Stage}
+use Rattle.wire_relay.specs.declared.way.Stage.TheVariants.{Open, Ending, Ended}
+
+-- what came over one link and wasn't sent over the other yet, and how far the way is
+pub record WayView : Type 0 where
+  pub held : List ℕ
+  pub stage : Stage
+
+-- a way on which nothing came
+abbrev pub new_way : WayView
+new_way = record { held = []; stage = Open }
+
+-- ---- links
+
+-- what a link tells: the bytes that it received and sent, how often it told its end, and how often
+-- it could move no byte
+pub record Tells (L : Type 0) : Type 0 where
+  pub received : L → Option (List ℕ)
+  pub sent : L → Option (List ℕ)
+  pub ends : L → ℕ
+  pub waits : L → ℕ
+
+abbrev pub tells : {L : Type 0} → (received sent : L → Option (List ℕ)) → (ends waits : L → ℕ)
+    → Tells L
+tells received sent ends waits =
+    record { received = received; sent = sent; ends = ends; waits = waits }
+
+-- these bytes came over the link, and these went
+pub record GoesOver {L : Type 0} (t : Tells L) (came went : List ℕ) (old new : L) : Type 0 where
+  pub received : Appends (t.received old) (t.received new) came
+  pub sent : Appends (t.sent old) (t.sent new) went
+
+-- ---- acts on one way
+
+-- An act on a way: bytes come over the one link, where nothing is held, and are held; the first of
+-- those that are held go over the other; the one link tells its end; the sending over the other is
+-- ended, where all was sent; or a link is called, and moves no byte.
+pub data WayAct : Type 0 where
+  Comes : (bytes : List ℕ) → WayAct
+  Goes : (bytes : List ℕ) → WayAct
+  Ends : WayAct
+  EndsSending : WayAct
+  Idles : WayAct
+
+-- The act was done on a way, from the one link to the other.
+abbrev pub WayMoves : {F T : Type 0} → Tells F → Tells T → WayAct → (old new : WayView)
+    → (from from' : F) → (to to' : T) → Type 0
+WayMoves f t (Comes bytes) old new from from' to to' =
+    (old.stage ≡ Open) × (old.held ≡ []) × (bytes ≢ []) × (new ≡ record old { held = bytes })
+    × GoesOver f bytes [] from from' × (to' ≡ to)
+WayMoves f t (Goes bytes) old new from from' to to' =
+    (bytes ≢ []) × (old.held ≡ bytes ++ new.held) × (new.stage ≡ old.stage)
+    × GoesOver t [] bytes to to' × (from' ≡ from)
+WayMoves f t Ends old new from from' to to' =
+    (old.stage ≡ Open) × (old.held ≡ []) × (new ≡ record old { stage = Ending })
+    × Rose (f.ends from) (f.ends from') × GoesOver f [] [] from from' × (to' ≡ to)
+WayMoves f t EndsSending old new from from' to to' =
+    (old.stage ≡ Ending) × (old.held ≡ []) × (new ≡ record old { stage = Ended })
+    × GoesOver t [] [] to to' × (from' ≡ from)
+WayMoves f t Idles old new from from' to to' =
+    (new ≡ old) × GoesOver f [] [] from from' × GoesOver t [] [] to to'
+
+-- ---- acts of a relay
+
+-- two links, and the ways from the near one to the far one and back
+pub record RelayView (N F : Type 0) : Type 0 where
+  pub near : N
+  pub far : F
+  pub there : WayView
+  pub back : WayView
+
+-- a relay of two links between which nothing was done
+abbrev pub new_relay : {N F : Type 0} → N → F → RelayView N F
+new_relay near far = record { near = near; far = far; there = new_way; back = new_way }
+
+-- an act on the way to the far link, or on the way back
+pub data RelayAct : Type 0 where
+  There : (act : WayAct) → RelayAct
+  Back : (act : WayAct) → RelayAct
+
+-- The act was done, and on the other way nothing was.
+abbrev pub RelayMoves : {N F : Type 0} → Tells N → Tells F → RelayAct → (old new : RelayView N F)
+    → Type 0
+RelayMoves n f (There act) old new =
+    WayMoves n f act old.there new.there old.near new.near old.far new.far × (new.back ≡ old.back)
+RelayMoves n f (Back act) old new =
+    WayMoves f n act old.back new.back old.far new.far old.near new.near × (new.there ≡ old.there)
+
+-- These acts were done, one after another.
+abbrev pub RelayRun : {N F : Type 0} → Tells N → Tells F → RelayView N F → List RelayAct
+    → RelayView N F → Type 0
+RelayRun n f old [] new = new ≡ old
+RelayRun {N} {F} n f old (act ∷ acts) new =
+    (mid : RelayView N F) × RelayMoves n f act old mid × RelayRun n f mid acts new
+
+-- ---- what a turn came to
+
+-- both ways are over
+abbrev pub IsOver : {N F : Type 0} → RelayView N F → Type 0
+IsOver r = (r.there.stage ≡ Ended) × (r.back.stage ≡ Ended)
+
+-- The last acts were calls of links that moved no byte, one for each way that isn't over.
+pub data IsWaiting {N F : Type 0} (acts : List RelayAct) (r : RelayView N F) : Type 0 where
+  both : (before : List RelayAct) → acts ≡ before ++ There Idles ∷ Back Idles ∷ []
+      → IsWaiting acts r
+  there : (before : List RelayAct) → acts ≡ before ++ There Idles ∷ [] → r.back.stage ≡ Ended
+      → IsWaiting acts r
+  back : (before : List RelayAct) → acts ≡ before ++ Back Idles ∷ [] → r.there.stage ≡ Ended
+      → IsWaiting acts r
+
+-- A turn came to this: both ways are over; or no byte can be moved now.
+abbrev pub TurnedAs : {N F : Type 0} → Result Turned RelayFault → List RelayAct → RelayView N F
+    → Type 0
+TurnedAs (Ok turns.Over) acts r = IsOver r
+TurnedAs (Ok turns.Waits) acts r = IsWaiting acts r
+TurnedAs result acts r = Unit {0}
+
+-- Acts were done, and it came to this.
+pub record Turns {N F : Type 0} (n : Tells N) (f : Tells F) (result : Result Turned RelayFault)
+    (old new : RelayView N F) : Type 0 where
+  pub acts : List RelayAct
+  pub run : RelayRun n f old acts new
+  pub comes_to : TurnedAs result acts new

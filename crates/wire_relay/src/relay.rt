@@ -1,0 +1,90 @@
+//! Two links, and the ways between them.
+
+ghost use Rattle.std.specs.Prelude.{◌≡◌, IfOk};
+ghost use Rattle.wire_relay.specs.Acts.{Turns, new_relay, tells};
+
+use crate::turned::{RelayFault, Turned};
+use crate::way::{EndSending, Way};
+use std::alloc::{AllocError, Global};
+use std::marker::Model;
+
+/// Passes bytes between two links, both ways. Contracts see it as the record `RelayView`.
+#[derive(Drop)]
+pub struct Relay<N, F> {
+    near: N,
+    far: F,
+    there: Way,
+    back: Way,
+}
+
+impl<N, F> Model for Relay<N, F> {
+    ghost use Rattle.wire_relay.specs.Acts.{RelayView};
+
+    ghost Value = { RelayView N F };
+
+    ghost view = { λ s. record { near = s.near; far = s.far; there = s.there; back = s.back } };
+}
+
+impl<N: EndSending + Drop, F: EndSending + Drop> Relay<N, F> {
+    /// Makes a relay between two links. Takes memory for what the ways hold; no other call takes
+    /// any.
+    ///
+    /// # Errors
+    ///
+    /// Returns `AllocError` if memory runs out. The links are dropped then.
+    pub fn new(alloc: Global, near: N, far: F) -> Result<Relay<N, F>, AllocError>
+        ensures { IfOk result (λ relay. relay ≡ new_relay near far) }
+    {
+        let there = Way::new(alloc)?;
+        let back = Way::new(alloc)?;
+        Ok(Relay {
+            near,
+            far,
+            there,
+            back,
+        })
+    }
+
+    /// Returns the near link.
+    pub fn near(&self) -> &N
+        ensures { result.now ≡ self.now.near }
+    {
+        &self.near
+    }
+
+    /// Returns the far link.
+    pub fn far(&self) -> &F
+        ensures { result.now ≡ self.now.far }
+    {
+        &self.far
+    }
+
+    /// Takes a step on each way.
+    fn step(&mut self) -> Result<Turned, RelayFault>
+        ensures { Turns (tells N.received N.sent N.ends N.waits)
+            (tells F.received F.sent F.ends F.waits) result self.old self.new }
+    {
+        let there = self.there.step(&mut self.near, &mut self.far)?;
+        let back = self.back.step(&mut self.far, &mut self.near)?;
+        Ok(there.and(back))
+    }
+
+    /// Takes a turn of at most `steps` steps on each way.
+    ///
+    /// # Errors
+    ///
+    /// Returns which link failed, by the way that it failed on. Nothing is lost, and nothing is
+    /// sent twice.
+    pub fn turn(&mut self, steps: u32) -> Result<Turned, RelayFault>
+        ensures { Turns (tells N.received N.sent N.ends N.waits)
+            (tells F.received F.sent F.ends F.waits) result self.old self.new }
+    {
+        for _ in 0..steps {
+            match self.step()? {
+                Turned::Again => {}
+                over => return Ok(over),
+            }
+        }
+        Ok(Turned::Again)
+    }
+}

@@ -1,0 +1,10 @@
+//! Tests of relays by what no contract says: that bytes pass where both links move some. They stand
+//! in a crate of their own, since a crate is proved once more with its tests.
+//!
+//! Uses wire_relay. Read first: `relays`.
+#![tactic(auto)]
+
+#[cfg(test)]
+mod relay_refusals;
+#[cfg(test)]
+mod relays;
