@@ -12,6 +12,7 @@ use Rattle.wire_hall.specs.{Tells, tells}
 use Rattle.wire_hall.specs.declared.valve.Valve.{Valve}
 use Rattle.wire_stream.specs.declared.tcp_link.TcpLink.{TcpLink}
 use Rattle.test_server.specs.declared.choice.Choice.{Choice}
+use Rattle.test_server.specs.declared.drained.Drained.{Drained}
 use Rattle.test_server.specs.declared.run.ServingEnd.{ServingEnd}
 use Rattle.test_server.specs.declared.run.ServingEnd.TheVariants as runs
 use Rattle.test_server.specs.declared.serving.Serving.{Serving}
@@ -31,13 +32,13 @@ port_text port = decimal port ++ codes "\n"
 
 -- What a gate before a link over a socket tells: no bytes, since no contract says what a socket
 -- carries.
-abbrev pub socket_tells : Tells (Valve (TcpLink TcpStream))
+abbrev pub socket_tells : Tells (Valve (TcpLink (Drained TcpStream)))
 socket_tells =
     tells (λ valve. None) (λ valve. None) (λ valve. valve.link.ends) (λ valve. valve.link.waits)
 
 -- the connections of the program
 abbrev pub Connected : Type 0
-Connected = Serving (Valve (TcpLink TcpStream)) (Scripted Store)
+Connected = Serving (Valve (TcpLink (Drained TcpStream))) (Scripted Store)
 
 -- what is written of a transcript: nothing by a quiet server
 abbrev pub shown : (quiet : Bool) → List ℕ → List ℕ

@@ -4,6 +4,7 @@ ghost use Rattle.std.specs.Prelude.{◌≡◌, ℕ, IfOk, List, OnOk, Option};
 ghost use Rattle.test_server.specs.Runs.{GoesOnServing, HasBegun};
 
 use crate::delays::Delays;
+use crate::drained::{Drained, Turns};
 use crate::guide::Guide;
 use crate::input::Watched;
 use crate::output::Output;
@@ -42,7 +43,9 @@ pub struct Connections<I> {
     poll: Poll,
     listener: TcpListener,
     input: Option<Watched<I>>,
-    pub serving: Serving<Valve<TcpLink<TcpStream>>, Scripted<Store>>,
+    pub serving: Serving<Valve<TcpLink<Drained<TcpStream>>>, Scripted<Store>>,
+    /// The turn that a connection takes.
+    turns: Turns,
     /// The connections whose replies are held.
     delays: Delays,
     /// The keys of connections whose turns ended before there was nothing to do, each once. It has
@@ -62,7 +65,7 @@ fn begin(
     alloc: Global,
     script: Script,
     guide: Script,
-) -> Serving<Valve<TcpLink<TcpStream>>, Scripted<Store>>
+) -> Serving<Valve<TcpLink<Drained<TcpStream>>>, Scripted<Store>>
     ensures { HasBegun script.rules.items guide.rules.items result }
 {
     let store = Store::new(alloc);
@@ -89,6 +92,7 @@ impl<I: BufRead + Drop> Connections<I> {
             c.serving) }
     {
         let poll = Poll::new(net)?;
+        let turns = Turns::new(alloc)?;
         let mut listener = listener;
         poll.registry()
             .register(&mut listener, LISTENER, Interest::READABLE)?;
@@ -101,6 +105,7 @@ impl<I: BufRead + Drop> Connections<I> {
             listener,
             input,
             serving: begin(alloc, script, guide),
+            turns,
             delays: Delays::new(alloc),
             again,
             ready: true,
@@ -141,6 +146,9 @@ impl<I: BufRead + Drop> Connections<I> {
         {
             return Ok(());
         }
+        let Ok(stream) = self.turns.drained(stream) else {
+            return Err(Stop::OutOfMemory);
+        };
         self.wanted = self.wanted.saturating_sub(1);
         self.serving.open(Valve::new(TcpLink::new(stream)), out)
     }
@@ -282,6 +290,7 @@ impl<I: BufRead + Drop> Connections<I> {
         let due = self.again.len();
         for _ in 0..due {
             if let Some(key) = self.again.pop_front() {
+                self.turns.resume();
                 self.take_turn(clock, key, out)?;
             }
         }
@@ -302,7 +311,10 @@ impl<I: BufRead + Drop> Connections<I> {
             match event.token() {
                 LISTENER => self.ready = true,
                 INPUT => self.take_input(),
-                Token(key) => self.take_turn(clock, key, out)?,
+                Token(key) => {
+                    self.turns.begin(event);
+                    self.take_turn(clock, key, out)?;
+                }
             }
         }
         Ok(())

@@ -20,6 +20,7 @@ mod choice;
 mod command_line;
 mod connections;
 mod delays;
+mod drained;
 mod guide;
 mod input;
 mod output;
