@@ -8,7 +8,7 @@ use crate::drained::{Drained, Turns};
 use crate::guide::Guide;
 use crate::input::Watched;
 use crate::output::Output;
-use crate::serving::{STEPS, Serving, Stop, settle};
+use crate::serving::{ANSWER_STEPS, STEPS, Serving, Stop, settle};
 use mio::net::{TcpListener, TcpStream};
 use mio::{Events, Interest, Poll, Token};
 use std::alloc::Global;
@@ -72,6 +72,14 @@ fn begin(
     let handler = Scripted::new(alloc, script, store);
     let guide = Guide::new(alloc, guide);
     Serving::new(alloc, handler, guide)
+}
+
+/// Returns what a turn came to, if the connection is over.
+fn if_over(turned: Option<Turned>) -> Option<Turned> {
+    match turned {
+        Some(Turned::Over(leave)) => Some(Turned::Over(leave)),
+        Some(Turned::Again | Turned::Waits) | None => None,
+    }
 }
 
 impl<I: BufRead + Drop> Connections<I> {
@@ -230,7 +238,7 @@ impl<I: BufRead + Drop> Connections<I> {
             if self.delays.holds(key) {
                 return Ok(());
             }
-            let turned = self.serving.turn(key, out)?;
+            let turned = self.serving.turn(key, STEPS, out)?;
             self.hold(clock, key, turned)?;
             if turned != Some(Turned::Again) {
                 return self.after_turn(key, turned);
@@ -252,7 +260,7 @@ impl<I: BufRead + Drop> Connections<I> {
         if !self.serving.is_unguided() {
             return self.take_steps(clock, key, out);
         }
-        let turned = self.serving.turn(key, out)?;
+        let turned = self.serving.turn(key, STEPS, out)?;
         self.after_turn(key, turned)
     }
 
@@ -297,8 +305,36 @@ impl<I: BufRead + Drop> Connections<I> {
         Ok(())
     }
 
-    /// Has each connection of which these events are take a turn.
-    fn take_turns<W: Output>(
+    /// Has a connection receive and answer a request, and send nothing yet. Returns why the server
+    /// stops, if it does.
+    fn answer_one<W: Output>(&mut self, key: usize, out: &mut W) -> Result<(), Stop>
+        ensures { OnOk result (GoesOnServing self.old.serving self.new.serving
+            (W.contents out.old) (W.contents out.new)) }
+    {
+        let turned = self.serving.turn(key, ANSWER_STEPS, out)?;
+        self.after_turn(key, if_over(turned))
+    }
+
+    /// Has each connection of which these events are receive and answer a request, and send nothing
+    /// yet.
+    fn answer_each<W: Output>(&mut self, events: &Events<Global>, out: &mut W) -> Result<(), Stop>
+        ensures { OnOk result (GoesOnServing self.old.serving self.new.serving
+            (W.contents out.old) (W.contents out.new)) }
+    {
+        for event in events.iter() {
+            match event.token() {
+                LISTENER | INPUT => {}
+                Token(key) => {
+                    self.turns.begin(event);
+                    self.answer_one(key, out)?;
+                }
+            }
+        }
+        Ok(())
+    }
+
+    /// Has each connection of which these events are take a turn, and takes what came besides.
+    fn finish_each<W: Output>(
         &mut self,
         clock: &impl Clock,
         events: &Events<Global>,
@@ -318,6 +354,28 @@ impl<I: BufRead + Drop> Connections<I> {
             }
         }
         Ok(())
+    }
+
+    /// Has each connection of which these events are take a turn. Without rules all of them answer
+    /// before any sends, so that replies go one right after another: a client of many connections
+    /// is then woken for the first, and not for each.
+    fn take_turns<W: Output>(
+        &mut self,
+        clock: &impl Clock,
+        events: &Events<Global>,
+        out: &mut W,
+    ) -> Result<(), Stop>
+        ensures { OnOk result (GoesOnServing self.old.serving self.new.serving
+            (W.contents out.old) (W.contents out.new)) }
+    {
+        self.turns.count();
+        if self.serving.is_unguided() {
+            self.answer_each(events, out)?;
+            self.finish_each(clock, events, out)?;
+            Ok(())
+        } else {
+            self.finish_each(clock, events, out)
+        }
     }
 
     /// Returns how long events are waited for: not at all if there is more to do, for a pause if

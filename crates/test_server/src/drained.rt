@@ -14,37 +14,43 @@ use std::rc::Rc;
 /// The turn that a connection takes.
 #[derive(Drop)]
 pub struct Turns {
-    /// How many turns had a number, up to 2^64 - 1. Those after them have none.
-    count: u64,
-    /// The number of the turn. It has none if all that came has to be read in it.
+    /// The number of the events that the system told last, up to 2^64 - 1. Those behind them have
+    /// none.
+    told: Option<u64>,
+    /// That number, or none if all that came has to be read in the turn.
     current: Rc<Cell<Option<u64>>>,
 }
 
 impl Turns {
-    /// Begins before the first turn. Takes memory for the number of the turn.
+    /// Begins before the first turn. Takes memory for what the streams share.
     ///
     /// # Errors
     ///
     /// Returns `AllocError` if memory runs out.
     pub fn new(alloc: Global) -> Result<Turns, AllocError> {
         let current = Rc::new(alloc, Cell::new(None))?;
-        Ok(Turns { count: 0, current })
+        Ok(Turns {
+            told: Some(0),
+            current,
+        })
+    }
+
+    /// Counts that the system told events.
+    pub fn count(&mut self) {
+        self.told = self.told.and_then(|told| told.checked_add(1));
     }
 
     /// Begins a turn that goes on where one before it stopped.
-    pub fn resume(&mut self) {
+    pub fn resume(&self) {
         self.current.set(None);
     }
 
-    /// Begins a turn by an event.
-    pub fn begin(&mut self, event: &Event) {
-        self.current.set(None);
+    /// Begins a turn by one of the events that the system told last.
+    pub fn begin(&self, event: &Event) {
         if event.is_read_closed() || event.is_error() {
-            return;
-        }
-        if let Some(count) = self.count.checked_add(1) {
-            self.count = count;
-            self.current.set(Some(count));
+            self.current.set(None);
+        } else {
+            self.current.set(self.told);
         }
     }
 
@@ -58,29 +64,29 @@ impl Turns {
         Ok(Drained {
             stream,
             turn,
-            read_in: None,
+            emptied: None,
         })
     }
 }
 
-/// A stream of a connection that the system tells of. A read that would find nothing, since one before
-/// it in this turn didn't fill its buffer, fails with `WouldBlock` and isn't made.
+/// A stream of a connection that the system tells of. A read that would find nothing fails with
+/// `WouldBlock` and isn't made: since the same events a read didn't fill its buffer.
 #[derive(Drop)]
 pub struct Drained<S> {
     stream: S,
     turn: Rc<Cell<Option<u64>>>,
-    /// The turn of the last read that gave some bytes and didn't fill its buffer, if it has a number.
-    read_in: Option<u64>,
+    /// The number of the events in whose turn a read left nothing last.
+    emptied: Option<u64>,
 }
 
 impl<S: Read> Read for Drained<S> {
     fn read(&mut self, buffer: &mut [u8]) -> io::Result<usize> {
         let turn = self.turn.get();
-        if turn.is_some() && self.read_in == turn {
+        if turn.is_some() && self.emptied == turn {
             return Err(io::Error::from(ErrorKind::WouldBlock));
         }
         let count = self.stream.read(buffer)?;
-        self.read_in = if count > 0 && count < buffer.len() {
+        self.emptied = if count > 0 && count < buffer.len() {
             turn
         } else {
             None

@@ -34,6 +34,10 @@ pub enum Stop {
 /// The most steps of a turn.
 pub const STEPS: u32 = 32;
 
+/// The steps in which a connection receives, takes a header and what stands behind it, and answers
+/// a request, and sends nothing.
+pub const ANSWER_STEPS: u32 = 4;
+
 /// Writes the entries that were made, in order, and forgets them.
 fn tell<L: Link + Drop, H: Handler + Drop, W: Output>(
     hall: &mut Hall<L, H>,
@@ -132,11 +136,11 @@ impl<L: Gated + Drop, H: Handler + Drop> Serving<L, H> {
         self.hall.next_key()
     }
 
-    /// Returns how many steps a turn has: one where there are rules.
-    fn steps(&self) -> u32
+    /// Returns how many steps a turn has that may have `most`: one where there are rules.
+    fn steps(&self, most: u32) -> u32
         ensures { IsStepped self.now.guide.script.rules.items result }
     {
-        if self.is_unguided() { STEPS } else { 1 }
+        if self.is_unguided() { most } else { 1 }
     }
 
     /// Opens the connection over `link`, whose gate is open, and writes its line.
@@ -204,21 +208,26 @@ impl<L: Gated + Drop, H: Handler + Drop> Serving<L, H> {
         self.hall.set_gate(key, gate_after(flow, gate));
     }
 
-    /// Has the connection of this key take a turn, which is a single step where there are rules, and
-    /// writes the entries that it made. If it is over then, forgets it and writes its last line, and
+    /// Has the connection of this key take a turn of at most `most` steps, which is a single one
+    /// where there are rules, and writes the entries that it made. If it is over then, forgets it and writes its last line, and
     /// else says what becomes of its replies. Returns what the turn came to, or `None` if there is
     /// no such connection.
     ///
     /// # Errors
     ///
     /// Returns `InOut` if writing fails, and `OutOfMemory` if memory runs out.
-    pub fn turn<W: Output>(&mut self, key: usize, out: &mut W) -> Result<Option<Turned>, Stop>
+    pub fn turn<W: Output>(
+        &mut self,
+        key: usize,
+        most: u32,
+        out: &mut W,
+    ) -> Result<Option<Turned>, Stop>
         ensures none { result ≡ Ok None → get self.old.hall.seats key ≡ None }
         ensures served { OnOk result (ServesOn H.does H.stops
             (tells L.received L.sent L.ends L.waits) L.gate
             self.old self.new (W.contents out.old) (W.contents out.new)) }
     {
-        let steps = self.steps();
+        let steps = self.steps(most);
         let Some(turned) = self.hall.turn(key, steps) else {
             return Ok(None);
         };

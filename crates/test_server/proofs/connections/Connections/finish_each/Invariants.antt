@@ -1,5 +1,5 @@
 use Rattle.test_server.specs.Runs.{GoesOnServing}
-use Rattle.test_server.proofs.connections.Connections.take_turns.Given as goal
+use Rattle.test_server.proofs.connections.Connections.finish_each.Given as goal
 
 -- the server served on so far
 abbrev pub invariant-loop-event : goal.invariant-loop-event
