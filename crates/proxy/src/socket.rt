@@ -1,0 +1,88 @@
+//! A TCP connection as a link whose sending can be ended.
+
+ghost use Rattle.std.specs.Prelude.{None};
+
+use mio::net::TcpStream;
+use std::alloc::{AllocError, Global};
+use std::io;
+use std::io::{Read, Write};
+use std::net::Shutdown;
+use std::rc::Rc;
+use wire_relay::EndSending;
+use wire_stream::{Link, LinkFault, Moved, TcpLink};
+
+/// A stream that a link and its owner share.
+#[derive(Drop)]
+struct Shared(Rc<TcpStream>);
+
+impl Read for Shared {
+    fn read(&mut self, buffer: &mut [u8]) -> io::Result<usize> {
+        let mut stream: &TcpStream = &self.0;
+        stream.read(buffer)
+    }
+}
+
+impl Write for Shared {
+    fn write(&mut self, bytes: &[u8]) -> io::Result<usize> {
+        let mut stream: &TcpStream = &self.0;
+        stream.write(bytes)
+    }
+
+    fn flush(&mut self) -> io::Result<()> {
+        Ok(())
+    }
+}
+
+/// A connection over TCP. As a `Link` it shows no bytes, as `TcpLink` doesn't.
+#[derive(Drop)]
+pub struct Socket {
+    link: TcpLink<Shared>,
+    stream: Rc<TcpStream>,
+}
+
+impl Socket {
+    /// Makes the link over a stream.
+    ///
+    /// # Errors
+    ///
+    /// Returns `AllocError` if memory runs out. The stream is closed then.
+    pub fn new(alloc: Global, stream: TcpStream) -> Result<Socket, AllocError> {
+        let stream = Rc::new(alloc, stream)?;
+        let shared = Shared(stream.clone()?);
+        Ok(Socket {
+            link: TcpLink::new(shared),
+            stream,
+        })
+    }
+}
+
+impl Link for Socket {
+    ghost received = { λ _. None };
+
+    ghost sent = { λ _. None };
+
+    ghost turns = { λ _. None };
+
+    ghost failures = { λ s. s.link.failures };
+
+    ghost ends = { λ s. s.link.ends };
+
+    ghost waits = { λ s. s.link.waits };
+
+    fn recv(&mut self, buffer: &mut [u8]) -> Result<Moved, LinkFault> {
+        self.link.recv(buffer)
+    }
+
+    fn send(&mut self, bytes: &[u8]) -> Result<Moved, LinkFault> {
+        self.link.send(bytes)
+    }
+}
+
+impl EndSending for Socket {
+    fn end_sending(&mut self) -> Result<(), LinkFault> {
+        match self.stream.shutdown(Shutdown::Write) {
+            Ok(()) => Ok(()),
+            Err(error) => Err(LinkFault { kind: error.kind() }),
+        }
+    }
+}
