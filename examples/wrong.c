@@ -299,6 +299,39 @@ static void try_handles(void)
     expect(lughemra_client_state(&core).refusal == LUGHEMRA_NO_CORE, "freed for good");
 }
 
+/* The same of a server, and calls for a client. */
+static void try_servers(void)
+{
+    struct lughemra_core none = {NULL, false}, core = {NULL, false};
+    uint8_t room[64];
+    expect(lughemra_server_new(NULL, 1, 100) == LUGHEMRA_NO_CORE, "a server in null");
+    expect(lughemra_server_feed(NULL, document, 23).state.refusal == LUGHEMRA_NO_CORE, "a piece for null");
+    expect(lughemra_server_request(NULL, 0, room, 64).refusal == LUGHEMRA_NO_CORE, "a request of null");
+    expect(lughemra_server_answer(NULL, 0, document, 23).refusal == LUGHEMRA_NO_CORE, "an answer of null");
+    expect(lughemra_server_output(NULL, room, 64).refusal == LUGHEMRA_NO_CORE, "output of null");
+    expect(lughemra_server_state(NULL).refusal == LUGHEMRA_NO_CORE && lughemra_server_sent(NULL, 0) == LUGHEMRA_NO_CORE
+           && lughemra_server_end(NULL) == LUGHEMRA_NO_CORE, "the rest of null");
+    expect(lughemra_server_feed(&none, document, 23).refusal == LUGHEMRA_NO_CORE, "a piece for no core");
+    expect(lughemra_server_new(&core, 0, 100) == LUGHEMRA_BAD_WINDOW && !core.there, "a window of 0");
+    expect(lughemra_server_new(&core, 1, 25) == LUGHEMRA_BAD_LIMIT && !core.there, "a limit of 25");
+    expect(lughemra_server_new(&core, 1, 100) == 0 && core.there, "a server");
+    expect(lughemra_server_new(&core, 1, 100) == LUGHEMRA_IN_USE && lughemra_client_new(&core, 1, 1, 100) == LUGHEMRA_IN_USE, "a full handle");
+    expect(lughemra_client_call(&core, document, 23, NULL, 0).refusal == LUGHEMRA_NO_CORE, "a call of a server");
+    memset(room, 0xee, sizeof room);
+    expect(lughemra_client_output(&core, room, 64).refusal == LUGHEMRA_NO_CORE && room[0] == 0xee, "output of a client, of a server");
+    expect(lughemra_client_feed(&core, document, 23).taken == 0 && lughemra_client_state(&core).refusal == LUGHEMRA_NO_CORE, "a piece for a client");
+    expect(lughemra_server_request(&core, SIZE_MAX, NULL, 9).refusal == LUGHEMRA_NOT_READY, "a request of any index");
+    expect(lughemra_server_answer(&core, 0, NULL, 9).refusal == LUGHEMRA_NOT_READY, "an answer to none");
+    expect(lughemra_server_sent(&core, 1) == LUGHEMRA_TOO_MANY, "more was sent than waits");
+    expect(lughemra_server_output(&core, NULL, 9).waiting == 0, "nothing waits");
+    expect(lughemra_server_feed(&core, NULL, 9).taken == 0, "a piece of null bytes");
+    expect(lughemra_server_feed(&core, document, 23).state.cause == LUGHEMRA_CLOSED_BY_MESSAGE, "bytes that are no message");
+    expect(lughemra_server_state(&core).fault.number == LUGHEMRA_MSG_OPCODE, "why it was closed");
+    expect(lughemra_server_answer(&core, 0, document, 23).refusal == LUGHEMRA_CLOSED, "an answer of a closed server");
+    expect(lughemra_server_end(&core) == 0 && lughemra_server_state(&core).cause == LUGHEMRA_CLOSED_BY_MESSAGE, "the first cause stays");
+    expect(lughemra_free(&core) == 0 && lughemra_server_state(&core).refusal == LUGHEMRA_NO_CORE, "freed for good");
+}
+
 int main(void)
 {
     try_null();
@@ -311,6 +344,7 @@ int main(void)
     try_builders();
     try_writing();
     try_handles();
+    try_servers();
     try_alignments();
     if (!failed)
         printf("ok\n");

@@ -371,6 +371,52 @@ class Count(ctypes.Structure):
     count: int
 
 
+class ServerState(ctypes.Structure):
+    """Lays out struct lughemra_server."""
+
+    _fields_ = [
+        ("refusal", c_uint32),
+        ("cause", c_uint32),
+        ("full", c_bool),
+        ("waiting", c_size_t),
+        ("fault", FaultStruct),
+        ("document_fault", FaultStruct),
+    ]
+    refusal: int
+    cause: int
+    full: bool
+    waiting: int
+    fault: FaultStruct
+    document_fault: FaultStruct
+
+
+class ServerFed(ctypes.Structure):
+    """Lays out struct lughemra_server_fed."""
+
+    _fields_ = [("refusal", c_uint32), ("taken", c_size_t), ("state", ServerState)]
+    refusal: int
+    taken: int
+    state: ServerState
+
+
+class RequestCopied(ctypes.Structure):
+    """Lays out struct lughemra_request."""
+
+    _fields_ = [("refusal", c_uint32), ("takes_more", c_bool), ("length", c_size_t)]
+    refusal: int
+    takes_more: bool
+    length: int
+
+
+class AnswerGiven(ctypes.Structure):
+    """Lays out struct lughemra_answer_given."""
+
+    _fields_ = [("refusal", c_uint32), ("fault", FaultStruct), ("document_fault", FaultStruct)]
+    refusal: int
+    fault: FaultStruct
+    document_fault: FaultStruct
+
+
 # Each function of the library, with what it returns.
 FUNCTIONS: dict[str, Optional[type]] = {
     "check_document": FaultStruct,
@@ -411,6 +457,14 @@ FUNCTIONS: dict[str, Optional[type]] = {
     "client_end": c_uint32,
     "client_state": ClientState,
     "client_outstanding": Count,
+    "server_new": c_uint32,
+    "server_feed": ServerFed,
+    "server_request": RequestCopied,
+    "server_answer": AnswerGiven,
+    "server_output": Output,
+    "server_sent": c_uint32,
+    "server_end": c_uint32,
+    "server_state": ServerState,
 }
 
 

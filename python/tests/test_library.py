@@ -43,6 +43,10 @@ STRUCTS = {
     "client": _library.ClientState,
     "fed": _library.Fed,
     "count": _library.Count,
+    "server": _library.ServerState,
+    "server_fed": _library.ServerFed,
+    "request": _library.RequestCopied,
+    "answer_given": _library.AnswerGiven,
 }
 # Fields that have another name here.
 RENAMED = {

@@ -12,9 +12,10 @@ use Rattle.byte_views.specs.Fault.{first_fault}
 use Rattle.core_handles.specs.declared.client_calls.CallMade.{CallMade}
 use Rattle.core_handles.specs.declared.client_replies.ReplyCopied.{ReplyCopied}
 use Rattle.core_handles.specs.declared.cores.Core.{Core}
+use Rattle.core_handles.specs.declared.cores.Core.TheVariants.{Client}
 use Rattle.core_handles.specs.Calling.{CallsWith, call_made, call_refused, is_made, is_refused}
 use Rattle.core_handles.specs.Making as making
-use Rattle.core_handles.specs.Making.{IsMade, IsPut, is_put}
+use Rattle.core_handles.specs.Making.{IsMade, IsPut}
 use Rattle.core_handles.specs.Numbers.{call_number, setup_number}
 use Rattle.core_handles.specs.Replying.{IsReplyCopied, no_memory, no_reply, none_ready}
 
@@ -30,9 +31,9 @@ there_is_none None some = refl
 
 -- a client of this number is put into the handle, or there is no memory for it
 pub client_is_put : (given first_id : ℤ) (window limit : ℕ) (old new : Option Core) (k : ClientSeen) (w : ℕ) → given ≡ first_id → old ≡ None
-    → ((e : ClientRefusal) → IsSetupRefusal given window limit e → ⊥) → k ≡ new_client given window limit → IsPut k new w → IsMade first_id window limit old new w
+    → ((e : ClientRefusal) → IsSetupRefusal given window limit e → ⊥) → k ≡ new_client given window limit → IsPut (Client k) new w → IsMade first_id window limit old new w
 client_is_put given first_id window limit old new k w same none good is put =
-    subst (λ (z : ℤ). IsMade z window limit old new w) same (is_put none good (subst (λ (x : ClientSeen). IsPut x new w) is put))
+    subst (λ (z : ℤ). IsMade z window limit old new w) same (making.is_put none good (subst (λ (x : ClientSeen). IsPut (Client x) new w) is put))
 
 -- a client of this number is refused
 pub client_is_refused : (given first_id : ℤ) (window limit : ℕ) (old : Option Core) (e : ClientRefusal) (w : ℕ) → given ≡ first_id → old ≡ None

@@ -5,3 +5,6 @@ pub mod Making
 pub mod Calling
 pub mod Replying
 pub mod States
+pub mod Standing
+pub mod Requesting
+pub mod Serving

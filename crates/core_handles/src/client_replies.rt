@@ -35,10 +35,9 @@ impl OutputCopied {
 }
 
 /// Copies the first bytes that wait to be sent to the front of `room`, as many as it has room for.
-pub(crate) fn copy_output(client: &Client, room: &mut [u8]) -> OutputCopied
-    ensures { IsOutputCopied client.now.requests.output room.old room.new result }
+pub(crate) fn copy_output(output: &[u8], room: &mut [u8]) -> OutputCopied
+    ensures { IsOutputCopied output.now room.old room.new result }
 {
-    let output = client.output();
     let waiting = output.len();
     let copied = waiting.min(room.len());
     room[..copied].copy_from_slice(&output[..copied]);

@@ -1,11 +1,11 @@
-//! What is done with the client of a handle. Where the handle has no core, each call answers 255.
+//! What is done with the client of a handle. Where the handle has no client, each call answers 255.
 
 ghost use Rattle.std.specs.Prelude.{◌≡◌, None, length};
 ghost use Rattle.wire_peer.specs.{ended, released};
 ghost use Rattle.byte_views.specs.Fault.{first_fault};
 ghost use Rattle.core_handles.specs.Calling.{IsCallMade, call_refused};
 ghost use Rattle.core_handles.specs.Handles.{OnClient, held};
-ghost use Rattle.core_handles.specs.Making.{IsFreed, IsMade, IsPut};
+ghost use Rattle.core_handles.specs.Making.{IsFreed, IsMade};
 ghost use Rattle.core_handles.specs.Replying.{IsOutputCopied, IsReplyCopied, no_output, no_reply};
 ghost use Rattle.core_handles.specs.States.{IsFed, IsSent, client_shown, count_told, no_count};
 ghost use Rattle.core_handles.specs.States.{no_feed, no_state};
@@ -17,21 +17,9 @@ use crate::client_states::{
 };
 use crate::cores::Core;
 use crate::handle::CoreHandle;
-use crate::numbers::{DONE, IN_USE, NO_CORE, NO_MEMORY, setup_number};
+use crate::numbers::{DONE, IN_USE, NO_CORE, setup_number};
 use std::alloc::Global;
 use wire_peer::{CallKind, Client};
-
-/// Puts a client into a handle of no core, as `Client::new` makes it.
-fn put_client(alloc: Global, client: Client, core: &mut CoreHandle) -> u32
-    requires { held core.old ≡ None }
-    ensures { IsPut client (held core.new) result }
-{
-    let Ok(boxed) = Box::new(alloc, Core::Client(client)) else {
-        return NO_MEMORY;
-    };
-    core.put(boxed);
-    DONE
-}
 
 /// Puts a client into a handle of no core, as `Client::new` makes it.
 ///
@@ -50,7 +38,7 @@ pub fn client_new(
         return IN_USE;
     }
     match Client::new(alloc, first_id, window, limit) {
-        Ok(client) => put_client(alloc, client, core),
+        Ok(client) => core.put_new(alloc, Core::Client(client)),
         Err(refusal) => setup_number(refusal),
     }
 }
@@ -84,7 +72,10 @@ pub fn client_call(
     let Some(mut boxed) = core.take(alloc) else {
         return CallMade::no_core();
     };
-    let Core::Client(client) = &mut *boxed;
+    let Core::Client(client) = &mut *boxed else {
+        core.put(boxed);
+        return CallMade::no_core();
+    };
     let made = make_call(alloc, client, kind, body, sequences);
     core.put(boxed);
     made
@@ -94,13 +85,16 @@ pub fn client_call(
 pub fn client_output(alloc: Global, core: &mut CoreHandle, room: &mut [u8]) -> OutputCopied
     ensures told { OnClient (held core.old) (held core.new) no_output result
         (λ k after. IsOutputCopied k.requests.output room.old room.new result × (after ≡ k)) }
-    ensures none { held core.old ≡ None → room.new ≡ room.old }
+    ensures none { result.refusal ≡ 255 → room.new ≡ room.old }
 {
     let Some(boxed) = core.take(alloc) else {
         return OutputCopied::no_core();
     };
-    let Core::Client(client) = &*boxed;
-    let copied = copy_output(client, room);
+    let Core::Client(client) = &*boxed else {
+        core.put(boxed);
+        return OutputCopied::no_core();
+    };
+    let copied = copy_output(client.output(), room);
     core.put(boxed);
     copied
 }
@@ -114,7 +108,10 @@ pub fn client_sent(alloc: Global, core: &mut CoreHandle, n: usize) -> u32
     let Some(mut boxed) = core.take(alloc) else {
         return NO_CORE;
     };
-    let Core::Client(client) = &mut *boxed;
+    let Core::Client(client) = &mut *boxed else {
+        core.put(boxed);
+        return NO_CORE;
+    };
     let told = take_sent(client, n);
     core.put(boxed);
     told
@@ -128,7 +125,10 @@ pub fn client_feed(alloc: Global, core: &mut CoreHandle, piece: &[u8]) -> PieceF
     let Some(mut boxed) = core.take(alloc) else {
         return PieceFed::no_core();
     };
-    let Core::Client(client) = &mut *boxed;
+    let Core::Client(client) = &mut *boxed else {
+        core.put(boxed);
+        return PieceFed::no_core();
+    };
     let fed = feed_piece(client, piece);
     core.put(boxed);
     fed
@@ -139,12 +139,15 @@ pub fn client_feed(alloc: Global, core: &mut CoreHandle, piece: &[u8]) -> PieceF
 pub fn client_reply(alloc: Global, core: &mut CoreHandle, room: &mut [u8]) -> ReplyCopied
     ensures told { OnClient (held core.old) (held core.new) (no_reply 255) result
         (λ k after. IsReplyCopied k room.old room.new result × (after ≡ k)) }
-    ensures none { held core.old ≡ None → room.new ≡ room.old }
+    ensures none { result.refusal ≡ 255 → room.new ≡ room.old }
 {
     let Some(boxed) = core.take(alloc) else {
         return ReplyCopied::no_core();
     };
-    let Core::Client(client) = &*boxed;
+    let Core::Client(client) = &*boxed else {
+        core.put(boxed);
+        return ReplyCopied::no_core();
+    };
     let copied = copy_reply(alloc, client, room);
     core.put(boxed);
     copied
@@ -158,7 +161,10 @@ pub fn client_release(alloc: Global, core: &mut CoreHandle) -> u32
     let Some(mut boxed) = core.take(alloc) else {
         return NO_CORE;
     };
-    let Core::Client(client) = &mut *boxed;
+    let Core::Client(client) = &mut *boxed else {
+        core.put(boxed);
+        return NO_CORE;
+    };
     client.release();
     core.put(boxed);
     DONE
@@ -172,7 +178,10 @@ pub fn client_end(alloc: Global, core: &mut CoreHandle) -> u32
     let Some(mut boxed) = core.take(alloc) else {
         return NO_CORE;
     };
-    let Core::Client(client) = &mut *boxed;
+    let Core::Client(client) = &mut *boxed else {
+        core.put(boxed);
+        return NO_CORE;
+    };
     client.end();
     core.put(boxed);
     DONE
@@ -186,7 +195,10 @@ pub fn client_state(alloc: Global, core: &mut CoreHandle) -> ClientShown
     let Some(boxed) = core.take(alloc) else {
         return ClientShown::no_core();
     };
-    let Core::Client(client) = &*boxed;
+    let Core::Client(client) = &*boxed else {
+        core.put(boxed);
+        return ClientShown::no_core();
+    };
     let shown = show(client);
     core.put(boxed);
     shown
@@ -200,7 +212,10 @@ pub fn client_outstanding(alloc: Global, core: &mut CoreHandle) -> CountTold
     let Some(boxed) = core.take(alloc) else {
         return CountTold::no_core();
     };
-    let Core::Client(client) = &*boxed;
+    let Core::Client(client) = &*boxed else {
+        core.put(boxed);
+        return CountTold::no_core();
+    };
     let told = count_outstanding(client);
     core.put(boxed);
     told

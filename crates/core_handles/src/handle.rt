@@ -6,6 +6,7 @@ ghost use Rattle.core_handles.specs.declared.cores.Core.{Core};
 ghost use Rattle.core_handles.specs.Owning.{core_coded, handle_owns};
 
 use crate::cores::Core;
+use crate::numbers::{DONE, NO_MEMORY};
 use crate::parts::Parts;
 use std::alloc::Global;
 use std::marker::Model;
@@ -77,6 +78,7 @@ pub struct CoreHandle {
 
 impl CoreHandle {
     ghost use Rattle.core_handles.specs.Handles.{held};
+    ghost use Rattle.core_handles.specs.Making.{IsPut};
 
     /// Returns a handle of no core.
     pub(crate) fn none(alloc: Global) -> CoreHandle
@@ -125,5 +127,17 @@ impl CoreHandle {
     {
         let CoreHandle { handle, there: _ } = replace(self, CoreHandle::of(core));
         handle.discard();
+    }
+
+    /// Puts a core into a handle of none. Returns `DONE`, or `NO_MEMORY`, and then there is none.
+    pub(crate) fn put_new(&mut self, alloc: Global, core: Core) -> u32
+        requires { held self.old ≡ None }
+        ensures { IsPut core (held self.new) result }
+    {
+        let Ok(boxed) = Box::new(alloc, core) else {
+            return NO_MEMORY;
+        };
+        self.put(boxed);
+        DONE
     }
 }

@@ -1,20 +1,28 @@
-//! The numbers of refusals and causes. Those of calls are the ones that the language of scripts has.
+//! The numbers of refusals and causes. Those of calls are the ones that scripts have.
 
 ghost use Rattle.std.specs.Prelude.{◌≡◌};
-ghost use Rattle.core_handles.specs.Numbers.{call_number, cause_number, setup_number};
+ghost use Rattle.core_handles.specs.Numbers.{answer_number, call_number, cause_number};
+ghost use Rattle.core_handles.specs.Numbers.{server_cause_number, server_setup_number};
+ghost use Rattle.core_handles.specs.Numbers.{setup_number};
 
-use wire_peer::{CallRefusal, ClientCause, ClientRefusal};
+use wire_peer::{
+    AnswerRefusal, CallRefusal, ClientCause, ClientRefusal, ServerCause, ServerRefusal,
+};
 
 /// It is done.
 pub(crate) const DONE: u32 = 0;
 
-/// The body and the document sequences aren't the content of a message.
+/// The client or the server is closed.
+pub(crate) const CLOSED: u32 = 1;
+
+/// The body and the document sequences aren't the content of a message, or the documents aren't
+/// bodies of messages.
 pub(crate) const BAD_CONTENT: u32 = 4;
 
 /// The room is too short.
 pub(crate) const NO_ROOM: u32 = 5;
 
-/// No reply is ready.
+/// No reply is ready, or no such request waits.
 pub(crate) const NOT_READY: u32 = 7;
 
 /// More bytes were sent than wait.
@@ -22,6 +30,9 @@ pub(crate) const TOO_MANY: u32 = 8;
 
 /// The handle has a core.
 pub(crate) const IN_USE: u32 = 9;
+
+/// The request may not get as many answers.
+pub(crate) const BAD_COUNT: u32 = 10;
 
 /// The allocator refused memory.
 pub(crate) const NO_MEMORY: u32 = 254;
@@ -34,7 +45,7 @@ pub(crate) fn call_number(refusal: CallRefusal) -> u32
     ensures { result ≡ call_number refusal }
 {
     match refusal {
-        CallRefusal::Closed => 1,
+        CallRefusal::Closed => CLOSED,
         CallRefusal::WindowFull => 2,
         CallRefusal::TooLarge => 3,
         CallRefusal::NumbersSpent => 6,
@@ -64,5 +75,44 @@ pub(crate) fn cause_number(cause: ClientCause) -> u32
         ClientCause::StreamBroken => 4,
         ClientCause::Ended => 5,
         ClientCause::EndedInside => 6,
+    }
+}
+
+/// Returns the number of the reason why a server isn't made.
+pub(crate) fn server_setup_number(refusal: ServerRefusal) -> u32
+    ensures { result ≡ server_setup_number refusal }
+{
+    match refusal {
+        ServerRefusal::BadWindow => 2,
+        ServerRefusal::BadLimit => 3,
+        ServerRefusal::OutOfMemory => NO_MEMORY,
+    }
+}
+
+/// Returns the number of the cause for which a server closed.
+pub(crate) fn server_cause_number(cause: ServerCause) -> u32
+    ensures { result ≡ server_cause_number cause }
+{
+    match cause {
+        ServerCause::Message(_) => 1,
+        ServerCause::Ended => 5,
+        ServerCause::EndedInside => 6,
+        ServerCause::ReplyTooLarge => 7,
+        ServerCause::NoMemory => 8,
+        ServerCause::HandlerFailed => 9,
+    }
+}
+
+/// Returns the number of the reason why a request isn't answered. Its handler's answers are as many
+/// as it may get.
+pub(crate) fn answer_number(refusal: AnswerRefusal) -> u32
+    ensures { result ≡ answer_number refusal }
+{
+    match refusal {
+        AnswerRefusal::Closed => CLOSED,
+        AnswerRefusal::NoSuchRequest => NOT_READY,
+        AnswerRefusal::OutOfMemory => NO_MEMORY,
+        AnswerRefusal::NowClosed(ServerCause::ReplyTooLarge) => 3,
+        AnswerRefusal::NowClosed(_) => NO_MEMORY,
     }
 }

@@ -1,6 +1,6 @@
 /* Lughemra for C: checks of BSON 1.1 documents and of MongoDB's OP_MSG, walks over both, and messages that come in pieces,
- * over bytes that the caller holds; building of documents and of messages in a room of the caller's; and the client's end of a
- * connection, by a handle.
+ * over bytes that the caller holds; building of documents and of messages in a room of the caller's; and the client's end or the
+ * server's of a connection, by a handle.
  *
  * Each function reads `length` bytes at `bytes`, and keeps nothing but what a handle holds. What it returns is proved, for all
  * bytes, from what the caller owes:
@@ -411,22 +411,24 @@ struct lughemra_core {
     bool there;
 };
 
-/* Why a call with a handle isn't made. Then nothing changed. The first three and the sixth are the numbers that scripts have. */
+/* Why a call with a handle isn't made. Then nothing changed, unless lughemra_server_answer closed its server. The first three
+ * and the sixth are the numbers that scripts have. */
 enum lughemra_core_refusal {
-    LUGHEMRA_CLOSED = 1,        /* the client is closed */
+    LUGHEMRA_CLOSED = 1,        /* the client or the server is closed */
     LUGHEMRA_WINDOW_FULL = 2,   /* as many calls await a reply as the window allows */
-    LUGHEMRA_CALL_TOO_LARGE = 3, /* the request would have more bytes than the limit */
-    LUGHEMRA_BAD_CONTENT = 4,   /* the body and the sequences aren't those of a message */
+    LUGHEMRA_CALL_TOO_LARGE = 3, /* the request, or a reply to it, would have more bytes than the limit */
+    LUGHEMRA_BAD_CONTENT = 4,   /* the body and the sequences aren't those of a message, or the answers aren't bodies of messages */
                                 /* LUGHEMRA_NO_ROOM, 5: the room is too short */
     LUGHEMRA_NUMBERS_SPENT = 6, /* the greatest call number was given */
-    LUGHEMRA_NOT_READY = 7,     /* no reply is ready */
+    LUGHEMRA_NOT_READY = 7,     /* no reply is ready, or no such request waits */
     LUGHEMRA_TOO_MANY = 8,      /* fewer bytes wait than were sent */
     LUGHEMRA_IN_USE = 9,        /* the handle has a core */
+    LUGHEMRA_BAD_COUNT = 10,    /* the request may not get as many answers, or none at all are given */
                                 /* LUGHEMRA_NO_MEMORY, 254 */
-    LUGHEMRA_NO_CORE = 255      /* the handle has no core, or the pointer to it is null */
+    LUGHEMRA_NO_CORE = 255      /* the handle has no core, or one of another kind, or the pointer to it is null */
 };
 
-/* Why a client isn't made, besides LUGHEMRA_IN_USE, LUGHEMRA_NO_MEMORY and LUGHEMRA_NO_CORE. */
+/* Why a client or a server isn't made, besides LUGHEMRA_IN_USE, LUGHEMRA_NO_MEMORY and LUGHEMRA_NO_CORE. */
 enum lughemra_client_refusal {
     LUGHEMRA_BAD_FIRST_ID = 1, /* it isn't from 1 to 2,147,483,647 */
     LUGHEMRA_BAD_WINDOW = 2,   /* it isn't from 1 to 1,024 */
@@ -442,6 +444,12 @@ enum lughemra_client_cause {
     LUGHEMRA_STREAM_BROKEN = 4,       /* a call has had a part, and a message answers neither its request nor that part */
     LUGHEMRA_CLOSED_BY_END = 5,       /* no more bytes come */
     LUGHEMRA_CLOSED_BY_END_INSIDE = 6 /* no more bytes come, and the last ones ended inside a message */
+};
+
+/* Why a server was closed, besides LUGHEMRA_CLOSED_BY_MESSAGE, _BY_END and _BY_END_INSIDE. It is LUGHEMRA_OPEN, too. */
+enum lughemra_server_cause {
+    LUGHEMRA_REPLY_TOO_LARGE = 7, /* a reply would have had more bytes than the limit */
+    LUGHEMRA_REPLY_NO_MEMORY = 8  /* there was no memory for the replies to a request */
 };
 
 /* What became of a call. */
@@ -513,6 +521,54 @@ struct lughemra_count {
     size_t count;
 };
 
+/* How a server stands. */
+struct lughemra_server {
+    /* 0, or LUGHEMRA_NO_CORE. */
+    uint32_t refusal;
+    /* Why it was closed, by an enum lughemra_server_cause: 0 if it is open. */
+    uint32_t cause;
+    /* As many requests wait as the window allows. No bytes are taken then. */
+    bool full;
+    /* How many requests wait. */
+    size_t waiting;
+    /* If it is CLOSED_BY_MESSAGE, the first fault, by an enum lughemra_message_fault. */
+    struct lughemra_fault fault;
+    /* The document's own fault, as in struct lughemra_message_check. */
+    struct lughemra_fault document_fault;
+};
+
+/* What became of a piece of bytes that a server was fed. */
+struct lughemra_server_fed {
+    /* 0, or LUGHEMRA_NO_MEMORY or LUGHEMRA_NO_CORE: then nothing changed, and the piece may be fed again. */
+    uint32_t refusal;
+    /* How many of its first bytes were taken. */
+    size_t taken;
+    /* How the server stands then. */
+    struct lughemra_server state;
+};
+
+/* A request that waits. */
+struct lughemra_request {
+    /* 0 if it was copied, else LUGHEMRA_NO_ROOM, NOT_READY, NO_MEMORY or NO_CORE. Then nothing changed. */
+    uint32_t refusal;
+    /* More than one answer may be given. */
+    bool takes_more;
+    /* The number of its bytes, if it was copied or has no room, else 0. */
+    size_t length;
+};
+
+/* What became of an answer. */
+struct lughemra_answer_given {
+    /* 0 if the request was answered, else LUGHEMRA_CLOSED, CALL_TOO_LARGE, BAD_CONTENT, NOT_READY, BAD_COUNT, NO_MEMORY or
+     * NO_CORE. The server is closed where it is CALL_TOO_LARGE, and may be where it is NO_MEMORY; else nothing changed. */
+    uint32_t refusal;
+    /* If it is BAD_CONTENT, the fault, by an enum lughemra_message_fault, that a message would have whose body is the first of the
+     * documents that is no answer, at that document's offset: DOCUMENT, REPEATED_FIELD, or LENGTH. */
+    struct lughemra_fault fault;
+    /* The document's own fault, as in struct lughemra_message_check. */
+    struct lughemra_fault document_fault;
+};
+
 /* ---- the functions of the library, to which no pointer may be null: use those below */
 
 struct lughemra_fault lughemra_check_document_nonnull(const uint8_t *bytes, size_t length);
@@ -575,6 +631,15 @@ uint32_t lughemra_client_release_nonnull(struct lughemra_core *core);
 uint32_t lughemra_client_end_nonnull(struct lughemra_core *core);
 struct lughemra_client lughemra_client_state_nonnull(struct lughemra_core *core);
 struct lughemra_count lughemra_client_outstanding_nonnull(struct lughemra_core *core);
+uint32_t lughemra_server_new_nonnull(struct lughemra_core *core, size_t window, uint32_t limit);
+struct lughemra_server_fed lughemra_server_feed_nonnull(struct lughemra_core *core, const uint8_t *piece, size_t length);
+struct lughemra_request lughemra_server_request_nonnull(struct lughemra_core *core, size_t k, uint8_t *room, size_t room_length);
+struct lughemra_answer_given lughemra_server_answer_nonnull(struct lughemra_core *core, size_t k, const uint8_t *documents,
+                                                            size_t length);
+struct lughemra_output lughemra_server_output_nonnull(struct lughemra_core *core, uint8_t *room, size_t room_length);
+uint32_t lughemra_server_sent_nonnull(struct lughemra_core *core, size_t n);
+uint32_t lughemra_server_end_nonnull(struct lughemra_core *core);
+struct lughemra_server lughemra_server_state_nonnull(struct lughemra_core *core);
 
 /* Returns `bytes`, or if that is null the address of a byte, which is no one's to read. */
 static inline const uint8_t *lughemra_nonnull(const uint8_t *bytes)
@@ -924,17 +989,40 @@ static inline struct lughemra_written lughemra_write_message(const struct lughem
                                           lughemra_nonnull_room(room), lughemra_length(room, room_length));
 }
 
-/* ---- the client's end of a connection, whose bytes go in and out by way of the program
+/* ---- handles, each of one end of a connection, whose bytes go in and out by way of the program
  *
- * A handle holds a client, which has memory of its own until lughemra_free gives it back. Of the program a handle wants this:
+ * A handle holds a client or a server, which has memory of its own until lughemra_free gives it back. Of the program a handle
+ * wants this:
  *
  *   - it begins as {NULL, false}, its fields are written by these functions alone, and no one reads or writes what it points to;
  *   - it has one owner: a copy of the struct isn't used beside the original, nor after a call with that;
  *   - one call at a time, in the thread that made it; what is handed in lies neither in the handle nor where it points to;
  *   - malloc, realloc and free are of one allocator all the while.
  *
- * Nothing is lent: what waits to be sent and replies are copied into the program's room. A call may take memory; where there is
- * none, it says so, and nothing changed. Each takes a null pointer to a handle for one of no core. */
+ * Nothing is lent: what waits to be sent, replies and requests are copied into the program's room. A call may take memory; where
+ * there is none, it says so, and nothing changed. Each takes a null pointer to a handle for one of no core, and what is for a
+ * client takes a handle of a server for that, too, and the other way round. */
+
+/* Frees the core of a handle, which has none then. Returns 0, or LUGHEMRA_NO_CORE where it had none. */
+static inline uint32_t lughemra_free(struct lughemra_core *core)
+{
+    return core != NULL ? lughemra_free_nonnull(core) : LUGHEMRA_NO_CORE;
+}
+
+/* Returns the name of an enum lughemra_core_refusal, as "WindowFull", or "" if there is none of this number. */
+static inline const char *lughemra_core_refusal_name(uint32_t number)
+{
+    static const char *const words[] = {"",       "Closed",       "WindowFull", "TooLarge", "BadContent",
+                                        "NoRoom", "NumbersSpent", "NotReady",   "TooMany",  "InUse",
+                                        "BadCount"};
+    if (number == LUGHEMRA_NO_MEMORY)
+        return "NoMemory";
+    if (number == LUGHEMRA_NO_CORE)
+        return "NoCore";
+    return number < sizeof words / sizeof words[0] ? words[number] : "";
+}
+
+/* ---- the client's end of a connection */
 
 /* Puts a client into a handle of no core. Its requests have ids from `first_id` on; at most `window` calls await a reply, and
  * messages both ways have at most `limit` bytes. Returns 0, or why not: an enum lughemra_client_refusal, LUGHEMRA_IN_USE,
@@ -942,12 +1030,6 @@ static inline struct lughemra_written lughemra_write_message(const struct lughem
 static inline uint32_t lughemra_client_new(struct lughemra_core *core, int32_t first_id, size_t window, uint32_t limit)
 {
     return core != NULL ? lughemra_client_new_nonnull(core, first_id, window, limit) : LUGHEMRA_NO_CORE;
-}
-
-/* Frees the core of a handle, which has none then. Returns 0, or LUGHEMRA_NO_CORE where it had none. */
-static inline uint32_t lughemra_free(struct lughemra_core *core)
-{
-    return core != NULL ? lughemra_free_nonnull(core) : LUGHEMRA_NO_CORE;
 }
 
 static inline struct lughemra_call_made lughemra_not_made(void)
@@ -1063,23 +1145,96 @@ static inline struct lughemra_count lughemra_client_outstanding(struct lughemra_
     return core != NULL ? lughemra_client_outstanding_nonnull(core) : none;
 }
 
-/* Returns the name of an enum lughemra_core_refusal, as "WindowFull", or "" if there is none of this number. */
-static inline const char *lughemra_core_refusal_name(uint32_t number)
-{
-    static const char *const words[] = {"",       "Closed",       "WindowFull", "TooLarge", "BadContent",
-                                        "NoRoom", "NumbersSpent", "NotReady",   "TooMany",  "InUse"};
-    if (number == LUGHEMRA_NO_MEMORY)
-        return "NoMemory";
-    if (number == LUGHEMRA_NO_CORE)
-        return "NoCore";
-    return number < sizeof words / sizeof words[0] ? words[number] : "";
-}
-
 /* Returns the name of an enum lughemra_client_cause, as "UnknownReply", or "" if there is none of this number. */
 static inline const char *lughemra_client_cause_name(uint32_t number)
 {
     static const char *const words[] = {"",      "Message",    "UnknownReply", "MoreNotAllowed", "StreamBroken",
                                         "Ended", "EndedInside"};
+    return number < sizeof words / sizeof words[0] ? words[number] : "";
+}
+
+/* ---- the server's end of a connection */
+
+/* Puts a server into a handle of no core. At most `window` requests wait in it, and messages both ways have at most `limit`
+ * bytes. Returns 0, or why not: LUGHEMRA_BAD_WINDOW, LUGHEMRA_BAD_LIMIT, LUGHEMRA_IN_USE, LUGHEMRA_NO_MEMORY or
+ * LUGHEMRA_NO_CORE. */
+static inline uint32_t lughemra_server_new(struct lughemra_core *core, size_t window, uint32_t limit)
+{
+    return core != NULL ? lughemra_server_new_nonnull(core, window, limit) : LUGHEMRA_NO_CORE;
+}
+
+/* Feeds the server the first bytes of a piece that came, up to the end of the current message, and tells how many it took. It
+ * takes none while as many requests wait as the window allows, or once it is closed. A message that becomes whole waits behind
+ * the others. Bad bytes close the server. */
+static inline struct lughemra_server_fed lughemra_server_feed(struct lughemra_core *core, const uint8_t *piece, size_t length)
+{
+    static const struct lughemra_server_fed none = {
+        LUGHEMRA_NO_CORE, 0, {LUGHEMRA_NO_CORE, 0, false, 0, {0, 0}, {0, 0}}};
+    if (core == NULL)
+        return none;
+    return lughemra_server_feed_nonnull(core, lughemra_nonnull(piece), lughemra_length(piece, length));
+}
+
+/* Copies the request of index `k` among those that wait, in the order in which they came, to the front of the room, of
+ * `room_length` bytes, as a message with no ids and with its flags, for lughemra_message_parts. If it has no room, nothing is
+ * written, and its length is told. It waits until it is answered. A request whose flags say that more will come wants no reply:
+ * it is answered like any other, with one document, and nothing is sent. */
+static inline struct lughemra_request lughemra_server_request(struct lughemra_core *core, size_t k, uint8_t *room,
+                                                              size_t room_length)
+{
+    static const struct lughemra_request none = {LUGHEMRA_NO_CORE, false, 0};
+    if (core == NULL)
+        return none;
+    return lughemra_server_request_nonnull(core, k, lughemra_nonnull_room(room), lughemra_length(room, room_length));
+}
+
+/* Answers the request of index `k` among those that wait, with documents that stand back to back: each is the body of an answer.
+ * A request gets one, or, if it takes more, any number of them but none. Its replies wait to be sent then, and it waits no
+ * longer, so those behind it have the next lower index. Where a reply would have more bytes than the limit, or there is no memory
+ * for the replies, the request has left, nothing of its replies waits, and the server is closed. */
+static inline struct lughemra_answer_given lughemra_server_answer(struct lughemra_core *core, size_t k,
+                                                                  const uint8_t *documents, size_t length)
+{
+    static const struct lughemra_answer_given none = {LUGHEMRA_NO_CORE, {0, 0}, {0, 0}};
+    if (core == NULL)
+        return none;
+    return lughemra_server_answer_nonnull(core, k, lughemra_nonnull(documents), lughemra_length(documents, length));
+}
+
+/* Copies the first bytes that wait to be sent, as lughemra_client_output does. What waits may be sent after the server is
+ * closed, too. */
+static inline struct lughemra_output lughemra_server_output(struct lughemra_core *core, uint8_t *room, size_t room_length)
+{
+    static const struct lughemra_output none = {LUGHEMRA_NO_CORE, 0, 0};
+    if (core == NULL)
+        return none;
+    return lughemra_server_output_nonnull(core, lughemra_nonnull_room(room), lughemra_length(room, room_length));
+}
+
+/* Takes the first `n` bytes that wait off, since they were sent. Returns 0, LUGHEMRA_TOO_MANY or LUGHEMRA_NO_CORE. */
+static inline uint32_t lughemra_server_sent(struct lughemra_core *core, size_t n)
+{
+    return core != NULL ? lughemra_server_sent_nonnull(core, n) : LUGHEMRA_NO_CORE;
+}
+
+/* Tells the server that no more bytes come, which closes it, if it is open. Returns 0 or LUGHEMRA_NO_CORE. */
+static inline uint32_t lughemra_server_end(struct lughemra_core *core)
+{
+    return core != NULL ? lughemra_server_end_nonnull(core) : LUGHEMRA_NO_CORE;
+}
+
+/* Returns how the server stands. */
+static inline struct lughemra_server lughemra_server_state(struct lughemra_core *core)
+{
+    static const struct lughemra_server none = {LUGHEMRA_NO_CORE, 0, false, 0, {0, 0}, {0, 0}};
+    return core != NULL ? lughemra_server_state_nonnull(core) : none;
+}
+
+/* Returns the name of why a server was closed, as "ReplyTooLarge", or "" if there is no cause of this number. */
+static inline const char *lughemra_server_cause_name(uint32_t number)
+{
+    static const char *const words[] = {"",      "Message",     "",              "",        "",
+                                        "Ended", "EndedInside", "ReplyTooLarge", "NoMemory"};
     return number < sizeof words / sizeof words[0] ? words[number] : "";
 }
 

@@ -94,7 +94,7 @@ pub extern "C" fn lughemra_client_output_nonnull(
 ) -> OutputCopied
     ensures told { OnClient (held core.old) (held core.new) no_output result
         (λ k after. IsOutputCopied k.requests.output room.old room.new result × (after ≡ k)) }
-    ensures none { held core.old ≡ None → room.new ≡ room.old }
+    ensures none { result.refusal ≡ 255 → room.new ≡ room.old }
 {
     core_handles::client_output(alloc, core, room)
 }
@@ -108,7 +108,7 @@ pub extern "C" fn lughemra_client_reply_nonnull(
 ) -> ReplyCopied
     ensures told { OnClient (held core.old) (held core.new) (no_reply 255) result
         (λ k after. IsReplyCopied k room.old room.new result × (after ≡ k)) }
-    ensures none { held core.old ≡ None → room.new ≡ room.old }
+    ensures none { result.refusal ≡ 255 → room.new ≡ room.old }
 {
     core_handles::client_reply(alloc, core, room)
 }

@@ -1,5 +1,6 @@
 //! Checks documents and messages for programs in C, walks over them, writes the texts of documents,
-//! reads messages in pieces, builds documents and messages, and is the client's end of a connection.
+//! reads messages in pieces, builds documents and messages, and is the client's end or the server's
+//! of a connection.
 //!
 //! Each export hands its arguments to the function of byte_views, byte_builder or core_handles that
 //! its comment names, and promises what that one does. None has a `requires`, so a C program only
@@ -17,5 +18,6 @@ mod builds;
 mod clients;
 mod documents;
 mod messages;
+mod servers;
 mod texts;
 mod walks;

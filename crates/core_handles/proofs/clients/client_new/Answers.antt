@@ -9,9 +9,9 @@ returns-then-core c = in_use (there_is_one c.args.core.now.handle.core (sym c.ar
 
 pub returns-in-Ok : goal.returns-in-Ok
 returns-in-Ok c =
-    client_is_put _ c.args.first_id c.args.window c.args.limit c.args.core.now.handle.core c.put_client.new.core.handle.core c.in-Ok.client c.put_client.result
+    client_is_put _ c.args.first_id c.args.window c.args.limit c.args.core.now.handle.core c.put_new.new.self.handle.core c.in-Ok.client c.put_new.result
     (to_z-of_z w32 c.args.first_id c.ranges.first_id)
-    (there_is_none c.args.core.now.handle.core (sym c.args.core.now.known ∙ c.if-core.false)) c.in-Ok.ensures.0 c.in-Ok.ensures.1 c.put_client.ensures
+    (there_is_none c.args.core.now.handle.core (sym c.args.core.now.known ∙ c.if-core.false)) c.in-Ok.ensures.0 c.in-Ok.ensures.1 c.put_new.ensures
 
 pub returns-in-Err : goal.returns-in-Err
 returns-in-Err c =
