@@ -332,6 +332,38 @@ static void try_servers(void)
     expect(lughemra_free(&core) == 0 && lughemra_server_state(&core).refusal == LUGHEMRA_NO_CORE, "freed for good");
 }
 
+/* Calls of pools with handles of none, and with numbers out of range. */
+static void try_pools(void)
+{
+    struct lughemra_core none = {NULL, false}, client = {NULL, false}, pool = {NULL, false};
+    struct lughemra_core *without[] = {NULL, &none, &client};
+    struct lughemra_checked_out out = {0, true, 0};
+    expect(lughemra_client_new(&client, 1, 1, 100) == 0 && lughemra_pool_new(&client, 1) == LUGHEMRA_IN_USE, "a pool in a client");
+    for (int i = 0; i < 3; i++) {
+        out = lughemra_pool_check_out(without[i]);
+        expect(out.refusal == LUGHEMRA_NO_CORE && !out.is_new && out.id == 0, "no pool lends");
+        expect(lughemra_pool_check_in(without[i], 1, true).refusal == LUGHEMRA_NO_CORE, "no pool takes back");
+        expect(lughemra_pool_clear(without[i]) == LUGHEMRA_NO_CORE && lughemra_pool_close(without[i]) == LUGHEMRA_NO_CORE,
+               "the rest of no pool");
+    }
+    expect(lughemra_client_state(&client).refusal == 0 && lughemra_free(&client) == 0, "the client is left");
+    expect(lughemra_pool_new(NULL, 1) == LUGHEMRA_NO_CORE, "a pool in null");
+    expect(lughemra_pool_new(&pool, 0) == LUGHEMRA_BAD_MAX && !pool.there, "a pool of 0");
+    expect(lughemra_pool_new(&pool, 1025) == LUGHEMRA_BAD_MAX && !pool.there, "a pool of 1,025");
+    expect(lughemra_pool_new(&pool, SIZE_MAX) == LUGHEMRA_BAD_MAX && !pool.there, "a pool of any number");
+    expect(lughemra_pool_new(&pool, 1024) == 0 && lughemra_pool_new(&pool, 1) == LUGHEMRA_IN_USE, "a pool");
+    expect(lughemra_client_new(&pool, 1, 1, 100) == LUGHEMRA_IN_USE && lughemra_client_end(&pool) == LUGHEMRA_NO_CORE,
+           "a client in a pool");
+    for (uint64_t id = 1; id <= 1024 && out.refusal != LUGHEMRA_POOL_FULL; id++) {
+        out = lughemra_pool_check_out(&pool);
+        expect(out.refusal == 0 && out.is_new && out.id == id, "new ids rise");
+    }
+    expect(lughemra_pool_check_out(&pool).refusal == LUGHEMRA_POOL_FULL, "a full pool");
+    expect(lughemra_pool_check_in(&pool, 0, true).refusal == LUGHEMRA_NOT_LENT, "the id 0");
+    expect(lughemra_pool_check_in(&pool, UINT64_MAX, true).refusal == LUGHEMRA_NOT_LENT, "the greatest id");
+    expect(lughemra_free(&pool) == 0 && lughemra_pool_check_out(&pool).refusal == LUGHEMRA_NO_CORE, "freed for good");
+}
+
 int main(void)
 {
     try_null();
@@ -345,6 +377,7 @@ int main(void)
     try_writing();
     try_handles();
     try_servers();
+    try_pools();
     try_alignments();
     if (!failed)
         printf("ok\n");

@@ -417,6 +417,23 @@ class AnswerGiven(ctypes.Structure):
     document_fault: FaultStruct
 
 
+class CheckedOut(ctypes.Structure):
+    """Lays out struct lughemra_checked_out."""
+
+    _fields_ = [("refusal", c_uint32), ("is_new", c_bool), ("id", c_uint64)]
+    refusal: int
+    is_new: bool
+    id: int
+
+
+class CheckedIn(ctypes.Structure):
+    """Lays out struct lughemra_checked_in."""
+
+    _fields_ = [("refusal", c_uint32), ("kept", c_bool)]
+    refusal: int
+    kept: bool
+
+
 # Each function of the library, with what it returns.
 FUNCTIONS: dict[str, Optional[type]] = {
     "check_document": FaultStruct,
@@ -465,6 +482,11 @@ FUNCTIONS: dict[str, Optional[type]] = {
     "server_sent": c_uint32,
     "server_end": c_uint32,
     "server_state": ServerState,
+    "pool_new": c_uint32,
+    "pool_check_out": CheckedOut,
+    "pool_check_in": CheckedIn,
+    "pool_clear": c_uint32,
+    "pool_close": c_uint32,
 }
 
 

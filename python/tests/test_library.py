@@ -47,6 +47,8 @@ STRUCTS = {
     "server_fed": _library.ServerFed,
     "request": _library.RequestCopied,
     "answer_given": _library.AnswerGiven,
+    "checked_out": _library.CheckedOut,
+    "checked_in": _library.CheckedIn,
 }
 # Fields that have another name here.
 RENAMED = {

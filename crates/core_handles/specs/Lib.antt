@@ -8,3 +8,4 @@ pub mod States
 pub mod Standing
 pub mod Requesting
 pub mod Serving
+pub mod Pooling

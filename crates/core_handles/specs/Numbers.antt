@@ -1,7 +1,7 @@
 -- The numbers of refusals and of causes. Besides these 4 is for what isn't a content, 5 for too
 -- short a room, 7 where no reply is ready or no such request waits, 8 for more bytes than wait, 9
--- for a handle that has a core, 10 for more or fewer answers than a request may get, and 255 for a
--- handle that has none.
+-- for a handle that has a core, 10 for more or fewer answers than a request may get, 11 for a pool
+-- that is full, 12 for a connection that isn't lent, and 255 for a handle that has none.
 use Rattle.std.specs.Prelude.{ℕ}
 use Rattle.wire_peer.specs.declared.calls.CallRefusal.{CallRefusal}
 use Rattle.wire_peer.specs.declared.calls.CallRefusal.TheVariants as calls
@@ -15,6 +15,8 @@ use Rattle.wire_peer.specs.declared.server_state.ServerCause.{ServerCause}
 use Rattle.wire_peer.specs.declared.server_state.ServerCause.TheVariants as closings
 use Rattle.wire_peer.specs.declared.server_state.ServerRefusal.{ServerRefusal}
 use Rattle.wire_peer.specs.declared.server_state.ServerRefusal.TheVariants as makings
+use Rattle.wire_pool.specs.declared.pool_answers.PoolRefusal.{PoolRefusal}
+use Rattle.wire_pool.specs.declared.pool_answers.PoolRefusal.TheVariants as pools
 
 -- why a call is refused
 abbrev pub call_number : CallRefusal → ℕ
@@ -61,3 +63,8 @@ answer_number answers.NoSuchRequest = 7
 answer_number answers.OutOfMemory = 254
 answer_number (answers.NowClosed closings.ReplyTooLarge) = 3
 answer_number (answers.NowClosed cause) = 254
+
+-- why a pool isn't made
+abbrev pub pool_number : PoolRefusal → ℕ
+pool_number pools.BadMax = 4
+pool_number pools.OutOfMemory = 254

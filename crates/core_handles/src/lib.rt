@@ -1,5 +1,5 @@
 //! Handles of cores that take memory, for programs in other languages, and what is done with a
-//! client or a server by one.
+//! client, a server or a pool by one.
 //!
 //! A `CoreHandle` is what a program in C holds of a core: a pointer that it never reads through,
 //! and whether there is one. It owns the core, or none. What can't cross the border of Rattle, as an
@@ -7,8 +7,8 @@
 //! into the caller's memory, and every refusal and every state is a number. None of the calls has a
 //! `requires`: a handle of no core, any bytes and any numbers have an answer.
 //!
-//! Uses wire_peer and byte_views. Used by lughemra. Read first: `handle`, and then `clients`
-//! and `servers`.
+//! Uses wire_peer, wire_pool and byte_views. Used by lughemra. Read first: `handle`, and then
+//! `clients`, `servers` and `pools`.
 #![tactic(auto)]
 
 mod client_calls;
@@ -20,6 +20,8 @@ mod given;
 mod handle;
 mod numbers;
 mod parts;
+mod pool_answers;
+mod pools;
 mod server_answers;
 mod server_requests;
 mod server_states;
@@ -33,6 +35,8 @@ pub use clients::{
     client_release, client_reply, client_sent, client_state, free,
 };
 pub use handle::CoreHandle;
+pub use pool_answers::{CheckedIn, CheckedOut};
+pub use pools::{pool_check_in, pool_check_out, pool_clear, pool_close, pool_new};
 pub use server_answers::AnswerGiven;
 pub use server_requests::RequestCopied;
 pub use server_states::{ServerFed, ServerShown};

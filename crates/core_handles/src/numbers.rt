@@ -3,16 +3,17 @@
 ghost use Rattle.std.specs.Prelude.{◌≡◌};
 ghost use Rattle.core_handles.specs.Numbers.{answer_number, call_number, cause_number};
 ghost use Rattle.core_handles.specs.Numbers.{server_cause_number, server_setup_number};
-ghost use Rattle.core_handles.specs.Numbers.{setup_number};
+ghost use Rattle.core_handles.specs.Numbers.{pool_number, setup_number};
 
 use wire_peer::{
     AnswerRefusal, CallRefusal, ClientCause, ClientRefusal, ServerCause, ServerRefusal,
 };
+use wire_pool::PoolRefusal;
 
 /// It is done.
 pub(crate) const DONE: u32 = 0;
 
-/// The client or the server is closed.
+/// The client, the server or the pool is closed.
 pub(crate) const CLOSED: u32 = 1;
 
 /// The body and the document sequences aren't the content of a message, or the documents aren't
@@ -33,6 +34,12 @@ pub(crate) const IN_USE: u32 = 9;
 
 /// The request may not get as many answers.
 pub(crate) const BAD_COUNT: u32 = 10;
+
+/// No connection is idle, and as many are lent as may, or no id is left.
+pub(crate) const FULL: u32 = 11;
+
+/// No connection with this id is lent.
+pub(crate) const NOT_LENT: u32 = 12;
 
 /// The allocator refused memory.
 pub(crate) const NO_MEMORY: u32 = 254;
@@ -114,5 +121,15 @@ pub(crate) fn answer_number(refusal: AnswerRefusal) -> u32
         AnswerRefusal::OutOfMemory => NO_MEMORY,
         AnswerRefusal::NowClosed(ServerCause::ReplyTooLarge) => 3,
         AnswerRefusal::NowClosed(_) => NO_MEMORY,
+    }
+}
+
+/// Returns the number of the reason why a pool isn't made.
+pub(crate) fn pool_number(refusal: PoolRefusal) -> u32
+    ensures { result ≡ pool_number refusal }
+{
+    match refusal {
+        PoolRefusal::BadMax => 4,
+        PoolRefusal::OutOfMemory => NO_MEMORY,
     }
 }

@@ -1,6 +1,6 @@
 /* Lughemra for C: checks of BSON 1.1 documents and of MongoDB's OP_MSG, walks over both, and messages that come in pieces,
- * over bytes that the caller holds; building of documents and of messages in a room of the caller's; and the client's end or the
- * server's of a connection, by a handle.
+ * over bytes that the caller holds; building of documents and of messages in a room of the caller's; and, by a handle, the client's
+ * end or the server's of a connection, and a pool of connections.
  *
  * Each function reads `length` bytes at `bytes`, and keeps nothing but what a handle holds. What it returns is proved, for all
  * bytes, from what the caller owes:
@@ -414,7 +414,7 @@ struct lughemra_core {
 /* Why a call with a handle isn't made. Then nothing changed, unless lughemra_server_answer closed its server. The first three
  * and the sixth are the numbers that scripts have. */
 enum lughemra_core_refusal {
-    LUGHEMRA_CLOSED = 1,        /* the client or the server is closed */
+    LUGHEMRA_CLOSED = 1,        /* the client, the server or the pool is closed */
     LUGHEMRA_WINDOW_FULL = 2,   /* as many calls await a reply as the window allows */
     LUGHEMRA_CALL_TOO_LARGE = 3, /* the request, or a reply to it, would have more bytes than the limit */
     LUGHEMRA_BAD_CONTENT = 4,   /* the body and the sequences aren't those of a message, or the answers aren't bodies of messages */
@@ -424,6 +424,8 @@ enum lughemra_core_refusal {
     LUGHEMRA_TOO_MANY = 8,      /* fewer bytes wait than were sent */
     LUGHEMRA_IN_USE = 9,        /* the handle has a core */
     LUGHEMRA_BAD_COUNT = 10,    /* the request may not get as many answers, or none at all are given */
+    LUGHEMRA_POOL_FULL = 11,    /* no connection is idle, and as many are lent as may, or no id is left */
+    LUGHEMRA_NOT_LENT = 12,     /* no connection with this id is lent */
                                 /* LUGHEMRA_NO_MEMORY, 254 */
     LUGHEMRA_NO_CORE = 255      /* the handle has no core, or one of another kind, or the pointer to it is null */
 };
@@ -569,6 +571,29 @@ struct lughemra_answer_given {
     struct lughemra_fault document_fault;
 };
 
+/* Why a pool isn't made, besides LUGHEMRA_IN_USE, LUGHEMRA_NO_MEMORY and LUGHEMRA_NO_CORE. */
+enum lughemra_pool_refusal {
+    LUGHEMRA_BAD_MAX = 4 /* the greatest number of connections isn't from 1 to 1,024 */
+};
+
+/* What became of a check out. */
+struct lughemra_checked_out {
+    /* 0 if a connection is lent, else LUGHEMRA_CLOSED, POOL_FULL or NO_CORE. Then nothing changed. */
+    uint32_t refusal;
+    /* The id is new: the program has to open the connection. Else it was idle, and is open. */
+    bool is_new;
+    /* The connection's id, or 0 if none is lent. */
+    uint64_t id;
+};
+
+/* What became of a check in. */
+struct lughemra_checked_in {
+    /* 0 if the connection was lent, else LUGHEMRA_NOT_LENT or NO_CORE. Then nothing changed. */
+    uint32_t refusal;
+    /* The connection is idle now. Where it was lent and isn't kept, the pool has dropped it: the program has to close it. */
+    bool kept;
+};
+
 /* ---- the functions of the library, to which no pointer may be null: use those below */
 
 struct lughemra_fault lughemra_check_document_nonnull(const uint8_t *bytes, size_t length);
@@ -640,6 +665,12 @@ struct lughemra_output lughemra_server_output_nonnull(struct lughemra_core *core
 uint32_t lughemra_server_sent_nonnull(struct lughemra_core *core, size_t n);
 uint32_t lughemra_server_end_nonnull(struct lughemra_core *core);
 struct lughemra_server lughemra_server_state_nonnull(struct lughemra_core *core);
+
+uint32_t lughemra_pool_new_nonnull(struct lughemra_core *core, size_t max);
+struct lughemra_checked_out lughemra_pool_check_out_nonnull(struct lughemra_core *core);
+struct lughemra_checked_in lughemra_pool_check_in_nonnull(struct lughemra_core *core, uint64_t id, bool healthy);
+uint32_t lughemra_pool_clear_nonnull(struct lughemra_core *core);
+uint32_t lughemra_pool_close_nonnull(struct lughemra_core *core);
 
 /* Returns `bytes`, or if that is null the address of a byte, which is no one's to read. */
 static inline const uint8_t *lughemra_nonnull(const uint8_t *bytes)
@@ -989,10 +1020,10 @@ static inline struct lughemra_written lughemra_write_message(const struct lughem
                                           lughemra_nonnull_room(room), lughemra_length(room, room_length));
 }
 
-/* ---- handles, each of one end of a connection, whose bytes go in and out by way of the program
+/* ---- handles, each of one end of a connection, whose bytes go in and out by way of the program, or of a pool of connections
  *
- * A handle holds a client or a server, which has memory of its own until lughemra_free gives it back. Of the program a handle
- * wants this:
+ * A handle holds a client, a server or a pool, which has memory of its own until lughemra_free gives it back. Of the program a
+ * handle wants this:
  *
  *   - it begins as {NULL, false}, its fields are written by these functions alone, and no one reads or writes what it points to;
  *   - it has one owner: a copy of the struct isn't used beside the original, nor after a call with that;
@@ -1000,8 +1031,8 @@ static inline struct lughemra_written lughemra_write_message(const struct lughem
  *   - malloc, realloc and free are of one allocator all the while.
  *
  * Nothing is lent: what waits to be sent, replies and requests are copied into the program's room. A call may take memory; where
- * there is none, it says so, and nothing changed. Each takes a null pointer to a handle for one of no core, and what is for a
- * client takes a handle of a server for that, too, and the other way round. */
+ * there is none, it says so, and nothing changed. Each takes a null pointer to a handle for one of no core, and what is for one
+ * kind of core takes a handle of another kind for that, too. */
 
 /* Frees the core of a handle, which has none then. Returns 0, or LUGHEMRA_NO_CORE where it had none. */
 static inline uint32_t lughemra_free(struct lughemra_core *core)
@@ -1014,7 +1045,7 @@ static inline const char *lughemra_core_refusal_name(uint32_t number)
 {
     static const char *const words[] = {"",       "Closed",       "WindowFull", "TooLarge", "BadContent",
                                         "NoRoom", "NumbersSpent", "NotReady",   "TooMany",  "InUse",
-                                        "BadCount"};
+                                        "BadCount", "PoolFull",   "NotLent"};
     if (number == LUGHEMRA_NO_MEMORY)
         return "NoMemory";
     if (number == LUGHEMRA_NO_CORE)
@@ -1236,6 +1267,45 @@ static inline const char *lughemra_server_cause_name(uint32_t number)
     static const char *const words[] = {"",      "Message",     "",              "",        "",
                                         "Ended", "EndedInside", "ReplyTooLarge", "NoMemory"};
     return number < sizeof words / sizeof words[0] ? words[number] : "";
+}
+
+/* ---- a pool of connections, which lends them by their ids and opens none: the program keeps what belongs to an id, as a socket
+ * and a client. No call but lughemra_pool_new takes memory. */
+
+/* Puts a pool of at most `max` connections, 1 to 1,024, into a handle of no core. Returns 0, or why not: LUGHEMRA_BAD_MAX,
+ * LUGHEMRA_IN_USE, LUGHEMRA_NO_MEMORY or LUGHEMRA_NO_CORE. */
+static inline uint32_t lughemra_pool_new(struct lughemra_core *core, size_t max)
+{
+    return core != NULL ? lughemra_pool_new_nonnull(core, max) : LUGHEMRA_NO_CORE;
+}
+
+/* Lends a connection: the idle one that was returned last, else a new one, if fewer than `max` are lent. New ids go from 1
+ * upwards, and none is given twice. */
+static inline struct lughemra_checked_out lughemra_pool_check_out(struct lughemra_core *core)
+{
+    static const struct lughemra_checked_out none = {LUGHEMRA_NO_CORE, false, 0};
+    return core != NULL ? lughemra_pool_check_out_nonnull(core) : none;
+}
+
+/* Takes back the connection with this id. It is idle then if it is healthy, the pool is open, and the pool wasn't cleared since
+ * the connection was lent; else it is dropped. */
+static inline struct lughemra_checked_in lughemra_pool_check_in(struct lughemra_core *core, uint64_t id, bool healthy)
+{
+    static const struct lughemra_checked_in none = {LUGHEMRA_NO_CORE, false};
+    return core != NULL ? lughemra_pool_check_in_nonnull(core, id, healthy) : none;
+}
+
+/* Drops the idle connections, and each that is lent when it is returned, as after a server was lost. Returns 0 or
+ * LUGHEMRA_NO_CORE. */
+static inline uint32_t lughemra_pool_clear(struct lughemra_core *core)
+{
+    return core != NULL ? lughemra_pool_clear_nonnull(core) : LUGHEMRA_NO_CORE;
+}
+
+/* The same, and lends none from then on. Returns 0 or LUGHEMRA_NO_CORE. */
+static inline uint32_t lughemra_pool_close(struct lughemra_core *core)
+{
+    return core != NULL ? lughemra_pool_close_nonnull(core) : LUGHEMRA_NO_CORE;
 }
 
 #ifdef __cplusplus

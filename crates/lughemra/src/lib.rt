@@ -1,6 +1,6 @@
 //! Checks documents and messages for programs in C, walks over them, writes the texts of documents,
-//! reads messages in pieces, builds documents and messages, and is the client's end or the server's
-//! of a connection.
+//! reads messages in pieces, builds documents and messages, is the client's end or the server's of a
+//! connection, and lends connections of a pool.
 //!
 //! Each export hands its arguments to the function of byte_views, byte_builder or core_handles that
 //! its comment names, and promises what that one does. None has a `requires`, so a C program only
@@ -18,6 +18,7 @@ mod builds;
 mod clients;
 mod documents;
 mod messages;
+mod pools;
 mod servers;
 mod texts;
 mod walks;
