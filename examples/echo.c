@@ -1,7 +1,8 @@
-/* Answers each request on one connection with the request's own body. What came at once is answered from the last to the first.
+/* Answers each request on a connection with the request's own body. What came at once is answered from the last to the first.
  *
- *     echo    writes the port of this machine that it listens at, and ends when the connection does
- */
+ *     echo [CONNECTIONS [ANSWERS]]    writes the port of this machine that it listens at, and ends after so many connections, or 1
+ *
+ * On the first connection it hangs up after so many answers, in the midst of the next one. */
 #include <arpa/inet.h>
 #include <inttypes.h>
 #include <netinet/in.h>
@@ -14,8 +15,10 @@
 #include "lughemra.h"
 
 static uint8_t held[1 << 20];
+/* How many answers it gives before it hangs up. */
+static size_t answers;
 
-/* Sends the answer to a request. Returns false if the connection ends. */
+/* Sends the answer to a request, or half of it where it hangs up. Returns false if the connection ends. */
 static bool answer(int link, const uint8_t *request, size_t length, int32_t id)
 {
     struct lughemra_message_parts parts = lughemra_message_parts(request, length, LUGHEMRA_MAX_LIMIT);
@@ -23,28 +26,34 @@ static bool answer(int link, const uint8_t *request, size_t length, int32_t id)
     struct lughemra_message_numbers numbers = {id, parts.id, 0};
     uint8_t *room = malloc(length);
     struct lughemra_written written;
-    size_t sent = 0;
+    size_t sent = 0, wanted;
     if (room == NULL)
         exit(4);
     written = lughemra_write_message(&numbers, request + body.documents.offset, body.documents.length, NULL, 0,
                                      LUGHEMRA_MAX_LIMIT, room, length);
-    while (written.written && sent < written.length) {
-        ssize_t more = send(link, room + sent, written.length - sent, MSG_NOSIGNAL);
+    if (!written.written)
+        exit(4);
+    wanted = answers > 0 ? written.length : written.length / 2;
+    while (sent < wanted) {
+        ssize_t more = send(link, room + sent, wanted - sent, MSG_NOSIGNAL);
         if (more <= 0)
             break;
         sent += (size_t)more;
     }
     free(room);
-    return written.written && sent == written.length;
+    if (sent < written.length)
+        return false;
+    answers--;
+    return true;
 }
 
-/* Answers the messages that stand at the front of what is held, and gives the bytes that are left. */
-static size_t answer_all(int link, size_t length, int32_t *id)
+/* Answers the messages that stand at the front of what is held, and takes them off. Returns false if the connection ends. */
+static bool answer_all(int link, size_t *length, int32_t *id)
 {
     static size_t starts[sizeof held / 26 + 1];
     size_t count = 0, at = 0;
     struct lughemra_message_front front;
-    while ((front = lughemra_message_front(held + at, length - at, LUGHEMRA_MAX_LIMIT)).state == LUGHEMRA_FRONT_WHOLE) {
+    while ((front = lughemra_message_front(held + at, *length - at, LUGHEMRA_MAX_LIMIT)).state == LUGHEMRA_FRONT_WHOLE) {
         starts[count++] = at;
         at += front.length;
     }
@@ -53,19 +62,37 @@ static size_t answer_all(int link, size_t length, int32_t *id)
         exit(1);
     for (; count > 0; count--)
         if (!answer(link, held + starts[count - 1], starts[count] - starts[count - 1], ++*id))
-            exit(3);
-    memmove(held, held + at, length - at);
-    return length - at;
+            return false;
+    *length -= at;
+    memmove(held, held + at, *length);
+    return true;
 }
 
-int main(void)
+/* Answers what comes on a connection until it ends, by the other side or by this one. */
+static void serve(int link)
 {
-    struct sockaddr_in address = {0};
-    socklen_t size = sizeof address;
-    int listener = socket(AF_INET, SOCK_STREAM, 0), link;
     size_t length = 0;
     int32_t id = 0;
     ssize_t came;
+    while ((came = recv(link, held + length, sizeof held - length, 0)) > 0) {
+        length += (size_t)came;
+        if (!answer_all(link, &length, &id))
+            break;
+    }
+    /* What the other side still sends is dropped, so that it gets all that was sent before. */
+    shutdown(link, SHUT_WR);
+    while (recv(link, held, sizeof held, 0) > 0)
+        continue;
+    close(link);
+}
+
+int main(int argc, char **argv)
+{
+    struct sockaddr_in address = {0};
+    socklen_t size = sizeof address;
+    int listener = socket(AF_INET, SOCK_STREAM, 0);
+    size_t connections = argc > 1 ? strtoul(argv[1], NULL, 10) : 1;
+    answers = argc > 2 ? strtoul(argv[2], NULL, 10) : SIZE_MAX;
     address.sin_family = AF_INET;
     address.sin_addr.s_addr = htonl(INADDR_LOOPBACK);
     if (listener < 0 || bind(listener, (struct sockaddr *)&address, sizeof address) != 0 || listen(listener, 1) != 0
@@ -73,12 +100,13 @@ int main(void)
         return 3;
     printf("%u\n", (unsigned)ntohs(address.sin_port));
     fflush(stdout);
-    link = accept(listener, NULL, NULL);
-    if (link < 0)
-        return 3;
-    while ((came = recv(link, held + length, sizeof held - length, 0)) > 0)
-        length = answer_all(link, length + (size_t)came, &id);
-    close(link);
+    for (; connections > 0; connections--) {
+        int link = accept(listener, NULL, NULL);
+        if (link < 0)
+            return 3;
+        serve(link);
+        answers = SIZE_MAX;
+    }
     close(listener);
     return 0;
 }
