@@ -7,6 +7,7 @@
 #include <stdlib.h>
 #include <string.h>
 
+#include "file.h"
 #include "lughemra.h"
 
 static uint8_t *room;
@@ -83,14 +84,12 @@ static void rebuild(const uint8_t *bytes, size_t length)
 
 int main(int argc, char **argv)
 {
-    static uint8_t bytes[1 << 20];
     struct lughemra_view left = {0, 0}, document;
-    FILE *file = argc == 2 ? fopen(argv[1], "rb") : NULL;
-    if (file == NULL)
+    uint8_t *bytes = argc == 2 ? read_file(argv[1], &left.length) : NULL;
+    size_t length = left.length;
+    if (bytes == NULL)
         return 2;
-    left.length = fread(bytes, 1, sizeof bytes, file);
-    fclose(file);
-    while (lughemra_next_document(bytes, sizeof bytes, &left, &document)) {
+    while (lughemra_next_document(bytes, length, &left, &document)) {
         uint8_t *one = malloc(document.length);
         if (one == NULL)
             return 4;
@@ -101,5 +100,6 @@ int main(int argc, char **argv)
         room = NULL;
         room_length = 0;
     }
+    free(bytes);
     return 0;
 }

@@ -21,6 +21,7 @@
 #include <stdlib.h>
 #include <string.h>
 
+#include "file.h"
 #include "lughemra.h"
 
 /* Ends the program with a line on standard error. */
@@ -28,30 +29,6 @@ static void fail(const char *what)
 {
     fprintf(stderr, "check: %s\n", what);
     exit(2);
-}
-
-/* Returns all bytes of the file. */
-static uint8_t *read_file(const char *name, size_t *length)
-{
-    FILE *file = fopen(name, "rb");
-    size_t room = 4096;
-    uint8_t *bytes = malloc(room);
-    *length = 0;
-    if (!file)
-        fail("the file can't be opened");
-    while (bytes) {
-        *length += fread(bytes + *length, 1, room - *length, file);
-        if (*length < room)
-            break;
-        room *= 2;
-        bytes = realloc(bytes, room);
-    }
-    if (!bytes)
-        fail("memory ran out");
-    if (ferror(file))
-        fail("the file can't be read");
-    fclose(file);
-    return bytes;
 }
 
 /* Writes the line of a document's fault, if there is one, and returns the program's status. */
@@ -137,15 +114,20 @@ static int write_message(const uint8_t *bytes, size_t length, uint32_t limit)
     struct lughemra_message_parts parts = lughemra_message_parts(bytes, length, limit);
     struct lughemra_message_numbers numbers = {parts.id, parts.response_to, parts.flag_bits};
     struct lughemra_section body = lughemra_section(bytes, length, parts.sections);
-    uint8_t room[1024];
     struct lughemra_written written;
+    uint8_t *room;
     if (parts.fault.number != 0)
         return write_message_fault(parts.fault, parts.document_fault);
+    room = malloc(length);
+    if (!room)
+        fail("memory ran out");
     written = lughemra_write_message(&numbers, bytes + body.documents.offset, body.documents.length, bytes + body.next,
-                                     length - body.next, limit, room, sizeof room);
+                                     length - body.next, limit, room, length);
     if (written.fault.number == LUGHEMRA_NO_MEMORY)
         fail("memory ran out");
-    fwrite(room, 1, written.length, stdout);
+    if (written.written)
+        fwrite(room, 1, written.length, stdout);
+    free(room);
     return write_message_fault(written.fault, written.document_fault);
 }
 
@@ -186,6 +168,8 @@ int main(int count, char **words)
     uint8_t *bytes = count > 2 ? read_file(words[2], &length) : NULL;
     int status = 0;
 
+    if (count > 2 && !bytes)
+        fail("the file can't be read, or memory ran out");
     if (strcmp(word, "document") == 0)
         status = check_document(bytes, length);
     else if (strcmp(word, "documents") == 0)

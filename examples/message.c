@@ -7,6 +7,7 @@
 #include <stdio.h>
 #include <stdlib.h>
 
+#include "file.h"
 #include "lughemra.h"
 
 /* Writes how many elements each document of a view has. */
@@ -40,14 +41,11 @@ static void write_sections(const uint8_t *bytes, size_t length, size_t at)
 
 int main(int count, char **words)
 {
-    static uint8_t bytes[1 << 20];
-    FILE *file = count > 1 ? fopen(words[1], "rb") : NULL;
-    size_t length = file ? fread(bytes, 1, sizeof bytes, file) : 0;
+    size_t length = 0;
+    uint8_t *bytes = count > 1 ? read_file(words[1], &length) : NULL;
     uint32_t limit = count > 2 ? (uint32_t)strtoul(words[2], NULL, 10) : LUGHEMRA_MAX_LIMIT;
     struct lughemra_message_parts parts = lughemra_message_parts(bytes, length, limit);
 
-    if (file)
-        fclose(file);
     if (parts.fault.number != 0) {
         printf("fault %" PRIu32 " %s at %zu", parts.fault.number, lughemra_message_fault_name(parts.fault.number),
                parts.fault.offset);
@@ -55,10 +53,12 @@ int main(int count, char **words)
             printf(": %" PRIu32 " %s at %zu", parts.document_fault.number,
                    lughemra_document_fault_name(parts.document_fault.number), parts.document_fault.offset);
         printf("\n");
+        free(bytes);
         return 1;
     }
     printf("message %" PRId32 " to %" PRId32 ", flags %08" PRIx32 "%s%s\n", parts.id, parts.response_to, parts.flag_bits,
            parts.more_to_come ? ", more to come" : "", parts.exhaust_allowed ? ", exhaust allowed" : "");
     write_sections(bytes, length, parts.sections);
+    free(bytes);
     return 0;
 }

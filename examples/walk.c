@@ -9,6 +9,7 @@
 #include <stdlib.h>
 #include <string.h>
 
+#include "file.h"
 #include "lughemra.h"
 
 /* The deepest that documents may nest. */
@@ -176,11 +177,10 @@ static size_t front_length(const uint8_t *bytes, size_t length)
 
 int main(int count, char **words)
 {
-    static uint8_t bytes[1 << 25];
-    FILE *file = count > 1 ? fopen(words[1], "rb") : NULL;
-    size_t length = file ? fread(bytes, 1, sizeof bytes, file) : 0;
+    size_t length = 0;
+    uint8_t *bytes = count > 1 ? read_file(words[1], &length) : NULL;
     const char *name = count > 2 ? words[2] : NULL;
-    int status = file ? 0 : 2;
+    int status = bytes ? 0 : 2;
 
     for (size_t at = 0; status == 0 && at < length;) {
         size_t size = front_length(bytes + at, length - at);
@@ -191,7 +191,6 @@ int main(int count, char **words)
         }
         at += size;
     }
-    if (file)
-        fclose(file);
+    free(bytes);
     return status;
 }

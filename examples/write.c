@@ -8,6 +8,7 @@
 #include <stdlib.h>
 #include <string.h>
 
+#include "file.h"
 #include "lughemra.h"
 
 /* Puts the document sequences of a message one behind the other into the room, which is as long as the message, and gives the
@@ -59,19 +60,15 @@ static int rewrite(const uint8_t *bytes, size_t length)
 
 int main(int argc, char **argv)
 {
-    static uint8_t bytes[1 << 20];
-    size_t length, at = 0;
+    size_t length = 0, at = 0;
     struct lughemra_message_front front;
-    FILE *file = argc == 2 ? fopen(argv[1], "rb") : NULL;
-    if (file == NULL)
-        return 2;
-    length = fread(bytes, 1, sizeof bytes, file);
-    fclose(file);
-    while ((front = lughemra_message_front(bytes + at, length - at, LUGHEMRA_MAX_LIMIT)).state == LUGHEMRA_FRONT_WHOLE) {
-        int status = rewrite(bytes + at, front.length);
-        if (status != 0)
-            return status;
+    uint8_t *bytes = argc == 2 ? read_file(argv[1], &length) : NULL;
+    int status = bytes ? 0 : 2;
+    while (status == 0 &&
+           (front = lughemra_message_front(bytes + at, length - at, LUGHEMRA_MAX_LIMIT)).state == LUGHEMRA_FRONT_WHOLE) {
+        status = rewrite(bytes + at, front.length);
         at += front.length;
     }
-    return 0;
+    free(bytes);
+    return status;
 }
