@@ -299,6 +299,54 @@ static void try_handles(void)
     expect(lughemra_client_state(&core).refusal == LUGHEMRA_NO_CORE, "freed for good");
 }
 
+/* Makes a call and goes through its reply, with bytes and rooms that stand so many bytes behind the front of their blocks, and end
+ * where these do. */
+static void try_shifted(struct lughemra_core *core, size_t shift)
+{
+    uint8_t *body = malloc(shift + sizeof document), *room = malloc(shift + 44), *reply = malloc(shift + 44);
+    struct lughemra_message_numbers numbers = {7, 0, 0};
+    if (!body || !room || !reply)
+        exit(2);
+    memcpy(body + shift, document, sizeof document);
+    numbers.response_to = lughemra_client_call(core, body + shift, sizeof document, body + shift, 0).id;
+    expect(lughemra_client_output(core, room + shift, 44).waiting == 44 && room[shift] == 44, "output at each alignment");
+    expect(lughemra_client_sent(core, 44) == 0, "it is sent");
+    expect(lughemra_write_message(&numbers, document, sizeof document, NULL, 0, 44, reply + shift, 44).written, "a reply");
+    expect(lughemra_client_feed(core, reply + shift, 0).taken == 0, "a piece of no bytes");
+    expect(lughemra_client_feed(core, reply + shift, 44).state.ready, "a piece at each alignment");
+    expect(lughemra_client_reply(core, room + shift, 44).length == 44, "a reply at each alignment");
+    expect(memcmp(room + shift + 21, document, sizeof document) == 0, "its body at each alignment");
+    expect(lughemra_client_release(core) == 0, "it is let go");
+    free(body);
+    free(room);
+    free(reply);
+}
+
+/* Hands a client null pointers with lengths above PTRDIFF_MAX, numbers out of range, and bytes at each alignment; and moves its handle. */
+static void try_clients(void)
+{
+    struct lughemra_core core = {NULL, false}, moved;
+    expect(lughemra_client_new(&core, 1, SIZE_MAX, 100) == LUGHEMRA_BAD_WINDOW && !core.there, "the greatest window");
+    expect(lughemra_client_new(&core, INT32_MIN, 1, 100) == LUGHEMRA_BAD_FIRST_ID && !core.there, "the least id");
+    expect(lughemra_client_new(&core, 1, 1, 25) == LUGHEMRA_BAD_LIMIT && !core.there, "a limit of 25");
+    expect(lughemra_client_new(&core, 1, 1, 100) == 0, "a client");
+    expect(lughemra_client_call(&core, NULL, SIZE_MAX, NULL, SIZE_MAX).document_fault.number == LUGHEMRA_TRUNCATED, "null of SIZE_MAX");
+    expect(lughemra_client_call(&core, NULL, 0, NULL, 0).document_fault.number == LUGHEMRA_TRUNCATED, "null of 0");
+    expect(lughemra_client_call(&core, document, 0, NULL, 0).document_fault.number == LUGHEMRA_TRUNCATED, "no bytes");
+    expect(lughemra_client_output(&core, NULL, SIZE_MAX).copied == 0, "output in null of SIZE_MAX");
+    expect(lughemra_client_sent(&core, SIZE_MAX) == LUGHEMRA_TOO_MANY && lughemra_client_sent(&core, 0) == 0, "SIZE_MAX are sent");
+    expect(lughemra_client_feed(&core, NULL, SIZE_MAX).taken == 0 && lughemra_client_feed(&core, NULL, 0).refusal == 0, "null is fed");
+    expect(lughemra_client_reply(&core, NULL, SIZE_MAX).refusal == LUGHEMRA_NOT_READY, "a reply in null of SIZE_MAX");
+    for (size_t shift = 0; shift < 16; shift++)
+        try_shifted(&core, shift);
+    moved = core;
+    expect(lughemra_client_call(&moved, document, sizeof document, NULL, 0).number == 16, "a handle that was moved");
+    expect(lughemra_client_end(&moved) == 0 && lughemra_client_end(&moved) == 0, "an end that is told twice");
+    expect(lughemra_client_state(&moved).cause == LUGHEMRA_CLOSED_BY_END, "it is closed by the first");
+    expect(lughemra_free(&moved) == 0 && lughemra_free(&moved) == LUGHEMRA_NO_CORE, "it is freed once");
+    expect(lughemra_client_new(&moved, 1, 1, 100) == 0 && lughemra_free(&moved) == 0, "a handle that is used again");
+}
+
 /* The same of a server, and calls for a client. */
 static void try_servers(void)
 {
@@ -376,6 +424,7 @@ int main(void)
     try_builders();
     try_writing();
     try_handles();
+    try_clients();
     try_servers();
     try_pools();
     try_alignments();

@@ -5,9 +5,10 @@
  * Each function reads `length` bytes at `bytes`, and keeps nothing but what a handle holds. What it returns is proved, for all
  * bytes, from what the caller owes:
  *
- *   - `length` bytes can be read at `bytes`, and `length` is at most PTRDIFF_MAX; a null pointer is an empty input,
- *     whatever the length;
- *   - no one writes to them during the call, and what a function writes to doesn't overlap them.
+ *   - `length` bytes can be read at `bytes`, at any alignment, and `length` is at most PTRDIFF_MAX; where it is 0, any pointer
+ *     will do; a null pointer is an empty input, whatever the length, and an empty room;
+ *   - no one writes to them during the call, and what a function writes to doesn't overlap them;
+ *   - a pointer to a struct is null, or points to one, aligned as C has it.
  *
  * Nothing else is owed, but of a handle, which has a section of its own below: any content, any `limit` and any number in a struct
  * that is handed in have an answer. Calls may run at once in several threads, each handle in one. An offset is counted from `bytes`.
