@@ -5,6 +5,7 @@
 #define WORKS(OF) \
     OF(answer, peer_bench_answer) \
     OF(apart, peer_bench_apart) \
+    OF(copied, peer_bench_copied) \
     OF(copy, peer_bench_copy) \
     OF(first, peer_bench_first) \
     OF(latest, peer_bench_latest) \
