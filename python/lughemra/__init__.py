@@ -14,8 +14,10 @@ from ._library import PATH as LIBRARY_PATH
 from .checks import DocumentsWalk, check, check_documents, documents, is_canonical, walk_documents
 from .client import Call, Client, Reply
 from .document import Array, Document, Element, Value
-from .errors import CallRefused, ClientClosed, DocumentError, EncodeError, Fault, LibraryNotFound, MessageError
+from .errors import CallRefused, ClientClosed, DocumentError, EncodeError, Fault, LibraryNotFound, MessageError, ServerClosed
 from .message import DocumentSequence, Flags, Header, Message, Reader, check_message, check_messages
+from .pool import Lent, Pool
+from .server import Request, Server
 from .values import (
     Binary,
     Code,
@@ -57,6 +59,7 @@ __all__ = [
     "Header",
     "Kind",
     "LIBRARY_PATH",
+    "Lent",
     "LibraryNotFound",
     "MAX_LIMIT",
     "MaxKey",
@@ -64,9 +67,13 @@ __all__ = [
     "MessageError",
     "MinKey",
     "ObjectId",
+    "Pool",
     "Reader",
     "Regex",
     "Reply",
+    "Request",
+    "Server",
+    "ServerClosed",
     "Symbol",
     "Timestamp",
     "Undefined",

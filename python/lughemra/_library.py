@@ -29,9 +29,10 @@ MAX_LIMIT = 48_000_000
 # a message than its limit.
 NO_MEMORY = 254
 TOO_LARGE = 253
-# Of the refusals of a call with a handle: the content isn't that of a message, and the room is too short.
+# Of the refusals of a call with a handle: the content isn't that of a message, the room is too short, and no such request waits.
 BAD_CONTENT = 4
 NO_ROOM = 5
+NOT_READY = 7
 
 FRONT_OPEN, FRONT_WHOLE, FRONT_BAD = 0, 1, 2
 SECTION_BODY, SECTION_SEQUENCE = 1, 2

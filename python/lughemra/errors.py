@@ -122,13 +122,16 @@ class MessageError(Fault):
 class CallRefused(RuntimeError):
     """Tells why a call isn't made, by the numbers and names of enum lughemra_core_refusal. Nothing changed then."""
 
-    CLOSED, WINDOW_FULL, TOO_LARGE, NUMBERS_SPENT, TOO_MANY = 1, 2, 3, 6, 8
+    CLOSED, WINDOW_FULL, TOO_LARGE, NUMBERS_SPENT, TOO_MANY, BAD_COUNT, POOL_FULL, NOT_LENT = 1, 2, 3, 6, 8, 10, 11, 12
     NAMES = {
         CLOSED: "Closed",
         WINDOW_FULL: "WindowFull",
         TOO_LARGE: "TooLarge",
         NUMBERS_SPENT: "NumbersSpent",
         TOO_MANY: "TooMany",
+        BAD_COUNT: "BadCount",
+        POOL_FULL: "PoolFull",
+        NOT_LENT: "NotLent",
         255: "NoCore",
     }
 
@@ -141,21 +144,13 @@ class CallRefused(RuntimeError):
         return self.name
 
 
-class ClientClosed(ConnectionError):
-    """Tells why a client was closed, by the numbers and names of enum lughemra_client_cause.
+class Closed(ConnectionError):
+    """Tells why an end of a connection was closed, by the numbers and names of lughemra.h.
 
     `fault` is the fault of the message that closed it, and `response_to` the number that no call bears, if these are why.
     """
 
-    MESSAGE, UNKNOWN_REPLY, MORE_NOT_ALLOWED, STREAM_BROKEN, ENDED, ENDED_INSIDE = 1, 2, 3, 4, 5, 6
-    NAMES = {
-        MESSAGE: "Message",
-        UNKNOWN_REPLY: "UnknownReply",
-        MORE_NOT_ALLOWED: "MoreNotAllowed",
-        STREAM_BROKEN: "StreamBroken",
-        ENDED: "Ended",
-        ENDED_INSIDE: "EndedInside",
-    }
+    NAMES: dict[int, str] = {}
 
     def __init__(
         self, number: int, response_to: Optional[int] = None, fault: Optional[MessageError] = None
@@ -170,3 +165,30 @@ class ClientClosed(ConnectionError):
         if self.fault:
             return f"{self.name}: {self.fault}"
         return f"{self.name}: {self.response_to}" if self.response_to is not None else self.name
+
+
+class ClientClosed(Closed):
+    """Tells why a client was closed, by enum lughemra_client_cause."""
+
+    MESSAGE, UNKNOWN_REPLY, MORE_NOT_ALLOWED, STREAM_BROKEN, ENDED, ENDED_INSIDE = 1, 2, 3, 4, 5, 6
+    NAMES = {
+        MESSAGE: "Message",
+        UNKNOWN_REPLY: "UnknownReply",
+        MORE_NOT_ALLOWED: "MoreNotAllowed",
+        STREAM_BROKEN: "StreamBroken",
+        ENDED: "Ended",
+        ENDED_INSIDE: "EndedInside",
+    }
+
+
+class ServerClosed(Closed):
+    """Tells why a server was closed, by enum lughemra_server_cause."""
+
+    MESSAGE, ENDED, ENDED_INSIDE, REPLY_TOO_LARGE, NO_MEMORY = 1, 5, 6, 7, 8
+    NAMES = {
+        MESSAGE: "Message",
+        ENDED: "Ended",
+        ENDED_INSIDE: "EndedInside",
+        REPLY_TOO_LARGE: "ReplyTooLarge",
+        NO_MEMORY: "NoMemory",
+    }

@@ -5,7 +5,7 @@ from __future__ import annotations
 import ctypes
 import datetime
 import struct
-from collections.abc import Iterable, Mapping, Sequence
+from collections.abc import Iterable, Iterator, Mapping, Sequence
 from typing import Any, Callable
 
 from . import _library as lib
@@ -147,14 +147,19 @@ def document_bytes(given: Any) -> bytes:
     return encode(given) if isinstance(given, Mapping) else bytes(given)
 
 
+def documents_bytes(given: Iterable[Any]) -> Iterator[bytes]:
+    """Gives the bytes of each document, checked."""
+    for it in given:
+        content = document_bytes(it)
+        check(content)
+        yield content
+
+
 def sequence_bytes(given: Iterable[tuple[str, Iterable[Any]]]) -> bytes:
     """Returns the sections of document sequences, one behind the other."""
     room, end = _Room(), ctypes.c_size_t(0)
     for identifier, documents in given:
-        name, content = identifier.encode(), [document_bytes(it) for it in documents]
-        for it in content:
-            check(it)
-        joined = b"".join(content)
+        name, joined = identifier.encode(), b"".join(documents_bytes(documents))
         sizes = lib.size(len(name)), lib.size(len(joined))
         room.build(lib.short.append_sequence, ctypes.byref(end), name, sizes[0], joined, sizes[1])
     return bytes(room.held[: end.value])

@@ -102,6 +102,18 @@ def test_the_constants_are_those_of_the_header():
         assert [table[number] for number in range(1, len(listed))] == listed[1:] and set(table) == {*range(1, len(listed)), 255}
 
 
+@pytest.mark.parametrize(
+    "function, raised", [("core_refusal", errors.CallRefused), ("client_cause", errors.ClientClosed), ("server_cause", errors.ServerClosed)]
+)
+def test_the_names_are_those_of_the_header(function, raised):
+    (table,) = re.findall(rf"lughemra_{function}_name\(uint32_t number\)\n{{\n.*?= {{(.*?)}};", HEADER, re.S)
+    words = dict(enumerate(re.findall(r'"(\w*)"', table)))
+    assert raised.NAMES == {number: words.get(number, "NoCore") for number in raised.NAMES}
+    # Those that are left out are told by other exceptions, or can't come.
+    left = {"BadContent", "NoRoom", "NotReady", "InUse"} if raised is errors.CallRefused else set()
+    assert {word for number, word in words.items() if word and number not in raised.NAMES} == left
+
+
 def run(code, **environment):
     """Runs Python in an environment, and returns what it did."""
     words = [sys.executable, "-c", code]

@@ -11,8 +11,8 @@ PAGE = (ROOT / "docs" / "PYTHON.md").read_text(encoding="utf-8")
 PROGRAMS = re.findall(r"^```python\n(.*?)^```\n\n```\n(.*?)^```$", PAGE, re.M | re.S)
 
 
-def test_the_page_has_six_programs():
-    assert len(PROGRAMS) == PAGE.count("```python") == 6
+def test_the_page_has_eight_programs():
+    assert len(PROGRAMS) == PAGE.count("```python") == 8
 
 
 @pytest.mark.parametrize("program, printed", PROGRAMS)

@@ -1,0 +1,123 @@
+"""What holds a core of the library by a handle."""
+
+from __future__ import annotations
+
+import ctypes
+import weakref
+from collections.abc import Callable
+from typing import Any, Optional, Self
+
+from . import _library as lib
+from .errors import CallRefused, DocumentError, MessageError
+
+# How many bytes `output` gives at most, if it isn't told another number.
+PIECE = 1 << 16
+
+
+def refuse(refusal: int) -> None:
+    """Raises what a refusal is, if it is one."""
+    if refusal == lib.NO_MEMORY:
+        raise MemoryError
+    if refusal:
+        raise CallRefused(refusal)
+
+
+def fault_of(told: Any) -> Optional[MessageError]:
+    """Returns the fault of a message that a function of the library tells, if it does."""
+    fault, inside = told.fault, told.document_fault
+    if not fault.number:
+        return None
+    document = DocumentError(inside.number, inside.offset) if inside.number else None
+    return MessageError(fault.number, fault.offset, document=document)
+
+
+def require(what: str, number: int, least: int, most: int) -> int:
+    """Returns the number, or raises ValueError where it isn't from `least` to `most`."""
+    if not least <= number <= most:
+        raise ValueError(f"the {what} is {number}, and isn't one of {least} to {most}")
+    return number
+
+
+def room_of(length: int) -> tuple[bytearray, Any, Any]:
+    """Returns a room of so many bytes, its address and its length as arguments."""
+    room = bytearray(max(1, length))
+    return room, ctypes.byref(ctypes.c_char.from_buffer(room)), ctypes.c_size_t(length)
+
+
+def _free(core: lib.Core) -> None:
+    """Gives the memory of a core back."""
+    lib.short.free(ctypes.byref(core))
+
+
+class Held:
+    """Owns a core, whose memory is given back at the end of a `with`, or when this is collected. One thread at a time uses it."""
+
+    def __init__(self, make: Callable[..., int], *numbers: Any) -> None:
+        core = lib.Core()
+        self._core = ctypes.byref(core)
+        refuse(make(self._core, *numbers))
+        self._finalizer = weakref.finalize(self, _free, core)
+
+    def __enter__(self) -> Self:
+        return self
+
+    def __exit__(self, *_: Any) -> None:
+        self._finalizer()
+
+
+class End(Held):
+    """Moves the bytes of one end of a connection. It opens no socket: what `output` gives is to be sent, and what comes is fed."""
+
+    # What the names of the library's functions begin with.
+    _end = ""
+
+    def __init__(self, make: Callable[..., int], *numbers: Any) -> None:
+        super().__init__(make, *numbers)
+        # What was fed and the core hasn't taken: the bytes from `_at` on.
+        self._held = bytearray()
+        self._at = 0
+
+    def close(self) -> None:
+        """Gives the memory back. Nothing can be asked then."""
+        self._finalizer()
+
+    def _tell(self, name: str, *arguments: Any) -> Any:
+        """Returns what a function of the library tells of this end."""
+        return getattr(lib.short, f"{self._end}_{name}")(self._core, *arguments)
+
+    @property
+    def waiting(self) -> int:
+        """Returns how many bytes wait to be sent."""
+        told = self._tell("output", b"", lib.size(0))
+        refuse(told.refusal)
+        waiting: int = told.waiting
+        return waiting
+
+    def output(self, most: int = PIECE) -> bytes:
+        """Returns the first bytes that wait to be sent, at most so many. They wait until `sent` says that they were."""
+        room, address, length = room_of(max(0, most))
+        told = self._tell("output", address, length)
+        refuse(told.refusal)
+        return bytes(memoryview(room)[: told.copied])
+
+    def sent(self, count: int) -> None:
+        """Takes the first `count` bytes that wait off, since they were sent."""
+        if count < 0:
+            raise ValueError(f"{count} bytes can't be sent")
+        refuse(self._tell("sent", ctypes.c_size_t(count)))
+
+    def _keep(self, piece: Any) -> None:
+        """Keeps a copy of a piece behind what was fed before."""
+        if self._at:
+            del self._held[: self._at]
+            self._at = 0
+        self._held += piece
+
+    def _hand_over(self) -> Any:
+        """Feeds the core what it hasn't taken yet, and returns what it tells of that."""
+        piece = ctypes.byref(ctypes.c_char.from_buffer(self._held), self._at)
+        fed = self._tell("feed", piece, ctypes.c_size_t(len(self._held) - self._at))
+        del piece
+        refuse(fed.refusal)
+        self._at += fed.taken
+        return fed
