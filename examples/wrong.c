@@ -380,6 +380,47 @@ static void try_servers(void)
     expect(lughemra_free(&core) == 0 && lughemra_server_state(&core).refusal == LUGHEMRA_NO_CORE, "freed for good");
 }
 
+/* Has a server answer a request, with bytes and rooms that stand so many bytes behind the front of their blocks, and end where these do. */
+static void try_shifted_server(struct lughemra_core *core, size_t shift)
+{
+    const struct lughemra_message_numbers numbers = {7, 0, 0};
+    uint8_t *piece = malloc(shift + 44), *room = malloc(shift + 44), *answer = malloc(shift + sizeof document);
+    if (!piece || !room || !answer)
+        exit(2);
+    memcpy(answer + shift, document, sizeof document);
+    expect(lughemra_write_message(&numbers, document, sizeof document, NULL, 0, 44, piece + shift, 44).written, "a request");
+    expect(lughemra_server_feed(core, piece + shift, 44).state.waiting == 1, "a piece for a server at each alignment");
+    expect(lughemra_server_feed(core, piece + shift, 44).taken == 0, "a full server takes none");
+    expect(lughemra_server_request(core, 0, room + shift, 43).refusal == LUGHEMRA_NO_ROOM, "a room of a byte too few");
+    expect(lughemra_server_request(core, 0, room + shift, 44).length == 44, "a request at each alignment");
+    expect(memcmp(room + shift + 21, document, sizeof document) == 0, "its body at each alignment");
+    expect(lughemra_server_answer(core, 0, answer + shift, 0).refusal == LUGHEMRA_BAD_COUNT, "no answers");
+    expect(lughemra_server_answer(core, 0, NULL, SIZE_MAX).refusal == LUGHEMRA_BAD_COUNT, "null of SIZE_MAX is no answers");
+    expect(lughemra_server_answer(core, 0, answer + shift, 22).document_fault.number != 0, "a cut answer");
+    expect(lughemra_server_answer(core, 0, answer + shift, sizeof document).refusal == 0, "an answer at each alignment");
+    expect(lughemra_server_output(core, room + shift, 44).waiting == 44 && room[shift] == 44, "output of a server at each alignment");
+    expect(lughemra_server_sent(core, 44) == 0, "it is sent");
+    free(piece);
+    free(room);
+    free(answer);
+}
+
+/* Hands a server null pointers with lengths above PTRDIFF_MAX, and bytes at each alignment; and moves its handle. */
+static void try_server_bytes(void)
+{
+    struct lughemra_core core = {NULL, false}, moved;
+    expect(lughemra_server_new(&core, SIZE_MAX, 100) == LUGHEMRA_BAD_WINDOW && !core.there, "the greatest window of a server");
+    expect(lughemra_server_new(&core, 1, 100) == 0, "a server");
+    expect(lughemra_server_feed(&core, NULL, SIZE_MAX).taken == 0 && lughemra_server_feed(&core, document, 0).taken == 0, "no bytes");
+    expect(lughemra_server_output(&core, NULL, SIZE_MAX).copied == 0, "output of a server in null of SIZE_MAX");
+    expect(lughemra_server_sent(&core, SIZE_MAX) == LUGHEMRA_TOO_MANY && lughemra_server_sent(&core, 0) == 0, "SIZE_MAX are sent");
+    for (size_t shift = 0; shift < 16; shift++)
+        try_shifted_server(&core, shift);
+    moved = core;
+    expect(lughemra_server_state(&moved).refusal == 0, "a handle of a server that was moved");
+    expect(lughemra_free(&moved) == 0 && lughemra_free(&moved) == LUGHEMRA_NO_CORE, "it is freed once");
+}
+
 /* Calls of pools with handles of none, and with numbers out of range. */
 static void try_pools(void)
 {
@@ -426,6 +467,7 @@ int main(void)
     try_handles();
     try_clients();
     try_servers();
+    try_server_bytes();
     try_pools();
     try_alignments();
     if (!failed)
