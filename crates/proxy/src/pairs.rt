@@ -4,7 +4,7 @@ use crate::socket::Socket;
 use slab::Slab;
 use std::alloc::{AllocError, Global};
 use std::collections::VecDeque;
-use wire_relay::{Relay, Turned};
+use wire_relay::{NoTap, Relay, Turned};
 
 /// The most steps of a turn.
 const STEPS: u32 = 16;
@@ -86,7 +86,7 @@ impl Pairs {
         let Some(relay) = self.relays.get_mut(key) else {
             return Ok(());
         };
-        match relay.turn(STEPS) {
+        match relay.turn(STEPS, &mut NoTap, &mut NoTap) {
             Ok(Turned::Again) => self.take_up(key),
             Ok(Turned::Waits) => Ok(()),
             Ok(Turned::Over) | Err(_) => {

@@ -3,8 +3,8 @@ use Rattle.std.proofs.Common.{◌≡◌, ℕ, Option, List, [], ◌∷◌, ◌++
 use Rattle.std.proofs.KnownBytes.{Appends-nil, Appends-trans}
 use Rattle.std.specs.Io.KnownBytes.{Appends}
 use Rattle.wire_relay.specs.declared.way.Stage.TheVariants.{Open, Ending, Ended}
-use Rattle.wire_relay.specs.Acts.{Back, Comes, Ends, EndsSending, Goes, Idles, RelayAct, RelayRun, RelayView, Tells, There, WayAct, WayMoves, WayView}
-use Rattle.wire_relay.specs.Passing.{HasPassed, back_came, back_went, came, there_came, there_went, went}
+use Rattle.wire_relay.specs.Acts.{Back, Comes, Ends, EndsSending, Goes, Idles, RelayAct, RelayRun, RelayView, Tells, There, WayAct, WayMoves, WayView, back_came, back_went, came, there_came, there_went, went}
+use Rattle.wire_relay.specs.Passing.{HasPassed}
 
 -- What has passed so far: what came over the one link and went over the other since they had received and sent this.
 record So {F T : Type 0} (f : Tells F) (t : Tells T) (received sent : Option (List ℕ)) (c w : List ℕ) (from : F) (to : T) (way : WayView) : Type 0 where

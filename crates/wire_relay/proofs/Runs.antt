@@ -1,105 +1,125 @@
 -- Acts of a relay, one after another.
-use Rattle.std.proofs.Common.{◌≡◌, ◌⊎◌, List, [], ◌∷◌, ◌++◌, ap, refl, sym, subst, ◌∙◌, append_assoc, inl, inr}
+use Rattle.std.proofs.Common.{◌≡◌, ℕ, Option, List, [], ◌∷◌, ◌++◌, ap, refl, sym, subst, ◌∙◌, append_assoc, append-nil}
+use Rattle.std.proofs.KnownBytes.{Appends-nil, Appends-trans}
+use Rattle.std.specs.Io.KnownBytes.{Appends}
 use Rattle.std.specs.Prelude.{Result, Ok, Err}
 use Rattle.std.specs.Result.{IsErr}
 use Rattle.wire_relay.specs.declared.turned.RelayFault.{RelayFault}
 use Rattle.wire_relay.specs.declared.turned.Turned.{Turned}
 use Rattle.wire_relay.specs.declared.turned.Turned.TheVariants.{Again, Waits, Over}
 use Rattle.wire_relay.specs.declared.way.Stage.TheVariants.{Ended}
-use Rattle.wire_relay.specs.Acts.{Back, Idles, RelayAct, RelayMoves, RelayRun, RelayView, Tells, There, TurnedAs, Turns, WayAct, WayView, both, there, back}
+use Rattle.wire_relay.specs.Acts.{Back, Idles, RelayAct, RelayRun, RelayView, Tells, There, TurnedAs, Turns, back, back_came, both, came, there, there_came}
 use Rattle.wire_relay.specs.Steps.{WaySteps, taken_together}
 
+-- what came in acts, one after another
+there_on : (acts more : List RelayAct) → there_came (acts ++ more) ≡ there_came acts ++ there_came more
+there_on [] more = refl
+there_on (There act ∷ acts) more = ap (λ (x : List ℕ). came act ++ x) (there_on acts more) ∙ sym (append_assoc (came act) (there_came acts) (there_came more))
+there_on (Back act ∷ acts) more = there_on acts more
+
+back_on : (acts more : List RelayAct) → back_came (acts ++ more) ≡ back_came acts ++ back_came more
+back_on [] more = refl
+back_on (There act ∷ acts) more = back_on acts more
+back_on (Back act ∷ acts) more = ap (λ (x : List ℕ). came act ++ x) (back_on acts more) ∙ sym (append_assoc (came act) (back_came acts) (back_came more))
+
 module _ {N F : Type 0} (n : Tells N) (f : Tells F) where
-  pub run_on : (acts more : List RelayAct) (old mid new : RelayView N F) → RelayRun n f old acts mid → RelayRun n f mid more new
+  run_on : (acts more : List RelayAct) (old mid new : RelayView N F) → RelayRun n f old acts mid → RelayRun n f mid more new
       → RelayRun n f old (acts ++ more) new
   run_on [] more old mid new s r = subst (λ (x : RelayView N F). RelayRun n f x more new) s r
   run_on (act ∷ acts) more old mid new (after, done, rest) r = (after, done, run_on acts more after mid new rest r)
 
-  -- the steps on both ways, as results and as what they left
-  pub record Stepped (a b : Result Turned RelayFault) (old mid new : RelayView N F) : Type 0 where
-    pub there_steps : WaySteps n f a old.there mid.there old.near mid.near old.far mid.far
+  -- Acts so far, and what was seen of them.
+  pub record SoFar (old new : RelayView N F) (there there' back back' : Option (List ℕ)) : Type 0 where
+    pub acts : List RelayAct
+    pub run : RelayRun n f old acts new
+    pub there_seen : Appends there there' (there_came acts)
+    pub back_seen : Appends back back' (back_came acts)
+
+  pub none_yet : (r : RelayView N F) (t s : Option (List ℕ)) → SoFar r r t t s s
+  none_yet r t s = record { acts = []; run = refl; there_seen = Appends-nil t; back_seen = Appends-nil s }
+
+  then : (old mid new : RelayView N F) (a a' a'' b b' b'' : Option (List ℕ)) → SoFar old mid a a' b b' → SoFar mid new a' a'' b' b'' → SoFar old new a a'' b b''
+  then old mid new a a' a'' b b' b'' s r = record {
+    acts = s.acts ++ r.acts;
+    run = run_on s.acts r.acts old mid new s.run r.run;
+    there_seen = rw (there_on s.acts r.acts) (Appends-trans a a' a'' (there_came s.acts) (there_came r.acts) s.there_seen r.there_seen);
+    back_seen = rw (back_on s.acts r.acts) (Appends-trans b b' b'' (back_came s.acts) (back_came r.acts) s.back_seen r.back_seen);
+  }
+
+  -- ---- a step on each way
+
+  -- The steps on both ways, as results, as what they left, and as what was seen.
+  pub record Stepped (a b : Result Turned RelayFault) (old mid new : RelayView N F) (there there' back back' : Option (List ℕ)) : Type 0 where
+    pub there_steps : WaySteps n f a old.there mid.there old.near mid.near old.far mid.far there there'
     pub there_keeps : mid.back ≡ old.back
-    pub back_steps : WaySteps f n b mid.back new.back mid.far new.far mid.near new.near
+    pub back_steps : WaySteps f n b mid.back new.back mid.far new.far mid.near new.near back back'
     pub back_keeps : new.there ≡ mid.there
 
   -- a step that did something is an act, and one on a way that is over is none
-  there_does : (a : Turned) (old mid : RelayView N F) → WaySteps n f (Ok a) old.there mid.there old.near mid.near old.far mid.far → mid.back ≡ old.back
-      → (acts : List RelayAct) × RelayRun n f old acts mid
-  there_does Again old mid (act, moves) keeps = (There act ∷ [], (mid, (moves, keeps), refl))
-  there_does Waits old mid moves keeps = (There Idles ∷ [], (mid, (moves, keeps), refl))
-  there_does Over old mid (is, way, from, to) keeps = ([], rw (way, from, to, keeps) refl)
+  there_does : (a : Turned) (old mid : RelayView N F) (t t' b : Option (List ℕ)) → WaySteps n f (Ok a) old.there mid.there old.near mid.near old.far mid.far t t'
+      → mid.back ≡ old.back → SoFar old mid t t' b b
+  there_does Again old mid t t' b (act, moves, seen) keeps =
+      record { acts = There act ∷ []; run = (mid, (moves, keeps), refl); there_seen = rw (append-nil (came act)) seen; back_seen = Appends-nil b }
+  there_does Waits old mid t t' b (moves, same) keeps =
+      record { acts = There Idles ∷ []; run = (mid, (moves, keeps), refl); there_seen = rw same (Appends-nil t); back_seen = Appends-nil b }
+  there_does Over old mid t t' b (is, way, from, to, same) keeps =
+      record { acts = []; run = rw (way, from, to, keeps) refl; there_seen = rw same (Appends-nil t); back_seen = Appends-nil b }
 
-  back_does : (b : Turned) (mid new : RelayView N F) → WaySteps f n (Ok b) mid.back new.back mid.far new.far mid.near new.near → new.there ≡ mid.there
-      → (acts : List RelayAct) × RelayRun n f mid acts new
-  back_does Again mid new (act, moves) keeps = (Back act ∷ [], (new, (moves, keeps), refl))
-  back_does Waits mid new moves keeps = (Back Idles ∷ [], (new, (moves, keeps), refl))
-  back_does Over mid new (is, way, from, to) keeps = ([], rw (way, from, to, keeps) refl)
+  back_does : (b : Turned) (mid new : RelayView N F) (t s s' : Option (List ℕ)) → WaySteps f n (Ok b) mid.back new.back mid.far new.far mid.near new.near s s'
+      → new.there ≡ mid.there → SoFar mid new t t s s'
+  back_does Again mid new t s s' (act, moves, seen) keeps =
+      record { acts = Back act ∷ []; run = (new, (moves, keeps), refl); there_seen = Appends-nil t; back_seen = rw (append-nil (came act)) seen }
+  back_does Waits mid new t s s' (moves, same) keeps =
+      record { acts = Back Idles ∷ []; run = (new, (moves, keeps), refl); there_seen = Appends-nil t; back_seen = rw same (Appends-nil s) }
+  back_does Over mid new t s s' (is, way, from, to, same) keeps =
+      record { acts = []; run = rw (way, from, to, keeps) refl; there_seen = Appends-nil t; back_seen = rw same (Appends-nil s) }
+
+  both_do : (a b : Turned) (old mid new : RelayView N F) (t t' s s' : Option (List ℕ)) → Stepped (Ok a) (Ok b) old mid new t t' s s' → SoFar old new t t' s s'
+  both_do a b old mid new t t' s s' x =
+      then old mid new t t' t' s s s' (there_does a old mid t t' s x.there_steps x.there_keeps) (back_does b mid new t' s s' x.back_steps x.back_keeps)
+
+  turns_to : (result : Result Turned RelayFault) (old new : RelayView N F) (t t' s s' : Option (List ℕ)) (x : SoFar old new t t' s s') → TurnedAs result x.acts new
+      → Turns n f result old new t t' s s'
+  turns_to result old new t t' s s' x comes = record { acts = x.acts; run = x.run; comes_to = comes; there_seen = x.there_seen; back_seen = x.back_seen }
 
   -- the link failed on the way there
-  pub there_fails : (e : RelayFault) (result : Result Turned RelayFault) (old mid : RelayView N F) → IsErr result
-      → WaySteps n f (Err e) old.there mid.there old.near mid.near old.far mid.far → mid.back ≡ old.back → Turns n f result old mid
-  there_fails e (Ok turned) old mid is moves keeps = absurd cc
-  there_fails e (Err fault) old mid is moves keeps = record { acts = There Idles ∷ []; run = (mid, (moves, keeps), refl); comes_to = tt }
+  pub there_fails : (e : RelayFault) (result : Result Turned RelayFault) (old mid : RelayView N F) (t t' s : Option (List ℕ)) → IsErr result
+      → WaySteps n f (Err e) old.there mid.there old.near mid.near old.far mid.far t t' → mid.back ≡ old.back → Turns n f result old mid t t' s s
+  there_fails e (Ok turned) old mid t t' s is moves keeps = absurd cc
+  there_fails e (Err fault) old mid t t' s is (moves, same) keeps =
+      turns_to (Err fault) old mid t t' s s (there_does Waits old mid t t' s (moves, same) keeps) tt
 
   -- the link failed on the way back
-  pub back_fails : (a : Turned) (e : RelayFault) (result : Result Turned RelayFault) (old mid new : RelayView N F) → IsErr result → Stepped (Ok a) (Err e) old mid new
-      → Turns n f result old new
-  back_fails a e (Ok turned) old mid new is s = absurd cc
-  back_fails a e (Err fault) old mid new is s =
-      let first = there_does a old mid s.there_steps s.there_keeps in
-      record { acts = first.0 ++ Back Idles ∷ []; run = run_on first.0 (Back Idles ∷ []) old mid new first.1 (new, (s.back_steps, s.back_keeps), refl); comes_to = tt }
+  pub back_fails : (a : Turned) (e : RelayFault) (result : Result Turned RelayFault) (old mid new : RelayView N F) (t t' s s' : Option (List ℕ)) → IsErr result
+      → Stepped (Ok a) (Err e) old mid new t t' s s' → Turns n f result old new t t' s s'
+  back_fails a e (Ok turned) old mid new t t' s s' is x = absurd cc
+  back_fails a e (Err fault) old mid new t t' s s' is x =
+      turns_to (Err fault) old new t t' s s'
+      (both_do a Waits old mid new t t' s s' (record { there_steps = x.there_steps; there_keeps = x.there_keeps; back_steps = x.back_steps; back_keeps = x.back_keeps })) tt
 
-  -- there may be more to do
-  goes_on : (a b : Turned) (old mid new : RelayView N F) → Stepped (Ok a) (Ok b) old mid new → Turns n f (Ok Again) old new
-  goes_on a b old mid new s =
-      let first = there_does a old mid s.there_steps s.there_keeps in
-      let second = back_does b mid new s.back_steps s.back_keeps in
-      record { acts = first.0 ++ second.0; run = run_on first.0 second.0 old mid new first.1 second.1; comes_to = tt }
-
-  pub both_step : (a b : Turned) (old mid new : RelayView N F) → Stepped (Ok a) (Ok b) old mid new → Turns n f (Ok (taken_together a b)) old new
-  both_step Again b old mid new s = goes_on Again b old mid new s
-  both_step Waits Again old mid new s = goes_on Waits Again old mid new s
-  both_step Over Again old mid new s = goes_on Over Again old mid new s
-  both_step Waits Waits old mid new s = record {
-    acts = There Idles ∷ Back Idles ∷ [];
-    run = (mid, (s.there_steps, s.there_keeps), (new, (s.back_steps, s.back_keeps), refl));
-    comes_to = both [] refl;
-  }
-  both_step Waits Over old mid new s =
-      let (ended, way, from, to) = s.back_steps in
-      record {
-        acts = There Idles ∷ [];
-        run = (mid, (s.there_steps, s.there_keeps), rw (way, from, to, s.back_keeps) refl);
-        comes_to = there [] refl (rw way ended);
-      }
-  both_step Over Waits old mid new s =
-      let (ended, way, from, to) = s.there_steps in
-      record {
-        acts = Back Idles ∷ [];
-        run = subst (λ (x : RelayView N F). RelayRun n f x (Back Idles ∷ []) new) (rw (way, from, to, s.there_keeps) refl) (new, (s.back_steps, s.back_keeps), refl);
-        comes_to = back [] refl (rw (s.back_keeps, way) ended);
-      }
-  both_step Over Over old mid new s =
-      let (ended, way, from, to) = s.there_steps in
-      let (ended', way', from', to') = s.back_steps in
-      record {
-        acts = [];
-        run = rw (way', from', to', s.back_keeps, way, from, to, s.there_keeps) refl;
-        comes_to = (rw (s.back_keeps, way) ended, rw way' ended');
-      }
+  pub both_step : (a b : Turned) (old mid new : RelayView N F) (t t' s s' : Option (List ℕ)) → Stepped (Ok a) (Ok b) old mid new t t' s s'
+      → Turns n f (Ok (taken_together a b)) old new t t' s s'
+  unfolding both_do there_does back_does then
+  both_step Again b old mid new t t' s s' x = turns_to (Ok Again) old new t t' s s' (both_do Again b old mid new t t' s s' x) tt
+  both_step Waits Again old mid new t t' s s' x = turns_to (Ok Again) old new t t' s s' (both_do Waits Again old mid new t t' s s' x) tt
+  both_step Over Again old mid new t t' s s' x = turns_to (Ok Again) old new t t' s s' (both_do Over Again old mid new t t' s s' x) tt
+  both_step Waits Waits old mid new t t' s s' x = turns_to (Ok Waits) old new t t' s s' (both_do Waits Waits old mid new t t' s s' x) (both [] refl)
+  both_step Waits Over old mid new t t' s s' x =
+      turns_to (Ok Waits) old new t t' s s' (both_do Waits Over old mid new t t' s s' x) (there [] refl (rw x.back_steps.1 x.back_steps.0))
+  both_step Over Waits old mid new t t' s s' x =
+      turns_to (Ok Waits) old new t t' s s' (both_do Over Waits old mid new t t' s s' x) (back [] refl (rw (x.back_keeps, x.there_steps.1) x.there_steps.0))
+  both_step Over Over old mid new t t' s s' x =
+      turns_to (Ok Over) old new t t' s s' (both_do Over Over old mid new t t' s s' x)
+      (rw (x.back_keeps, x.there_steps.1) x.there_steps.0, rw x.back_steps.1 x.back_steps.0)
 
   -- ---- a turn
 
-  -- the acts so far
-  pub record SoFar (old new : RelayView N F) : Type 0 where
-    pub acts : List RelayAct
-    pub run : RelayRun n f old acts new
+  of_turn : (result : Result Turned RelayFault) (old new : RelayView N F) (t t' s s' : Option (List ℕ)) → Turns n f result old new t t' s s' → SoFar old new t t' s s'
+  of_turn result old new t t' s s' x = record { acts = x.acts; run = x.run; there_seen = x.there_seen; back_seen = x.back_seen }
 
-  pub none_yet : (r : RelayView N F) → SoFar r r
-  none_yet r = record { acts = []; run = refl }
-
-  pub one_more : (result : Result Turned RelayFault) (old mid new : RelayView N F) → SoFar old mid → Turns n f result mid new → SoFar old new
-  one_more result old mid new s t = record { acts = s.acts ++ t.acts; run = run_on s.acts t.acts old mid new s.run t.run }
+  pub one_more : (result : Result Turned RelayFault) (old mid new : RelayView N F) (t t' t'' s s' s'' : Option (List ℕ)) → SoFar old mid t t' s s'
+      → Turns n f result mid new t' t'' s' s'' → SoFar old new t t'' s s''
+  one_more result old mid new t t' t'' s s' s'' so x = then old mid new t t' t'' s s' s'' so (of_turn result mid new t' t'' s' s'' x)
 
   comes_on : (front acts : List RelayAct) (result : Result Turned RelayFault) (r : RelayView N F) → TurnedAs result acts r → TurnedAs result (front ++ acts) r
   comes_on front acts (Ok Over) r x = x
@@ -109,17 +129,17 @@ module _ {N F : Type 0} (n : Tells N) (f : Tells F) where
   comes_on front acts (Ok Again) r x = x
   comes_on front acts (Err e) r x = x
 
-  pub last_step : (result : Result Turned RelayFault) (old mid new : RelayView N F) → SoFar old mid → Turns n f result mid new → Turns n f result old new
-  last_step result old mid new s t = record {
-    acts = s.acts ++ t.acts;
-    run = run_on s.acts t.acts old mid new s.run t.run;
-    comes_to = comes_on s.acts t.acts result new t.comes_to;
-  }
+  pub last_step : (result : Result Turned RelayFault) (old mid new : RelayView N F) (t t' t'' s s' s'' : Option (List ℕ)) → SoFar old mid t t' s s'
+      → Turns n f result mid new t' t'' s' s'' → Turns n f result old new t t'' s s''
+  unfolding one_more of_turn then
+  last_step result old mid new t t' t'' s s' s'' so x =
+      turns_to result old new t t'' s s'' (one_more result old mid new t t' t'' s s' s'' so x) (comes_on so.acts x.acts result new x.comes_to)
 
-  pub last_fails : (e : RelayFault) (result : Result Turned RelayFault) (old mid new : RelayView N F) → IsErr result → SoFar old mid → Turns n f (Err e) mid new
-      → Turns n f result old new
-  last_fails e (Ok turned) old mid new is s t = absurd cc
-  last_fails e (Err fault) old mid new is s t = record { acts = s.acts ++ t.acts; run = run_on s.acts t.acts old mid new s.run t.run; comes_to = tt }
+  pub last_fails : (e : RelayFault) (result : Result Turned RelayFault) (old mid new : RelayView N F) (t t' t'' s s' s'' : Option (List ℕ)) → IsErr result
+      → SoFar old mid t t' s s' → Turns n f (Err e) mid new t' t'' s' s'' → Turns n f result old new t t'' s s''
+  last_fails e (Ok turned) old mid new t t' t'' s s' s'' is so x = absurd cc
+  last_fails e (Err fault) old mid new t t' t'' s s' s'' is so x =
+      turns_to (Err fault) old new t t'' s s'' (one_more (Err e) old mid new t t' t'' s s' s'' so x) tt
 
-  pub all_steps : (old new : RelayView N F) → SoFar old new → Turns n f (Ok Again) old new
-  all_steps old new s = record { acts = s.acts; run = s.run; comes_to = tt }
+  pub all_steps : (old new : RelayView N F) (t t' s s' : Option (List ℕ)) → SoFar old new t t' s s' → Turns n f (Ok Again) old new t t' s s'
+  all_steps old new t t' s s' so = turns_to (Ok Again) old new t t' s s' so tt

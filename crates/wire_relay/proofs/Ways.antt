@@ -8,9 +8,9 @@ use Rattle.wire_relay.specs.declared.turned.Turned.{Turned}
 use Rattle.wire_relay.specs.declared.turned.Turned.TheVariants.{Again, Waits, Over}
 use Rattle.wire_stream.specs.declared.link.Moved.TheVariants.{Bytes}
 use Rattle.wire_relay.specs.declared.way.Stage.{Stage}
-use Rattle.wire_relay.specs.declared.way.Stage.TheVariants.{Open}
-use Rattle.wire_relay.specs.Acts.{Comes, Ends, Goes, GoesOver, Tells, WayView}
-use Rattle.wire_relay.specs.Steps.{Receives, Sends, WaySteps}
+use Rattle.wire_relay.specs.declared.way.Stage.TheVariants.{Open, Ending}
+use Rattle.wire_relay.specs.Acts.{Comes, Ends, EndsSending, Goes, GoesOver, Tells, WayView}
+use Rattle.wire_relay.specs.Steps.{Finishes, Receives, Sends, WaySteps}
 use Rattle.wire_relay.specs.WayParts.{view_of}
 use Rattle.wire_relay.proofs.Windows.{sent_part, some_first}
 
@@ -21,19 +21,27 @@ module _ {F T : Type 0} (f : Tells F) (t : Tells T) where
   idle_to : (to : T) → GoesOver t [] [] to to
   idle_to to = record { received = Appends-nil (t.received to); sent = Appends-nil (t.sent to) }
 
-  pub sends : (result : Result Turned RelayFault) (old new : WayView) (from : F) (to to' : T) → Sends t result old new to to' → WaySteps f t result old new from from to to'
-  sends (Ok Again) old new from to to' (bytes, some, first, stage, over) = (Goes bytes, (some, first, stage, over, refl))
-  sends (Ok Waits) old new from to to' (same, over) = (same, idle_from from, over)
-  sends (Ok Over) old new from to to' x = absurd x
-  sends (Err e) old new from to to' (same, over) = (same, idle_from from, over)
+  pub sends : (result : Result Turned RelayFault) (old new : WayView) (from : F) (to to' : T) (seen : Option (List ℕ)) → Sends t result old new to to'
+      → WaySteps f t result old new from from to to' seen seen
+  sends (Ok Again) old new from to to' seen (bytes, some, first, stage, over) = (Goes bytes, (some, first, stage, over, refl), Appends-nil seen)
+  sends (Ok Waits) old new from to to' seen (same, over) = ((same, idle_from from, over), refl)
+  sends (Ok Over) old new from to to' seen x = absurd x
+  sends (Err e) old new from to to' seen (same, over) = ((same, idle_from from, over), refl)
 
-  pub receives : (result : Result Turned RelayFault) (old new : WayView) (from from' : F) (to : T) → old.stage ≡ Open → old.held ≡ [] → Receives f result old new from from'
-      → WaySteps f t result old new from from' to to
-  receives (Ok Again) old new from from' to is_open none (inl (some, is, over)) = (Comes new.held, (is_open, none, some, is, over, refl))
-  receives (Ok Again) old new from from' to is_open none (inr (is, told, over)) = (Ends, (is_open, none, is, told, over, refl))
-  receives (Ok Waits) old new from from' to is_open none (same, over) = (same, over, idle_to to)
-  receives (Ok Over) old new from from' to is_open none x = absurd x
-  receives (Err e) old new from from' to is_open none (same, over) = (same, over, idle_to to)
+  pub receives : (result : Result Turned RelayFault) (old new : WayView) (from from' : F) (to : T) (seen seen' : Option (List ℕ)) → old.stage ≡ Open → old.held ≡ []
+      → Receives f result old new from from' seen seen' → WaySteps f t result old new from from' to to seen seen'
+  receives (Ok Again) old new from from' to seen seen' is_open none (inl (some, is, over, saw)) = (Comes new.held, (is_open, none, some, is, over, refl), saw)
+  receives (Ok Again) old new from from' to seen seen' is_open none (inr (is, told, over, same)) = (Ends, (is_open, none, is, told, over, refl), rw same (Appends-nil seen))
+  receives (Ok Waits) old new from from' to seen seen' is_open none (same, over, saw) = ((same, over, idle_to to), saw)
+  receives (Ok Over) old new from from' to seen seen' is_open none x = absurd x
+  receives (Err e) old new from from' to seen seen' is_open none (same, over, saw) = ((same, over, idle_to to), saw)
+
+  pub finishes : (result : Result Turned RelayFault) (old new : WayView) (from : F) (to to' : T) (seen : Option (List ℕ)) → old.stage ≡ Ending → old.held ≡ []
+      → Finishes t result old new to to' → WaySteps f t result old new from from to to' seen seen
+  finishes (Ok Again) old new from to to' seen ending none (is, over) = (EndsSending, (ending, none, is, over, refl), Appends-nil seen)
+  finishes (Ok Waits) old new from to to' seen ending none x = absurd x
+  finishes (Ok Over) old new from to to' seen ending none x = absurd x
+  finishes (Err e) old new from to to' seen ending none (same, over) = ((same, idle_from from, over), refl)
 
 -- The link took the first n of the bytes that are held.
 pub has_sent : {T : Type 0} (t : Tells T) (piece : List ℕ) (start end n : ℕ) (stage : Stage) (to to' : T) (bytes : List ℕ) → bytes ≡ take (end - start) (drop start piece)

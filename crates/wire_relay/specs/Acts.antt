@@ -49,6 +49,15 @@ pub data WayAct : Type 0 where
   EndsSending : WayAct
   Idles : WayAct
 
+-- the bytes that came in an act on a way, and those that went
+abbrev pub came : WayAct → List ℕ
+came (Comes bytes) = bytes
+came act = []
+
+abbrev pub went : WayAct → List ℕ
+went (Goes bytes) = bytes
+went act = []
+
 -- The act was done on a way, from the one link to the other.
 abbrev pub WayMoves : {F T : Type 0} → Tells F → Tells T → WayAct → (old new : WayView)
     → (from from' : F) → (to to' : T) → Type 0
@@ -100,6 +109,28 @@ RelayRun n f old [] new = new ≡ old
 RelayRun {N} {F} n f old (act ∷ acts) new =
     (mid : RelayView N F) × RelayMoves n f act old mid × RelayRun n f mid acts new
 
+-- the bytes that came over the near link in these acts, and those that went over the far one
+abbrev pub there_came : List RelayAct → List ℕ
+there_came [] = []
+there_came (There act ∷ acts) = came act ++ there_came acts
+there_came (Back act ∷ acts) = there_came acts
+
+abbrev pub there_went : List RelayAct → List ℕ
+there_went [] = []
+there_went (There act ∷ acts) = went act ++ there_went acts
+there_went (Back act ∷ acts) = there_went acts
+
+-- the bytes that came over the far link in these acts, and those that went over the near one
+abbrev pub back_came : List RelayAct → List ℕ
+back_came [] = []
+back_came (There act ∷ acts) = back_came acts
+back_came (Back act ∷ acts) = came act ++ back_came acts
+
+abbrev pub back_went : List RelayAct → List ℕ
+back_went [] = []
+back_went (There act ∷ acts) = back_went acts
+back_went (Back act ∷ acts) = went act ++ back_went acts
+
 -- ---- what a turn came to
 
 -- both ways are over
@@ -122,9 +153,11 @@ TurnedAs (Ok turns.Over) acts r = IsOver r
 TurnedAs (Ok turns.Waits) acts r = IsWaiting acts r
 TurnedAs result acts r = Unit {0}
 
--- Acts were done, and it came to this.
+-- Acts were done, and it came to this. What came on each way was seen.
 pub record Turns {N F : Type 0} (n : Tells N) (f : Tells F) (result : Result Turned RelayFault)
-    (old new : RelayView N F) : Type 0 where
+    (old new : RelayView N F) (there there' back back' : Option (List ℕ)) : Type 0 where
   pub acts : List RelayAct
   pub run : RelayRun n f old acts new
   pub comes_to : TurnedAs result acts new
+  pub there_seen : Appends there there' (there_came acts)
+  pub back_seen : Appends back back' (back_came acts)

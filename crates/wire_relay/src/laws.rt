@@ -1,8 +1,9 @@
 //! The law of relays. The contract of the function is the law.
 
 ghost use Rattle.std.specs.Prelude.{List};
-ghost use Rattle.wire_relay.specs.Acts.{RelayAct, RelayRun, RelayView, new_relay, tells};
-ghost use Rattle.wire_relay.specs.Passing.{HasPassed, back_came, back_went, there_came, there_went};
+ghost use Rattle.wire_relay.specs.Acts.{RelayAct, RelayRun, RelayView, back_came, back_went};
+ghost use Rattle.wire_relay.specs.Acts.{new_relay, tells, there_came, there_went};
+ghost use Rattle.wire_relay.specs.Passing.{HasPassed};
 
 use wire_stream::Link;
 

@@ -3,6 +3,7 @@
 ghost use Rattle.std.specs.Prelude.{◌≡◌, IfOk};
 ghost use Rattle.wire_relay.specs.Acts.{Turns, new_relay, tells};
 
+use crate::tap::Tap;
 use crate::turned::{RelayFault, Turned};
 use crate::way::{EndSending, Way};
 use std::alloc::{AllocError, Global};
@@ -60,27 +61,40 @@ impl<N: EndSending + Drop, F: EndSending + Drop> Relay<N, F> {
     }
 
     /// Takes a step on each way.
-    fn step(&mut self) -> Result<Turned, RelayFault>
+    fn step<A: Tap, B: Tap>(
+        &mut self,
+        there_tap: &mut A,
+        back_tap: &mut B,
+    ) -> Result<Turned, RelayFault>
         ensures { Turns (tells N.received N.sent N.ends N.waits)
-            (tells F.received F.sent F.ends F.waits) result self.old self.new }
+            (tells F.received F.sent F.ends F.waits) result self.old self.new
+            (A.seen there_tap.old) (A.seen there_tap.new)
+            (B.seen back_tap.old) (B.seen back_tap.new) }
     {
-        let there = self.there.step(&mut self.near, &mut self.far)?;
-        let back = self.back.step(&mut self.far, &mut self.near)?;
+        let there = self.there.step(&mut self.near, &mut self.far, there_tap)?;
+        let back = self.back.step(&mut self.far, &mut self.near, back_tap)?;
         Ok(there.and(back))
     }
 
-    /// Takes a turn of at most `steps` steps on each way.
+    /// Takes a turn of at most `steps` steps on each way. `there` sees what comes over the near link,
+    /// and `back` what comes over the far one.
     ///
     /// # Errors
     ///
     /// Returns which link failed, by the way that it failed on. Nothing is lost, and nothing is
     /// sent twice.
-    pub fn turn(&mut self, steps: u32) -> Result<Turned, RelayFault>
+    pub fn turn<A: Tap, B: Tap>(
+        &mut self,
+        steps: u32,
+        there: &mut A,
+        back: &mut B,
+    ) -> Result<Turned, RelayFault>
         ensures { Turns (tells N.received N.sent N.ends N.waits)
-            (tells F.received F.sent F.ends F.waits) result self.old self.new }
+            (tells F.received F.sent F.ends F.waits) result self.old self.new
+            (A.seen there.old) (A.seen there.new) (B.seen back.old) (B.seen back.new) }
     {
         for _ in 0..steps {
-            match self.step()? {
+            match self.step(there, back)? {
                 Turned::Again => {}
                 over => return Ok(over),
             }

@@ -5,6 +5,7 @@ ghost use Rattle.std.specs.Io.KnownBytes.{Keeps};
 ghost use Rattle.wire_relay.specs.Acts.{new_way, tells};
 ghost use Rattle.wire_relay.specs.Steps.{Finishes, Receives, Sends, WaySteps};
 
+use crate::tap::Tap;
 use crate::turned::{RelayFault, Turned};
 use std::alloc::{AllocError, Global};
 use std::marker::Model;
@@ -92,11 +93,11 @@ impl Way {
     }
 
     /// Receives a piece, or notes the end of the link.
-    fn receive<F: Link>(&mut self, from: &mut F) -> Result<Turned, RelayFault>
+    fn receive<F: Link, P: Tap>(&mut self, from: &mut F, tap: &mut P) -> Result<Turned, RelayFault>
         requires open { self.old.stage ≡ Stage.Open }
         requires none { self.old.held ≡ [] }
         ensures { Receives (tells F.received F.sent F.ends F.waits) result
-            self.old self.new from.old from.new }
+            self.old self.new from.old from.new (P.seen tap.old) (P.seen tap.new) }
     {
         match from.recv(&mut self.piece) {
             Ok(Moved::Bytes(0)) => {
@@ -106,6 +107,7 @@ impl Way {
             Ok(Moved::Bytes(n)) => {
                 self.start = 0;
                 self.end = n;
+                tap.see(&self.piece[..n]);
                 Ok(Turned::Again)
             }
             Ok(Moved::Later) => Ok(Turned::Waits),
@@ -129,25 +131,27 @@ impl Way {
         }
     }
 
-    /// Takes a step: sends what is held, else receives, else ends the sending.
+    /// Takes a step: sends what is held, else receives, which the tap sees, else ends the sending.
     ///
     /// # Errors
     ///
     /// Returns which link failed. Nothing is lost, and nothing is sent twice.
-    pub(crate) fn step<F: Link, T: EndSending>(
+    pub(crate) fn step<F: Link, T: EndSending, P: Tap>(
         &mut self,
         from: &mut F,
         to: &mut T,
+        tap: &mut P,
     ) -> Result<Turned, RelayFault>
         ensures { WaySteps (tells F.received F.sent F.ends F.waits)
             (tells T.received T.sent T.ends T.waits) result
-            self.old self.new from.old from.new to.old to.new }
+            self.old self.new from.old from.new to.old to.new
+            (P.seen tap.old) (P.seen tap.new) }
     {
         if self.start < self.end {
             return self.send(to);
         }
         match self.stage {
-            Stage::Open => self.receive(from),
+            Stage::Open => self.receive(from, tap),
             Stage::Ending => self.finish(to),
             Stage::Ended => Ok(Turned::Over),
         }

@@ -2,14 +2,14 @@
 
 use crate::relays::{has, link_of};
 use std::alloc::Global;
-use wire_relay::{Relay, Turned};
+use wire_relay::{NoTap, Relay, Turned};
 
 /// Returns whether bytes pass both ways; none if memory for the relay is refused.
 fn passes(alloc: Global) -> Option<bool> {
     let near = link_of(alloc, b"ab", 1)?;
     let far = link_of(alloc, b"c", 1)?;
     let mut relay = Relay::new(alloc, near, far).ok()?;
-    let over = relay.turn(100) == Ok(Turned::Over);
+    let over = relay.turn(100, &mut NoTap, &mut NoTap) == Ok(Turned::Over);
     Some(over && has(relay.near(), b"c") && has(relay.far(), b"ab"))
 }
 

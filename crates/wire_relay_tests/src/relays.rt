@@ -4,7 +4,7 @@ ghost use Rattle.std.specs.Prelude.{◌<◌, None, Some};
 
 use std::alloc::Global;
 use std::io::ErrorKind;
-use wire_relay::{EndSending, Relay, RelayFault, Turned};
+use wire_relay::{EndSending, NoTap, Relay, RelayFault, Tap, Turned};
 use wire_stream::{Link, LinkFault, MemLink, Moved};
 
 /// The most bytes that a link takes.
@@ -58,20 +58,36 @@ pub(crate) fn link_of(alloc: Global, bytes: &[u8], most: usize) -> Option<Side>
     })
 }
 
+/// Keeps the bytes that it sees, as long as there is memory.
+#[derive(Drop)]
+struct Kept(Vec<u8>);
+
+impl Tap for Kept {
+    ghost seen = { λ _. None };
+
+    fn see(&mut self, bytes: &[u8]) {
+        let _ = self.0.extend_from_slice(bytes);
+    }
+}
+
 /// Returns true if the side was sent these bytes and the end.
 pub(crate) fn has(side: &Side, bytes: &[u8]) -> bool {
     side.link.sent_bytes() == bytes && side.ended
 }
 
-/// Returns whether each side gets the other's bytes and end, moved at most so many at a time.
+/// Returns whether each side gets the other's bytes and end, moved at most so many at a time, and
+/// the taps see them.
 fn passes(alloc: Global, near: &[u8], far: &[u8], most: usize) -> Option<bool>
     requires { 0 < most }
 {
     let near_side = link_of(alloc, near, most)?;
     let far_side = link_of(alloc, far, most)?;
     let mut relay = Relay::new(alloc, near_side, far_side).ok()?;
-    let over = relay.turn(1000) == Ok(Turned::Over);
-    Some(over && has(relay.near(), far) && has(relay.far(), near))
+    let mut there = Kept(Vec::new(alloc));
+    let mut back = Kept(Vec::new(alloc));
+    let over = relay.turn(1000, &mut there, &mut back) == Ok(Turned::Over);
+    let seen = there.0.as_slice() == near && back.0.as_slice() == far;
+    Some(over && seen && has(relay.near(), far) && has(relay.far(), near))
 }
 
 #[test]
@@ -93,7 +109,7 @@ fn fails(alloc: Global) -> Option<Result<Turned, RelayFault>> {
         ended: false,
     };
     let mut relay = Relay::new(alloc, near, far).ok()?;
-    Some(relay.turn(1000))
+    Some(relay.turn(1000, &mut NoTap, &mut NoTap))
 }
 
 #[test]
