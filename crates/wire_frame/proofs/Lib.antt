@@ -1,0 +1,5 @@
+pub mod CrcLaws
+pub mod FrontLaws
+pub mod Splits
+pub mod MessageLaws
+pub mod Lemmas
