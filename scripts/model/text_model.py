@@ -281,8 +281,12 @@ def refuse(cause, at, holds, inner=None):
         raise BadMessage(cause, at, inner)
 
 
-def check_header(b):
+def check_length(b):
     refuse(1, 0, not 16 <= number(b, 0, 4, False) <= MAX_MESSAGE)
+
+
+def check_header(b):
+    check_length(b)
     refuse(2, 12, number(b, 12) != 2013, number(b, 12))
 
 
@@ -330,10 +334,15 @@ def sequence(b, p):
     return p, b[p + 5:stop], found
 
 
+def numbers(b):
+    """Returns the length and the ids of a message, as its first line has them."""
+    return f"{len(b)} id {number(b, 4)} to {number(b, 8)}"
+
+
 def message_lines(b):
     flags, body, sequences = message(b)
     words = "+".join(word for bit, word in ((1 << 1, "more"), (1 << 16, "exhaust")) if flags & bit) or "-"
-    lines = [f"message {len(b)} id {number(b, 4)} to {number(b, 8)} flags {words}".encode(), b"body %d" % body[0], *element_lines(body[1], 1)]
+    lines = [f"message {numbers(b)} flags {words}".encode(), b"body %d" % body[0], *element_lines(body[1], 1)]
     for name, documents in sequences:
         lines.append(b"sequence %s %d" % (quoted(name), len(documents)))
         for length, found in documents:
@@ -382,6 +391,41 @@ def one_message(_, b, flags=(), start=0):  # pylint: disable=unused-argument
     return length, b"".join(line + b"\n" for line in message_lines(b[:length]))
 
 
+WORDS_OF = {1: "reply", 2004: "query", 2012: "compressed", 2013: "message"}
+
+
+def crc32c(b):
+    """Returns the CRC-32C, as the remainder of the polynomial whose coefficients are the bits of these bytes, lowest bit first."""
+    polynomial = 0x11EDC6F41
+    bits = int.from_bytes(b"".join(int(f"{byte:08b}"[::-1], 2).to_bytes(1, "big") for byte in b), "big")
+    left = bits << 32 ^ 0xFFFFFFFF << 8 * len(b)
+    for at in reversed(range(32, left.bit_length())):
+        if left >> at & 1:
+            left ^= polynomial << at - 32
+    return int(f"{left ^ 0xFFFFFFFF:032b}"[::-1], 2)
+
+
+def one_frame(_, b, flags=(), start=0):  # pylint: disable=unused-argument
+    """Returns the length and the text of a message of any opcode, in which a fault is told at its offset in the input."""
+    if len(b) >= 16:
+        check_length(b)
+    if len(b) < 16 or len(b) < number(b, 0):
+        return None, b""
+    b = b[:number(b, 0)]
+    opcode = number(b, 12)
+    end = "" if opcode in WORDS_OF else f" opcode {opcode}"
+    lines = [f"{WORDS_OF.get(opcode, 'other')} {numbers(b)}{end}".encode()]
+    if opcode == 2013:
+        try:
+            lines = message_lines(b)
+        except BadMessage as fault:
+            lines.append(f"fault {fault.line(start)}".encode())
+        if len(b) >= 20 and b[16] & 1:
+            right = len(b) >= 24 and number(b, len(b) - 4, 4, False) == crc32c(b[:-4])
+            lines.append(b"checksum " + (b"ok" if right else b"bad"))
+    return len(b), b"".join(line + b"\n" for line in lines)
+
+
 def found_at(b, at):
     """Returns the length of the document of at most SALVAGED bytes that stands at an offset, and else why none does."""
     if len(b) >= at + 4 and number(b, at) > SALVAGED:
@@ -415,7 +459,8 @@ def output(command, flags, given):
     at, text, fault = 0, b"", None
     while at < len(b) and not fault:
         try:
-            length, part = (one_message if command == "msg" else one_document)(command, b[at:], flags, at)
+            one = one_frame if "--any" in flags else one_message if command == "msg" else one_document
+            length, part = one(command, b[at:], flags, at)
             fault = None if length else f"14 EndedInside at {at}"
             if command == "json":
                 part = (b",\n" if at else b"[") + part if is_array else part + b"\n"

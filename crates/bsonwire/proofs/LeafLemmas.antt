@@ -239,7 +239,7 @@ msg_leaf_names words none =
     let s = leaf msg_app in
     let rows = rows_of_leaf s words in
     let is = unfaulted s msg_leaf_keeps words none in
-    let flags : Each IsFlag msg_flags = (refl, (refl, (refl, (refl, tt)))) in
+    let flags : Each IsFlag msg_flags = (refl, (refl, (refl, (refl, (refl, tt))))) in
     let end : HaveFlags msg_flags rows = finished_has msg_flags (settled s.rules (walk s.rules [] nothing_held words).held).rows flags is.0 in
     leaf_names msg_flags rows flags end (given_where_unfaulted (is_given (codes "file") rows) is.1)
 

@@ -1,4 +1,4 @@
--- What `clap` finds no fault in names a choice, but for a `--relaxed` that wants `--json`, and a `--salvage` beside `--hex`.
+-- What `clap` finds no fault in names a choice, but for a `--relaxed` that wants `--json`, a `--salvage` beside `--hex`, and an `--any` beside `--json`.
 use Rattle.std.proofs.Common.{◌≡◌, ◌∙◌, ℕ, refl, ap, sym, subst, Bool, true, false, not, ◌&&◌, ◌||◌, List, [], ◌∷◌, Option, Some, None, is_some, option_map, codes, true≢false, inl, inr}
 use Rattle.std.specs.Prelude.{⊤, IfSome, if◌then◌else◌, find, fold}
 use Rattle.std.specs.Option.{option_map_or}
@@ -15,7 +15,7 @@ use Rattle.clap.specs.Walk.{Held, Names, Outcome, Row, Rule, Step, Text, Waiting
 use Rattle.clap.specs.declared.error.kind.ErrorKind.TheVariants as kind
 use Rattle.bsonwire.specs.CommandLine.{command_line, dump_app, file_app, json_app, loop_app, msg_app, salvage_flags, text_flags}
 use Rattle.bsonwire.specs.declared.choice.Command.{Command}
-use Rattle.bsonwire.specs.declared.choice.Command.TheVariants.{Dump, Check, Canon, Json, Bson, Msg, Play}
+use Rattle.bsonwire.specs.declared.choice.Command.TheVariants.{Any, Dump, Check, Canon, Json, Bson, Msg, Play}
 use Rattle.bson_json.specs.declared.mode.Mode.{Mode}
 use Rattle.bson_json.specs.declared.mode.Mode.TheVariants.{Canonical, Relaxed}
 use Rattle.engines.specs.declared.json.Layout.{Layout}
@@ -141,7 +141,7 @@ salvage_leaf_chooses : (command : Reading → Command) (name word : Text) (words
     → ((reading : Reading) (rows : List Row) → HoldsReading reading rows → IsCommand (command reading) name rows)
     → ((rows : List Row) → salvages_text (Some (name, rows)) ≡ (was_given (codes "salvage") rows && was_given (codes "hex") rows))
     → Chooses word words (leaf (file_app name salvage_flags))
-salvage_leaf_chooses command name word words is same none = λ _ apart.
+salvage_leaf_chooses command name word words is same none = λ _ apart _.
     let held = salvage_leaf_names name words none in
     let rows = (rows_at (leaf (file_app name salvage_flags)) words).1 in
     let hex = held.1.1.0 in
@@ -150,7 +150,7 @@ salvage_leaf_chooses command name word words is same none = λ _ apart.
     inl ((command reading.0, is reading.0 rows reading.1), held.0, held.1.0)
 
 dump_leaf_chooses : (word : Text) (words : List Text) → Chooses word words (leaf dump_app)
-dump_leaf_chooses word words none = λ _ _.
+dump_leaf_chooses word words none = λ _ _ _.
     let held = dump_leaf_names words none in
     let hex = held.1.1.0 in
     let offsets = held.1.1.1.0 in
@@ -165,7 +165,7 @@ layout_by false = (Lines, refl)
 layout_by true = (Array, refl)
 
 json_leaf_chooses : (word : Text) (words : List Text) → Chooses word words (leaf json_app)
-json_leaf_chooses word words none = λ _ _.
+json_leaf_chooses word words none = λ _ _ _.
     let held = json_leaf_names words none in
     let rows = (rows_at (leaf json_app) words).1 in
     let hex = held.1.1.0 in
@@ -177,7 +177,7 @@ json_leaf_chooses word words none = λ _ _.
     let in_layout = subst (λ (b : Bool). HoldsFlag (codes "array") b rows) layout.1 array.1 in
     inl ((Json hex.0 mode.0 layout.0, (refl, hex.1, (in_mode, in_layout))), held.0, held.1.0)
 
--- the flags of `msg` make a form, but for a `--relaxed` that wants `--json`
+-- the flags of `msg` without `--any` make a form, but for a `--relaxed` that wants `--json`
 form_by : (json relaxed : Bool) (rows : List Row) → HoldsFlag (codes "json") json rows → HoldsFlag (codes "relaxed") relaxed rows
     → (was_given (codes "relaxed") rows && not (was_given (codes "json") rows)) ≡ false → (form : MessageForm) × HoldsMessageForm form rows
 unfolding read
@@ -190,23 +190,50 @@ form_by false true rows is is' whole =
     ap (λ (o : Option Text). read o && not (was_given (codes "json") rows)) is' ∙ ap (λ (o : Option Text). not (read o)) is in
     absurd (true≢false (sym wanted ∙ whole))
 
+-- those with it stand without `--json`
+json_apart : (json : Bool) (rows : List Row) → HoldsFlag (codes "json") json rows → HoldsFlag (codes "any") true rows
+    → (was_given (codes "any") rows && was_given (codes "json") rows) ≡ false → HoldsFlag (codes "json") false rows
+unfolding read
+json_apart false rows is is' apart = is
+json_apart true rows is is' apart =
+    let both : (was_given (codes "any") rows && was_given (codes "json") rows) ≡ true =
+    ap (λ (o : Option Text). read o && was_given (codes "json") rows) is' ∙ ap read is in
+    absurd (true≢false (sym both ∙ apart))
+
+-- where the form of messages isn't JSON, the flags are those of text
+text_form : (form : MessageForm) (rows : List Row) → HoldsMessageForm form rows → HoldsFlag (codes "json") false rows → HoldsFlag (codes "relaxed") false rows
+unfolding read
+text_form in_text rows held is = held.1
+text_form (in_json mode) rows held is = absurd (true≢false (ap read (sym held.0 ∙ is)))
+
+msg_by : (hex any json relaxed : Bool) (rows : List Row) → HoldsHex hex rows → HoldsFlag (codes "any") any rows → HoldsFlag (codes "json") json rows → HoldsFlag (codes "relaxed") relaxed rows
+    → (was_given (codes "relaxed") rows && not (was_given (codes "json") rows)) ≡ false → (was_given (codes "any") rows && was_given (codes "json") rows) ≡ false
+    → (command : Command) × IsCommand command (codes "msg") rows
+msg_by hex false json relaxed rows h a j r whole apart =
+    let form = form_by json relaxed rows j r whole in
+    (Msg hex form.0, (refl, h, form.1, a))
+msg_by hex true json relaxed rows h a j r whole apart =
+    let form = form_by json relaxed rows j r whole in
+    let text = json_apart json rows j a apart in
+    (Any hex, (refl, h, text, text_form form.0 rows form.1 text, a))
+
 msg_leaf_chooses : (word : Text) (words : List Text) → Chooses word words (leaf msg_app)
-msg_leaf_chooses word words none = λ whole _.
+msg_leaf_chooses word words none = λ whole _ apart.
     let held = msg_leaf_names words none in
     let rows = (rows_at (leaf msg_app) words).1 in
     let hex = held.1.1.0 in
     let json = held.1.1.1.0 in
     let relaxed = held.1.1.1.1.0 in
-    let form = form_by json.0 relaxed.0 rows json.1 relaxed.1 whole in
-    inl ((Msg hex.0 form.0, (refl, hex.1, form.1)), held.0, held.1.0)
+    let any = held.1.1.1.1.1.0 in
+    inl (msg_by hex.0 any.0 json.0 relaxed.0 rows hex.1 any.1 json.1 relaxed.1 whole apart, held.0, held.1.0)
 
 text_leaf_chooses : (command : Command) (name word : Text) (words : List Text) → ((rows : List Row) → IsCommand command name rows) → Chooses word words (leaf (file_app name text_flags))
-text_leaf_chooses command name word words is none = λ _ _.
+text_leaf_chooses command name word words is none = λ _ _ _.
     let held = text_leaf_names name words none in
     inl ((command, is (rows_at (leaf (file_app name text_flags)) words).1), held.0, held.1.0)
 
 loop_leaf_chooses : (word : Text) (words : List Text) → Chooses word words (leaf loop_app)
-loop_leaf_chooses word words none = λ _ _. inr (refl, loop_leaf_names words none)
+loop_leaf_chooses word words none = λ _ _ _. inr (refl, loop_leaf_names words none)
 
 entered_chooses : (o : Option Shape) (word : Text) (words : List Text) → IfSome o (Chooses word words)
     → option_map_or (λ s. level_fault s [] nothing_held words false []) o [] ≡ [] → is_some (option_map (λ s. rows_at s words) o) ≡ true

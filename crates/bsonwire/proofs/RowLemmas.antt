@@ -60,7 +60,7 @@ IsBoolText o = (given : Bool) × (o ≡ Some (if given then codes "true" else co
 
 -- the name is that of a flag
 abbrev pub is_flag : Text → Bool
-is_flag id = bytes_eq id (codes "quiet") || (bytes_eq id (codes "hex") || (bytes_eq id (codes "json") || (bytes_eq id (codes "relaxed") || (bytes_eq id (codes "array") || (bytes_eq id (codes "offsets") || bytes_eq id (codes "salvage"))))))
+is_flag id = bytes_eq id (codes "quiet") || (bytes_eq id (codes "hex") || (bytes_eq id (codes "json") || (bytes_eq id (codes "relaxed") || (bytes_eq id (codes "array") || (bytes_eq id (codes "offsets") || (bytes_eq id (codes "salvage") || bytes_eq id (codes "any")))))))
 
 -- a flag is no operand
 pub no_operand : (name id : Text) → is_flag name ≡ true → is_flag id ≡ false → name ≡ id → ⊥
@@ -198,7 +198,10 @@ msg_leaf_keeps = (
   file_keeps,
   (
     flag_keeps (codes "quiet") refl,
-    (flag_keeps (codes "hex") refl, (flag_keeps (codes "json") refl, (flag_keeps (codes "relaxed") refl, (help_keeps, tt)))),
+    (
+      flag_keeps (codes "hex") refl,
+      (flag_keeps (codes "json") refl, (flag_keeps (codes "relaxed") refl, (flag_keeps (codes "any") refl, (help_keeps, tt)))),
+    ),
   ),
 )
 

@@ -11,7 +11,7 @@ use Rattle.bsonwire.specs.declared.choice.Choice.{Choice}
 use Rattle.bsonwire.specs.declared.choice.Choice.TheVariants.{Loop, Over}
 use Rattle.bsonwire.specs.declared.choice.Command.{Command}
 use Rattle.bsonwire.specs.declared.choice.Command.TheVariants.{Dump, Check, Canon, Json, Msg}
-use Rattle.bsonwire.specs.declared.choice.Command.TheVariants.{Bson, Play}
+use Rattle.bsonwire.specs.declared.choice.Command.TheVariants.{Any, Bson, Play}
 use Rattle.bsonwire.specs.declared.choice.Reading.{Reading}
 use Rattle.bsonwire.specs.declared.choice.Reading.TheVariants.{Bytes, Hex, Salvage}
 use Rattle.bsonwire.specs.CommandLine.{command_line}
@@ -21,8 +21,9 @@ use Rattle.engines.specs.declared.json.Layout.{Layout}
 use Rattle.engines.specs.declared.json.Layout.TheVariants.{Lines, Array}
 use Rattle.engines.specs.declared.msg.MessageForm.{MessageForm}
 use Rattle.engines.specs.declared.msg.MessageForm.TheVariants.{Text as in_text, Json as in_json}
-use Rattle.engines.specs.{AllMessages, AllTexts, BsonText, CanonText, CheckText, DumpText}
-use Rattle.engines.specs.{FirstMessages, FirstSalvaged, FirstTexts, IsOutput, JsonText}
+use Rattle.engines.specs.{AllFrames, AllMessages, AllTexts, AnyText, BsonText, CanonText}
+use Rattle.engines.specs.{CheckText, DumpText, FirstFrames, FirstMessages, FirstSalvaged}
+use Rattle.engines.specs.{FirstTexts, IsOutput, JsonText}
 use Rattle.engines.specs.{MayBeJson, MsgText, SalvageText, SalvagedSoFar, ScriptText, bytes_of}
 use Rattle.engines.specs.{canon_of, check_of, dump_of, told_at, told_by}
 
@@ -99,6 +100,10 @@ IsCommand (Json hex mode layout) name rows =
 IsCommand Bson name rows = name ≡ codes "bson"
 IsCommand (Msg hex form) name rows =
     (name ≡ codes "msg") × HoldsHex hex rows × HoldsMessageForm form rows
+    × HoldsFlag (codes "any") false rows
+IsCommand (Any hex) name rows =
+    (name ≡ codes "msg") × HoldsHex hex rows × HoldsFlag (codes "json") false rows
+    × HoldsFlag (codes "relaxed") false rows × HoldsFlag (codes "any") true rows
 IsCommand Play name rows = name ≡ codes "play"
 
 -- the choice is the subcommand with this name, and has what its matches hold
@@ -132,11 +137,19 @@ salvages_text (Some met) =
     (bytes_eq met.0 (codes "check") || bytes_eq met.0 (codes "canon"))
     && (was_given (codes "salvage") met.1 && was_given (codes "hex") met.1)
 
+-- whether the subcommand is `msg` with `--any` and `--json`
+abbrev pub any_as_json : Option (Text × List Row) → Bool
+any_as_json None = false
+any_as_json (Some met) =
+    bytes_eq met.0 (codes "msg")
+    && (was_given (codes "any") met.1 && was_given (codes "json") met.1)
+
 -- the fault of flags that don't go together
 abbrev pub flags_fault : Option (Text × List Row) → Kinds
 flags_fault met =
     if lacks_json met then kind.MissingRequiredArgument ∷ []
-    else if salvages_text met then kind.ArgumentConflict ∷ [] else []
+    else if salvages_text met then kind.ArgumentConflict ∷ []
+    else if any_as_json met then kind.ArgumentConflict ∷ [] else []
 
 -- the kinds of the faults of words: those that `clap` finds, or else that of their flags
 abbrev pub words_fault : List Text → Kinds
@@ -174,9 +187,10 @@ NamesChoice None = ⊥
 NamesChoice (Some met) = NamesSubcommand met.0 met.1
 
 -- there is a subcommand, and its matches make a choice unless it is `msg` and lacks `--json`, or
--- has `--salvage` beside `--hex`
+-- has `--salvage` beside `--hex`, or `--any` beside `--json`
 abbrev pub MayChoose : Option (Text × List Row) → Type 0
-MayChoose met = lacks_json met ≡ false → salvages_text met ≡ false → NamesChoice met
+MayChoose met =
+    lacks_json met ≡ false → salvages_text met ≡ false → any_as_json met ≡ false → NamesChoice met
 
 -- ---- what a choice asks for
 
@@ -192,6 +206,7 @@ CommandText (Canon Salvage) = SalvageText (told_by (canon_of 2147483647 false)) 
 CommandText (Json hex mode layout) = IsOutput (JsonText mode layout) hex
 CommandText Bson = BsonText
 CommandText (Msg hex form) = IsOutput (MsgText form) hex
+CommandText (Any hex) = IsOutput AnyText hex
 CommandText Play = ScriptText
 
 -- Whether these are the texts of the first few documents or messages in an input, if a command
@@ -207,6 +222,7 @@ FirstOf (Canon Hex) =
 FirstOf (Canon Salvage) = FirstSalvaged (told_by (canon_of 2147483647 false)) false 16793600
 FirstOf (Json hex mode layout) = λ input. FirstTexts (MayBeJson mode layout) (bytes_of hex input)
 FirstOf (Msg hex form) = λ input. FirstMessages form (bytes_of hex input)
+FirstOf (Any hex) = λ input. FirstFrames (bytes_of hex input)
 FirstOf _ = λ input texts. ⊥
 
 -- Whether these are the texts of all of them, up to the first fault.
@@ -220,6 +236,7 @@ AllOf (Canon Hex) = λ input. AllTexts (told_by (canon_of 2147483647 true)) (byt
 AllOf (Canon Salvage) = SalvagedSoFar (told_by (canon_of 2147483647 false)) false 16793600
 AllOf (Json hex mode layout) = λ input. AllTexts (MayBeJson mode layout) (bytes_of hex input)
 AllOf (Msg hex form) = λ input. AllMessages form (bytes_of hex input)
+AllOf (Any hex) = λ input. AllFrames (bytes_of hex input)
 AllOf _ = λ input texts. ⊥
 
 -- whether a command reads all of its input before it writes

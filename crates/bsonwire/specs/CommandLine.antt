@@ -41,7 +41,7 @@ salvage_flags = codes "quiet" ∷ codes "hex" ∷ codes "salvage" ∷ []
 
 -- the flags of the one that reads messages
 abbrev pub msg_flags : List Text
-msg_flags = codes "quiet" ∷ codes "hex" ∷ codes "json" ∷ codes "relaxed" ∷ []
+msg_flags = codes "quiet" ∷ codes "hex" ∷ codes "json" ∷ codes "relaxed" ∷ codes "any" ∷ []
 
 -- the flags of the one that writes Extended JSON
 abbrev pub json_flags : List Text

@@ -7,11 +7,11 @@ ghost use Rattle.clap.specs.Words.{subcommand_rows_of};
 ghost use Rattle.bsonwire.specs.Choices.{HasCalls, HasFile, HasQuiet, HoldsCalls, HoldsFlag};
 ghost use Rattle.bsonwire.specs.Choices.{HoldsForm, HoldsMessageForm, HoldsReading, IsChosen};
 ghost use Rattle.bsonwire.specs.Choices.{IsCommand, IsMetSubcommand, IsSubcommand, MayChoose};
-ghost use Rattle.bsonwire.specs.Choices.{NamesChoice, NamesCommand};
+ghost use Rattle.bsonwire.specs.Choices.{NamesChoice, NamesCommand, any_as_json};
 ghost use Rattle.bsonwire.specs.Choices.{flags_fault, is_array, is_relaxed, lacks_json};
 ghost use Rattle.bsonwire.specs.Choices.{salvages_text, words_fault};
 
-use crate::command_line::{bytes_wanted, json_wanted, program};
+use crate::command_line::{bytes_wanted, json_wanted, program, text_wanted};
 use clap::{ArgMatches, Error};
 use command_words::is_given;
 use engines::{Layout, MessageForm, Mode};
@@ -53,6 +53,10 @@ pub enum Command {
     Msg {
         hex: bool,
         form: MessageForm,
+    },
+    /// Writes each message of any opCode, and goes on behind faults in one.
+    Any {
+        hex: bool,
     },
     /// Runs a script, and writes what happened.
     Play,
@@ -185,6 +189,7 @@ fn command_of(name: &str, matches: &ArgMatches<'_>) -> Command
             mode: mode_of(matches),
             layout: layout_of(matches),
         },
+        "msg" if flag_of(matches, "any") => Command::Any { hex },
         "msg" => Command::Msg {
             hex,
             form: form_of(matches),
@@ -247,15 +252,29 @@ fn is_text_salvaged(matches: &ArgMatches<'_>) -> bool
     }
 }
 
+/// Returns true if `msg` has `--any` and `--json`.
+fn is_any_as_json(matches: &ArgMatches<'_>) -> bool
+    ensures { result ≡ any_as_json (subcommand_rows_of matches.now) }
+{
+    match matches.subcommand() {
+        Some((name, inner)) => {
+            name == "msg" && is_given(inner, "any") && is_given(inner, "json")
+        }
+        None => false,
+    }
+}
+
 /// Returns the choice that the matches of a parse name, the error of the parse, that of a
-/// `--relaxed` that wants `--json`, or that of a `--salvage` beside `--hex`.
+/// `--relaxed` that wants `--json`, that of a `--salvage` beside `--hex`, or that of an `--any`
+/// beside `--json`.
 fn chosen<'a>(alloc: Global, parse: Result<ArgMatches<'a>, Error>) -> Result<Choice<'a>, Error>
     requires { IfOk parse (λ m. MayChoose (subcommand_rows_of m)) }
     ensures met { IfOk parse.entry
         (λ m. IfOk result (λ c. IsMetSubcommand c (subcommand_rows_of m))) }
     ensures kinds { IfOk parse.entry (λ m. FailsBy (flags_fault (subcommand_rows_of m)) result) }
     ensures found { IfOk parse.entry (λ m. lacks_json (subcommand_rows_of m) ≡ false
-        → salvages_text (subcommand_rows_of m) ≡ false → IsOk result) }
+        → salvages_text (subcommand_rows_of m) ≡ false
+        → any_as_json (subcommand_rows_of m) ≡ false → IsOk result) }
     ensures error { IfErr parse.entry (λ e. IsErrAnd result (λ r. r ≡ e)) }
 {
     let matches = parse?;
@@ -264,6 +283,9 @@ fn chosen<'a>(alloc: Global, parse: Result<ArgMatches<'a>, Error>) -> Result<Cho
     }
     if is_text_salvaged(&matches) {
         return Err(bytes_wanted(alloc)?);
+    }
+    if is_any_as_json(&matches) {
+        return Err(text_wanted(alloc)?);
     }
     Ok(choice_of(&matches))
 }
@@ -274,8 +296,8 @@ fn chosen<'a>(alloc: Global, parse: Result<ArgMatches<'a>, Error>) -> Result<Cho
 ///
 /// Returns `clap`'s own error: a fault in the words, a request for help or the version, or out of
 /// memory. The words that `clap` accepts always name a choice, but for those of `msg` with
-/// `--relaxed` and without `--json`, and of `check` or `canon` with `--salvage` and `--hex`, which
-/// are at fault too.
+/// `--relaxed` and without `--json`, or with `--any` and `--json`, and of `check` or `canon` with
+/// `--salvage` and `--hex`, which are at fault too.
 pub fn choose<'a>(alloc: Global, words: &'a [&'a str]) -> Result<Choice<'a>, Error>
     ensures chosen { IfOk result (λ c. IsChosen c (map (λ w. w.now) words.now)) }
     ensures kinds { FailsBy (words_fault (map (λ w. w.now) words.now)) result }

@@ -128,9 +128,12 @@ fn msg_command<'a>(alloc: Global) -> Result<Command<'a>, AllocError>
 {
     let json = "Write each message as a JSON object, one a line";
     let relaxed = "With --json, write relaxed Extended JSON";
+    let any =
+        "Write messages of any opCode, check their checksums, and go on behind faults inside one";
     file_command(alloc, "msg", "Writes the text of each message")?
         .arg(flag(alloc, "json", json))?
-        .arg(flag(alloc, "relaxed", relaxed))
+        .arg(flag(alloc, "relaxed", relaxed))?
+        .arg(flag(alloc, "any", any))
 }
 
 /// Makes the error of a `--relaxed` of `msg` without `--json`, in the form of `clap`'s own.
@@ -149,6 +152,14 @@ pub fn bytes_wanted(alloc: Global) -> Result<Error, AllocError>
 {
     let conflict = "the argument '--salvage' cannot be used with '--hex'";
     top(alloc).error(ErrorKind::ArgumentConflict, conflict)
+}
+
+/// Makes the error of an `--any` beside `--json`, in the form of `clap`'s own.
+pub fn text_wanted(alloc: Global) -> Result<Error, AllocError>
+    ensures { IfOk result (λ e. kind_of e ≡ ErrorKind.ArgumentConflict) }
+{
+    let apart = "the argument '--any' cannot be used with '--json'";
+    top(alloc).error(ErrorKind::ArgumentConflict, apart)
 }
 
 /// Makes the subcommand that writes Extended JSON.

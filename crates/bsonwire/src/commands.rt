@@ -15,8 +15,8 @@ use crate::choice::{Choice, Command, Reading};
 use crate::progress::Progress;
 use command_words::{IN_OUT, MEMORY};
 use engines::{
-    RunEnd, TextStop, end_of, run_bson, run_canon, run_check, run_dump, run_json, run_loop,
-    run_msg, run_play, salvage_canon, salvage_check,
+    RunEnd, TextStop, end_of, run_any, run_bson, run_canon, run_check, run_dump, run_json,
+    run_loop, run_msg, run_play, salvage_canon, salvage_check,
 };
 use std::alloc::Global;
 use std::fs::OpenFile;
@@ -236,6 +236,7 @@ fn run_over<E: Eprint, R: Read, W: Write>(
         Command::Json { hex, mode, layout } => run_json(alloc, mode, layout, hex, reader, writer),
         Command::Bson => tell_stop(rt, run_bson(alloc, reader, writer), input),
         Command::Msg { hex, form } => run_msg(alloc, form, hex, reader, writer),
+        Command::Any { hex } => run_any(alloc, hex, reader, writer),
         Command::Play => run_play(alloc, reader, writer),
     }
 }

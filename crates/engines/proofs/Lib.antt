@@ -5,6 +5,9 @@ pub mod DocumentLemmas
 pub mod TextLaws
 pub mod MessageReadings
 pub mod MessageLaws
+pub mod FrameTexts
+pub mod FrameReadings
+pub mod FrameLaws
 pub mod Rounds
 pub mod LoopLemmas
 pub mod TextsRead

@@ -18,10 +18,14 @@ pub mod BsonOf
 pub mod Canon
 pub mod Json
 pub mod Msg
+pub mod FrameText
+pub mod Any
+pub mod FrameWalk
 pub mod Calling
 pub mod Loopback
 pub mod Play
 -- the words that clauses of other crates cite
+pub use Rattle.engines.specs.Any.{AllFrames, AnyText, FirstFrames}
 pub use Rattle.engines.specs.BsonOf.{BsonText, IsAnything, StopsAt, WritesTexts}
 pub use Rattle.engines.specs.Canon.{CanonText, canon_of}
 pub use Rattle.engines.specs.Check.{CheckText, check_of}

@@ -3,6 +3,7 @@
 
 ghost use Rattle.std.specs.Prelude.{◌≡◌, Bool, List, Option, ℕ};
 ghost use Rattle.bson_elem.specs.{IsBytes, Tree};
+ghost use Rattle.engines.specs.Any.{AnyText};
 ghost use Rattle.engines.specs.Documents.{IsWholeText, told_at};
 ghost use Rattle.engines.specs.Msg.{MsgText};
 ghost use Rattle.engines.specs.declared.msg.MessageForm.TheVariants.{Text};
@@ -24,5 +25,14 @@ pub fn one_text_of_messages()
     ensures { (place : Option ℕ) (bytes text other : List ℕ) (fault other_fault : Bool)
         → IsBytes bytes → MsgText Text place bytes text fault
         → MsgText Text place bytes other other_fault
+        → (text ≡ other) × (fault ≡ other_fault) }
+{}
+
+/// Proves that bytes have at most one text as messages of any opCode, which ends with a fault line
+/// or doesn't.
+pub fn one_text_of_frames()
+    ensures { (place : Option ℕ) (bytes text other : List ℕ) (fault other_fault : Bool)
+        → IsBytes bytes → AnyText place bytes text fault
+        → AnyText place bytes other other_fault
         → (text ≡ other) × (fault ≡ other_fault) }
 {}

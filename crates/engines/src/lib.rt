@@ -1,18 +1,19 @@
 //! The commands of the program `bsonwire`, each a function over a writer, and all but `loop` over a
 //! reader.
 //!
-//! `run_dump`, `run_check`, `run_canon` and `run_json` read documents piece by piece, and `run_msg`
-//! messages, and write as these come. `run_bson` and `run_play` read all that the reader has before
-//! they write. Each writes one text for its input, and tells how that ended. Documents or messages
-//! stand back to back in the input, as bytes or as hexadecimal text; the input of `run_bson` is
-//! Extended JSON, and that of `run_play` a script of events. A fault in the input is told by the
-//! last line of the text, and by `run_bson` in what it returns. `run_loop` reads nothing: it makes
-//! calls over a connection of the program with itself.
+//! `run_dump`, `run_check`, `run_canon` and `run_json` read documents piece by piece, `run_msg`
+//! messages, and `run_any` messages of any opCode, and write as these come. `run_bson` and
+//! `run_play` read all that the reader has before they write. Each writes one text for its input,
+//! and tells how that ended. Documents or messages stand back to back in the input, as bytes or as
+//! hexadecimal text; the input of `run_bson` is Extended JSON, and that of `run_play` a script of
+//! events. A fault in the input is told by the last line of the text, and by `run_bson` in what it
+//! returns. `run_loop` reads nothing: it makes calls over a connection of the program with itself.
 //!
-//! Stands on bson_json_read, bson_stream, wire_stream, wire_end and wire_play. bsonwire stands on
-//! it. Read first: `walk`, `pieces`, `documents`, and then `dump`.
+//! Stands on bson_json_read, bson_stream, wire_frame, wire_stream, wire_end and wire_play. bsonwire
+//! stands on it. Read first: `walk`, `pieces`, `documents`, and then `dump`.
 #![tactic(auto)]
 
+mod any;
 mod bson;
 mod buffered;
 mod canon;
@@ -20,6 +21,8 @@ mod check;
 mod documents;
 mod dump;
 mod fault_line;
+mod frame_text;
+mod frames;
 mod hex_input;
 mod hex_walk;
 mod input_fault;
@@ -36,6 +39,7 @@ mod salvage;
 mod source;
 mod walk;
 
+pub use any::run_any;
 pub use bson::{TextStop, run_bson};
 pub use bson_json::Mode;
 pub use canon::{run_canon, run_canon_within, salvage_canon};

@@ -5,6 +5,8 @@
 #![tactic(auto)]
 
 #[cfg(test)]
+mod any;
+#[cfg(test)]
 mod bson;
 #[cfg(test)]
 mod calls;

@@ -3,11 +3,11 @@ use Rattle.std.proofs.Common.{◌≡◌, ◌⊎◌, inl, inr, ℕ, ◌+◌, ◌<
 use Rattle.std.proofs.lemmas.List.{take_at, drop_at}
 use Rattle.wire_msg.specs.declared.header.MsgHeader.{MsgHeader}
 use Rattle.wire_msg.specs.declared.fault.MsgCause.TheVariants.{Length}
-use Rattle.wire_msg.specs.{header_of, msg_fault, number_at}
+use Rattle.wire_msg.specs.{msg_fault, number_at}
 use Rattle.wire_msg.proofs.Lemmas.{header_front}
 use Rattle.wire_frame.specs.declared.front.FrameFront.{FrameFront}
 use Rattle.wire_frame.specs.declared.front.FrameFront.TheVariants.{Whole, Open, Bad}
-use Rattle.wire_frame.specs.Frames.{IsFramed, IsFrame, IsWholeFrame, LacksFrame, StandsAs, WantsMore, of_header, of_frame, open_bytes, whole_frame, no_frame}
+use Rattle.wire_frame.specs.Frames.{IsWholeFrame, LacksFrame, StandsAs, WantsMore, of_header, of_frame, open_bytes, whole_frame, no_frame}
 use Rattle.wire_frame.specs.Fronts.{HasFrame, IsFrontFrame}
 
 -- the announced length stands in the first 16 bytes

@@ -1,5 +1,5 @@
 -- What frames are to messages, and what is told of a frame.
-use Rattle.std.proofs.Common.{◌≡◌, ◌⊎◌, inl, inr, ℕ, ℤ, pos, ◌<◌, ◌≤◌, List, [], ◌++◌, length, refl, sym, ap, ◌∙◌, append-nil, arith}
+use Rattle.std.proofs.Common.{◌≡◌, ℕ, pos, List, [], refl, sym, append-nil, arith}
 use Rattle.wire_msg.specs.declared.fault.MsgCause.TheVariants.{Length}
 use Rattle.wire_msg.specs.Header.{of_length}
 use Rattle.wire_msg.specs.Standing.{bad_header, IsBad}
@@ -8,7 +8,6 @@ use Rattle.wire_msg.proofs.Lemmas.{whole_read}
 use Rattle.wire_frame.specs.declared.checksum.Checksum.{Checksum}
 use Rattle.wire_frame.specs.declared.checksum.Checksum.TheVariants.{Absent, Right, Wrong}
 use Rattle.wire_frame.specs.declared.opcode.Opcode.{Opcode}
-use Rattle.wire_frame.specs.declared.opcode.Opcode.TheVariants.{Compressed, Msg, Other, Query, Reply}
 use Rattle.wire_frame.specs.Checksums.{IsChecksumOf}
 use Rattle.wire_frame.specs.Frames.{IsFrame, LacksFrame}
 use Rattle.wire_frame.specs.Opcodes.{IsOwnKind, opcode_number}

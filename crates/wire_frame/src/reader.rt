@@ -49,6 +49,13 @@ impl FrameReader {
         RawFrame::front(&self.held, self.limit)
     }
 
+    /// Returns the number of held bytes.
+    pub fn held(&self) -> usize
+        ensures { result ≡ length self.now.held }
+    {
+        self.held.len()
+    }
+
     /// Takes bytes from the front of `piece`, up to the end of the header or of what it announces.
     /// Returns how many. Takes none if a frame is whole, or none begins with the held bytes.
     ///

@@ -1,0 +1,6 @@
+use Rattle.std.proofs.Common.{[], refl}
+use Rattle.std.proofs.KnownBytes.{Appends-nil}
+use Rattle.engines.proofs.frames.FramesWalk.write_closing.Goals as goal
+
+pub returns : goal.returns
+returns g c = λ place bytes texts last e. ([], (texts, last, e, refl, refl), Appends-nil _)

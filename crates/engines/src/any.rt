@@ -1,0 +1,40 @@
+//! The command `msg --any`: the text of each message, of any opCode.
+
+ghost use Rattle.std.specs.Prelude.{◌≡◌, IfSome, true};
+ghost use Rattle.std.specs.Io.KnownBytes.{IsAtEnd};
+ghost use Rattle.engines.specs.Any.{AllFrames, AnyText, FirstFrames};
+ghost use Rattle.engines.specs.Input.{bytes_of};
+ghost use Rattle.engines.specs.Output.{AppendsOne, AppendsText, IsOutput, WritesRead};
+ghost use Rattle.engines.specs.Run.{is_done, is_fault};
+
+use crate::frames::Frames;
+use crate::pieces::run_walk;
+use crate::run::RunEnd;
+use std::alloc::Global;
+use std::io::{Read, Write};
+
+/// Writes each message in the input, of any opCode, which has at most 48,000,000 bytes. If `hex` is
+/// true, the input is hexadecimal text.
+///
+/// A fault inside a message is told there, and what is behind the message is read. Where no message
+/// can be cut, as its length is at fault, or the input ends inside one, the last line tells that,
+/// and the run ends as `Fault`.
+pub fn run_any<R: Read, W: Write>(
+    alloc: Global,
+    hex: bool,
+    reader: &mut R,
+    writer: &mut W,
+) -> RunEnd
+    ensures read { is_done result ≡ true → IsAtEnd (R.remaining reader.new) }
+    ensures written { IfSome (R.remaining reader.old) (λ input. is_done result ≡ true →
+        AppendsText (IsOutput AnyText hex input) (is_fault result)
+        (W.contents writer.old) (W.contents writer.new)) }
+    ensures unread { result ≡ RunEnd.Unread → WritesRead (λ read. AllFrames (bytes_of hex read))
+        (R.remaining reader.old) (R.remaining reader.new)
+        (W.contents writer.old) (W.contents writer.new) }
+    ensures memory { result ≡ RunEnd.OutOfMemory → IfSome (R.remaining reader.old) (λ input.
+        AppendsOne (FirstFrames (bytes_of hex input))
+        (W.contents writer.old) (W.contents writer.new)) }
+{
+    run_walk(alloc, &Frames, hex, reader, writer)
+}
