@@ -1,12 +1,13 @@
 //! Proves the laws of frames, which everything that cuts bytes into messages of any opCode needs.
 //! The contract of each function is the law.
 
-ghost use Rattle.std.specs.Prelude.{◌≡◌, ◌≤◌, ◌++◌, ◌⊎◌, ℕ, List, pos};
+ghost use Rattle.std.specs.Prelude.{◌≡◌, ◌≤◌, ◌++◌, ◌⊎◌, ℕ, List, codes, pos};
 ghost use Rattle.wire_msg.specs.{header_of, IsBad, IsMessage, msg_fault};
 ghost use Rattle.wire_msg.specs.declared.fault.MsgCause.TheVariants.{Length};
 ghost use Rattle.wire_frame.specs.declared.checksum.Checksum.{Checksum};
 ghost use Rattle.wire_frame.specs.declared.opcode.Opcode.{Opcode};
 ghost use Rattle.wire_frame.specs.Checksums.{IsChecksumOf};
+ghost use Rattle.wire_frame.specs.Crc32c.{crc32c_of};
 ghost use Rattle.wire_frame.specs.Frames.{FrameSplit, IsFrame, IsWholeFrame, LacksFrame, StandsAs};
 ghost use Rattle.wire_frame.specs.Frames.{WantsMore};
 ghost use Rattle.wire_frame.specs.Opcodes.{IsOwnKind, opcode_number};
@@ -88,4 +89,9 @@ pub fn one_kind()
 pub fn one_checksum()
     ensures { (bytes : List ℕ) (a b : Checksum) → IsChecksumOf bytes a → IsChecksumOf bytes b
         → a ≡ b }
+{}
+
+/// Proves that the digits from 1 to 9 have the CRC-32C by which its implementations are told.
+pub fn check_value()
+    ensures { crc32c_of (codes "123456789") ≡ 0xE3069283 }
 {}
