@@ -1,6 +1,7 @@
 //! Reads frames from bytes that come in pieces.
 
-ghost use Rattle.std.specs.Prelude.{◌≡◌, ◌≤◌, ◌++◌, [], IfOk, List, OnErr, length, min, take, ℕ};
+ghost use Rattle.std.specs.Prelude.{◌≡◌, ◌≤◌, ◌++◌, [], IfOk, IsOkAnd, List, OnErr, length, min};
+ghost use Rattle.std.specs.Prelude.{take, ℕ};
 ghost use Rattle.wire_frame.specs.Frames.{IsFrame, LacksFrame, WantsMore};
 ghost use Rattle.wire_frame.specs.Fronts.{IsFrontFrame};
 ghost use Rattle.wire_frame.specs.Readers.{FrameReading};
@@ -70,8 +71,8 @@ impl FrameReader {
             × (self.new.held ≡ self.old.held ++ take n piece.now)) }
         ensures wanted { (more : ℕ) → WantsMore self.old.limit self.old.held more
             → IfOk result (λ n. n ≡ min more (length piece.now)) }
-        ensures whole { IsFrame self.old.limit self.old.held → IfOk result (λ n. n ≡ 0) }
-        ensures bad { LacksFrame self.old.limit self.old.held → IfOk result (λ n. n ≡ 0) }
+        ensures whole { IsFrame self.old.limit self.old.held → IsOkAnd result (λ n. n ≡ 0) }
+        ensures bad { LacksFrame self.old.limit self.old.held → IsOkAnd result (λ n. n ≡ 0) }
         ensures unchanged { OnErr result (self.new ≡ self.old) }
     {
         let FrameFront::Open { wanted } = self.front() else {
