@@ -1,11 +1,14 @@
 pub mod Alike
+pub mod Codes
 pub mod DecimalBack
 pub mod DecimalBytes
 pub mod DocumentBack
+pub mod Ends
 pub mod FormNames
 pub mod Integers
 pub mod Leaves
 pub mod Lemmas
+pub mod Lines
 pub mod Numerals
 pub mod Pairs
 pub mod PlainTexts

@@ -1,13 +1,12 @@
 -- What is written straight from tokens: the pairs of a document and the values of an array so far.
-use Rattle.std.proofs.Common.{◌≡◌, ◌∙◌, ◌+◌, ◌-◌, ◌<◌, ℕ, suc, List, [], ◌∷◌, ◌++◌, length, get_or, take, drop, true, false, cond, Some, None, Ok, refl, sym, ap, subst, arith, append_assoc, append-nil}
+use Rattle.std.proofs.Common.{◌≡◌, ◌∙◌, ◌+◌, ◌-◌, ◌<◌, ℕ, suc, List, [], ◌∷◌, ◌++◌, length, take, drop, true, false, cond, Some, None, Ok, refl, sym, ap, subst, arith, append_assoc, append-nil}
 use Rattle.std.specs.Bool.{Decides}
 use Rattle.std.specs.Fmt.{decimal}
 use Rattle.std.specs.Str.{bytes_eq}
 use Rattle.std.proofs.Math.Seq.{drop-append-add, take-append_seam}
 use Rattle.std.proofs.lemmas.List.{length-append}
 use Rattle.std.proofs.lemmas.Slice.Eq.{bytes_eq-Decides}
-use Rattle.json.specs.Json.{Json, Items, item, Members, no_members, member, object}
-use Rattle.json.specs.Strict.{AreDistinct, HasUniqueKeys, ItemsHaveUniqueKeys, MembersHaveUniqueKeys, keys}
+use Rattle.json.specs.Json.{Json, Items, item, Members, member}
 use Rattle.json.specs.Token.{Token}
 use Rattle.json.specs.Tree.{items_tokens, json_tokens, members_tokens}
 use Rattle.bson_elem.specs.Spelling.{document, elements}
@@ -19,48 +18,35 @@ use Rattle.bson_doc.specs.Unwritable.{has_zero}
 use Rattle.bson_doc.specs.Values.{element_bytes}
 use Rattle.bson_json_read.specs.Direct.{IsArrayPut, IsDocumentPut, IsPut}
 use Rattle.bson_json_read.specs.Forms.{form_in, form_named}
+use Rattle.bson_json_read.specs.Seen.{Has, IsSeen, Keeps, code_of}
 use Rattle.bson_json_read.specs.Values.{Pair, array_read, document_read, items_read, name_refused, pairs_read, value_read}
+use Rattle.bson_json_read.proofs.Codes.{some_code}
 use Rattle.bson_json_read.proofs.Tokens.{at_array_end, at_end, at_item, at_key}
 use Rattle.bson_json_read.proofs.Walking.{array_at, document_at}
 
--- ---- names that differ
+-- ---- names that were seen
 
--- each of these names stands in none of the pairs before it
-abbrev pub AreNew : List Pair → Members → Type 0
-AreNew before no_members = Unit {0}
-AreNew before (member k j ms) = (value_named k before ≡ None) × ((v : TreeValue) → AreNew (before ++ (k, v) ∷ []) ms)
+-- the code of the name of each of these pairs stands in the table
+abbrev pub AreIn : List ℕ → ℕ → List Pair → Type 0
+AreIn places offset [] = Unit {0}
+AreIn places offset (p ∷ ps) = Has places (code_of offset p.0) × AreIn places offset ps
 
-differ : (a b : List ℕ) → (b ≡ a → ⊥) → bytes_eq a b ≡ false
-differ a b n =
-    (elim (bytes_eq a b) as (λ t. Decides t (a ≡ b) → t ≡ false) [
-      | true ↦ λ d. absurd (n (sym (d.0 refl)))
-      | false ↦ λ _. refl
-    ]) (bytes_eq-Decides a b)
+stay_in : (offset : ℕ) (old new : List ℕ) (ps : List Pair) → Keeps old new → AreIn old offset ps → AreIn new offset ps
+stay_in offset old new [] kept are = tt
+stay_in offset old new (p ∷ ps) kept are = (kept (code_of offset p.0) (some_code offset p.0) are.0, stay_in offset old new ps kept are.1)
 
--- a name that isn't there isn't there behind a pair of another name
-not_behind : (name k : List ℕ) (v : TreeValue) (before : List Pair) → value_named name before ≡ None → bytes_eq name k ≡ false → value_named name (before ++ (k, v) ∷ []) ≡ None
-not_behind name k v [] none other = rw other refl
-not_behind name k v (p ∷ ps) none other =
-    (elim (bytes_eq name p.0) as (λ t. cond t (Some p.1) (value_named name ps) ≡ None → cond t (Some p.1) (value_named name (ps ++ (k, v) ∷ [])) ≡ None) [
-      | true ↦ λ e. absurd cc
-      | false ↦ λ e. not_behind name k v ps e other
-    ]) none
+one_more : (places : List ℕ) (offset : ℕ) (ps : List Pair) (name : List ℕ) (v : TreeValue) → AreIn places offset ps → Has places (code_of offset name) → AreIn places offset (ps ++ (name, v) ∷ [])
+one_more places offset [] name v are there = (there, tt)
+one_more places offset (p ∷ ps) name v are there = (are.0, one_more places offset ps name v are.1 there)
 
-abbrev AllNew : List Pair → List (List ℕ) → Type 0
-AllNew before names = (i : ℕ) → i < length names → value_named (get_or names i []) before ≡ None
-
-all_new : (before : List Pair) (ms : Members) → AllNew before (keys ms) → AreDistinct (keys ms) → AreNew before ms
-all_new before no_members new distinct = tt
-all_new before (member k j ms) new distinct = (
-  new 0 (omega arith),
-  λ v. all_new (before ++ (k, v) ∷ []) ms
-      (λ i lt. not_behind (get_or (keys ms) i []) k v before (new (suc i) (omega arith))
-      (differ (get_or (keys ms) i []) k (distinct 0 (suc i) [] (omega arith) (omega arith))))
-      (λ i l d lt le. distinct (suc i) (suc l) d (omega arith) (omega arith)),
-)
-
-pub distinct_new : (ms : Members) → AreDistinct (keys ms) → AreNew [] ms
-distinct_new ms distinct = all_new [] ms (λ i lt. refl) distinct
+-- a name whose code isn't there is none of those names
+is_new : (places : List ℕ) (offset : ℕ) (ps : List Pair) (name : List ℕ) → AreIn places offset ps → (Has places (code_of offset name) → ⊥) → value_named name ps ≡ None
+is_new places offset [] name are absent = refl
+is_new places offset (p ∷ ps) name are absent =
+    (elim (bytes_eq name p.0) as (λ t. Decides t (name ≡ p.0) → cond t (Some p.1) (value_named name ps) ≡ None) [
+      | true ↦ λ d. absurd (absent (subst (λ (n : List ℕ). Has places (code_of offset n)) (sym (d.0 refl)) are.0))
+      | false ↦ λ _. is_new places offset ps name are.1 absent
+    ]) (bytes_eq-Decides name p.0)
 
 -- ---- one pair and one value more
 
@@ -103,24 +89,21 @@ finished start old parts out new at is end =
 -- ---- the members of a document
 
 -- these pairs were appended, and these members are next
-pub record MembersLeft (room : ℕ) (ms : Members) (ts left : List Token) (old out : List ℕ) : Type 0 where
+pub record MembersLeft (room offset : ℕ) (ms : Members) (ts left : List Token) (places old out : List ℕ) : Type 0 where
   pub rest : Members
   pub before : List Pair
   pub left_is : left ≡ members_tokens rest ++ ts
-  pub new : AreNew before rest
-  pub unique : MembersHaveUniqueKeys rest
+  pub are_in : AreIn places offset before
   pub read : pairs_read (value_read room) [] ms ≡ pairs_read (value_read room) before rest
   pub forms : form_in ms ≡ form_in rest
   pub bytes : out ≡ begun old (elements (tree_of before))
 
-pub members_begin : (room : ℕ) (ms : Members) (ts left : List Token) (old out : List ℕ) → left ≡ members_tokens ms ++ ts → HasUniqueKeys (object ms) → out ≡ old ++ (0 ∷ 0 ∷ 0 ∷ 0 ∷ [])
-    → MembersLeft room ms ts left old out
-members_begin room ms ts left old out is unique begins = record {
+pub members_begin : (room offset : ℕ) (ms : Members) (ts left : List Token) (places old out : List ℕ) → left ≡ members_tokens ms ++ ts → out ≡ old ++ (0 ∷ 0 ∷ 0 ∷ 0 ∷ []) → MembersLeft room offset ms ts left places old out
+members_begin room offset ms ts left places old out is begins = record {
   rest = ms;
   before = [];
   left_is = is;
-  new = distinct_new ms unique.0;
-  unique = unique.1;
+  are_in = tt;
   read = refl;
   forms = refl;
   bytes = begins;
@@ -139,33 +122,30 @@ no_form name j rest none = rw none refl
 -- the value of a member was appended
 abbrev pub Appended : ℕ → List ℕ → List Token → List Token → List ℕ → List ℕ → Type 0
 Appended room name behind left old new =
-    (j : Json) (us : List Token) → behind ≡ json_tokens j ++ us → HasUniqueKeys j → (left ≡ us) × IsPut (value_read room j) name old new
+    (j : Json) (us : List Token) → behind ≡ json_tokens j ++ us → (left ≡ us) × IsPut (value_read room j) name old new
 
-more_of : (room : ℕ) (ms : Members) (ts : List Token) (old out new : List ℕ) (name : List ℕ) (behind left : List Token) (j : Json) (others : Members) (before : List Pair)
-    → has_zero name ≡ false → form_named name ≡ None → AreNew before (member name j others) → MembersHaveUniqueKeys others
+more_of : (room offset : ℕ) (ms : Members) (ts : List Token) (was now old out new : List ℕ) (name : List ℕ) (left : List Token) (j : Json) (others : Members) (before : List Pair)
+    → has_zero name ≡ false → form_named name ≡ None → AreIn was offset before → IsSeen was now (code_of offset name)
     → pairs_read (value_read room) [] ms ≡ pairs_read (value_read room) before (member name j others) → form_in ms ≡ form_in (member name j others)
-    → out ≡ begun old (elements (tree_of before)) → (left ≡ members_tokens others ++ ts) → IsPut (value_read room j) name out new → MembersLeft room ms ts left old new
-more_of room ms ts old out new name behind left j others before free none are unique read forms bytes left_is put = record {
+    → out ≡ begun old (elements (tree_of before)) → (left ≡ members_tokens others ++ ts) → IsPut (value_read room j) name out new → MembersLeft room offset ms ts left now old new
+more_of room offset ms ts was now old out new name left j others before free none are seen read forms bytes left_is put = record {
   rest = others;
   before = before ++ (name, put.value) ∷ [];
   left_is = left_is;
-  new = are.1 put.value;
-  unique = unique;
-  read = read ∙ pair_is_read room name j others before put.value (name_good name before free are.0) put.is_read;
+  are_in = one_more now offset before name put.value (stay_in offset was now before seen.kept are) seen.there;
+  read = read ∙ pair_is_read room name j others before put.value (name_good name before free (is_new was offset before name are seen.absent)) put.is_read;
   forms = forms ∙ no_form name j others none;
   bytes = begun_more old (elements (tree_of before)) (element_bytes name put.value) out new bytes put.bytes ∙ ap (begun old) (sym (pair_more before name put.value));
 }
 
-pub members_more : (room : ℕ) (ms : Members) (ts left behind after : List Token) (old out new name : List ℕ) → MembersLeft room ms ts left old out → left ≡ Token.key name ∷ behind
-    → has_zero name ≡ false → form_named name ≡ None → Appended room name behind after out new → MembersLeft room ms ts after old new
-members_more room ms ts left behind after old out new name m is free none appended =
+pub members_more : (room offset : ℕ) (ms : Members) (ts left behind after : List Token) (was now old out new name : List ℕ) → MembersLeft room offset ms ts left was old out → left ≡ Token.key name ∷ behind
+    → has_zero name ≡ false → form_named name ≡ None → Appended room name behind after out new → IsSeen was now (code_of offset name) → MembersLeft room offset ms ts after now old new
+members_more room offset ms ts left behind after was now old out new name m is free none appended seen =
     let first = at_key name m.rest ts behind (sym is ∙ m.left_is) in
     let j = first.0 in
     let others = first.1 in
-    let are : AreNew m.before (member name j others) = subst (AreNew m.before) first.2 m.new in
-    let unique : MembersHaveUniqueKeys (member name j others) = subst MembersHaveUniqueKeys first.2 m.unique in
-    let put = appended j (members_tokens others ++ ts) first.3 unique.0 in
-    more_of room ms ts old out new name behind after j others m.before free none are unique.1 (m.read ∙ ap (pairs_read (value_read room) m.before) first.2) (m.forms ∙ ap form_in first.2) m.bytes put.0
+    let put = appended j (members_tokens others ++ ts) first.3 in
+    more_of room offset ms ts was now old out new name after j others m.before free none m.are_in seen (m.read ∙ ap (pairs_read (value_read room) m.before) first.2) (m.forms ∙ ap form_in first.2) m.bytes put.0
     put.1
 
 pub record MembersDone (room : ℕ) (ms : Members) (ts behind : List Token) (old new : List ℕ) : Type 0 where
@@ -173,9 +153,9 @@ pub record MembersDone (room : ℕ) (ms : Members) (ts behind : List Token) (old
   pub forms : form_in ms ≡ None
   pub put : IsDocumentPut (document_read room ms) old new
 
-pub members_done : (room : ℕ) (ms : Members) (ts left behind : List Token) (start : ℕ) (old out new : List ℕ) → 0 < room → MembersLeft (room - 1) ms ts left old out
+pub members_done : (room : ℕ) (ms : Members) (ts left behind : List Token) (start : ℕ) (places old out new : List ℕ) → 0 < room → MembersLeft (room - 1) start ms ts left places old out
     → left ≡ Token.end_object ∷ behind → start ≡ length old → new ≡ take start out ++ document (drop (start + 4) out) → MembersDone room ms ts behind old new
-members_done room ms ts left behind start old out new some m is at end =
+members_done room ms ts left behind start places old out new some m is at end =
     let last = at_end m.rest ts behind (sym is ∙ m.left_is) in
     record {
       left_is = last.1;
@@ -194,18 +174,16 @@ pub record ItemsLeft (room : ℕ) (js : Items) (ts left : List Token) (index : �
   pub before : List TreeValue
   pub count : length before ≡ index
   pub left_is : left ≡ items_tokens rest ++ ts
-  pub unique : ItemsHaveUniqueKeys rest
   pub read : items_read (value_read room) [] js ≡ items_read (value_read room) before rest
   pub bytes : out ≡ begun old (elements (array_tree 0 before))
 
-pub items_begin : (room : ℕ) (js : Items) (ts left : List Token) (old out : List ℕ) → left ≡ items_tokens js ++ ts → ItemsHaveUniqueKeys js → out ≡ old ++ (0 ∷ 0 ∷ 0 ∷ 0 ∷ [])
+pub items_begin : (room : ℕ) (js : Items) (ts left : List Token) (old out : List ℕ) → left ≡ items_tokens js ++ ts → out ≡ old ++ (0 ∷ 0 ∷ 0 ∷ 0 ∷ [])
     → ItemsLeft room js ts left 0 old out
-items_begin room js ts left old out is unique begins = record {
+items_begin room js ts left old out is begins = record {
   rest = js;
   before = [];
   count = refl;
   left_is = is;
-  unique = unique;
   read = refl;
   bytes = begins;
 }
@@ -220,8 +198,7 @@ items_more room js ts left after index old out new m other appended =
     let first = at_item m.rest ts left other m.left_is in
     let j = first.0 in
     let others = first.1 in
-    let unique : ItemsHaveUniqueKeys (item j others) = subst ItemsHaveUniqueKeys first.2 m.unique in
-    let put = appended j (items_tokens others ++ ts) first.3 unique.0 in
+    let put = appended j (items_tokens others ++ ts) first.3 in
     let v = put.1.value in
     let count : index ≡ 0 + length m.before = omega (arith, m.count) in
     record {
@@ -229,7 +206,6 @@ items_more room js ts left after index old out new m other appended =
       before = m.before ++ v ∷ [];
       count = omega (arith, m.count, length-append m.before (v ∷ []));
       left_is = put.0;
-      unique = unique.1;
       read = m.read ∙ ap (items_read (value_read room) m.before) first.2 ∙ item_is_read room j others m.before v put.1.is_read;
       bytes =
           begun_more old (elements (array_tree 0 m.before)) (element_bytes (decimal index) v) out new m.bytes put.1.bytes

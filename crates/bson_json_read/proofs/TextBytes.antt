@@ -11,7 +11,7 @@ use Rattle.bson_json_read.specs.Sequences.{Fails, Next, front_read, text_here, u
 use Rattle.bson_json_read.specs.Texts.{document_in}
 use Rattle.bson_json_read.specs.Values.{Pair}
 
-abbrev by_form : (text : List ℕ) → Bool → Read (List Pair)
+abbrev pub by_form : (text : List ℕ) → Bool → Read (List Pair)
 by_form text utf8 = if utf8 then document_in text else refused causes.NotJson
 
 pub of_text : (bytes text : List ℕ) → text ≡ bytes → is_utf8 bytes ≡ true → utf8_read bytes ≡ document_in text

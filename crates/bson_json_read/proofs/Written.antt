@@ -1,9 +1,8 @@
 -- What is written straight from tokens: one value, by its first token.
-use Rattle.std.proofs.Common.{◌≡◌, ◌∙◌, ◌^◌, ℕ, List, [], ◌∷◌, ◌++◌, Option, Some, None, Ok, codes, refl, sym, ap, subst, arith, append_assoc, append-nil}
-use Rattle.std.specs.Prelude.{IsSomeAnd, OnSome, option_and_then, option_map}
+use Rattle.std.proofs.Common.{◌≡◌, ◌∙◌, ◌^◌, ℕ, List, [], ◌∷◌, ◌++◌, Option, Some, None, Ok, codes, refl, sym, ap, subst, arith, append_assoc, append-nil, true≢false}
+use Rattle.std.specs.Prelude.{IsSome, OnSome, option_and_then, option_map}
 use Rattle.json.specs.Json.{Json, string, array, object, Members, no_members, member, document, if_last, max_depth, value}
 use Rattle.json.specs.Lex.{tokens}
-use Rattle.json.specs.Strict.{HasUniqueKeys}
 use Rattle.json.specs.Token.{Token}
 use Rattle.json.specs.Tree.{json_tokens}
 use Rattle.json.proofs.Nesting.{value-depth}
@@ -138,27 +137,27 @@ pub leaf_put : (t : Token) (j : Json) (v : TreeValue) (name old new : List ℕ) 
 leaf_put t j v name old new is read bytes = (j, is, λ room. record { value = v; is_read = read room; bytes = bytes })
 
 pub of_leaf : (room : ℕ) (t : Token) (name : List ℕ) (nodes left : List Token) (old new : List ℕ) → nodes ≡ t ∷ left → PutsLeaf t name old new → PutsValue room name nodes left old new
-of_leaf room t name nodes left old new is (i, leaf, put) j ts e unique =
+of_leaf room t name nodes left old new is (i, leaf, put) j ts e =
     let x = leaf_is t i j ts left leaf (sym is ∙ e) in
     (x.1, subst (λ (k : Json). IsPut (value_read room k) name old new) (sym x.0) (put room))
 
 pub of_object_node : (room : ℕ) (name : List ℕ) (nodes inside left : List Token) (old new : List ℕ) → nodes ≡ Token.begin_object ∷ inside → PutsObject room name inside left old new
     → PutsValue room name nodes left old new
-of_object_node room name nodes inside left old new is puts j ts e unique =
+of_object_node room name nodes inside left old new is puts j ts e =
     let o = of_object j ts inside (sym is ∙ e) in
-    let p = puts o.0 ts o.2 (subst HasUniqueKeys o.1 unique) in
+    let p = puts o.0 ts o.2 in
     (p.0, subst (λ (k : Json). IsPut (value_read room k) name old new) (sym o.1) p.1)
 
 pub of_array_node : (room : ℕ) (name : List ℕ) (nodes inside left : List Token) (old new : List ℕ) → nodes ≡ Token.begin_array ∷ inside → PutsArray room name inside left old new
     → PutsValue room name nodes left old new
-of_array_node room name nodes inside left old new is puts j ts e unique =
+of_array_node room name nodes inside left old new is puts j ts e =
     let o = of_array j ts inside (sym is ∙ e) in
-    let p = puts o.0 ts o.2 (subst HasUniqueKeys o.1 unique) in
+    let p = puts o.0 ts o.2 in
     (p.0, subst (λ (k : Json). IsPut (value_read room k) name old new) (sym o.1) p.1)
 
 pub by_form : (room : ℕ) (form : Form) (key name : List ℕ) (nodes behind left : List Token) (old new : List ℕ) → nodes ≡ Token.key key ∷ behind → form_named key ≡ Some form
     → PutsForm form name behind left old new → PutsObject room name nodes left old new
-by_form room form key name nodes behind left old new is h puts ms ts e unique =
+by_form room form key name nodes behind left old new is h puts ms ts e =
     let first = at_key key ms ts behind (sym is ∙ e) in
     let p = puts key first.0 first.1 ts room h first.3 in
     (p.0, subst (λ (m : Members). IsPut (value_read room (object m)) name old new) (sym first.2) p.1)
@@ -169,8 +168,8 @@ behind_head byte name old mid new bytes head is = is ∙ ap (λ (l : List ℕ). 
 
 pub as_document : (room : ℕ) (name : List ℕ) (nodes left : List Token) (old mid new : List ℕ) → mid ≡ old ++ (byte_of kinds.Document ∷ cstring name) → PutsMembers room nodes left mid new
     → PutsObject room name nodes left old new
-as_document room name nodes left old mid new head puts ms ts e unique =
-    let p = puts ms ts e unique in
+as_document room name nodes left old mid new head puts ms ts e =
+    let p = puts ms ts e in
     let d = p.2 in (
       p.0,
       record {
@@ -182,8 +181,8 @@ as_document room name nodes left old mid new head puts ms ts e unique =
 
 pub as_array : (room : ℕ) (name : List ℕ) (nodes left : List Token) (old mid new : List ℕ) → mid ≡ old ++ (byte_of kinds.Array ∷ cstring name) → PutsItems room nodes left mid new
     → PutsArray room name nodes left old new
-as_array room name nodes left old mid new head puts js ts e unique =
-    let p = puts js ts e unique in
+as_array room name nodes left old mid new head puts js ts e =
+    let p = puts js ts e in
     let a = p.1 in (
       p.0,
       record {
@@ -209,15 +208,15 @@ deeper text j is =
     let shallow = value-depth max_depth (tokens text) [] j (last (value max_depth (tokens text)) j is) in
     ap (option_and_then (λ p. if_last p.0 p.1)) (ap (value 402) (tokens-document text j is ∙ sym (append-nil (json_tokens j))) ∙ value-json_tokens j 402 [] (omega (arith, shallow)))
 
-pub of_text : (text : List ℕ) (nodes inside left : List Token) (old new : List ℕ) → nodes ≡ tokens text → IsSomeAnd (document text) HasUniqueKeys
-    → nodes ≡ Token.begin_object ∷ inside → PutsMembers 200 inside left old new → IsDocumentPut (document_in text) old new
-of_text text nodes inside left old new is unique begins puts = found (document text) refl unique
+pub of_text : (text : List ℕ) (nodes inside left : List Token) (old new : List ℕ) → nodes ≡ tokens text → IsSome (document text) → nodes ≡ Token.begin_object ∷ inside → PutsMembers 200 inside left old new
+    → IsDocumentPut (document_in text) old new
+of_text text nodes inside left old new is some begins puts = found (document text) refl some
   where
-    found : (o : Option Json) → document text ≡ o → IsSomeAnd o HasUniqueKeys → IsDocumentPut (document_in text) old new
-    found None e u = absurd u
+    found : (o : Option Json) → document text ≡ o → IsSome o → IsDocumentPut (document_in text) old new
+    found None e u = absurd (true≢false (sym u))
     found (Some j) e u =
         let o = of_object j [] inside (sym begins ∙ is ∙ tokens-document text j e ∙ sym (append-nil (json_tokens j))) in
-        let p = puts o.0 [] o.2 (subst HasUniqueKeys o.1 u) in
+        let p = puts o.0 [] o.2 in
         let read : document_in text ≡ document_read 200 o.0 = ap document_as (deeper text j e ∙ ap Some o.1) in record {
           pairs = p.2.pairs;
           is_read = read ∙ p.2.is_read;

@@ -2,7 +2,6 @@
 use Rattle.std.specs.Prelude.{◌≡◌, ℕ, List, ◌++◌, Option, Some, None, Ok, false}
 use Rattle.json.specs.Json.{Items, Json, Members, array, boolean, member, null, number, object}
 use Rattle.json.specs.Json.{string}
-use Rattle.json.specs.Strict.{HasUniqueKeys, ItemsHaveUniqueKeys}
 use Rattle.json.specs.Token.{Token}
 use Rattle.json.specs.Tree.{items_tokens, json_tokens, members_tokens}
 use Rattle.bson_elem.specs.{document, elements}
@@ -33,11 +32,11 @@ pub record IsArrayPut (read : Read (List TreeValue)) (old new : List ℕ) : Type
   pub is_read : read ≡ Ok values
   pub bytes : new ≡ old ++ document (elements (array_tree 0 values))
 
--- If the tokens begin with a JSON value in whose objects no name stands twice, the others are left,
--- and the element of that value was appended, in what so many documents and arrays may be nested.
+-- If the tokens begin with a JSON value, the others are left, and the element of that value was
+-- appended, in what so many documents and arrays may be nested.
 abbrev pub PutsValue : ℕ → List ℕ → List Token → List Token → List ℕ → List ℕ → Type 0
 PutsValue room name tokens left old new =
-    (j : Json) (ts : List Token) → tokens ≡ json_tokens j ++ ts → HasUniqueKeys j
+    (j : Json) (ts : List Token) → tokens ≡ json_tokens j ++ ts
     → (left ≡ ts) × IsPut (value_read room j) name old new
 
 -- the same of a value that has this name in an object
@@ -49,28 +48,24 @@ PutsMember room name tokens left old new =
 abbrev pub PutsMembers : ℕ → List Token → List Token → List ℕ → List ℕ → Type 0
 PutsMembers room tokens left old new =
     (ms : Members) (ts : List Token) → tokens ≡ members_tokens ms ++ ts
-    → HasUniqueKeys (object ms)
     → (left ≡ ts) × (form_in ms ≡ None) × IsDocumentPut (document_read room ms) old new
 
 -- the same of the items of an array
 abbrev pub PutsItems : ℕ → List Token → List Token → List ℕ → List ℕ → Type 0
 PutsItems room tokens left old new =
     (js : Items) (ts : List Token) → tokens ≡ items_tokens js ++ ts
-    → ItemsHaveUniqueKeys js
     → (left ≡ ts) × IsArrayPut (array_read room js) old new
 
 -- the same of the members of an object, and of its own value
 abbrev pub PutsObject : ℕ → List ℕ → List Token → List Token → List ℕ → List ℕ → Type 0
 PutsObject room name tokens left old new =
     (ms : Members) (ts : List Token) → tokens ≡ members_tokens ms ++ ts
-    → HasUniqueKeys (object ms)
     → (left ≡ ts) × IsPut (value_read room (object ms)) name old new
 
 -- the same of the items of an array, and of its own value
 abbrev pub PutsArray : ℕ → List ℕ → List Token → List Token → List ℕ → List ℕ → Type 0
 PutsArray room name tokens left old new =
     (js : Items) (ts : List Token) → tokens ≡ items_tokens js ++ ts
-    → ItemsHaveUniqueKeys js
     → (left ≡ ts) × IsPut (value_read room (array js)) name old new
 
 -- the JSON value of one token

@@ -11,6 +11,7 @@ pub mod Numbers
 pub mod Places
 pub mod Reads
 pub mod Seeking
+pub mod Seen
 pub mod Sequences
 pub mod Table
 pub mod Texts

@@ -13,6 +13,7 @@ ghost use Rattle.bson_json_read.specs.Direct.{PutsLeaf, PutsMember, PutsMembers,
 ghost use Rattle.bson_json_read.specs.Direct.{PutsValue};
 ghost use Rattle.bson_json_read.specs.Forms.{form_name};
 ghost use Rattle.bson_json_read.specs.Numbers.{integer_of};
+ghost use Rattle.bson_json_read.specs.Seen.{IsSeen, Keeps, code_of};
 ghost use Rattle.bson_json_read.specs.Table.{date_value, form_value};
 ghost use Rattle.bson_json_read.specs.Texts.{document_in};
 ghost use Rattle.bson_json_read.specs.Values.{number_read};
@@ -25,6 +26,7 @@ use crate::iso::read_iso;
 use crate::nodes::Nodes;
 use crate::number::{read_double, read_i32, read_i64};
 use crate::owned::{binary_of, has_zero};
+use crate::seen::{Seen, code_of};
 use crate::value::number_of;
 use bson_doc::Bson;
 use bson_elem::Kind;
@@ -134,23 +136,29 @@ fn write_form<'a>(
     }
 }
 
-/// Appends the pair of a member of a document.
+/// Appends the pair of a member of the document that begins at `offset`.
 #[cycle(write)]
 #[inline(always)]
 fn write_member<'a>(
     alloc: Global,
+    offset: usize,
     name: &str,
     nodes: &mut Nodes<'_, 'a>,
     room: u32,
+    seen: &mut Seen,
     out: &mut Vec<u8>,
 ) -> Option<()>
-    ensures { OnSome result
+    ensures puts { OnSome result
         (PutsMember room name.now nodes.old nodes.new out.old.items out.new.items) }
+    ensures code { OnSome result (IsSeen seen.old seen.new (code_of offset name.now)) }
 {
     if has_zero(name.as_bytes()) || form_of_name(name).is_some() {
         return None;
     }
-    write_value(alloc, name, nodes, room, out)?;
+    if !seen.put(code_of(offset, name)) {
+        return None;
+    }
+    write_value(alloc, name, nodes, room, seen, out)?;
     Some(())
 }
 
@@ -161,9 +169,11 @@ fn write_members<'a>(
     alloc: Global,
     nodes: &mut Nodes<'_, 'a>,
     room: u32,
+    seen: &mut Seen,
     out: &mut Vec<u8>,
 ) -> Option<()>
-    ensures { OnSome result (PutsMembers room nodes.old nodes.new out.old.items out.new.items) }
+    ensures puts { OnSome result (PutsMembers room nodes.old nodes.new out.old.items out.new.items) }
+    ensures kept { OnSome result (Keeps seen.old seen.new) }
 {
     if room == 0 {
         return None;
@@ -173,7 +183,7 @@ fn write_members<'a>(
     // A member takes a node at least.
     for _ in 0..nodes.len() {
         match nodes.next()? {
-            Node::Key(name) => write_member(alloc, name, nodes, room - 1, out)?,
+            Node::Key(name) => write_member(alloc, start, name, nodes, room - 1, seen, out)?,
             Node::EndObject => {
                 finish(start, out)?;
                 return Some(());
@@ -192,13 +202,15 @@ fn write_item<'a>(
     index: usize,
     nodes: &mut Nodes<'_, 'a>,
     room: u32,
+    seen: &mut Seen,
     out: &mut Vec<u8>,
 ) -> Option<()>
-    ensures { OnSome result
+    ensures puts { OnSome result
         (PutsValue room (decimal index) nodes.old nodes.new out.old.items out.new.items) }
+    ensures kept { OnSome result (Keeps seen.old seen.new) }
 {
     let mut digits = Buffer::new();
-    write_value(alloc, digits.format(index), nodes, room, out)
+    write_value(alloc, digits.format(index), nodes, room, seen, out)
 }
 
 /// Appends the array of the items that are next. So many documents and arrays may be nested, with
@@ -208,9 +220,11 @@ fn write_items<'a>(
     alloc: Global,
     nodes: &mut Nodes<'_, 'a>,
     room: u32,
+    seen: &mut Seen,
     out: &mut Vec<u8>,
 ) -> Option<()>
-    ensures { OnSome result (PutsItems room nodes.old nodes.new out.old.items out.new.items) }
+    ensures puts { OnSome result (PutsItems room nodes.old nodes.new out.old.items out.new.items) }
+    ensures kept { OnSome result (Keeps seen.old seen.new) }
 {
     if room == 0 {
         return None;
@@ -223,7 +237,7 @@ fn write_items<'a>(
             finish(start, out)?;
             return Some(());
         }
-        write_item(alloc, index, nodes, room - 1, out)?;
+        write_item(alloc, index, nodes, room - 1, seen, out)?;
     }
     None
 }
@@ -236,17 +250,19 @@ fn write_object<'a>(
     name: &str,
     nodes: &mut Nodes<'_, 'a>,
     room: u32,
+    seen: &mut Seen,
     out: &mut Vec<u8>,
 ) -> Option<()>
-    ensures { OnSome result
+    ensures puts { OnSome result
         (PutsObject room name.now nodes.old nodes.new out.old.items out.new.items) }
+    ensures kept { OnSome result (Keeps seen.old seen.new) }
 {
     if let Some(form) = nodes.form() {
         write_form(alloc, form, name, nodes, out)?;
         return Some(());
     }
     put_head(Kind::Document, name, out)?;
-    write_members(alloc, nodes, room, out)?;
+    write_members(alloc, nodes, room, seen, out)?;
     Some(())
 }
 
@@ -258,13 +274,15 @@ fn write_array<'a>(
     name: &str,
     nodes: &mut Nodes<'_, 'a>,
     room: u32,
+    seen: &mut Seen,
     out: &mut Vec<u8>,
 ) -> Option<()>
-    ensures { OnSome result
+    ensures puts { OnSome result
         (PutsArray room name.now nodes.old nodes.new out.old.items out.new.items) }
+    ensures kept { OnSome result (Keeps seen.old seen.new) }
 {
     put_head(Kind::Array, name, out)?;
-    write_items(alloc, nodes, room, out)?;
+    write_items(alloc, nodes, room, seen, out)?;
     Some(())
 }
 
@@ -303,18 +321,20 @@ fn write_value<'a>(
     name: &str,
     nodes: &mut Nodes<'_, 'a>,
     room: u32,
+    seen: &mut Seen,
     out: &mut Vec<u8>,
 ) -> Option<()>
-    ensures { OnSome result
+    ensures puts { OnSome result
         (PutsValue room name.now nodes.old nodes.new out.old.items out.new.items) }
+    ensures kept { OnSome result (Keeps seen.old seen.new) }
 {
     match nodes.next()? {
         Node::Object(_) => {
-            write_object(alloc, name, nodes, room, out)?;
+            write_object(alloc, name, nodes, room, seen, out)?;
             Some(())
         }
         Node::Array(_) => {
-            write_array(alloc, name, nodes, room, out)?;
+            write_array(alloc, name, nodes, room, seen, out)?;
             Some(())
         }
         leaf => {
@@ -331,15 +351,17 @@ pub(crate) fn write_text<'a>(
     alloc: Global,
     text: &'a str,
     scratch: &'a mut Scratch,
+    seen: &mut Seen,
     out: &mut Vec<u8>,
 ) -> Option<()>
     ensures { OnSome result (IsDocumentPut (document_in text.now) out.old.items out.new.items) }
 {
-    let Ok(tape) = Tape::parse_strict(text, scratch, Vec::new(alloc)) else {
+    let Ok(tape) = Tape::parse(text, scratch, Vec::new(alloc)) else {
         return None;
     };
     let mut nodes = Nodes::new(tape.nodes());
+    seen.clear(nodes.len())?;
     nodes.begin_object()?;
-    write_members(alloc, &mut nodes, 200, out)?;
+    write_members(alloc, &mut nodes, 200, seen, out)?;
     Some(())
 }

@@ -1,10 +1,10 @@
 //! How far a text in braces reaches.
 
-ghost use Rattle.std.specs.Prelude.{◌≡◌, ◌+◌, ◌<◌, ◌≤◌, ℕ, drop, length};
+ghost use Rattle.std.specs.Prelude.{◌≡◌, ◌+◌, ◌-◌, ◌<◌, ◌≤◌, ℕ, drop, get_or, length};
 ghost use Rattle.bson_json_read.specs.Extents.{extent, text_len};
 ghost use Rattle.bson_json_read.specs.declared.extent.Within.TheVariants.{Code, Quoted};
 
-use memchr::memchr2;
+use memchr::{memchr, memchr2, memrchr};
 
 /// Where a scan stands in a text.
 #[derive(Clone, Copy)]
@@ -64,4 +64,27 @@ pub fn text_extent(rest: &[u8]) -> usize
         }
     }
     len
+}
+
+/// The most bytes of a line that is read as a text before its end is sought.
+const LONG: usize = 1 << 20;
+
+/// Returns how many bytes of the line that begins here end with its last brace: none, if the line is
+/// long.
+pub(crate) fn line_len(rest: &[u8]) -> usize
+    ensures inside { result ≤ length rest.now }
+    ensures brace { 0 < result → get_or rest.now (result - 1) 0 ≡ 125 }
+{
+    let front = &rest[..rest.len().min(LONG)];
+    let len = match memchr(b'\n', front) {
+        Some(len) => len,
+        None => front.len(),
+    };
+    if len == LONG {
+        return 0;
+    }
+    match memrchr(b'}', &front[..len]) {
+        Some(last) => last + 1,
+        None => 0,
+    }
 }

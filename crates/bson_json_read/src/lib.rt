@@ -24,6 +24,7 @@ mod nodes;
 mod number;
 mod owned;
 mod place;
+mod seen;
 mod text;
 mod texts;
 mod value;

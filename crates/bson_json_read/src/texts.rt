@@ -1,20 +1,22 @@
 //! Reads documents from an input of several texts.
 
 ghost use Rattle.std.specs.Prelude.{◌≡◌, ◌≢◌, ◌≤◌, ◌<◌, ◌+◌, ◌⊎◌, ℕ, List, Err, IfErr, IfOk};
-ghost use Rattle.std.specs.Prelude.{IfSome, MatchResult, None, Ok, drop, false, is_some, length};
+ghost use Rattle.std.specs.Prelude.{IfSome, MatchResult, None, Ok, drop, false, is_some, length, take};
 ghost use Rattle.std.specs.Prelude.{true};
 ghost use Rattle.std.specs.Str.{is_utf8};
+ghost use Rattle.bson_json_read.specs.Extents.{text_len};
 ghost use Rattle.bson_json_read.specs.Places.{StandsIn};
 ghost use Rattle.bson_json_read.specs.Sequences.{Fails, Gives, GivesBytes, IsWritten, next_in};
-ghost use Rattle.bson_json_read.specs.Sequences.{utf8_read};
+ghost use Rattle.bson_json_read.specs.Sequences.{text_here, utf8_read};
 ghost use Rattle.bson_json_read.specs.Seeking.{IsFound, IsText, next_at};
 ghost use Rattle.bson_json_read.specs.Values.{Pair};
 
 use crate::direct::write_text;
-use crate::extent::text_extent;
+use crate::extent::{line_len, text_extent};
 use crate::fault::Cause;
 use crate::frame::{Frame, Step};
 use crate::place::{Place, place_at};
+use crate::seen::Seen;
 use crate::text::from_json_in;
 use bson_doc::{DocRefusal, Document};
 use json::Scratch;
@@ -172,13 +174,19 @@ fn write_owned(
 
 /// Puts the bytes of a text's document into `out`, in place of what that holds, straight from its
 /// JSON. Returns true if it did, which it does of usual texts.
-fn write_direct(alloc: Global, bytes: &[u8], scratch: &mut Scratch, out: &mut Vec<u8>) -> bool
+fn write_direct(
+    alloc: Global,
+    bytes: &[u8],
+    scratch: &mut Scratch,
+    seen: &mut Seen,
+    out: &mut Vec<u8>,
+) -> bool
     ensures { result ≡ true → (d : List Pair) × (utf8_read bytes.now ≡ Ok d)
         × IsWritten d None out.new.items }
 {
     out.clear();
     match text_of(bytes) {
-        Ok(text) => write_text(alloc, text, scratch, out).is_some(),
+        Ok(text) => write_text(alloc, text, scratch, seen, out).is_some(),
         Err(_) => false,
     }
 }
@@ -189,6 +197,7 @@ fn write_document(
     alloc: Global,
     bytes: &[u8],
     scratch: &mut Scratch,
+    seen: &mut Seen,
     out: &mut Vec<u8>,
 ) -> Result<Option<DocRefusal>, FaultAt>
     ensures ok { IfOk result (λ refusal. (d : List Pair) × (utf8_read bytes.now ≡ Ok d)
@@ -197,7 +206,7 @@ fn write_document(
         ⊎ ((path : List ℕ) × (utf8_read bytes.now ≡ Err (e.cause, path)))) }
     ensures offset { IfErr result (λ e. e.offset ≤ length bytes.now) }
 {
-    if write_direct(alloc, bytes, scratch, out) {
+    if write_direct(alloc, bytes, scratch, seen, out) {
         return Ok(None);
     }
     write_owned(alloc, bytes, scratch, out)
@@ -225,6 +234,7 @@ pub struct JsonTexts<'a> {
     offset: usize,
     frame: Frame,
     scratch: Scratch,
+    seen: Seen,
 }
 
 impl<'a> Model for JsonTexts<'a> {
@@ -254,6 +264,7 @@ impl<'a> JsonTexts<'a> {
             offset: 0,
             frame: Frame::Start,
             scratch: Scratch::new(alloc),
+            seen: Seen::new(alloc),
         }
     }
 
@@ -293,6 +304,41 @@ impl<'a> JsonTexts<'a> {
         }
     }
 
+    /// Puts the bytes of the next text's document into `out`, in place of what that holds, if the
+    /// text begins a line and ends with the last brace of it, and if its JSON is written directly.
+    /// Returns the text then. Else nothing is said of `out`.
+    ///
+    /// So the end of a text isn't sought where each has a line. A line is tried once, by its first
+    /// text.
+    fn write_line(&mut self, alloc: Global, out: &mut Vec<u8>) -> Option<Found>
+        ensures next { IfSome result (λ found.
+            next_in self.old.left.frame self.old.left.rest
+            ≡ text_here found.frame (drop found.start self.old.input)) }
+        ensures len { IfSome result (λ found.
+            found.len ≡ text_len (drop found.start self.old.input)) }
+        ensures written { IfSome result (λ found. (d : List Pair)
+            × (utf8_read (take found.len (drop found.start self.old.input)) ≡ Ok d)
+            × IsWritten d None out.new.items) }
+        ensures inside { IfSome result (λ f. (0 < f.len)
+            × (f.start + f.len ≤ length self.old.input)
+            × (length self.old.input ≤ f.start + length self.old.left.rest)) }
+        ensures kept { self.new ≡ self.old }
+    {
+        let (passed, Sought::Text(frame)) = seek(self.frame, &self.input[self.offset..]) else {
+            return None;
+        };
+        let start = self.offset + passed;
+        if self.offset > 0 && !self.input[self.offset..start].contains(&b'\n') {
+            return None;
+        }
+        let rest = &self.input[start..];
+        let len = line_len(rest);
+        if len == 0 || !write_direct(alloc, &rest[..len], &mut self.scratch, &mut self.seen, out) {
+            return None;
+        }
+        Some(Found { frame, start, len })
+    }
+
     /// Reads the next document. Returns `None` at the end of the input.
     ///
     /// # Errors
@@ -325,15 +371,10 @@ impl<'a> JsonTexts<'a> {
         }
     }
 
-    /// Reads the next document like `next`, and puts its bytes into `out`, in place of what that
-    /// holds.
-    ///
-    /// # Errors
-    ///
-    /// Returns the first fault of what is next, or `OutOfMemory` if memory is refused. Then nothing
-    /// is said of what is left, and of `out`.
+    /// Puts the bytes of the next document into `out`, in place of what that holds. The end of its
+    /// text is sought first.
     #[tactic(auto, using(crate::proofs::TextBytes::told))]
-    pub fn next_bytes(&mut self, alloc: Global, out: &mut Vec<u8>) -> Result<NextBytes, TextFault>
+    fn write_next(&mut self, alloc: Global, out: &mut Vec<u8>) -> Result<NextBytes, TextFault>
         ensures ok { IfOk result (λ read.
             GivesBytes (next_in self.old.left.frame self.old.left.rest) read out.new.items
             self.new.left) }
@@ -349,7 +390,13 @@ impl<'a> JsonTexts<'a> {
             return Ok(NextBytes::AtEnd);
         };
         let rest = &self.input[found.start..];
-        match write_document(alloc, &rest[..found.len], &mut self.scratch, out) {
+        match write_document(
+            alloc,
+            &rest[..found.len],
+            &mut self.scratch,
+            &mut self.seen,
+            out,
+        ) {
             Ok(refusal) => {
                 self.offset = found.start + found.len;
                 self.frame = found.frame.behind_text();
@@ -360,5 +407,32 @@ impl<'a> JsonTexts<'a> {
             }
             Err(fault) => Err(self.fault(fault.cause, found.start + fault.offset)),
         }
+    }
+
+    /// Reads the next document like `next`, and puts its bytes into `out`, in place of what that
+    /// holds.
+    ///
+    /// # Errors
+    ///
+    /// Returns the first fault of what is next, or `OutOfMemory` if memory is refused. Then nothing
+    /// is said of what is left, and of `out`.
+    pub fn next_bytes(&mut self, alloc: Global, out: &mut Vec<u8>) -> Result<NextBytes, TextFault>
+        ensures ok { IfOk result (λ read.
+            GivesBytes (next_in self.old.left.frame self.old.left.rest) read out.new.items
+            self.new.left) }
+        ensures err { IfErr result (λ e. (e.cause ≡ Cause.OutOfMemory)
+            ⊎ Fails (next_in self.old.left.frame self.old.left.rest) e.cause) }
+        ensures shorter { IfOk result (λ read. read ≢ NextBytes.AtEnd
+            → length self.new.left.rest < length self.old.left.rest) }
+        ensures place { IfErr result (λ e.
+            StandsIn self.old.input e.place.line e.place.column) }
+        ensures input { self.new.input ≡ self.old.input }
+    {
+        if let Some(found) = self.write_line(alloc, out) {
+            self.offset = found.start + found.len;
+            self.frame = found.frame.behind_text();
+            return Ok(NextBytes::Document);
+        }
+        self.write_next(alloc, out)
     }
 }

@@ -1,8 +1,8 @@
 use Rattle.std.proofs.Common.{◌≡◌, ◌+◌, ◌-◌, ◌*◌, ◌++◌, List}
-use Rattle.json.specs.Json.{Items, Members, object}
-use Rattle.json.specs.Strict.{HasUniqueKeys, ItemsHaveUniqueKeys}
+use Rattle.json.specs.Json.{Items, Members}
 use Rattle.json.specs.Token.{Token}
 use Rattle.json.specs.Tree.{items_tokens, members_tokens}
+use Rattle.bson_json_read.specs.Seen.{Keeps}
 use Rattle.bson_json_read.proofs.Progress.{ItemsLeft, MembersLeft}
 use Rattle.bson_json_read.proofs.direct.+write.Given as goal
 
@@ -29,10 +29,8 @@ decreases-write_item l = 5 * l.room + 3
 
 abbrev pub invariant-write_members-loop : goal.invariant-write_members-loop
 invariant-write_members-loop l =
-    (ms : Members) (ts : List Token) → l.fn.nodes ≡ members_tokens ms ++ ts → HasUniqueKeys (object ms)
-    → MembersLeft (l.room - 1) ms ts l.nodes l.fn.out.items l.out.items
+    ((ms : Members) (ts : List Token) → l.fn.nodes ≡ members_tokens ms ++ ts → MembersLeft (l.room - 1) l.start ms ts l.nodes l.seen l.fn.out.items l.out.items) × Keeps l.fn.seen l.seen
 
 abbrev pub invariant-write_items-loop-index : goal.invariant-write_items-loop-index
 invariant-write_items-loop-index l =
-    (js : Items) (ts : List Token) → l.fn.nodes ≡ items_tokens js ++ ts → ItemsHaveUniqueKeys js
-    → ItemsLeft (l.room - 1) js ts l.nodes l.index l.fn.out.items l.out.items
+    ((js : Items) (ts : List Token) → l.fn.nodes ≡ items_tokens js ++ ts → ItemsLeft (l.room - 1) js ts l.nodes l.index l.fn.out.items l.out.items) × Keeps l.fn.seen l.seen
