@@ -153,9 +153,9 @@ pub record MembersDone (room : ℕ) (ms : Members) (ts behind : List Token) (old
   pub forms : form_in ms ≡ None
   pub put : IsDocumentPut (document_read room ms) old new
 
-pub members_done : (room : ℕ) (ms : Members) (ts left behind : List Token) (start : ℕ) (places old out new : List ℕ) → 0 < room → MembersLeft (room - 1) start ms ts left places old out
+pub members_done : (room offset : ℕ) (ms : Members) (ts left behind : List Token) (start : ℕ) (places old out new : List ℕ) → 0 < room → MembersLeft (room - 1) offset ms ts left places old out
     → left ≡ Token.end_object ∷ behind → start ≡ length old → new ≡ take start out ++ document (drop (start + 4) out) → MembersDone room ms ts behind old new
-members_done room ms ts left behind start places old out new some m is at end =
+members_done room offset ms ts left behind start places old out new some m is at end =
     let last = at_end m.rest ts behind (sym is ∙ m.left_is) in
     record {
       left_is = last.1;

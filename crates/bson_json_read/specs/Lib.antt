@@ -7,6 +7,7 @@ pub mod Extents
 pub mod Forms
 pub mod Frames
 pub mod Iso
+pub mod Leaf
 pub mod Numbers
 pub mod Places
 pub mod Reads

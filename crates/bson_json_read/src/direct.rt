@@ -7,11 +7,11 @@ ghost use Rattle.std.specs.Prelude.{◌≡◌, ◌^◌, IfSome, Ok, OnSome, Some
 ghost use Rattle.std.specs.Fmt.{decimal};
 ghost use Rattle.json.specs.Json.{member, no_members, string};
 ghost use Rattle.json.specs.Tape.{node_token};
-ghost use Rattle.bson_doc.specs.{value_of};
 ghost use Rattle.bson_json_read.specs.Direct.{IsDocumentPut, PutsArray, PutsForm, PutsItems};
 ghost use Rattle.bson_json_read.specs.Direct.{PutsLeaf, PutsMember, PutsMembers, PutsObject};
 ghost use Rattle.bson_json_read.specs.Direct.{PutsValue};
 ghost use Rattle.bson_json_read.specs.Forms.{form_name};
+ghost use Rattle.bson_json_read.specs.Leaf.{leaf_of};
 ghost use Rattle.bson_json_read.specs.Numbers.{integer_of};
 ghost use Rattle.bson_json_read.specs.Seen.{IsSeen, Keeps, code_of};
 ghost use Rattle.bson_json_read.specs.Table.{date_value, form_value};
@@ -20,33 +20,32 @@ ghost use Rattle.bson_json_read.specs.Values.{number_read};
 
 use crate::bytes::read_object_id;
 use crate::decimal::decimal128_from_text;
-use crate::element::{begin, finish, put_head, put_leaf, put_string};
+use crate::element::{Leaf, begin, finish, put_head, put_leaf, put_owned, put_string};
 use crate::form::{Form, form_of_name};
 use crate::iso::read_iso;
 use crate::nodes::Nodes;
-use crate::number::{read_double, read_i32, read_i64};
+use crate::number::{read_double, read_finite, read_i32, read_i64};
 use crate::owned::{binary_of, has_zero};
 use crate::seen::{Seen, code_of};
-use crate::value::number_of;
-use bson_doc::Bson;
 use bson_elem::Kind;
+use bson_raw::double_to_bytes;
 use itoa::Buffer;
 use json::{Node, Scratch, Tape};
 use std::alloc::Global;
 
 /// Returns the value that a text stands for in an object of this form.
 #[tactic(auto, using(crate::proofs::Written::id_row, crate::proofs::Written::int32_row, crate::proofs::Written::int64_row, crate::proofs::Written::double_row, crate::proofs::Written::decimal_row, crate::proofs::Written::iso_row))]
-fn text_value(form: Form, text: &str) -> Option<Bson>
-    ensures { IfSome result (λ b. form_value form
-        (member (form_name form) (string text.now) no_members) ≡ Some (value_of b)) }
+fn text_value(form: Form, text: &str) -> Option<Leaf>
+    ensures { IfSome result (λ l. form_value form
+        (member (form_name form) (string text.now) no_members) ≡ Some (leaf_of l)) }
 {
     match form {
-        Form::ObjectId => Some(Bson::ObjectId(read_object_id(text)?)),
-        Form::Int32 => Some(Bson::Int32(read_i32(text)?)),
-        Form::Int64 => Some(Bson::Int64(read_i64(text)?)),
-        Form::Double => Some(Bson::from(read_double(text)?)),
-        Form::Decimal128 => Some(Bson::Decimal128(decimal128_from_text(text)?)),
-        Form::DateTime => Some(Bson::DateTime(read_iso(text)?)),
+        Form::ObjectId => Some(Leaf::ObjectId(read_object_id(text)?)),
+        Form::Int32 => Some(Leaf::Int32(read_i32(text)?)),
+        Form::Int64 => Some(Leaf::Int64(read_i64(text)?)),
+        Form::Double => Some(Leaf::Double(double_to_bytes(read_double(text)?))),
+        Form::Decimal128 => Some(Leaf::Decimal128(decimal128_from_text(text)?)),
+        Form::DateTime => Some(Leaf::DateTime(read_iso(text)?)),
         _ => None,
     }
 }
@@ -64,16 +63,16 @@ fn write_text_form<'a>(
 {
     let text = nodes.text()?;
     nodes.end_object()?;
-    put_leaf(name, &text_value(form, text)?, out)?;
+    put_leaf(name, text_value(form, text)?, out)?;
     Some(())
 }
 
 /// Returns the date of so many milliseconds.
-fn date_of(text: &str) -> Option<Bson>
-    ensures { IfSome result (λ b.
-        option_map date_value (integer_of (2 ^ 63) text.now) ≡ Some (value_of b)) }
+fn date_of(text: &str) -> Option<Leaf>
+    ensures { IfSome result (λ l.
+        option_map date_value (integer_of (2 ^ 63) text.now) ≡ Some (leaf_of l)) }
 {
-    Some(Bson::DateTime(read_i64(text)?))
+    Some(Leaf::DateTime(read_i64(text)?))
 }
 
 /// Appends the date of an object of `$date` whose value is one of `$numberLong`.
@@ -86,7 +85,7 @@ fn write_long_date<'a>(name: &str, nodes: &mut Nodes<'_, 'a>, out: &mut Vec<u8>)
     let text = nodes.text_named("$numberLong")?;
     nodes.end_object()?;
     nodes.end_object()?;
-    put_leaf(name, &date_of(text)?, out)?;
+    put_leaf(name, date_of(text)?, out)?;
     Some(())
 }
 
@@ -109,7 +108,7 @@ fn write_binary<'a>(
     let Ok(Some(value)) = binary_of(alloc, base64, subtype) else {
         return None;
     };
-    put_leaf(name, &value, out)?;
+    put_owned(name, &value, out)?;
     Some(())
 }
 
@@ -179,11 +178,12 @@ fn write_members<'a>(
         return None;
     }
     let start = out.len();
+    let offset = seen.offset(start);
     begin(out)?;
     // A member takes a node at least.
     for _ in 0..nodes.len() {
         match nodes.next()? {
-            Node::Key(name) => write_member(alloc, start, name, nodes, room - 1, seen, out)?,
+            Node::Key(name) => write_member(alloc, offset, name, nodes, room - 1, seen, out)?,
             Node::EndObject => {
                 finish(start, out)?;
                 return Some(());
@@ -288,13 +288,16 @@ fn write_array<'a>(
 
 /// Returns the value of a number that isn't too large.
 #[inline(always)]
-fn plain_number(text: &str) -> Option<Bson>
-    ensures { IfSome result (λ b. number_read text.now ≡ Ok (value_of b)) }
+fn plain_number(text: &str) -> Option<Leaf>
+    ensures { IfSome result (λ l. number_read text.now ≡ Ok (leaf_of l)) }
 {
-    match number_of(text) {
-        Ok(number) => Some(number),
-        Err(_) => None,
+    if let Some(number) = read_i32(text) {
+        return Some(Leaf::Int32(number));
     }
+    if let Some(number) = read_i64(text) {
+        return Some(Leaf::Int64(number));
+    }
+    Some(Leaf::Double(double_to_bytes(read_finite(text)?)))
 }
 
 /// Appends the element of a value that is no object and no array.
@@ -305,9 +308,9 @@ fn write_leaf(node: Node<'_>, name: &str, out: &mut Vec<u8>) -> Option<()>
 {
     match node {
         Node::String(text) => put_string(name, text, out),
-        Node::Number(text) => put_leaf(name, &plain_number(text)?, out),
-        Node::Bool(truth) => put_leaf(name, &Bson::Boolean(truth), out),
-        Node::Null => put_leaf(name, &Bson::Null, out),
+        Node::Number(text) => put_leaf(name, plain_number(text)?, out),
+        Node::Bool(truth) => put_leaf(name, Leaf::Boolean(truth), out),
+        Node::Null => put_leaf(name, Leaf::Null, out),
         _ => None,
     }
 }
@@ -360,7 +363,8 @@ pub(crate) fn write_text<'a>(
         return None;
     };
     let mut nodes = Nodes::new(tape.nodes());
-    seen.clear(nodes.len())?;
+    // A name takes two nodes, with its value.
+    seen.begin_text(nodes.len() / 2)?;
     nodes.begin_object()?;
     write_members(alloc, &mut nodes, 200, seen, out)?;
     Some(())

@@ -4,7 +4,8 @@
 ghost use Rattle.std.specs.Prelude.{◌≡◌, ◌≤◌, ◌+◌, ◌-◌, ◌++◌, ◌∷◌, [], OnSome, drop, take, vec_len};
 ghost use Rattle.bson_elem.specs.{binary, byte_of, cstring, document, little, string};
 ghost use Rattle.bson_doc.specs.{value_of};
-ghost use Rattle.bson_doc.specs.Values.{element_bytes, value_bytes};
+ghost use Rattle.bson_doc.specs.Values.{element_bytes};
+ghost use Rattle.bson_json_read.specs.Leaf.{leaf_of};
 ghost use Rattle.bson_json_read.specs.Table.{string_value};
 
 use bson_doc::Bson;
@@ -78,32 +79,59 @@ fn put_binary(subtype: u8, bytes: &[u8], out: &mut Vec<u8>) -> Option<()>
     put_bytes(bytes, out)
 }
 
-/// Appends a value that takes no memory, or a binary. Of other kinds it returns `None`.
-#[inline(always)]
-fn put_value(value: &Bson, out: &mut Vec<u8>) -> Option<()>
+/// Appends a binary under a name. Of other values it returns `None`.
+pub(crate) fn put_owned(name: &str, value: &Bson, out: &mut Vec<u8>) -> Option<()>
     ensures { OnSome result
-        (out.new.items ≡ out.old.items ++ value_bytes (value_of value.now)) }
+        (out.new.items ≡ out.old.items ++ element_bytes name.now (value_of value.now)) }
 {
     match value {
-        Bson::Null => Some(()),
-        Bson::Boolean(truth) => put_bytes(&[*truth as u8], out),
-        Bson::Int32(n) => put_bytes(&n.to_le_bytes(), out),
-        Bson::Int64(n) | Bson::DateTime(n) => put_bytes(&n.to_le_bytes(), out),
-        Bson::Double(bytes) => put_bytes(bytes, out),
-        Bson::ObjectId(bytes) => put_bytes(bytes, out),
-        Bson::Decimal128(bytes) => put_bytes(bytes, out),
-        Bson::Binary { subtype, bytes } => put_binary(*subtype, bytes, out),
+        Bson::Binary { subtype, bytes } => {
+            put_head(Kind::Binary, name, out)?;
+            put_binary(*subtype, bytes, out)
+        }
         _ => None,
     }
 }
 
-/// Appends a value like `put_value`, under a name.
-pub(crate) fn put_leaf(name: &str, value: &Bson, out: &mut Vec<u8>) -> Option<()>
+/// A value that takes no memory. It has a sixth of the size of a `Bson`, all of whose bytes are set
+/// wherever one is made.
+#[derive(Clone, Copy)]
+pub(crate) enum Leaf {
+    Null,
+    Boolean(bool),
+    Int32(i32),
+    Int64(i64),
+    DateTime(i64),
+    Double([u8; 8]),
+    ObjectId([u8; 12]),
+    Decimal128([u8; 16]),
+}
+
+/// Appends the kind of a value, the name of its pair, and the value's bytes.
+#[inline(always)]
+fn put_fixed(kind: Kind, name: &str, bytes: &[u8], out: &mut Vec<u8>) -> Option<()>
     ensures { OnSome result
-        (out.new.items ≡ out.old.items ++ element_bytes name.now (value_of value.now)) }
+        (out.new.items ≡ out.old.items ++ (byte_of kind ∷ (cstring name.now ++ bytes.now))) }
 {
-    put_head(value.kind(), name, out)?;
-    put_value(value, out)
+    put_head(kind, name, out)?;
+    put_bytes(bytes, out)
+}
+
+/// Appends a value under a name.
+pub(crate) fn put_leaf(name: &str, leaf: Leaf, out: &mut Vec<u8>) -> Option<()>
+    ensures { OnSome result
+        (out.new.items ≡ out.old.items ++ element_bytes name.now (leaf_of leaf)) }
+{
+    match leaf {
+        Leaf::Null => put_head(Kind::Null, name, out),
+        Leaf::Boolean(truth) => put_fixed(Kind::Boolean, name, &[truth as u8], out),
+        Leaf::Int32(n) => put_fixed(Kind::Int32, name, &n.to_le_bytes(), out),
+        Leaf::Int64(n) => put_fixed(Kind::Int64, name, &n.to_le_bytes(), out),
+        Leaf::DateTime(n) => put_fixed(Kind::DateTime, name, &n.to_le_bytes(), out),
+        Leaf::Double(bytes) => put_fixed(Kind::Double, name, &bytes, out),
+        Leaf::ObjectId(bytes) => put_fixed(Kind::ObjectId, name, &bytes, out),
+        Leaf::Decimal128(bytes) => put_fixed(Kind::Decimal128, name, &bytes, out),
+    }
 }
 
 /// Begins a document, with four bytes for its length.

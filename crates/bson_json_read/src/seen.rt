@@ -3,7 +3,7 @@
 ghost use Rattle.std.specs.Prelude.{◌≡◌, ◌<◌, ◌≤◌, ◌+◌, ◌-◌, IsTrue, vec_len};
 ghost use Rattle.std.specs.Bool.{MatchBool};
 ghost use Rattle.bson_json_read.specs.Seen as spec;
-ghost use Rattle.bson_json_read.specs.Seen.{IsPutFrom, IsSeen};
+ghost use Rattle.bson_json_read.specs.Seen.{IsPacked, IsPutFrom, IsSeen};
 
 use std::alloc::Global;
 use std::hash::{FoldHasher, Hasher};
@@ -15,12 +15,20 @@ const PLACES: usize = 64;
 /// Spreads the offsets of documents.
 const SPREAD: u64 = 0x9e37_79b9_7f4a_7c15;
 
+/// The least size of a table, by the first places of codes.
+const LEAST: usize = 512;
+
 /// The codes that were seen, in a table. An empty place has 0. Contracts see the places.
 ///
-/// No place is empty between the first one of a code and its own, so that one look is enough.
+/// No place is empty between the first one of a code and its own, so that one look is enough. Codes
+/// of several texts stand there until it is half full, so that it is seldom emptied.
 #[derive(Drop)]
 pub(crate) struct Seen {
     places: Vec<u64>,
+    /// How many codes stand there.
+    count: usize,
+    /// What the offsets of the text's documents are counted from.
+    origin: usize,
 }
 
 impl Model for Seen {
@@ -56,6 +64,14 @@ fn first_place(size: usize, code: u64) -> usize
     (code >> 8) as usize & (size - 1)
 }
 
+/// Makes a table one of so many empty places. Returns `None` if memory is refused.
+fn empty(len: usize, places: &mut Vec<u64>) -> Option<()>
+    ensures { IsPacked places.new.items }
+{
+    places.clear();
+    places.resize(len, 0).ok()
+}
+
 /// Puts a code into the first empty place of those from `first` on. Returns false if none of them is
 /// empty, or the code stands there.
 #[inline(always)]
@@ -82,17 +98,31 @@ impl Seen {
     pub(crate) fn new(alloc: Global) -> Seen {
         Seen {
             places: Vec::new(alloc),
+            count: 0,
+            origin: 0,
         }
     }
 
-    /// Empties the table, and makes room for so many codes. Returns `None` if memory is refused.
-    pub(crate) fn clear(&mut self, count: usize) -> Option<()> {
-        self.places.clear();
-        if count > 1 << 40 {
+    /// Begins another text, of at most so many names. Returns `None` if memory is refused.
+    pub(crate) fn begin_text(&mut self, names: usize) -> Option<()> {
+        self.origin = self.origin.wrapping_add(1 << 32);
+        let size = self.places.len().saturating_sub(PLACES);
+        if self.count.saturating_add(names) <= size / 2 {
+            return Some(());
+        }
+        if names > 1 << 40 {
             return None;
         }
-        let size = count.next_power_of_two();
-        self.places.resize(size + PLACES, 0).ok()
+        self.count = 0;
+        let size = (2 * names).max(LEAST).next_power_of_two();
+        empty(size + PLACES, &mut self.places)
+    }
+
+    /// Returns the offset of the text's document that begins at `start`, apart from those of other
+    /// texts.
+    #[inline(always)]
+    pub(crate) fn offset(&self, start: usize) -> usize {
+        self.origin.wrapping_add(start)
     }
 
     /// Puts a code into the table. Returns false if that may have been seen, or has no place.
@@ -107,6 +137,7 @@ impl Seen {
             return false;
         }
         let first = first_place(len - PLACES, code);
+        self.count = self.count.wrapping_add(1);
         put_from(first, code, &mut self.places)
     }
 }

@@ -23,7 +23,7 @@ use json::Value;
 use std::alloc::Global;
 
 /// Returns the value of a number: the smallest kind that holds it, and else the nearest double.
-pub(crate) fn number_of(text: &str) -> Result<Bson, Cause>
+fn number_of(text: &str) -> Result<Bson, Cause>
     ensures { spec.number_read text.now ≡ spec.plain result }
 {
     if let Some(number) = read_i32(text) {

@@ -9,13 +9,13 @@ use Rattle.bson_json_read.proofs.Written.{by_form, of_array_node, of_leaf, of_ob
 use Rattle.bson_json_read.proofs.direct.+write.Goals as goal
 
 pub write_members-loop-init : goal.write_members-loop-init
-write_members-loop-init t c = (λ ms ts is. members_begin (c.args.room - 1) c.len-start.result ms ts c.args.nodes.now c.args.seen.now c.args.out.now.items c.begin.new.out.items is c.in_ok-begin.ensures, λ x some has. has)
+write_members-loop-init t c = (λ ms ts is. members_begin (c.args.room - 1) c.offset-offset.result ms ts c.args.nodes.now c.args.seen.now c.args.out.now.items c.begin.new.out.items is c.in_ok-begin.ensures, λ x some has. has)
 
 pub write_members-loop-preserved : goal.write_members-loop-preserved
 write_members-loop-preserved t c =
     let put = c.in_ok-write_member-in-Key.ensures.puts in
     let seen = c.in_ok-write_member-in-Key.ensures.code in (
-      λ ms ts is. members_more (c.args.room - 1) c.len-start.result ms ts c.loop.nodes c.next.new.self c.write_member.new.nodes c.loop.seen c.write_member.new.seen c.args.out.now.items c.loop.out.items
+      λ ms ts is. members_more (c.args.room - 1) c.offset-offset.result ms ts c.loop.nodes c.next.new.self c.write_member.new.nodes c.loop.seen c.write_member.new.seen c.args.out.now.items c.loop.out.items
           c.write_member.new.out.items c.in-Key.name.now (c.loop.invariant.0 ms ts is) (c.in_ok-name.ensures ∙ ap (λ (n : Node). node_token n ∷ c.next.new.self) c.in-Key.is) put.0 put.1 put.2 seen,
       λ x some has. seen.kept x some (c.loop.invariant.1 x some has),
     )
@@ -25,7 +25,7 @@ write_members-returns-in-EndObject-clause-puts t c = λ ms ts is.
     let some : 0 < c.args.room = omega arith in
     let at : c.len-start.result ≡ length c.args.out.now.items = omega (arith, c.args.out.now.ok.0) in
     let done =
-    members_done c.args.room ms ts c.loop.nodes c.next.new.self c.len-start.result c.loop.seen c.args.out.now.items c.loop.out.items c.finish.new.out.items some (c.loop.invariant.0 ms ts is)
+    members_done c.args.room c.offset-offset.result ms ts c.loop.nodes c.next.new.self c.len-start.result c.loop.seen c.args.out.now.items c.loop.out.items c.finish.new.out.items some (c.loop.invariant.0 ms ts is)
     (c.in_ok-name.ensures ∙ ap (λ (n : Node). node_token n ∷ c.next.new.self) c.in-EndObject.is) at c.in_ok-finish-in-EndObject.ensures in
     (done.left_is, done.forms, done.put)
 

@@ -29,7 +29,7 @@ decreases-write_item l = 5 * l.room + 3
 
 abbrev pub invariant-write_members-loop : goal.invariant-write_members-loop
 invariant-write_members-loop l =
-    ((ms : Members) (ts : List Token) → l.fn.nodes ≡ members_tokens ms ++ ts → MembersLeft (l.room - 1) l.start ms ts l.nodes l.seen l.fn.out.items l.out.items) × Keeps l.fn.seen l.seen
+    ((ms : Members) (ts : List Token) → l.fn.nodes ≡ members_tokens ms ++ ts → MembersLeft (l.room - 1) l.offset ms ts l.nodes l.seen l.fn.out.items l.out.items) × Keeps l.fn.seen l.seen
 
 abbrev pub invariant-write_items-loop-index : goal.invariant-write_items-loop-index
 invariant-write_items-loop-index l =

@@ -13,4 +13,4 @@ returns c =
     let is : c.args.nodes.now ≡ Token.begin_object ∷ Token.key (codes "base64") ∷ Token.string s ∷ Token.key (codes "subType") ∷ Token.string t ∷ Token.end_object ∷ Token.end_object ∷ c.end_object-2.new.self =
     cc (c.in_ok-begin_object.ensures, c.in_ok-base64.ensures, c.in_ok-subtype.ensures, c.in_ok-end_object.ensures, c.in_ok-end_object-2.ensures) in
     let read = subst (λ (o : Option Bson). option_map value_of o ≡ binary_texts (s, t)) c.in-Ok-Some.field-0-is c.in-Ok-Some.ensures in
-    binary_form c.args.name.now c.args.nodes.now c.end_object-2.new.self c.args.out.now.items c.put_leaf.new.out.items s t (value_of c.in-Ok-Some.value) is (sym read) c.in_ok-put_leaf.ensures
+    binary_form c.args.name.now c.args.nodes.now c.end_object-2.new.self c.args.out.now.items c.put_owned.new.out.items s t (value_of c.in-Ok-Some.value) is (sym read) c.in_ok-put_owned.ensures
