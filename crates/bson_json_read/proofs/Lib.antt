@@ -24,3 +24,4 @@ pub mod Tokens
 pub mod Trees
 pub mod Walking
 pub mod Written
+pub mod Zeros

@@ -17,6 +17,7 @@ pub mod Sequences
 pub mod Table
 pub mod Texts
 pub mod Values
+pub mod Zeros
 -- the words that clauses of other crates cite
 pub use Rattle.bson_json_read.specs.Causes.{text_fault_text}
 pub use Rattle.bson_json_read.specs.Extents.{text_len}

@@ -25,8 +25,9 @@ use crate::form::{Form, form_of_name};
 use crate::iso::read_iso;
 use crate::nodes::Nodes;
 use crate::number::{read_double, read_finite, read_i32, read_i64};
-use crate::owned::{binary_of, has_zero};
+use crate::owned::binary_of;
 use crate::seen::{Seen, code_of};
+use crate::zero::has_zero;
 use bson_elem::Kind;
 use bson_raw::double_to_bytes;
 use itoa::Buffer;
@@ -171,7 +172,8 @@ fn write_members<'a>(
     seen: &mut Seen,
     out: &mut Vec<u8>,
 ) -> Option<()>
-    ensures puts { OnSome result (PutsMembers room nodes.old nodes.new out.old.items out.new.items) }
+    ensures puts { OnSome result
+        (PutsMembers room nodes.old nodes.new out.old.items out.new.items) }
     ensures kept { OnSome result (Keeps seen.old seen.new) }
 {
     if room == 0 {

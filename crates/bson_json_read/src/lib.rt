@@ -29,6 +29,7 @@ mod text;
 mod texts;
 mod value;
 mod wrapped;
+mod zero;
 
 pub use decimal::decimal128_from_text;
 pub use extent::text_extent;

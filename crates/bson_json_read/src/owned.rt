@@ -3,7 +3,6 @@
 ghost use Rattle.std.specs.Prelude.{◌≡◌, IfOk, option_map};
 ghost use Rattle.json.specs.Value.{members_view, value_view};
 ghost use Rattle.bson_doc.specs.{value_of};
-ghost use Rattle.bson_doc.specs.Unwritable as unwritable;
 ghost use Rattle.bson_json_read.specs.Table as spec;
 ghost use Rattle.bson_json_read.specs.Table.{both_texts, form_value};
 ghost use Rattle.bson_json_read.specs.declared.form.Form.TheVariants as forms;
@@ -13,16 +12,10 @@ use crate::form::Form;
 use crate::members::{as_members, both_values};
 use crate::wrapped;
 use crate::wrapped::{id_of, object_alone, text_alone};
+use crate::zero::has_zero;
 use bson_doc::Bson;
 use json::Value;
 use std::alloc::{AllocError, Global};
-
-/// Returns true if one of the bytes is 00.
-pub(crate) fn has_zero(bytes: &[u8]) -> bool
-    ensures { result ≡ unwritable.has_zero bytes.now }
-{
-    bytes.iter().any(|b| *b == 0)
-}
 
 /// Returns the texts of these two names, if they alone are there.
 fn texts_alone<'a>(members: &[(&'a str, Value<'a>)], a: &str, b: &str) -> Option<(&'a str, &'a str)>

@@ -1,8 +1,8 @@
 //! Reads documents from an input of several texts.
 
 ghost use Rattle.std.specs.Prelude.{◌≡◌, ◌≢◌, ◌≤◌, ◌<◌, ◌+◌, ◌⊎◌, ℕ, List, Err, IfErr, IfOk};
-ghost use Rattle.std.specs.Prelude.{IfSome, MatchResult, None, Ok, drop, false, is_some, length, take};
-ghost use Rattle.std.specs.Prelude.{true};
+ghost use Rattle.std.specs.Prelude.{IfSome, MatchResult, None, Ok, drop, false, is_some, length};
+ghost use Rattle.std.specs.Prelude.{take, true};
 ghost use Rattle.std.specs.Str.{is_utf8};
 ghost use Rattle.bson_json_read.specs.Extents.{text_len};
 ghost use Rattle.bson_json_read.specs.Places.{StandsIn};
