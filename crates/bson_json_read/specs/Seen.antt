@@ -14,7 +14,7 @@ code_of offset name =
 
 -- the first place of a code, of so many
 unfoldable pub first_place : ℕ → ℕ → ℕ
-first_place size code = bit_and (code / 2 ^ 8) (size - 1)
+first_place size code = bit_and (code / 2 ^ 32) (size - 1)
 
 -- of a table of so many places, the first one of a code is not behind this one, and none between
 -- them is empty

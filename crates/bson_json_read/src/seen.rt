@@ -61,7 +61,7 @@ fn first_place(size: usize, code: u64) -> usize
     ensures place { result ≡ spec.first_place size code }
     ensures within { result < size }
 {
-    (code >> 8) as usize & (size - 1)
+    (code >> 32) as usize & (size - 1)
 }
 
 /// Makes a table one of so many empty places. Returns `None` if memory is refused.
