@@ -46,6 +46,7 @@ pub use canon::{run_canon, run_canon_within, salvage_canon};
 pub use check::{run_check, salvage_check};
 pub use dump::run_dump;
 pub use fault_line::write_fault;
+pub use frame_text::write_frame;
 pub use json::{Layout, run_json};
 pub use loopback::run_loop;
 pub use msg::{MessageForm, run_msg};

@@ -1,6 +1,7 @@
-//! `proxy LISTEN UPSTREAM [COUNT]` listens at one address, and passes the bytes of each connection
-//! to the server at the other one and back, unchanged. It writes where it listens. Given a count, it
-//! ends once as many connections ended.
+//! `proxy [--text] LISTEN UPSTREAM [COUNT]` listens at one address, and passes the bytes of each
+//! connection to the server at the other one and back, unchanged. It writes where it listens, and
+//! with `--text` each message, once it is whole. Given a count, it ends once as many connections
+//! ended.
 //!
 //! Uses wire_relay. Read first: `pairs`, and then `proxy`.
 #![tactic(auto)]
@@ -8,12 +9,13 @@
 mod pairs;
 mod proxy;
 mod socket;
+mod watch;
 
 use anyhow::{Result, bail};
 use mio::Events;
 use mio::net::TcpListener;
 use proxy::Proxy;
-use std::io::Write;
+use std::io::{BufWriter, Write};
 use std::net::{Net, SocketAddr, ToSocketAddrs};
 use std::{env, io};
 
@@ -40,30 +42,40 @@ fn count_of(word: Option<&str>) -> Result<u64> {
 }
 
 /// Serves until so many connections ended.
-fn serve(net: &impl Net, proxy: &mut Proxy, events: &mut Events, count: u64) -> Result<()> {
+fn serve<W: Write>(
+    net: &impl Net,
+    proxy: &mut Proxy,
+    events: &mut Events,
+    count: u64,
+    out: &mut W,
+) -> Result<()> {
     for _ in 0..u64::MAX {
         if proxy.ended() >= count {
             break;
         }
-        proxy.serve_some(net, events)?;
+        proxy.serve_some(net, events, out)?;
     }
-    Ok(())
+    Ok(out.flush()?)
 }
 
 fn main(rt: HostRuntime) -> Result<()> {
     let alloc = rt.alloc();
     let mut words = env::args(&rt)?;
-    let (Some(listen), Some(upstream)) = (words.nth(1), words.next()) else {
-        bail!("usage: proxy LISTEN UPSTREAM [COUNT]");
+    let mut listen = words.nth(1);
+    let text = listen.as_deref() == Some("--text");
+    if text {
+        listen = words.next();
+    }
+    let (Some(listen), Some(upstream)) = (listen, words.next()) else {
+        bail!("usage: proxy [--text] LISTEN UPSTREAM [COUNT]");
     };
     let count = words.next();
     let count = count_of(count.as_deref())?;
     let listener = TcpListener::bind(&rt, first_address(&rt, listen.as_str())?)?;
     let upstream = first_address(&rt, upstream.as_str())?;
-    let mut out = io::writer(&rt);
+    let mut out = BufWriter::new(alloc, io::writer(&rt))?;
     writeln!(out, "listening {}", listener.local_addr()?)?;
-    out.flush()?;
     let mut events = Events::with_capacity(alloc, EVENTS)?;
-    let mut proxy = Proxy::new(&rt, alloc, listener, upstream)?;
-    serve(&rt, &mut proxy, &mut events, count)
+    let mut proxy = Proxy::new(&rt, alloc, listener, upstream, text)?;
+    serve(&rt, &mut proxy, &mut events, count, &mut out)
 }

@@ -1,39 +1,88 @@
 //! The pairs of connections, and their turns.
 
 use crate::socket::Socket;
+use crate::watch::{Direction, Watch};
 use slab::Slab;
 use std::alloc::{AllocError, Global};
 use std::collections::VecDeque;
-use wire_relay::{NoTap, Relay, Turned};
+use std::io;
+use std::io::Write;
+use wire_relay::{NoTap, Relay, RelayFault, Turned};
 
 /// The most steps of a turn.
 const STEPS: u32 = 16;
 
-/// The pairs of connections between which bytes are passed, by their keys.
+/// What shows the messages of a connection.
+#[derive(Drop)]
+struct Shown {
+    number: u64,
+    there: Watch,
+    back: Watch,
+}
+
+/// Two connections between which bytes are passed, and what shows them, if they are shown.
+#[derive(Drop)]
+struct Pair {
+    relay: Relay<Socket, Socket>,
+    shown: Option<Shown>,
+}
+
+impl Pair {
+    /// Takes a turn, and writes the messages that passed and are whole, if they are shown.
+    fn turn<W: Write>(&mut self, out: &mut W) -> io::Result<Result<Turned, RelayFault>> {
+        let Some(shown) = &mut self.shown else {
+            return Ok(self.relay.turn(STEPS, &mut NoTap, &mut NoTap));
+        };
+        let turned = self.relay.turn(STEPS, &mut shown.there, &mut shown.back);
+        shown.there.show(out)?;
+        shown.back.show(out)?;
+        Ok(turned)
+    }
+
+    /// Writes how the connection ended, if it is shown.
+    fn write_end<W: Write>(&self, fault: Option<RelayFault>, out: &mut W) -> io::Result<()> {
+        let Some(shown) = &self.shown else {
+            return Ok(());
+        };
+        let number = shown.number;
+        match fault {
+            None => writeln!(out, "{number} ended"),
+            Some(fault) => writeln!(out, "{number} failed: {fault}"),
+        }
+    }
+}
+
+/// The pairs of connections, by their keys.
 #[derive(Drop)]
 pub struct Pairs {
     alloc: Global,
-    relays: Slab<Relay<Socket, Socket>>,
+    pairs: Slab<Pair>,
+    /// Their messages are shown.
+    text: bool,
     /// The keys of those whose turns ended before there was nothing to do, each once.
     again: VecDeque<usize>,
+    /// How many were opened, counted up to 2^64 - 1.
+    opened: u64,
     /// How many ended, counted up to 2^64 - 1.
     ended: u64,
 }
 
 impl Pairs {
-    /// Begins without pairs. It takes no memory.
-    pub fn new(alloc: Global) -> Pairs {
+    /// Begins without pairs, whose messages are shown if `text` is true. It takes no memory.
+    pub fn new(alloc: Global, text: bool) -> Pairs {
         Pairs {
             alloc,
-            relays: Slab::new(alloc),
+            pairs: Slab::new(alloc),
+            text,
             again: VecDeque::new(alloc),
+            opened: 0,
             ended: 0,
         }
     }
 
     /// Returns how many there are.
     pub fn len(&self) -> usize {
-        self.relays.len()
+        self.pairs.len()
     }
 
     /// Returns how many ended.
@@ -48,17 +97,36 @@ impl Pairs {
 
     /// Returns the key that the next pair has.
     pub fn next_key(&self) -> usize {
-        self.relays.vacant_key()
+        self.pairs.vacant_key()
     }
 
-    /// Passes bytes between two connections from now on.
+    /// Returns what shows the messages of the connection of this number, if they are shown.
+    fn shown(&self, number: u64) -> Option<Shown> {
+        if !self.text {
+            return None;
+        }
+        Some(Shown {
+            number,
+            there: Watch::new(self.alloc, number, Direction::There),
+            back: Watch::new(self.alloc, number, Direction::Back),
+        })
+    }
+
+    /// Passes bytes between two connections from now on, and writes that they are new, if they are
+    /// shown.
     ///
     /// # Errors
     ///
-    /// Returns `AllocError` if memory runs out. Both are closed then.
-    pub fn open(&mut self, near: Socket, far: Socket) -> Result<(), AllocError> {
+    /// Returns an error if memory runs out, where both are closed, or if writing fails.
+    pub fn open<W: Write>(&mut self, near: Socket, far: Socket, out: &mut W) -> io::Result<()> {
         let relay = Relay::new(self.alloc, near, far)?;
-        let _ = self.relays.insert(relay)?;
+        let number = self.opened.saturating_add(1);
+        let shown = self.shown(number);
+        if shown.is_some() {
+            writeln!(out, "{number} new")?;
+        }
+        let _ = self.pairs.insert(Pair { relay, shown })?;
+        self.opened = number;
         Ok(())
     }
 
@@ -71,28 +139,34 @@ impl Pairs {
         Ok(())
     }
 
-    /// Closes both connections of a pair, of which all was passed on, or one failed.
-    fn close(&mut self, key: usize) {
-        let _ = self.relays.try_remove(key);
+    /// Closes both connections of a pair, of which all was passed on, or one failed for this reason.
+    fn close<W: Write>(
+        &mut self,
+        key: usize,
+        fault: Option<RelayFault>,
+        out: &mut W,
+    ) -> io::Result<()> {
         self.ended = self.ended.saturating_add(1);
+        match self.pairs.try_remove(key) {
+            Some(pair) => pair.write_end(fault, out),
+            None => Ok(()),
+        }
     }
 
     /// Has a pair take a turn, if there is one of this key.
     ///
     /// # Errors
     ///
-    /// Returns `AllocError` if memory runs out.
-    pub fn turn(&mut self, key: usize) -> Result<(), AllocError> {
-        let Some(relay) = self.relays.get_mut(key) else {
+    /// Returns an error if memory runs out or writing fails.
+    pub fn turn<W: Write>(&mut self, key: usize, out: &mut W) -> io::Result<()> {
+        let Some(pair) = self.pairs.get_mut(key) else {
             return Ok(());
         };
-        match relay.turn(STEPS, &mut NoTap, &mut NoTap) {
-            Ok(Turned::Again) => self.take_up(key),
+        match pair.turn(out)? {
+            Ok(Turned::Again) => Ok(self.take_up(key)?),
             Ok(Turned::Waits) => Ok(()),
-            Ok(Turned::Over) | Err(_) => {
-                self.close(key);
-                Ok(())
-            }
+            Ok(Turned::Over) => self.close(key, None, out),
+            Err(fault) => self.close(key, Some(fault), out),
         }
     }
 
@@ -100,12 +174,12 @@ impl Pairs {
     ///
     /// # Errors
     ///
-    /// Returns `AllocError` if memory runs out.
-    pub fn turn_again(&mut self) -> Result<(), AllocError> {
+    /// Returns an error if memory runs out or writing fails.
+    pub fn turn_again<W: Write>(&mut self, out: &mut W) -> io::Result<()> {
         let due = self.again.len();
         for _ in 0..due {
             if let Some(key) = self.again.pop_front() {
-                self.turn(key)?;
+                self.turn(key, out)?;
             }
         }
         Ok(())

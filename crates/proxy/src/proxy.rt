@@ -7,7 +7,7 @@ use mio::net::{TcpListener, TcpStream};
 use mio::{Events, Interest, Poll, Token};
 use std::alloc::Global;
 use std::io;
-use std::io::ErrorKind;
+use std::io::{ErrorKind, Write};
 use std::net::{Net, SocketAddr};
 use std::time::Duration;
 
@@ -45,7 +45,8 @@ fn watch(poll: &Poll, stream: &mut TcpStream, token: usize) -> io::Result<()> {
 }
 
 impl Proxy {
-    /// Begins to listen for connections, which go to the server at `upstream`.
+    /// Begins to listen for connections, which go to the server at `upstream`, and whose messages
+    /// are shown if `text` is true.
     ///
     /// # Errors
     ///
@@ -55,6 +56,7 @@ impl Proxy {
         alloc: Global,
         listener: TcpListener,
         upstream: SocketAddr,
+        text: bool,
     ) -> io::Result<Proxy> {
         let poll = Poll::new(net)?;
         let mut listener = listener;
@@ -65,7 +67,7 @@ impl Proxy {
             poll,
             listener,
             upstream,
-            pairs: Pairs::new(alloc),
+            pairs: Pairs::new(alloc, text),
             ready: true,
             pausing: false,
         })
@@ -78,7 +80,7 @@ impl Proxy {
 
     /// Connects to the server, for a connection that came. If that fails, both are closed, and
     /// others are served.
-    fn open(&mut self, net: &impl Net, stream: TcpStream) -> Result<()> {
+    fn open<W: Write>(&mut self, net: &impl Net, stream: TcpStream, out: &mut W) -> Result<()> {
         let mut near = stream;
         let Some(token) = self.pairs.next_key().checked_mul(2) else {
             bail!("too many connections");
@@ -93,19 +95,19 @@ impl Proxy {
         }
         let near = Socket::new(self.alloc, near)?;
         let far = Socket::new(self.alloc, far)?;
-        self.pairs.open(near, far)?;
+        self.pairs.open(near, far, out)?;
         Ok(())
     }
 
     /// Accepts a connection, if one waits. Returns true if another may wait.
-    fn accept_one(&mut self, net: &impl Net) -> Result<bool> {
+    fn accept_one<W: Write>(&mut self, net: &impl Net, out: &mut W) -> Result<bool> {
         if self.pairs.len() >= ROOM {
             self.ready = false;
             return Ok(false);
         }
         match self.listener.accept() {
             Ok((stream, _)) => {
-                self.open(net, stream)?;
+                self.open(net, stream, out)?;
                 Ok(true)
             }
             Err(error) => {
@@ -117,9 +119,9 @@ impl Proxy {
     }
 
     /// Accepts connections, until none waits, and no more than `ACCEPTS`.
-    fn accept_some(&mut self, net: &impl Net) -> Result<()> {
+    fn accept_some<W: Write>(&mut self, net: &impl Net, out: &mut W) -> Result<()> {
         for _ in 0..ACCEPTS {
-            if !self.accept_one(net)? {
+            if !self.accept_one(net, out)? {
                 break;
             }
         }
@@ -127,12 +129,12 @@ impl Proxy {
     }
 
     /// Has each pair of which these events are take a turn.
-    fn take_turns(&mut self, events: &Events<Global>) -> Result<()> {
+    fn take_turns<W: Write>(&mut self, events: &Events<Global>, out: &mut W) -> Result<()> {
         let ended = self.pairs.ended();
         for event in events.iter() {
             match event.token() {
                 LISTENER => self.ready = true,
-                Token(token) => self.pairs.turn(token / 2)?,
+                Token(token) => self.pairs.turn(token / 2, out)?,
             }
         }
         // Where a pair ended there is room for a connection that waits.
@@ -142,8 +144,14 @@ impl Proxy {
         Ok(())
     }
 
-    /// Waits for events, and passes what can be passed.
-    pub fn serve_some(&mut self, net: &impl Net, events: &mut Events<Global>) -> Result<()> {
+    /// Waits for events, passes what can be passed, and writes what is shown of it to `out`.
+    pub fn serve_some<W: Write>(
+        &mut self,
+        net: &impl Net,
+        events: &mut Events<Global>,
+        out: &mut W,
+    ) -> Result<()> {
+        out.flush()?;
         let timeout = if self.ready || self.pairs.has_more() {
             Some(Duration::from_millis(0))
         } else if self.pausing {
@@ -160,10 +168,10 @@ impl Proxy {
             self.pausing = false;
             self.ready = true;
         }
-        self.pairs.turn_again()?;
-        self.take_turns(events)?;
+        self.pairs.turn_again(out)?;
+        self.take_turns(events, out)?;
         if self.ready {
-            self.accept_some(net)?;
+            self.accept_some(net, out)?;
         }
         Ok(())
     }
