@@ -84,8 +84,8 @@ fn if_over(turned: Option<Turned>) -> Option<Turned> {
 
 impl<I: BufRead + Drop> Connections<I> {
     /// Begins to listen for `count` connections, and to wait for the end of `input`, if it is
-    /// given. `again` is empty. The rules of `script` come before a store without documents, and
-    /// those of `guide`, which are the same, say what becomes of replies.
+    /// given. `again` is empty, and no turn was begun. The rules of `script` come before a store without
+    /// documents, and those of `guide`, which are the same, say what becomes of replies.
     pub fn new(
         net: &impl Net,
         alloc: Global,
@@ -93,6 +93,7 @@ impl<I: BufRead + Drop> Connections<I> {
         input: Option<I>,
         count: u64,
         again: VecDeque<usize>,
+        turns: Turns,
         script: Script,
         guide: Script,
     ) -> io::Result<Connections<I>>
@@ -100,7 +101,6 @@ impl<I: BufRead + Drop> Connections<I> {
             c.serving) }
     {
         let poll = Poll::new(net)?;
-        let turns = Turns::new(alloc)?;
         let mut listener = listener;
         poll.registry()
             .register(&mut listener, LISTENER, Interest::READABLE)?;

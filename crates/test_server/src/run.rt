@@ -9,6 +9,7 @@ ghost use Rattle.test_server.specs.Runs.{listening_line, port_text, served_line}
 
 use crate::choice::Choice;
 use crate::connections::{Connections, ROOM};
+use crate::drained::Turns;
 use crate::output::Output;
 use crate::serving::Stop;
 use mio::Events;
@@ -135,6 +136,7 @@ fn listen<R: Net + Files + Input, W: Write>(
     ensures begun { IfOk result (λ c. HasBegun scripts.script.rules.items
         scripts.guide.rules.items c.serving) }
 {
+    let turns = Turns::new(alloc)?;
     let listener = TcpListener::bind(rt, first_address(rt, choice.address)?)?;
     let local = listener.local_addr()?;
     write_first(local, out)?;
@@ -146,7 +148,9 @@ fn listen<R: Net + Files + Input, W: Write>(
     };
     let Scripts { script, guide } = scripts;
     let count = choice.connections;
-    Connections::new(rt, alloc, listener, input, count, again, script, guide)
+    Connections::new(
+        rt, alloc, listener, input, count, again, turns, script, guide,
+    )
 }
 
 /// Serves connections until as many of them ended as the words ask for, or until standard input
@@ -227,8 +231,10 @@ fn serve_all<R: Net + Files + Input + Clock, W: Output>(
     let Ok(again) = VecDeque::with_capacity(alloc, ROOM) else {
         return Err(Stop::OutOfMemory);
     };
-    let Ok(mut connections) = listen(rt, alloc, choice, again, scripts, out) else {
-        return Err(Stop::InOut);
+    let mut connections = match listen(rt, alloc, choice, again, scripts, out) {
+        Ok(connections) => connections,
+        Err(error) if error.kind() == ErrorKind::OutOfMemory => return Err(Stop::OutOfMemory),
+        Err(_) => return Err(Stop::InOut),
     };
     serve_shown(rt, &mut connections, &mut events, choice, out)?;
     Ok(told_count(connections.serving.ended(), choice.connections))
