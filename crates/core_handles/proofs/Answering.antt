@@ -1,5 +1,5 @@
 -- What a call does with the core of a handle, from what its code found.
-use Rattle.std.proofs.Common.{◌≡◌, ◌≢◌, ◌⊎◌, ℕ, ℤ, List, true, false, subst, ap, ◌∙◌, refl, inl, inr}
+use Rattle.std.proofs.Common.{◌≡◌, ◌≢◌, ◌⊎◌, ℕ, ℤ, List, true, false, subst, ap, ◌∙◌, refl, inl, inr, [], ◌∷◌, ◌≤◌, length, arith}
 use Rattle.std.specs.Prelude.{Option, None, Some}
 use Rattle.std.specs.Option.{is_some}
 use Rattle.wire_msg.specs.{Content}
@@ -42,6 +42,11 @@ client_is_refused given first_id window limit old e w same none refused told =
     subst (λ (z : ℤ). IsMade z window limit old old w) same (making.is_refused e none refused none told)
 
 -- ---- calls
+
+-- no bytes are as long
+pub nothing_in : (bytes : List ℕ) → length bytes ≤ 0 → bytes ≡ []
+nothing_in [] none = refl
+nothing_in (byte ∷ bytes) none = absurd (omega arith)
 
 -- a call with a content that is this one is made
 pub call_is_made : (k : ClientSeen) (kind : CallKind) (after : ClientSeen) (found c : Content) (call : CallNo) (w : CallMade) → found ≡ c → IsCalled k kind found call → after ≡ called k kind found call

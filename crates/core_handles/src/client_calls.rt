@@ -1,16 +1,18 @@
 //! Makes a call of a client, of bytes that its caller has.
 
-ghost use Rattle.std.specs.Prelude.{◌≡◌, MatchResult, None};
-ghost use Rattle.wire_msg.specs.{Message, SpellsMsg};
+ghost use Rattle.std.specs.Prelude.{◌≡◌, [], IfSome, MatchResult, None};
+ghost use Rattle.wire_msg.specs.{BufCarries, Carries, Content, Message, SpellsMsg};
+ghost use Rattle.wire_msg.specs.Payload.{AreParts};
 ghost use Rattle.wire_peer.specs.{IsCallRefusal, IsCalled, called, content_of};
 ghost use Rattle.byte_views.specs.Fault.{first_fault};
 ghost use Rattle.core_handles.specs.Calling.{CallsWith, IsCallMade, call_made, call_refused};
 ghost use Rattle.core_handles.specs.Calling.{content_refused};
 
 use crate::numbers::{BAD_CONTENT, DONE, NO_CORE, NO_MEMORY, call_number};
+use bson_raw::RawDocument;
 use byte_views::{ContentRefusal, FirstFault, spell_content};
 use std::alloc::Global;
-use wire_msg::{MAX_MESSAGE_LEN, Payload, RawMsg};
+use wire_msg::{MAX_MESSAGE_LEN, Payload, PayloadBuf, RawMsg};
 use wire_peer::{CallKind, CallNo, CallRefusal, Client};
 
 /// What became of a call.
@@ -117,22 +119,42 @@ fn call_as(client: &mut Client, kind: CallKind, payload: Payload<'_>) -> Result<
     }
 }
 
-/// Makes a call of this kind with the content of a message.
-fn call_with(client: &mut Client, kind: CallKind, message: &[u8]) -> CallMade
-    requires { (m : Message) × SpellsMsg m message.now }
-    ensures { (m : Message) → SpellsMsg m message.now
-        → CallsWith client.old kind m.content client.new result }
+/// Makes a call of this kind with the content of a payload.
+fn call_on(client: &mut Client, kind: CallKind, payload: Payload<'_>) -> CallMade
+    ensures { (c : Content) → Carries payload.entry c
+        → CallsWith client.old kind c client.new result }
 {
-    let payload = RawMsg::from_spelled(message).payload();
     match call_as(client, kind, payload) {
         Ok(no) => CallMade::made(no),
         Err(refusal) => CallMade::refused(call_number(refusal)),
     }
 }
 
-/// Makes a call of this kind. Its body is the document that `body` is, and its document sequences
-/// are the sections that `sequences` are.
-pub(crate) fn make_call(
+/// Makes a call of this kind with the content of a message.
+fn call_with(client: &mut Client, kind: CallKind, message: &[u8]) -> CallMade
+    requires { (m : Message) × SpellsMsg m message.now }
+    ensures { (m : Message) → SpellsMsg m message.now
+        → CallsWith client.old kind m.content client.new result }
+{
+    call_on(client, kind, RawMsg::from_spelled(message).payload())
+}
+
+/// Returns the payload of the document that `body` is and no document sequence; or `None` if it is
+/// none, or if there is no memory for it.
+fn payload_alone(alloc: Global, body: &[u8]) -> Option<PayloadBuf>
+    ensures { IfSome result (λ b. (c : Content) × BufCarries b c × AreParts [] body.now [] c) }
+{
+    let Ok(document) = RawDocument::from_bytes(body) else {
+        return None;
+    };
+    match PayloadBuf::new(alloc, document) {
+        Ok(payload) => Some(payload),
+        Err(_) => None,
+    }
+}
+
+/// Makes a call of this kind, with the content of a message of the body and the sequences.
+fn call_spelled(
     alloc: Global,
     client: &mut Client,
     kind: CallKind,
@@ -146,4 +168,24 @@ pub(crate) fn make_call(
         Err(refusal) => return CallMade::of_content(refusal),
     };
     call_with(client, kind, &message)
+}
+
+/// Makes a call of this kind. Its body is the document that `body` is, and its document sequences
+/// are the sections that `sequences` are.
+pub(crate) fn make_call(
+    alloc: Global,
+    client: &mut Client,
+    kind: CallKind,
+    body: &[u8],
+    sequences: &[u8],
+) -> CallMade
+    ensures { IsCallMade client.old kind body.now sequences.now client.new result }
+{
+    // A body alone, as most calls have, is no message that has to be written and read.
+    if sequences.is_empty()
+        && let Some(payload) = payload_alone(alloc, body)
+    {
+        return call_on(client, kind, payload.as_payload());
+    }
+    call_spelled(alloc, client, kind, body, sequences)
 }

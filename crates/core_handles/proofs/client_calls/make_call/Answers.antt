@@ -1,13 +1,13 @@
-use Rattle.std.proofs.Common.{refl, sym, subst}
-use Rattle.wire_msg.specs.{SpellsMsg}
-use Rattle.core_handles.specs.Calling.{has_content, no_content}
+use Rattle.std.proofs.Common.{[], List, ℕ, arith, length, subst, sym}
+use Rattle.std.proofs.lemmas.Map.Views.{exact_unsigned_eq}
+use Rattle.wire_msg.specs.Payload.{AreParts}
+use Rattle.core_handles.specs.Calling.{has_content}
+use Rattle.core_handles.proofs.Answering.{nothing_in}
 use Rattle.core_handles.proofs.client_calls.make_call.Goals as goal
-
-pub returns-in-Err : goal.returns-in-Err
-returns-in-Err c = no_content c.in-Err.refusal c.in-Err.ensures.refused refl c.of_content.ensures
 
 pub returns : goal.returns
 returns c =
-    let spelled = c.in-Ok.ensures.spelled.1 in
-    has_content spelled.0.content (c.in-Ok.ensures.content spelled.0 spelled.1)
-    (c.call_with.ensures spelled.0 (subst (SpellsMsg spelled.0) (sym c.deref.ensures.value) spelled.1))
+    let known = c.in-Some.ensures in
+    let none = nothing_in c.args.sequences.now (omega (arith, exact_unsigned_eq (length c.args.sequences.now) 0 (sym c.if-is_empty.ensures))) in
+    has_content known.0 (subst (λ (x : List ℕ). AreParts [] c.args.body.now x known.0) (sym none) known.2)
+    (c.call_on.ensures known.0 (c.as_payload.ensures known.0 known.1))
