@@ -1,5 +1,6 @@
 -- What is done between two links.
-use Rattle.std.specs.Prelude.{◌≡◌, ◌≢◌, ℕ, Option, List, [], ◌∷◌, ◌++◌, Result, Ok}
+use Rattle.std.specs.Prelude.{◌≡◌, ◌≢◌, ◌≤◌, ℕ, Option, List, [], ◌∷◌, ◌++◌, length, Result, Ok}
+use Rattle.std.specs.Prelude.{Err}
 use Rattle.std.specs.Io.KnownBytes.{Appends}
 use Rattle.wire_stream.specs.{Rose}
 use Rattle.wire_relay.specs.declared.turned.RelayFault.{RelayFault}
@@ -146,18 +147,21 @@ pub data IsWaiting {N F : Type 0} (acts : List RelayAct) (r : RelayView N F) : T
   back : (before : List RelayAct) → acts ≡ before ++ Back Idles ∷ [] → r.there.stage ≡ Ended
       → IsWaiting acts r
 
--- A turn came to this: both ways are over; or no byte can be moved now.
-abbrev pub TurnedAs : {N F : Type 0} → Result Turned RelayFault → List RelayAct → RelayView N F
-    → Type 0
-TurnedAs (Ok turns.Over) acts r = IsOver r
-TurnedAs (Ok turns.Waits) acts r = IsWaiting acts r
-TurnedAs result acts r = Unit {0}
+-- A turn of at most so many steps came to this: both ways are over; or no byte can be moved now; or
+-- all steps were taken, an act or more in each; or a link failed.
+abbrev pub TurnedAs : {N F : Type 0} → ℕ → Result Turned RelayFault → List RelayAct
+    → RelayView N F → Type 0
+TurnedAs steps (Ok turns.Over) acts r = IsOver r
+TurnedAs steps (Ok turns.Waits) acts r = IsWaiting acts r
+TurnedAs steps (Ok turns.Again) acts r = steps ≤ length acts
+TurnedAs steps (Err fault) acts r = Unit {0}
 
--- Acts were done, and it came to this. What came on each way was seen.
-pub record Turns {N F : Type 0} (n : Tells N) (f : Tells F) (result : Result Turned RelayFault)
-    (old new : RelayView N F) (there there' back back' : Option (List ℕ)) : Type 0 where
+-- Acts were done, and it came to this after at most so many steps. What came on each way was seen.
+pub record Turns {N F : Type 0} (n : Tells N) (f : Tells F) (steps : ℕ)
+    (result : Result Turned RelayFault) (old new : RelayView N F)
+    (there there' back back' : Option (List ℕ)) : Type 0 where
   pub acts : List RelayAct
   pub run : RelayRun n f old acts new
-  pub comes_to : TurnedAs result acts new
+  pub comes_to : TurnedAs steps result acts new
   pub there_seen : Appends there there' (there_came acts)
   pub back_seen : Appends back back' (back_came acts)

@@ -67,7 +67,7 @@ impl<N: EndSending + Drop, F: EndSending + Drop> Relay<N, F> {
         back_tap: &mut B,
     ) -> Result<Turned, RelayFault>
         ensures { Turns (tells N.received N.sent N.ends N.waits)
-            (tells F.received F.sent F.ends F.waits) result self.old self.new
+            (tells F.received F.sent F.ends F.waits) 1 result self.old self.new
             (A.seen there_tap.old) (A.seen there_tap.new)
             (B.seen back_tap.old) (B.seen back_tap.new) }
     {
@@ -90,10 +90,10 @@ impl<N: EndSending + Drop, F: EndSending + Drop> Relay<N, F> {
         back: &mut B,
     ) -> Result<Turned, RelayFault>
         ensures { Turns (tells N.received N.sent N.ends N.waits)
-            (tells F.received F.sent F.ends F.waits) result self.old self.new
+            (tells F.received F.sent F.ends F.waits) steps result self.old self.new
             (A.seen there.old) (A.seen there.new) (B.seen back.old) (B.seen back.new) }
     {
-        for _ in 0..steps {
+        for i in 0..steps {
             match self.step(there, back)? {
                 Turned::Again => {}
                 over => return Ok(over),
