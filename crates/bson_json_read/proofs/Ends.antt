@@ -225,9 +225,6 @@ word_is t =
 
 -- ---- tokens and their braces
 
-no_more : {A : Type 0} (t : Token) (ts : List Token) → t ∷ ts ≡ [] → A
-no_more t ts e = absurd cc
-
 allowed : (b : Bool) (t : Token) (k : Place → List Token) (next : Place) (n : ℕ) → Closing n (if_allowed b t k next) → closing_at t n (k next) (λ m. Closing m (k next))
 allowed true t k next n h = h
 allowed false t k next n h = absurd h

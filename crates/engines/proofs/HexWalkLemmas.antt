@@ -80,8 +80,3 @@ hex_walks t new text piece bytes texts fault (Some (stop.Fault f)) from to d (mo
     (more, a, at_fault t new (text ++ piece) (bytes_of true text ++ bytes) (texts ++ more) (input_fault_line f) faulted (decoded_grows new.hex text piece bytes fault d))
 hex_walks t new text piece bytes texts fault (Some stop.OutOfMemory) from to d (more, a, stays) =
     (more, a, (λ later. let g = decoded_grows new.hex text piece bytes fault d later in subst (λ (x : List ℕ). t.first x (texts ++ more)) (sym g.1) (stays g.0)))
-
--- text ends
-pub hex_ends : {R : Type 0} (t : Tells R) (r : HexReader R) (text texts : List ℕ) (last : Option (List ℕ)) (p : Option ℕ) → fault_behind None 0 (packed text) ≡ p
-    → t.ends r.inner p (bytes_of true text) texts last → Tells.ends (hex_tells t) r None text texts last
-hex_ends t r text texts last p is ends = subst (λ (x : Option ℕ). t.ends r.inner x (bytes_of true text) texts last) (sym is) ends

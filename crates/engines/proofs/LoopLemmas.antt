@@ -113,15 +113,6 @@ pub on_any : {T E : Type 0} (r : Result T E) {P : Type 0} → P → OnOk r P
 on_any (Ok x) p = p
 on_any (Err e) p = tt
 
--- no call is made over a new end
-pub none_complete : {L : Type 0} (near far : L) (client : EndSeen L) (server : ServerEndSeen L) (logged : Logged Echo) → AreNew near far client server logged → AreComplete 0 client
-none_complete near far client server logged new =
-    subst (AreComplete 0) (sym new.client_is) (record {
-      connection = refl;
-      idle = record { number = refl; id = refl; outstanding = refl; ready = refl; state = refl; sent = refl };
-      records = refl;
-    })
-
 one_fits : (pos 1 ≤ℤ pos 1) × FitsSigned w32 (pos 1)
 one_fits = (search, record { sfits = grind arith })
 

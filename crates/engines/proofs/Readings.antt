@@ -72,11 +72,6 @@ more_came rule start bytes rest texts more ts have = record {
 pub read_so_far : (rule : TextRule) (start : ℕ) (bytes rest texts : List ℕ) (ts : List Tree) → HaveTexts rule start bytes ts texts rest → length bytes ≡ length (documents_bytes ts) + length rest
 read_so_far rule start bytes rest texts ts have = ap length have.parts ∙ length-append (documents_bytes ts) rest
 
--- there are documents where they have bytes
-pub any_there : (ts : List Tree) → nat_lt 0 (length (documents_bytes ts)) ≡ are_any ts
-any_there [] = refl
-any_there (t ∷ ts) = lt-ltb 0 (length (documents_bytes (t ∷ ts))) (omega (arith, length-append (document (elements t)) (documents_bytes ts), length-document (elements t)))
-
 -- ---- where a walk stops
 
 -- the last line of what more bytes don't decide, where hexadecimal text is at fault behind it
