@@ -1,15 +1,15 @@
 -- What a choice reads of the matches.
 use Rattle.std.proofs.Common.{◌≡◌, ◌∙◌, ◌<◌, ◌^◌, ℕ, ap, refl, subst, sym, Bool, true, false, true≢false, List, Option, Some, None, Result, Ok, Err, codes, arith}
-use Rattle.std.specs.Prelude.{◌≢◌, MatchBool, if◌then◌else◌}
+use Rattle.std.specs.Prelude.{◌≢◌, IfSome, MatchBool, if◌then◌else◌}
 use Rattle.std.specs.Option.{option_map_or}
 use Rattle.std.specs.Str.{bytes_eq}
 use Rattle.std.proofs.lemmas.Slice.Eq.{bytes_eq-Decides}
 use Rattle.std.specs.Str.Parse.{ParsesUnsigned, digits_value, without_leading_plus}
-use Rattle.clap.specs.Words.{ReadsOne, Row, Text}
+use Rattle.clap.specs.Words.{IsUnsignedIn, ReadsOne, Row, Text}
 use Rattle.command_words.proofs.Lemmas.{reads_true}
 use Rattle.bsonwire.specs.declared.choice.Reading.{Reading}
 use Rattle.bsonwire.specs.declared.choice.Reading.TheVariants.{Bytes, Hex, Salvage}
-use Rattle.bsonwire.specs.Choices.{HoldsFlag, HoldsHex, HoldsMessageForm, HoldsReading, IsCount, is_relaxed}
+use Rattle.bsonwire.specs.Choices.{AsksFor, HoldsFlag, HoldsHex, HoldsMessageForm, HoldsReading, IsCount, is_relaxed}
 use Rattle.engines.specs.declared.msg.MessageForm.{MessageForm}
 use Rattle.engines.specs.declared.msg.MessageForm.TheVariants.{Text as in_text, Json as in_json}
 
@@ -62,3 +62,22 @@ module _ {E : Type 0} (G : Text → Result ℕ E → Type 0) (parses : (t : Text
       let read = value count.0 count.1 in
       let small : digits_value 10 (without_leading_plus count.0) < 2 ^ 8 = omega (arith, count.2.1, count.4) in
       parses count.0 (Err read.0) read.1 (count.2.0, small)
+
+-- ---- a number of connections
+
+module _ {E : Type 0} (G : Text → Result ℕ E → Type 0) (parses : (t : Text) (r : Result ℕ E) → G t r → ParsesUnsigned 64 10 t r) where
+  -- a number that was read is the one that stands there
+  pub read_number : (o : Option Text) (k : ℕ) → IfSome o (IsUnsignedIn 0 18446744073709551615) → (o ≡ None → Some k ≡ None)
+      → ((t : Text) → o ≡ Some t → ReadsOne G t (Some k)) → AsksFor k o
+  read_number None k held none value =
+      let bad : Some k ≡ None = none refl in
+      cc
+  read_number (Some t) k held none value = (held.0, sym (parses t (Ok k) (value t refl)).1)
+
+  -- none was read only where none stands there
+  pub unread_number : (o : Option Text) → IfSome o (IsUnsignedIn 0 18446744073709551615) → ((t : Text) → o ≡ Some t → ReadsOne G t None)
+      → AsksFor 18446744073709551615 o
+  unread_number None held value = refl
+  unread_number (Some t) held value =
+      let read = value t refl in
+      absurd (parses t (Err read.0) read.1 (held.0, held.1))

@@ -14,9 +14,9 @@ use Rattle.clap.specs.declared.builder.value_parser.Reading.{Reading}
 use Rattle.clap.specs.declared.builder.value_parser.Reading.TheVariants.{AsWritten}
 use Rattle.clap.specs.declared.parser.matches.ValueSource.{ValueSource}
 use Rattle.clap.specs.declared.parser.matches.ValueSource.TheVariants.{DefaultValue}
-use Rattle.bsonwire.specs.CommandLine.{command_line, dump_app, dump_flags, file_app, json_app, json_flags, loop_app, msg_app, msg_flags, salvage_flags, text_flags}
-use Rattle.bsonwire.specs.Choices.{HasCalls, HasFile, HoldsFlag}
-use Rattle.bsonwire.proofs.RowLemmas.{AreGood, Each, IsBoolText, IsCountText, IsGoodRow, KeepsUse, dump_leaf_keeps, find_holds, good_with, is_flag, json_leaf_keeps, leaf_rules, loop_leaf_keeps, msg_leaf_keeps, no_kind, no_operand, or_nil, salvage_leaf_keeps, settle_good, text_leaf_keeps, walk_good}
+use Rattle.bsonwire.specs.CommandLine.{command_line, dump_app, dump_flags, file_app, json_app, json_flags, loop_app, msg_app, msg_flags, proxy_app, salvage_flags, text_flags}
+use Rattle.bsonwire.specs.Choices.{HasCalls, HasFile, HasOptions, HoldsFlag}
+use Rattle.bsonwire.proofs.RowLemmas.{AreGood, Each, IsBoolText, IsCountText, IsGoodRow, IsNumberText, KeepsUse, dump_leaf_keeps, find_holds, good_with, is_flag, json_leaf_keeps, leaf_rules, loop_leaf_keeps, msg_leaf_keeps, no_kind, no_operand, or_nil, proxy_leaf_keeps, salvage_leaf_keeps, settle_good, text_leaf_keeps, walk_good}
 
 -- ---- the rows at the end of a walk
 
@@ -60,9 +60,10 @@ flag_is_there name rows flag good = go (has_row name rows) refl
     go true is = (good, is)
     go false is = (
       good_with name AsWritten DefaultValue (codes "false" ∷ []) rows (
-        (λ e. absurd (no_operand name (codes "file") flag refl e)),
+        refl,
         (λ e. (false, refl)),
         (λ e. absurd (no_operand name (codes "calls") flag refl e)),
+        (λ e. absurd (no_operand name (codes "connections") flag refl e)),
       )
           good,
       has_with name AsWritten DefaultValue (codes "false" ∷ []) rows ((bytes_eq-Decides name name).1 refl),
@@ -121,6 +122,29 @@ finished_is_good id rows good =
     let one = if has_row id rows then rows else rows in
     same (has_row (codes "help") one) AreGood one (same (has_row id rows) AreGood rows good)
 
+-- an argument without a default changes no rows
+abbrev same_rows : Text → List Row → List Row
+same_rows id rows = if has_row id rows then rows else rows
+
+same_is_good : (id : Text) (rows : List Row) → AreGood rows → AreGood (same_rows id rows)
+same_is_good id rows good = same (has_row id rows) AreGood rows good
+
+-- the rows at the end of a walk, of the subcommand `proxy`
+abbrev proxy_rows : List Row → List Row
+proxy_rows rows =
+    let addresses = same_rows (codes "upstream") (same_rows (codes "listen") rows) in
+    let flags = with_flag (codes "text") (has_row (codes "text") addresses) addresses in
+    same_rows (codes "help") (same_rows (codes "port-file") (same_rows (codes "connections") flags))
+
+proxy_is_good : (rows : List Row) → AreGood rows → AreGood (proxy_rows rows)
+proxy_is_good rows good =
+    let addresses = same_rows (codes "upstream") (same_rows (codes "listen") rows) in
+    let flags = with_flag (codes "text") (has_row (codes "text") addresses) addresses in
+    let with_text : AreGood flags = (flag_is_there (codes "text") addresses refl (same_is_good (codes "upstream") (same_rows (codes "listen") rows) (same_is_good (codes "listen") rows good))).0 in
+    let options : AreGood (same_rows (codes "connections") flags) = same_is_good (codes "connections") flags with_text in
+    same_is_good (codes "help") (same_rows (codes "port-file") (same_rows (codes "connections") flags))
+    (same_is_good (codes "port-file") (same_rows (codes "connections") flags) options)
+
 abbrev IsFound : Text → Row → Type 0
 IsFound id r = (r.id ≡ id) × IsGoodRow r
 
@@ -131,15 +155,19 @@ found id rows good = find_holds (λ r. bytes_eq r.id id) (IsFound id) rows (any 
     any [] each = tt
     any (r ∷ rs) each = ((λ e. ((bytes_eq-Decides r.id id).0 e, each.0)), any rs each.1)
 
-file_found : (o : Option Row) → IfSome o (IsFound (codes "file")) → option_map_or (λ r. explicit_source r.source) o false ≡ true
+value_found : (id : Text) (o : Option Row) → IfSome o (IsFound id) → option_map_or (λ r. explicit_source r.source) o false ≡ true
     → is_some (option_and_then (λ r. slice_get r.values 0) o) ≡ true
-file_found None is given = absurd (true≢false (sym given))
-file_found (Some r) is given = is.1.0 is.0
+value_found id None is given = absurd (true≢false (sym given))
+value_found id (Some r) is given = is.1.0
 
 calls_found : (o : Option Row) → IfSome o (IsFound (codes "calls")) → option_map_or (λ r. explicit_source r.source) o false ≡ true
     → IsCountText (option_and_then row_text o)
 calls_found None is given = absurd (true≢false (sym given))
 calls_found (Some r) is given = is.1.2 is.0
+
+number_found : (o : Option Row) → IfSome o (IsFound (codes "connections")) → IsNumberText (option_and_then row_text o)
+number_found None is = tt
+number_found (Some r) is = is.1.3 is.0
 
 flag_found : (name : Text) → is_flag name ≡ true → (o : Option Row) → IfSome o (IsFound name) → is_some o ≡ true → IsBoolText (option_and_then row_text o)
 flag_found name flag None is has = absurd (true≢false (sym has))
@@ -166,6 +194,11 @@ leaf a = built_leaf (inherited (with_leaf_noted (marked_built command_line.top))
 given_where_unfaulted : (b : Bool) → check_kinds false false (not b || false) ≡ [] → b ≡ true
 given_where_unfaulted true none = refl
 given_where_unfaulted false none = absurd (no_kind _ refl none)
+
+both_where_unfaulted : (a b : Bool) → check_kinds false false (not a || (not b || false)) ≡ [] → (a ≡ true) × (b ≡ true)
+both_where_unfaulted true true none = (refl, refl)
+both_where_unfaulted false b none = absurd (no_kind _ refl none)
+both_where_unfaulted true false none = absurd (no_kind _ refl none)
 
 -- no fault is found in these words of a subcommand
 abbrev pub IsUnfaulted : Shape → List Text → Type 0
@@ -202,7 +235,7 @@ HoldAll flags rows = HasFile rows × Each (HasFlag rows) flags
 
 leaf_names : (flags : List Text) (rows : List Row) → Each IsFlag flags → HaveFlags flags rows → is_given (codes "file") rows ≡ true → HoldAll flags rows
 leaf_names flags rows each is given = (
-  file_found (find (λ r. bytes_eq r.id (codes "file")) rows) (found (codes "file") rows is.0) given,
+  value_found (codes "file") (find (λ r. bytes_eq r.id (codes "file")) rows) (found (codes "file") rows is.0) given,
   held_flags flags rows each is.0 is.1,
 )
 
@@ -260,3 +293,15 @@ loop_leaf_names words none =
     let good : AreGood rows = finished_is_good (codes "calls") (settled s.rules (walk s.rules [] nothing_held words).held).rows is.0 in
     calls_found (find (λ r. bytes_eq r.id (codes "calls")) rows) (found (codes "calls") rows good)
     (given_where_unfaulted (is_given (codes "calls") rows) is.1)
+
+pub proxy_leaf_names : (words : List Text) → IsUnfaulted (leaf proxy_app) words → HasOptions (rows_of_leaf (leaf proxy_app) words)
+proxy_leaf_names words none =
+    let s = leaf proxy_app in
+    let rows = rows_of_leaf s words in
+    let is = unfaulted s proxy_leaf_keeps words none in
+    let good : AreGood rows = proxy_is_good (settled s.rules (walk s.rules [] nothing_held words).held).rows is.0 in
+    let given = both_where_unfaulted (is_given (codes "listen") rows) (is_given (codes "upstream") rows) is.1 in (
+      value_found (codes "listen") (find (λ r. bytes_eq r.id (codes "listen")) rows) (found (codes "listen") rows good) given.0,
+      value_found (codes "upstream") (find (λ r. bytes_eq r.id (codes "upstream")) rows) (found (codes "upstream") rows good) given.1,
+      number_found (find (λ r. bytes_eq r.id (codes "connections")) rows) (found (codes "connections") rows good),
+    )

@@ -1,11 +1,11 @@
--- What the words of a subcommand leave in its rows: FILE and SCRIPT have a value, each flag reads true or false, and N reads as a
--- number in its range.
+-- What the words of a subcommand leave in its rows: each has a value, a flag reads true or false, and an N as a number in its range.
 use Rattle.std.proofs.Common.{◌≡◌, ◌∙◌, ℕ, zero, suc, refl, ap, sym, Bool, true, false, cond, ◌&&◌, ◌||◌, List, [], ◌∷◌, ◌++◌, length, drop, map, Option, Some, None, is_some, option_map, codes, true≢false}
 use Rattle.std.specs.Prelude.{⊤, IfSome, if◌then◌else◌, find, fold, pos, slice_get, encode_utf8}
 use Rattle.std.specs.Option.{option_map_or}
 use Rattle.std.specs.Str.{bytes_eq, chars}
 use Rattle.clap.specs.Lexer.{long_of, short_of}
-use Rattle.clap.specs.Values.{read_as}
+use Rattle.clap.specs.Values.{IsUnsignedIn, read_as}
+use Rattle.clap.specs.ValueTests.{accepts}
 use Rattle.std.proofs.Math.Dec.{eqb-zero-suc}
 use Rattle.clap.specs.Kinds.{Kinds, or_else, range_kinds, value_kinds}
 use Rattle.clap.specs.Faults.{bundle_step_fault, flag_word_fault, flags_fault, long_fault, option_fault, other_fault, positional_fault, react_fault, repeat_fault, settle_fault, short_fault, step_fault, stray_fault, turn_fault, use_fault, walk_fault, word_fault, bundle_fault}
@@ -14,10 +14,11 @@ use Rattle.clap.specs.Walk.{Held, Names, Outcome, Row, Rule, Step, Text, Waiting
 use Rattle.clap.specs.declared.builder.value_parser.Reading.{Reading}
 use Rattle.clap.specs.declared.error.kind.ErrorKind.{ErrorKind}
 use Rattle.clap.specs.declared.error.kind.ErrorKind.TheVariants as kind
-use Rattle.clap.specs.declared.builder.value_parser.ValueParser.TheVariants.{Signed}
+use Rattle.clap.specs.declared.builder.value_parser.ValueParser.TheVariants.{Signed, Unsigned}
 use Rattle.clap.specs.declared.parser.matches.ValueSource.{ValueSource}
 use Rattle.clap.specs.declared.parser.matches.ValueSource.TheVariants.{CommandLine}
-use Rattle.bsonwire.specs.CommandLine.{calls_rule, dump_flags, flag_rule, json_flags, msg_flags, operand_rule, salvage_flags, text_flags}
+use Rattle.clap.proofs.ValueTestLemmas.{accepts-Accepts}
+use Rattle.bsonwire.specs.CommandLine.{calls_rule, connections_rule, dump_flags, file_rule, flag_rule, json_flags, msg_flags, operand_rule, proxy_rules, salvage_flags, text_flags}
 use Rattle.bsonwire.specs.Choices.{IsCount}
 use Rattle.bsonwire.proofs.NumberLemmas.{count_text}
 
@@ -60,9 +61,9 @@ IsBoolText o = (given : Bool) × (o ≡ Some (if given then codes "true" else co
 
 -- the name is that of a flag
 abbrev pub is_flag : Text → Bool
-is_flag id = bytes_eq id (codes "quiet") || (bytes_eq id (codes "hex") || (bytes_eq id (codes "json") || (bytes_eq id (codes "relaxed") || (bytes_eq id (codes "array") || (bytes_eq id (codes "offsets") || (bytes_eq id (codes "salvage") || bytes_eq id (codes "any")))))))
+is_flag id = bytes_eq id (codes "quiet") || (bytes_eq id (codes "hex") || (bytes_eq id (codes "json") || (bytes_eq id (codes "relaxed") || (bytes_eq id (codes "array") || (bytes_eq id (codes "offsets") || (bytes_eq id (codes "salvage") || (bytes_eq id (codes "any") || bytes_eq id (codes "text"))))))))
 
--- a flag is no operand
+-- a flag is no other argument
 pub no_operand : (name id : Text) → is_flag name ≡ true → is_flag id ≡ false → name ≡ id → ⊥
 no_operand name id flag operand e = true≢false (sym flag ∙ (ap is_flag e ∙ operand))
 
@@ -70,9 +71,14 @@ no_operand name id flag operand e = true≢false (sym flag ∙ (ap is_flag e ∙
 abbrev pub IsCountText : Option Text → Type 0
 IsCountText o = (n : ℕ) × IsCount n o
 
+-- a number of 64 bits, where there is a text
+abbrev pub IsNumberText : Option Text → Type 0
+IsNumberText o = IfSome o (IsUnsignedIn 0 18446744073709551615)
+
 abbrev pub IsGoodRow : Row → Type 0
-IsGoodRow r = (r.id ≡ codes "file" → is_some (slice_get r.values 0) ≡ true)
+IsGoodRow r = (is_some (slice_get r.values 0) ≡ true)
     × (is_flag r.id ≡ true → IsBoolText (row_text r)) × (r.id ≡ codes "calls" → IsCountText (row_text r))
+    × (r.id ≡ codes "connections" → IsNumberText (row_text r))
 
 abbrev pub AreGood : List Row → Type 0
 AreGood = Each IsGoodRow
@@ -86,9 +92,9 @@ good_at id change missing (r ∷ rs) keeps new all = go (bytes_eq r.id id) (good
     go true rest = each_append IsGoodRow (change r) rs (keeps r all.0) all.1
     go false rest = (all.0, rest)
 
-more_file : (vs values : List Text) → is_some (slice_get vs 0) ≡ true → is_some (slice_get (vs ++ values) 0) ≡ true
-more_file [] values e = absurd (true≢false (sym e))
-more_file (v ∷ vs) values e = refl
+more_first : (vs values : List Text) → is_some (slice_get vs 0) ≡ true → is_some (slice_get (vs ++ values) 0) ≡ true
+more_first [] values e = absurd (true≢false (sym e))
+more_first (v ∷ vs) values e = refl
 
 more_flag : (how : Reading) (vs values : List Text) → IsBoolText (option_map (read_as how) (slice_get vs 0)) → IsBoolText (option_map (read_as how) (slice_get (vs ++ values) 0))
 more_flag how [] values h = absurd (true≢false (sym (ap (λ o. is_some o) h.1)))
@@ -98,12 +104,18 @@ more_calls : (how : Reading) (vs values : List Text) → IsCountText (option_map
 more_calls how [] values h = absurd (true≢false (sym (ap (λ o. is_some o) h.1.1)))
 more_calls how (v ∷ vs) values h = h
 
+more_number : (how : Reading) (vs values : List Text) → is_some (slice_get vs 0) ≡ true → IsNumberText (option_map (read_as how) (slice_get vs 0))
+    → IsNumberText (option_map (read_as how) (slice_get (vs ++ values) 0))
+more_number how [] values e h = absurd (true≢false (sym e))
+more_number how (v ∷ vs) values e h = h
+
 good_more : (s : ValueSource) (values : List Text) (r : Row) → IsGoodRow r → AreGood (more_values s values r)
 good_more s values r h = (
   (
-    (λ e. more_file r.values values (h.0 e)),
+    more_first r.values values h.0,
     (λ e. more_flag r.reading r.values values (h.1 e)),
     (λ e. more_calls r.reading r.values values (h.2 e)),
+    (λ e. more_number r.reading r.values values h.0 (h.3 e)),
   ),
   tt,
 )
@@ -131,21 +143,41 @@ KeepsUse a = (again : Bool) (values : List Text) (rows : List Row) → use_fault
 pub is_other : (id other : Text) → bytes_eq id id ≡ true → bytes_eq id other ≡ false → id ≡ other → ⊥
 is_other id other same differs e = true≢false (sym same ∙ (ap (bytes_eq id) e ∙ differs))
 
-abbrev file_rule : Rule
-file_rule = with_index 1 (filled (operand_rule (codes "file")))
+-- the operand of this name and at this place, and the option that gives a file
+abbrev built_operand_rule : ℕ → Text → Rule
+built_operand_rule place name = with_index place (filled (operand_rule name))
+
+abbrev built_file_rule : Text → Rule
+built_file_rule name = filled (file_rule name)
 
 abbrev built_flag_rule : Text → Rule
 built_flag_rule name = filled (flag_rule name)
 
-file_keeps : KeepsUse file_rule
-file_keeps again [] rows none all = absurd (no_kind _ refl none)
-file_keeps again (v ∷ vs) rows none all =
-    good_with (codes "file") (reading_by file_rule) CommandLine (v ∷ vs) (without (codes "file") rows) (
-      (λ e. refl),
-      (λ e. absurd (true≢false (sym e))),
-      (λ e. absurd (is_other (codes "file") (codes "calls") refl refl e)),
-    )
-    (good_without (codes "file") rows all)
+-- the name is that of an argument which is no flag and no number
+abbrev IsPlainName : Text → Type 0
+IsPlainName name = (is_flag name ≡ false) × (name ≡ codes "calls" → ⊥) × (name ≡ codes "connections" → ⊥)
+
+plain_row : (name : Text) (how : Reading) (v : Text) (vs : List Text) (rows : List Row) → IsPlainName name → AreGood rows
+    → AreGood (with_values name how CommandLine (v ∷ vs) (without name rows))
+plain_row name how v vs rows is all =
+    good_with name how CommandLine (v ∷ vs) (without name rows)
+    (refl, (λ e. absurd (true≢false (sym e ∙ is.0))), (λ e. absurd (is.1 e)), (λ e. absurd (is.2 e)))
+    (good_without name rows all)
+
+operand_keeps : (place : ℕ) (name : Text) → IsPlainName name → KeepsUse (built_operand_rule place name)
+operand_keeps place name is again [] rows none all = absurd (no_kind _ refl none)
+operand_keeps place name is again (v ∷ vs) rows none all = plain_row name (reading_by (built_operand_rule place name)) v vs rows is all
+
+option_keeps : (name : Text) → IsPlainName name → KeepsUse (built_file_rule name)
+option_keeps name is again [] rows none all = absurd (no_kind _ refl none)
+option_keeps name is again (v ∷ vs) rows none all = plain_row name (reading_by (built_file_rule name)) v vs rows is all
+
+plain_name : (name : Text) → is_flag name ≡ false → bytes_eq name name ≡ true → bytes_eq name (codes "calls") ≡ false → bytes_eq name (codes "connections") ≡ false
+    → IsPlainName name
+plain_name name flag same calls connections = (flag, is_other name (codes "calls") same calls, is_other name (codes "connections") same connections)
+
+file_keeps : KeepsUse (built_operand_rule 1 (codes "file"))
+file_keeps = operand_keeps 1 (codes "file") (plain_name (codes "file") refl refl refl refl)
 
 no_values : (n : ℕ) → range_kinds 0 0 (suc n) ≡ [] → ⊥
 no_values n e = no_kind (range_kinds 0 0 (suc n)) (ap (λ b. is_some_kind (if b then [] else kind.WrongNumberOfValues ∷ [])) (eqb-zero-suc n)) e
@@ -153,12 +185,17 @@ no_values n e = no_kind (range_kinds 0 0 (suc n)) (ap (λ b. is_some_kind (if b 
 flag_keeps : (name : Text) → is_flag name ≡ true → KeepsUse (built_flag_rule name)
 flag_keeps name flag again [] rows none all =
     good_with name (reading_by (built_flag_rule name)) CommandLine (codes "true" ∷ []) (without name rows) (
-      (λ e. absurd (no_operand name (codes "file") flag refl e)),
+      refl,
       (λ e. (true, refl)),
       (λ e. absurd (no_operand name (codes "calls") flag refl e)),
+      (λ e. absurd (no_operand name (codes "connections") flag refl e)),
     )
     (good_without name rows all)
 flag_keeps name flag again (v ∷ vs) rows none all = absurd (no_values (length vs) (or_nil (range_kinds 0 0 (length (v ∷ vs))) _ none).0)
+
+accepted : (b : Bool) (k : ErrorKind) → (if b then [] else k ∷ []) ≡ [] → b ≡ true
+accepted true k none = refl
+accepted false k none = absurd (no_kind _ refl none)
 
 abbrev built_calls_rule : Rule
 built_calls_rule = with_index 1 (filled calls_rule)
@@ -170,20 +207,37 @@ calls_keeps again (v ∷ vs) rows none all =
     let set = or_nil (repeat_fault again (codes "calls") rows) _ used.1 in
     let first = or_nil (value_kinds false (Signed (pos 1) (pos 100)) v) _ set.1 in
     good_with (codes "calls") (reading_by built_calls_rule) CommandLine (v ∷ vs) (without (codes "calls") rows) (
-      (λ e. absurd (is_other (codes "calls") (codes "file") refl refl e)),
+      refl,
       (λ e. absurd (true≢false (sym e))),
       (λ e. count_text v (accepted _ _ first.0)),
+      (λ e. absurd (is_other (codes "calls") (codes "connections") refl refl e)),
     )
     (good_without (codes "calls") rows all)
-  where
-    accepted : (b : Bool) (k : ErrorKind) → (if b then [] else k ∷ []) ≡ [] → b ≡ true
-    accepted true k none = refl
-    accepted false k none = absurd (no_kind _ refl none)
+
+abbrev built_connections_rule : Rule
+built_connections_rule = filled connections_rule
+
+number_text : (v : Text) → accepts false (Unsigned 0 18446744073709551615) v ≡ true → IsUnsignedIn 0 18446744073709551615 v
+number_text v is = accepts-Accepts false (Unsigned 0 18446744073709551615) v is
+
+connections_keeps : KeepsUse built_connections_rule
+connections_keeps again [] rows none all = absurd (no_kind _ refl none)
+connections_keeps again (v ∷ vs) rows none all =
+    let used = or_nil (range_kinds 1 1 (length (v ∷ vs))) _ none in
+    let set = or_nil (repeat_fault again (codes "connections") rows) _ used.1 in
+    let first = or_nil (value_kinds false (Unsigned 0 18446744073709551615) v) _ set.1 in
+    good_with (codes "connections") (reading_by built_connections_rule) CommandLine (v ∷ vs) (without (codes "connections") rows) (
+      refl,
+      (λ e. absurd (true≢false (sym e))),
+      (λ e. absurd (is_other (codes "connections") (codes "calls") refl refl e)),
+      (λ e. number_text v (accepted _ _ first.0)),
+    )
+    (good_without (codes "connections") rows all)
 
 help_keeps : KeepsUse (filled help_rule)
 help_keeps again values rows none all = all
 
--- those of the subcommands that read a file, by their flags, and of `loop`
+-- those of the subcommands that read a file, by their flags, of `loop` and of `proxy`
 pub text_leaf_keeps : Each KeepsUse (leaf_rules (operand_rule (codes "file") ∷ map flag_rule text_flags))
 text_leaf_keeps = (file_keeps, (flag_keeps (codes "quiet") refl, (help_keeps, tt)))
 
@@ -216,6 +270,18 @@ json_leaf_keeps = (
 
 pub loop_leaf_keeps : Each KeepsUse (leaf_rules (calls_rule ∷ []))
 loop_leaf_keeps = (calls_keeps, (help_keeps, tt))
+
+pub proxy_leaf_keeps : Each KeepsUse (leaf_rules proxy_rules)
+proxy_leaf_keeps = (
+  operand_keeps 1 (codes "listen") (plain_name (codes "listen") refl refl refl refl),
+  (
+    operand_keeps 2 (codes "upstream") (plain_name (codes "upstream") refl refl refl refl),
+    (
+      flag_keeps (codes "text") refl,
+      (connections_keeps, (option_keeps (codes "port-file") (plain_name (codes "port-file") refl refl refl refl), (help_keeps, tt))),
+    ),
+  ),
+)
 
 -- ---- a walk keeps the rows good
 

@@ -1,20 +1,23 @@
 -- What a choice takes from the matches that `clap` makes of the words, and what it asks for.
 use Rattle.std.specs.Prelude.{◌≡◌, ◌⊎◌, ◌≤◌, ℕ, List, Bool, true, false, Option, Some, None}
-use Rattle.std.specs.Prelude.{[], ◌∷◌, ◌&&◌, ◌||◌, not, is_some, codes, if◌then◌else◌}
+use Rattle.std.specs.Prelude.{[], ◌∷◌, ◌&&◌, ◌||◌, not, is_some, codes, if◌then◌else◌, IfSome}
+use Rattle.std.specs.Prelude.{option_map}
 use Rattle.std.specs.Str.{bytes_eq}
 use Rattle.std.specs.Str.Parse.{IsNumeral, digits_value, without_leading_plus}
 use Rattle.clap.specs.Kinds.{or_else}
-use Rattle.clap.specs.Words.{Kinds, Row, Text, fault_of, first_of, one_of, subcommand_of}
+use Rattle.clap.specs.Words.{IsUnsignedIn, Kinds, Row, Text, fault_of, first_of, one_of}
+use Rattle.clap.specs.Words.{subcommand_of}
 use Rattle.clap.specs.declared.error.kind.ErrorKind.TheVariants as kind
 use Rattle.command_words.specs.{was_given}
 use Rattle.bsonwire.specs.declared.choice.Choice.{Choice}
-use Rattle.bsonwire.specs.declared.choice.Choice.TheVariants.{Loop, Over}
+use Rattle.bsonwire.specs.declared.choice.Choice.TheVariants.{Loop, Over, Proxy}
 use Rattle.bsonwire.specs.declared.choice.Command.{Command}
 use Rattle.bsonwire.specs.declared.choice.Command.TheVariants.{Dump, Check, Canon, Json, Msg}
 use Rattle.bsonwire.specs.declared.choice.Command.TheVariants.{Any, Bson, Play}
 use Rattle.bsonwire.specs.declared.choice.Reading.{Reading}
 use Rattle.bsonwire.specs.declared.choice.Reading.TheVariants.{Bytes, Hex, Salvage}
 use Rattle.bsonwire.specs.CommandLine.{command_line}
+use Rattle.proxy.specs.declared.options.Options.{Options}
 use Rattle.bson_json.specs.declared.mode.Mode.{Mode}
 use Rattle.bson_json.specs.declared.mode.Mode.TheVariants.{Canonical, Relaxed}
 use Rattle.engines.specs.declared.json.Layout.{Layout}
@@ -87,6 +90,19 @@ IsCount n found = (text : Text) × (found ≡ Some text) × IsNumber n text × (
 abbrev pub HoldsCalls : ℕ → List Row → Type 0
 HoldsCalls n rows = IsCount n (one_of (codes "calls") rows)
 
+-- the number of connections is that of the text; without a text it is the greatest number
+abbrev pub AsksFor : ℕ → Option Text → Type 0
+AsksFor n None = n ≡ 18446744073709551615
+AsksFor n (Some text) = IsNumber n text
+
+-- they hold what a proxy is to do
+pub record HoldsOptions (o : Options) (rows : List Row) : Type 0 where
+  pub listen : first_of (codes "listen") rows ≡ Some o.listen.now
+  pub upstream : first_of (codes "upstream") rows ≡ Some o.upstream.now
+  pub text : o.text ≡ was_given (codes "text") rows
+  pub connections : AsksFor o.connections (one_of (codes "connections") rows)
+  pub port_file : option_map (λ file. file.now) o.port_file ≡ first_of (codes "port-file") rows
+
 -- ---- the choice
 
 -- the command is the subcommand with this name, and has the `--hex` that the matches hold
@@ -111,6 +127,7 @@ abbrev pub IsSubcommand : Choice → Text → List Row → Type 0
 IsSubcommand (Over command file quiet) name rows =
     IsCommand command name rows × HoldsFile file.now rows × HoldsQuiet quiet rows
 IsSubcommand (Loop calls) name rows = (name ≡ codes "loop") × HoldsCalls calls rows
+IsSubcommand (Proxy options) name rows = (name ≡ codes "proxy") × HoldsOptions options rows
 
 -- there is a subcommand, and the choice is that one
 abbrev pub IsMetSubcommand : Choice → Option (Text × List Row) → Type 0
@@ -174,12 +191,24 @@ NamesCommand name rows = (c : Command) × IsCommand c name rows
 abbrev pub HasCalls : List Row → Type 0
 HasCalls rows = (n : ℕ) × HoldsCalls n rows
 
--- the subcommand with this name reads an input, which its matches hold beside `--quiet`, or it is
--- `loop`, and they hold the number of calls
+-- if they hold an N of `--connections`, it is a number of 64 bits
+abbrev pub HasConnections : List Row → Type 0
+HasConnections rows =
+    IfSome (one_of (codes "connections") rows) (IsUnsignedIn 0 18446744073709551615)
+
+-- they hold the two addresses of a proxy, and a number of connections if one was given
+abbrev pub HasOptions : List Row → Type 0
+HasOptions rows =
+    (is_some (first_of (codes "listen") rows) ≡ true)
+    × (is_some (first_of (codes "upstream") rows) ≡ true) × HasConnections rows
+
+-- the subcommand with this name reads an input, which its matches hold beside `--quiet`; or it is
+-- `loop`, and they hold the number of calls; or `proxy`, and they hold what that is to do
 abbrev pub NamesSubcommand : Text → List Row → Type 0
 NamesSubcommand name rows =
     (NamesCommand name rows × HasFile rows × HasQuiet rows)
     ⊎ ((name ≡ codes "loop") × HasCalls rows)
+    ⊎ ((name ≡ codes "proxy") × HasOptions rows)
 
 -- there is a subcommand, and its matches make a choice
 abbrev pub NamesChoice : Option (Text × List Row) → Type 0

@@ -1,9 +1,9 @@
 -- The command line of the program, as `clap` sees it.
-use Rattle.std.specs.Prelude.{[], ◌∷◌, List, true, codes, fold, Some, pos}
+use Rattle.std.specs.Prelude.{[], ◌∷◌, ◌++◌, List, true, codes, fold, Some, pos}
 use Rattle.clap.specs.Words.{App, Rule, Text, new_app, new_rule, with_rule, with_subcommand}
 use Rattle.clap.specs.Simple.{on_top}
-use Rattle.clap.specs.declared.builder.action.ArgAction.TheVariants.{SetTrue}
-use Rattle.clap.specs.declared.builder.value_parser.ValueParser.TheVariants.{Signed}
+use Rattle.clap.specs.declared.builder.action.ArgAction.TheVariants.{Set, SetTrue}
+use Rattle.clap.specs.declared.builder.value_parser.ValueParser.TheVariants.{Signed, Unsigned}
 
 -- a required operand
 abbrev pub operand_rule : Text → Rule
@@ -16,6 +16,15 @@ calls_rule = record (operand_rule (codes "calls")) { parser = Some (Signed (pos 
 -- a flag, which is true where it is given
 abbrev pub flag_rule : Text → Rule
 flag_rule id = record (new_rule id) { long = Some id; action = Some SetTrue }
+
+-- an option that gives a file
+abbrev pub file_rule : Text → Rule
+file_rule id = record (new_rule id) { long = Some id; action = Some Set; value_names = 1 }
+
+-- the option `--connections N`, a number of 64 bits
+abbrev pub connections_rule : Rule
+connections_rule =
+    record (file_rule (codes "connections")) { parser = Some (Unsigned 0 18446744073709551615) }
 
 -- a subcommand that reads a file, with these flags
 abbrev pub file_app : Text → List Text → App
@@ -79,6 +88,25 @@ play_app = file_app (codes "play") text_flags
 abbrev pub loop_app : App
 loop_app = with_rule (new_app (codes "loop")) calls_rule
 
+-- the addresses of a proxy
+abbrev pub address_rules : List Rule
+address_rules = operand_rule (codes "listen") ∷ operand_rule (codes "upstream") ∷ []
+
+-- its options
+abbrev pub option_rules : List Rule
+option_rules =
+    flag_rule (codes "text") ∷ connections_rule ∷ file_rule (codes "port-file") ∷ []
+
+-- the subcommand that passes connections to a server and back, with these arguments
+abbrev pub proxy_with : List Rule → App
+proxy_with rules = fold (λ a rule. with_rule a rule) (new_app (codes "proxy")) rules
+
+abbrev pub proxy_rules : List Rule
+proxy_rules = address_rules ++ option_rules
+
+abbrev pub proxy_app : App
+proxy_app = proxy_with proxy_rules
+
 -- the program without subcommands: it has a version, and requires a subcommand
 abbrev pub top_app : App
 top_app = on_top (λ s. record s { subcommand_required = true; has_version = true })
@@ -96,6 +124,10 @@ file_line = with_subcommand (with_subcommand check_line canon_app.top) msg_app.t
 abbrev pub json_line : App
 json_line = with_subcommand (with_subcommand file_line json_app.top) bson_app.top
 
+-- the program with those that end by themselves, too
+abbrev pub ending_line : App
+ending_line = with_subcommand (with_subcommand json_line play_app.top) loop_app.top
+
 -- the whole command line
 abbrev pub command_line : App
-command_line = with_subcommand (with_subcommand json_line play_app.top) loop_app.top
+command_line = with_subcommand ending_line proxy_app.top

@@ -1,9 +1,10 @@
 //! Finds out what the words of the command line ask for.
 
 ghost use Rattle.std.specs.Prelude.{◌≡◌, IfErr, IfOk, IsErrAnd, IsOk, Some, is_some, map};
-ghost use Rattle.std.specs.Prelude.{false, true, Bool, codes};
-ghost use Rattle.clap.specs.Words.{FailsBy, first_of, found_of, rows_of};
+ghost use Rattle.std.specs.Prelude.{false, true, Bool, codes, option_map};
+ghost use Rattle.clap.specs.Words.{FailsBy, first_of, found_of, one_of, rows_of};
 ghost use Rattle.clap.specs.Words.{subcommand_rows_of};
+ghost use Rattle.bsonwire.specs.Choices.{AsksFor, HasConnections, HasOptions, HoldsOptions};
 ghost use Rattle.bsonwire.specs.Choices.{HasCalls, HasFile, HasQuiet, HoldsCalls, HoldsFlag};
 ghost use Rattle.bsonwire.specs.Choices.{HoldsForm, HoldsMessageForm, HoldsReading, IsChosen};
 ghost use Rattle.bsonwire.specs.Choices.{IsCommand, IsMetSubcommand, IsSubcommand, MayChoose};
@@ -15,6 +16,7 @@ use crate::command_line::{bytes_wanted, json_wanted, program, text_wanted};
 use clap::{ArgMatches, Error};
 use command_words::is_given;
 use engines::{Layout, MessageForm, Mode};
+use proxy::Options;
 use std::alloc::Global;
 
 /// How a command reads documents.
@@ -76,6 +78,8 @@ pub enum Choice<'a> {
     Loop {
         calls: u8,
     },
+    /// Passes connections to a server and back.
+    Proxy(Options<'a>),
 }
 
 /// Returns the operand with this id.
@@ -161,6 +165,40 @@ fn calls_of(matches: &ArgMatches<'_>) -> u8
     }
 }
 
+/// Returns the number of connections that `--connections` asks for, or the greatest number if it
+/// wasn't given.
+fn connections_of(matches: &ArgMatches<'_>) -> u64
+    requires { HasConnections (rows_of (found_of matches.now)) }
+    ensures { AsksFor result (one_of (codes "connections") (rows_of (found_of matches.now))) }
+{
+    match matches.get_one::<u64>("connections") {
+        Some(connections) => connections,
+        None => u64::MAX,
+    }
+}
+
+/// Returns the file that the option of this name gives, if it was given.
+fn file_of<'a>(matches: &ArgMatches<'a>, name: &str) -> Option<&'a str>
+    ensures { option_map (λ file. file.now) result
+        ≡ first_of name.now (rows_of (found_of matches.now)) }
+{
+    matches.get_str(name)
+}
+
+/// Returns what a proxy is to do.
+fn options_of<'a>(matches: &ArgMatches<'a>) -> Options<'a>
+    requires { HasOptions (rows_of (found_of matches.now)) }
+    ensures { HoldsOptions result (rows_of (found_of matches.now)) }
+{
+    Options {
+        listen: operand_of(matches, "listen"),
+        upstream: operand_of(matches, "upstream"),
+        text: is_given(matches, "text"),
+        connections: connections_of(matches),
+        port_file: file_of(matches, "port-file"),
+    }
+}
+
 /// Returns the command that the subcommand with this name is.
 fn command_of(name: &str, matches: &ArgMatches<'_>) -> Command
     requires { NamesCommand name.now (rows_of (found_of matches.now)) }
@@ -221,6 +259,7 @@ fn choice_of<'a>(matches: &ArgMatches<'a>) -> Choice<'a>
         Some((name, inner)) if name == "loop" => Choice::Loop {
             calls: calls_of(inner),
         },
+        Some((name, inner)) if name == "proxy" => Choice::Proxy(options_of(inner)),
         Some((name, inner)) => over_of(name, inner),
         None => unreachable!(),
     }

@@ -2,11 +2,13 @@
 ghost use Rattle.std.specs.Prelude.{◌≡◌, IfOk, codes, false};
 ghost use Rattle.clap.specs.Words.{app_of, kind_of, rule_of};
 ghost use Rattle.clap.specs.declared.builder.command.Command.TheViews.{out-Command};
+ghost use Rattle.bsonwire.specs.CommandLine.{address_rules, proxy_with};
 ghost use Rattle.bsonwire.specs.CommandLine.{bson_app, bytes_flags, calls_rule, canon_app};
-ghost use Rattle.bsonwire.specs.CommandLine.{check_app, check_line, command_line, dump_app};
-ghost use Rattle.bsonwire.specs.CommandLine.{file_app, file_line, flag_rule, json_app, json_line};
+ghost use Rattle.bsonwire.specs.CommandLine.{check_app, check_line, command_line};
+ghost use Rattle.bsonwire.specs.CommandLine.{connections_rule, dump_app, ending_line, file_app};
+ghost use Rattle.bsonwire.specs.CommandLine.{file_line, file_rule, flag_rule, json_app, json_line};
 ghost use Rattle.bsonwire.specs.CommandLine.{loop_app, msg_app, operand_rule, play_app};
-ghost use Rattle.bsonwire.specs.CommandLine.{salvage_flags, text_flags, top_app};
+ghost use Rattle.bsonwire.specs.CommandLine.{proxy_app, salvage_flags, text_flags, top_app};
 
 use clap::error::ErrorKind;
 use clap::{Arg, ArgAction, Command, Error, value_parser};
@@ -45,6 +47,31 @@ fn flag<'a>(alloc: Global, name: &'a str, help: &'a str) -> Arg<'a>
         .long(name)
         .help(help)
         .action(ArgAction::SetTrue)
+}
+
+/// Makes the option of this name that gives a file.
+fn file_option<'a>(alloc: Global, name: &'a str, help: &'a str) -> Arg<'a>
+    ensures rule { rule_of result ≡ file_rule name.entry.now }
+    ensures local { result.global ≡ false }
+{
+    Arg::new(alloc, name)
+        .long(name)
+        .value_name("FILE")
+        .help(help)
+        .action(ArgAction::Set)
+}
+
+/// Makes the option `--connections N`.
+fn connections_option<'a>(alloc: Global) -> Arg<'a>
+    ensures rule { rule_of result ≡ connections_rule }
+    ensures local { result.global ≡ false }
+{
+    Arg::new(alloc, "connections")
+        .long("connections")
+        .value_name("N")
+        .help("End after this many connections; without it the proxy goes on")
+        .action(ArgAction::Set)
+        .value_parser(value_parser!(u64))
 }
 
 /// Makes a subcommand with this name that reads text, in an operand which help shows as `shown`.
@@ -204,6 +231,31 @@ fn loop_command<'a>(alloc: Global) -> Result<Command<'a>, AllocError>
         .arg(calls_operand(alloc))
 }
 
+/// Makes the subcommand `proxy` with its two addresses.
+fn addresses_command<'a>(alloc: Global) -> Result<Command<'a>, AllocError>
+    ensures app { IfOk result (λ c. app_of c ≡ proxy_with address_rules) }
+    ensures local { IfOk result (λ c. (out-Command c).has_globals ≡ false) }
+{
+    let listen = "The address to listen at, as 127.0.0.1:27018; port 0 takes a free one";
+    let upstream = "The address of the server, as 127.0.0.1:27017";
+    Command::new(alloc, "proxy")
+        .about("Passes connections to a server and back, and shows their messages")
+        .arg(operand(alloc, "listen", "LISTEN", listen))?
+        .arg(operand(alloc, "upstream", "UPSTREAM", upstream))
+}
+
+/// Makes the subcommand that passes connections to a server and back.
+fn proxy_command<'a>(alloc: Global) -> Result<Command<'a>, AllocError>
+    ensures app { IfOk result (λ c. app_of c ≡ proxy_app) }
+    ensures local { IfOk result (λ c. (out-Command c).has_globals ≡ false) }
+{
+    let port = "Write the port and a line feed to FILE once the proxy listens";
+    addresses_command(alloc)?
+        .arg(flag(alloc, "text", "Write the text of each message"))?
+        .arg(connections_option(alloc))?
+        .arg(file_option(alloc, "port-file", port))
+}
+
 /// Makes the command line without subcommands.
 fn top<'a>(alloc: Global) -> Command<'a>
     ensures app { app_of result ≡ top_app }
@@ -250,9 +302,9 @@ fn json_commands<'a>(alloc: Global) -> Result<Command<'a>, AllocError>
     line.subcommand(bson)
 }
 
-/// Makes the whole command line.
-pub fn program<'a>(alloc: Global) -> Result<Command<'a>, AllocError>
-    ensures app { IfOk result (λ c. app_of c ≡ command_line) }
+/// Makes the command line with those that end by themselves, too.
+fn ending_commands<'a>(alloc: Global) -> Result<Command<'a>, AllocError>
+    ensures app { IfOk result (λ c. app_of c ≡ ending_line) }
     ensures local { IfOk result (λ c. (out-Command c).has_globals ≡ false) }
 {
     let line = json_commands(alloc)?;
@@ -260,4 +312,14 @@ pub fn program<'a>(alloc: Global) -> Result<Command<'a>, AllocError>
     let line = line.subcommand(play)?;
     let calls = loop_command(alloc)?;
     line.subcommand(calls)
+}
+
+/// Makes the whole command line.
+pub fn program<'a>(alloc: Global) -> Result<Command<'a>, AllocError>
+    ensures app { IfOk result (λ c. app_of c ≡ command_line) }
+    ensures local { IfOk result (λ c. (out-Command c).has_globals ≡ false) }
+{
+    let line = ending_commands(alloc)?;
+    let proxy = proxy_command(alloc)?;
+    line.subcommand(proxy)
 }

@@ -18,6 +18,7 @@ use engines::{
     RunEnd, TextStop, end_of, run_any, run_bson, run_canon, run_check, run_dump, run_json,
     run_loop, run_msg, run_play, salvage_canon, salvage_check,
 };
+use proxy::Options;
 use std::alloc::Global;
 use std::fs::OpenFile;
 use std::io::{ErrorKind, Read, Write};
@@ -103,6 +104,7 @@ pub fn run<R: Files + Input + Print + Eprint + Clock + Net + AllocGlobal>(
             quiet,
         } => run_file(rt, command, file, shown && !quiet),
         Choice::Loop { calls } => loop_status(rt, calls, &mut io::writer(rt)),
+        Choice::Proxy(options) => proxy_status(rt, options),
     }
 }
 
@@ -262,6 +264,25 @@ fn tell_loop(rt: &impl Eprint, end: RunEnd) -> u8
         RunEnd::Good | RunEnd::Fault | RunEnd::Unread => Ok(()),
     };
     status_of(end)
+}
+
+/// Passes connections to a server and back, and returns the exit status. If that stopped early,
+/// standard error says why.
+fn proxy_status<R: Files + Net + Print + Eprint + AllocGlobal>(rt: &R, options: Options<'_>) -> u8
+    ensures { (end : RunEnd) × (end ≢ RunEnd.Fault) × (result ≡ exit_status end) }
+{
+    let Options {
+        listen,
+        upstream,
+        ..
+    } = options;
+    match proxy::run(rt, rt.alloc(), options, io::writer(rt)) {
+        Ok(()) => status_of(RunEnd::Good),
+        Err(error) => {
+            let _ = eprintln!(rt; "bsonwire: proxy from {listen:?} to {upstream:?}: {error}");
+            status_of(end_of(&error))
+        }
+    }
 }
 
 /// Says on standard error why a run stopped early, if it did. Returns its exit status.

@@ -6,7 +6,7 @@ use slab::Slab;
 use std::alloc::{AllocError, Global};
 use std::collections::VecDeque;
 use std::io;
-use std::io::Write;
+use std::io::{ErrorKind, Write};
 use wire_relay::{NoTap, Relay, RelayFault, Turned};
 
 /// The most steps of a turn.
@@ -127,6 +127,23 @@ impl Pairs {
         }
         let _ = self.pairs.insert(Pair { relay, shown })?;
         self.opened = number;
+        Ok(())
+    }
+
+    /// Counts a connection that is closed at once, since connecting to the server failed, and
+    /// writes that, if messages are shown.
+    ///
+    /// # Errors
+    ///
+    /// Returns an error if writing fails.
+    pub fn refuse<W: Write>(&mut self, kind: ErrorKind, out: &mut W) -> io::Result<()> {
+        let number = self.opened.saturating_add(1);
+        self.opened = number;
+        self.ended = self.ended.saturating_add(1);
+        if self.text {
+            writeln!(out, "{number} new")?;
+            writeln!(out, "{number} failed: connecting: {kind}")?;
+        }
         Ok(())
     }
 

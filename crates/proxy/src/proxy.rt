@@ -1,8 +1,8 @@
 //! Accepts connections, and passes their bytes to a server and back.
 
+use crate::options::Options;
 use crate::pairs::Pairs;
 use crate::socket::Socket;
-use anyhow::{Result, bail};
 use mio::net::{TcpListener, TcpStream};
 use mio::{Events, Interest, Poll, Token};
 use std::alloc::Global;
@@ -35,6 +35,8 @@ pub struct Proxy {
     ready: bool,
     /// Accepting failed, and is tried again after a pause.
     pausing: bool,
+    /// How many more connections are accepted.
+    wanted: u64,
 }
 
 /// Has the system tell of a stream, under this token.
@@ -45,8 +47,8 @@ fn watch(poll: &Poll, stream: &mut TcpStream, token: usize) -> io::Result<()> {
 }
 
 impl Proxy {
-    /// Begins to listen for connections, which go to the server at `upstream`, and whose messages
-    /// are shown if `text` is true.
+    /// Begins to listen for as many connections as the options say, which go to the server at
+    /// `upstream`.
     ///
     /// # Errors
     ///
@@ -56,7 +58,7 @@ impl Proxy {
         alloc: Global,
         listener: TcpListener,
         upstream: SocketAddr,
-        text: bool,
+        options: Options<'_>,
     ) -> io::Result<Proxy> {
         let poll = Poll::new(net)?;
         let mut listener = listener;
@@ -67,9 +69,10 @@ impl Proxy {
             poll,
             listener,
             upstream,
-            pairs: Pairs::new(alloc, text),
+            pairs: Pairs::new(alloc, options.text),
             ready: true,
             pausing: false,
+            wanted: options.connections,
         })
     }
 
@@ -78,30 +81,37 @@ impl Proxy {
         self.pairs.ended()
     }
 
-    /// Connects to the server, for a connection that came. If that fails, both are closed, and
-    /// others are served.
-    fn open<W: Write>(&mut self, net: &impl Net, stream: TcpStream, out: &mut W) -> Result<()> {
-        let mut near = stream;
-        let Some(token) = self.pairs.next_key().checked_mul(2) else {
-            bail!("too many connections");
-        };
-        let Ok(mut far) = TcpStream::connect(net, self.upstream) else {
-            return Ok(());
-        };
-        if watch(&self.poll, &mut near, token).is_err()
-            || watch(&self.poll, &mut far, token | 1).is_err()
-        {
-            return Ok(());
-        }
-        let near = Socket::new(self.alloc, near)?;
-        let far = Socket::new(self.alloc, far)?;
-        self.pairs.open(near, far, out)?;
-        Ok(())
+    /// Connects to the server, for the connection over `stream`.
+    fn connect(
+        &self,
+        net: &impl Net,
+        token: usize,
+        stream: &mut TcpStream,
+    ) -> io::Result<TcpStream> {
+        let mut far = TcpStream::connect(net, self.upstream)?;
+        watch(&self.poll, stream, token)?;
+        watch(&self.poll, &mut far, token | 1)?;
+        Ok(far)
     }
 
-    /// Accepts a connection, if one waits. Returns true if another may wait.
-    fn accept_one<W: Write>(&mut self, net: &impl Net, out: &mut W) -> Result<bool> {
-        if self.pairs.len() >= ROOM {
+    /// Connects to the server, for a connection that came. If that fails, both are closed, and
+    /// others are served.
+    fn open<W: Write>(&mut self, net: &impl Net, stream: TcpStream, out: &mut W) -> io::Result<()> {
+        let mut near = stream;
+        let token = self.pairs.next_key().saturating_mul(2);
+        self.wanted = self.wanted.saturating_sub(1);
+        let far = match self.connect(net, token, &mut near) {
+            Ok(far) => far,
+            Err(error) => return self.pairs.refuse(error.kind(), out),
+        };
+        let near = Socket::new(self.alloc, near)?;
+        let far = Socket::new(self.alloc, far)?;
+        self.pairs.open(near, far, out)
+    }
+
+    /// Accepts a connection, if one waits and one more is wanted. Returns true if another may wait.
+    fn accept_one<W: Write>(&mut self, net: &impl Net, out: &mut W) -> io::Result<bool> {
+        if self.wanted == 0 || self.pairs.len() >= ROOM {
             self.ready = false;
             return Ok(false);
         }
@@ -119,7 +129,7 @@ impl Proxy {
     }
 
     /// Accepts connections, until none waits, and no more than `ACCEPTS`.
-    fn accept_some<W: Write>(&mut self, net: &impl Net, out: &mut W) -> Result<()> {
+    fn accept_some<W: Write>(&mut self, net: &impl Net, out: &mut W) -> io::Result<()> {
         for _ in 0..ACCEPTS {
             if !self.accept_one(net, out)? {
                 break;
@@ -129,47 +139,63 @@ impl Proxy {
     }
 
     /// Has each pair of which these events are take a turn.
-    fn take_turns<W: Write>(&mut self, events: &Events<Global>, out: &mut W) -> Result<()> {
-        let ended = self.pairs.ended();
+    fn take_turns<W: Write>(&mut self, events: &Events<Global>, out: &mut W) -> io::Result<()> {
         for event in events.iter() {
             match event.token() {
                 LISTENER => self.ready = true,
                 Token(token) => self.pairs.turn(token / 2, out)?,
             }
         }
-        // Where a pair ended there is room for a connection that waits.
-        if self.pairs.ended() != ended {
+        Ok(())
+    }
+
+    /// Returns how long events are waited for: not at all if there is more to do, and for a pause
+    /// if accepting failed.
+    fn timeout(&self) -> Option<Duration> {
+        if self.ready || self.pairs.has_more() {
+            Some(Duration::from_millis(0))
+        } else if self.pausing {
+            Some(Duration::from_millis(PAUSE))
+        } else {
+            None
+        }
+    }
+
+    /// Waits for events.
+    fn wait(&mut self, events: &mut Events<Global>) -> io::Result<()> {
+        let timeout = self.timeout();
+        match self.poll.poll(events, timeout) {
+            Ok(()) => {}
+            Err(error) if error.kind() == ErrorKind::Interrupted => {}
+            Err(error) => return Err(error),
+        }
+        if self.pausing {
+            self.pausing = false;
             self.ready = true;
         }
         Ok(())
     }
 
     /// Waits for events, passes what can be passed, and writes what is shown of it to `out`.
+    ///
+    /// # Errors
+    ///
+    /// Returns an error if waiting or writing fails, or memory runs out.
     pub fn serve_some<W: Write>(
         &mut self,
         net: &impl Net,
         events: &mut Events<Global>,
         out: &mut W,
-    ) -> Result<()> {
+    ) -> io::Result<()> {
         out.flush()?;
-        let timeout = if self.ready || self.pairs.has_more() {
-            Some(Duration::from_millis(0))
-        } else if self.pausing {
-            Some(Duration::from_millis(PAUSE))
-        } else {
-            None
-        };
-        match self.poll.poll(events, timeout) {
-            Ok(()) => {}
-            Err(error) if error.kind() == ErrorKind::Interrupted => {}
-            Err(error) => return Err(error.into()),
-        }
-        if self.pausing {
-            self.pausing = false;
-            self.ready = true;
-        }
+        self.wait(events)?;
+        let ended = self.pairs.ended();
         self.pairs.turn_again(out)?;
         self.take_turns(events, out)?;
+        // Where a pair ended there is room for a connection that waits.
+        if self.pairs.ended() != ended {
+            self.ready = true;
+        }
         if self.ready {
             self.accept_some(net, out)?;
         }
