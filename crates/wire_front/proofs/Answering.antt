@@ -4,7 +4,7 @@ use Rattle.wire_peer.specs.{AnswerStep, Does, LogEntry, ServerView, Stops}
 use Rattle.wire_peer.specs.declared.server_state.AnswerRefusal.{AnswerRefusal}
 use Rattle.wire_peer.specs.declared.server_state.AnswerRefusal.TheVariants as refusals
 use Rattle.wire_front.specs.declared.cause.FrontCause.{FrontCause}
-use Rattle.wire_front.specs.Fronts.{FrontAnswers, FrontView, PutsOut, RespellsReply, with_server}
+use Rattle.wire_front.specs.Fronts.{FrontAnswers, FrontView, HasLeft, PutsOut, RespellsReply, with_server}
 use Rattle.wire_front.specs.Kept.{AreKept, view_of}
 use Rattle.wire_front.proofs.Taking.{quiet}
 
@@ -22,6 +22,14 @@ record Same (s s' : ServerView) : Type 0 where
   held : s'.held ≡ s.held
 
 module _ {H : Type 0} (does : Does H) (stops : Stops H) where
+  -- a server at which a request waits on is as it was
+  pub stays : (refusal : AnswerRefusal) (s s' : ServerView) (h h' : H) (log log' : List LogEntry)
+      → AnswerStep does stops 0 (Err refusal) s h log s' h' log' → (HasLeft (Err refusal) → ⊥) → s' ≡ s
+  stays (refusals.NowClosed cause) s s' h h' log log' x waits = absurd (waits tt)
+  stays refusals.Closed s s' h h' log log' x waits = x.1
+  stays refusals.NoSuchRequest s s' h h' log log' x waits = x.2
+  stays refusals.OutOfMemory s s' h h' log log' x waits = x.2
+
   answer_keeps : (k : ℕ) (result : Result ℕ AnswerRefusal) (s s' : ServerView) (h h' : H) (log log' : List LogEntry)
       → AnswerStep does stops k result s h log s' h' log' → Same s s'
   answer_keeps k (Ok n) s s' h h' log log' x = rw x.2.2.2 (record { window = refl; limit = refl; held = refl })

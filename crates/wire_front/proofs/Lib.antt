@@ -3,3 +3,4 @@ pub mod Feeding
 pub mod Sequencing
 pub mod Taking
 pub mod Answering
+pub mod Asking

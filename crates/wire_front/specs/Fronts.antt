@@ -5,6 +5,7 @@ use Rattle.wire_msg.specs.{canonical}
 use Rattle.wire_peer.specs.{AnswerStep, Does, LogEntry, ServerView, Stops, TakesBytes, closed_for}
 use Rattle.wire_peer.specs.{end_cause, new_server}
 use Rattle.wire_peer.specs.declared.server_state.AnswerRefusal.{AnswerRefusal}
+use Rattle.wire_peer.specs.declared.server_state.AnswerRefusal.TheVariants as refusals
 use Rattle.wire_peer.specs.declared.server_state.ServerState.{ServerState}
 use Rattle.wire_peer.specs.declared.server_state.ServerState.TheVariants as servers
 use Rattle.wire_query.specs.{FaultQuery, Query, SpellsQuery, message_of}
@@ -102,6 +103,12 @@ abbrev pub PutsOut : Bool → Result ℕ AnswerRefusal → FrontView → FrontVi
 PutsOut true (Ok n) old new = RespellsReply old new
 PutsOut true (Err refusal) old new = new ≡ old
 PutsOut false result old new = new ≡ old
+
+-- the request that waited was answered, or the server closed at it, so that it waits no more
+abbrev pub HasLeft : Result ℕ AnswerRefusal → Type 0
+HasLeft (Ok n) = Unit {0}
+HasLeft (Err (refusals.NowClosed cause)) = Unit {0}
+HasLeft (Err refusal) = ⊥
 
 -- A front answered the first request that waits, with this result, from a state of the handler and
 -- a log into a state and a log: its server did.

@@ -1,11 +1,11 @@
 //! A front of one connection: a server, before which queries and their replies are respelled.
 
-ghost use Rattle.std.specs.Prelude.{◌≡◌, ◌≢◌, ◌≤◌, ◌<◌, [], Ok, IfOk, OnErr, drop, length};
-ghost use Rattle.std.specs.Prelude.{false, take, true};
-ghost use Rattle.wire_msg.specs.{IsOpen};
-ghost use Rattle.wire_peer.specs.{log_of};
-ghost use Rattle.wire_front.specs.Fronts.{FrontAnswers, FrontTakes, IsReady, RespellsReply};
-ghost use Rattle.wire_front.specs.Fronts.{ended_front, new_front, state_of};
+ghost use Rattle.std.specs.Prelude.{◌≡◌, ◌≢◌, ◌≤◌, ◌<◌, ◌↔◌, [], Ok, IfOk, IfSome, IsSome, OnErr};
+ghost use Rattle.std.specs.Prelude.{drop, false, length, take, true};
+ghost use Rattle.wire_msg.specs.{IsOpen, Message};
+ghost use Rattle.wire_peer.specs.{WaitsAt, asked, asked_by, log_of};
+ghost use Rattle.wire_front.specs.Fronts.{FrontAnswers, FrontTakes, HasLeft, IsReady};
+ghost use Rattle.wire_front.specs.Fronts.{RespellsReply, ended_front, new_front, state_of};
 
 use crate::cause::{FrontCause, FrontState};
 use crate::passing::{Passed, gather};
@@ -13,7 +13,7 @@ use crate::respelling::respelled;
 use std::alloc::{AllocError, Global};
 use std::marker::Model;
 use wire_msg::MAX_MESSAGE_LEN;
-use wire_peer::{AnswerRefusal, Handler, Logged, Server, ServerState};
+use wire_peer::{AnswerRefusal, Handler, Logged, Request, Server, ServerState};
 use wire_stream::ReadRefusal;
 
 /// A server of one connection that also takes queries of commands. It reads and writes nothing
@@ -91,6 +91,18 @@ impl Front {
         ensures window { self.now.server.window ≡ 1 }
     {
         self.server.waiting()
+    }
+
+    /// Returns the request that waits, or `None` if none does.
+    pub fn request(&self) -> Option<Request<'_>>
+        ensures found { IsSome result ↔ (0 < length self.now.server.waiting) }
+        ensures shown { IfSome result (λ r. (m : Message) × WaitsAt self.now.server 0 m
+            × (asked r ≡ asked_by m)) }
+    {
+        if self.server.waiting() == 0 {
+            return None;
+        }
+        self.server.request(0)
     }
 
     /// Returns the bytes that are to be sent.
@@ -186,9 +198,10 @@ impl Front {
     /// As `Server::answer`. If a query has no OP_REPLY, its entry stands and the front is closed.
     pub fn answer<H: Handler>(&mut self, logged: &mut Logged<H>) -> Result<usize, AnswerRefusal>
         requires { self.old.output ≡ [] }
-        ensures { FrontAnswers H.does H.stops result
+        ensures answers { FrontAnswers H.does H.stops result
             self.old logged.old.handler (log_of logged.old.entries.items)
             self.new logged.new.handler (log_of logged.new.entries.items) }
+        ensures unchanged { (HasLeft result → ⊥) → self.new ≡ self.old }
     {
         match self.server.answer(0, logged) {
             Ok(entry) => {

@@ -86,7 +86,7 @@ gathered c came done out sent bytes made f cause s none between parts put =
     (behind done f.part f.server.held bytes came between parts ∙ ap (λ (x : List ℕ). done ++ x) (sym (ap (λ (h : List ℕ). (f.part ++ bytes) ++ h) between ∙ append-nil (f.part ++ bytes))))
     put
 
-takes : (c : ℕ) (came sent bytes : List ℕ) (made : List LogEntry) (old new : FrontView) → IsReady old → FrontTakes old bytes new
+pub takes : (c : ℕ) (came sent bytes : List ℕ) (made : List LogEntry) (old new : FrontView) → IsReady old → FrontTakes old bytes new
     → IsServed c came made sent old → IsServed c (came ++ bytes) made sent new
 takes c came sent bytes made old new r (goes_on s some empty t is) served =
     let d = done_by c came made sent old r served in
@@ -119,9 +119,9 @@ takes c came sent bytes made old new r (refuses f between whole fault is) served
     (gathered c came d.done d.out sent bytes made old _ d.serves r.none_waits between d.parts d.put)
 
 -- the number of the connection stays, and no output is left at the server
-record SameServer (old new : FrontView) : Type 0 where
-  number : new.server.connection ≡ old.server.connection
-  output : new.server.output ≡ old.server.output
+pub record SameServer (old new : FrontView) : Type 0 where
+  pub number : new.server.connection ≡ old.server.connection
+  pub output : new.server.output ≡ old.server.output
 
 holding_same : (found : ReaderState) (s : ServerView) (bytes : List ℕ)
     → ((holding s bytes found).connection ≡ s.connection) × ((holding s bytes found).output ≡ s.output)
@@ -135,7 +135,7 @@ same_taken old new piece n s t is = rw (is, t.is) (record {
   output = (holding_same t.found old.server t.bytes).1;
 })
 
-takes_same : (bytes : List ℕ) (old new : FrontView) → FrontTakes old bytes new → SameServer old new
+pub takes_same : (bytes : List ℕ) (old new : FrontView) → FrontTakes old bytes new → SameServer old new
 takes_same bytes old new (goes_on s some empty t is) = same_taken old new bytes (length bytes) s t (ap (λ (z : FrontView). z.server) is)
 takes_same bytes old new (gathers between part is) = rw is (record { number = refl; output = refl })
 takes_same bytes old new (begins s between other t is) = same_taken old new (old.part ++ bytes) 16 s t (ap (λ (z : FrontView). z.server) is)
@@ -278,7 +278,7 @@ module _ {H : Type 0} (does : Does H) (stops : Stops H) where
       ap (λ (e : LogEntry). made ++ e ∷ []) (sym (ap (λ (k : ℕ). entered k (asked_by n) answers) number ∙ ap (λ (x : Message). entered c (asked_by x) answers) same))
       ∙ ap (λ (x : List LogEntry). made ++ x) (sym (made_is log log' more (entered f.server.connection (asked_by n) answers ∷ []) logged entry))
 
-  answers : (result : Result ℕ AnswerRefusal) (c : ℕ) (came sent : List ℕ) (made more : List LogEntry) (f new : FrontView) (s : ServerView)
+  pub answers : (result : Result ℕ AnswerRefusal) (c : ℕ) (came sent : List ℕ) (made more : List LogEntry) (f new : FrontView) (s : ServerView)
       (h h' : H) (log log' : List LogEntry) → f.server.connection ≡ c → f.server.output ≡ [] → f.output ≡ []
       → AnswerStep does stops 0 result f.server h log s h' log' → PutsOut f.queried result (with_server f s) new
       → log' ≡ log ++ more → IsServed c came made sent f → IsServed c came (made ++ more) sent new
@@ -310,14 +310,14 @@ module _ {H : Type 0} (does : Does H) (stops : Stops H) where
       refuses_answer c came sent made more refusals.OutOfMemory f new s log log' none all s_is log_is logged out served
 
 -- the server of a front after an answer, without its output
-put_server : (queried : Bool) (result : Result ℕ AnswerRefusal) (f new : FrontView) (s : ServerView) → PutsOut queried result (with_server f s) new
+pub put_server : (queried : Bool) (result : Result ℕ AnswerRefusal) (f new : FrontView) (s : ServerView) → PutsOut queried result (with_server f s) new
     → new.server ≡ record s { output = [] }
 put_server false result f new s is = ap (λ (z : FrontView). z.server) is
 put_server true (Err refusal) f new s is = ap (λ (z : FrontView). z.server) is
 put_server true (Ok n) f new s (respelled reply as_reply is) = ap (λ (z : FrontView). z.server) is
 put_server true (Ok n) f new s (refused cause why is) = ap (λ (z : FrontView). z.server) is
 
-answer_number : {H : Type 0} (does : Does H) (stops : Stops H) (result : Result ℕ AnswerRefusal) (s s' : ServerView) (h h' : H) (log log' : List LogEntry)
+pub answer_number : {H : Type 0} (does : Does H) (stops : Stops H) (result : Result ℕ AnswerRefusal) (s s' : ServerView) (h h' : H) (log log' : List LogEntry)
     → AnswerStep does stops 0 result s h log s' h' log' → s'.connection ≡ s.connection
 answer_number does stops (Ok n) s s' h h' log log' x = ap (λ (z : ServerView). z.connection) x.2.2.2
 answer_number does stops (Err (refusals.NowClosed cause)) s s' h h' log log' x = ap (λ (z : ServerView). z.connection) x.1
@@ -330,7 +330,7 @@ answer_number does stops (Err refusals.OutOfMemory) s s' h h' log log' x = ap (�
 more_gone : (out sent bytes rest : List ℕ) (output : List ℕ) → out ≡ sent ++ output → output ≡ bytes ++ rest → out ≡ (sent ++ bytes) ++ rest
 more_gone out sent bytes rest output put first = put ∙ ap (λ (x : List ℕ). sent ++ x) first ∙ sym (append_assoc sent bytes rest)
 
-goes : (c : ℕ) (came sent bytes rest : List ℕ) (made : List LogEntry) (f : FrontView) → f.output ≡ bytes ++ rest → IsServed c came made sent f
+pub goes : (c : ℕ) (came sent bytes rest : List ℕ) (made : List LogEntry) (f : FrontView) → f.output ≡ bytes ++ rest → IsServed c came made sent f
     → IsServed c came made (sent ++ bytes) (record f { output = rest })
 goes c came sent bytes rest made f first (all_answered {done} {out} s none parts put) =
     all_answered s none parts (more_gone out sent bytes rest f.output put first)
@@ -346,7 +346,7 @@ ended_served (fronts.Closed cause) part c came sent made f d none = all_answered
 ended_served fronts.Open [] c came sent made f d none = all_answered d.serves none d.parts d.put
 ended_served fronts.Open (b ∷ bytes) c came sent made f d none = all_answered d.serves none d.parts d.put
 
-ended_same : (state : FrontState) (part : List ℕ) (f : FrontView) → SameServer f (ended_by state part f)
+pub ended_same : (state : FrontState) (part : List ℕ) (f : FrontView) → SameServer f (ended_by state part f)
 ended_same (fronts.Closed cause) part f = record { number = refl; output = refl }
 ended_same fronts.Open [] f = record { number = refl; output = refl }
 ended_same fronts.Open (b ∷ bytes) f = record { number = refl; output = refl }

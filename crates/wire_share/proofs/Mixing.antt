@@ -1,0 +1,99 @@
+-- Answers are never mixed.
+use Rattle.std.proofs.Common.{◌≡◌, ℕ, List, ◌∷◌, ◌++◌, sym, ◌∙◌, ap, subst, Some}
+use Rattle.std.proofs.lemmas.Option.{none-some}
+use Rattle.wire_msg.specs.{Message}
+use Rattle.wire_peer.specs.{Asked, LogEntry, content_of}
+use Rattle.wire_msg.specs.declared.payloads.Payload.{Payload}
+use Rattle.wire_peer.specs.declared.call_table.ReadyReply.{ReadyReply}
+use Rattle.wire_peer.specs.declared.calls.CallKind.{CallKind}
+use Rattle.wire_peer.specs.declared.calls.CallNo.{CallNo}
+use Rattle.wire_model.specs.{asked_as}
+use Rattle.wire_channels.specs.{ClientAct, ClientEnd, ClientRun, HoldsAlone, Made, first_end, handed}
+use Rattle.wire_channels.specs.Alone.{HasLast, NoneBehind, NoneTo, parts_to}
+use Rattle.wire_channels.specs.Owners as owners
+use Rattle.wire_share.specs.declared.awaited.Awaited.{Awaited}
+use Rattle.wire_share.specs.Acts.{AreFit, DownRun, Gives, Passes, ShareAct, acts_at, acts_of}
+use Rattle.wire_share.specs.Mixing.{IsAmong, IsReplyTo, IsUnanswered, NeverMixed}
+use Rattle.wire_share.specs.Sharing.{DownSeen, kind_by, new_downstream}
+use Rattle.wire_share.proofs.Among.{Inside, WasPassed, all_last, fits, given_here, handed_at, inside, inside_down, inside_up, passed_here, split_at_act, was_passed}
+use Rattle.wire_share.proofs.Pairing.{paired}
+use Rattle.wire_share.proofs.Parts.{AllLast, has_last, none_front, none_later, not_among, only_part}
+use Rattle.wire_share.proofs.Records.{Has, made_asked}
+
+module _ (acts : List ShareAct) (downs : ℕ → DownSeen) (made : ℕ → Made) (ends : ℕ → ClientEnd) (fit : AreFit acts)
+    (below : (d : ℕ) → DownRun (new_downstream d) (acts_at acts d) (downs d))
+    (above : (u : ℕ) → ClientRun u (first_end 48000000 made u) (acts_of acts u) (ends u))
+    (alone : (u : ℕ) → HoldsAlone 48000000 (acts_of acts u) (ends u)) where
+  none_behind : (u : ℕ) → NoneBehind (handed (acts_of acts u))
+  none_behind u = none_front (handed (acts_of acts u)) (alone u).ready (alone u).none_behind
+
+  -- what the upstream of an answer hands out
+  handed_is : (before after : List ShareAct) (d u : ℕ) (m answer : Message) (reply : ReadyReply) (told : List LogEntry) → acts ≡ before ++ Gives d u m reply answer told ∷ after
+      → handed (acts_of acts u) ≡ handed (acts_of before u) ++ (reply, answer) ∷ handed (acts_of after u)
+  handed_is before after d u m answer reply told is = ap (λ (xs : List ShareAct). handed (acts_of xs u)) is ∙ handed_at before after d u m answer reply told
+
+  -- a call that was made has a record of what it asked
+  recorded_at : (v : ℕ) (before after : List ClientAct) (kind : CallKind) (payload : Payload) (number : CallNo) → acts_of acts v ≡ before ++ owners.Calls kind payload number ∷ after
+      → Has v (ends v).records number.number (asked_as kind (content_of payload))
+  recorded_at v before after kind payload number is =
+      made_asked v before kind payload number after (first_end 48000000 made v) (ends v) (λ n zero. sym (zero_is n zero))
+      (subst (λ (xs : List ClientAct). ClientRun v (first_end 48000000 made v) xs (ends v)) is (above v))
+    where
+      zero_is : (n : ℕ) → Some 0 ≡ Some n → 0 ≡ n
+      zero_is n zero = cc
+
+  -- calls that are the same have the same record
+  moved : (c d : Awaited) (a : Asked) → c ≡ d → Has c.upstream (ends c.upstream).records c.call a → Has d.upstream (ends d.upstream).records d.call a
+  moved c d a same has = subst (λ (x : Awaited). Has x.upstream (ends x.upstream).records x.call a) same has
+
+  -- the record of the call that a request was passed on as
+  recorded : (d u : ℕ) (m answer : Message) (reply : ReadyReply) (told : List LogEntry) → Inside (Gives d u m reply answer told) acts
+      → (a : Asked) × (a.payload ≡ m.content) × Has u (ends u).records reply.call a
+  recorded d u m answer reply told i =
+      let call : Awaited = record { upstream = u; call = reply.call } in
+      let was : WasPassed m call acts =
+      paired (λ (n : Message) (c : Awaited). WasPassed n c acts) (acts_at acts d) (new_downstream d) (downs d) (λ c is. absurd (none-some c is))
+      (λ n c made j. was_passed acts d n c made j) (below d) m call answer.content told
+      (inside_down (Gives d u m reply answer told) acts d _ (given_here d u m answer reply told) i) in
+      let v = was.1 in
+      let payload = was.2 in
+      let number = was.3 in
+      let kind = kind_by m.flags.more_to_come in
+      let at = split_at_act (owners.Calls kind payload number) (acts_of acts v) (inside_up (Passes was.0 v m payload number was.4) acts v _ (passed_here was.0 v m payload number was.4) was.5) in
+      let has = recorded_at v at.0 at.1 kind payload number at.2 in (
+        asked_as kind (content_of payload),
+        fits (Passes was.0 v m payload number was.4) acts fit was.5,
+        moved (record { upstream = v; call = number.number }) call (asked_as kind (content_of payload)) was.6 has,
+      )
+
+  pub own : (d u : ℕ) (m answer : Message) (reply : ReadyReply) (told : List LogEntry) → IsAmong (Gives d u m reply answer told) acts → IsReplyTo u m answer reply.call (ends u)
+  own d u m answer reply told among =
+      let i = subst (λ (xs : List ShareAct). Inside (Gives d u m reply answer told) xs) (sym among.2) (inside (Gives d u m reply answer told) among.0 among.1) in
+      let rec = recorded d u m answer reply told i in
+      let has = rec.2 in
+      let is = handed_is among.0 among.1 d u m answer reply told among.2 in
+      let first = handed (acts_of among.0 u) in
+      let then = handed (acts_of among.1 u) in
+      record {
+        record_ = has.0;
+        at = has.1;
+        connection = has.3;
+        payload = ap (λ (a : Asked). a.payload) has.2 ∙ rec.1;
+        parts =
+            (alone u).parts reply.call has.0 has.1 ∙ ap (parts_to reply.call) is
+            ∙ only_part first then (reply, answer) (subst AllLast is (all_last acts u fit)) (subst NoneBehind is (none_behind u));
+        done =
+            ((alone u).done reply.call has.0 has.1).1
+            (subst (HasLast reply.call) (sym is) (has_last first then (reply, answer) (fits (Gives d u m reply answer told) acts fit i)));
+      }
+
+  pub once : (before after : List ShareAct) (d u : ℕ) (m answer : Message) (reply : ReadyReply) (told : List LogEntry) → acts ≡ before ++ Gives d u m reply answer told ∷ after → IsUnanswered u reply.call after
+  once before after d u m answer reply told is e n other later after_told among same =
+      let at = handed_is before after d u m answer reply told is in
+      let none =
+      none_later (handed (acts_of before u)) (handed (acts_of after u)) (reply, answer) (subst AllLast at (all_last acts u fit)) (subst NoneBehind at (none_behind u)) in
+      let again = ap (λ (xs : List ShareAct). handed (acts_of xs u)) among.2 ∙ handed_at among.0 among.1 e u n other later after_told in
+      not_among reply.call (handed (acts_of among.0 u)) (handed (acts_of among.1 u)) (later, other) (subst (NoneTo reply.call) again none) same
+
+  pub never_mixed : NeverMixed acts ends
+  never_mixed = record { own = own; once = once }

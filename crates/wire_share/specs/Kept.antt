@@ -1,0 +1,11 @@
+-- What a downstream keeps to.
+use Rattle.std.specs.Prelude.{◌≡◌, ◌≢◌, [], Option, None}
+use Rattle.wire_msg.specs.{Message}
+use Rattle.wire_peer.specs.{WaitsAt}
+use Rattle.wire_front.specs.{FrontView}
+use Rattle.wire_share.specs.declared.awaited.Awaited.{Awaited}
+
+-- While a reply is awaited its request waits, and nothing is to be sent.
+pub record AreKept (front : FrontView) (awaited : Option Awaited) : Type 0 where
+  pub waits : awaited ≢ None → (m : Message) × WaitsAt front.server 0 m
+  pub all_sent : awaited ≢ None → front.output ≡ []

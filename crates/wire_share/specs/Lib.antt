@@ -1,0 +1,8 @@
+pub mod Kept
+pub mod Sharing
+pub mod Acts
+pub mod Mixing
+pub mod Answering
+-- the words that clauses of other crates cite
+pub use Rattle.wire_share.specs.Sharing.{DownSeen, GiveStep, PassStep, UpSeen, new_downstream}
+pub use Rattle.wire_share.specs.Sharing.{new_upstream}

@@ -1,0 +1,13 @@
+//! Tests of shared connections by what no contract says: that requests are passed on and answered
+//! where memory is there, byte for byte as the Wire Protocol manual has it. They stand in a crate of
+//! their own, since a crate is proved once more with its tests.
+//!
+//! Uses wire_share. Read first: `sharing`.
+#![tactic(auto)]
+
+#[cfg(test)]
+mod passing;
+#[cfg(test)]
+mod share_refusals;
+#[cfg(test)]
+mod sharing;

@@ -1,0 +1,68 @@
+//! A request that is passed on and answered where each allocation is refused in turn.
+
+ghost use Rattle.std.specs.Prelude.{◌≤◌};
+
+use crate::sharing::{ASKED, GIVEN, PASSED, REPLIES};
+use std::alloc::Global;
+use wire_front::{FrontCause, FrontState};
+use wire_peer::{CallRefusal, ServerCause};
+use wire_share::{Downstream, GiveRefusal, PassRefusal, Upstream};
+
+/// Feeds a request, and feeds on where memory was refused, which has to take nothing.
+fn comes(downstream: &mut Downstream) -> bool {
+    let mut taken = 0;
+    for _ in 0..4 {
+        if let Some(rest) = ASKED[0].get(taken..) {
+            taken += downstream.feed(rest).unwrap_or(0);
+        }
+    }
+    downstream.request().is_some()
+}
+
+/// Feeds the reply, and feeds it again where memory was refused, which has to take nothing.
+fn replies(upstream: &mut Upstream) -> bool {
+    if upstream.feed(REPLIES[0]).is_ok() {
+        return upstream.reply().is_some();
+    }
+    upstream.feed(REPLIES[0]) == Ok(33)
+}
+
+/// Returns whether a request is answered; none if memory for a downstream or for its reply is
+/// refused. Where nothing changed by a refusal the same is done again.
+fn is_answered(alloc: Global) -> Option<bool> {
+    let mut upstream = Upstream::new(alloc, 5);
+    let mut downstream = Downstream::new(alloc, 1).ok()?;
+    if !comes(&mut downstream) {
+        return Some(false);
+    }
+    let mut passed = downstream.pass_on(&mut upstream);
+    if passed == Err(PassRefusal::Call(CallRefusal::OutOfMemory)) && upstream.output().is_empty() {
+        passed = downstream.pass_on(&mut upstream);
+    }
+    if passed != Ok(()) || upstream.output() != PASSED[0] || !replies(&mut upstream) {
+        return Some(false);
+    }
+    let mut given = downstream.answer(&mut upstream);
+    if given == Err(GiveRefusal::OutOfMemory) && upstream.reply().is_some() {
+        given = downstream.answer(&mut upstream);
+    }
+    match downstream.state() {
+        FrontState::Closed(FrontCause::Server(ServerCause::NoMemory)) => None,
+        state => {
+            Some(given == Ok(()) && state == FrontState::Open && downstream.output() == GIVEN[0])
+        }
+    }
+}
+
+/// Returns true if the request is answered behind a refused allocation, at the second try at last.
+fn goes_on(alloc: Global) -> bool {
+    match is_answered(alloc) {
+        Some(holds) => holds,
+        None => is_answered(alloc) == Some(true),
+    }
+}
+
+#[test]
+fn a_refused_allocation_loses_no_request(rt: HostRuntime) {
+    assert!(rt; goes_on(rt.alloc()));
+}
