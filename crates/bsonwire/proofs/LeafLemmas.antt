@@ -16,7 +16,7 @@ use Rattle.clap.specs.declared.parser.matches.ValueSource.{ValueSource}
 use Rattle.clap.specs.declared.parser.matches.ValueSource.TheVariants.{DefaultValue}
 use Rattle.bsonwire.specs.CommandLine.{command_line, dump_app, dump_flags, file_app, json_app, json_flags, loop_app, msg_app, msg_flags, proxy_app, salvage_flags, text_flags}
 use Rattle.bsonwire.specs.Choices.{HasCalls, HasFile, HasOptions, HoldsFlag}
-use Rattle.bsonwire.proofs.RowLemmas.{AreGood, Each, IsBoolText, IsCountText, IsGoodRow, IsNumberText, KeepsUse, dump_leaf_keeps, find_holds, good_with, is_flag, json_leaf_keeps, leaf_rules, loop_leaf_keeps, msg_leaf_keeps, no_kind, no_operand, or_nil, proxy_leaf_keeps, salvage_leaf_keeps, settle_good, text_leaf_keeps, walk_good}
+use Rattle.bsonwire.proofs.RowLemmas.{AreGood, Each, IsBoolText, IsCountText, IsGoodRow, IsNumberText, KeepsUse, dump_leaf_keeps, find_holds, good_with, is_flag, is_number, json_leaf_keeps, leaf_rules, loop_leaf_keeps, msg_leaf_keeps, no_kind, no_number, no_operand, or_nil, proxy_leaf_keeps, salvage_leaf_keeps, settle_good, text_leaf_keeps, walk_good}
 
 -- ---- the rows at the end of a walk
 
@@ -63,7 +63,7 @@ flag_is_there name rows flag good = go (has_row name rows) refl
         refl,
         (λ e. (false, refl)),
         (λ e. absurd (no_operand name (codes "calls") flag refl e)),
-        (λ e. absurd (no_operand name (codes "connections") flag refl e)),
+        (λ e. absurd (no_number name flag e)),
       )
           good,
       has_with name AsWritten DefaultValue (codes "false" ∷ []) rows ((bytes_eq-Decides name name).1 refl),
@@ -134,16 +134,19 @@ abbrev proxy_rows : List Row → List Row
 proxy_rows rows =
     let addresses = same_rows (codes "upstream") (same_rows (codes "listen") rows) in
     let flags = with_flag (codes "text") (has_row (codes "text") addresses) addresses in
-    same_rows (codes "help") (same_rows (codes "port-file") (same_rows (codes "connections") flags))
+    let files = same_rows (codes "script") (same_rows (codes "port-file") (same_rows (codes "connections") flags)) in
+    same_rows (codes "help") (same_rows (codes "seed") files)
 
 proxy_is_good : (rows : List Row) → AreGood rows → AreGood (proxy_rows rows)
 proxy_is_good rows good =
     let addresses = same_rows (codes "upstream") (same_rows (codes "listen") rows) in
     let flags = with_flag (codes "text") (has_row (codes "text") addresses) addresses in
     let with_text : AreGood flags = (flag_is_there (codes "text") addresses refl (same_is_good (codes "upstream") (same_rows (codes "listen") rows) (same_is_good (codes "listen") rows good))).0 in
-    let options : AreGood (same_rows (codes "connections") flags) = same_is_good (codes "connections") flags with_text in
-    same_is_good (codes "help") (same_rows (codes "port-file") (same_rows (codes "connections") flags))
-    (same_is_good (codes "port-file") (same_rows (codes "connections") flags) options)
+    let counted = same_rows (codes "connections") flags in
+    let told = same_rows (codes "port-file") counted in
+    let files = same_rows (codes "script") told in
+    let good_files : AreGood files = same_is_good (codes "script") told (same_is_good (codes "port-file") counted (same_is_good (codes "connections") flags with_text)) in
+    same_is_good (codes "help") (same_rows (codes "seed") files) (same_is_good (codes "seed") files good_files)
 
 abbrev IsFound : Text → Row → Type 0
 IsFound id r = (r.id ≡ id) × IsGoodRow r
@@ -165,9 +168,9 @@ calls_found : (o : Option Row) → IfSome o (IsFound (codes "calls")) → option
 calls_found None is given = absurd (true≢false (sym given))
 calls_found (Some r) is given = is.1.2 is.0
 
-number_found : (o : Option Row) → IfSome o (IsFound (codes "connections")) → IsNumberText (option_and_then row_text o)
-number_found None is = tt
-number_found (Some r) is = is.1.3 is.0
+number_found : (name : Text) → is_number name ≡ true → (o : Option Row) → IfSome o (IsFound name) → IsNumberText (option_and_then row_text o)
+number_found name number None is = tt
+number_found name number (Some r) is = is.1.3 (ap is_number is.0 ∙ number)
 
 flag_found : (name : Text) → is_flag name ≡ true → (o : Option Row) → IfSome o (IsFound name) → is_some o ≡ true → IsBoolText (option_and_then row_text o)
 flag_found name flag None is has = absurd (true≢false (sym has))
@@ -303,5 +306,6 @@ proxy_leaf_names words none =
     let given = both_where_unfaulted (is_given (codes "listen") rows) (is_given (codes "upstream") rows) is.1 in (
       value_found (codes "listen") (find (λ r. bytes_eq r.id (codes "listen")) rows) (found (codes "listen") rows good) given.0,
       value_found (codes "upstream") (find (λ r. bytes_eq r.id (codes "upstream")) rows) (found (codes "upstream") rows good) given.1,
-      number_found (find (λ r. bytes_eq r.id (codes "connections")) rows) (found (codes "connections") rows good),
+      number_found (codes "connections") refl (find (λ r. bytes_eq r.id (codes "connections")) rows) (found (codes "connections") rows good),
+      number_found (codes "seed") refl (find (λ r. bytes_eq r.id (codes "seed")) rows) (found (codes "seed") rows good),
     )

@@ -1,8 +1,9 @@
 -- What the words of a subcommand leave in its rows: each has a value, a flag reads true or false, and an N as a number in its range.
-use Rattle.std.proofs.Common.{◌≡◌, ◌∙◌, ℕ, zero, suc, refl, ap, sym, Bool, true, false, cond, ◌&&◌, ◌||◌, List, [], ◌∷◌, ◌++◌, length, drop, map, Option, Some, None, is_some, option_map, codes, true≢false}
+use Rattle.std.proofs.Common.{◌≡◌, ◌∙◌, ℕ, zero, suc, refl, ap, sym, subst, Bool, true, false, cond, ◌&&◌, ◌||◌, List, [], ◌∷◌, ◌++◌, length, drop, map, Option, Some, None, is_some, option_map, codes, true≢false}
 use Rattle.std.specs.Prelude.{⊤, IfSome, if◌then◌else◌, find, fold, pos, slice_get, encode_utf8}
 use Rattle.std.specs.Option.{option_map_or}
 use Rattle.std.specs.Str.{bytes_eq, chars}
+use Rattle.std.proofs.lemmas.Slice.Eq.{bytes_eq-Decides}
 use Rattle.clap.specs.Lexer.{long_of, short_of}
 use Rattle.clap.specs.Values.{IsUnsignedIn, read_as}
 use Rattle.clap.specs.ValueTests.{accepts}
@@ -18,7 +19,7 @@ use Rattle.clap.specs.declared.builder.value_parser.ValueParser.TheVariants.{Sig
 use Rattle.clap.specs.declared.parser.matches.ValueSource.{ValueSource}
 use Rattle.clap.specs.declared.parser.matches.ValueSource.TheVariants.{CommandLine}
 use Rattle.clap.proofs.ValueTestLemmas.{accepts-Accepts}
-use Rattle.bsonwire.specs.CommandLine.{calls_rule, connections_rule, dump_flags, file_rule, flag_rule, json_flags, msg_flags, operand_rule, proxy_rules, salvage_flags, text_flags}
+use Rattle.bsonwire.specs.CommandLine.{calls_rule, dump_flags, file_rule, flag_rule, json_flags, msg_flags, number_rule, operand_rule, proxy_rules, salvage_flags, text_flags}
 use Rattle.bsonwire.specs.Choices.{IsCount}
 use Rattle.bsonwire.proofs.NumberLemmas.{count_text}
 
@@ -67,6 +68,22 @@ is_flag id = bytes_eq id (codes "quiet") || (bytes_eq id (codes "hex") || (bytes
 pub no_operand : (name id : Text) → is_flag name ≡ true → is_flag id ≡ false → name ≡ id → ⊥
 no_operand name id flag operand e = true≢false (sym flag ∙ (ap is_flag e ∙ operand))
 
+-- the name is that of an option which gives a number
+abbrev pub is_number : Text → Bool
+is_number id = bytes_eq id (codes "connections") || bytes_eq id (codes "seed")
+
+-- what holds of both names holds of one of them
+one_of_two : (P : Text → Type 0) (name a b : Text) → (bytes_eq name a || bytes_eq name b) ≡ true → P a → P b → P name
+one_of_two P name a b is pa pb = go (bytes_eq name a) refl is
+  where
+    go : (x : Bool) → bytes_eq name a ≡ x → (x || bytes_eq name b) ≡ true → P name
+    go true e is = subst P (sym ((bytes_eq-Decides name a).0 e)) pa
+    go false e is = subst P (sym ((bytes_eq-Decides name b).0 is)) pb
+
+pub no_number : (name : Text) → is_flag name ≡ true → is_number name ≡ true → ⊥
+no_number name flag number =
+    one_of_two (λ n. is_flag n ≡ true → ⊥) name (codes "connections") (codes "seed") number (λ e. true≢false (sym e)) (λ e. true≢false (sym e)) flag
+
 -- a number from 1 to 100
 abbrev pub IsCountText : Option Text → Type 0
 IsCountText o = (n : ℕ) × IsCount n o
@@ -78,7 +95,7 @@ IsNumberText o = IfSome o (IsUnsignedIn 0 18446744073709551615)
 abbrev pub IsGoodRow : Row → Type 0
 IsGoodRow r = (is_some (slice_get r.values 0) ≡ true)
     × (is_flag r.id ≡ true → IsBoolText (row_text r)) × (r.id ≡ codes "calls" → IsCountText (row_text r))
-    × (r.id ≡ codes "connections" → IsNumberText (row_text r))
+    × (is_number r.id ≡ true → IsNumberText (row_text r))
 
 abbrev pub AreGood : List Row → Type 0
 AreGood = Each IsGoodRow
@@ -155,13 +172,13 @@ built_flag_rule name = filled (flag_rule name)
 
 -- the name is that of an argument which is no flag and no number
 abbrev IsPlainName : Text → Type 0
-IsPlainName name = (is_flag name ≡ false) × (name ≡ codes "calls" → ⊥) × (name ≡ codes "connections" → ⊥)
+IsPlainName name = (is_flag name ≡ false) × (name ≡ codes "calls" → ⊥) × (is_number name ≡ false)
 
 plain_row : (name : Text) (how : Reading) (v : Text) (vs : List Text) (rows : List Row) → IsPlainName name → AreGood rows
     → AreGood (with_values name how CommandLine (v ∷ vs) (without name rows))
 plain_row name how v vs rows is all =
     good_with name how CommandLine (v ∷ vs) (without name rows)
-    (refl, (λ e. absurd (true≢false (sym e ∙ is.0))), (λ e. absurd (is.1 e)), (λ e. absurd (is.2 e)))
+    (refl, (λ e. absurd (true≢false (sym e ∙ is.0))), (λ e. absurd (is.1 e)), (λ e. absurd (true≢false (sym e ∙ is.2))))
     (good_without name rows all)
 
 operand_keeps : (place : ℕ) (name : Text) → IsPlainName name → KeepsUse (built_operand_rule place name)
@@ -172,9 +189,8 @@ option_keeps : (name : Text) → IsPlainName name → KeepsUse (built_file_rule 
 option_keeps name is again [] rows none all = absurd (no_kind _ refl none)
 option_keeps name is again (v ∷ vs) rows none all = plain_row name (reading_by (built_file_rule name)) v vs rows is all
 
-plain_name : (name : Text) → is_flag name ≡ false → bytes_eq name name ≡ true → bytes_eq name (codes "calls") ≡ false → bytes_eq name (codes "connections") ≡ false
-    → IsPlainName name
-plain_name name flag same calls connections = (flag, is_other name (codes "calls") same calls, is_other name (codes "connections") same connections)
+plain_name : (name : Text) → is_flag name ≡ false → bytes_eq name name ≡ true → bytes_eq name (codes "calls") ≡ false → is_number name ≡ false → IsPlainName name
+plain_name name flag same calls number = (flag, is_other name (codes "calls") same calls, number)
 
 file_keeps : KeepsUse (built_operand_rule 1 (codes "file"))
 file_keeps = operand_keeps 1 (codes "file") (plain_name (codes "file") refl refl refl refl)
@@ -188,7 +204,7 @@ flag_keeps name flag again [] rows none all =
       refl,
       (λ e. (true, refl)),
       (λ e. absurd (no_operand name (codes "calls") flag refl e)),
-      (λ e. absurd (no_operand name (codes "connections") flag refl e)),
+      (λ e. absurd (no_number name flag e)),
     )
     (good_without name rows all)
 flag_keeps name flag again (v ∷ vs) rows none all = absurd (no_values (length vs) (or_nil (range_kinds 0 0 (length (v ∷ vs))) _ none).0)
@@ -210,29 +226,29 @@ calls_keeps again (v ∷ vs) rows none all =
       refl,
       (λ e. absurd (true≢false (sym e))),
       (λ e. count_text v (accepted _ _ first.0)),
-      (λ e. absurd (is_other (codes "calls") (codes "connections") refl refl e)),
+      (λ e. absurd (true≢false (sym e))),
     )
     (good_without (codes "calls") rows all)
 
-abbrev built_connections_rule : Rule
-built_connections_rule = filled connections_rule
+abbrev built_number_rule : Text → Rule
+built_number_rule name = filled (number_rule name)
 
 number_text : (v : Text) → accepts false (Unsigned 0 18446744073709551615) v ≡ true → IsUnsignedIn 0 18446744073709551615 v
 number_text v is = accepts-Accepts false (Unsigned 0 18446744073709551615) v is
 
-connections_keeps : KeepsUse built_connections_rule
-connections_keeps again [] rows none all = absurd (no_kind _ refl none)
-connections_keeps again (v ∷ vs) rows none all =
+number_keeps : (name : Text) → is_flag name ≡ false → bytes_eq name name ≡ true → bytes_eq name (codes "calls") ≡ false → KeepsUse (built_number_rule name)
+number_keeps name flag same calls again [] rows none all = absurd (no_kind _ refl none)
+number_keeps name flag same calls again (v ∷ vs) rows none all =
     let used = or_nil (range_kinds 1 1 (length (v ∷ vs))) _ none in
-    let set = or_nil (repeat_fault again (codes "connections") rows) _ used.1 in
+    let set = or_nil (repeat_fault again name rows) _ used.1 in
     let first = or_nil (value_kinds false (Unsigned 0 18446744073709551615) v) _ set.1 in
-    good_with (codes "connections") (reading_by built_connections_rule) CommandLine (v ∷ vs) (without (codes "connections") rows) (
+    good_with name (reading_by (built_number_rule name)) CommandLine (v ∷ vs) (without name rows) (
       refl,
-      (λ e. absurd (true≢false (sym e))),
-      (λ e. absurd (is_other (codes "connections") (codes "calls") refl refl e)),
+      (λ e. absurd (true≢false (sym e ∙ flag))),
+      (λ e. absurd (is_other name (codes "calls") same calls e)),
       (λ e. number_text v (accepted _ _ first.0)),
     )
-    (good_without (codes "connections") rows all)
+    (good_without name rows all)
 
 help_keeps : KeepsUse (filled help_rule)
 help_keeps again values rows none all = all
@@ -278,7 +294,16 @@ proxy_leaf_keeps = (
     operand_keeps 2 (codes "upstream") (plain_name (codes "upstream") refl refl refl refl),
     (
       flag_keeps (codes "text") refl,
-      (connections_keeps, (option_keeps (codes "port-file") (plain_name (codes "port-file") refl refl refl refl), (help_keeps, tt))),
+      (
+        number_keeps (codes "connections") refl refl refl,
+        (
+          option_keeps (codes "port-file") (plain_name (codes "port-file") refl refl refl refl),
+          (
+            option_keeps (codes "script") (plain_name (codes "script") refl refl refl refl),
+            (number_keeps (codes "seed") refl refl refl, (help_keeps, tt)),
+          ),
+        ),
+      ),
     ),
   ),
 )

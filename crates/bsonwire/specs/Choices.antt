@@ -90,18 +90,26 @@ IsCount n found = (text : Text) × (found ≡ Some text) × IsNumber n text × (
 abbrev pub HoldsCalls : ℕ → List Row → Type 0
 HoldsCalls n rows = IsCount n (one_of (codes "calls") rows)
 
--- the number of connections is that of the text; without a text it is the greatest number
-abbrev pub AsksFor : ℕ → Option Text → Type 0
-AsksFor n None = n ≡ 18446744073709551615
-AsksFor n (Some text) = IsNumber n text
+-- there is a number where there is a text, and it is that of the text
+abbrev pub AsksFor : Option ℕ → Option Text → Type 0
+AsksFor given None = given ≡ None
+AsksFor None (Some text) = ⊥
+AsksFor (Some n) (Some text) = IsNumber n text
+
+-- the number is that of the text; without a text it is the greatest number
+abbrev pub AsksForMany : ℕ → Option Text → Type 0
+AsksForMany n None = n ≡ 18446744073709551615
+AsksForMany n (Some text) = IsNumber n text
 
 -- they hold what a proxy is to do
 pub record HoldsOptions (o : Options) (rows : List Row) : Type 0 where
   pub listen : first_of (codes "listen") rows ≡ Some o.listen.now
   pub upstream : first_of (codes "upstream") rows ≡ Some o.upstream.now
   pub text : o.text ≡ was_given (codes "text") rows
-  pub connections : AsksFor o.connections (one_of (codes "connections") rows)
+  pub connections : AsksForMany o.connections (one_of (codes "connections") rows)
   pub port_file : option_map (λ file. file.now) o.port_file ≡ first_of (codes "port-file") rows
+  pub script : option_map (λ file. file.now) o.script ≡ first_of (codes "script") rows
+  pub seed : AsksFor o.seed (one_of (codes "seed") rows)
 
 -- ---- the choice
 
@@ -191,16 +199,16 @@ NamesCommand name rows = (c : Command) × IsCommand c name rows
 abbrev pub HasCalls : List Row → Type 0
 HasCalls rows = (n : ℕ) × HoldsCalls n rows
 
--- if they hold an N of `--connections`, it is a number of 64 bits
-abbrev pub HasConnections : List Row → Type 0
-HasConnections rows =
-    IfSome (one_of (codes "connections") rows) (IsUnsignedIn 0 18446744073709551615)
+-- if they hold what the option of this name gives, it is a number of 64 bits
+abbrev pub HasNumber : Text → List Row → Type 0
+HasNumber name rows = IfSome (one_of name rows) (IsUnsignedIn 0 18446744073709551615)
 
--- they hold the two addresses of a proxy, and a number of connections if one was given
+-- they hold the two addresses of a proxy, and numbers where options give these
 abbrev pub HasOptions : List Row → Type 0
 HasOptions rows =
     (is_some (first_of (codes "listen") rows) ≡ true)
-    × (is_some (first_of (codes "upstream") rows) ≡ true) × HasConnections rows
+    × (is_some (first_of (codes "upstream") rows) ≡ true)
+    × HasNumber (codes "connections") rows × HasNumber (codes "seed") rows
 
 -- the subcommand with this name reads an input, which its matches hold beside `--quiet`; or it is
 -- `loop`, and they hold the number of calls; or `proxy`, and they hold what that is to do

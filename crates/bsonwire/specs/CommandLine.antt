@@ -21,10 +21,9 @@ flag_rule id = record (new_rule id) { long = Some id; action = Some SetTrue }
 abbrev pub file_rule : Text → Rule
 file_rule id = record (new_rule id) { long = Some id; action = Some Set; value_names = 1 }
 
--- the option `--connections N`, a number of 64 bits
-abbrev pub connections_rule : Rule
-connections_rule =
-    record (file_rule (codes "connections")) { parser = Some (Unsigned 0 18446744073709551615) }
+-- an option that gives a number of 64 bits
+abbrev pub number_rule : Text → Rule
+number_rule id = record (file_rule id) { parser = Some (Unsigned 0 18446744073709551615) }
 
 -- a subcommand that reads a file, with these flags
 abbrev pub file_app : Text → List Text → App
@@ -92,17 +91,21 @@ loop_app = with_rule (new_app (codes "loop")) calls_rule
 abbrev pub address_rules : List Rule
 address_rules = operand_rule (codes "listen") ∷ operand_rule (codes "upstream") ∷ []
 
--- its options
+-- its options, and those of the faults that it makes
 abbrev pub option_rules : List Rule
 option_rules =
-    flag_rule (codes "text") ∷ connections_rule ∷ file_rule (codes "port-file") ∷ []
+    flag_rule (codes "text") ∷ number_rule (codes "connections") ∷ file_rule (codes "port-file")
+    ∷ []
+
+abbrev pub fault_rules : List Rule
+fault_rules = file_rule (codes "script") ∷ number_rule (codes "seed") ∷ []
 
 -- the subcommand that passes connections to a server and back, with these arguments
 abbrev pub proxy_with : List Rule → App
 proxy_with rules = fold (λ a rule. with_rule a rule) (new_app (codes "proxy")) rules
 
 abbrev pub proxy_rules : List Rule
-proxy_rules = address_rules ++ option_rules
+proxy_rules = address_rules ++ option_rules ++ fault_rules
 
 abbrev pub proxy_app : App
 proxy_app = proxy_with proxy_rules

@@ -29,12 +29,13 @@ tells_fault status = status == 1
 
 -- ---- words
 
--- the status of what was chosen: that of an end, and of calls or of a proxy, that of an end
--- without a fault
+-- the status of what was chosen: that of an end, and of calls, that of an end without a fault; of a
+-- proxy also 2, for a script at fault
 abbrev pub IsStatusFor : Choice → ℕ → Type 0
 IsStatusFor (Over command file quiet) status = (end : RunEnd) × (status ≡ exit_status end)
 IsStatusFor (Loop calls) status = (end : RunEnd) × (end ≢ Fault) × (status ≡ exit_status end)
-IsStatusFor (Proxy options) status = (end : RunEnd) × (end ≢ Fault) × (status ≡ exit_status end)
+IsStatusFor (Proxy options) status =
+    (status ≡ 2) ⊎ ((end : RunEnd) × (end ≢ Fault) × (status ≡ exit_status end))
 
 -- memory ran out, or the words have a fault of this kind
 abbrev pub MayRefuse : ErrorKind → Kinds → Type 0

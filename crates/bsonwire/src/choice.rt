@@ -4,7 +4,7 @@ ghost use Rattle.std.specs.Prelude.{◌≡◌, IfErr, IfOk, IsErrAnd, IsOk, Some
 ghost use Rattle.std.specs.Prelude.{false, true, Bool, codes, option_map};
 ghost use Rattle.clap.specs.Words.{FailsBy, first_of, found_of, one_of, rows_of};
 ghost use Rattle.clap.specs.Words.{subcommand_rows_of};
-ghost use Rattle.bsonwire.specs.Choices.{AsksFor, HasConnections, HasOptions, HoldsOptions};
+ghost use Rattle.bsonwire.specs.Choices.{AsksFor, AsksForMany, HasNumber, HasOptions, HoldsOptions};
 ghost use Rattle.bsonwire.specs.Choices.{HasCalls, HasFile, HasQuiet, HoldsCalls, HoldsFlag};
 ghost use Rattle.bsonwire.specs.Choices.{HoldsForm, HoldsMessageForm, HoldsReading, IsChosen};
 ghost use Rattle.bsonwire.specs.Choices.{IsCommand, IsMetSubcommand, IsSubcommand, MayChoose};
@@ -165,13 +165,21 @@ fn calls_of(matches: &ArgMatches<'_>) -> u8
     }
 }
 
+/// Returns the number that the option of this name gives, if it was given.
+fn number_of(matches: &ArgMatches<'_>, name: &str) -> Option<u64>
+    requires { HasNumber name.now (rows_of (found_of matches.now)) }
+    ensures { AsksFor result (one_of name.now (rows_of (found_of matches.now))) }
+{
+    matches.get_one::<u64>(name)
+}
+
 /// Returns the number of connections that `--connections` asks for, or the greatest number if it
 /// wasn't given.
 fn connections_of(matches: &ArgMatches<'_>) -> u64
-    requires { HasConnections (rows_of (found_of matches.now)) }
-    ensures { AsksFor result (one_of (codes "connections") (rows_of (found_of matches.now))) }
+    requires { HasNumber (codes "connections") (rows_of (found_of matches.now)) }
+    ensures { AsksForMany result (one_of (codes "connections") (rows_of (found_of matches.now))) }
 {
-    match matches.get_one::<u64>("connections") {
+    match number_of(matches, "connections") {
         Some(connections) => connections,
         None => u64::MAX,
     }
@@ -196,6 +204,8 @@ fn options_of<'a>(matches: &ArgMatches<'a>) -> Options<'a>
         text: is_given(matches, "text"),
         connections: connections_of(matches),
         port_file: file_of(matches, "port-file"),
+        script: file_of(matches, "script"),
+        seed: number_of(matches, "seed"),
     }
 }
 

@@ -1,14 +1,15 @@
 //! Describes the command line to `clap`: the subcommands, their operands and their flags.
-ghost use Rattle.std.specs.Prelude.{◌≡◌, IfOk, codes, false};
+ghost use Rattle.std.specs.Prelude.{◌≡◌, ◌++◌, IfOk, codes, false};
 ghost use Rattle.clap.specs.Words.{app_of, kind_of, rule_of};
 ghost use Rattle.clap.specs.declared.builder.command.Command.TheViews.{out-Command};
-ghost use Rattle.bsonwire.specs.CommandLine.{address_rules, proxy_with};
+ghost use Rattle.bsonwire.specs.CommandLine.{address_rules, option_rules, proxy_with};
 ghost use Rattle.bsonwire.specs.CommandLine.{bson_app, bytes_flags, calls_rule, canon_app};
 ghost use Rattle.bsonwire.specs.CommandLine.{check_app, check_line, command_line};
-ghost use Rattle.bsonwire.specs.CommandLine.{connections_rule, dump_app, ending_line, file_app};
+ghost use Rattle.bsonwire.specs.CommandLine.{dump_app, ending_line, file_app};
 ghost use Rattle.bsonwire.specs.CommandLine.{file_line, file_rule, flag_rule, json_app, json_line};
-ghost use Rattle.bsonwire.specs.CommandLine.{loop_app, msg_app, operand_rule, play_app};
-ghost use Rattle.bsonwire.specs.CommandLine.{proxy_app, salvage_flags, text_flags, top_app};
+ghost use Rattle.bsonwire.specs.CommandLine.{loop_app, msg_app, number_rule, operand_rule};
+ghost use Rattle.bsonwire.specs.CommandLine.{play_app, proxy_app, salvage_flags, text_flags};
+ghost use Rattle.bsonwire.specs.CommandLine.{top_app};
 
 use clap::error::ErrorKind;
 use clap::{Arg, ArgAction, Command, Error, value_parser};
@@ -61,15 +62,15 @@ fn file_option<'a>(alloc: Global, name: &'a str, help: &'a str) -> Arg<'a>
         .action(ArgAction::Set)
 }
 
-/// Makes the option `--connections N`.
-fn connections_option<'a>(alloc: Global) -> Arg<'a>
-    ensures rule { rule_of result ≡ connections_rule }
+/// Makes the option of this name that gives a number, which help shows as `shown`.
+fn number_option<'a>(alloc: Global, name: &'a str, shown: &'a str, help: &'a str) -> Arg<'a>
+    ensures rule { rule_of result ≡ number_rule name.entry.now }
     ensures local { result.global ≡ false }
 {
-    Arg::new(alloc, "connections")
-        .long("connections")
-        .value_name("N")
-        .help("End after this many connections; without it the proxy goes on")
+    Arg::new(alloc, name)
+        .long(name)
+        .value_name(shown)
+        .help(help)
         .action(ArgAction::Set)
         .value_parser(value_parser!(u64))
 }
@@ -244,16 +245,29 @@ fn addresses_command<'a>(alloc: Global) -> Result<Command<'a>, AllocError>
         .arg(operand(alloc, "upstream", "UPSTREAM", upstream))
 }
 
+/// Makes the subcommand `proxy` without the faults that it makes.
+fn showing_command<'a>(alloc: Global) -> Result<Command<'a>, AllocError>
+    ensures app { IfOk result (λ c. app_of c ≡ proxy_with (address_rules ++ option_rules)) }
+    ensures local { IfOk result (λ c. (out-Command c).has_globals ≡ false) }
+{
+    let count = "End after this many connections; without it the proxy goes on";
+    let port = "Write the port and a line feed to FILE once the proxy listens";
+    addresses_command(alloc)?
+        .arg(flag(alloc, "text", "Write the text of each message"))?
+        .arg(number_option(alloc, "connections", "N", count))?
+        .arg(file_option(alloc, "port-file", port))
+}
+
 /// Makes the subcommand that passes connections to a server and back.
 fn proxy_command<'a>(alloc: Global) -> Result<Command<'a>, AllocError>
     ensures app { IfOk result (λ c. app_of c ≡ proxy_app) }
     ensures local { IfOk result (λ c. (out-Command c).has_globals ≡ false) }
 {
-    let port = "Write the port and a line feed to FILE once the proxy listens";
-    addresses_command(alloc)?
-        .arg(flag(alloc, "text", "Write the text of each message"))?
-        .arg(connections_option(alloc))?
-        .arg(file_option(alloc, "port-file", port))
+    let script = "Do with requests and their replies what the rules of FILE say";
+    let seed = "Cut each connection behind a number of bytes that is drawn from S";
+    showing_command(alloc)?
+        .arg(file_option(alloc, "script", script))?
+        .arg(number_option(alloc, "seed", "S", seed))
 }
 
 /// Makes the command line without subcommands.

@@ -13,12 +13,12 @@ ghost use Rattle.engines.specs.{is_done, is_fault, loop_text};
 
 use crate::choice::{Choice, Command, Reading};
 use crate::progress::Progress;
-use command_words::{IN_OUT, MEMORY};
+use command_words::{IN_OUT, MEMORY, USAGE};
 use engines::{
     RunEnd, TextStop, end_of, run_any, run_bson, run_canon, run_check, run_dump, run_json,
     run_loop, run_msg, run_play, salvage_canon, salvage_check,
 };
-use proxy::Options;
+use proxy::{Options, ProxyFault};
 use std::alloc::Global;
 use std::fs::OpenFile;
 use std::io::{ErrorKind, Read, Write};
@@ -268,8 +268,12 @@ fn tell_loop(rt: &impl Eprint, end: RunEnd) -> u8
 
 /// Passes connections to a server and back, and returns the exit status. If that stopped early,
 /// standard error says why.
-fn proxy_status<R: Files + Net + Print + Eprint + AllocGlobal>(rt: &R, options: Options<'_>) -> u8
-    ensures { (end : RunEnd) × (end ≢ RunEnd.Fault) × (result ≡ exit_status end) }
+fn proxy_status<R: Files + Net + Clock + Print + Eprint + AllocGlobal>(
+    rt: &R,
+    options: Options<'_>,
+) -> u8
+    ensures { (result ≡ 2)
+        ⊎ ((end : RunEnd) × (end ≢ RunEnd.Fault) × (result ≡ exit_status end)) }
 {
     let Options {
         listen,
@@ -278,7 +282,11 @@ fn proxy_status<R: Files + Net + Print + Eprint + AllocGlobal>(rt: &R, options: 
     } = options;
     match proxy::run(rt, rt.alloc(), options, io::writer(rt)) {
         Ok(()) => status_of(RunEnd::Good),
-        Err(error) => {
+        Err(ProxyFault::Script(fault)) => {
+            let _ = eprintln!(rt; "bsonwire: the script is at fault: {fault}");
+            USAGE
+        }
+        Err(ProxyFault::Io(error)) => {
             let _ = eprintln!(rt; "bsonwire: proxy from {listen:?} to {upstream:?}: {error}");
             status_of(end_of(&error))
         }

@@ -13,4 +13,8 @@ pub struct Options<'a> {
     pub connections: u64,
     /// The file to write the port to.
     pub port_file: Option<&'a str>,
+    /// The file of the script.
+    pub script: Option<&'a str>,
+    /// From what it is drawn where connections are cut.
+    pub seed: Option<u64>,
 }

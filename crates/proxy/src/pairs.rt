@@ -1,55 +1,27 @@
-//! The pairs of connections, and their turns.
+//! The pairs of connections, by their keys.
 
+use crate::chance::drawn_cut;
+use crate::ending::Ending;
+use crate::held_link::HeldLink;
+use crate::pair::{Outcome, Pair, Shown};
 use crate::socket::Socket;
-use crate::watch::{Direction, Watch};
+use crate::watch::Direction;
 use slab::Slab;
 use std::alloc::{AllocError, Global};
 use std::collections::VecDeque;
 use std::io;
 use std::io::{ErrorKind, Write};
-use wire_relay::{NoTap, Relay, RelayFault, Turned};
+use std::time::{Clock, Duration};
+use test_script::{Delays, Script};
 
-/// The most steps of a turn.
-const STEPS: u32 = 16;
+/// The most pairs at once.
+pub const ROOM: usize = 1024;
 
-/// What shows the messages of a connection.
+/// The faults that are made: none, or those of a script, and cuts that are drawn from a seed.
 #[derive(Drop)]
-struct Shown {
-    number: u64,
-    there: Watch,
-    back: Watch,
-}
-
-/// Two connections between which bytes are passed, and what shows them, if they are shown.
-#[derive(Drop)]
-struct Pair {
-    relay: Relay<Socket, Socket>,
-    shown: Option<Shown>,
-}
-
-impl Pair {
-    /// Takes a turn, and writes the messages that passed and are whole, if they are shown.
-    fn turn<W: Write>(&mut self, out: &mut W) -> io::Result<Result<Turned, RelayFault>> {
-        let Some(shown) = &mut self.shown else {
-            return Ok(self.relay.turn(STEPS, &mut NoTap, &mut NoTap));
-        };
-        let turned = self.relay.turn(STEPS, &mut shown.there, &mut shown.back);
-        shown.there.show(out)?;
-        shown.back.show(out)?;
-        Ok(turned)
-    }
-
-    /// Writes how the connection ended, if it is shown.
-    fn write_end<W: Write>(&self, fault: Option<RelayFault>, out: &mut W) -> io::Result<()> {
-        let Some(shown) = &self.shown else {
-            return Ok(());
-        };
-        let number = shown.number;
-        match fault {
-            None => writeln!(out, "{number} ended"),
-            Some(fault) => writeln!(out, "{number} failed: {fault}"),
-        }
-    }
+pub struct Faults {
+    pub script: Option<Script>,
+    pub seed: Option<u64>,
 }
 
 /// The pairs of connections, by their keys.
@@ -59,6 +31,9 @@ pub struct Pairs {
     pairs: Slab<Pair>,
     /// Their messages are shown.
     text: bool,
+    faults: Faults,
+    /// The pairs of which a request is held.
+    delays: Delays,
     /// The keys of those whose turns ended before there was nothing to do, each once.
     again: VecDeque<usize>,
     /// How many were opened, counted up to 2^64 - 1.
@@ -69,11 +44,13 @@ pub struct Pairs {
 
 impl Pairs {
     /// Begins without pairs, whose messages are shown if `text` is true. It takes no memory.
-    pub fn new(alloc: Global, text: bool) -> Pairs {
+    pub fn new(alloc: Global, text: bool, faults: Faults) -> Pairs {
         Pairs {
             alloc,
             pairs: Slab::new(alloc),
             text,
+            faults,
+            delays: Delays::new(alloc),
             again: VecDeque::new(alloc),
             opened: 0,
             ended: 0,
@@ -100,16 +77,23 @@ impl Pairs {
         self.pairs.vacant_key()
     }
 
-    /// Returns what shows the messages of the connection of this number, if they are shown.
-    fn shown(&self, number: u64) -> Option<Shown> {
-        if !self.text {
-            return None;
+    /// Returns the link over a socket of the connection of this number. Bytes that come over it go
+    /// this way.
+    fn link(
+        &self,
+        number: u64,
+        socket: Socket,
+        direction: Direction,
+    ) -> Result<HeldLink<Socket>, AllocError> {
+        let left = match self.faults.seed {
+            Some(seed) => drawn_cut(seed, number).left(direction),
+            None => u64::MAX,
+        };
+        let mut link = HeldLink::new(self.alloc, socket, left);
+        if self.faults.script.is_some() {
+            link.hold(self.alloc)?;
         }
-        Some(Shown {
-            number,
-            there: Watch::new(self.alloc, number, Direction::There),
-            back: Watch::new(self.alloc, number, Direction::Back),
-        })
+        Ok(link)
     }
 
     /// Passes bytes between two connections from now on, and writes that they are new, if they are
@@ -119,13 +103,19 @@ impl Pairs {
     ///
     /// Returns an error if memory runs out, where both are closed, or if writing fails.
     pub fn open<W: Write>(&mut self, near: Socket, far: Socket, out: &mut W) -> io::Result<()> {
-        let relay = Relay::new(self.alloc, near, far)?;
         let number = self.opened.saturating_add(1);
-        let shown = self.shown(number);
-        if shown.is_some() {
+        let near = self.link(number, near, Direction::There)?;
+        let far = self.link(number, far, Direction::Back)?;
+        let shown = if self.text {
+            Some(Shown::new(self.alloc, number))
+        } else {
+            None
+        };
+        let pair = Pair::new(self.alloc, number, near, far, shown)?;
+        if self.text {
             writeln!(out, "{number} new")?;
         }
-        let _ = self.pairs.insert(Pair { relay, shown })?;
+        let _ = self.pairs.insert(pair)?;
         self.opened = number;
         Ok(())
     }
@@ -156,16 +146,12 @@ impl Pairs {
         Ok(())
     }
 
-    /// Closes both connections of a pair, of which all was passed on, or one failed for this reason.
-    fn close<W: Write>(
-        &mut self,
-        key: usize,
-        fault: Option<RelayFault>,
-        out: &mut W,
-    ) -> io::Result<()> {
+    /// Closes both connections of a pair, which ended so.
+    fn close<W: Write>(&mut self, key: usize, ending: Ending, out: &mut W) -> io::Result<()> {
         self.ended = self.ended.saturating_add(1);
+        self.delays.forget(key);
         match self.pairs.try_remove(key) {
-            Some(pair) => pair.write_end(fault, out),
+            Some(pair) => pair.write_end(ending, out),
             None => Ok(()),
         }
     }
@@ -174,31 +160,64 @@ impl Pairs {
     ///
     /// # Errors
     ///
-    /// Returns an error if memory runs out or writing fails.
-    pub fn turn<W: Write>(&mut self, key: usize, out: &mut W) -> io::Result<()> {
+    /// Returns an error if memory runs out, writing fails, or the clock can't be read.
+    pub fn turn<W: Write>(
+        &mut self,
+        clock: &impl Clock,
+        key: usize,
+        out: &mut W,
+    ) -> io::Result<()> {
         let Some(pair) = self.pairs.get_mut(key) else {
             return Ok(());
         };
-        match pair.turn(out)? {
-            Ok(Turned::Again) => Ok(self.take_up(key)?),
-            Ok(Turned::Waits) => Ok(()),
-            Ok(Turned::Over) => self.close(key, None, out),
-            Err(fault) => self.close(key, Some(fault), out),
+        match pair.turn(self.faults.script.as_mut(), out)? {
+            Outcome::Again => Ok(self.take_up(key)?),
+            Outcome::Waits => Ok(()),
+            Outcome::Held(millis) => {
+                self.delays.hold(clock, key, millis)?;
+                Ok(self.take_up(key)?)
+            }
+            Outcome::Over(ending) => self.close(key, ending, out),
         }
     }
 
-    /// Has each pair take another turn that isn't done.
+    /// Has each pair take another turn that isn't done, or of which a request was held for long
+    /// enough.
     ///
     /// # Errors
     ///
-    /// Returns an error if memory runs out or writing fails.
-    pub fn turn_again<W: Write>(&mut self, out: &mut W) -> io::Result<()> {
+    /// Returns an error if memory runs out, writing fails, or the clock can't be read.
+    pub fn turn_again<W: Write>(&mut self, clock: &impl Clock, out: &mut W) -> io::Result<()> {
+        self.release(clock)?;
         let due = self.again.len();
         for _ in 0..due {
             if let Some(key) = self.again.pop_front() {
-                self.turn(key, out)?;
+                self.turn(clock, key, out)?;
             }
         }
         Ok(())
+    }
+
+    /// Lets each request go on that was held for long enough.
+    fn release(&mut self, clock: &impl Clock) -> io::Result<()> {
+        for _ in 0..ROOM {
+            let Some(key) = self.delays.take_due(clock)? else {
+                break;
+            };
+            if let Some(pair) = self.pairs.get_mut(key) {
+                pair.release();
+            }
+            self.take_up(key)?;
+        }
+        Ok(())
+    }
+
+    /// Returns in how long the first request goes on that is held, if one is.
+    ///
+    /// # Errors
+    ///
+    /// Returns an error if the clock can't be read.
+    pub fn least_delay(&self, clock: &impl Clock) -> io::Result<Option<Duration>> {
+        self.delays.least(clock)
     }
 }

@@ -1,7 +1,7 @@
 //! Accepts connections, and passes their bytes to a server and back.
 
 use crate::options::Options;
-use crate::pairs::Pairs;
+use crate::pairs::{Faults, Pairs, ROOM};
 use crate::socket::Socket;
 use mio::net::{TcpListener, TcpStream};
 use mio::{Events, Interest, Poll, Token};
@@ -9,13 +9,10 @@ use std::alloc::Global;
 use std::io;
 use std::io::{ErrorKind, Write};
 use std::net::{Net, SocketAddr};
-use std::time::Duration;
+use std::time::{Clock, Duration};
 
 /// The token of the listener. Those of the connections of a pair are twice its key, and one more.
 const LISTENER: Token = Token(usize::MAX);
-
-/// The most pairs at once. More connections wait at the listener.
-const ROOM: usize = 1024;
 
 /// The most connections that are accepted at once, before others take turns.
 const ACCEPTS: usize = 16;
@@ -59,6 +56,7 @@ impl Proxy {
         listener: TcpListener,
         upstream: SocketAddr,
         options: Options<'_>,
+        faults: Faults,
     ) -> io::Result<Proxy> {
         let poll = Poll::new(net)?;
         let mut listener = listener;
@@ -69,7 +67,7 @@ impl Proxy {
             poll,
             listener,
             upstream,
-            pairs: Pairs::new(alloc, options.text),
+            pairs: Pairs::new(alloc, options.text, faults),
             ready: true,
             pausing: false,
             wanted: options.connections,
@@ -139,31 +137,38 @@ impl Proxy {
     }
 
     /// Has each pair of which these events are take a turn.
-    fn take_turns<W: Write>(&mut self, events: &Events<Global>, out: &mut W) -> io::Result<()> {
+    fn take_turns<W: Write>(
+        &mut self,
+        clock: &impl Clock,
+        events: &Events<Global>,
+        out: &mut W,
+    ) -> io::Result<()> {
         for event in events.iter() {
             match event.token() {
                 LISTENER => self.ready = true,
-                Token(token) => self.pairs.turn(token / 2, out)?,
+                Token(token) => self.pairs.turn(clock, token / 2, out)?,
             }
         }
         Ok(())
     }
 
-    /// Returns how long events are waited for: not at all if there is more to do, and for a pause
-    /// if accepting failed.
-    fn timeout(&self) -> Option<Duration> {
+    /// Returns how long events are waited for: not at all if there is more to do, for a pause if
+    /// accepting failed, and no longer than a request is held.
+    fn timeout(&self, clock: &impl Clock) -> io::Result<Option<Duration>> {
         if self.ready || self.pairs.has_more() {
-            Some(Duration::from_millis(0))
-        } else if self.pausing {
-            Some(Duration::from_millis(PAUSE))
-        } else {
-            None
+            return Ok(Some(Duration::from_millis(0)));
         }
+        let held = self.pairs.least_delay(clock)?;
+        if self.pausing {
+            let pause = Duration::from_millis(PAUSE);
+            return Ok(Some(held.map_or(pause, |held| held.min(pause))));
+        }
+        Ok(held)
     }
 
     /// Waits for events.
-    fn wait(&mut self, events: &mut Events<Global>) -> io::Result<()> {
-        let timeout = self.timeout();
+    fn wait(&mut self, clock: &impl Clock, events: &mut Events<Global>) -> io::Result<()> {
+        let timeout = self.timeout(clock)?;
         match self.poll.poll(events, timeout) {
             Ok(()) => {}
             Err(error) if error.kind() == ErrorKind::Interrupted => {}
@@ -181,23 +186,23 @@ impl Proxy {
     /// # Errors
     ///
     /// Returns an error if waiting or writing fails, or memory runs out.
-    pub fn serve_some<W: Write>(
+    pub fn serve_some<R: Net + Clock, W: Write>(
         &mut self,
-        net: &impl Net,
+        rt: &R,
         events: &mut Events<Global>,
         out: &mut W,
     ) -> io::Result<()> {
         out.flush()?;
-        self.wait(events)?;
+        self.wait(rt, events)?;
         let ended = self.pairs.ended();
-        self.pairs.turn_again(out)?;
-        self.take_turns(events, out)?;
+        self.pairs.turn_again(rt, out)?;
+        self.take_turns(rt, events, out)?;
         // Where a pair ended there is room for a connection that waits.
         if self.pairs.ended() != ended {
             self.ready = true;
         }
         if self.ready {
-            self.accept_some(net, out)?;
+            self.accept_some(rt, out)?;
         }
         Ok(())
     }

@@ -6,7 +6,7 @@ use engines::write_frame;
 use std::alloc::Global;
 use std::io;
 use std::io::{ErrorKind, Write};
-use wire_frame::{FrameFront, FrameReader};
+use wire_frame::{FrameFront, FrameReader, RawFrame};
 use wire_msg::MAX_MESSAGE_LEN;
 use wire_relay::Tap;
 
@@ -27,6 +27,26 @@ impl Direction {
             Direction::Back => '<',
         }
     }
+
+    /// Returns the word for it.
+    pub fn word(self) -> &'static str {
+        match self {
+            Direction::There => "there",
+            Direction::Back => "back",
+        }
+    }
+}
+
+/// Writes the text of a message that goes this way on the connection of this number.
+pub fn write_message<W: Write>(
+    alloc: Global,
+    number: u64,
+    direction: Direction,
+    frame: RawFrame<'_>,
+    out: &mut W,
+) -> io::Result<()> {
+    write!(out, "{number} {} ", direction.sign())?;
+    write_frame(alloc, frame, 0, out)
 }
 
 /// The bytes that passed on one way of a connection, which are shown message by message.
@@ -73,15 +93,13 @@ impl Watch {
     /// true if there was one of these.
     fn write_front<W: Write>(&mut self, out: &mut W) -> io::Result<bool> {
         let number = self.number;
-        let sign = self.direction.sign();
         match self.reader.front() {
             FrameFront::Open { .. } => return Ok(false),
             FrameFront::Whole { frame, .. } => {
-                write!(out, "{number} {sign} ")?;
-                write_frame(self.alloc, frame, 0, out)?;
+                write_message(self.alloc, number, self.direction, frame, out)?;
             }
             FrameFront::Bad(fault) => {
-                writeln!(out, "{number} {sign} {fault}")?;
+                writeln!(out, "{number} {} {fault}", self.direction.sign())?;
                 self.over = true;
             }
         }

@@ -3,7 +3,7 @@ use Rattle.std.proofs.Common.{◌≡◌, Option, Some, None, Ok, Err, refl, sym,
 use Rattle.std.specs.Prelude.{option_map}
 use Rattle.bson_elem.specs.declared.kinds.Kind.TheVariants as kinds
 use Rattle.bson_elem.specs.{Tree, no_code}
-use Rattle.bson_raw.specs.{TreeValue, document_value}
+use Rattle.bson_raw.specs.{document_value}
 use Rattle.doc_query.specs.declared.failure.CommandError.{CommandError}
 use Rattle.doc_query.specs.{body_of, or_error, owned}
 use Rattle.test_script.specs.Rules.{body_value}

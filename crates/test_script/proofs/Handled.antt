@@ -25,26 +25,29 @@ met_is found items c rs o is e at = sym (at ∙ action_is found items c rs is e)
 
 -- ---- the handler inside answers
 
--- it does by no rule, and by one that is neither a reply nor a hang-up
+-- it does by no rule, and by one that is no reply, no hang-up and no cut of the request
 abbrev pub IsPassed : Option Action → Type 0
 IsPassed None = Unit {0}
 IsPassed (Some (actions.Reply d)) = ⊥
 IsPassed (Some actions.HangUp) = ⊥
+IsPassed (Some (actions.CutUp n)) = ⊥
 IsPassed (Some act) = Unit {0}
 
-pub is_passed : (act : Action) → ((d : Pairs) → act ≡ actions.Reply d → ⊥) → (act ≡ actions.HangUp → ⊥) → IsPassed (Some act)
-is_passed (actions.Reply d) reply hang = reply d refl
-is_passed (actions.Delay n) reply hang = tt
-is_passed actions.HangUp reply hang = hang refl
-is_passed (actions.Cut n) reply hang = tt
-is_passed actions.NoReply reply hang = tt
-is_passed actions.Pass reply hang = tt
+pub is_passed : (act : Action) → ((d : Pairs) → act ≡ actions.Reply d → ⊥) → (act ≡ actions.HangUp → ⊥) → ((n : ℕ) → act ≡ actions.CutUp n → ⊥) → IsPassed (Some act)
+is_passed (actions.Reply d) reply hang cuts = reply d refl
+is_passed (actions.Delay n) reply hang cuts = tt
+is_passed actions.HangUp reply hang cuts = hang refl
+is_passed (actions.Cut n) reply hang cuts = tt
+is_passed (actions.CutUp n) reply hang cuts = cuts n refl
+is_passed actions.NoReply reply hang cuts = tt
+is_passed actions.Pass reply hang cuts = tt
 
 answers_passed : {H : Type 0} (does : Does H) (o : Option Action) (h h' : H) (a : Asked) (xs : List Content) → IsPassed o → does h a xs h' → AnswersBy does o h a xs h'
 answers_passed does None h h' a xs p did = did
 answers_passed does (Some (actions.Reply d)) h h' a xs p did = absurd p
 answers_passed does (Some (actions.Delay n)) h h' a xs p did = did
 answers_passed does (Some actions.HangUp) h h' a xs p did = absurd p
+answers_passed does (Some (actions.CutUp n)) h h' a xs p did = absurd p
 answers_passed does (Some (actions.Cut n)) h h' a xs p did = did
 answers_passed does (Some actions.NoReply) h h' a xs p did = did
 answers_passed does (Some actions.Pass) h h' a xs p did = did
@@ -54,6 +57,7 @@ stops_passed stops None h h' a stop p did = did
 stops_passed stops (Some (actions.Reply d)) h h' a stop p did = absurd p
 stops_passed stops (Some (actions.Delay n)) h h' a stop p did = did
 stops_passed stops (Some actions.HangUp) h h' a stop p did = absurd p
+stops_passed stops (Some (actions.CutUp n)) h h' a stop p did = absurd p
 stops_passed stops (Some (actions.Cut n)) h h' a stop p did = did
 stops_passed stops (Some actions.NoReply) h h' a stop p did = did
 stops_passed stops (Some actions.Pass) h h' a stop p did = did
@@ -91,3 +95,7 @@ replied_stop stops s s' a d (Err e) is same used failed =
 pub hung_up : {H : Type 0} (stops : Stops H) (s s' : Scripted H) (a : Asked) → met a.payload s.script.rules.items ≡ Some actions.HangUp
     → s'.inner ≡ s.inner → s'.script.rules.items ≡ after a.payload s.script.rules.items → IsStopped stops s a stopped.Failed s'
 hung_up stops s s' a is same used = inl (subst (λ (m : Option Action). StopsBy stops m s.inner a stopped.Failed s'.inner) (sym is) (refl, same), used)
+
+pub cut_up : {H : Type 0} (stops : Stops H) (s s' : Scripted H) (a : Asked) (n : ℕ) → met a.payload s.script.rules.items ≡ Some (actions.CutUp n)
+    → s'.inner ≡ s.inner → s'.script.rules.items ≡ after a.payload s.script.rules.items → IsStopped stops s a stopped.Failed s'
+cut_up stops s s' a n is same used = inl (subst (λ (m : Option Action). StopsBy stops m s.inner a stopped.Failed s'.inner) (sym is) (refl, same), used)

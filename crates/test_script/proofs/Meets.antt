@@ -1,11 +1,10 @@
 -- The first rule that a request meets: its index, and what stands there.
-use Rattle.std.proofs.Common.{◌≡◌, ◌≢◌, ◌<◌, ℕ, zero, suc, ◌+◌, Bool, true, false, List, [], ◌∷◌, Option, Some, None, length, drop, get_or, refl, sym, ap, subst, ◌∙◌, add-one, arith}
+use Rattle.std.proofs.Common.{◌≡◌, ◌<◌, ℕ, zero, suc, ◌+◌, Bool, true, false, List, [], ◌∷◌, Option, Some, None, length, drop, get_or, refl, sym, ap, ◌∙◌, add-one, arith}
 use Rattle.std.specs.Prelude.{option_map, if◌then◌else◌, slice_get}
 use Rattle.std.proofs.Math.Seq.{drop-cons}
 use Rattle.bson_raw.specs.{TreeValue}
 use Rattle.wire_msg.specs.{Content}
-use Rattle.test_script.specs.declared.action.Action.{Action}
-use Rattle.test_script.specs.Rules.{RuleView, meets, meets_as, used}
+use Rattle.test_script.specs.Rules.{RuleView, meets, meets_as}
 use Rattle.test_script.specs.Meeting.{IsFirstLive, after, first_met, first_met_as, met}
 
 -- ---- counting up to it

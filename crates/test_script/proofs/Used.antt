@@ -1,9 +1,9 @@
 -- The rules after a request, and how often a rule is used.
-use Rattle.std.proofs.Common.{◌≡◌, ◌≢◌, ◌<◌, ◌≤◌, ℕ, zero, suc, ◌+◌, ◌-◌, ◌&&◌, Bool, true, false, List, [], ◌∷◌, Option, Some, None, set, refl, sym, ap, subst, ◌∙◌, arith}
-use Rattle.std.specs.Prelude.{option_map, if◌then◌else◌, nat_lt, slice_get, ◌==◌}
+use Rattle.std.proofs.Common.{◌≡◌, ◌<◌, ◌≤◌, ℕ, zero, suc, ◌-◌, ◌&&◌, Bool, true, false, List, [], ◌∷◌, Option, Some, None, set, refl, sym, ap, ◌∙◌, arith}
+use Rattle.std.specs.Prelude.{option_map, nat_lt, slice_get, ◌==◌}
 use Rattle.wire_msg.specs.{Content}
 use Rattle.test_script.specs.Rules.{RuleView, is_live, may_be_used, meets, used}
-use Rattle.test_script.specs.Meeting.{IsFirstLive, action_at, after, first_met, is_index, met, uses}
+use Rattle.test_script.specs.Meeting.{action_at, after, first_met, is_index, met, uses}
 use Rattle.test_script.proofs.Meets.{cases, does_as, does_nothing, is_first}
 
 same_some : (r other : RuleView) → Some r ≡ Some other → r ≡ other

@@ -19,6 +19,7 @@ action_parts actions.HangUp = (2, (0, []))
 action_parts (actions.Cut n) = (3, (n, []))
 action_parts actions.NoReply = (4, (0, []))
 action_parts actions.Pass = (5, (0, []))
+action_parts (actions.CutUp n) = (6, (n, []))
 
 abbrev pub action_from : ℕ × (ℕ × Pairs) → Action
 action_from p =
@@ -26,7 +27,8 @@ action_from p =
     if p.0 == 1 then actions.Delay p.1.0 else
     if p.0 == 2 then actions.HangUp else
     if p.0 == 3 then actions.Cut p.1.0 else
-    if p.0 == 4 then actions.NoReply else actions.Pass
+    if p.0 == 4 then actions.NoReply else
+    if p.0 == 5 then actions.Pass else actions.CutUp p.1.0
 
 abbrev pub action_back : (a : Action) → action_from (action_parts a) ≡ a
 action_back (actions.Reply d) = refl
@@ -35,6 +37,7 @@ action_back actions.HangUp = refl
 action_back (actions.Cut n) = refl
 action_back actions.NoReply = refl
 action_back actions.Pass = refl
+action_back (actions.CutUp n) = refl
 
 abbrev pub coded_action : Coded Action
 coded_action =

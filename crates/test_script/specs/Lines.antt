@@ -1,5 +1,5 @@
 -- What a line of a script is read as: on COMMAND [FILTER] [times N] ACTION
-use Rattle.std.specs.Prelude.{◌≡◌, ◌≢◌, ◌⊎◌, ℕ, ℤ, pos, ◌^◌, List, [], ◌∷◌, Bool, true, false}
+use Rattle.std.specs.Prelude.{◌≡◌, ◌≢◌, ℕ, ℤ, pos, ◌^◌, List, [], Bool}
 use Rattle.std.specs.Prelude.{Option, Some, None, Ok, Err, codes, if◌then◌else◌, ◌||◌, ◌==◌, length}
 use Rattle.std.specs.Str.{bytes_eq}
 use Rattle.bson_raw.specs.{TreeValue}
@@ -33,6 +33,7 @@ keyword_text keywords.Error = codes "error"
 keyword_text keywords.Delay = codes "delay"
 keyword_text keywords.HangUp = codes "hangup"
 keyword_text keywords.Cut = codes "cut"
+keyword_text keywords.CutUp = codes "cutup"
 keyword_text keywords.NoReply = codes "drop"
 keyword_text keywords.Pass = codes "pass"
 
@@ -77,6 +78,8 @@ IsActionOf keywords.Delay operands action =
 IsActionOf keywords.HangUp operands action = (action ≡ actions.HangUp) × IsNothing operands
 IsActionOf keywords.Cut operands action =
     (count : ℕ) × (action ≡ actions.Cut count) × IsOneNumber operands count
+IsActionOf keywords.CutUp operands action =
+    (count : ℕ) × (action ≡ actions.CutUp count) × IsOneNumber operands count
 IsActionOf keywords.NoReply operands action = (action ≡ actions.NoReply) × IsNothing operands
 IsActionOf keywords.Pass operands action = (action ≡ actions.Pass) × IsNothing operands
 
@@ -93,7 +96,8 @@ begins_rest word =
     bytes_eq word (codes "times") || bytes_eq word (codes "reply")
     || bytes_eq word (codes "error") || bytes_eq word (codes "delay")
     || bytes_eq word (codes "hangup") || bytes_eq word (codes "cut")
-    || bytes_eq word (codes "drop") || bytes_eq word (codes "pass")
+    || bytes_eq word (codes "cutup") || bytes_eq word (codes "drop")
+    || bytes_eq word (codes "pass")
 
 -- the word begins what follows a filter, or there is none
 abbrev pub is_no_filter : List ℕ → Bool

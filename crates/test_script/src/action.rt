@@ -16,6 +16,8 @@ pub enum Action {
     HangUp,
     /// This many bytes of the reply are sent, and then the connection is closed.
     Cut(u64),
+    /// This many bytes of the request are passed on, and then the connection is closed.
+    CutUp(u64),
     /// No reply is sent, and the connection stays open.
     NoReply,
     /// The request is answered as if there were no script.
@@ -44,7 +46,7 @@ impl Action {
             Action::Delay(millis) => Flow::Held(*millis),
             Action::Cut(count) => Flow::Cut(*count),
             Action::NoReply => Flow::Dropped,
-            Action::Reply(_) | Action::HangUp | Action::Pass => Flow::Whole,
+            Action::Reply(_) | Action::HangUp | Action::CutUp(_) | Action::Pass => Flow::Whole,
         }
     }
 }

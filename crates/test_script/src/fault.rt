@@ -18,7 +18,7 @@ pub enum Cause {
     #[error("a whole number follows 'times'")]
     Times,
     /// The rest of the line is no action.
-    #[error("a rule ends with reply, error, delay, hangup, cut, drop or pass and its operands")]
+    #[error("a rule ends with reply, error, delay, hangup, cut, cutup, drop or pass and its operands")]
     Action,
     /// The allocator refused memory.
     #[error("out of memory")]

@@ -11,6 +11,7 @@ pub(crate) enum Keyword {
     Delay,
     HangUp,
     Cut,
+    CutUp,
     NoReply,
     Pass,
 }
@@ -26,6 +27,7 @@ pub(crate) fn read_keyword(word: &[u8]) -> Option<Keyword>
         b"delay" => Some(Keyword::Delay),
         b"hangup" => Some(Keyword::HangUp),
         b"cut" => Some(Keyword::Cut),
+        b"cutup" => Some(Keyword::CutUp),
         b"drop" => Some(Keyword::NoReply),
         b"pass" => Some(Keyword::Pass),
         _ => None,
@@ -42,6 +44,7 @@ fn begins_rest(word: &[u8]) -> bool
         || word == b"delay".as_slice()
         || word == b"hangup".as_slice()
         || word == b"cut".as_slice()
+        || word == b"cutup".as_slice()
         || word == b"drop".as_slice()
         || word == b"pass".as_slice()
 }

@@ -3,13 +3,14 @@
 //! A script is text, one rule a line. `Script::parse` reads one, or tells the line at fault and
 //! why. Each request meets the first live rule that it is for, and that rule has one use fewer
 //! then. What it does is its `Action`, and what becomes of the bytes of a reply is the `Flow` of
-//! that.
+//! that. `Delays` notes which connections a message is held of, and until when.
 //!
 //! Stands on doc_query, bson_json_read, wire_script and test_store. Read first: `rule`, then
 //! `script`, and then `parse`.
 #![tactic(auto)]
 
 mod action;
+mod delays;
 mod fault;
 mod keyword;
 pub mod laws;
@@ -23,6 +24,7 @@ mod token;
 mod written;
 
 pub use action::{Action, Flow};
+pub use delays::Delays;
 pub use fault::{Cause, ScriptFault};
 pub use script::Script;
 pub use scripted::Scripted;

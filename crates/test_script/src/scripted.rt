@@ -45,6 +45,7 @@ impl<H: Handler> Handler for Scripted<H> {
             Some(action) => match action {
                 Action::Reply(answer) => put_answer(answer, answers),
                 Action::HangUp => Err(HandlerStop::Failed),
+                Action::CutUp(_) => Err(HandlerStop::Failed),
                 _ => self.inner.respond(request, answers),
             },
             None => self.inner.respond(request, answers),

@@ -4,7 +4,7 @@ use std::alloc::Global;
 use test_script::{Cause, Script, ScriptFault};
 
 /// Scripts, the line at fault, and why.
-const FAULTS: [(&[u8], usize, Cause); 22] = [
+const FAULTS: [(&[u8], usize, Cause); 24] = [
     (b"find pass", 1, Cause::Start),
     (b"on", 1, Cause::Start),
     (b"on ", 1, Cause::Start),
@@ -35,6 +35,8 @@ const FAULTS: [(&[u8], usize, Cause); 22] = [
     (b"on find error 10107 NotWritablePrimary", 1, Cause::Action),
     (b"on find delay 1s", 1, Cause::Action),
     (b"on find cut", 1, Cause::Action),
+    (b"on find cutup", 1, Cause::Action),
+    (b"on find cutup 1 2", 1, Cause::Action),
 ];
 
 /// Returns true if the script fails at this line, for this cause.

@@ -9,6 +9,7 @@ use wire_peer::{Answers, Echo, Handler, HandlerStop, Request};
 /// A rule of each kind of answer.
 const SCRIPT: &[u8] = b"on a times 1 reply {\"r\": 1}
 on a times 1 hangup
+on a times 1 cutup 5
 on a times 1 error 7 \"E\"
 on a times 1 delay 5
 on a times 1 cut 5
@@ -16,8 +17,9 @@ on a times 1 drop
 on a times 1 pass";
 
 /// The answers to `{"a": 1}`, one after another: `None` is a stop as failed.
-const ANSWERS: [Option<&str>; 8] = [
+const ANSWERS: [Option<&str>; 9] = [
     Some("{\"r\": 1}"),
+    None,
     None,
     Some("{\"ok\": 0.0, \"errmsg\": \"E\", \"code\": 7, \"codeName\": \"E\"}"),
     Some("{\"a\": 1}"),

@@ -16,16 +16,17 @@ on find 110000000266696e640002000000620000 times 1 drop
 on insert 1500000002696e7365727400040000006162630000 delay 20
 on insert times 0 hangup
 on insert times 1 cut 16
+on insert times 1 cutup 7
 on insert hangup
 on * {\"comment\": \"x\"} times 1 reply 0500000000
 on * {} times 1 delay 18446744073709551615";
 
 /// Requests, one after another, and the index of the rule that each meets.
-const REQUESTS: [(&str, Option<usize>); 16] = [
+const REQUESTS: [(&str, Option<usize>); 17] = [
     ("{\"ping\": 1}", Some(0)),
     ("{\"hello\": 1}", Some(1)),
     ("{\"find\": \"a}\", \"filter\": {\"n\": 4}}", Some(2)),
-    ("{\"find\": \"a}\", \"filter\": {\"n\": 3}}", Some(9)),
+    ("{\"find\": \"a}\", \"filter\": {\"n\": 3}}", Some(10)),
     ("{\"find\": \"a}\", \"filter\": {\"n\": 5}}", Some(2)),
     ("{\"find\": \"a}\", \"filter\": {\"n\": 6}}", None),
     ("{\"find\": \"b\"}", Some(3)),
@@ -34,14 +35,15 @@ const REQUESTS: [(&str, Option<usize>); 16] = [
     ("{\"insert\": \"abc\"}", Some(4)),
     ("{\"insert\": \"b\"}", Some(6)),
     ("{\"insert\": \"b\"}", Some(7)),
-    ("{\"insert\": \"b\"}", Some(7)),
-    ("{\"count\": \"c\", \"comment\": \"x\"}", Some(8)),
+    ("{\"insert\": \"b\"}", Some(8)),
+    ("{\"insert\": \"b\"}", Some(8)),
+    ("{\"count\": \"c\", \"comment\": \"x\"}", Some(9)),
     ("{\"count\": \"c\", \"comment\": \"x\"}", None),
     ("{\"Ping\": 1}", None),
 ];
 
 /// What becomes of the reply by each of the rules.
-const FLOWS: [Flow; 10] = [
+const FLOWS: [Flow; 11] = [
     Flow::Whole,
     Flow::Whole,
     Flow::Whole,
@@ -49,6 +51,7 @@ const FLOWS: [Flow; 10] = [
     Flow::Held(20),
     Flow::Whole,
     Flow::Cut(16),
+    Flow::Whole,
     Flow::Whole,
     Flow::Whole,
     Flow::Held(18_446_744_073_709_551_615),
@@ -61,7 +64,7 @@ const ANSWERS: [(usize, &str); 3] = [
         2,
         "{\"ok\": 0.0, \"errmsg\": \"NotPrimary\", \"code\": 10107, \"codeName\": \"NotPrimary\"}",
     ),
-    (8, "{}"),
+    (9, "{}"),
 ];
 
 /// Returns the script of `FORMS`.
@@ -115,6 +118,14 @@ fn is_same(a: &Document, b: &Document) -> bool {
     }
 }
 
+/// Returns true if the rule cuts the request behind so many bytes.
+fn cuts_up(script: &Script, rule: usize, bytes: u64) -> bool {
+    match script.action(Some(rule)) {
+        Some(Action::CutUp(count)) => *count == bytes,
+        _ => false,
+    }
+}
+
 /// Returns true if the rules have these flows, in order, and there are no more.
 fn have_flows(script: &Script) -> bool {
     for (i, flow) in FLOWS.iter().enumerate() {
@@ -135,7 +146,7 @@ fn are_read(alloc: Global) -> bool {
             return false;
         }
     }
-    have_flows(&script)
+    cuts_up(&script, 7, 7) && have_flows(&script)
 }
 
 #[test]

@@ -3,7 +3,6 @@
 ghost use Rattle.std.specs.Prelude.{◌≡◌, ℕ, IfOk, List, OnOk, Option};
 ghost use Rattle.test_server.specs.Runs.{GoesOnServing, HasBegun};
 
-use crate::delays::Delays;
 use crate::drained::{Drained, Turns};
 use crate::guide::Guide;
 use crate::input::Watched;
@@ -17,7 +16,7 @@ use std::io;
 use std::io::{BufRead, ErrorKind, Write};
 use std::net::Net;
 use std::time::{Clock, Duration};
-use test_script::{Flow, Script, Scripted};
+use test_script::{Delays, Flow, Script, Scripted};
 use test_store::Store;
 use wire_hall::{Turned, Valve};
 use wire_stream::TcpLink;
@@ -72,6 +71,15 @@ fn begin(
     let handler = Scripted::new(alloc, script, store);
     let guide = Guide::new(alloc, guide);
     Serving::new(alloc, handler, guide)
+}
+
+/// Returns what was done of delays, or why the server stops where that failed.
+fn or_stop<T>(done: io::Result<T>) -> Result<T, Stop> {
+    match done {
+        Ok(done) => Ok(done),
+        Err(error) if error.kind() == ErrorKind::OutOfMemory => Err(Stop::OutOfMemory),
+        Err(_) => Err(Stop::InOut),
+    }
 }
 
 /// Returns what a turn came to, if the connection is over.
@@ -217,7 +225,7 @@ impl<I: BufRead + Drop> Connections<I> {
     {
         match (turned, self.serving.flow()) {
             (Some(Turned::Again | Turned::Waits), Some(Flow::Held(millis))) => {
-                self.delays.hold(clock, key, millis)
+                or_stop(self.delays.hold(clock, key, millis))
             }
             _ => Ok(()),
         }
@@ -269,7 +277,7 @@ impl<I: BufRead + Drop> Connections<I> {
         ensures { self.new.serving ≡ self.old.serving }
     {
         for _ in 0..ROOM {
-            let Some(key) = self.delays.take_due(clock)? else {
+            let Some(key) = or_stop(self.delays.take_due(clock))? else {
                 break;
             };
             self.take_up(key)?;
@@ -384,7 +392,7 @@ impl<I: BufRead + Drop> Connections<I> {
         if !self.again.is_empty() || self.ready {
             return Ok(Some(Duration::from_millis(0)));
         }
-        let held = self.delays.least(clock)?;
+        let held = or_stop(self.delays.least(clock))?;
         if self.pausing {
             let pause = Duration::from_millis(PAUSE);
             return Ok(Some(held.map_or(pause, |held| held.min(pause))));

@@ -19,7 +19,6 @@
 mod choice;
 mod command_line;
 mod connections;
-mod delays;
 mod drained;
 mod guide;
 mod input;

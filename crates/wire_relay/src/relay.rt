@@ -53,6 +53,20 @@ impl<N: EndSending + Drop, F: EndSending + Drop> Relay<N, F> {
         &self.near
     }
 
+    /// Returns the near link, to do something with it between turns.
+    pub fn near_mut(&mut self) -> &mut N
+        ensures { result.now ≡ self.old.near }
+    {
+        &mut self.near
+    }
+
+    /// Returns the far link, to do something with it between turns.
+    pub fn far_mut(&mut self) -> &mut F
+        ensures { result.now ≡ self.old.far }
+    {
+        &mut self.far
+    }
+
     /// Returns the far link.
     pub fn far(&self) -> &F
         ensures { result.now ≡ self.now.far }

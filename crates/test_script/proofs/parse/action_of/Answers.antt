@@ -26,3 +26,8 @@ pub returns-in-None-one_number-clause-none : goal.returns-in-None-one_number-cla
 returns-in-None-one_number-clause-none c = λ e action is.
     let own = subst (λ (k : Keyword). IsActionOf k c.args.operands.now action) c.in-Cut.is is in
     c.in-None-one_number.ensures.none own.0 own.2
+
+pub returns-in-None-one_number-2-clause-none : goal.returns-in-None-one_number-2-clause-none
+returns-in-None-one_number-2-clause-none c = λ e action is.
+    let own = subst (λ (k : Keyword). IsActionOf k c.args.operands.now action) c.in-CutUp.is is in
+    c.in-None-one_number-2.ensures.none own.0 own.2

@@ -1,7 +1,7 @@
 use Rattle.std.proofs.Common.{Some, ap, refl, ◌∙◌}
 use Rattle.std.specs.Prelude.{option_copied}
 use Rattle.wire_peer.specs.{asked, content_of}
-use Rattle.test_script.proofs.Handled.{hung_up, is_passed, met_is, passed, passed_stop, replied, replied_stop}
+use Rattle.test_script.proofs.Handled.{cut_up, hung_up, is_passed, met_is, passed, passed_stop, replied, replied_stop}
 use Rattle.test_script.proofs.scripted.ScriptedHandler.respond.Goals as goal
 
 pub returns-in-Reply-clause-answered : goal.returns-in-Reply-clause-answered
@@ -19,10 +19,15 @@ returns-in-HangUp-clause-stopped g c =
     let is = met_is c.in-Ok.found c.meet.new.self.rules.items (content_of c.args.request.now.payload) c.args.self.now.script.rules.items _ c.in-Ok.ensures.used c.in-Ok.ensures.met c.action.ensures ∙ ap option_copied c.in-Some.is ∙ ap Some c.in-HangUp.is in
     hung_up g.H.Handler.stops c.args.self.now (record { alloc = c.args.self.now.alloc; script = c.meet.new.self; inner = c.args.self.now.inner }) (asked c.args.request.now) is refl c.in-Ok.ensures.used
 
+pub returns-in-CutUp-clause-stopped : goal.returns-in-CutUp-clause-stopped
+returns-in-CutUp-clause-stopped g c =
+    let is = met_is c.in-Ok.found c.meet.new.self.rules.items (content_of c.args.request.now.payload) c.args.self.now.script.rules.items _ c.in-Ok.ensures.used c.in-Ok.ensures.met c.action.ensures ∙ ap option_copied c.in-Some.is ∙ ap Some c.in-CutUp.is in
+    cut_up g.H.Handler.stops c.args.self.now (record { alloc = c.args.self.now.alloc; script = c.meet.new.self; inner = c.args.self.now.inner }) (asked c.args.request.now) _ is refl c.in-Ok.ensures.used
+
 pub returns-in_default-action : goal.returns-in_default-action
 returns-in_default-action g c =
     let is = met_is c.in-Ok.found c.meet.new.self.rules.items (content_of c.args.request.now.payload) c.args.self.now.script.rules.items _ c.in-Ok.ensures.used c.in-Ok.ensures.met c.action.ensures ∙ ap option_copied c.in-Some.is in
-    let pass = is_passed c.in-Some.action.now c.in_default-action.not-Reply c.in_default-action.not-HangUp in
+    let pass = is_passed c.in-Some.action.now c.in_default-action.not-Reply c.in_default-action.not-HangUp c.in_default-action.not-CutUp in
     record {
       answered = passed g.H.Handler.does c.args.self.now (record { alloc = c.args.self.now.alloc; script = c.meet.new.self; inner = c.respond.new.self }) (asked c.args.request.now) _ _ c.respond.result is pass c.in-Ok.ensures.used c.respond.ensures.answered;
       count = c.respond.ensures.count;

@@ -1,0 +1,39 @@
+//! How a connection ended.
+
+use crate::watch::Direction;
+use std::fmt;
+use wire_relay::RelayFault;
+
+/// How a connection ended.
+#[derive(Clone, Copy, Debug, PartialEq, Eq)]
+pub enum Ending {
+    /// Both sides ended.
+    Ended,
+    /// One side failed.
+    Failed(RelayFault),
+    /// The script hung up at the request with this id, of which no byte went on.
+    HungUp(i32),
+    /// It was cut once so many bytes went this way.
+    Cut(Direction, u64),
+}
+
+impl Ending {
+    /// Returns true if the proxy ended it, and neither side.
+    pub fn is_fault(self) -> bool {
+        match self {
+            Ending::Ended | Ending::Failed(_) => false,
+            Ending::HungUp(_) | Ending::Cut(..) => true,
+        }
+    }
+}
+
+impl fmt::Display for Ending {
+    fn fmt<W: fmt::Write>(&self, f: &mut fmt::Formatter<W>) -> fmt::Result {
+        match *self {
+            Ending::Ended => f.write_str("ended"),
+            Ending::Failed(fault) => write!(f, "failed: {fault}"),
+            Ending::HungUp(id) => write!(f, "hangup id {id}"),
+            Ending::Cut(direction, count) => write!(f, "cut {} {count}", direction.word()),
+        }
+    }
+}

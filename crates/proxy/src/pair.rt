@@ -1,0 +1,306 @@
+//! A pair of connections, and its turns.
+
+use crate::ending::Ending;
+use crate::fate::{Fate, fate_of};
+use crate::held_link::HeldLink;
+use crate::socket::Socket;
+use crate::watch::{Direction, Watch, write_message};
+use std::alloc::{AllocError, Global};
+use std::io;
+use std::io::{ErrorKind, Write};
+use test_script::{Flow, Script};
+use wire_relay::{NoTap, Relay, RelayFault, Turned};
+
+/// The most steps of a turn.
+const STEPS: u32 = 16;
+
+/// What shows the messages of a connection.
+#[derive(Drop)]
+pub struct Shown {
+    there: Watch,
+    back: Watch,
+}
+
+impl Shown {
+    /// Makes what shows the messages of the connection of this number. It takes no memory.
+    pub fn new(alloc: Global, number: u64) -> Shown {
+        Shown {
+            there: Watch::new(alloc, number, Direction::There),
+            back: Watch::new(alloc, number, Direction::Back),
+        }
+    }
+}
+
+/// A request whose reply doesn't go on whole, and what becomes of that.
+#[derive(Clone, Copy)]
+struct Mark {
+    id: i32,
+    flow: Flow,
+}
+
+/// What a turn came to.
+#[derive(Clone, Copy, Debug, PartialEq, Eq)]
+pub enum Outcome {
+    /// There may be more to do.
+    Again,
+    /// There is nothing to do until a connection has bytes, or takes some.
+    Waits,
+    /// A request is held for so many milliseconds, and there may be more to do.
+    Held(u64),
+    /// Both connections are over.
+    Over(Ending),
+}
+
+/// Returns true if memory ran out for what a link holds.
+fn wants_memory(fault: RelayFault) -> bool {
+    match fault {
+        RelayFault::Receiving(fault) | RelayFault::Sending(fault) => {
+            fault.kind == ErrorKind::OutOfMemory
+        }
+    }
+}
+
+/// Two connections between which bytes are passed, and what shows them, if they are shown.
+#[derive(Drop)]
+pub struct Pair {
+    alloc: Global,
+    number: u64,
+    relay: Relay<HeldLink<Socket>, HeldLink<Socket>>,
+    shown: Option<Shown>,
+    /// What becomes of replies that don't go on whole.
+    marks: Vec<Mark>,
+    /// A request is held for some time.
+    delayed: bool,
+}
+
+impl Pair {
+    /// Makes the pair of this number.
+    ///
+    /// # Errors
+    ///
+    /// Returns `AllocError` if memory runs out. Then both connections are closed.
+    pub fn new(
+        alloc: Global,
+        number: u64,
+        near: HeldLink<Socket>,
+        far: HeldLink<Socket>,
+        shown: Option<Shown>,
+    ) -> Result<Pair, AllocError> {
+        let relay = Relay::new(alloc, near, far)?;
+        Ok(Pair {
+            alloc,
+            number,
+            relay,
+            shown,
+            marks: Vec::new(alloc),
+            delayed: false,
+        })
+    }
+
+    /// Passes bytes, in at most so many steps, and writes the messages that passed and are whole, if
+    /// they are shown.
+    fn pass_on<W: Write>(
+        &mut self,
+        steps: u32,
+        out: &mut W,
+    ) -> io::Result<Result<Turned, RelayFault>> {
+        let Some(shown) = &mut self.shown else {
+            return Ok(self.relay.turn(steps, &mut NoTap, &mut NoTap));
+        };
+        let turned = self.relay.turn(steps, &mut shown.there, &mut shown.back);
+        shown.there.show(out)?;
+        shown.back.show(out)?;
+        Ok(turned)
+    }
+
+    /// Returns how the connection was cut, if it was, and all bytes before that were passed.
+    fn cut(&self) -> Option<Ending> {
+        let (near, far) = (self.relay.near(), self.relay.far());
+        if far.has_ended_sending()
+            && let Some(count) = near.cut_at()
+        {
+            return Some(Ending::Cut(Direction::There, count));
+        }
+        if near.has_ended_sending()
+            && let Some(count) = far.cut_at()
+        {
+            return Some(Ending::Cut(Direction::Back, count));
+        }
+        None
+    }
+
+    /// Returns what steps came to.
+    fn outcome(&self, turned: Result<Turned, RelayFault>) -> Outcome {
+        if let Some(ending) = self.cut() {
+            return Outcome::Over(ending);
+        }
+        match turned {
+            Ok(Turned::Again) => Outcome::Again,
+            Ok(Turned::Waits) => Outcome::Waits,
+            Ok(Turned::Over) => Outcome::Over(Ending::Ended),
+            Err(fault) => Outcome::Over(Ending::Failed(fault)),
+        }
+    }
+
+    /// Writes the message that `link` holds, if messages are shown: one that doesn't go on whole.
+    fn show<W: Write>(
+        &self,
+        link: &HeldLink<Socket>,
+        direction: Direction,
+        out: &mut W,
+    ) -> io::Result<()> {
+        match link.message() {
+            Some(frame) if self.shown.is_some() => {
+                write_message(self.alloc, self.number, direction, frame, out)
+            }
+            _ => Ok(()),
+        }
+    }
+
+    /// Notes what becomes of the reply to a request.
+    fn mark(&mut self, id: i32, flow: Flow) -> Result<(), AllocError> {
+        match flow {
+            Flow::Whole | Flow::Held(_) => Ok(()),
+            Flow::Cut(_) | Flow::Dropped => Ok(self.marks.push(Mark { id, flow })?),
+        }
+    }
+
+    /// Returns what becomes of the reply to the request with this id, and forgets it.
+    fn take_mark(&mut self, id: i32) -> Flow {
+        match self.marks.iter().position(|mark| mark.id == id) {
+            Some(i) => self.marks.remove(i).flow,
+            None => Flow::Whole,
+        }
+    }
+
+    /// Does with a reply that is held, if one is, what the rule says that its request met.
+    fn steer_reply<W: Write>(&mut self, out: &mut W) -> io::Result<()> {
+        let (to, size) = match self.relay.far().message() {
+            Some(frame) => (frame.header().response_to, frame.as_bytes().len()),
+            None => return Ok(()),
+        };
+        match self.take_mark(to) {
+            Flow::Whole | Flow::Held(_) => self.relay.far_mut().pass(),
+            Flow::Cut(count) => {
+                self.show(self.relay.far(), Direction::Back, out)?;
+                self.relay.far_mut().cut(count);
+            }
+            Flow::Dropped => {
+                self.show(self.relay.far(), Direction::Back, out)?;
+                writeln!(out, "{} drop {size} to {to}", self.number)?;
+                self.relay.far_mut().skip();
+            }
+        }
+        Ok(())
+    }
+
+    /// Does with a request that is held, if one is, what the script says. Returns what the turn
+    /// comes to, if it is over.
+    fn steer_request<W: Write>(
+        &mut self,
+        script: &mut Script,
+        out: &mut W,
+    ) -> io::Result<Option<Outcome>> {
+        let (id, fate) = match self.relay.near().message() {
+            Some(frame) => (frame.header().id, fate_of(self.alloc, script, frame)?),
+            None => return Ok(None),
+        };
+        let number = self.number;
+        match fate {
+            Fate::Pass(flow) => {
+                self.mark(id, flow)?;
+                self.relay.near_mut().pass();
+                Ok(None)
+            }
+            Fate::Delay(millis) => {
+                writeln!(out, "{number} delay {millis} id {id}")?;
+                self.delayed = true;
+                Ok(Some(Outcome::Held(millis)))
+            }
+            Fate::HangUp => {
+                self.show(self.relay.near(), Direction::There, out)?;
+                Ok(Some(Outcome::Over(Ending::HungUp(id))))
+            }
+            Fate::CutUp(count) => {
+                self.show(self.relay.near(), Direction::There, out)?;
+                self.relay.near_mut().cut(count);
+                Ok(None)
+            }
+            Fate::Reply(bytes) => {
+                self.show(self.relay.near(), Direction::There, out)?;
+                writeln!(out, "{number} reply to {id}")?;
+                self.relay.near_mut().skip();
+                self.relay.far_mut().put(&bytes)?;
+                Ok(None)
+            }
+        }
+    }
+
+    /// Returns true if more may be done at once, though no byte could be passed.
+    fn has_more(&self) -> bool {
+        self.relay.near().has_more() || self.relay.far().has_more()
+    }
+
+    /// Takes a turn in single steps, and does with each message that is whole then what the script
+    /// says.
+    fn turn_by<W: Write>(&mut self, script: &mut Script, out: &mut W) -> io::Result<Outcome> {
+        for _ in 0..STEPS {
+            let turned = self.pass_on(1, out)?;
+            let outcome = self.outcome(turned);
+            if let Outcome::Over(_) = outcome {
+                return Ok(outcome);
+            }
+            self.steer_reply(out)?;
+            if !self.delayed
+                && let Some(outcome) = self.steer_request(script, out)?
+            {
+                return Ok(outcome);
+            }
+            if outcome == Outcome::Waits && !self.has_more() {
+                return Ok(Outcome::Waits);
+            }
+        }
+        Ok(Outcome::Again)
+    }
+
+    /// Takes a turn, and writes what is shown of it.
+    ///
+    /// # Errors
+    ///
+    /// Returns an error if memory runs out or writing fails.
+    pub fn turn<W: Write>(
+        &mut self,
+        script: Option<&mut Script>,
+        out: &mut W,
+    ) -> io::Result<Outcome> {
+        let outcome = match script {
+            Some(script) => self.turn_by(script, out)?,
+            None => {
+                let turned = self.pass_on(STEPS, out)?;
+                self.outcome(turned)
+            }
+        };
+        match outcome {
+            Outcome::Over(Ending::Failed(fault)) if wants_memory(fault) => {
+                Err(io::Error::from(ErrorKind::OutOfMemory))
+            }
+            outcome => Ok(outcome),
+        }
+    }
+
+    /// Lets a request go on that is held for some time.
+    pub fn release(&mut self) {
+        if self.delayed {
+            self.delayed = false;
+            self.relay.near_mut().pass();
+        }
+    }
+
+    /// Writes how the connection ended, if it is shown, or the proxy ended it.
+    pub fn write_end<W: Write>(&self, ending: Ending, out: &mut W) -> io::Result<()> {
+        if self.shown.is_some() || ending.is_fault() {
+            writeln!(out, "{} {ending}", self.number)?;
+        }
+        Ok(())
+    }
+}
