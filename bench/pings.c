@@ -3,8 +3,11 @@
  *     pings COUNT CONNECTIONS          answers them by a child process of its own, over epoll: each message of 51 bytes by a
  *                                      fixed reply
  *     pings COUNT CONNECTIONS PORT     sends them to the server that listens there
+ *     pings COUNT CONNECTIONS PORT all
  *
- * Prints the wall-clock nanoseconds of one ping, the least of five rounds. COUNT pings make a round, over all connections.
+ * Prints the wall-clock nanoseconds of one ping, the least of five rounds. COUNT pings make a round, over all connections. With a
+ * fourth word it also prints how long a client of that round waited for its reply: the nanoseconds that half of the pings took at
+ * most, and those that 99 of 100 took at most.
  */
 #include <arpa/inet.h>
 #include <netinet/in.h>
@@ -18,7 +21,7 @@
 #include <time.h>
 #include <unistd.h>
 
-enum { PING = 51, REPLY = 38, EVENTS = 64, MOST = 1000 };
+enum { PING = 51, REPLY = 38, EVENTS = 64, MOST = 1000, FILES = 1100 };
 
 static const unsigned char ping[PING] =
     "\x33\0\0\0\x01\0\0\0\0\0\0\0\xdd\x07\0\0\0\0\0\0\0"
@@ -108,39 +111,54 @@ static struct sockaddr_in address_of(int port)
     return address;
 }
 
+/* When the ping of a connection was sent, by the connection's file. */
+static double began[FILES];
+
+static double now(void)
+{
+    struct timespec time;
+    clock_gettime(CLOCK_MONOTONIC, &time);
+    return time.tv_sec * 1e9 + time.tv_nsec;
+}
+
 static void send_ping(int link)
 {
+    began[link] = now();
     if (send(link, ping, PING, 0) != PING)
         fail("ping");
 }
 
-/* Sends so many pings, the next on a connection once it has the reply to the one before. */
-static double round_of(int poll, const int *links, int connections, long count)
+/* Sends so many pings, the next on a connection once it has the reply to the one before. Notes how long each took. */
+static double round_of(int poll, const int *links, int connections, long count, double *took)
 {
-    struct timespec from, to;
+    double from = now();
     struct epoll_event events[EVENTS];
     unsigned char last[REPLY];
     long sent = 0, got = 0;
-    clock_gettime(CLOCK_MONOTONIC, &from);
     for (int i = 0; i < connections && sent < count; i++, sent++)
         send_ping(links[i]);
     while (got < count) {
         int found = epoll_wait(poll, events, EVENTS, -1);
         for (int i = 0; i < found; i++) {
             int link = events[i].data.fd;
-            if (take(link, REPLY, last) != 1 || memcmp(last + 21, reply + 21, REPLY - 21) != 0) {
+            if (take(link, REPLY, last) != 1 || memcmp(last + 8, reply + 8, REPLY - 8) != 0) {
                 fputs("the reply is another one\n", stderr);
                 exit(1);
             }
-            got++;
+            took[got++] = now() - began[link];
             if (sent < count) {
                 sent++;
                 send_ping(link);
             }
         }
     }
-    clock_gettime(CLOCK_MONOTONIC, &to);
-    return ((to.tv_sec - from.tv_sec) * 1e9 + (to.tv_nsec - from.tv_nsec)) / count;
+    return (now() - from) / count;
+}
+
+static int order(const void *one, const void *other)
+{
+    double a = *(const double *) one, b = *(const double *) other;
+    return (a > b) - (a < b);
 }
 
 int main(int argc, char **argv)
@@ -148,14 +166,18 @@ int main(int argc, char **argv)
     struct sockaddr_in address;
     socklen_t size = sizeof address;
     pid_t child = 0;
-    double least = 0;
+    double least = 0, *took, *best, *each;
     int links[MOST];
     long count = argc > 2 ? atol(argv[1]) : 0;
     int connections = argc > 2 ? atoi(argv[2]) : 0;
     if (count < 1 || connections < 1 || connections > MOST) {
-        fputs("pings COUNT CONNECTIONS [PORT]\n", stderr);
+        fputs("pings COUNT CONNECTIONS [PORT [all]]\n", stderr);
         return 2;
     }
+    took = calloc((size_t) count, sizeof *took);
+    best = calloc((size_t) count, sizeof *best);
+    if (took == NULL || best == NULL)
+        fail("calloc");
     address = address_of(argc > 3 ? atoi(argv[3]) : 0);
     if (argc == 3) {
         int listener = socket(AF_INET, SOCK_STREAM, 0);
@@ -176,20 +198,26 @@ int main(int argc, char **argv)
         fail("epoll_create1");
     for (int i = 0; i < connections; i++) {
         links[i] = socket(AF_INET, SOCK_STREAM, 0);
-        if (connect(links[i], (struct sockaddr *) &address, sizeof address) != 0)
+        if (links[i] >= FILES || connect(links[i], (struct sockaddr *) &address, sizeof address) != 0)
             fail("connect");
         no_delay(links[i]);
         watch(poll, links[i]);
     }
     for (int i = 0; i < 5; i++) {
-        double now = round_of(poll, links, connections, count);
-        if (i == 0 || now < least)
-            least = now;
+        double time = round_of(poll, links, connections, count, took);
+        if (i == 0 || time < least) {
+            least = time;
+            each = best, best = took, took = each;
+        }
     }
     for (int i = 0; i < connections; i++)
         close(links[i]);
     if (child > 0)
         waitpid(child, NULL, 0);
-    printf("%.0f\n", least);
+    qsort(best, (size_t) count, sizeof *best, order);
+    if (argc > 4)
+        printf("%.0f %.0f %.0f\n", least, best[count / 2], best[count - 1 - count / 100]);
+    else
+        printf("%.0f\n", least);
     return 0;
 }
