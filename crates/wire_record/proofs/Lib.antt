@@ -1,0 +1,5 @@
+pub mod Heads
+pub mod FrontLaws
+pub mod Splits
+pub mod WrittenLaws
+pub mod Lemmas
