@@ -2,10 +2,11 @@
 //! database's `$cmd`, which is older (MongoDB Wire Protocol manual: OP_QUERY, OP_REPLY).
 //!
 //! A `Front` stands between the bytes of a connection and a `Server`. It feeds messages to the
-//! server as they are. In place of a query it feeds the message of the same ids and body, and in
-//! place of the reply to that it puts out an OP_REPLY with the same ids and body. So a handler and
-//! its log are asked nothing but messages. Requests are taken in turns: no byte is taken while a
-//! request waits or a reply isn't sent, so replies go out in the order of the requests.
+//! server as they are. In place of a query it feeds the message of it, whose body names the
+//! database, and in place of the reply to that it puts out an OP_REPLY with the reply's ids and
+//! body. So a handler and its log are asked nothing but messages. Requests are taken in turns: no
+//! byte is taken while a request waits or a reply isn't sent, so replies go out in the order of
+//! the requests.
 //!
 //! Uses wire_peer and wire_query. Used by wire_hall. Read first: `front`, and then `passing`.
 #![tactic(auto)]

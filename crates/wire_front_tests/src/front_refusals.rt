@@ -36,7 +36,7 @@ fn is_answered(alloc: Global) -> Option<bool> {
     match front.state() {
         FrontState::Closed(FrontCause::NoMemory) => None,
         FrontState::Closed(FrontCause::Server(ServerCause::NoMemory)) => None,
-        state => Some(answered == Ok(0) && state == FrontState::Open && front.output().len() == 55),
+        state => Some(answered == Ok(0) && state == FrontState::Open && front.output().len() == 70),
     }
 }
 

@@ -15,12 +15,13 @@ pub(crate) const MESSAGE: &[u8] =
 pub(crate) const ANSWER: &[u8] =
     b"\x21\0\0\0\x01\0\0\0\x07\0\0\0\xdd\x07\0\0\0\0\0\0\0\x0c\0\0\0\x10a\0\x01\0\0\0\0";
 
-/// `{"ismaster": 1}` to `admin.$cmd` as query 3, and its OP_REPLY of id 1.
+/// `{"ismaster": 1}` to `admin.$cmd` as query 3, and the OP_REPLY of id 1 with the body of its
+/// message, `{"ismaster": 1, "$db": "admin"}`.
 const QUERY: &[u8] =
     b"\x3a\0\0\0\x03\0\0\0\0\0\0\0\xd4\x07\0\0\0\0\0\0admin.$cmd\0\0\0\0\0\xff\xff\xff\xff\x13\0\0\0\x10ismaster\0\x01\0\0\0\0";
 
 const REPLY: &[u8] =
-    b"\x37\0\0\0\x01\0\0\0\x03\0\0\0\x01\0\0\0\0\0\0\0\0\0\0\0\0\0\0\0\0\0\0\0\x01\0\0\0\x13\0\0\0\x10ismaster\0\x01\0\0\0\0";
+    b"\x46\0\0\0\x01\0\0\0\x03\0\0\0\x01\0\0\0\0\0\0\0\0\0\0\0\0\0\0\0\0\0\0\0\x01\0\0\0\x22\0\0\0\x10ismaster\0\x01\0\0\0\x02$db\0\x06\0\0\0admin\0\0";
 
 const ENDED: Turned = Turned::Over(Leave::Closed(FrontCause::Server(ServerCause::Ended)));
 

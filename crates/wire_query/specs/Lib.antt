@@ -1,5 +1,6 @@
 pub mod Causes
 pub mod FaultText
+pub mod Database
 pub mod Queries
 pub mod Spelling
 pub mod Faults

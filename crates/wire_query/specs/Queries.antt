@@ -5,6 +5,7 @@ use Rattle.std.specs.Prelude.{false, None}
 use Rattle.bson_elem.specs.{IsName, Tree}
 use Rattle.bson_raw.specs.{IsDocument, first_repeated}
 use Rattle.wire_msg.specs.{Message, body_alone}
+use Rattle.wire_query.specs.Database.{with_database}
 
 -- requestID, responseTo, whether a secondary may answer, the database's name, and the command
 pub record Query : Type 0 where
@@ -30,12 +31,12 @@ pub record IsCommand (body : Tree) : Type 0 where
   pub document : IsDocument body
   pub unique : first_repeated [] body ≡ None
 
--- the message with the same ids and body
+-- the message with the same ids, and with the body that names the database
 abbrev pub message_of : Query → Message
 message_of q =
     record {
       id = q.id;
       response_to = q.response_to;
       flags = record { more_to_come = false; exhaust_allowed = false };
-      content = body_alone q.body;
+      content = body_alone (with_database q.database q.body);
     }

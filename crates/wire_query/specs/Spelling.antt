@@ -1,6 +1,6 @@
 -- The bytes of a query (MongoDB Wire Protocol manual: Standard Message Header, OP_QUERY).
 use Rattle.std.specs.Prelude.{◌≡◌, ◌⊎◌, ℕ, ℤ, ◌+◌, ◌-◌, ◌*◌, ◌^◌, ◌<◌, ◌≤◌, FitsSigned, Bool, List}
-use Rattle.std.specs.Prelude.{◌++◌, length}
+use Rattle.std.specs.Prelude.{[], ◌∷◌, ◌++◌, length}
 use Rattle.std.specs.Int.{w32, cast_unsigned, from_bool}
 use Rattle.bson_elem.specs.{Tree, cstring, document, elements, little}
 use Rattle.wire_query.specs.Queries.{Query, command_name, IsDatabase, IsCommand}
@@ -32,6 +32,12 @@ command_bytes database count body =
 unfoldable pub framed_bytes : ℤ → ℤ → ℕ → List ℕ → List ℕ
 framed_bytes id response_to word rest =
     header_bytes (length rest + 20) id response_to 2004 ++ (little word ++ rest)
+
+-- a header with the opCode of OP_MSG, 2013, no flag, and the kind byte of a body, which has this
+-- number of bytes and is all that follows
+unfoldable pub message_front : ℤ → ℤ → ℕ → List ℕ
+message_front id response_to len =
+    header_bytes (21 + len) id response_to 2013 ++ 0 ∷ 0 ∷ 0 ∷ 0 ∷ 0 ∷ []
 
 -- The bytes spell the query.
 pub record SpellsQuery (q : Query) (bytes : List ℕ) : Type 0 where

@@ -1,10 +1,11 @@
 //! Proves the laws of queries and replies. The contract of each function is the law.
 
-ghost use Rattle.std.specs.Prelude.{◌≡◌, ◌<◌, ◌≤◌, ℕ, List, length};
+ghost use Rattle.std.specs.Prelude.{◌≡◌, ◌<◌, ◌≤◌, ℕ, List, length, true};
 ghost use Rattle.bson_elem.specs.{IsBytes, Tree};
 ghost use Rattle.wire_msg.specs.{canonical, Message, SpellsMsg};
 ghost use Rattle.wire_query.specs.declared.fault.QueryFault.{QueryFault};
 ghost use Rattle.wire_query.specs.declared.reply.ReplyHead.{ReplyHead};
+ghost use Rattle.wire_query.specs.Database.{names_database};
 ghost use Rattle.wire_query.specs.Queries.{message_of, Query};
 ghost use Rattle.wire_query.specs.Spelling.{SpellsQuery};
 ghost use Rattle.wire_query.specs.Faults.{FaultQuery};
@@ -34,11 +35,12 @@ pub fn no_fault_of_a_query()
 {}
 
 /// Proves that the message of a query is spelled by its canonical spelling, which is shorter than
-/// the query.
+/// the query, and that its body names a database.
 pub fn message_of_a_query()
-    ensures { (q : Query) (bytes : List ℕ) → SpellsQuery q bytes
+    ensures spelled { (q : Query) (bytes : List ℕ) → SpellsQuery q bytes
         → SpellsMsg (message_of q) (canonical (message_of q))
         × (length (canonical (message_of q)) < length bytes) }
+    ensures named { (q : Query) → names_database (message_of q).content.body ≡ true }
 {}
 
 /// Proves that a byte list is at most one reply, and what the length of a reply is.

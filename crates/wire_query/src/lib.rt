@@ -3,8 +3,8 @@
 //!
 //! `RawQuery::parse` runs every check, and returns the first fault and its offset if there is one.
 //! From then on the type carries the fact that its bytes are the query of a command.
-//! `RawQuery::write_msg` appends the OP_MSG with the same id and body, and `write_reply` an
-//! OP_REPLY with one document.
+//! `RawQuery::write_msg` appends the OP_MSG that asks the same, whose body names the database, and
+//! `write_reply` an OP_REPLY with one document.
 //!
 //! Queries of collections other than `$cmd` are refused by a cause of their own.
 //!
@@ -12,6 +12,7 @@
 #![tactic(auto)]
 
 mod check;
+mod database;
 mod fault;
 pub mod laws;
 mod query;

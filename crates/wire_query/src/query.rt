@@ -13,19 +13,17 @@ ghost use Rattle.wire_query.specs.Checks.{ArePartsOf};
 ghost use Rattle.wire_query.specs.Faults.{FaultQuery};
 
 use crate::check::check_query;
+use crate::database::{DB_LEN, names_database, write_with_database};
 use crate::fault::QueryFault;
-use crate::write::write_header;
+use crate::write::write_message_front;
 use bson_elem::little_u32;
 use bson_raw::RawDocument;
 use std::alloc::{AllocError, Global};
 use std::convert::AsSlice;
-use wire_msg::{MAX_MESSAGE_LEN, MsgHeader, OP_MSG};
+use wire_msg::{MAX_MESSAGE_LEN, MsgHeader};
 
 /// The opCode of OP_QUERY.
 pub const OP_QUERY: i32 = 2004;
-
-/// The number of bytes before the body in a message with no document sequence.
-const BODY: usize = 21;
 
 /// The query of a command, borrowed from its bytes. They were checked when it was made.
 #[derive(Clone, Copy, Debug)]
@@ -139,14 +137,18 @@ impl<'a> RawQuery<'a> {
         ensures kept { OnErr result (StartsWith out.new.items out.old.items) }
     {
         let body = self.command.as_bytes();
-        let len = (BODY + body.len()) as u32;
-        write_header(len, self.id(), self.response_to(), OP_MSG as u32, out)?;
-        // no flag, and the kind byte of a body
-        out.extend_from_slice(&[0, 0, 0, 0, 0])?;
-        out.extend_from_slice(body)
+        if names_database(self.command) {
+            write_message_front(body.len(), self.id(), self.response_to(), out)?;
+            return out.extend_from_slice(body);
+        }
+        let len = body.len() + DB_LEN + self.database.len();
+        write_message_front(len, self.id(), self.response_to(), out)?;
+        write_with_database(self.command, self.database, out)
     }
 
-    /// Appends the OP_MSG with the same ids and body, which is shorter than the query.
+    /// Appends the OP_MSG with the same ids. Its body is the command, with the database's name as
+    /// the string `$db` behind its elements, unless it has a `$db` of its own. The message is
+    /// shorter than the query.
     ///
     /// # Errors
     ///
@@ -157,7 +159,7 @@ impl<'a> RawQuery<'a> {
         ensures unchanged { OnErr result (out.new.items ≡ out.old.items) }
     {
         let start = out.len();
-        out.try_reserve(BODY + self.command.as_bytes().len())?;
+        out.try_reserve(self.bytes.len())?;
         match self.write_parts(out) {
             Ok(()) => Ok(()),
             Err(error) => {

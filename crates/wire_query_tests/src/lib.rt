@@ -2,9 +2,11 @@
 //! were worked out by hand from the Wire Protocol manual, and that calls succeed if there is
 //! memory. They are in a crate of their own, since a crate is proved once more with its tests.
 //!
-//! Uses wire_query. Read first: `queries`.
+//! Uses wire_query. Read first: `queries`, and then `messages`.
 #![tactic(auto)]
 
+#[cfg(test)]
+mod messages;
 #[cfg(test)]
 mod queries;
 #[cfg(test)]

@@ -15,8 +15,8 @@ const QUERY: &[u8] = b"\x3a\0\0\0\x03\0\0\0\0\0\0\0\xd4\x07\0\0\0\0\0\0admin.$cm
     \0\0\0\0\xff\xff\xff\xff\x13\0\0\0\x10ismaster\0\x01\0\0\0\0";
 
 /// Two bytes, and then the message of the query.
-const MESSAGE: &[u8] = b"ab\x28\0\0\0\x03\0\0\0\0\0\0\0\xdd\x07\0\0\0\0\0\0\0\
-    \x13\0\0\0\x10ismaster\0\x01\0\0\0\0";
+const MESSAGE: &[u8] = b"ab\x37\0\0\0\x03\0\0\0\0\0\0\0\xdd\x07\0\0\0\0\0\0\0\
+    \x22\0\0\0\x10ismaster\0\x01\0\0\0\x02$db\0\x06\0\0\0admin\0\0";
 
 /// `{"ok": 1.0}`
 const OK: &[u8] = b"\x11\0\0\0\x01ok\0\0\0\0\0\0\0\xf0\x3f\0";

@@ -30,13 +30,13 @@ fn a_request_that_wants_no_reply_is_let_go(rt: HostRuntime) {
     assert!(rt; is_let_go(rt.alloc()) == Some(true));
 }
 
-/// `{"ismaster": 1}` to `admin.$cmd` as query 3, the message that goes to the server, its reply
-/// `{"ismaster": 1}` of id 90, and the OP_REPLY that the client gets.
+/// `{"ismaster": 1}` to `admin.$cmd` as query 3, the message that goes to the server, which names
+/// the database, its reply `{"ismaster": 1}` of id 90, and the OP_REPLY that the client gets.
 const QUERY: &[u8] =
     b"\x3a\0\0\0\x03\0\0\0\0\0\0\0\xd4\x07\0\0\0\0\0\0admin.$cmd\0\0\0\0\0\xff\xff\xff\xff\x13\0\0\0\x10ismaster\0\x01\0\0\0\0";
 
-const QUERY_PASSED: &[u8] =
-    b"\x28\0\0\0\x01\0\0\0\0\0\0\0\xdd\x07\0\0\0\0\0\0\0\x13\0\0\0\x10ismaster\0\x01\0\0\0\0";
+const QUERY_PASSED: &[u8] = b"\x37\0\0\0\x01\0\0\0\0\0\0\0\xdd\x07\0\0\0\0\0\0\0\
+    \x22\0\0\0\x10ismaster\0\x01\0\0\0\x02$db\0\x06\0\0\0admin\0\0";
 
 const QUERY_ANSWER: &[u8] =
     b"\x28\0\0\0\x5a\0\0\0\x01\0\0\0\xdd\x07\0\0\0\0\0\0\0\x13\0\0\0\x10ismaster\0\x01\0\0\0\0";
