@@ -1,9 +1,8 @@
 -- A downstream is served in order, with the answers that it was given.
-use Rattle.std.proofs.Common.{◌≡◌, ◌≢◌, ℕ, Bool, true, false, List, [], ◌∷◌, ◌++◌, refl, sym, ◌∙◌, ap, subst, Option, Some, None, Result, Ok, Err, ◌⊎◌, inl, inr, append_assoc, append-nil}
+use Rattle.std.proofs.Common.{◌≡◌, ℕ, Bool, true, false, List, [], ◌∷◌, ◌++◌, refl, sym, ◌∙◌, ap, subst, Some, None, Result, Ok, Err, ◌⊎◌, inl, inr, append_assoc, append-nil}
 use Rattle.std.proofs.lemmas.Option.{none-some, same_Some}
 use Rattle.wire_msg.specs.{Content, Message, SpellsMsg}
-use Rattle.wire_peer.specs.{AnswerStep, Asked, Does, LogEntry, ServerView, WaitsAt, asked_by, content_of, entered}
-use Rattle.wire_peer.specs.declared.echoing.Echo.{Echo}
+use Rattle.wire_peer.specs.{AnswerStep, Does, LogEntry, ServerView, WaitsAt, asked_by, entered}
 use Rattle.wire_peer.specs.declared.log.NoReplies.{NoReplies}
 use Rattle.wire_peer.specs.declared.log.NoReplies.TheVariants.{NoMemory, NotAsked, Stopped, TooLarge}
 use Rattle.wire_peer.specs.declared.server_state.AnswerRefusal.{AnswerRefusal}
@@ -18,10 +17,10 @@ use Rattle.wire_front.specs.declared.cause.FrontState.{FrontState}
 use Rattle.wire_front.specs.declared.cause.FrontState.TheVariants as fronts
 use Rattle.wire_hall.specs.{IsServed}
 use Rattle.wire_hall.specs.Serving.{all_answered, nothing, one_lost, one_waits}
-use Rattle.wire_hall.proofs.Lemmas.{SameServer, answer_number, answers, ended_same, goes, put_server, takes, takes_same}
+use Rattle.wire_hall.proofs.Lemmas.{answer_number, answers, ended_same, goes, put_server, takes, takes_same}
 use Rattle.wire_share.specs.Acts.{Answers, DownAct, DownDoes, DownMove, DownMoves, DownRun, Ends, GoesWith, Moves, PassesOn, Sends, Stays, Takes}
 use Rattle.wire_share.specs.Answering.{EachMakesOwn, IsAnswered, IsEntryWith, MakesOwn, made_by, of_acts, sent_by, taken_by}
-use Rattle.wire_share.specs.Sharing.{DownSeen, IsGiven, Leaves, echoes, new_downstream, relays, wants_memory}
+use Rattle.wire_share.specs.Sharing.{DownSeen, Leaves, echoes, new_downstream, relays, wants_memory}
 
 -- what waits is one message
 one_waiting : (s : ServerView) (m n : Message) → WaitsAt s 0 m → WaitsAt s 0 n → m ≡ n

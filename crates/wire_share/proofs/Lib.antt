@@ -6,3 +6,4 @@ pub mod Pairing
 pub mod Mixing
 pub mod Servers
 pub mod Answering
+pub mod Killing

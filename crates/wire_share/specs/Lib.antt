@@ -1,4 +1,6 @@
 pub mod Kept
+pub mod Needs
+pub mod Routing
 pub mod Sharing
 pub mod Acts
 pub mod Mixing

@@ -16,11 +16,16 @@
 mod awaited;
 mod downstream;
 pub mod laws;
+mod need;
 mod refusals;
 mod relayed;
+mod route_table;
+mod routes;
 mod upstream;
 
 pub use awaited::Awaited;
 pub use downstream::Downstream;
+pub use need::{Need, SessionId, begun_by, need_of};
 pub use refusals::{GiveRefusal, PassRefusal};
+pub use routes::Routes;
 pub use upstream::Upstream;

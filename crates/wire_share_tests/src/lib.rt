@@ -8,6 +8,10 @@
 #[cfg(test)]
 mod passing;
 #[cfg(test)]
+mod route_refusals;
+#[cfg(test)]
+mod routes;
+#[cfg(test)]
 mod share_refusals;
 #[cfg(test)]
 mod sharing;
