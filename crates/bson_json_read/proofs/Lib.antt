@@ -6,8 +6,10 @@ pub mod DocumentBack
 pub mod Ends
 pub mod FormNames
 pub mod Integers
+pub mod Lanes
 pub mod Leaves
 pub mod Lemmas
+pub mod Lexing
 pub mod Lines
 pub mod Numerals
 pub mod Pairs

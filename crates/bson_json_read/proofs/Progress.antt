@@ -1,14 +1,15 @@
--- What is written straight from tokens: the pairs of a document and the values of an array so far.
-use Rattle.std.proofs.Common.{◌≡◌, ◌∙◌, ◌+◌, ◌-◌, ◌<◌, ℕ, suc, List, [], ◌∷◌, ◌++◌, length, take, drop, true, false, cond, Some, None, Ok, refl, sym, ap, subst, arith, append_assoc, append-nil}
+-- What is read of tokens and written so far: the pairs of a document and the values of an array. Nothing is
+-- known of the tokens behind.
+use Rattle.std.proofs.Common.{◌≡◌, ◌∙◌, ◌+◌, ◌-◌, ◌<◌, ℕ, suc, List, [], ◌∷◌, ◌++◌, length, take, drop, true, false, cond, Some, None, Ok, refl, sym, ap, subst, arith, append_assoc, append-nil, ◌≤◌, decimal}
 use Rattle.std.specs.Bool.{Decides}
 use Rattle.std.specs.Fmt.{decimal}
 use Rattle.std.specs.Str.{bytes_eq}
 use Rattle.std.proofs.Math.Seq.{drop-append-add, take-append_seam}
 use Rattle.std.proofs.lemmas.List.{length-append}
 use Rattle.std.proofs.lemmas.Slice.Eq.{bytes_eq-Decides}
-use Rattle.json.specs.Json.{Json, Items, item, Members, member}
+use Rattle.json.specs.Json.{Json, Items, item, Members, member, no_items, no_members}
 use Rattle.json.specs.Token.{Token}
-use Rattle.json.specs.Tree.{items_tokens, json_tokens, members_tokens}
+use Rattle.json.specs.Tree.{items_tokens, json_tokens, members_tokens, items_depth, members_depth}
 use Rattle.bson_elem.specs.Spelling.{document, elements}
 use Rattle.bson_elem.specs.Trees.{Tree, no_pairs}
 use Rattle.bson_raw.specs.Pairs.{TreeValue, document_value, leaf_value, with_first}
@@ -16,13 +17,12 @@ use Rattle.bson_doc.specs.Array.{array_tree}
 use Rattle.bson_doc.specs.Document.{tree_of, value_named}
 use Rattle.bson_doc.specs.Unwritable.{has_zero}
 use Rattle.bson_doc.specs.Values.{element_bytes}
-use Rattle.bson_json_read.specs.Direct.{IsArrayPut, IsDocumentPut, IsPut}
 use Rattle.bson_json_read.specs.Forms.{form_in, form_named}
 use Rattle.bson_json_read.specs.Seen.{Has, IsSeen, Keeps, code_of}
-use Rattle.bson_json_read.specs.Values.{Pair, array_read, document_read, items_read, name_refused, pairs_read, value_read}
+use Rattle.bson_json_read.specs.Values.{Pair, items_read, name_refused, pairs_read, value_read}
 use Rattle.bson_json_read.proofs.Codes.{some_code}
-use Rattle.bson_json_read.proofs.Tokens.{at_array_end, at_end, at_item, at_key}
 use Rattle.bson_json_read.proofs.Walking.{array_at, document_at}
+use Rattle.bson_json_read.specs.Direct.{ReadsItems, ReadsMembers, ReadsValue}
 
 -- ---- names that were seen
 
@@ -88,27 +88,6 @@ finished start old parts out new at is end =
 
 -- ---- the members of a document
 
--- these pairs were appended, and these members are next
-pub record MembersLeft (room offset : ℕ) (ms : Members) (ts left : List Token) (places old out : List ℕ) : Type 0 where
-  pub rest : Members
-  pub before : List Pair
-  pub left_is : left ≡ members_tokens rest ++ ts
-  pub are_in : AreIn places offset before
-  pub read : pairs_read (value_read room) [] ms ≡ pairs_read (value_read room) before rest
-  pub forms : form_in ms ≡ form_in rest
-  pub bytes : out ≡ begun old (elements (tree_of before))
-
-pub members_begin : (room offset : ℕ) (ms : Members) (ts left : List Token) (places old out : List ℕ) → left ≡ members_tokens ms ++ ts → out ≡ old ++ (0 ∷ 0 ∷ 0 ∷ 0 ∷ []) → MembersLeft room offset ms ts left places old out
-members_begin room offset ms ts left places old out is begins = record {
-  rest = ms;
-  before = [];
-  left_is = is;
-  are_in = tt;
-  read = refl;
-  forms = refl;
-  bytes = begins;
-}
-
 name_good : (name : List ℕ) (before : List Pair) → has_zero name ≡ false → value_named name before ≡ None → name_refused name before ≡ None
 name_good name before free none = rw (free, none) refl
 
@@ -119,112 +98,120 @@ pair_is_read room name j rest before v good is = rw (good, is) refl
 no_form : (name : List ℕ) (j : Json) (rest : Members) → form_named name ≡ None → form_in (member name j rest) ≡ form_in rest
 no_form name j rest none = rw none refl
 
--- the value of a member was appended
-abbrev pub Appended : ℕ → List ℕ → List Token → List Token → List ℕ → List ℕ → Type 0
-Appended room name behind left old new =
-    (j : Json) (us : List Token) → behind ≡ json_tokens j ++ us → (left ≡ us) × IsPut (value_read room j) name old new
+-- these pairs were read of an object's members, and of the others are read behind them
+pub record AllMembers (room : ℕ) (before : List Pair) (rest : Members) (tokens behind : List Token) : Type 0 where
+  pub members : Members
+  pub begins : tokens ≡ members_tokens members ++ behind
+  pub deep : members_depth members ≤ room + 2
+  pub read : pairs_read (value_read room) [] members ≡ pairs_read (value_read room) before rest
+  pub forms : form_in members ≡ form_in rest
 
-more_of : (room offset : ℕ) (ms : Members) (ts : List Token) (was now old out new : List ℕ) (name : List ℕ) (left : List Token) (j : Json) (others : Members) (before : List Pair)
-    → has_zero name ≡ false → form_named name ≡ None → AreIn was offset before → IsSeen was now (code_of offset name)
-    → pairs_read (value_read room) [] ms ≡ pairs_read (value_read room) before (member name j others) → form_in ms ≡ form_in (member name j others)
-    → out ≡ begun old (elements (tree_of before)) → (left ≡ members_tokens others ++ ts) → IsPut (value_read room j) name out new → MembersLeft room offset ms ts left now old new
-more_of room offset ms ts was now old out new name left j others before free none are seen read forms bytes left_is put = record {
-  rest = others;
-  before = before ++ (name, put.value) ∷ [];
-  left_is = left_is;
-  are_in = one_more now offset before name put.value (stay_in offset was now before seen.kept are) seen.there;
-  read = read ∙ pair_is_read room name j others before put.value (name_good name before free (is_new was offset before name are seen.absent)) put.is_read;
-  forms = forms ∙ no_form name j others none;
-  bytes = begun_more old (elements (tree_of before)) (element_bytes name put.value) out new bytes put.bytes ∙ ap (begun old) (sym (pair_more before name put.value));
+-- these pairs were appended; whatever members are next, all are those of an object
+pub record MembersSoFar (room offset : ℕ) (tokens left : List Token) (places old out : List ℕ) : Type 0 where
+  pub before : List Pair
+  pub are_in : AreIn places offset before
+  pub bytes : out ≡ begun old (elements (tree_of before))
+  pub all : (rest : Members) (behind : List Token) → left ≡ members_tokens rest ++ behind → members_depth rest ≤ room + 2 → AllMembers room before rest tokens behind
+
+pub members_start : (room offset : ℕ) (tokens : List Token) (places old out : List ℕ) → out ≡ old ++ (0 ∷ 0 ∷ 0 ∷ 0 ∷ []) → MembersSoFar room offset tokens tokens places old out
+members_start room offset tokens places old out begins = record {
+  before = [];
+  are_in = tt;
+  bytes = begins;
+  all = λ rest behind is deep. record { members = rest; begins = is; deep = deep; read = refl; forms = refl };
 }
 
-pub members_more : (room offset : ℕ) (ms : Members) (ts left behind after : List Token) (was now old out new name : List ℕ) → MembersLeft room offset ms ts left was old out → left ≡ Token.key name ∷ behind
-    → has_zero name ≡ false → form_named name ≡ None → Appended room name behind after out new → IsSeen was now (code_of offset name) → MembersLeft room offset ms ts after now old new
-members_more room offset ms ts left behind after was now old out new name m is free none appended seen =
-    let first = at_key name m.rest ts behind (sym is ∙ m.left_is) in
-    let j = first.0 in
-    let others = first.1 in
-    let put = appended j (members_tokens others ++ ts) first.3 in
-    more_of room offset ms ts was now old out new name after j others m.before free none m.are_in seen (m.read ∙ ap (pairs_read (value_read room) m.before) first.2) (m.forms ∙ ap form_in first.2) m.bytes put.0
-    put.1
+pub members_grow : (room offset : ℕ) (tokens left inside after : List Token) (was now old out new name : List ℕ) → MembersSoFar room offset tokens left was old out → left ≡ Token.key name ∷ inside
+    → has_zero name ≡ false → form_named name ≡ None → ReadsValue room name inside after out new → IsSeen was now (code_of offset name) → MembersSoFar room offset tokens after now old new
+members_grow room offset tokens left inside after was now old out new name m is free none v seen = record {
+  before = m.before ++ (name, v.put.value) ∷ [];
+  are_in = one_more now offset m.before name v.put.value (stay_in offset was now m.before seen.kept m.are_in) seen.there;
+  bytes = begun_more old (elements (tree_of m.before)) (element_bytes name v.put.value) out new m.bytes v.put.bytes ∙ ap (begun old) (sym (pair_more m.before name v.put.value));
+  all = λ rest behind left_is deep.
+      let ms = member name v.json rest in
+      let here : left ≡ members_tokens ms ++ behind =
+      is ∙ ap (λ (l : List Token). Token.key name ∷ l) (v.begins ∙ ap (λ (l : List Token). json_tokens v.json ++ l) left_is ∙ sym (append_assoc (json_tokens v.json) (members_tokens rest) behind)) in
+      let w = m.all ms behind here (omega (arith, v.deep, deep)) in
+      record {
+        members = w.members;
+        begins = w.begins;
+        deep = w.deep;
+        read = w.read ∙ pair_is_read room name v.json rest m.before v.put.value (name_good name m.before free (is_new was offset m.before name m.are_in seen.absent)) v.put.is_read;
+        forms = w.forms ∙ no_form name v.json rest none;
+      };
+}
 
-pub record MembersDone (room : ℕ) (ms : Members) (ts behind : List Token) (old new : List ℕ) : Type 0 where
-  pub left_is : behind ≡ ts
-  pub forms : form_in ms ≡ None
-  pub put : IsDocumentPut (document_read room ms) old new
-
-pub members_done : (room offset : ℕ) (ms : Members) (ts left behind : List Token) (start : ℕ) (places old out new : List ℕ) → 0 < room → MembersLeft (room - 1) offset ms ts left places old out
-    → left ≡ Token.end_object ∷ behind → start ≡ length old → new ≡ take start out ++ document (drop (start + 4) out) → MembersDone room ms ts behind old new
-members_done room offset ms ts left behind start places old out new some m is at end =
-    let last = at_end m.rest ts behind (sym is ∙ m.left_is) in
+pub members_end : (room offset : ℕ) (tokens left behind : List Token) (start : ℕ) (places old out new : List ℕ) → 0 < room → MembersSoFar (room - 1) offset tokens left places old out
+    → left ≡ Token.end_object ∷ behind → start ≡ length old → new ≡ take start out ++ document (drop (start + 4) out) → ReadsMembers room tokens behind old new
+members_end room offset tokens left behind start places old out new some m is at end =
+    let w = m.all no_members behind is (omega arith) in
     record {
-      left_is = last.1;
-      forms = m.forms ∙ ap form_in last.0;
+      members = w.members;
+      begins = w.begins;
+      deep = omega (arith, w.deep);
+      formless = w.forms;
       put = record {
         pairs = m.before;
-        is_read = document_at room ms some ∙ m.read ∙ ap (pairs_read (value_read (room - 1)) m.before) last.0;
+        is_read = document_at room w.members some ∙ w.read;
         bytes = finished start old (elements (tree_of m.before)) out new at m.bytes end;
       };
     }
 
 -- ---- the items of an array
 
-pub record ItemsLeft (room : ℕ) (js : Items) (ts left : List Token) (index : ℕ) (old out : List ℕ) : Type 0 where
-  pub rest : Items
-  pub before : List TreeValue
-  pub count : length before ≡ index
-  pub left_is : left ≡ items_tokens rest ++ ts
-  pub read : items_read (value_read room) [] js ≡ items_read (value_read room) before rest
-  pub bytes : out ≡ begun old (elements (array_tree 0 before))
-
-pub items_begin : (room : ℕ) (js : Items) (ts left : List Token) (old out : List ℕ) → left ≡ items_tokens js ++ ts → out ≡ old ++ (0 ∷ 0 ∷ 0 ∷ 0 ∷ [])
-    → ItemsLeft room js ts left 0 old out
-items_begin room js ts left old out is begins = record {
-  rest = js;
-  before = [];
-  count = refl;
-  left_is = is;
-  read = refl;
-  bytes = begins;
-}
-
 item_is_read : (room : ℕ) (j : Json) (rest : Items) (before : List TreeValue) (v : TreeValue) → value_read room j ≡ Ok v
     → items_read (value_read room) before (item j rest) ≡ items_read (value_read room) (before ++ v ∷ []) rest
 item_is_read room j rest before v is = rw is refl
 
-pub items_more : (room : ℕ) (js : Items) (ts left after : List Token) (index : ℕ) (old out new : List ℕ) → ItemsLeft room js ts left index old out → ((us : List Token) → left ≡ Token.end_array ∷ us → ⊥)
-    → Appended room (decimal index) left after out new → ItemsLeft room js ts after (index + 1) old new
-items_more room js ts left after index old out new m other appended =
-    let first = at_item m.rest ts left other m.left_is in
-    let j = first.0 in
-    let others = first.1 in
-    let put = appended j (items_tokens others ++ ts) first.3 in
-    let v = put.1.value in
+pub record AllItems (room : ℕ) (before : List TreeValue) (rest : Items) (tokens behind : List Token) : Type 0 where
+  pub items : Items
+  pub begins : tokens ≡ items_tokens items ++ behind
+  pub deep : items_depth items ≤ room + 2
+  pub read : items_read (value_read room) [] items ≡ items_read (value_read room) before rest
+
+pub record ItemsSoFar (room : ℕ) (tokens left : List Token) (index : ℕ) (old out : List ℕ) : Type 0 where
+  pub before : List TreeValue
+  pub count : length before ≡ index
+  pub bytes : out ≡ begun old (elements (array_tree 0 before))
+  pub all : (rest : Items) (behind : List Token) → left ≡ items_tokens rest ++ behind → items_depth rest ≤ room + 2 → AllItems room before rest tokens behind
+
+pub items_start : (room : ℕ) (tokens : List Token) (old out : List ℕ) → out ≡ old ++ (0 ∷ 0 ∷ 0 ∷ 0 ∷ []) → ItemsSoFar room tokens tokens 0 old out
+items_start room tokens old out begins = record {
+  before = [];
+  count = refl;
+  bytes = begins;
+  all = λ rest behind is deep. record { items = rest; begins = is; deep = deep; read = refl };
+}
+
+pub items_grow : (room : ℕ) (tokens left after : List Token) (index : ℕ) (old out new : List ℕ) → ItemsSoFar room tokens left index old out → ReadsValue room (decimal index) left after out new
+    → ItemsSoFar room tokens after (index + 1) old new
+items_grow room tokens left after index old out new m v =
+    let value = v.put.value in
     let count : index ≡ 0 + length m.before = omega (arith, m.count) in
     record {
-      rest = others;
-      before = m.before ++ v ∷ [];
-      count = omega (arith, m.count, length-append m.before (v ∷ []));
-      left_is = put.0;
-      read = m.read ∙ ap (items_read (value_read room) m.before) first.2 ∙ item_is_read room j others m.before v put.1.is_read;
+      before = m.before ++ value ∷ [];
+      count = omega (arith, m.count, length-append m.before (value ∷ []));
       bytes =
-          begun_more old (elements (array_tree 0 m.before)) (element_bytes (decimal index) v) out new m.bytes put.1.bytes
-          ∙ ap (λ (k : ℕ). begun old (elements (array_tree 0 m.before) ++ element_bytes (decimal k) v)) count ∙ ap (begun old) (sym (item_more 0 m.before v));
+          begun_more old (elements (array_tree 0 m.before)) (element_bytes (decimal index) value) out new m.bytes v.put.bytes
+          ∙ ap (λ (k : ℕ). begun old (elements (array_tree 0 m.before) ++ element_bytes (decimal k) value)) count ∙ ap (begun old) (sym (item_more 0 m.before value));
+      all = λ rest behind left_is deep.
+          let js = item v.json rest in
+          let here : left ≡ items_tokens js ++ behind = v.begins ∙ ap (λ (l : List Token). json_tokens v.json ++ l) left_is ∙ sym (append_assoc (json_tokens v.json) (items_tokens rest) behind) in
+          let w = m.all js behind here (omega (arith, v.deep, deep)) in
+          record { items = w.items; begins = w.begins; deep = w.deep; read = w.read ∙ item_is_read room v.json rest m.before value v.put.is_read };
     }
 
-pub record ItemsDone (room : ℕ) (js : Items) (ts behind : List Token) (old new : List ℕ) : Type 0 where
-  pub left_is : behind ≡ ts
-  pub put : IsArrayPut (array_read room js) old new
-
-pub items_done : (room : ℕ) (js : Items) (ts left behind : List Token) (index start : ℕ) (old out new : List ℕ) → 0 < room → ItemsLeft (room - 1) js ts left index old out
-    → left ≡ Token.end_array ∷ behind → start ≡ length old → new ≡ take start out ++ document (drop (start + 4) out) → ItemsDone room js ts behind old new
-items_done room js ts left behind index start old out new some m is at end =
-    let last = at_array_end m.rest ts behind (sym is ∙ m.left_is) in
+pub items_end : (room : ℕ) (tokens left behind : List Token) (index start : ℕ) (old out new : List ℕ) → 0 < room → ItemsSoFar (room - 1) tokens left index old out → left ≡ Token.end_array ∷ behind
+    → start ≡ length old → new ≡ take start out ++ document (drop (start + 4) out) → ReadsItems room tokens behind old new
+items_end room tokens left behind index start old out new some m is at end =
+    let w = m.all no_items behind is (omega arith) in
     record {
-      left_is = last.1;
+      items = w.items;
+      begins = w.begins;
+      deep = omega (arith, w.deep);
       put = record {
         values = m.before;
-        is_read = array_at room js some ∙ m.read ∙ ap (items_read (value_read (room - 1)) m.before) last.0;
+        is_read = array_at room w.items some ∙ w.read;
         bytes = finished start old (elements (array_tree 0 m.before)) out new at m.bytes end;
       };
     }

@@ -1,37 +1,35 @@
--- What is written straight from tokens: one value, by its first token.
-use Rattle.std.proofs.Common.{◌≡◌, ◌∙◌, ◌^◌, ℕ, List, [], ◌∷◌, ◌++◌, Option, Some, None, Ok, codes, refl, sym, ap, subst, arith, append_assoc, append-nil, true≢false}
-use Rattle.std.specs.Prelude.{IsSome, OnSome, option_and_then, option_map}
-use Rattle.json.specs.Json.{Json, string, array, object, Members, no_members, member, document, if_last, max_depth, value}
+-- What is written straight from tokens: one value, by its first token, and a text.
+use Rattle.std.proofs.Common.{◌≡◌, ◌∙◌, ◌^◌, ℕ, List, [], ◌∷◌, ◌++◌, Option, Some, None, Ok, codes, refl, sym, ap, arith, append_assoc, ◌<◌}
+use Rattle.std.specs.Prelude.{OnSome, option_and_then, option_map}
+use Rattle.json.specs.Json.{Json, string, array, object, Members, no_members, member, if_last, value}
 use Rattle.json.specs.Lex.{tokens}
 use Rattle.json.specs.Token.{Token}
-use Rattle.json.specs.Tree.{json_tokens}
-use Rattle.json.proofs.Nesting.{value-depth}
+use Rattle.json.specs.Tree.{json_tokens, depth, members_tokens}
 use Rattle.json.proofs.Printed.Trees.{value-json_tokens}
-use Rattle.json.proofs.Unique.Spelling.{tokens-document}
-use Rattle.bson_elem.specs.declared.kinds.Kind.TheVariants as kinds
 use Rattle.bson_elem.specs.Kinds.{byte_of}
 use Rattle.bson_elem.specs.Spelling.{cstring, elements}
-use Rattle.bson_elem.specs.Spelling as spelling
 use Rattle.bson_raw.specs.Pairs.{TreeValue}
 use Rattle.bson_doc.specs.Array.{array_tree}
 use Rattle.bson_doc.specs.Document.{tree_of}
 use Rattle.bson_doc.specs.Values.{element_bytes}
-use Rattle.bson_json_read.specs.declared.fault.Cause.TheVariants as causes
 use Rattle.bson_json_read.specs.declared.form.Form.{Form}
-use Rattle.bson_json_read.specs.declared.form.Form.TheVariants as forms
 use Rattle.bson_json_read.specs.Bytes.{hex_of}
 use Rattle.bson_json_read.specs.DecimalText.{decimal128_of}
-use Rattle.bson_json_read.specs.Direct.{IsDocumentPut, IsPut, PutsArray, PutsForm, PutsItems, PutsLeaf, PutsMembers, PutsObject, PutsValue, leaf_json}
+use Rattle.bson_json_read.specs.Direct.{IsDocumentPut, IsPut, PutsLeaf, leaf_json}
 use Rattle.bson_json_read.specs.Forms.{first_form, form_name, form_named}
 use Rattle.bson_json_read.specs.Iso.{iso_of}
 use Rattle.bson_json_read.specs.Numbers.{double_of_text, integer_of}
 use Rattle.bson_json_read.specs.Reads.{Read, and_map, or_refused}
-use Rattle.bson_json_read.specs.Table.{binary_texts, date_value, decimal_value, double_value, form_value, int32_value, int64_value, object_id_value}
+use Rattle.bson_json_read.specs.Table.{binary_texts, date_value, decimal_value, double_value, form_value, int32_value, int64_value, object_id_value, string_value}
 use Rattle.bson_json_read.specs.Texts.{document_as, document_in, json_in}
 use Rattle.bson_json_read.specs.Values.{Pair, array_of, document_of, document_read, form_read, object_as, value_read}
 use Rattle.bson_json_read.proofs.FormNames.{named}
-use Rattle.bson_json_read.proofs.Tokens.{at_key, of_array, of_boolean, of_null, of_number, of_object, of_string, sole_in_object, sole_string, two_in_object}
-use Rattle.bson_json_read.proofs.Walking.{value_at}
+use Rattle.bson_json_read.proofs.Walking.{value_at, document_at}
+use Rattle.bson_json_read.specs.Direct.{ReadsForm, ReadsItems, ReadsMembers, ReadsValue}
+use Rattle.bson_elem.specs.Spelling as spelling
+use Rattle.bson_elem.specs.declared.kinds.Kind.TheVariants as kinds
+use Rattle.bson_json_read.specs.declared.fault.Cause.TheVariants as causes
+use Rattle.bson_json_read.specs.declared.form.Form.TheVariants as forms
 
 -- ---- objects of a form
 
@@ -64,32 +62,34 @@ form_put room name key f j v old new h is bytes =
       bytes = bytes;
     }
 
--- an object whose other members and first value are these
-alike : (room : ℕ) (name key : List ℕ) (j i : Json) (ms : Members) (old new : List ℕ) → j ≡ i → ms ≡ no_members → IsPut (value_read room (object (member key i no_members))) name old new
-    → IsPut (value_read room (object (member key j ms))) name old new
-alike room name key j i ms old new e f put =
-    subst (λ (x : Json). IsPut (value_read room (object (member key x ms))) name old new) (sym e)
-    (subst (λ (x : Members). IsPut (value_read room (object (member key i x))) name old new) (sym f) put)
+pub text_form : (form : Form) (name : List ℕ) (tokens left : List Token) (old new t : List ℕ) (v : TreeValue) → tokens ≡ Token.string t ∷ Token.end_object ∷ left
+    → form_value form (member (form_name form) (string t) no_members) ≡ Some v → new ≡ old ++ element_bytes name v → ReadsForm form name tokens left old new
+text_form form name tokens left old new t v is value bytes = record {
+  json = string t;
+  begins = is;
+  deep = omega arith;
+  put = λ key room h. form_put room name key form (string t) v old new h value bytes;
+}
 
-pub text_form : (form : Form) (name : List ℕ) (nodes left : List Token) (old new t : List ℕ) (v : TreeValue) → nodes ≡ Token.string t ∷ Token.end_object ∷ left
-    → form_value form (member (form_name form) (string t) no_members) ≡ Some v → new ≡ old ++ element_bytes name v → PutsForm form name nodes left old new
-text_form form name nodes left old new t v is value bytes key j ms ts room h e =
-    let s = sole_string t j ms ts left (sym is ∙ e) in
-    (s.2, alike room name key j (string t) ms old new s.0 s.1 (form_put room name key form (string t) v old new h value bytes))
+pub long_date : (name : List ℕ) (tokens left : List Token) (old new t : List ℕ) (v : TreeValue)
+    → tokens ≡ Token.begin_object ∷ Token.key (codes "$numberLong") ∷ Token.string t ∷ Token.end_object ∷ Token.end_object ∷ left
+    → option_map date_value (integer_of (2 ^ 63) t) ≡ Some v → new ≡ old ++ element_bytes name v → ReadsForm forms.DateTime name tokens left old new
+long_date name tokens left old new t v is value bytes = record {
+  json = object (member (codes "$numberLong") (string t) no_members);
+  begins = is;
+  deep = omega arith;
+  put = λ key room h. form_put room name key forms.DateTime _ v old new h value bytes;
+}
 
-pub long_date : (name : List ℕ) (nodes left : List Token) (old new t : List ℕ) (v : TreeValue)
-    → nodes ≡ Token.begin_object ∷ Token.key (codes "$numberLong") ∷ Token.string t ∷ Token.end_object ∷ Token.end_object ∷ left
-    → option_map date_value (integer_of (2 ^ 63) t) ≡ Some v → new ≡ old ++ element_bytes name v → PutsForm forms.DateTime name nodes left old new
-long_date name nodes left old new t v is value bytes key j ms ts room h e =
-    let s = sole_in_object (codes "$numberLong") t j ms ts left (sym is ∙ e) in
-    (s.2, alike room name key j _ ms old new s.0 s.1 (form_put room name key forms.DateTime _ v old new h value bytes))
-
-pub binary_form : (name : List ℕ) (nodes left : List Token) (old new s t : List ℕ) (v : TreeValue)
-    → nodes ≡ Token.begin_object ∷ Token.key (codes "base64") ∷ Token.string s ∷ Token.key (codes "subType") ∷ Token.string t ∷ Token.end_object ∷ Token.end_object ∷ left
-    → binary_texts (s, t) ≡ Some v → new ≡ old ++ element_bytes name v → PutsForm forms.Binary name nodes left old new
-binary_form name nodes left old new s t v is value bytes key j ms ts room h e =
-    let x = two_in_object (codes "base64") s (codes "subType") t j ms ts left (sym is ∙ e) in
-    (x.2, alike room name key j _ ms old new x.0 x.1 (form_put room name key forms.Binary _ v old new h value bytes))
+pub binary_form : (name : List ℕ) (tokens left : List Token) (old new s t : List ℕ) (v : TreeValue)
+    → tokens ≡ Token.begin_object ∷ Token.key (codes "base64") ∷ Token.string s ∷ Token.key (codes "subType") ∷ Token.string t ∷ Token.end_object ∷ Token.end_object ∷ left
+    → binary_texts (s, t) ≡ Some v → new ≡ old ++ element_bytes name v → ReadsForm forms.Binary name tokens left old new
+binary_form name tokens left old new s t v is value bytes = record {
+  json = object (member (codes "base64") (string s) (member (codes "subType") (string t) no_members));
+  begins = is;
+  deep = omega arith;
+  put = λ key room h. form_put room name key forms.Binary _ v old new h value bytes;
+}
 
 -- the rows of the table that a text alone tells
 pub id_row : (t : List ℕ) → form_value forms.ObjectId (member (form_name forms.ObjectId) (string t) no_members) ≡ option_map object_id_value (hex_of 12 t)
@@ -112,20 +112,21 @@ iso_row t = refl
 
 -- ---- values
 
-leaf_is : (t : Token) (i j : Json) (ts us : List Token) → leaf_json t ≡ Some i → t ∷ us ≡ json_tokens j ++ ts → (j ≡ i) × (us ≡ ts)
-leaf_is (Token.string s) i j ts us h e = let x = of_string s j ts us e in (x.0 ∙ some_is h, x.1)
-  where
-    some_is : {x y : Json} → Some x ≡ Some y → x ≡ y
-    some_is e = cc
-leaf_is (Token.number s) i j ts us h e = let x = of_number s j ts us e in (cc (x.0, h), x.1)
-leaf_is (Token.boolean b) i j ts us h e = let x = of_boolean b j ts us e in (cc (x.0, h), x.1)
-leaf_is Token.null i j ts us h e = let x = of_null j ts us e in (cc (x.0, h), x.1)
-leaf_is Token.begin_object i j ts us h e = absurd cc
-leaf_is Token.end_object i j ts us h e = absurd cc
-leaf_is Token.begin_array i j ts us h e = absurd cc
-leaf_is Token.end_array i j ts us h e = absurd cc
-leaf_is (Token.key s) i j ts us h e = absurd cc
-leaf_is Token.bad i j ts us h e = absurd cc
+some_is : {x y : Json} → Some x ≡ Some y → x ≡ y
+some_is e = cc
+
+-- the one token of a value that is no object and no array
+leaf_tokens : (t : Token) (j : Json) → leaf_json t ≡ Some j → (json_tokens j ≡ t ∷ []) × (depth j ≡ 0)
+leaf_tokens (Token.string s) j h = let e = some_is h in (sym (ap json_tokens e), sym (ap depth e))
+leaf_tokens (Token.number s) j h = let e = some_is h in (sym (ap json_tokens e), sym (ap depth e))
+leaf_tokens (Token.boolean b) j h = let e = some_is h in (sym (ap json_tokens e), sym (ap depth e))
+leaf_tokens Token.null j h = let e = some_is h in (sym (ap json_tokens e), sym (ap depth e))
+leaf_tokens Token.begin_object j h = absurd cc
+leaf_tokens Token.end_object j h = absurd cc
+leaf_tokens Token.begin_array j h = absurd cc
+leaf_tokens Token.end_array j h = absurd cc
+leaf_tokens (Token.key s) j h = absurd cc
+leaf_tokens Token.bad j h = absurd cc
 
 -- what follows of a fact that holds of some result
 pub on_some : {A P Q : Type 0} (o : Option A) → (P → Q) → OnSome o P → OnSome o Q
@@ -136,89 +137,81 @@ pub leaf_put : (t : Token) (j : Json) (v : TreeValue) (name old new : List ℕ) 
     → PutsLeaf t name old new
 leaf_put t j v name old new is read bytes = (j, is, λ room. record { value = v; is_read = read room; bytes = bytes })
 
-pub of_leaf : (room : ℕ) (t : Token) (name : List ℕ) (nodes left : List Token) (old new : List ℕ) → nodes ≡ t ∷ left → PutsLeaf t name old new → PutsValue room name nodes left old new
-of_leaf room t name nodes left old new is (i, leaf, put) j ts e =
-    let x = leaf_is t i j ts left leaf (sym is ∙ e) in
-    (x.1, subst (λ (k : Json). IsPut (value_read room k) name old new) (sym x.0) (put room))
+pub of_leaf : (room : ℕ) (t : Token) (name : List ℕ) (tokens left : List Token) (old new : List ℕ) → tokens ≡ t ∷ left → PutsLeaf t name old new → ReadsValue room name tokens left old new
+of_leaf room t name tokens left old new is (j, leaf, put) =
+    let x = leaf_tokens t j leaf in
+    record {
+      json = j;
+      begins = is ∙ ap (λ (l : List Token). l ++ left) (sym x.0);
+      deep = omega (arith, x.1);
+      put = put room;
+    }
 
-pub of_object_node : (room : ℕ) (name : List ℕ) (nodes inside left : List Token) (old new : List ℕ) → nodes ≡ Token.begin_object ∷ inside → PutsObject room name inside left old new
-    → PutsValue room name nodes left old new
-of_object_node room name nodes inside left old new is puts j ts e =
-    let o = of_object j ts inside (sym is ∙ e) in
-    let p = puts o.0 ts o.2 in
-    (p.0, subst (λ (k : Json). IsPut (value_read room k) name old new) (sym o.1) p.1)
+pub of_string : (room : ℕ) (s name : List ℕ) (tokens left : List Token) (old new : List ℕ) → tokens ≡ Token.string s ∷ left → new ≡ old ++ element_bytes name (string_value s) → ReadsValue room name tokens left old new
+of_string room s name tokens left old new is bytes =
+    of_leaf room (Token.string s) name tokens left old new is (leaf_put (Token.string s) (string s) (string_value s) name old new refl (λ r. value_at r (string s)) bytes)
 
-pub of_array_node : (room : ℕ) (name : List ℕ) (nodes inside left : List Token) (old new : List ℕ) → nodes ≡ Token.begin_array ∷ inside → PutsArray room name inside left old new
-    → PutsValue room name nodes left old new
-of_array_node room name nodes inside left old new is puts j ts e =
-    let o = of_array j ts inside (sym is ∙ e) in
-    let p = puts o.0 ts o.2 in
-    (p.0, subst (λ (k : Json). IsPut (value_read room k) name old new) (sym o.1) p.1)
-
-pub by_form : (room : ℕ) (form : Form) (key name : List ℕ) (nodes behind left : List Token) (old new : List ℕ) → nodes ≡ Token.key key ∷ behind → form_named key ≡ Some form
-    → PutsForm form name behind left old new → PutsObject room name nodes left old new
-by_form room form key name nodes behind left old new is h puts ms ts e =
-    let first = at_key key ms ts behind (sym is ∙ e) in
-    let p = puts key first.0 first.1 ts room h first.3 in
-    (p.0, subst (λ (m : Members). IsPut (value_read room (object m)) name old new) (sym first.2) p.1)
+pub by_form : (room : ℕ) (form : Form) (key name : List ℕ) (tokens left : List Token) (old new : List ℕ) → form_named key ≡ Some form → ReadsForm form name tokens left old new
+    → ReadsValue room name (Token.begin_object ∷ Token.key key ∷ tokens) left old new
+by_form room form key name tokens left old new h f = record {
+  json = object (member key f.json no_members);
+  begins = ap (λ (l : List Token). Token.begin_object ∷ Token.key key ∷ l) (f.begins ∙ sym (append_assoc (json_tokens f.json) (Token.end_object ∷ []) left));
+  deep = omega (arith, f.deep);
+  put = f.put key room h;
+}
 
 -- the bytes of a document behind the head of its element
 behind_head : (byte : ℕ) (name old mid new bytes : List ℕ) → mid ≡ old ++ (byte ∷ cstring name) → new ≡ mid ++ bytes → new ≡ old ++ (byte ∷ (cstring name ++ bytes))
 behind_head byte name old mid new bytes head is = is ∙ ap (λ (l : List ℕ). l ++ bytes) head ∙ append_assoc old (byte ∷ cstring name) bytes
 
-pub as_document : (room : ℕ) (name : List ℕ) (nodes left : List Token) (old mid new : List ℕ) → mid ≡ old ++ (byte_of kinds.Document ∷ cstring name) → PutsMembers room nodes left mid new
-    → PutsObject room name nodes left old new
-as_document room name nodes left old mid new head puts ms ts e =
-    let p = puts ms ts e in
-    let d = p.2 in (
-      p.0,
-      record {
-        value = document_of d.pairs;
-        is_read = value_at room (object ms) ∙ ap (object_as (document_read room) ms) p.1 ∙ ap (and_map document_of) d.is_read;
-        bytes = behind_head (byte_of kinds.Document) name old mid new (spelling.document (elements (tree_of d.pairs))) head d.bytes;
-      },
-    )
+pub as_document : (room : ℕ) (name : List ℕ) (tokens left : List Token) (old mid new : List ℕ) → mid ≡ old ++ (byte_of kinds.Document ∷ cstring name) → ReadsMembers room tokens left mid new
+    → ReadsValue room name (Token.begin_object ∷ tokens) left old new
+as_document room name tokens left old mid new head r = record {
+  json = object r.members;
+  begins = ap (λ (l : List Token). Token.begin_object ∷ l) r.begins;
+  deep = omega (arith, r.deep);
+  put = record {
+    value = document_of r.put.pairs;
+    is_read = value_at room (object r.members) ∙ ap (object_as (document_read room) r.members) r.formless ∙ ap (and_map document_of) r.put.is_read;
+    bytes = behind_head (byte_of kinds.Document) name old mid new (spelling.document (elements (tree_of r.put.pairs))) head r.put.bytes;
+  };
+}
 
-pub as_array : (room : ℕ) (name : List ℕ) (nodes left : List Token) (old mid new : List ℕ) → mid ≡ old ++ (byte_of kinds.Array ∷ cstring name) → PutsItems room nodes left mid new
-    → PutsArray room name nodes left old new
-as_array room name nodes left old mid new head puts js ts e =
-    let p = puts js ts e in
-    let a = p.1 in (
-      p.0,
-      record {
-        value = array_of a.values;
-        is_read = value_at room (array js) ∙ ap (and_map array_of) a.is_read;
-        bytes = behind_head (byte_of kinds.Array) name old mid new (spelling.document (elements (array_tree 0 a.values))) head a.bytes;
-      },
-    )
+pub empty_members : (room : ℕ) (tokens left : List Token) (old new : List ℕ) → tokens ≡ Token.end_object ∷ left → 0 < room → new ≡ old ++ spelling.document [] → ReadsMembers room tokens left old new
+empty_members room tokens left old new is some bytes = record {
+  members = no_members;
+  begins = is;
+  deep = omega arith;
+  formless = refl;
+  put = record { pairs = []; is_read = document_at room no_members some; bytes = bytes };
+}
+
+pub as_empty : (room : ℕ) (name : List ℕ) (tokens left : List Token) (old mid new : List ℕ) → tokens ≡ Token.end_object ∷ left → mid ≡ old ++ (byte_of kinds.Document ∷ cstring name) → 0 < room
+    → new ≡ mid ++ spelling.document [] → ReadsValue room name (Token.begin_object ∷ tokens) left old new
+as_empty room name tokens left old mid new is head some bytes = as_document room name tokens left old mid new head (empty_members room tokens left mid new is some bytes)
+
+pub as_array : (room : ℕ) (name : List ℕ) (tokens left : List Token) (old mid new : List ℕ) → mid ≡ old ++ (byte_of kinds.Array ∷ cstring name) → ReadsItems room tokens left mid new
+    → ReadsValue room name (Token.begin_array ∷ tokens) left old new
+as_array room name tokens left old mid new head r = record {
+  json = array r.items;
+  begins = ap (λ (l : List Token). Token.begin_array ∷ l) r.begins;
+  deep = omega (arith, r.deep);
+  put = record {
+    value = array_of r.put.values;
+    is_read = value_at room (array r.items) ∙ ap (and_map array_of) r.put.is_read;
+    bytes = behind_head (byte_of kinds.Array) name old mid new (spelling.document (elements (array_tree 0 r.put.values))) head r.put.bytes;
+  };
+}
 
 -- ---- a text
 
-none_found : {A B : Type 0} {x : B} → None ≡ Some x → A
-none_found e = absurd cc
-
-last : (o : Option (Json × List Token)) (j : Json) → option_and_then (λ p. if_last p.0 p.1) o ≡ Some j → o ≡ Some (j, [])
-last None j e = none_found e
-last (Some (i, [])) j e = cc
-last (Some (i, t ∷ ts)) j e = none_found e
-
--- what is read 128 deep is read 402 deep
-deeper : (text : List ℕ) (j : Json) → document text ≡ Some j → json_in text ≡ Some j
-deeper text j is =
-    let shallow = value-depth max_depth (tokens text) [] j (last (value max_depth (tokens text)) j is) in
-    ap (option_and_then (λ p. if_last p.0 p.1)) (ap (value 402) (tokens-document text j is ∙ sym (append-nil (json_tokens j))) ∙ value-json_tokens j 402 [] (omega (arith, shallow)))
-
-pub of_text : (text : List ℕ) (nodes inside left : List Token) (old new : List ℕ) → nodes ≡ tokens text → IsSome (document text) → nodes ≡ Token.begin_object ∷ inside → PutsMembers 200 inside left old new
-    → IsDocumentPut (document_in text) old new
-of_text text nodes inside left old new is some begins puts = found (document text) refl some
-  where
-    found : (o : Option Json) → document text ≡ o → IsSome o → IsDocumentPut (document_in text) old new
-    found None e u = absurd (true≢false (sym u))
-    found (Some j) e u =
-        let o = of_object j [] inside (sym begins ∙ is ∙ tokens-document text j e ∙ sym (append-nil (json_tokens j))) in
-        let p = puts o.0 [] o.2 in
-        let read : document_in text ≡ document_read 200 o.0 = ap document_as (deeper text j e ∙ ap Some o.1) in record {
-          pairs = p.2.pairs;
-          is_read = read ∙ p.2.is_read;
-          bytes = p.2.bytes;
-        }
+pub of_text : (text : List ℕ) (inside left : List Token) (old new : List ℕ) → tokens text ≡ Token.begin_object ∷ inside → ReadsMembers 200 inside left old new → left ≡ [] → IsDocumentPut (document_in text) old new
+of_text text inside left old new begins r end =
+    let j = object r.members in
+    let is : tokens text ≡ json_tokens j ++ [] = begins ∙ ap (λ (l : List Token). Token.begin_object ∷ l) (r.begins ∙ ap (λ (l : List Token). members_tokens r.members ++ l) end) in
+    let read : json_in text ≡ Some j = ap (option_and_then (λ p. if_last p.0 p.1)) (ap (value 402) is ∙ value-json_tokens j 402 [] (omega (arith, r.deep))) in
+    record {
+      pairs = r.put.pairs;
+      is_read = ap document_as read ∙ r.put.is_read;
+      bytes = r.put.bytes;
+    }

@@ -1,13 +1,13 @@
--- What is written straight from the tokens of a JSON value.
-use Rattle.std.specs.Prelude.{◌≡◌, ℕ, List, ◌++◌, Option, Some, None, Ok, false}
-use Rattle.json.specs.Json.{Items, Json, Members, array, boolean, member, null, number, object}
+-- What is read of the tokens of a JSON value, from the first one on, and written.
+use Rattle.std.specs.Prelude.{◌≡◌, ◌≤◌, ◌<◌, ◌+◌, ◌∷◌, ◌++◌, ℕ, List, Option, Some, None, Ok}
+use Rattle.json.specs.Json.{Items, Json, Members, boolean, member, no_members, null, number, object}
 use Rattle.json.specs.Json.{string}
 use Rattle.json.specs.Token.{Token}
-use Rattle.json.specs.Tree.{items_tokens, json_tokens, members_tokens}
+use Rattle.json.specs.Tree.{depth, items_depth, items_tokens, json_tokens, members_depth}
+use Rattle.json.specs.Tree.{members_tokens}
 use Rattle.bson_elem.specs.{document, elements}
 use Rattle.bson_raw.specs.{TreeValue}
 use Rattle.bson_doc.specs.{array_tree, tree_of}
-use Rattle.bson_doc.specs.Unwritable.{has_zero}
 use Rattle.bson_doc.specs.Values.{element_bytes}
 use Rattle.bson_json_read.specs.declared.form.Form.{Form}
 use Rattle.bson_json_read.specs.Forms.{form_in, form_named}
@@ -32,41 +32,38 @@ pub record IsArrayPut (read : Read (List TreeValue)) (old new : List ℕ) : Type
   pub is_read : read ≡ Ok values
   pub bytes : new ≡ old ++ document (elements (array_tree 0 values))
 
--- If the tokens begin with a JSON value, the others are left, and the element of that value was
--- appended, in what so many documents and arrays may be nested.
-abbrev pub PutsValue : ℕ → List ℕ → List Token → List Token → List ℕ → List ℕ → Type 0
-PutsValue room name tokens left old new =
-    (j : Json) (ts : List Token) → tokens ≡ json_tokens j ++ ts
-    → (left ≡ ts) × IsPut (value_read room j) name old new
-
--- the same of a value that has this name in an object
-abbrev pub PutsMember : ℕ → List ℕ → List Token → List Token → List ℕ → List ℕ → Type 0
-PutsMember room name tokens left old new =
-    (has_zero name ≡ false) × (form_named name ≡ None) × PutsValue room name tokens left old new
+-- The tokens begin with a JSON value, and the others are left. The element of that value was
+-- appended, in what so many documents and arrays may be nested. An object of a form is two deep.
+pub record ReadsValue (room : ℕ) (name : List ℕ) (tokens left : List Token) (old new : List ℕ)
+    : Type 0 where
+  pub json : Json
+  pub begins : tokens ≡ json_tokens json ++ left
+  pub deep : depth json ≤ room + 2
+  pub put : IsPut (value_read room json) name old new
 
 -- the same of the members of an object, none of which has the name of a form, and of a document
-abbrev pub PutsMembers : ℕ → List Token → List Token → List ℕ → List ℕ → Type 0
-PutsMembers room tokens left old new =
-    (ms : Members) (ts : List Token) → tokens ≡ members_tokens ms ++ ts
-    → (left ≡ ts) × (form_in ms ≡ None) × IsDocumentPut (document_read room ms) old new
+pub record ReadsMembers (room : ℕ) (tokens left : List Token) (old new : List ℕ) : Type 0 where
+  pub members : Members
+  pub begins : tokens ≡ members_tokens members ++ left
+  pub deep : members_depth members < room + 2
+  pub formless : form_in members ≡ None
+  pub put : IsDocumentPut (document_read room members) old new
 
 -- the same of the items of an array
-abbrev pub PutsItems : ℕ → List Token → List Token → List ℕ → List ℕ → Type 0
-PutsItems room tokens left old new =
-    (js : Items) (ts : List Token) → tokens ≡ items_tokens js ++ ts
-    → (left ≡ ts) × IsArrayPut (array_read room js) old new
+pub record ReadsItems (room : ℕ) (tokens left : List Token) (old new : List ℕ) : Type 0 where
+  pub items : Items
+  pub begins : tokens ≡ items_tokens items ++ left
+  pub deep : items_depth items < room + 2
+  pub put : IsArrayPut (array_read room items) old new
 
--- the same of the members of an object, and of its own value
-abbrev pub PutsObject : ℕ → List ℕ → List Token → List Token → List ℕ → List ℕ → Type 0
-PutsObject room name tokens left old new =
-    (ms : Members) (ts : List Token) → tokens ≡ members_tokens ms ++ ts
-    → (left ≡ ts) × IsPut (value_read room (object ms)) name old new
-
--- the same of the items of an array, and of its own value
-abbrev pub PutsArray : ℕ → List ℕ → List Token → List Token → List ℕ → List ℕ → Type 0
-PutsArray room name tokens left old new =
-    (js : Items) (ts : List Token) → tokens ≡ items_tokens js ++ ts
-    → (left ≡ ts) × IsPut (value_read room (array js)) name old new
+-- the same of an object's one member behind its name, which is that of a form
+pub record ReadsForm (form : Form) (name : List ℕ) (tokens left : List Token) (old new : List ℕ)
+    : Type 0 where
+  pub json : Json
+  pub begins : tokens ≡ json_tokens json ++ (Token.end_object ∷ left)
+  pub deep : depth json ≤ 1
+  pub put : (key : List ℕ) (room : ℕ) → form_named key ≡ Some form
+      → IsPut (value_read room (object (member key json no_members))) name old new
 
 -- the JSON value of one token
 abbrev pub leaf_json : Token → Option Json
@@ -81,10 +78,3 @@ abbrev pub PutsLeaf : Token → List ℕ → List ℕ → List ℕ → Type 0
 PutsLeaf t name old new =
     (j : Json) × (leaf_json t ≡ Some j)
     × ((room : ℕ) → IsPut (value_read room j) name old new)
-
--- the same of the members of an object behind the first name, which is that of a form
-abbrev pub PutsForm : Form → List ℕ → List Token → List Token → List ℕ → List ℕ → Type 0
-PutsForm form name tokens left old new =
-    (key : List ℕ) (j : Json) (ms : Members) (ts : List Token) (room : ℕ)
-    → form_named key ≡ Some form → tokens ≡ json_tokens j ++ (members_tokens ms ++ ts)
-    → (left ≡ ts) × IsPut (value_read room (object (member key j ms))) name old new

@@ -1,6 +1,7 @@
 pub mod Bytes
 pub mod Lossless
 pub mod Causes
+pub mod Cursor
 pub mod DecimalText
 pub mod Direct
 pub mod Extents
@@ -14,6 +15,7 @@ pub mod Reads
 pub mod Seeking
 pub mod Seen
 pub mod Sequences
+pub mod Sources
 pub mod Table
 pub mod Texts
 pub mod Values

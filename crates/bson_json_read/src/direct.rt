@@ -1,24 +1,33 @@
-//! Writes documents straight from the nodes of their JSON, where that takes one look at each: no
+//! Writes documents straight from the tokens of their JSON, where that takes one look at each: no
 //! name stands twice in an object, and each object of a form has the members in the order in which
 //! they are usually written. Each function returns `None` for anything else, which says nothing of
 //! the text.
+//!
+//! The tokens of a text whose strings have no escape are read where they stand, and those of
+//! another one from the kit's tape.
 
-ghost use Rattle.std.specs.Prelude.{◌≡◌, ◌^◌, IfSome, Ok, OnSome, Some, option_map};
+ghost use Rattle.std.specs.Prelude.{◌≡◌, ◌<◌, ◌∷◌, ◌++◌, ◌^◌, [], ℕ, List, IfSome, None, Ok};
+ghost use Rattle.std.specs.Prelude.{OnSome, Some, false, option_map};
 ghost use Rattle.std.specs.Fmt.{decimal};
 ghost use Rattle.json.specs.Json.{member, no_members, string};
-ghost use Rattle.json.specs.Tape.{node_token};
-ghost use Rattle.bson_json_read.specs.Direct.{IsDocumentPut, PutsArray, PutsForm, PutsItems};
-ghost use Rattle.bson_json_read.specs.Direct.{PutsLeaf, PutsMember, PutsMembers, PutsObject};
-ghost use Rattle.bson_json_read.specs.Direct.{PutsValue};
-ghost use Rattle.bson_json_read.specs.Forms.{form_name};
+ghost use Rattle.json.specs.Lex.{tokens};
+ghost use Rattle.json.specs.Reads.{token_of};
+ghost use Rattle.json.specs.Token as token;
+ghost use Rattle.bson_elem.specs.{document};
+ghost use Rattle.bson_doc.specs.Unwritable as unwritable;
+ghost use Rattle.bson_json_read.specs.Direct.{IsDocumentPut, PutsLeaf, ReadsForm, ReadsItems};
+ghost use Rattle.bson_json_read.specs.Direct.{ReadsMembers, ReadsValue};
+ghost use Rattle.bson_json_read.specs.Forms.{form_name, form_named};
 ghost use Rattle.bson_json_read.specs.Leaf.{leaf_of};
 ghost use Rattle.bson_json_read.specs.Numbers.{integer_of};
 ghost use Rattle.bson_json_read.specs.Seen.{IsSeen, Keeps, code_of};
+ghost use Rattle.bson_json_read.specs.Sources.{left_of};
 ghost use Rattle.bson_json_read.specs.Table.{date_value, form_value};
 ghost use Rattle.bson_json_read.specs.Texts.{document_in};
 ghost use Rattle.bson_json_read.specs.Values.{number_read};
 
 use crate::bytes::read_object_id;
+use crate::cursor::Cursor;
 use crate::decimal::decimal128_from_text;
 use crate::element::{Leaf, begin, finish, put_head, put_leaf, put_owned, put_string};
 use crate::form::{Form, form_of_name};
@@ -27,11 +36,13 @@ use crate::nodes::Nodes;
 use crate::number::{read_double, read_finite, read_i32, read_i64};
 use crate::owned::binary_of;
 use crate::seen::{Seen, code_of};
+use crate::source::Source;
 use crate::zero::has_zero;
 use bson_elem::Kind;
 use bson_raw::double_to_bytes;
 use itoa::Buffer;
-use json::{Node, Scratch, Tape};
+use json::{Scratch, Tape, Token};
+use memchr::memchr;
 use std::alloc::Global;
 
 /// Returns the value that a text stands for in an object of this form.
@@ -51,21 +62,36 @@ fn text_value(form: Form, text: &str) -> Option<Leaf>
     }
 }
 
-/// Appends the value of an object of this form, behind whose name the nodes are, if it is a text.
+/// Appends the value of an object of this form, whose name was taken, if the value is a text.
 #[tactic(auto, using(crate::proofs::Written::text_form))]
-fn write_text_form<'a>(
+fn write_text_form<'t, 'a>(
     form: Form,
     name: &str,
-    nodes: &mut Nodes<'_, 'a>,
+    left: &mut Source<'t, 'a>,
     out: &mut Vec<u8>,
 ) -> Option<()>
-    ensures { OnSome result
-        (PutsForm form name.now nodes.old nodes.new out.old.items out.new.items) }
+    ensures { OnSome result (ReadsForm form name.now (left_of left.old) (left_of left.new)
+        out.old.items out.new.items) }
 {
-    let text = nodes.text()?;
-    nodes.end_object()?;
-    put_leaf(name, text_value(form, text)?, out)?;
-    Some(())
+    let text = left.text()?;
+    if !left.end_object() {
+        return None;
+    }
+    put_leaf(name, text_value(form, text)?, out)
+}
+
+/// Takes the next member, if it has this name and is a text.
+#[inline(always)]
+fn text_named<'t, 'a>(name: &str, left: &mut Source<'t, 'a>) -> Option<&'a str>
+    ensures { IfSome result (λ s. left_of left.old
+        ≡ token.key name.now ∷ token.string s.now ∷ left_of left.new) }
+{
+    left.pass_comma();
+    if left.name()? == name {
+        left.text()
+    } else {
+        None
+    }
 }
 
 /// Returns the date of so many milliseconds.
@@ -78,78 +104,85 @@ fn date_of(text: &str) -> Option<Leaf>
 
 /// Appends the date of an object of `$date` whose value is one of `$numberLong`.
 #[tactic(auto, using(crate::proofs::Written::long_date))]
-fn write_long_date<'a>(name: &str, nodes: &mut Nodes<'_, 'a>, out: &mut Vec<u8>) -> Option<()>
-    ensures { OnSome result
-        (PutsForm Form.DateTime name.now nodes.old nodes.new out.old.items out.new.items) }
+fn write_long_date<'t, 'a>(name: &str, left: &mut Source<'t, 'a>, out: &mut Vec<u8>) -> Option<()>
+    ensures { OnSome result (ReadsForm Form.DateTime name.now (left_of left.old) (left_of left.new)
+        out.old.items out.new.items) }
 {
-    nodes.begin_object()?;
-    let text = nodes.text_named("$numberLong")?;
-    nodes.end_object()?;
-    nodes.end_object()?;
-    put_leaf(name, date_of(text)?, out)?;
-    Some(())
+    if !left.begin_object() {
+        return None;
+    }
+    let text = text_named("$numberLong", left)?;
+    if !left.end_object() {
+        return None;
+    }
+    if !left.end_object() {
+        return None;
+    }
+    put_leaf(name, date_of(text)?, out)
 }
 
 /// Appends the binary of an object of `$binary`.
 #[tactic(auto, using(crate::proofs::Written::binary_form))]
-fn write_binary<'a>(
+fn write_binary<'t, 'a>(
     alloc: Global,
     name: &str,
-    nodes: &mut Nodes<'_, 'a>,
+    left: &mut Source<'t, 'a>,
     out: &mut Vec<u8>,
 ) -> Option<()>
-    ensures { OnSome result
-        (PutsForm Form.Binary name.now nodes.old nodes.new out.old.items out.new.items) }
+    ensures { OnSome result (ReadsForm Form.Binary name.now (left_of left.old) (left_of left.new)
+        out.old.items out.new.items) }
 {
-    nodes.begin_object()?;
-    let base64 = nodes.text_named("base64")?;
-    let subtype = nodes.text_named("subType")?;
-    nodes.end_object()?;
-    nodes.end_object()?;
+    if !left.begin_object() {
+        return None;
+    }
+    let base64 = text_named("base64", left)?;
+    let subtype = text_named("subType", left)?;
+    if !left.end_object() {
+        return None;
+    }
+    if !left.end_object() {
+        return None;
+    }
     let Ok(Some(value)) = binary_of(alloc, base64, subtype) else {
         return None;
     };
-    put_owned(name, &value, out)?;
-    Some(())
+    put_owned(name, &value, out)
 }
 
-/// Returns true if an object is next.
-fn is_object(nodes: &Nodes<'_, '_>) -> bool {
-    matches!(nodes.peek(), Some(Node::Object(_)))
-}
-
-/// Appends the value of an object of this form, behind whose name the nodes are.
-fn write_form<'a>(
+/// Appends the value of an object of this form, whose name was taken.
+fn write_form<'t, 'a>(
     alloc: Global,
     form: Form,
     name: &str,
-    nodes: &mut Nodes<'_, 'a>,
+    left: &mut Source<'t, 'a>,
     out: &mut Vec<u8>,
 ) -> Option<()>
-    ensures { OnSome result
-        (PutsForm form name.now nodes.old nodes.new out.old.items out.new.items) }
+    ensures { OnSome result (ReadsForm form name.now (left_of left.old) (left_of left.new)
+        out.old.items out.new.items) }
 {
     match form {
-        Form::Binary => write_binary(alloc, name, nodes, out),
-        Form::DateTime if is_object(nodes) => write_long_date(name, nodes, out),
-        _ => write_text_form(form, name, nodes, out),
+        Form::Binary => write_binary(alloc, name, left, out),
+        Form::DateTime if left.is_at_object() => write_long_date(name, left, out),
+        _ => write_text_form(form, name, left, out),
     }
 }
 
 /// Appends the pair of a member of the document that begins at `offset`.
 #[cycle(write)]
 #[inline(always)]
-fn write_member<'a>(
+fn write_member<'t, 'a>(
     alloc: Global,
     offset: usize,
     name: &str,
-    nodes: &mut Nodes<'_, 'a>,
+    left: &mut Source<'t, 'a>,
     room: u32,
     seen: &mut Seen,
     out: &mut Vec<u8>,
 ) -> Option<()>
-    ensures puts { OnSome result
-        (PutsMember room name.now nodes.old nodes.new out.old.items out.new.items) }
+    ensures free { OnSome result (unwritable.has_zero name.now ≡ false) }
+    ensures formless { OnSome result (form_named name.now ≡ None) }
+    ensures reads { OnSome result (ReadsValue room name.now (left_of left.old) (left_of left.new)
+        out.old.items out.new.items) }
     ensures code { OnSome result (IsSeen seen.old seen.new (code_of offset name.now)) }
 {
     if has_zero(name.as_bytes()) || form_of_name(name).is_some() {
@@ -158,22 +191,35 @@ fn write_member<'a>(
     if !seen.put(code_of(offset, name)) {
         return None;
     }
-    write_value(alloc, name, nodes, room, seen, out)?;
-    Some(())
+    write_value(alloc, name, left, room, seen, out)
 }
 
-/// Appends the document of the members that are next. So many documents and arrays may be nested,
-/// with it.
+/// Appends the document that has no pair. So many documents and arrays may be nested, with it.
+fn write_empty(room: u32, out: &mut Vec<u8>) -> Option<()>
+    ensures room { OnSome result (0 < room) }
+    ensures bytes { OnSome result (out.new.items ≡ out.old.items ++ document []) }
+{
+    if room == 0 {
+        return None;
+    }
+    let start = out.len();
+    begin(out)?;
+    finish(start, out)
+}
+
+/// Appends the document of the members that are next, of which the first has this name. So many
+/// documents and arrays may be nested, with it.
 #[cycle(write)]
-fn write_members<'a>(
+fn write_members<'t, 'a>(
     alloc: Global,
-    nodes: &mut Nodes<'_, 'a>,
+    first: &'a str,
+    left: &mut Source<'t, 'a>,
     room: u32,
     seen: &mut Seen,
     out: &mut Vec<u8>,
 ) -> Option<()>
-    ensures puts { OnSome result
-        (PutsMembers room nodes.old nodes.new out.old.items out.new.items) }
+    ensures reads { OnSome result (ReadsMembers room (token.key first.now ∷ left_of left.old)
+        (left_of left.new) out.old.items out.new.items) }
     ensures kept { OnSome result (Keeps seen.old seen.new) }
 {
     if room == 0 {
@@ -182,16 +228,15 @@ fn write_members<'a>(
     let start = out.len();
     let offset = seen.offset(start);
     begin(out)?;
-    // A member takes a node at least.
-    for _ in 0..nodes.len() {
-        match nodes.next()? {
-            Node::Key(name) => write_member(alloc, offset, name, nodes, room - 1, seen, out)?,
-            Node::EndObject => {
-                finish(start, out)?;
-                return Some(());
-            }
-            _ => return None,
+    let mut name = first;
+    // A member takes a token at least.
+    for _ in 0..left.most() {
+        write_member(alloc, offset, name, left, room - 1, seen, out)?;
+        if left.end_object() {
+            return finish(start, out);
         }
+        left.pass_comma();
+        name = left.name()?;
     }
     None
 }
@@ -199,33 +244,34 @@ fn write_members<'a>(
 /// Appends the element of the item at `index` of an array.
 #[cycle(write)]
 #[inline(always)]
-fn write_item<'a>(
+fn write_item<'t, 'a>(
     alloc: Global,
     index: usize,
-    nodes: &mut Nodes<'_, 'a>,
+    left: &mut Source<'t, 'a>,
     room: u32,
     seen: &mut Seen,
     out: &mut Vec<u8>,
 ) -> Option<()>
-    ensures puts { OnSome result
-        (PutsValue room (decimal index) nodes.old nodes.new out.old.items out.new.items) }
+    ensures reads { OnSome result (ReadsValue room (decimal index) (left_of left.old)
+        (left_of left.new) out.old.items out.new.items) }
     ensures kept { OnSome result (Keeps seen.old seen.new) }
 {
     let mut digits = Buffer::new();
-    write_value(alloc, digits.format(index), nodes, room, seen, out)
+    write_value(alloc, digits.format(index), left, room, seen, out)
 }
 
 /// Appends the array of the items that are next. So many documents and arrays may be nested, with
 /// it.
 #[cycle(write)]
-fn write_items<'a>(
+fn write_items<'t, 'a>(
     alloc: Global,
-    nodes: &mut Nodes<'_, 'a>,
+    left: &mut Source<'t, 'a>,
     room: u32,
     seen: &mut Seen,
     out: &mut Vec<u8>,
 ) -> Option<()>
-    ensures puts { OnSome result (PutsItems room nodes.old nodes.new out.old.items out.new.items) }
+    ensures reads { OnSome result
+        (ReadsItems room (left_of left.old) (left_of left.new) out.old.items out.new.items) }
     ensures kept { OnSome result (Keeps seen.old seen.new) }
 {
     if room == 0 {
@@ -233,59 +279,62 @@ fn write_items<'a>(
     }
     let start = out.len();
     begin(out)?;
-    // An item takes a node at least.
-    for index in 0..nodes.len() {
-        if nodes.end_array() {
-            finish(start, out)?;
-            return Some(());
+    // An item takes a token at least.
+    for index in 0..left.most() {
+        if left.end_array() {
+            return finish(start, out);
         }
-        write_item(alloc, index, nodes, room - 1, seen, out)?;
+        left.pass_comma();
+        write_item(alloc, index, left, room - 1, seen, out)?;
     }
     None
 }
 
-/// Appends the element of an object, whose members are next.
+/// Appends the element of an object, whose first member or end is next.
 #[cycle(write)]
-#[tactic(auto, using(crate::proofs::Written::by_form, crate::proofs::Written::as_document))]
-fn write_object<'a>(
+#[inline(always)]
+#[tactic(auto, using(crate::proofs::Written::by_form, crate::proofs::Written::as_document, crate::proofs::Written::as_empty))]
+fn write_object<'t, 'a>(
     alloc: Global,
     name: &str,
-    nodes: &mut Nodes<'_, 'a>,
+    left: &mut Source<'t, 'a>,
     room: u32,
     seen: &mut Seen,
     out: &mut Vec<u8>,
 ) -> Option<()>
-    ensures puts { OnSome result
-        (PutsObject room name.now nodes.old nodes.new out.old.items out.new.items) }
+    ensures reads { OnSome result (ReadsValue room name.now (token.begin_object ∷ left_of left.old)
+        (left_of left.new) out.old.items out.new.items) }
     ensures kept { OnSome result (Keeps seen.old seen.new) }
 {
-    if let Some(form) = nodes.form() {
-        write_form(alloc, form, name, nodes, out)?;
-        return Some(());
+    if left.end_object() {
+        put_head(Kind::Document, name, out)?;
+        return write_empty(room, out);
+    }
+    let key = left.name()?;
+    if let Some(form) = form_of_name(key) {
+        return write_form(alloc, form, name, left, out);
     }
     put_head(Kind::Document, name, out)?;
-    write_members(alloc, nodes, room, seen, out)?;
-    Some(())
+    write_members(alloc, key, left, room, seen, out)
 }
 
 /// Appends the element of an array, whose items are next.
 #[cycle(write)]
 #[tactic(auto, using(crate::proofs::Written::as_array))]
-fn write_array<'a>(
+fn write_array<'t, 'a>(
     alloc: Global,
     name: &str,
-    nodes: &mut Nodes<'_, 'a>,
+    left: &mut Source<'t, 'a>,
     room: u32,
     seen: &mut Seen,
     out: &mut Vec<u8>,
 ) -> Option<()>
-    ensures puts { OnSome result
-        (PutsArray room name.now nodes.old nodes.new out.old.items out.new.items) }
+    ensures reads { OnSome result (ReadsValue room name.now (token.begin_array ∷ left_of left.old)
+        (left_of left.new) out.old.items out.new.items) }
     ensures kept { OnSome result (Keeps seen.old seen.new) }
 {
     put_head(Kind::Array, name, out)?;
-    write_items(alloc, nodes, room, seen, out)?;
-    Some(())
+    write_items(alloc, left, room, seen, out)
 }
 
 /// Returns the value of a number that isn't too large.
@@ -302,17 +351,16 @@ fn plain_number(text: &str) -> Option<Leaf>
     Some(Leaf::Double(double_to_bytes(read_finite(text)?)))
 }
 
-/// Appends the element of a value that is no object and no array.
+/// Appends the element of a number, a truth value or null.
 #[inline(always)]
-fn write_leaf(node: Node<'_>, name: &str, out: &mut Vec<u8>) -> Option<()>
+fn write_word(token: Token<'_>, name: &str, out: &mut Vec<u8>) -> Option<()>
     ensures { OnSome result
-        (PutsLeaf (node_token node.entry) name.now out.old.items out.new.items) }
+        (PutsLeaf (token_of token.entry) name.now out.old.items out.new.items) }
 {
-    match node {
-        Node::String(text) => put_string(name, text, out),
-        Node::Number(text) => put_leaf(name, plain_number(text)?, out),
-        Node::Bool(truth) => put_leaf(name, Leaf::Boolean(truth), out),
-        Node::Null => put_leaf(name, Leaf::Null, out),
+    match token {
+        Token::Number(text) => put_leaf(name, plain_number(text)?, out),
+        Token::Bool(truth) => put_leaf(name, Leaf::Boolean(truth), out),
+        Token::Null => put_leaf(name, Leaf::Null, out),
         _ => None,
     }
 }
@@ -320,39 +368,79 @@ fn write_leaf(node: Node<'_>, name: &str, out: &mut Vec<u8>) -> Option<()>
 /// Appends the element of the value that is next, in which at most `room` documents and arrays may
 /// be nested.
 #[cycle(write)]
-#[tactic(auto, using(crate::proofs::Written::of_leaf, crate::proofs::Written::of_object_node, crate::proofs::Written::of_array_node))]
-fn write_value<'a>(
+#[inline(always)]
+#[tactic(auto, using(crate::proofs::Written::of_leaf, crate::proofs::Written::of_string))]
+fn write_value<'t, 'a>(
     alloc: Global,
     name: &str,
-    nodes: &mut Nodes<'_, 'a>,
+    left: &mut Source<'t, 'a>,
     room: u32,
     seen: &mut Seen,
     out: &mut Vec<u8>,
 ) -> Option<()>
-    ensures puts { OnSome result
-        (PutsValue room name.now nodes.old nodes.new out.old.items out.new.items) }
+    ensures reads { OnSome result (ReadsValue room name.now (left_of left.old) (left_of left.new)
+        out.old.items out.new.items) }
     ensures kept { OnSome result (Keeps seen.old seen.new) }
 {
-    match nodes.next()? {
-        Node::Object(_) => {
-            write_object(alloc, name, nodes, room, seen, out)?;
-            Some(())
-        }
-        Node::Array(_) => {
-            write_array(alloc, name, nodes, room, seen, out)?;
-            Some(())
-        }
-        leaf => {
-            write_leaf(leaf, name, out)?;
-            Some(())
-        }
+    if left.begin_object() {
+        return write_object(alloc, name, left, room, seen, out);
     }
+    if left.begin_array() {
+        return write_array(alloc, name, left, room, seen, out);
+    }
+    if let Some(text) = left.text() {
+        return put_string(name, text, out);
+    }
+    write_word(left.word()?, name, out)
 }
 
-/// Appends the document of a text, if it is one of those that are written so. Else it returns
-/// `None`, and nothing is said of what was appended.
+/// Appends the document of an object whose first member or end is next.
+#[tactic(auto, using(crate::proofs::Written::empty_members))]
+fn write_outermost<'t, 'a>(
+    alloc: Global,
+    left: &mut Source<'t, 'a>,
+    seen: &mut Seen,
+    out: &mut Vec<u8>,
+) -> Option<()>
+    ensures { OnSome result
+        (ReadsMembers 200 (left_of left.old) (left_of left.new) out.old.items out.new.items) }
+{
+    if left.end_object() {
+        return write_empty(200, out);
+    }
+    let first = left.name()?;
+    write_members(alloc, first, left, 200, seen, out)
+}
+
+/// Appends the document of a text whose tokens these are.
 #[tactic(auto, using(crate::proofs::Written::of_text))]
-pub(crate) fn write_text<'a>(
+fn write_tokens<'t, 'a>(
+    alloc: Global,
+    left: &mut Source<'t, 'a>,
+    seen: &mut Seen,
+    out: &mut Vec<u8>,
+) -> Option<()>
+    ensures { OnSome result ((text : List ℕ) → left_of left.old ≡ tokens text
+        → IsDocumentPut (document_in text) out.old.items out.new.items) }
+{
+    if !left.begin_object() {
+        return None;
+    }
+    write_outermost(alloc, left, seen, out)?;
+    if left.is_at_end() { Some(()) } else { None }
+}
+
+/// Appends the document of a text whose strings have no escape, like `write_text`.
+fn write_plain_text(alloc: Global, text: &str, seen: &mut Seen, out: &mut Vec<u8>) -> Option<()>
+    ensures { OnSome result (IsDocumentPut (document_in text.now) out.old.items out.new.items) }
+{
+    // A member takes five bytes, with a comma.
+    seen.begin_text(text.len() / 5)?;
+    write_tokens(alloc, &mut Source::Text(Cursor::new(text)), seen, out)
+}
+
+/// Appends the document of a text, like `write_text`, by way of a tape.
+fn write_tape<'a>(
     alloc: Global,
     text: &'a str,
     scratch: &'a mut Scratch,
@@ -364,10 +452,26 @@ pub(crate) fn write_text<'a>(
     let Ok(tape) = Tape::parse(text, scratch, Vec::new(alloc)) else {
         return None;
     };
-    let mut nodes = Nodes::new(tape.nodes());
+    let nodes = tape.nodes();
     // A name takes two nodes, with its value.
     seen.begin_text(nodes.len() / 2)?;
-    nodes.begin_object()?;
-    write_members(alloc, &mut nodes, 200, seen, out)?;
-    Some(())
+    write_tokens(alloc, &mut Source::Tape(Nodes::new(nodes)), seen, out)
+}
+
+/// Puts the bytes of a text's document into `out`, in place of what that holds, if the text is one
+/// of those that are written so. Else it returns `None`, and nothing is said of what `out` holds.
+pub(crate) fn write_text<'a>(
+    alloc: Global,
+    text: &'a str,
+    scratch: &'a mut Scratch,
+    seen: &mut Seen,
+    out: &mut Vec<u8>,
+) -> Option<()>
+    ensures { OnSome result (IsDocumentPut (document_in text.now) [] out.new.items) }
+{
+    out.clear();
+    if memchr(b'\\', text.as_bytes()).is_some() {
+        return write_tape(alloc, text, scratch, seen, out);
+    }
+    write_plain_text(alloc, text, seen, out)
 }

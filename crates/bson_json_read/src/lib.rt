@@ -10,6 +10,7 @@
 #![tactic(auto)]
 
 mod bytes;
+mod cursor;
 mod decimal;
 mod direct;
 mod element;
@@ -24,7 +25,9 @@ mod nodes;
 mod number;
 mod owned;
 mod place;
+mod run;
 mod seen;
+mod source;
 mod text;
 mod texts;
 mod value;

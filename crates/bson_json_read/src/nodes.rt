@@ -1,15 +1,13 @@
 //! Nodes of a JSON text, one after another.
 
-ghost use Rattle.std.specs.Prelude.{◌≡◌, ◌∷◌, [], ℕ, List, IfSome, MatchOption, None, OnSome, Some};
-ghost use Rattle.std.specs.Prelude.{drop, map};
+ghost use Rattle.std.specs.Prelude.{◌≡◌, ◌∷◌, [], IfSome, IsTrue, MatchOption, drop, map};
+ghost use Rattle.std.specs.Str.{IsUtf8};
+ghost use Rattle.json.specs.Reads.{token_of};
 ghost use Rattle.std.specs.Bool.{MatchBool};
 ghost use Rattle.json.specs.Tape.{node_token};
-ghost use Rattle.json.specs.Token.{Token};
 ghost use Rattle.json.specs.Token as token;
-ghost use Rattle.bson_json_read.specs.Forms.{form_named};
 
-use crate::form::{Form, form_of_name};
-use json::Node;
+use json::{Node, Token};
 use std::marker::Model;
 
 /// The nodes that are next. Contracts see their tokens.
@@ -37,11 +35,6 @@ impl<'t, 'a> Nodes<'t, 'a> {
         ensures { result ≡ map node_token nodes.now }
     {
         Nodes { nodes, at: 0 }
-    }
-
-    /// Returns how many nodes there are, with those that were taken.
-    pub(crate) fn len(&self) -> usize {
-        self.nodes.len()
     }
 
     /// Returns the next node, and leaves it there.
@@ -78,74 +71,41 @@ impl<'t, 'a> Nodes<'t, 'a> {
         self.skip();
         Some(node)
     }
+}
 
-    /// Takes the next node, if that is a text.
-    #[inline(always)]
-    pub(crate) fn text(&mut self) -> Option<&'a str>
-        ensures { IfSome result (λ s. self.old ≡ token.string s.now ∷ self.new) }
-    {
-        match self.next()? {
-            Node::String(text) => Some(text),
-            _ => None,
-        }
+impl<'t, 'a> Nodes<'t, 'a> {
+    /// Returns a number that isn't less than how many tokens there were.
+    pub(crate) fn most(&self) -> usize {
+        self.nodes.len()
     }
 
-    /// Takes the next two nodes, if they are this name and a text.
-    #[inline(always)]
-    pub(crate) fn text_named(&mut self, name: &str) -> Option<&'a str>
-        ensures { IfSome result (λ s. self.old
-            ≡ token.key name.now ∷ token.string s.now ∷ self.new) }
+    /// Returns true if nothing is left.
+    pub(crate) fn is_at_end(&self) -> bool
+        ensures { IsTrue result → self.now ≡ [] }
     {
-        match self.next()? {
-            Node::Key(key) if key == name => self.text(),
-            _ => None,
-        }
+        self.peek().is_none()
     }
 
-    /// Takes the next node, if that begins an object.
+    /// Takes the end of an object, if it is next. Returns true if it did.
     #[inline(always)]
-    pub(crate) fn begin_object(&mut self) -> Option<()>
-        ensures { OnSome result (self.old ≡ token.begin_object ∷ self.new) }
-    {
-        match self.next()? {
-            Node::Object(_) => Some(()),
-            _ => None,
-        }
-    }
-
-    /// Takes the next node, if that ends an object.
-    #[inline(always)]
-    pub(crate) fn end_object(&mut self) -> Option<()>
-        ensures { OnSome result (self.old ≡ token.end_object ∷ self.new) }
-    {
-        match self.next()? {
-            Node::EndObject => Some(()),
-            _ => None,
-        }
-    }
-
-    /// Takes the next node, if that is a name of a form.
-    #[inline(always)]
-    pub(crate) fn form(&mut self) -> Option<Form>
-        ensures some { IfSome result (λ f. (key : List ℕ) × (self.old ≡ token.key key ∷ self.new)
-            × (form_named key ≡ Some f)) }
-        ensures none { result ≡ None → self.new ≡ self.old }
+    pub(crate) fn end_object(&mut self) -> bool
+        ensures { MatchBool result (self.old ≡ token.end_object ∷ self.new)
+            (self.new ≡ self.old) }
     {
         match self.peek() {
-            Some(Node::Key(name)) => {
-                let form = form_of_name(name)?;
+            Some(Node::EndObject) => {
                 self.skip();
-                Some(form)
+                true
             }
-            _ => None,
+            _ => false,
         }
     }
 
-    /// Takes the next node, if that ends an array. Returns true if it did.
+    /// Takes the end of an array, if it is next. Returns true if it did.
     #[inline(always)]
     pub(crate) fn end_array(&mut self) -> bool
         ensures { MatchBool result (self.old ≡ token.end_array ∷ self.new)
-            ((self.new ≡ self.old) × ((us : List Token) → self.old ≡ token.end_array ∷ us → ⊥)) }
+            (self.new ≡ self.old) }
     {
         match self.peek() {
             Some(Node::EndArray) => {
@@ -154,5 +114,87 @@ impl<'t, 'a> Nodes<'t, 'a> {
             }
             _ => false,
         }
+    }
+
+    /// Takes the beginning of an object, if it is next. Returns true if it did.
+    #[inline(always)]
+    pub(crate) fn begin_object(&mut self) -> bool
+        ensures { MatchBool result (self.old ≡ token.begin_object ∷ self.new)
+            (self.new ≡ self.old) }
+    {
+        match self.peek() {
+            Some(Node::Object(_)) => {
+                self.skip();
+                true
+            }
+            _ => false,
+        }
+    }
+
+    /// Takes the beginning of an array, if it is next. Returns true if it did.
+    #[inline(always)]
+    pub(crate) fn begin_array(&mut self) -> bool
+        ensures { MatchBool result (self.old ≡ token.begin_array ∷ self.new)
+            (self.new ≡ self.old) }
+    {
+        match self.peek() {
+            Some(Node::Array(_)) => {
+                self.skip();
+                true
+            }
+            _ => false,
+        }
+    }
+
+    /// Passes over a comma behind a value, which is no token.
+    #[inline(always)]
+    pub(crate) fn pass_comma(&mut self)
+        ensures { self.new ≡ self.old }
+    {}
+
+    /// Takes a name.
+    #[inline(always)]
+    pub(crate) fn name(&mut self) -> Option<&'a str>
+        ensures token { IfSome result (λ s. self.old ≡ token.key s.now ∷ self.new) }
+        ensures utf8 { IfSome result (λ s. IsUtf8 s.now) }
+    {
+        match self.next()? {
+            Node::Key(name) => Some(name),
+            _ => None,
+        }
+    }
+
+    /// Takes a text that is a value, if it is next.
+    #[inline(always)]
+    pub(crate) fn text(&mut self) -> Option<&'a str>
+        ensures { MatchOption result (self.new ≡ self.old)
+            (λ s. self.old ≡ token.string s.now ∷ self.new) }
+    {
+        match self.peek() {
+            Some(Node::String(text)) => {
+                self.skip();
+                Some(text)
+            }
+            _ => None,
+        }
+    }
+
+    /// Takes a number, a truth value or null.
+    #[inline(always)]
+    pub(crate) fn word(&mut self) -> Option<Token<'a>>
+        ensures { IfSome result (λ t. self.old ≡ token_of t ∷ self.new) }
+    {
+        match self.next()? {
+            Node::Number(text) => Some(Token::Number(text)),
+            Node::Bool(truth) => Some(Token::Bool(truth)),
+            Node::Null => Some(Token::Null),
+            _ => None,
+        }
+    }
+
+    /// Returns true if an object may be next.
+    #[inline(always)]
+    pub(crate) fn is_at_object(&self) -> bool {
+        matches!(self.peek(), Some(Node::Object(_)))
     }
 }

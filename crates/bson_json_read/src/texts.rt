@@ -184,7 +184,6 @@ fn write_direct(
     ensures { result ≡ true → (d : List Pair) × (utf8_read bytes.now ≡ Ok d)
         × IsWritten d None out.new.items }
 {
-    out.clear();
     match text_of(bytes) {
         Ok(text) => write_text(alloc, text, scratch, seen, out).is_some(),
         Err(_) => false,

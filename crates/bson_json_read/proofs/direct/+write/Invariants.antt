@@ -1,9 +1,9 @@
-use Rattle.std.proofs.Common.{◌≡◌, ◌+◌, ◌-◌, ◌*◌, ◌++◌, List}
-use Rattle.json.specs.Json.{Items, Members}
+use Rattle.std.proofs.Common.{◌∷◌, ◌+◌, ◌-◌, ◌*◌}
+use Rattle.std.specs.Str.{IsUtf8}
 use Rattle.json.specs.Token.{Token}
-use Rattle.json.specs.Tree.{items_tokens, members_tokens}
+use Rattle.bson_json_read.specs.Sources.{left_of}
 use Rattle.bson_json_read.specs.Seen.{Keeps}
-use Rattle.bson_json_read.proofs.Progress.{ItemsLeft, MembersLeft}
+use Rattle.bson_json_read.proofs.Progress.{ItemsSoFar, MembersSoFar}
 use Rattle.bson_json_read.proofs.direct.+write.Given as goal
 
 abbrev pub decreases-write_members : goal.decreases-write_members
@@ -29,8 +29,7 @@ decreases-write_item l = 5 * l.room + 3
 
 abbrev pub invariant-write_members-loop : goal.invariant-write_members-loop
 invariant-write_members-loop l =
-    ((ms : Members) (ts : List Token) → l.fn.nodes ≡ members_tokens ms ++ ts → MembersLeft (l.room - 1) l.offset ms ts l.nodes l.seen l.fn.out.items l.out.items) × Keeps l.fn.seen l.seen
+    MembersSoFar (l.room - 1) l.offset (Token.key l.fn.first ∷ left_of l.fn.left) (Token.key l.name ∷ left_of l.left) l.seen l.fn.out.items l.out.items × IsUtf8 l.name × Keeps l.fn.seen l.seen
 
 abbrev pub invariant-write_items-loop-index : goal.invariant-write_items-loop-index
-invariant-write_items-loop-index l =
-    ((js : Items) (ts : List Token) → l.fn.nodes ≡ items_tokens js ++ ts → ItemsLeft (l.room - 1) js ts l.nodes l.index l.fn.out.items l.out.items) × Keeps l.fn.seen l.seen
+invariant-write_items-loop-index l = ItemsSoFar (l.room - 1) (left_of l.fn.left) (left_of l.left) l.index l.fn.out.items l.out.items × Keeps l.fn.seen l.seen
