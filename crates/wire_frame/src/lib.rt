@@ -6,7 +6,7 @@
 //! pieces. `RawFrame::opcode` says which kind of message a frame is, and `RawFrame::checksum`
 //! whether the CRC-32C of an OP_MSG is right.
 //!
-//! Uses wire_msg. Used by engines. Read first: `specs/Frames.antt`, and then `frame` and `reader`.
+//! Uses wire_msg. Used by engines, proxy and wire_record. Read first: `specs/Frames.antt`.
 #![tactic(auto)]
 
 mod checksum;

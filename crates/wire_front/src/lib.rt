@@ -8,7 +8,8 @@
 //! byte is taken while a request waits or a reply isn't sent, so replies go out in the order of
 //! the requests.
 //!
-//! Uses wire_peer and wire_query. Used by wire_hall. Read first: `front`, and then `passing`.
+//! Uses wire_peer and wire_query. Used by wire_hall and wire_share. Read first: `front`, and then
+//! `passing`.
 #![tactic(auto)]
 
 mod cause;

@@ -7,7 +7,7 @@
 //! `laws` says what comes of the turns of one seat, whatever others do in between: its requests are
 //! answered in order, each once, and what is sent are their replies.
 //!
-//! Uses wire_front. Used by test_server. Read first: `seat`, and then `hall`.
+//! Uses wire_front. Used by test_server and wire_share. Read first: `seat`, and then `hall`.
 #![tactic(auto)]
 
 mod hall;

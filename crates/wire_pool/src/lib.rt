@@ -4,7 +4,8 @@
 //! back. It doesn't know what a connection is: the caller opens one when the pool says so, and
 //! closes one that the pool drops.
 //!
-//! Uses the kit alone. Used by wire_model and wire_world. Read first: `specs/Pools.antt`.
+//! Uses the kit alone. Used by core_handles, wire_model and wire_world. Read first:
+//! `specs/Pools.antt`.
 #![tactic(auto)]
 
 pub mod laws;
