@@ -1,6 +1,7 @@
 """Random documents, messages and scripts, good ones and others, each by a source of chance alone."""
 
 from play_model import FORMS
+from records import HEAD, SIGNATURE
 from text_model import SIZES, STRINGS
 from world_ends import Content, Message, count, echo, little, spelled
 from world_model import RANGES, Limits, World
@@ -167,6 +168,17 @@ class Messages(Documents):
         if how < 0.6:
             return self.changed(bytearray(b))
         return self.of_sections() if how < 0.8 else b
+
+    def records(self, many):
+        """Returns a file of records, whose heads and messages are damaged now and then; or a beginning that is damaged itself."""
+        b = SIGNATURE + b"".join(self.head() + self.any_message() for _ in range(many))
+        return self.damaged(b) if self.chance.random() < 0.2 else b
+
+    def head(self):
+        numbers = (self.chance.choice([0, 1, -1, 1_764_230_000_123_456, 2**63 - 1, -2**63]),
+                   self.chance.choice([1, 1, 2, 9, 2**63 - 1] if self.chance.random() < 0.9 else [0, -1, -2**63]),
+                   self.chance.choice([0, 1] if self.chance.random() < 0.95 else [2, -1, 256]))
+        return HEAD.pack(*numbers)
 
     def changed(self, b):
         """Returns a message with its length, its opcode or its flags otherwise."""

@@ -1,4 +1,5 @@
-"""What the commands over a FILE of bytes write, by the definitions: `dump`, `check`, `canon`, `json` and `msg`.
+"""What the commands over a FILE of bytes write, by the definitions: `dump`, `check`, `canon`, `json` and `msg`, the last two also of a
+file of records.
 
 It is written from the order of the checks, the table of kinds and the form of the texts, and not from the code: plain and slow.
 """
@@ -6,6 +7,8 @@ It is written from the order of the checks, the table of kinds and the form of t
 import re
 
 from json_model import document_json
+from json_model import string as json_string
+from records import HEAD, SIGNATURE, BadRecord, record_front
 
 MAX_MESSAGE, MAX_DEPTH = 48_000_000, 200
 SALVAGED = 16_793_600  # the most bytes of a document that is found behind a fault
@@ -426,6 +429,37 @@ def one_frame(_, b, flags=(), start=0):  # pylint: disable=unused-argument
     return len(b), b"".join(line + b"\n" for line in lines)
 
 
+def bool_json(flag):
+    return "true" if flag else "false"
+
+
+def message_json(b, relaxed):
+    """Returns the object of an OP_MSG, or else that of the header's four numbers."""
+    front_part = f'{{"messageLength":{len(b)},"requestID":{number(b, 4)},"responseTo":{number(b, 8)}'
+    try:
+        refuse(2, 12, number(b, 12) != 2013)
+        flags, body, sequences = message(b)
+    except BadMessage:
+        return f'{front_part},"opCode":{number(b, 12)}}}'.encode()
+    front_part += f',"moreToCome":{bool_json(flags & 1 << 1)},"exhaustAllowed":{bool_json(flags & 1 << 16)},"body":'
+    lists = [b'{"identifier":%s,"documents":[%s]}' % (json_string(name).encode(), b",".join(document_json(found, relaxed) for _, found in documents))
+             for name, documents in sequences]
+    return b'%s%s,"sequences":[%s]}' % (front_part.encode(), document_json(body[1], relaxed), b",".join(lists))
+
+
+def one_record(command, b, flags=(), start=0):
+    """Returns the length and the text of a record: a line for its head and what `msg --any` writes of its message, or an object."""
+    record = record_front(b)
+    if not record:
+        return None, b""
+    length = HEAD.size + len(record.message)
+    if command == "json":
+        head = f'{{"time":{record.micros},"connection":{record.connection},"direction":"{record.sign}","message":'
+        return length, head.encode() + message_json(record.message, "--relaxed" in flags) + b"}"
+    head = f"record {record.micros} {record.connection} {record.sign}\n"
+    return length, head.encode() + one_frame(command, record.message, flags, start + HEAD.size)[1]
+
+
 def found_at(b, at):
     """Returns the length of the document of at most SALVAGED bytes that stands at an offset, and else why none does."""
     if len(b) >= at + 4 and number(b, at) > SALVAGED:
@@ -456,18 +490,19 @@ def output(command, flags, given):
         return salvaged(command, given)
     is_hex, is_array = "--hex" in flags, "--array" in flags
     b, place = read_hex(given) if is_hex else (given, None)
-    at, text, fault = 0, b"", None
+    is_file = command in ("msg", "json") and b.startswith(SIGNATURE)
+    at, text, fault = len(SIGNATURE) if is_file else 0, b"", None
     while at < len(b) and not fault:
         try:
-            one = one_frame if "--any" in flags else one_message if command == "msg" else one_document
+            one = one_record if is_file else one_frame if "--any" in flags else one_message if command == "msg" else one_document
             length, part = one(command, b[at:], flags, at)
             fault = None if length else f"14 EndedInside at {at}"
-            if command == "json":
-                part = (b",\n" if at else b"[") + part if is_array else part + b"\n"
+            if command == "json" and length:
+                part = (b",\n" if text else b"[") + part if is_array else part + b"\n"
             text, at = text + part, at + (length or 0)
-        except (Bad, BadMessage) as found:
+        except (Bad, BadMessage, BadRecord) as found:
             fault = found.line(at)
-    if place is not None and (not fault or fault.startswith("14 ") or command != "msg" and is_open(b[at:])):
+    if place is not None and (not fault or fault.startswith("14 ") or command != "msg" and not is_file and is_open(b[at:])):
         fault = f"0 Hex at {place}"
     if command == "canon" and is_hex and text:
         text = text.hex().encode() + b"\n"

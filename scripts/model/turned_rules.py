@@ -1,6 +1,6 @@
 """The rules of the models, each with a way to turn it, to see that a run of random scripts and bytes finds that.
 
-A rule is turned by an edit of the text of scripts/model/play_model.py, world_model.py, world_ends.py or text_model.py, and the models
+A rule is turned by an edit of the text of scripts/model/play_model.py, world_model.py, world_ends.py, text_model.py or records.py, and the models
 are then made of the texts anew.
 """
 
@@ -9,7 +9,7 @@ import sys
 import types
 
 FOLDER = os.path.dirname(os.path.realpath(__file__))
-MODELS = ("text_model", "world_ends", "world_model", "play_model")
+MODELS = ("records", "text_model", "world_ends", "world_model", "play_model")
 
 PLAY = [
     ("a CR in front of an LF is dropped", 'line.removesuffix(b"\\r") for line', "line for line"),
@@ -283,11 +283,10 @@ TEXTS = [
     ("the place of a document's fault is counted from its first byte", "{self.inner.line(0)}", "{self.inner.line(start)}"),
     ("an opcode is told", '2 Opcode {self.inner} at', '2 Opcode at'),
     ("white space between digits is passed over", r'rb"[ \t\r\n]"', r'rb"[ \t\n]"'),
-    ("odd digits are told by their count", "return None, len(left)\n", "return None, len(left) - 1\n"),
-    ("odd digits are told first", "    if len(left) % 2:\n        return None, len(left)\n    wrong = re.search(rb\"[^0-9a-fA-F]\", left)\n",
-     "    wrong = re.search(rb\"[^0-9a-fA-F]\", left)\n    if len(left) % 2 and not wrong:\n        return None, len(left)\n"),
-    ("a wrong digit is told by its place without white space", "(None, wrong.start())", "(None, text.index(wrong.group()))"),
-    ("digits of either case are digits", 'rb"[^0-9a-fA-F]"', 'rb"[^0-9a-f]"'),
+    ("odd digits are at fault", "if len(digits) % 2 or len(digits) < len(left) else", "if len(digits) < len(left) else"),
+    ("a wrong digit is at fault", "if len(digits) % 2 or len(digits) < len(left) else", "if len(digits) % 2 else"),
+    ("a wrong digit is told by its place without white space", "return spelled, len(digits) if", "return spelled, len(digits) + 1 if"),
+    ("digits of either case are digits", 'rb"[0-9a-fA-F]*"', 'rb"[0-9a-f]*"'),
     ("check tells whether a document is canonical", "if plain == b[:length] else", "if True else"),
     ("documents are counted from the input's start", "fault = found.line(at)", "fault = found.line(0)"),
     ("an input that ends inside a message is told at its start", "14 EndedInside at {at}", "14 EndedInside at {len(b)}"),
@@ -300,7 +299,22 @@ TEXTS = [
     ("the last gap ends with the input", "if found_at(b, to)[0]), len(b))", "if found_at(b, to)[0]), len(b) + 1)"),
     ("a length above the limit is no document's", "number(b, at) > SALVAGED", "number(b, at) > 2**31"),
     ("canon writes no gaps", 'if command == "check" else b""', 'if command else b""'),
+    ("a fault in a record's message counts from the file's start", "flags, start + HEAD.size)", "flags, HEAD.size)"),
+    ("an object of no OP_MSG has its opcode", "refuse(2, 12, number(b, 12) != 2013)\n        flags", "flags"),
+    ("items of an array of records begin with a comma but the first", 'b",\\n" if text else', 'b",\\n" if at else'),
     ("a gap has status 1", "at, status = to, 1", "at, status = to, 0"),
+]
+
+RECORDS = [
+    ("a connection of a record is 1 at least", "if connection < 1:", "if connection < 0:"),
+    ("a connection of a record is told at its offset", "raise BadRecord(17, 8)", "raise BadRecord(17, 0)"),
+    ("a direction of a record is told at its offset", "raise BadRecord(18, 16)", "raise BadRecord(18, 8)"),
+    ("a connection of a record is told before its direction",
+     "    if connection < 1:\n        raise BadRecord(17, 8)\n    if direction not in (0, 1):\n        raise BadRecord(18, 16)\n",
+     "    if direction not in (0, 1):\n        raise BadRecord(18, 16)\n    if connection < 1:\n        raise BadRecord(17, 8)\n"),
+    ("the length of a record's message is told at its offset", "raise BadRecord(1, HEAD.size)", "raise BadRecord(1, 0)"),
+    ("a message to the server has the sign >", 'SIGNS = (">", "<")', 'SIGNS = ("<", ">")'),
+    ("a file of records has eight bytes in front", 'SIGNATURE = b"LUGHREC1"', 'SIGNATURE = b"LUGHREC2"'),
 ]
 
 
@@ -325,7 +339,7 @@ def list_rules():
 
 def rules():
     """Returns each rule by its name, with the model and the edit that turns it."""
-    tables = [("play_model", PLAY), ("world_model", WORLD), ("world_model", list_rules()), ("world_ends", ENDS), ("text_model", TEXTS)]
+    tables = [("play_model", PLAY), ("world_model", WORLD), ("world_model", list_rules()), ("world_ends", ENDS), ("text_model", TEXTS), ("records", RECORDS)]
     return {name: (model, old, new) for model, table in tables for name, old, new in table}
 
 

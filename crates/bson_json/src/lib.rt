@@ -4,8 +4,8 @@
 //! `write_json` writes a borrowed document as one JSON object, with no white space and no line
 //! feed. It takes no memory, and makes no copy of the document. `write_json_string` writes a text.
 //!
-//! Uses bson_raw and text_writer. Used by bson_json_read, wire_text, byte_views and engines. Read
-//! first: `object`, and then `pairs`.
+//! Uses bson_raw and text_writer. Used by bson_json_read, wire_text, byte_views, engines, proxy and
+//! replay. Read first: `object`, and then `pairs`.
 #![tactic(auto)]
 
 mod date;

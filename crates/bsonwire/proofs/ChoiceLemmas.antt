@@ -1,9 +1,6 @@
 -- What a choice reads of the matches.
 use Rattle.std.proofs.Common.{◌≡◌, ◌∙◌, ◌<◌, ◌^◌, ℕ, ap, refl, subst, sym, Bool, true, false, true≢false, List, Option, Some, None, Result, Ok, Err, codes, arith}
-use Rattle.std.specs.Prelude.{◌≢◌, IfSome, MatchBool, if◌then◌else◌}
-use Rattle.std.specs.Option.{option_map_or}
-use Rattle.std.specs.Str.{bytes_eq}
-use Rattle.std.proofs.lemmas.Slice.Eq.{bytes_eq-Decides}
+use Rattle.std.specs.Prelude.{IfSome}
 use Rattle.std.specs.Str.Parse.{ParsesUnsigned, digits_value, without_leading_plus}
 use Rattle.clap.specs.Words.{IsUnsignedIn, ReadsOne, Row, Text}
 use Rattle.command_words.proofs.Lemmas.{reads_true}

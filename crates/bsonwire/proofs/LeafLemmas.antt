@@ -9,14 +9,14 @@ use Rattle.clap.specs.Kinds.{check_kinds}
 use Rattle.clap.specs.Faults.{check_fault, defaults_fault, level_fault, settle_fault, walk_fault}
 use Rattle.clap.specs.Simple.{App, Shape, built_leaf, inherited, marked_built, rows_at, with_leaf_noted}
 use Rattle.clap.specs.Takes.{is_given}
-use Rattle.clap.specs.Walk.{Held, Row, Text, finished, has_row, more_values, nothing_held, row_text, settled, walk, walk_from, with_default, with_values}
+use Rattle.clap.specs.Walk.{Held, Row, Rule, Text, finished, has_row, more_values, nothing_held, row_text, settled, walk, walk_from, with_default, with_values}
 use Rattle.clap.specs.declared.builder.value_parser.Reading.{Reading}
 use Rattle.clap.specs.declared.builder.value_parser.Reading.TheVariants.{AsWritten}
 use Rattle.clap.specs.declared.parser.matches.ValueSource.{ValueSource}
 use Rattle.clap.specs.declared.parser.matches.ValueSource.TheVariants.{DefaultValue}
-use Rattle.bsonwire.specs.CommandLine.{command_line, dump_app, dump_flags, file_app, json_app, json_flags, loop_app, msg_app, msg_flags, proxy_app, salvage_flags, text_flags}
-use Rattle.bsonwire.specs.Choices.{HasCalls, HasFile, HasOptions, HoldsFlag}
-use Rattle.bsonwire.proofs.RowLemmas.{AreGood, Each, IsBoolText, IsCountText, IsGoodRow, IsNumberText, KeepsUse, dump_leaf_keeps, find_holds, good_with, is_flag, is_number, json_leaf_keeps, leaf_rules, loop_leaf_keeps, msg_leaf_keeps, no_kind, no_number, no_operand, or_nil, proxy_leaf_keeps, salvage_leaf_keeps, settle_good, text_leaf_keeps, walk_good}
+use Rattle.bsonwire.specs.CommandLine.{command_line, dump_app, dump_flags, file_app, json_app, json_flags, loop_app, msg_app, msg_flags, proxy_app, proxy_rules, replay_app, replay_rules, salvage_flags, text_flags}
+use Rattle.bsonwire.specs.Choices.{HasCalls, HasFile, HasOptions, HasReplay, HoldsFlag}
+use Rattle.bsonwire.proofs.RowLemmas.{AreGood, Each, IsBoolText, IsCountText, IsGoodRow, IsNumberText, KeepsUse, dump_leaf_keeps, find_holds, good_with, is_flag, is_number, json_leaf_keeps, leaf_rules, loop_leaf_keeps, msg_leaf_keeps, no_kind, no_number, no_operand, or_nil, proxy_leaf_keeps, replay_leaf_keeps, salvage_leaf_keeps, settle_good, text_leaf_keeps, walk_good}
 
 -- ---- the rows at the end of a walk
 
@@ -122,31 +122,56 @@ finished_is_good id rows good =
     let one = if has_row id rows then rows else rows in
     same (has_row (codes "help") one) AreGood one (same (has_row id rows) AreGood rows good)
 
--- an argument without a default changes no rows
-abbrev same_rows : Text → List Row → List Row
-same_rows id rows = if has_row id rows then rows else rows
+-- ---- the rows at the end of a walk, of the subcommand `proxy`
 
-same_is_good : (id : Text) (rows : List Row) → AreGood rows → AreGood (same_rows id rows)
-same_is_good id rows good = same (has_row id rows) AreGood rows good
+-- the default of an argument keeps the rows good
+abbrev KeepsDefault : Rule → Type 0
+KeepsDefault a = (rows : List Row) → AreGood rows → AreGood (with_default rows a)
 
--- the rows at the end of a walk, of the subcommand `proxy`
-abbrev proxy_rows : List Row → List Row
-proxy_rows rows =
-    let addresses = same_rows (codes "upstream") (same_rows (codes "listen") rows) in
-    let flags = with_flag (codes "text") (has_row (codes "text") addresses) addresses in
-    let files = same_rows (codes "script") (same_rows (codes "port-file") (same_rows (codes "connections") flags)) in
-    same_rows (codes "help") (same_rows (codes "seed") files)
+defaults_keep : (rules : List Rule) (rows : List Row) → Each KeepsDefault rules → AreGood rows → AreGood (fold with_default rows rules)
+defaults_keep [] rows each good = good
+defaults_keep (a ∷ rest) rows each good = defaults_keep rest (with_default rows a) each.1 (each.0 rows good)
 
-proxy_is_good : (rows : List Row) → AreGood rows → AreGood (proxy_rows rows)
-proxy_is_good rows good =
-    let addresses = same_rows (codes "upstream") (same_rows (codes "listen") rows) in
-    let flags = with_flag (codes "text") (has_row (codes "text") addresses) addresses in
-    let with_text : AreGood flags = (flag_is_there (codes "text") addresses refl (same_is_good (codes "upstream") (same_rows (codes "listen") rows) (same_is_good (codes "listen") rows good))).0 in
-    let counted = same_rows (codes "connections") flags in
-    let told = same_rows (codes "port-file") counted in
-    let files = same_rows (codes "script") told in
-    let good_files : AreGood files = same_is_good (codes "script") told (same_is_good (codes "port-file") counted (same_is_good (codes "connections") flags with_text)) in
-    same_is_good (codes "help") (same_rows (codes "seed") files) (same_is_good (codes "seed") files good_files)
+-- one that has none, and a flag
+none_keeps : (id : Text) (rows : List Row) → AreGood rows → AreGood (if has_row id rows then rows else rows)
+none_keeps id rows good = same (has_row id rows) AreGood rows good
+
+flag_default_keeps : (name : Text) → IsFlag name → (rows : List Row) → AreGood rows → AreGood (with_flag name (has_row name rows) rows)
+flag_default_keeps name flag rows good = (flag_is_there name rows flag good).0
+
+proxy_defaults_keep : Each KeepsDefault (leaf_rules proxy_rules)
+proxy_defaults_keep = (
+  none_keeps (codes "listen"),
+  (
+    none_keeps (codes "upstream"),
+    (
+      flag_default_keeps (codes "text") refl,
+      (
+        flag_default_keeps (codes "json") refl,
+        (
+          none_keeps (codes "record"),
+          (
+            none_keeps (codes "limit"),
+            (
+              none_keeps (codes "share"),
+              (
+                none_keeps (codes "connections"),
+                (none_keeps (codes "port-file"), (none_keeps (codes "script"), (none_keeps (codes "seed"), (none_keeps (codes "help"), tt)))),
+              ),
+            ),
+          ),
+        ),
+      ),
+    ),
+  ),
+)
+
+-- those of the subcommand `replay`
+replay_defaults_keep : Each KeepsDefault (leaf_rules replay_rules)
+replay_defaults_keep = (
+  none_keeps (codes "file"),
+  (none_keeps (codes "address"), (none_keeps (codes "ignore"), (none_keeps (codes "speed"), (none_keeps (codes "help"), tt)))),
+)
 
 abbrev IsFound : Text → Row → Type 0
 IsFound id r = (r.id ≡ id) × IsGoodRow r
@@ -302,10 +327,24 @@ proxy_leaf_names words none =
     let s = leaf proxy_app in
     let rows = rows_of_leaf s words in
     let is = unfaulted s proxy_leaf_keeps words none in
-    let good : AreGood rows = proxy_is_good (settled s.rules (walk s.rules [] nothing_held words).held).rows is.0 in
+    let good : AreGood rows = defaults_keep s.rules (settled s.rules (walk s.rules [] nothing_held words).held).rows proxy_defaults_keep is.0 in
     let given = both_where_unfaulted (is_given (codes "listen") rows) (is_given (codes "upstream") rows) is.1 in (
       value_found (codes "listen") (find (λ r. bytes_eq r.id (codes "listen")) rows) (found (codes "listen") rows good) given.0,
       value_found (codes "upstream") (find (λ r. bytes_eq r.id (codes "upstream")) rows) (found (codes "upstream") rows good) given.1,
       number_found (codes "connections") refl (find (λ r. bytes_eq r.id (codes "connections")) rows) (found (codes "connections") rows good),
       number_found (codes "seed") refl (find (λ r. bytes_eq r.id (codes "seed")) rows) (found (codes "seed") rows good),
+      number_found (codes "limit") refl (find (λ r. bytes_eq r.id (codes "limit")) rows) (found (codes "limit") rows good),
+      number_found (codes "share") refl (find (λ r. bytes_eq r.id (codes "share")) rows) (found (codes "share") rows good),
+    )
+
+pub replay_leaf_names : (words : List Text) → IsUnfaulted (leaf replay_app) words → HasReplay (rows_of_leaf (leaf replay_app) words)
+replay_leaf_names words none =
+    let s = leaf replay_app in
+    let rows = rows_of_leaf s words in
+    let is = unfaulted s replay_leaf_keeps words none in
+    let good : AreGood rows = defaults_keep s.rules (settled s.rules (walk s.rules [] nothing_held words).held).rows replay_defaults_keep is.0 in
+    let given = both_where_unfaulted (is_given (codes "file") rows) (is_given (codes "address") rows) is.1 in (
+      value_found (codes "file") (find (λ r. bytes_eq r.id (codes "file")) rows) (found (codes "file") rows good) given.0,
+      value_found (codes "address") (find (λ r. bytes_eq r.id (codes "address")) rows) (found (codes "address") rows good) given.1,
+      number_found (codes "speed") refl (find (λ r. bytes_eq r.id (codes "speed")) rows) (found (codes "speed") rows good),
     )

@@ -13,7 +13,7 @@ use Rattle.clap.specs.Simple.{Shape, argument_words, built, entered, label_of, n
 use Rattle.clap.specs.Takes.{is_given}
 use Rattle.clap.specs.Walk.{Held, Names, Outcome, Row, Rule, Step, Text, Waiting, Walk, done, waits, plain, refused, idle, option, positional, next, trailing, subcommand, value, after_flag, after_step, answers_to, arg_by_index, finished, long_or_other, nothing_held, plain_word, settled, short_or_plain, subcommand_met, subcommand_or_other, to_positional, walk, walk_from, walked, walked_from, word_met, bundle, long_met, arg_by_long}
 use Rattle.clap.specs.declared.error.kind.ErrorKind.TheVariants as kind
-use Rattle.bsonwire.specs.CommandLine.{command_line, dump_app, file_app, json_app, loop_app, msg_app, proxy_app, salvage_flags, text_flags}
+use Rattle.bsonwire.specs.CommandLine.{command_line, dump_app, file_app, json_app, loop_app, msg_app, proxy_app, replay_app, salvage_flags, text_flags}
 use Rattle.bsonwire.specs.declared.choice.Command.{Command}
 use Rattle.bsonwire.specs.declared.choice.Command.TheVariants.{Any, Dump, Check, Canon, Json, Bson, Msg, Play}
 use Rattle.bson_json.specs.declared.mode.Mode.{Mode}
@@ -26,7 +26,7 @@ use Rattle.bsonwire.specs.declared.choice.Reading.{Reading}
 use Rattle.bsonwire.specs.declared.choice.Reading.TheVariants.{Bytes, Hex, Salvage}
 use Rattle.bsonwire.specs.Choices.{HoldsFlag, HoldsHex, HoldsMessageForm, HoldsReading, IsCommand, MayChoose, is_array, is_relaxed, salvages_text}
 use Rattle.command_words.specs.{was_given}
-use Rattle.bsonwire.proofs.LeafLemmas.{IsUnfaulted, dump_leaf_names, json_leaf_names, leaf, loop_leaf_names, msg_leaf_names, proxy_leaf_names, salvage_leaf_names, text_leaf_names}
+use Rattle.bsonwire.proofs.LeafLemmas.{IsUnfaulted, dump_leaf_names, json_leaf_names, leaf, loop_leaf_names, msg_leaf_names, proxy_leaf_names, replay_leaf_names, salvage_leaf_names, text_leaf_names}
 use Rattle.bsonwire.proofs.RowLemmas.{Each, find_holds, no_kind, or_nil}
 
 -- ---- a walk stops at no word `help`
@@ -236,7 +236,10 @@ loop_leaf_chooses : (word : Text) (words : List Text) → Chooses word words (le
 loop_leaf_chooses word words none = λ _ _ _. inr (inl (refl, loop_leaf_names words none))
 
 proxy_leaf_chooses : (word : Text) (words : List Text) → Chooses word words (leaf proxy_app)
-proxy_leaf_chooses word words none = λ _ _ _. inr (inr (refl, proxy_leaf_names words none))
+proxy_leaf_chooses word words none = λ _ _ _. inr (inr (inl (refl, proxy_leaf_names words none)))
+
+replay_leaf_chooses : (word : Text) (words : List Text) → Chooses word words (leaf replay_app)
+replay_leaf_chooses word words none = λ _ _ _. inr (inr (inr (refl, replay_leaf_names words none)))
 
 entered_chooses : (o : Option Shape) (word : Text) (words : List Text) → IfSome o (Chooses word words)
     → option_map_or (λ s. level_fault s [] nothing_held words false []) o [] ≡ [] → is_some (option_map (λ s. rows_at s words) o) ≡ true
@@ -271,7 +274,10 @@ subs_choose word words differs = (
               (λ _. text_leaf_chooses Play (codes "play") word words (λ rows. refl)),
               (
                 (λ _. loop_leaf_chooses word words),
-                ((λ _. proxy_leaf_chooses word words), ((λ is_one. absurd (is_help word differs is_one)), tt)),
+                (
+                  (λ _. proxy_leaf_chooses word words),
+                  ((λ _. replay_leaf_chooses word words), ((λ is_one. absurd (is_help word differs is_one)), tt)),
+                ),
               ),
             ),
           ),

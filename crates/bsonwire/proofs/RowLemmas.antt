@@ -1,5 +1,5 @@
 -- What the words of a subcommand leave in its rows: each has a value, a flag reads true or false, and an N as a number in its range.
-use Rattle.std.proofs.Common.{◌≡◌, ◌∙◌, ℕ, zero, suc, refl, ap, sym, subst, Bool, true, false, cond, ◌&&◌, ◌||◌, List, [], ◌∷◌, ◌++◌, length, drop, map, Option, Some, None, is_some, option_map, codes, true≢false}
+use Rattle.std.proofs.Common.{◌≡◌, ◌∙◌, ℕ, zero, suc, refl, ap, sym, subst, Bool, true, false, cond, ◌&&◌, ◌||◌, List, [], ◌∷◌, ◌++◌, length, drop, map, Option, Some, None, is_some, option_map, codes, true≢false, arith}
 use Rattle.std.specs.Prelude.{⊤, IfSome, if◌then◌else◌, find, fold, pos, slice_get, encode_utf8}
 use Rattle.std.specs.Option.{option_map_or}
 use Rattle.std.specs.Str.{bytes_eq, chars}
@@ -19,7 +19,7 @@ use Rattle.clap.specs.declared.builder.value_parser.ValueParser.TheVariants.{Sig
 use Rattle.clap.specs.declared.parser.matches.ValueSource.{ValueSource}
 use Rattle.clap.specs.declared.parser.matches.ValueSource.TheVariants.{CommandLine}
 use Rattle.clap.proofs.ValueTestLemmas.{accepts-Accepts}
-use Rattle.bsonwire.specs.CommandLine.{calls_rule, dump_flags, file_rule, flag_rule, json_flags, msg_flags, number_rule, operand_rule, proxy_rules, salvage_flags, text_flags}
+use Rattle.bsonwire.specs.CommandLine.{calls_rule, dump_flags, file_rule, flag_rule, json_flags, msg_flags, number_rule, operand_rule, proxy_rules, replay_rules, salvage_flags, share_rule, text_flags}
 use Rattle.bsonwire.specs.Choices.{IsCount}
 use Rattle.bsonwire.proofs.NumberLemmas.{count_text}
 
@@ -70,19 +70,34 @@ no_operand name id flag operand e = true≢false (sym flag ∙ (ap is_flag e ∙
 
 -- the name is that of an option which gives a number
 abbrev pub is_number : Text → Bool
-is_number id = bytes_eq id (codes "connections") || bytes_eq id (codes "seed")
+is_number id = bytes_eq id (codes "connections") || (bytes_eq id (codes "seed") || (bytes_eq id (codes "limit") || (bytes_eq id (codes "share") || bytes_eq id (codes "speed"))))
 
--- what holds of both names holds of one of them
-one_of_two : (P : Text → Type 0) (name a b : Text) → (bytes_eq name a || bytes_eq name b) ≡ true → P a → P b → P name
-one_of_two P name a b is pa pb = go (bytes_eq name a) refl is
+-- what holds of a name, and else by the other tests, holds of one of them
+first_or : (P : Text → Type 0) (name a : Text) (others : Bool) → (bytes_eq name a || others) ≡ true → P a → (others ≡ true → P name) → P name
+first_or P name a others is pa rest = go (bytes_eq name a) refl is
   where
-    go : (x : Bool) → bytes_eq name a ≡ x → (x || bytes_eq name b) ≡ true → P name
+    go : (x : Bool) → bytes_eq name a ≡ x → (x || others) ≡ true → P name
     go true e is = subst P (sym ((bytes_eq-Decides name a).0 e)) pa
-    go false e is = subst P (sym ((bytes_eq-Decides name b).0 is)) pb
+    go false e is = rest is
+
+-- the name is no flag's
+abbrev IsNoFlag : Text → Type 0
+IsNoFlag name = is_flag name ≡ true → ⊥
+
+last_no_flag : (name : Text) → bytes_eq name (codes "speed") ≡ true → IsNoFlag name
+last_no_flag name is = subst IsNoFlag (sym ((bytes_eq-Decides name (codes "speed")).0 is)) (λ e. true≢false (sym e))
 
 pub no_number : (name : Text) → is_flag name ≡ true → is_number name ≡ true → ⊥
 no_number name flag number =
-    one_of_two (λ n. is_flag n ≡ true → ⊥) name (codes "connections") (codes "seed") number (λ e. true≢false (sym e)) (λ e. true≢false (sym e)) flag
+    let speed = bytes_eq name (codes "speed") in
+    let share = bytes_eq name (codes "share") || speed in
+    let limit = bytes_eq name (codes "limit") || share in
+    let seed = bytes_eq name (codes "seed") || limit in
+    first_or IsNoFlag name (codes "connections") seed number (λ e. true≢false (sym e))
+    (λ r. first_or IsNoFlag name (codes "seed") limit r (λ e. true≢false (sym e))
+    (λ r. first_or IsNoFlag name (codes "limit") share r (λ e. true≢false (sym e))
+    (λ r. first_or IsNoFlag name (codes "share") speed r (λ e. true≢false (sym e)) (last_no_flag name))))
+    flag
 
 -- a number from 1 to 100
 abbrev pub IsCountText : Option Text → Type 0
@@ -250,10 +265,32 @@ number_keeps name flag same calls again (v ∷ vs) rows none all =
     )
     (good_without name rows all)
 
+abbrev built_share_rule : Rule
+built_share_rule = filled share_rule
+
+share_text : (v : Text) → accepts false (Unsigned 1 1024) v ≡ true → IsUnsignedIn 0 18446744073709551615 v
+share_text v is =
+    let within : IsUnsignedIn 1 1024 v = accepts-Accepts false (Unsigned 1 1024) v is in
+    (within.0, within.1, omega (arith), omega (arith, within.3))
+
+share_keeps : KeepsUse built_share_rule
+share_keeps again [] rows none all = absurd (no_kind _ refl none)
+share_keeps again (v ∷ vs) rows none all =
+    let used = or_nil (range_kinds 1 1 (length (v ∷ vs))) _ none in
+    let set = or_nil (repeat_fault again (codes "share") rows) _ used.1 in
+    let first = or_nil (value_kinds false (Unsigned 1 1024) v) _ set.1 in
+    good_with (codes "share") (reading_by built_share_rule) CommandLine (v ∷ vs) (without (codes "share") rows) (
+      refl,
+      (λ e. absurd (true≢false (sym e))),
+      (λ e. absurd (is_other (codes "share") (codes "calls") refl refl e)),
+      (λ e. share_text v (accepted _ _ first.0)),
+    )
+    (good_without (codes "share") rows all)
+
 help_keeps : KeepsUse (filled help_rule)
 help_keeps again values rows none all = all
 
--- those of the subcommands that read a file, by their flags, of `loop` and of `proxy`
+-- those of the subcommands that read a file, by their flags, of `loop`, `proxy` and `replay`
 pub text_leaf_keeps : Each KeepsUse (leaf_rules (operand_rule (codes "file") ∷ map flag_rule text_flags))
 text_leaf_keeps = (file_keeps, (flag_keeps (codes "quiet") refl, (help_keeps, tt)))
 
@@ -295,15 +332,39 @@ proxy_leaf_keeps = (
     (
       flag_keeps (codes "text") refl,
       (
-        number_keeps (codes "connections") refl refl refl,
+        flag_keeps (codes "json") refl,
         (
-          option_keeps (codes "port-file") (plain_name (codes "port-file") refl refl refl refl),
+          option_keeps (codes "record") (plain_name (codes "record") refl refl refl refl),
           (
-            option_keeps (codes "script") (plain_name (codes "script") refl refl refl refl),
-            (number_keeps (codes "seed") refl refl refl, (help_keeps, tt)),
+            number_keeps (codes "limit") refl refl refl,
+            (
+              share_keeps,
+              (
+                number_keeps (codes "connections") refl refl refl,
+                (
+                  option_keeps (codes "port-file") (plain_name (codes "port-file") refl refl refl refl),
+                  (
+                    option_keeps (codes "script") (plain_name (codes "script") refl refl refl refl),
+                    (number_keeps (codes "seed") refl refl refl, (help_keeps, tt)),
+                  ),
+                ),
+              ),
+            ),
           ),
         ),
       ),
+    ),
+  ),
+)
+
+pub replay_leaf_keeps : Each KeepsUse (leaf_rules replay_rules)
+replay_leaf_keeps = (
+  file_keeps,
+  (
+    operand_keeps 2 (codes "address") (plain_name (codes "address") refl refl refl refl),
+    (
+      option_keeps (codes "ignore") (plain_name (codes "ignore") refl refl refl refl),
+      (number_keeps (codes "speed") refl refl refl, (help_keeps, tt)),
     ),
   ),
 )

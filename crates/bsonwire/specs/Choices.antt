@@ -10,7 +10,7 @@ use Rattle.clap.specs.Words.{subcommand_of}
 use Rattle.clap.specs.declared.error.kind.ErrorKind.TheVariants as kind
 use Rattle.command_words.specs.{was_given}
 use Rattle.bsonwire.specs.declared.choice.Choice.{Choice}
-use Rattle.bsonwire.specs.declared.choice.Choice.TheVariants.{Loop, Over, Proxy}
+use Rattle.bsonwire.specs.declared.choice.Choice.TheVariants.{Loop, Over, Proxy, Replay}
 use Rattle.bsonwire.specs.declared.choice.Command.{Command}
 use Rattle.bsonwire.specs.declared.choice.Command.TheVariants.{Dump, Check, Canon, Json, Msg}
 use Rattle.bsonwire.specs.declared.choice.Command.TheVariants.{Any, Bson, Play}
@@ -18,17 +18,22 @@ use Rattle.bsonwire.specs.declared.choice.Reading.{Reading}
 use Rattle.bsonwire.specs.declared.choice.Reading.TheVariants.{Bytes, Hex, Salvage}
 use Rattle.bsonwire.specs.CommandLine.{command_line}
 use Rattle.proxy.specs.declared.options.Options.{Options}
+use Rattle.proxy.specs.declared.options.Show.{Show}
+use Rattle.proxy.specs.declared.options.Show.TheVariants.{Nothing, Text as as_text, Json as as_json}
+use Rattle.replay.specs.declared.options.ReplayOptions.{ReplayOptions}
 use Rattle.bson_json.specs.declared.mode.Mode.{Mode}
 use Rattle.bson_json.specs.declared.mode.Mode.TheVariants.{Canonical, Relaxed}
 use Rattle.engines.specs.declared.json.Layout.{Layout}
 use Rattle.engines.specs.declared.json.Layout.TheVariants.{Lines, Array}
 use Rattle.engines.specs.declared.msg.MessageForm.{MessageForm}
 use Rattle.engines.specs.declared.msg.MessageForm.TheVariants.{Text as in_text, Json as in_json}
-use Rattle.engines.specs.{AllFrames, AllMessages, AllTexts, AnyText, BsonText, CanonText}
-use Rattle.engines.specs.{CheckText, DumpText, FirstFrames, FirstMessages, FirstSalvaged}
-use Rattle.engines.specs.{FirstTexts, IsOutput, JsonText}
-use Rattle.engines.specs.{MayBeJson, MsgText, SalvageText, SalvagedSoFar, ScriptText, bytes_of}
-use Rattle.engines.specs.{canon_of, check_of, dump_of, told_at, told_by}
+use Rattle.engines.specs.declared.record_text.RecordForm.TheVariants as records
+use Rattle.engines.specs.{AllFrames, AllMessages, AllOrRecords, AllTexts, AnyText, BsonText}
+use Rattle.engines.specs.{CanonText, CheckText, DumpText, FirstFrames, FirstMessages}
+use Rattle.engines.specs.{FirstOrRecords, FirstSalvaged, FirstTexts, IsOutput, JsonText}
+use Rattle.engines.specs.{MayBeJson, MsgText, SalvageText, SalvagedSoFar, ScriptText}
+use Rattle.engines.specs.{TextOrRecords, as_messages, bytes_of, canon_of, check_of, dump_of}
+use Rattle.engines.specs.{told_at, told_by}
 
 -- ---- what the matches of a subcommand hold
 
@@ -101,15 +106,31 @@ abbrev pub AsksForMany : ℕ → Option Text → Type 0
 AsksForMany n None = n ≡ 18446744073709551615
 AsksForMany n (Some text) = IsNumber n text
 
+-- how a proxy shows messages, by these flags
+abbrev pub shown_by : List Row → Show
+shown_by rows =
+    if was_given (codes "json") rows then as_json
+    else if was_given (codes "text") rows then as_text else Nothing
+
 -- they hold what a proxy is to do
 pub record HoldsOptions (o : Options) (rows : List Row) : Type 0 where
   pub listen : first_of (codes "listen") rows ≡ Some o.listen.now
   pub upstream : first_of (codes "upstream") rows ≡ Some o.upstream.now
-  pub text : o.text ≡ was_given (codes "text") rows
+  pub show : o.show ≡ shown_by rows
   pub connections : AsksForMany o.connections (one_of (codes "connections") rows)
   pub port_file : option_map (λ file. file.now) o.port_file ≡ first_of (codes "port-file") rows
   pub script : option_map (λ file. file.now) o.script ≡ first_of (codes "script") rows
   pub seed : AsksFor o.seed (one_of (codes "seed") rows)
+  pub records : option_map (λ file. file.now) o.«record» ≡ first_of (codes "record") rows
+  pub limit : AsksForMany o.limit (one_of (codes "limit") rows)
+  pub share : AsksFor o.share (one_of (codes "share") rows)
+
+-- they hold what a replay is to do
+pub record HoldsReplay (o : ReplayOptions) (rows : List Row) : Type 0 where
+  pub file : first_of (codes "file") rows ≡ Some o.file.now
+  pub address : first_of (codes "address") rows ≡ Some o.address.now
+  pub ignore : option_map (λ names. names.now) o.ignore ≡ first_of (codes "ignore") rows
+  pub speed : AsksFor o.speed (one_of (codes "speed") rows)
 
 -- ---- the choice
 
@@ -136,6 +157,7 @@ IsSubcommand (Over command file quiet) name rows =
     IsCommand command name rows × HoldsFile file.now rows × HoldsQuiet quiet rows
 IsSubcommand (Loop calls) name rows = (name ≡ codes "loop") × HoldsCalls calls rows
 IsSubcommand (Proxy options) name rows = (name ≡ codes "proxy") × HoldsOptions options rows
+IsSubcommand (Replay options) name rows = (name ≡ codes "replay") × HoldsReplay options rows
 
 -- there is a subcommand, and the choice is that one
 abbrev pub IsMetSubcommand : Choice → Option (Text × List Row) → Type 0
@@ -169,12 +191,29 @@ any_as_json (Some met) =
     bytes_eq met.0 (codes "msg")
     && (was_given (codes "any") met.1 && was_given (codes "json") met.1)
 
+-- whether the subcommand is `proxy` with `--text` and `--json`
+abbrev pub shows_twice : Option (Text × List Row) → Bool
+shows_twice None = false
+shows_twice (Some met) =
+    bytes_eq met.0 (codes "proxy")
+    && (was_given (codes "text") met.1 && was_given (codes "json") met.1)
+
+-- whether the subcommand is `proxy` with `--limit` and without `--record`
+abbrev pub lacks_record : Option (Text × List Row) → Bool
+lacks_record None = false
+lacks_record (Some met) =
+    bytes_eq met.0 (codes "proxy")
+    && (is_some (first_of (codes "limit") met.1)
+    && not (is_some (first_of (codes "record") met.1)))
+
 -- the fault of flags that don't go together
 abbrev pub flags_fault : Option (Text × List Row) → Kinds
 flags_fault met =
     if lacks_json met then kind.MissingRequiredArgument ∷ []
     else if salvages_text met then kind.ArgumentConflict ∷ []
-    else if any_as_json met then kind.ArgumentConflict ∷ [] else []
+    else if any_as_json met then kind.ArgumentConflict ∷ []
+    else if shows_twice met then kind.ArgumentConflict ∷ []
+    else if lacks_record met then kind.MissingRequiredArgument ∷ [] else []
 
 -- the kinds of the faults of words: those that `clap` finds, or else that of their flags
 abbrev pub words_fault : List Text → Kinds
@@ -209,14 +248,23 @@ HasOptions rows =
     (is_some (first_of (codes "listen") rows) ≡ true)
     × (is_some (first_of (codes "upstream") rows) ≡ true)
     × HasNumber (codes "connections") rows × HasNumber (codes "seed") rows
+    × HasNumber (codes "limit") rows × HasNumber (codes "share") rows
+
+-- they hold the file and the address of a replay, and a number where an option gives one
+abbrev pub HasReplay : List Row → Type 0
+HasReplay rows =
+    HasFile rows × (is_some (first_of (codes "address") rows) ≡ true)
+    × HasNumber (codes "speed") rows
 
 -- the subcommand with this name reads an input, which its matches hold beside `--quiet`; or it is
--- `loop`, and they hold the number of calls; or `proxy`, and they hold what that is to do
+-- `loop`, and they hold the number of calls; or `proxy` or `replay`, and they hold what that is to
+-- do
 abbrev pub NamesSubcommand : Text → List Row → Type 0
 NamesSubcommand name rows =
     (NamesCommand name rows × HasFile rows × HasQuiet rows)
     ⊎ ((name ≡ codes "loop") × HasCalls rows)
     ⊎ ((name ≡ codes "proxy") × HasOptions rows)
+    ⊎ ((name ≡ codes "replay") × HasReplay rows)
 
 -- there is a subcommand, and its matches make a choice
 abbrev pub NamesChoice : Option (Text × List Row) → Type 0
@@ -240,14 +288,15 @@ CommandText (Check Salvage) = SalvageText (told_by check_of) true 16793600
 CommandText (Canon Bytes) = IsOutput (CanonText 2147483647 false) false
 CommandText (Canon Hex) = IsOutput (CanonText 2147483647 true) true
 CommandText (Canon Salvage) = SalvageText (told_by (canon_of 2147483647 false)) false 16793600
-CommandText (Json hex mode layout) = IsOutput (JsonText mode layout) hex
+CommandText (Json hex mode layout) =
+    IsOutput (TextOrRecords (records.Json mode layout) (JsonText mode layout)) hex
 CommandText Bson = BsonText
-CommandText (Msg hex form) = IsOutput (MsgText form) hex
-CommandText (Any hex) = IsOutput AnyText hex
+CommandText (Msg hex form) = IsOutput (TextOrRecords (as_messages form) (MsgText form)) hex
+CommandText (Any hex) = IsOutput (TextOrRecords records.Text AnyText) hex
 CommandText Play = ScriptText
 
--- Whether these are the texts of the first few documents or messages in an input, if a command
--- reads it piece by piece.
+-- Whether these are the texts of the first few documents, messages or records in an input, if a
+-- command reads it piece by piece.
 abbrev pub FirstOf : Command → List ℕ → List ℕ → Type 0
 FirstOf (Dump hex offsets) = λ input. FirstTexts (told_at (dump_of offsets)) (bytes_of hex input)
 FirstOf (Check Bytes) = FirstTexts (told_by check_of)
@@ -257,9 +306,12 @@ FirstOf (Canon Bytes) = FirstTexts (told_by (canon_of 2147483647 false))
 FirstOf (Canon Hex) =
     λ input. FirstTexts (told_by (canon_of 2147483647 true)) (bytes_of true input)
 FirstOf (Canon Salvage) = FirstSalvaged (told_by (canon_of 2147483647 false)) false 16793600
-FirstOf (Json hex mode layout) = λ input. FirstTexts (MayBeJson mode layout) (bytes_of hex input)
-FirstOf (Msg hex form) = λ input. FirstMessages form (bytes_of hex input)
-FirstOf (Any hex) = λ input. FirstFrames (bytes_of hex input)
+FirstOf (Json hex mode layout) =
+    λ input. FirstOrRecords (records.Json mode layout) (FirstTexts (MayBeJson mode layout))
+    (bytes_of hex input)
+FirstOf (Msg hex form) =
+    λ input. FirstOrRecords (as_messages form) (FirstMessages form) (bytes_of hex input)
+FirstOf (Any hex) = λ input. FirstOrRecords records.Text FirstFrames (bytes_of hex input)
 FirstOf _ = λ input texts. ⊥
 
 -- Whether these are the texts of all of them, up to the first fault.
@@ -271,9 +323,12 @@ AllOf (Check Salvage) = SalvagedSoFar (told_by check_of) true 16793600
 AllOf (Canon Bytes) = AllTexts (told_by (canon_of 2147483647 false))
 AllOf (Canon Hex) = λ input. AllTexts (told_by (canon_of 2147483647 true)) (bytes_of true input)
 AllOf (Canon Salvage) = SalvagedSoFar (told_by (canon_of 2147483647 false)) false 16793600
-AllOf (Json hex mode layout) = λ input. AllTexts (MayBeJson mode layout) (bytes_of hex input)
-AllOf (Msg hex form) = λ input. AllMessages form (bytes_of hex input)
-AllOf (Any hex) = λ input. AllFrames (bytes_of hex input)
+AllOf (Json hex mode layout) =
+    λ input. AllOrRecords (records.Json mode layout) (AllTexts (MayBeJson mode layout))
+    (bytes_of hex input)
+AllOf (Msg hex form) =
+    λ input. AllOrRecords (as_messages form) (AllMessages form) (bytes_of hex input)
+AllOf (Any hex) = λ input. AllOrRecords records.Text AllFrames (bytes_of hex input)
 AllOf _ = λ input texts. ⊥
 
 -- whether a command reads all of its input before it writes

@@ -25,6 +25,10 @@ file_rule id = record (new_rule id) { long = Some id; action = Some Set; value_n
 abbrev pub number_rule : Text → Rule
 number_rule id = record (file_rule id) { parser = Some (Unsigned 0 18446744073709551615) }
 
+-- the option `--share N`, a number from 1 to 1024
+abbrev pub share_rule : Rule
+share_rule = record (file_rule (codes "share")) { parser = Some (Unsigned 1 1024) }
+
 -- a subcommand that reads a file, with these flags
 abbrev pub file_app : Text → List Text → App
 file_app name flags =
@@ -91,12 +95,18 @@ loop_app = with_rule (new_app (codes "loop")) calls_rule
 abbrev pub address_rules : List Rule
 address_rules = operand_rule (codes "listen") ∷ operand_rule (codes "upstream") ∷ []
 
--- its options, and those of the faults that it makes
+-- what becomes of messages that pass
+abbrev pub show_rules : List Rule
+show_rules =
+    flag_rule (codes "text") ∷ flag_rule (codes "json") ∷ file_rule (codes "record")
+    ∷ number_rule (codes "limit") ∷ []
+
+-- its other options
 abbrev pub option_rules : List Rule
 option_rules =
-    flag_rule (codes "text") ∷ number_rule (codes "connections") ∷ file_rule (codes "port-file")
-    ∷ []
+    share_rule ∷ number_rule (codes "connections") ∷ file_rule (codes "port-file") ∷ []
 
+-- the faults that it makes
 abbrev pub fault_rules : List Rule
 fault_rules = file_rule (codes "script") ∷ number_rule (codes "seed") ∷ []
 
@@ -105,10 +115,19 @@ abbrev pub proxy_with : List Rule → App
 proxy_with rules = fold (λ a rule. with_rule a rule) (new_app (codes "proxy")) rules
 
 abbrev pub proxy_rules : List Rule
-proxy_rules = address_rules ++ option_rules ++ fault_rules
+proxy_rules = address_rules ++ show_rules ++ option_rules ++ fault_rules
 
 abbrev pub proxy_app : App
 proxy_app = proxy_with proxy_rules
+
+-- the subcommand that sends what a record's clients sent
+abbrev pub replay_rules : List Rule
+replay_rules =
+    operand_rule (codes "file") ∷ operand_rule (codes "address") ∷ file_rule (codes "ignore")
+    ∷ number_rule (codes "speed") ∷ []
+
+abbrev pub replay_app : App
+replay_app = fold (λ a rule. with_rule a rule) (new_app (codes "replay")) replay_rules
 
 -- the program without subcommands: it has a version, and requires a subcommand
 abbrev pub top_app : App
@@ -133,4 +152,4 @@ ending_line = with_subcommand (with_subcommand json_line play_app.top) loop_app.
 
 -- the whole command line
 abbrev pub command_line : App
-command_line = with_subcommand ending_line proxy_app.top
+command_line = with_subcommand (with_subcommand ending_line proxy_app.top) replay_app.top

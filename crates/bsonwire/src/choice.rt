@@ -6,17 +6,22 @@ ghost use Rattle.clap.specs.Words.{FailsBy, first_of, found_of, one_of, rows_of}
 ghost use Rattle.clap.specs.Words.{subcommand_rows_of};
 ghost use Rattle.bsonwire.specs.Choices.{AsksFor, AsksForMany, HasNumber, HasOptions, HoldsOptions};
 ghost use Rattle.bsonwire.specs.Choices.{HasCalls, HasFile, HasQuiet, HoldsCalls, HoldsFlag};
+ghost use Rattle.bsonwire.specs.Choices.{HasReplay, HoldsReplay};
 ghost use Rattle.bsonwire.specs.Choices.{HoldsForm, HoldsMessageForm, HoldsReading, IsChosen};
 ghost use Rattle.bsonwire.specs.Choices.{IsCommand, IsMetSubcommand, IsSubcommand, MayChoose};
 ghost use Rattle.bsonwire.specs.Choices.{NamesChoice, NamesCommand, any_as_json};
 ghost use Rattle.bsonwire.specs.Choices.{flags_fault, is_array, is_relaxed, lacks_json};
-ghost use Rattle.bsonwire.specs.Choices.{salvages_text, words_fault};
+ghost use Rattle.bsonwire.specs.Choices.{lacks_record, salvages_text, shown_by, shows_twice};
+ghost use Rattle.bsonwire.specs.Choices.{words_fault};
 
-use crate::command_line::{bytes_wanted, json_wanted, program, text_wanted};
+use crate::command_line::{
+    bytes_wanted, json_wanted, program, record_wanted, text_alone_wanted, text_wanted,
+};
 use clap::{ArgMatches, Error};
 use command_words::is_given;
 use engines::{Layout, MessageForm, Mode};
-use proxy::Options;
+use proxy::{Options, Show};
+use replay::ReplayOptions;
 use std::alloc::Global;
 
 /// How a command reads documents.
@@ -80,6 +85,8 @@ pub enum Choice<'a> {
     },
     /// Passes connections to a server and back.
     Proxy(Options<'a>),
+    /// Sends what a record's clients sent to a server, and compares the answers.
+    Replay(ReplayOptions<'a>),
 }
 
 /// Returns the operand with this id.
@@ -173,24 +180,44 @@ fn number_of(matches: &ArgMatches<'_>, name: &str) -> Option<u64>
     matches.get_one::<u64>(name)
 }
 
-/// Returns the number of connections that `--connections` asks for, or the greatest number if it
-/// wasn't given.
-fn connections_of(matches: &ArgMatches<'_>) -> u64
-    requires { HasNumber (codes "connections") (rows_of (found_of matches.now)) }
-    ensures { AsksForMany result (one_of (codes "connections") (rows_of (found_of matches.now))) }
+/// Returns the number that the option of this name gives, or the greatest number if it wasn't
+/// given.
+fn count_of(matches: &ArgMatches<'_>, name: &str) -> u64
+    requires { HasNumber name.now (rows_of (found_of matches.now)) }
+    ensures { AsksForMany result (one_of name.now (rows_of (found_of matches.now))) }
 {
-    match number_of(matches, "connections") {
-        Some(connections) => connections,
+    match number_of(matches, name) {
+        Some(count) => count,
         None => u64::MAX,
     }
 }
 
-/// Returns the file that the option of this name gives, if it was given.
+/// Returns the file, or the other text, that the option of this name gives, if it was given.
 fn file_of<'a>(matches: &ArgMatches<'a>, name: &str) -> Option<&'a str>
     ensures { option_map (λ file. file.now) result
         ≡ first_of name.now (rows_of (found_of matches.now)) }
 {
     matches.get_str(name)
+}
+
+/// Returns true if the option of this name was given.
+fn has_value(matches: &ArgMatches<'_>, name: &str) -> bool
+    ensures { result ≡ is_some (first_of name.now (rows_of (found_of matches.now))) }
+{
+    file_of(matches, name).is_some()
+}
+
+/// Returns how a proxy shows messages.
+fn show_of(matches: &ArgMatches<'_>) -> Show
+    ensures { result ≡ shown_by (rows_of (found_of matches.now)) }
+{
+    if is_given(matches, "json") {
+        Show::Json
+    } else if is_given(matches, "text") {
+        Show::Text
+    } else {
+        Show::Nothing
+    }
 }
 
 /// Returns what a proxy is to do.
@@ -201,11 +228,28 @@ fn options_of<'a>(matches: &ArgMatches<'a>) -> Options<'a>
     Options {
         listen: operand_of(matches, "listen"),
         upstream: operand_of(matches, "upstream"),
-        text: is_given(matches, "text"),
-        connections: connections_of(matches),
+        show: show_of(matches),
+        connections: count_of(matches, "connections"),
         port_file: file_of(matches, "port-file"),
         script: file_of(matches, "script"),
         seed: number_of(matches, "seed"),
+        record: file_of(matches, "record"),
+        limit: count_of(matches, "limit"),
+        share: number_of(matches, "share"),
+    }
+}
+
+/// Returns what a replay is to do.
+fn replay_of<'a>(matches: &ArgMatches<'a>) -> ReplayOptions<'a>
+    requires { HasReplay (rows_of (found_of matches.now)) }
+    ensures { HoldsReplay result (rows_of (found_of matches.now)) }
+{
+    let file = operand_of(matches, "file");
+    ReplayOptions {
+        file,
+        address: operand_of(matches, "address"),
+        ignore: file_of(matches, "ignore"),
+        speed: number_of(matches, "speed"),
     }
 }
 
@@ -260,6 +304,15 @@ fn over_of<'a>(name: &str, matches: &ArgMatches<'a>) -> Choice<'a>
     }
 }
 
+/// Returns the choice to pass connections on, by `proxy`, whose matches these are.
+fn proxy_of<'a>(_name: &str, matches: &ArgMatches<'a>) -> Choice<'a>
+    requires name { _name.now ≡ codes "proxy" }
+    requires options { HasOptions (rows_of (found_of matches.now)) }
+    ensures { IsSubcommand result _name.now (rows_of (found_of matches.now)) }
+{
+    Choice::Proxy(options_of(matches))
+}
+
 /// Returns the choice that the subcommand of `matches` makes.
 fn choice_of<'a>(matches: &ArgMatches<'a>) -> Choice<'a>
     requires { NamesChoice (subcommand_rows_of matches.now) }
@@ -269,7 +322,8 @@ fn choice_of<'a>(matches: &ArgMatches<'a>) -> Choice<'a>
         Some((name, inner)) if name == "loop" => Choice::Loop {
             calls: calls_of(inner),
         },
-        Some((name, inner)) if name == "proxy" => Choice::Proxy(options_of(inner)),
+        Some((name, inner)) if name == "proxy" => proxy_of(name, inner),
+        Some((name, inner)) if name == "replay" => Choice::Replay(replay_of(inner)),
         Some((name, inner)) => over_of(name, inner),
         None => unreachable!(),
     }
@@ -313,9 +367,33 @@ fn is_any_as_json(matches: &ArgMatches<'_>) -> bool
     }
 }
 
+/// Returns true if `proxy` has `--text` and `--json`.
+fn is_shown_twice(matches: &ArgMatches<'_>) -> bool
+    ensures { result ≡ shows_twice (subcommand_rows_of matches.now) }
+{
+    match matches.subcommand() {
+        Some((name, inner)) => {
+            name == "proxy" && is_given(inner, "text") && is_given(inner, "json")
+        }
+        None => false,
+    }
+}
+
+/// Returns true if `proxy` has `--limit` without `--record`.
+fn is_record_wanted(matches: &ArgMatches<'_>) -> bool
+    ensures { result ≡ lacks_record (subcommand_rows_of matches.now) }
+{
+    match matches.subcommand() {
+        Some((name, inner)) => {
+            name == "proxy" && has_value(inner, "limit") && !has_value(inner, "record")
+        }
+        None => false,
+    }
+}
+
 /// Returns the choice that the matches of a parse name, the error of the parse, that of a
-/// `--relaxed` that wants `--json`, that of a `--salvage` beside `--hex`, or that of an `--any`
-/// beside `--json`.
+/// `--relaxed` that wants `--json`, that of a `--salvage` beside `--hex`, that of an `--any` beside
+/// `--json`, that of a `--text` beside `--json`, or that of a `--limit` that wants `--record`.
 fn chosen<'a>(alloc: Global, parse: Result<ArgMatches<'a>, Error>) -> Result<Choice<'a>, Error>
     requires { IfOk parse (λ m. MayChoose (subcommand_rows_of m)) }
     ensures met { IfOk parse.entry
@@ -323,7 +401,8 @@ fn chosen<'a>(alloc: Global, parse: Result<ArgMatches<'a>, Error>) -> Result<Cho
     ensures kinds { IfOk parse.entry (λ m. FailsBy (flags_fault (subcommand_rows_of m)) result) }
     ensures found { IfOk parse.entry (λ m. lacks_json (subcommand_rows_of m) ≡ false
         → salvages_text (subcommand_rows_of m) ≡ false
-        → any_as_json (subcommand_rows_of m) ≡ false → IsOk result) }
+        → any_as_json (subcommand_rows_of m) ≡ false → shows_twice (subcommand_rows_of m) ≡ false
+        → lacks_record (subcommand_rows_of m) ≡ false → IsOk result) }
     ensures error { IfErr parse.entry (λ e. IsErrAnd result (λ r. r ≡ e)) }
 {
     let matches = parse?;
@@ -336,6 +415,12 @@ fn chosen<'a>(alloc: Global, parse: Result<ArgMatches<'a>, Error>) -> Result<Cho
     if is_any_as_json(&matches) {
         return Err(text_wanted(alloc)?);
     }
+    if is_shown_twice(&matches) {
+        return Err(text_alone_wanted(alloc)?);
+    }
+    if is_record_wanted(&matches) {
+        return Err(record_wanted(alloc)?);
+    }
     Ok(choice_of(&matches))
 }
 
@@ -345,8 +430,9 @@ fn chosen<'a>(alloc: Global, parse: Result<ArgMatches<'a>, Error>) -> Result<Cho
 ///
 /// Returns `clap`'s own error: a fault in the words, a request for help or the version, or out of
 /// memory. The words that `clap` accepts always name a choice, but for those of `msg` with
-/// `--relaxed` and without `--json`, or with `--any` and `--json`, and of `check` or `canon` with
-/// `--salvage` and `--hex`, which are at fault too.
+/// `--relaxed` and without `--json`, or with `--any` and `--json`, of `check` or `canon` with
+/// `--salvage` and `--hex`, and of `proxy` with `--text` and `--json`, or with `--limit` and without
+/// `--record`, which are at fault too.
 pub fn choose<'a>(alloc: Global, words: &'a [&'a str]) -> Result<Choice<'a>, Error>
     ensures chosen { IfOk result (λ c. IsChosen c (map (λ w. w.now) words.now)) }
     ensures kinds { FailsBy (words_fault (map (λ w. w.now) words.now)) result }

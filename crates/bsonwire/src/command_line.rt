@@ -8,8 +8,8 @@ ghost use Rattle.bsonwire.specs.CommandLine.{check_app, check_line, command_line
 ghost use Rattle.bsonwire.specs.CommandLine.{dump_app, ending_line, file_app};
 ghost use Rattle.bsonwire.specs.CommandLine.{file_line, file_rule, flag_rule, json_app, json_line};
 ghost use Rattle.bsonwire.specs.CommandLine.{loop_app, msg_app, number_rule, operand_rule};
-ghost use Rattle.bsonwire.specs.CommandLine.{play_app, proxy_app, salvage_flags, text_flags};
-ghost use Rattle.bsonwire.specs.CommandLine.{top_app};
+ghost use Rattle.bsonwire.specs.CommandLine.{play_app, proxy_app, replay_app, salvage_flags};
+ghost use Rattle.bsonwire.specs.CommandLine.{share_rule, show_rules, text_flags, top_app};
 
 use clap::error::ErrorKind;
 use clap::{Arg, ArgAction, Command, Error, value_parser};
@@ -73,6 +73,16 @@ fn number_option<'a>(alloc: Global, name: &'a str, shown: &'a str, help: &'a str
         .help(help)
         .action(ArgAction::Set)
         .value_parser(value_parser!(u64))
+}
+
+/// Makes the option `--share N`, a number from 1 to 1024.
+fn share_option<'a>(alloc: Global) -> Arg<'a>
+    ensures rule { rule_of result ≡ share_rule }
+    ensures local { result.global ≡ false }
+{
+    let number = value_parser!(u64).range(1..=1024);
+    let help = "Pass the calls of all clients over at most N connections, 1 to 1024";
+    number_option(alloc, "share", "N", help).value_parser(number)
 }
 
 /// Makes a subcommand with this name that reads text, in an operand which help shows as `shown`.
@@ -245,17 +255,51 @@ fn addresses_command<'a>(alloc: Global) -> Result<Command<'a>, AllocError>
         .arg(operand(alloc, "upstream", "UPSTREAM", upstream))
 }
 
-/// Makes the subcommand `proxy` without the faults that it makes.
+/// Makes the subcommand `proxy` with its addresses and what becomes of messages that pass.
 fn showing_command<'a>(alloc: Global) -> Result<Command<'a>, AllocError>
-    ensures app { IfOk result (λ c. app_of c ≡ proxy_with (address_rules ++ option_rules)) }
+    ensures app { IfOk result (λ c. app_of c ≡ proxy_with (address_rules ++ show_rules)) }
+    ensures local { IfOk result (λ c. (out-Command c).has_globals ≡ false) }
+{
+    let line = "Write each message as a line of canonical Extended JSON";
+    let record = "Write each message to FILE, with its time, its connection and its direction";
+    let limit = "With --record, end the file before it has more than N bytes";
+    addresses_command(alloc)?
+        .arg(flag(alloc, "text", "Write the text of each message"))?
+        .arg(flag(alloc, "json", line))?
+        .arg(file_option(alloc, "record", record))?
+        .arg(number_option(alloc, "limit", "N", limit))
+}
+
+/// Makes the subcommand `proxy` without the faults that it makes.
+fn passing_command<'a>(alloc: Global) -> Result<Command<'a>, AllocError>
+    ensures app { IfOk result (λ c. app_of c
+        ≡ proxy_with (address_rules ++ show_rules ++ option_rules)) }
     ensures local { IfOk result (λ c. (out-Command c).has_globals ≡ false) }
 {
     let count = "End after this many connections; without it the proxy goes on";
     let port = "Write the port and a line feed to FILE once the proxy listens";
-    addresses_command(alloc)?
-        .arg(flag(alloc, "text", "Write the text of each message"))?
+    showing_command(alloc)?
+        .arg(share_option(alloc))?
         .arg(number_option(alloc, "connections", "N", count))?
         .arg(file_option(alloc, "port-file", port))
+}
+
+/// Makes the error of a `--text` beside `--json`, in the form of `clap`'s own.
+pub fn text_alone_wanted(alloc: Global) -> Result<Error, AllocError>
+    ensures { IfOk result (λ e. kind_of e ≡ ErrorKind.ArgumentConflict) }
+{
+    let twice = "the argument '--text' cannot be used with '--json'";
+    top(alloc).error(ErrorKind::ArgumentConflict, twice)
+}
+
+/// Makes the error of a `--limit` of `proxy` without `--record`, in the form of `clap`'s own.
+pub fn record_wanted(alloc: Global) -> Result<Error, AllocError>
+    ensures { IfOk result (λ e. kind_of e ≡ ErrorKind.MissingRequiredArgument) }
+{
+    let lacking = "the following required arguments were not provided:\n  --record <FILE>";
+    proxy_command(alloc)?
+        .bin_name("bsonwire proxy")?
+        .error(ErrorKind::MissingRequiredArgument, lacking)
 }
 
 /// Makes the subcommand that passes connections to a server and back.
@@ -265,9 +309,38 @@ fn proxy_command<'a>(alloc: Global) -> Result<Command<'a>, AllocError>
 {
     let script = "Do with requests and their replies what the rules of FILE say";
     let seed = "Cut each connection behind a number of bytes that is drawn from S";
-    showing_command(alloc)?
+    passing_command(alloc)?
         .arg(file_option(alloc, "script", script))?
         .arg(number_option(alloc, "seed", "S", seed))
+}
+
+/// Makes the option `--ignore`, which gives names.
+fn ignore_option<'a>(alloc: Global) -> Arg<'a>
+    ensures rule { rule_of result ≡ file_rule (codes "ignore") }
+    ensures local { result.global ≡ false }
+{
+    file_option(
+        alloc,
+        "ignore",
+        "Don't compare fields of these names, which have commas between",
+    )
+    .value_name("NAMES")
+}
+
+/// Makes the subcommand that sends what a record's clients sent.
+fn replay_command<'a>(alloc: Global) -> Result<Command<'a>, AllocError>
+    ensures app { IfOk result (λ c. app_of c ≡ replay_app) }
+    ensures local { IfOk result (λ c. (out-Command c).has_globals ≡ false) }
+{
+    let file = "The file of records to read, or - for standard input";
+    let address = "The address of the server, as 127.0.0.1:27017";
+    let speed = "Send at P percent of the recorded speed, and not as fast as answers come";
+    Command::new(alloc, "replay")
+        .about("Sends what clients sent in a record to a server, and tells which answers differ")
+        .arg(operand(alloc, "file", "FILE", file))?
+        .arg(operand(alloc, "address", "ADDRESS", address))?
+        .arg(ignore_option(alloc))?
+        .arg(number_option(alloc, "speed", "P", speed))
 }
 
 /// Makes the command line without subcommands.
@@ -335,5 +408,7 @@ pub fn program<'a>(alloc: Global) -> Result<Command<'a>, AllocError>
 {
     let line = ending_commands(alloc)?;
     let proxy = proxy_command(alloc)?;
-    line.subcommand(proxy)
+    let line = line.subcommand(proxy)?;
+    let replay = replay_command(alloc)?;
+    line.subcommand(replay)
 }

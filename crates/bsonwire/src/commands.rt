@@ -19,6 +19,7 @@ use engines::{
     run_loop, run_msg, run_play, salvage_canon, salvage_check,
 };
 use proxy::{Options, ProxyFault};
+use replay::{Outcome, ReplayOptions};
 use std::alloc::Global;
 use std::fs::OpenFile;
 use std::io::{ErrorKind, Read, Write};
@@ -105,6 +106,7 @@ pub fn run<R: Files + Input + Print + Eprint + Clock + Net + AllocGlobal>(
         } => run_file(rt, command, file, shown && !quiet),
         Choice::Loop { calls } => loop_status(rt, calls, &mut io::writer(rt)),
         Choice::Proxy(options) => proxy_status(rt, options),
+        Choice::Replay(options) => replay_status(rt, options),
     }
 }
 
@@ -266,8 +268,32 @@ fn tell_loop(rt: &impl Eprint, end: RunEnd) -> u8
     status_of(end)
 }
 
-/// Passes connections to a server and back, and returns the exit status. If that stopped early,
-/// standard error says why.
+/// Passes connections to a server and back, or the requests of all clients over a few of them.
+fn run_proxy<R: Files + Net + Clock + Print + AllocGlobal>(
+    rt: &R,
+    options: Options<'_>,
+) -> Result<(), ProxyFault> {
+    match options.share {
+        Some(most) => shared_proxy::run(rt, rt.alloc(), options, most as usize, io::writer(rt)),
+        None => proxy::run(rt, rt.alloc(), options, io::writer(rt)),
+    }
+}
+
+/// Returns the exit status of a proxy that stopped early.
+fn fault_status(fault: &ProxyFault) -> u8
+    ensures { (result ≡ 2) ⊎ ((end : RunEnd) × (end ≢ RunEnd.Good) × (end ≢ RunEnd.Fault)
+        × (result ≡ exit_status end)) }
+{
+    match fault {
+        ProxyFault::Script(_) | ProxyFault::Itself => USAGE,
+        ProxyFault::ScriptFile(error)
+        | ProxyFault::PortFile(error)
+        | ProxyFault::RecordFile(error)
+        | ProxyFault::Io(error) => status_of(end_of(error)),
+    }
+}
+
+/// Runs a proxy, and returns the exit status. If it stopped early, standard error says why.
 fn proxy_status<R: Files + Net + Clock + Print + Eprint + AllocGlobal>(
     rt: &R,
     options: Options<'_>,
@@ -280,15 +306,33 @@ fn proxy_status<R: Files + Net + Clock + Print + Eprint + AllocGlobal>(
         upstream,
         ..
     } = options;
-    match proxy::run(rt, rt.alloc(), options, io::writer(rt)) {
-        Ok(()) => status_of(RunEnd::Good),
-        Err(ProxyFault::Script(fault)) => {
-            let _ = eprintln!(rt; "bsonwire: the script is at fault: {fault}");
-            USAGE
-        }
-        Err(ProxyFault::Io(error)) => {
-            let _ = eprintln!(rt; "bsonwire: proxy from {listen:?} to {upstream:?}: {error}");
-            status_of(end_of(&error))
+    let Err(fault) = run_proxy(rt, options) else {
+        return status_of(RunEnd::Good);
+    };
+    let _ = match fault {
+        ProxyFault::Script(_) => eprintln!(rt; "bsonwire: {fault}"),
+        _ => eprintln!(rt; "bsonwire: proxy from {listen:?} to {upstream:?}: {fault}"),
+    };
+    fault_status(&fault)
+}
+
+/// Sends what a record's clients sent to a server, and returns the exit status. If that stopped
+/// early, standard error says why.
+fn replay_status<R: Files + Input + Net + Clock + Print + Eprint + AllocGlobal>(
+    rt: &R,
+    options: ReplayOptions<'_>,
+) -> u8
+    ensures { (end : RunEnd) × (result ≡ exit_status end) }
+{
+    let ReplayOptions { file, address, .. } = options;
+    match replay::run(rt, rt.alloc(), options, io::writer(rt)) {
+        Ok(Outcome::Same) => status_of(RunEnd::Good),
+        Ok(Outcome::Different) => status_of(RunEnd::Fault),
+        Ok(Outcome::Fault) => status_of(RunEnd::Fault),
+        Err(error) => {
+            let _ = eprintln!(rt; "bsonwire: replay of {file:?} to {address:?}: {error}");
+            let end = end_of(&error);
+            status_of(end)
         }
     }
 }

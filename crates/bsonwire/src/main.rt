@@ -7,7 +7,7 @@
 //! The exit status is 0 if the input is good, 1 if it is at fault, 2 if the command line is, 3 if
 //! reading or writing failed, and 4 if memory ran out.
 //!
-//! Uses engines. Read first: `commands`, and then `choice`.
+//! Uses engines, proxy and shared_proxy. Read first: `commands`, and then `choice`.
 #![tactic(auto)]
 
 mod choice;

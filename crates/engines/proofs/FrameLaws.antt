@@ -32,7 +32,7 @@ one_of_kind Msg start bytes a b fits within x y = one_of_msg start bytes a b fit
 one_of_kind (Other number) start bytes a b fits within x y = x ∙ sym y
 
 -- a frame has one text
-one_of_frame : (start : ℕ) (bytes a b : List ℕ) → IsBytes bytes → length bytes ≤ 48000000 → IsFrameText start bytes a → IsFrameText start bytes b → a ≡ b
+pub one_of_frame : (start : ℕ) (bytes a b : List ℕ) → IsBytes bytes → length bytes ≤ 48000000 → IsFrameText start bytes a → IsFrameText start bytes b → a ≡ b
 one_of_frame start bytes a b fits within x y =
     let k : x.kind ≡ y.kind = one_kind x.kind y.kind x.own y.own (x.number ∙ sym y.number) in
     let s : x.checksum ≡ y.checksum = one_checksum bytes x.checksum y.checksum x.checksum_is y.checksum_is in

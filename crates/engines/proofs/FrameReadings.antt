@@ -126,7 +126,7 @@ whole_takes limit n held new rest frame after o is w =
     not_zero n (λ none. let p = open_empty limit n held new rest o none is in wants_not_whole limit new frame after p.0 p.1 w)
 
 -- a reader that wants more takes no byte behind the end of a frame
-within_frame : (limit n : ℕ) (held new rest frame after : List ℕ) (more : ℕ) → WantsMore limit held more → n ≤ more → n ≤ length rest → new ≡ held ++ take n rest → IsWholeFrame limit new frame after → length new ≤ length frame
+pub within_frame : (limit n : ℕ) (held new rest frame after : List ℕ) (more : ℕ) → WantsMore limit held more → n ≤ more → n ≤ length rest → new ≡ held ++ take n rest → IsWholeFrame limit new frame after → length new ≤ length frame
 within_frame limit n held new rest frame after more (of_header some sum) most there is w =
     let s = whole_size limit new frame after w in
     omega (arith, sum, most, there, s.least, ap length is, length-append held (take n rest), length-take n rest)

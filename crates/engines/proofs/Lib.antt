@@ -8,6 +8,12 @@ pub mod MessageLaws
 pub mod FrameTexts
 pub mod FrameReadings
 pub mod FrameLaws
+pub mod RecordTexts
+pub mod RecordReadings
+pub mod OrRecordsLemmas
+pub mod WaitLemmas
+pub mod DocumentBegins
+pub mod RecordLaws
 pub mod Rounds
 pub mod LoopLemmas
 pub mod TextsRead

@@ -1,20 +1,17 @@
 -- The texts of documents back to back, one piece of the input after another.
 use Rattle.std.proofs.Common.{◌≡◌, ◌≢◌, inr, ◌+◌, ◌++◌, [], ◌∷◌, ℕ, List, Option, None, Some, length, refl, sym, ap, subst, ◌∙◌, append_assoc, append-nil, arith, length-append}
-use Rattle.std.proofs.lemmas.Bool.{lt-ltb}
-use Rattle.std.specs.Prelude.{nat_lt}
 use Rattle.bson_elem.specs.declared.fault.BsonCause.TheVariants.{Truncated}
 use Rattle.bson_elem.specs.declared.fault.BsonFault.{BsonFault}
 use Rattle.bson_elem.specs.Trees.{Tree}
 use Rattle.bson_elem.specs.Spelling.{document, elements, Spells}
 use Rattle.bson_elem.specs.{fault}
-use Rattle.bson_elem.proofs.Lemmas.{length-document}
 use Rattle.bson_raw.specs.Split.{documents_bytes}
 use Rattle.bson_raw.proofs.Lemmas.{AreDocuments-append, documents_bytes-append, is_document}
 use Rattle.bson_stream.specs.{IsBad, IsOpen}
 use Rattle.bson_stream.proofs.Lemmas.{fault_longer, nothing_open, open_fault, open_front, spelled_not_open}
 use Rattle.engines.specs.declared.input_fault.InputFault.TheVariants.{Bson}
 use Rattle.engines.specs.InputFault.{bson_line, input_fault_line, too_large_line}
-use Rattle.engines.specs.Documents.{AreTexts, HaveTexts, IsLast, IsLastAt, TextRule, at_document, at_end, at_fault, are_any}
+use Rattle.engines.specs.Documents.{AreTexts, HaveTexts, IsLast, IsLastAt, TextRule, at_document, at_end, at_fault}
 
 -- ---- documents that have texts
 

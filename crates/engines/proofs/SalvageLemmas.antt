@@ -1,11 +1,11 @@
 -- What was written of a damaged input, part by part and piece by piece.
-use Rattle.std.proofs.Common.{◌≡◌, ◌⊎◌, inl, inr, ◌++◌, [], ◌∷◌, ℕ, List, Option, None, Some, IfSome, Result, Ok, Err, IfOk, Bool, true, false, true≢false, ◌||◌, length, take, refl, sym, ap, subst, ◌∙◌, append_assoc, append-nil, ◌≤◌}
+use Rattle.std.proofs.Common.{◌≡◌, ◌⊎◌, inl, inr, ◌++◌, [], ◌∷◌, ℕ, List, Option, None, Some, IfSome, Result, Ok, IfOk, Bool, true, false, true≢false, ◌||◌, take, refl, sym, ap, subst, ◌∙◌, append_assoc, append-nil, ◌≤◌}
 use Rattle.std.specs.Io.KnownBytes.{Appends, Consumes, IsAtEnd, Keeps, append_known}
 use Rattle.std.proofs.KnownBytes.{Appends-kept, Appends-nil, Appends-trans, Consumes-kept, Consumes-nil, Consumes-trans, Consumes-whole}
 use Rattle.bson_elem.specs.{Spells, Tree}
 use Rattle.bson_stream.specs.declared.gap.Find.TheVariants as find
 use Rattle.bson_stream.specs.declared.gap.Gap.{Gap}
-use Rattle.bson_stream.specs.{IsDocumentOf, IsFound, IsSettled, MayFollow, Part, Salvages, Salvaging, SoFar, a_document, a_gap}
+use Rattle.bson_stream.specs.{IsFound, IsSettled, MayFollow, Part, Salvaging, SoFar, a_document, a_gap}
 use Rattle.bson_stream.specs.Salvage.{no_more}
 use Rattle.bson_stream.proofs.Lemmas.{all_told, ended_now, told_first, told_so_far}
 use Rattle.engines.specs.declared.documents.Written.{Written}
@@ -18,7 +18,7 @@ use Rattle.engines.specs.DocumentWalk.{IsWritten}
 use Rattle.engines.specs.Output.{AppendsOne, AppendsText, WritesRead}
 use Rattle.engines.specs.Run.{IsCutShort, is_done, is_fault}
 use Rattle.engines.specs.Salvaged.{ArePartTexts, FirstSalvaged, IsPartText, SalvageText, SalvagedSoFar, gap_text}
-use Rattle.engines.specs.SalvageWalk.{IsSalvageEnd, Manner, Passed, SalvageEnds, Wrote, WroteFirst, end_of_parts}
+use Rattle.engines.specs.SalvageWalk.{Manner, Passed, SalvageEnds, Wrote, WroteFirst, end_of_parts}
 
 -- ---- texts, one behind another
 

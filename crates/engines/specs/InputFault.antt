@@ -4,10 +4,13 @@ use Rattle.bson_elem.specs.declared.fault.BsonFault.{BsonFault}
 use Rattle.bson_elem.specs.{bson_fault_text}
 use Rattle.wire_msg.specs.declared.fault.MsgCause.{MsgCause}
 use Rattle.wire_msg.specs.{fault_text}
+use Rattle.wire_record.specs.declared.fault.RecordCause.{RecordCause}
+use Rattle.wire_record.specs.{record_fault_text}
 use Rattle.engines.specs.FaultLine.{fault_line}
 use Rattle.engines.specs.declared.input_fault.InputFault.{InputFault}
 use Rattle.engines.specs.declared.input_fault.InputFault.TheVariants.{Hex, Bson, TooLarge, Msg}
-use Rattle.engines.specs.declared.input_fault.InputFault.TheVariants.{EndedInside, Script}
+use Rattle.engines.specs.declared.input_fault.InputFault.TheVariants.{EndedInside, Record}
+use Rattle.engines.specs.declared.input_fault.InputFault.TheVariants.{Script}
 
 -- the line of a fault in hexadecimal text
 abbrev pub hex_line : ℕ → List ℕ
@@ -25,7 +28,11 @@ too_large_line offset = fault_line 16 (codes "TooLarge") offset
 abbrev pub msg_line : ℕ → MsgCause → List ℕ
 msg_line offset c = fault_text offset c ++ codes "\n"
 
--- the line of an input that ends inside the message at this offset
+-- the line of a record's fault at this offset
+abbrev pub record_line : ℕ → RecordCause → List ℕ
+record_line offset c = record_fault_text offset c ++ codes "\n"
+
+-- the line of an input that ends inside the message or record at this offset
 abbrev pub ended_inside_line : ℕ → List ℕ
 ended_inside_line offset = fault_line 14 (codes "EndedInside") offset
 
@@ -39,6 +46,7 @@ input_fault_line (Hex offset) = hex_line offset
 input_fault_line (Bson f) = bson_fault_text f.at f.cause ++ codes "\n"
 input_fault_line (TooLarge offset) = too_large_line offset
 input_fault_line (Msg f) = msg_line f.at f.cause
+input_fault_line (Record f) = record_line f.at f.cause
 input_fault_line (EndedInside offset) = ended_inside_line offset
 input_fault_line (Script line) = script_line line
 

@@ -21,6 +21,11 @@ pub mod Msg
 pub mod FrameText
 pub mod Any
 pub mod FrameWalk
+pub mod RecordText
+pub mod Records
+pub mod RecordWalk
+pub mod OrRecords
+pub mod OrRecordsWalk
 pub mod Calling
 pub mod Loopback
 pub mod Play
@@ -36,6 +41,7 @@ pub use Rattle.engines.specs.Input.{bytes_of, hex_fault}
 pub use Rattle.engines.specs.Json.{JsonText, MayBeJson}
 pub use Rattle.engines.specs.Loopback.{AppendsUpTo, HaveRun, HaveTold, loop_text}
 pub use Rattle.engines.specs.Msg.{AllMessages, FirstMessages, MsgText}
+pub use Rattle.engines.specs.OrRecords.{AllOrRecords, FirstOrRecords, TextOrRecords, as_messages}
 pub use Rattle.engines.specs.Output.{AppendsOne, AppendsText, IsOutput, TextOf, WritesRead}
 pub use Rattle.engines.specs.Play.{ScriptText}
 pub use Rattle.engines.specs.Run.{end_of_error, is_done, is_fault}

@@ -1,6 +1,6 @@
 -- What is written for an input of which some bytes are damaged.
 use Rattle.std.specs.Prelude.{◌≡◌, ◌⊎◌, ℕ, List, [], ◌∷◌, ◌++◌, codes, Bool, true, false, ◌||◌}
-use Rattle.std.specs.Prelude.{Option, None, Some, if◌then◌else◌}
+use Rattle.std.specs.Prelude.{None, Some, if◌then◌else◌}
 use Rattle.std.specs.Fmt.{decimal}
 use Rattle.bson_stream.specs.declared.gap.Gap.{Gap}
 use Rattle.bson_stream.specs.declared.gap.GapFault.{GapFault}

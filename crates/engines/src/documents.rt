@@ -108,8 +108,8 @@ fn write_each<E: EachDocument, W: Write>(
 
 /// The documents of an input, and what a command writes for them.
 #[derive(Drop)]
-struct Documents<E> {
-    each: E,
+pub struct Documents<E> {
+    pub each: E,
 }
 
 impl<E: EachDocument> Walk for Documents<E> {

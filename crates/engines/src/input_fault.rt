@@ -4,11 +4,12 @@ ghost use Rattle.std.specs.Prelude.{OnOk};
 ghost use Rattle.std.specs.Io.KnownBytes.{Appends};
 ghost use Rattle.engines.specs.InputFault.{input_fault_line};
 
-use crate::fault_line::{write_bson_fault, write_fault, write_msg_fault};
+use crate::fault_line::{write_bson_fault, write_fault, write_msg_fault, write_record_fault};
 use bson_elem::BsonFault;
 use std::io;
 use std::io::Write;
 use wire_msg::MsgFault;
+use wire_record::RecordFault;
 
 /// A fault of an input. An `offset` counts from the input's first byte.
 #[derive(Clone, Copy, Debug, PartialEq, Eq)]
@@ -23,7 +24,9 @@ pub enum InputFault {
     /// A message has this fault. If the fault is a document's own, its offset inside the document
     /// is counted from the document's first byte.
     Msg(MsgFault),
-    /// The input ends inside the message at `offset`.
+    /// A record has this fault.
+    Record(RecordFault),
+    /// The input ends inside the message or record at `offset`.
     EndedInside { offset: usize },
     /// The line of this number, counted from 1, is at fault in a script.
     Script { line: usize },
@@ -40,6 +43,7 @@ impl InputFault {
             InputFault::Bson(fault) => write_bson_fault(fault, out),
             InputFault::TooLarge { offset } => write_fault(16, "TooLarge", offset, out),
             InputFault::Msg(fault) => write_msg_fault(fault, out),
+            InputFault::Record(fault) => write_record_fault(fault, out),
             InputFault::EndedInside { offset } => write_fault(14, "EndedInside", offset, out),
             InputFault::Script { line } => write_fault(15, "Script", line, out),
         }

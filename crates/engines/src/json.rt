@@ -1,13 +1,19 @@
-//! The command `json`: each document as MongoDB Extended JSON.
+//! The command `json`: each document or record as MongoDB Extended JSON.
 
 ghost use Rattle.std.specs.Prelude.{◌≡◌, ◌⊎◌, IfOk, IfSome, OnOk, false, true};
 ghost use Rattle.std.specs.Io.KnownBytes.{Appends, IsAtEnd};
-ghost use Rattle.engines.specs.Documents.{AppendsFirst, WritesAll};
+ghost use Rattle.engines.specs.Documents.{AllTexts, FirstTexts};
+ghost use Rattle.engines.specs.Input.{bytes_of};
 ghost use Rattle.engines.specs.Json.{JsonText, MayBeJson, behind_values, front_of, end_of_value};
-ghost use Rattle.engines.specs.Output.{AppendsText, IsOutput};
+ghost use Rattle.engines.specs.OrRecords.{AllOrRecords, FirstOrRecords, TextOrRecords};
+ghost use Rattle.engines.specs.Output.{AppendsOne, AppendsText, IsOutput, WritesRead};
 ghost use Rattle.engines.specs.Run.{is_done, is_fault};
 
-use crate::documents::{EachDocument, Written, run_documents};
+use crate::documents::{Documents, EachDocument, Written};
+use crate::or_records::OrRecords;
+use crate::pieces::run_walk;
+use crate::record_text::RecordForm;
+use crate::records::Records;
 use crate::run::RunEnd;
 use bson_json::{Mode, write_json};
 use bson_raw::RawDocument;
@@ -43,7 +49,7 @@ fn front_text(layout: Layout, start: usize) -> &'static str
 }
 
 /// Returns what stands behind each value.
-fn end_text(layout: Layout) -> &'static str
+pub fn end_text(layout: Layout) -> &'static str
     ensures { result.now ≡ end_of_value layout }
 {
     match layout {
@@ -53,7 +59,7 @@ fn end_text(layout: Layout) -> &'static str
 }
 
 /// Returns what stands behind all values. `any` says whether there are any.
-fn closing_text(layout: Layout, any: bool) -> &'static str
+pub fn closing_text(layout: Layout, any: bool) -> &'static str
     ensures { result.now ≡ behind_values layout any }
 {
     match layout {
@@ -87,7 +93,8 @@ impl EachDocument for Json {
 }
 
 /// Writes each document in the input as a JSON object: as a line, or as an item of one array. If
-/// `hex` is true, the input is hexadecimal text.
+/// `hex` is true, the input is hexadecimal text. If the input begins as a file of records does, it
+/// writes an object for each record.
 pub fn run_json<R: Read, W: Write>(
     alloc: Global,
     mode: Mode,
@@ -98,15 +105,23 @@ pub fn run_json<R: Read, W: Write>(
 ) -> RunEnd
     ensures read { is_done result ≡ true → IsAtEnd (R.remaining reader.new) }
     ensures written { IfSome (R.remaining reader.old) (λ input. is_done result ≡ true →
-        AppendsText (IsOutput (JsonText mode layout) hex input) (is_fault result)
-        (W.contents writer.old) (W.contents writer.new)) }
-    ensures unread { result ≡ RunEnd.Unread → WritesAll (MayBeJson mode layout) hex
-        (R.remaining reader.old) (R.remaining reader.new)
+        AppendsText (IsOutput (TextOrRecords (RecordForm.Json mode layout) (JsonText mode layout))
+        hex input) (is_fault result) (W.contents writer.old) (W.contents writer.new)) }
+    ensures unread { result ≡ RunEnd.Unread → WritesRead (λ read.
+        AllOrRecords (RecordForm.Json mode layout) (AllTexts (MayBeJson mode layout))
+        (bytes_of hex read)) (R.remaining reader.old) (R.remaining reader.new)
         (W.contents writer.old) (W.contents writer.new) }
     ensures memory { result ≡ RunEnd.OutOfMemory → IfSome (R.remaining reader.old) (λ input.
-        AppendsFirst (MayBeJson mode layout) hex input
+        AppendsOne (FirstOrRecords (RecordForm.Json mode layout)
+        (FirstTexts (MayBeJson mode layout)) (bytes_of hex input))
         (W.contents writer.old) (W.contents writer.new)) }
 {
-    let json = Json { mode, layout };
-    run_documents(alloc, json, hex, reader, writer)
+    let each = Json { mode, layout };
+    let walk = OrRecords {
+        others: Documents { each },
+        records: Records {
+            form: RecordForm::Json(mode, layout),
+        },
+    };
+    run_walk(alloc, &walk, hex, reader, writer)
 }

@@ -1,12 +1,15 @@
 //! The laws that make the texts of commands exact. The contract of each function is the law; the
 //! function does nothing.
 
-ghost use Rattle.std.specs.Prelude.{◌≡◌, Bool, List, Option, ℕ};
-ghost use Rattle.bson_elem.specs.{IsBytes, Tree};
+ghost use Rattle.std.specs.Prelude.{◌≡◌, ◌++◌, Bool, List, Option, ℕ};
+ghost use Rattle.bson_elem.specs.{IsBytes, Spells, Tree};
 ghost use Rattle.engines.specs.Any.{AnyText};
 ghost use Rattle.engines.specs.Documents.{IsWholeText, told_at};
 ghost use Rattle.engines.specs.Msg.{MsgText};
+ghost use Rattle.engines.specs.OrRecords.{TextOrRecords};
 ghost use Rattle.engines.specs.declared.msg.MessageForm.TheVariants.{Text};
+ghost use Rattle.engines.specs.declared.record_text.RecordForm.TheVariants.{Text as in_lines};
+ghost use Rattle.wire_record.specs.{signature};
 
 /// Proves that bytes have at most one text as documents, which ends with a fault line or doesn't,
 /// whatever a command writes for a document and behind all of them, if a function of the document
@@ -35,4 +38,22 @@ pub fn one_text_of_frames()
         → IsBytes bytes → AnyText place bytes text fault
         → AnyText place bytes other other_fault
         → (text ≡ other) × (fault ≡ other_fault) }
+{}
+
+/// Proves that an input which may be a file of records has at most one text of `msg`, and one of
+/// `msg --any`, each of which ends with a fault line or doesn't.
+pub fn one_text_of_records()
+    ensures messages { (place : Option ℕ) (bytes text other : List ℕ) (fault other_fault : Bool)
+        → IsBytes bytes → TextOrRecords in_lines (MsgText Text) place bytes text fault
+        → TextOrRecords in_lines (MsgText Text) place bytes other other_fault
+        → (text ≡ other) × (fault ≡ other_fault) }
+    ensures frames { (place : Option ℕ) (bytes text other : List ℕ) (fault other_fault : Bool)
+        → IsBytes bytes → TextOrRecords in_lines AnyText place bytes text fault
+        → TextOrRecords in_lines AnyText place bytes other other_fault
+        → (text ≡ other) × (fault ≡ other_fault) }
+{}
+
+/// Proves that no document begins as a file of records does.
+pub fn no_document_begins_so()
+    ensures { (t : Tree) (more : List ℕ) → Spells t (signature ++ more) → ⊥ }
 {}

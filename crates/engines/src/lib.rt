@@ -2,15 +2,17 @@
 //! reader.
 //!
 //! `run_dump`, `run_check`, `run_canon` and `run_json` read documents piece by piece, `run_msg`
-//! messages, and `run_any` messages of any opCode, and write as these come. `run_bson` and
+//! messages, and `run_any` messages of any opCode, and write as these come. `run_json`, `run_msg`
+//! and `run_any` know a file of records by its first bytes, and write its records. `run_bson` and
 //! `run_play` read all that the reader has before they write. Each writes one text for its input,
-//! and tells how that ended. Documents or messages stand back to back in the input, as bytes or as
-//! hexadecimal text; the input of `run_bson` is Extended JSON, and that of `run_play` a script of
-//! events. A fault in the input is told by the last line of the text, and by `run_bson` in what it
-//! returns. `run_loop` reads nothing: it makes calls over a connection of the program with itself.
+//! and tells how that ended. Documents, messages or records stand back to back in the input, as
+//! bytes or as hexadecimal text; the input of `run_bson` is Extended JSON, and that of `run_play` a
+//! script of events. A fault in the input is told by the last line of the text, and by `run_bson`
+//! in what it returns. `run_loop` reads nothing: it makes calls over a connection of the program
+//! with itself.
 //!
-//! Stands on bson_json_read, bson_stream, wire_frame, wire_stream, wire_end and wire_play. bsonwire
-//! stands on it. Read first: `walk`, `pieces`, `documents`, and then `dump`.
+//! Stands on bson_json_read, bson_stream, wire_frame, wire_record, wire_stream, wire_end and
+//! wire_play. bsonwire stands on it. Read first: `walk`, `pieces`, `documents`, and then `dump`.
 #![tactic(auto)]
 
 mod any;
@@ -32,8 +34,11 @@ mod loop_call;
 mod loopback;
 mod messages;
 mod msg;
+mod or_records;
 mod pieces;
 mod play;
+mod record_text;
+mod records;
 mod run;
 mod salvage;
 mod source;
@@ -51,4 +56,5 @@ pub use json::{Layout, run_json};
 pub use loopback::run_loop;
 pub use msg::{MessageForm, run_msg};
 pub use play::run_play;
+pub use record_text::RecordForm;
 pub use run::{Engine, RunEnd, end_of};

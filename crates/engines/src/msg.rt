@@ -1,14 +1,20 @@
-//! The command `msg`: the text of each message, or one JSON object.
+//! The command `msg`: the text of each message or record, or one JSON object.
 
 ghost use Rattle.std.specs.Prelude.{◌≡◌, ◌⊎◌, IfOk, IfSome, false, true};
 ghost use Rattle.std.specs.Io.KnownBytes.{IsAtEnd, Keeps};
 ghost use Rattle.engines.specs.Input.{bytes_of};
 ghost use Rattle.engines.specs.Msg.{AllMessages, FirstMessages, MsgText};
+ghost use Rattle.engines.specs.OrRecords.{AllOrRecords, FirstOrRecords, TextOrRecords};
+ghost use Rattle.engines.specs.OrRecords.{as_messages};
 ghost use Rattle.engines.specs.Output.{AppendsOne, AppendsText, IsOutput, WritesRead};
 ghost use Rattle.engines.specs.Run.{is_done, is_fault};
 
+use crate::json::Layout;
 use crate::messages::Messages;
+use crate::or_records::OrRecords;
 use crate::pieces::run_walk;
+use crate::record_text::RecordForm;
+use crate::records::Records;
 use crate::run::RunEnd;
 use bson_json::Mode;
 use std::alloc::Global;
@@ -23,8 +29,21 @@ pub enum MessageForm {
     Json(Mode),
 }
 
+impl MessageForm {
+    /// Returns how records are written: as `msg --any` writes their messages, or as `json` does.
+    fn of_records(self) -> RecordForm
+        ensures { result ≡ as_messages self }
+    {
+        match self {
+            MessageForm::Text => RecordForm::Text,
+            MessageForm::Json(mode) => RecordForm::Json(mode, Layout::Lines),
+        }
+    }
+}
+
 /// Writes each message in the input, which has at most 48,000,000 bytes, in this form. If `hex` is
-/// true, the input is hexadecimal text.
+/// true, the input is hexadecimal text. If the input begins as a file of records does, it writes
+/// each record, whose message is of any opCode.
 ///
 /// Where a message has many names and memory for their list is refused, they are compared in pairs.
 pub fn run_msg<R: Read, W: Write>(
@@ -36,15 +55,22 @@ pub fn run_msg<R: Read, W: Write>(
 ) -> RunEnd
     ensures read { is_done result ≡ true → IsAtEnd (R.remaining reader.new) }
     ensures written { IfSome (R.remaining reader.old) (λ input. is_done result ≡ true →
-        AppendsText (IsOutput (MsgText form) hex input) (is_fault result)
-        (W.contents writer.old) (W.contents writer.new)) }
+        AppendsText (IsOutput (TextOrRecords (as_messages form) (MsgText form)) hex input)
+        (is_fault result) (W.contents writer.old) (W.contents writer.new)) }
     ensures unread { result ≡ RunEnd.Unread
-        → WritesRead (λ read. AllMessages form (bytes_of hex read))
+        → WritesRead (λ read. AllOrRecords (as_messages form) (AllMessages form)
+        (bytes_of hex read))
         (R.remaining reader.old) (R.remaining reader.new)
         (W.contents writer.old) (W.contents writer.new) }
     ensures memory { result ≡ RunEnd.OutOfMemory → IfSome (R.remaining reader.old) (λ input.
-        AppendsOne (FirstMessages form (bytes_of hex input))
+        AppendsOne (FirstOrRecords (as_messages form) (FirstMessages form) (bytes_of hex input))
         (W.contents writer.old) (W.contents writer.new)) }
 {
-    run_walk(alloc, &Messages { form }, hex, reader, writer)
+    let walk = OrRecords {
+        others: Messages { form },
+        records: Records {
+            form: form.of_records(),
+        },
+    };
+    run_walk(alloc, &walk, hex, reader, writer)
 }

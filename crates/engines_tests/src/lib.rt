@@ -33,6 +33,8 @@ mod play;
 #[cfg(test)]
 mod readers;
 #[cfg(test)]
+mod records;
+#[cfg(test)]
 mod salvage;
 #[cfg(test)]
 mod writers;

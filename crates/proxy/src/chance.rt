@@ -1,6 +1,6 @@
 //! Draws where connections are cut.
 
-use crate::watch::Direction;
+use crate::direction::Direction;
 use rand_core::utils::NextWord;
 use rand_pcg::Pcg32;
 

@@ -1,6 +1,6 @@
 //! How a connection ended.
 
-use crate::watch::Direction;
+use crate::direction::Direction;
 use std::fmt;
 use wire_relay::RelayFault;
 

@@ -11,7 +11,19 @@ pub enum ProxyFault {
     /// The script is at fault.
     #[error("the script is at fault: {0}")]
     Script(ScriptFault),
-    /// Listening, reading the script, writing or waiting failed, or memory ran out.
+    /// The server's address is where the proxy listens.
+    #[error("the server's address is the proxy's own")]
+    Itself,
+    /// The script can't be read.
+    #[error("the script can't be read: {0}")]
+    ScriptFile(io::Error),
+    /// The file of the port can't be written.
+    #[error("the file of the port can't be written: {0}")]
+    PortFile(io::Error),
+    /// The file of records can't be written.
+    #[error("the file of records can't be written: {0}")]
+    RecordFile(io::Error),
+    /// Listening, writing or waiting failed, or memory ran out.
     #[error("{0}")]
     Io(io::Error),
 }

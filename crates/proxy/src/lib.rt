@@ -1,30 +1,46 @@
 //! Listens at one address, and passes the bytes of each connection to the server at another one and
 //! back, unchanged.
 //!
-//! It writes where it listens, and if `Options` ask for text, each message, once it is whole. What
-//! is proved of the bytes is the law of wire_relay. All connections are served in one thread.
+//! It writes where it listens. A `Watch` finds the messages of what passed, and gives each, once it
+//! is whole, to a `Sink`, which shows or records it, as `Options` ask for. What is proved of the
+//! bytes is the law of wire_relay. All connections are served in one thread.
 //!
 //! Faults are made by a script, whose rules say what becomes of requests and their replies, or by a
 //! seed, from which it is drawn where each connection is cut. With a script a `HeldLink` holds each
 //! message until it is whole, and `fate` asks the script.
 //!
-//! Uses wire_relay and test_script. Used by bsonwire. Read first: `options`, `pair`, and then
-//! `proxy`.
+//! Uses wire_relay, test_script and wire_record. Used by shared_proxy and bsonwire. Read first:
+//! `options`, `pair`, `sink`, and then `proxy`.
 #![tactic(auto)]
 
+mod acceptor;
 mod chance;
+mod direction;
 mod ending;
 mod fate;
 mod fault;
 mod held_link;
+mod message;
 mod options;
 mod pair;
 mod pairs;
 mod proxy;
+mod record_buf;
+mod recorder;
 mod serving;
+mod sink;
 mod socket;
 mod watch;
 
+pub use acceptor::{ACCEPTS, Acceptor, EVENTS, LISTENER};
+pub use chance::{Cut, drawn_cut};
+pub use direction::Direction;
+pub use fate::{Fate, fate_of};
 pub use fault::ProxyFault;
-pub use options::Options;
-pub use serving::run;
+pub use held_link::HeldLink;
+pub use options::{Options, Show, Watching};
+pub use pair::Watches;
+pub use serving::{listen, read_script, run};
+pub use sink::Sink;
+pub use socket::Socket;
+pub use watch::Watch;

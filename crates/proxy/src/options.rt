@@ -1,5 +1,16 @@
 //! What a proxy is to do.
 
+/// How the messages that pass are shown.
+#[derive(Clone, Copy, Debug, PartialEq, Eq)]
+pub enum Show {
+    /// Not at all.
+    Nothing,
+    /// The text of each, in a line for each of its parts.
+    Text,
+    /// A line for each, of canonical Extended JSON.
+    Json,
+}
+
 /// What a proxy is to do.
 #[derive(Clone, Copy, Debug, PartialEq, Eq)]
 pub struct Options<'a> {
@@ -7,8 +18,8 @@ pub struct Options<'a> {
     pub listen: &'a str,
     /// The address of the server.
     pub upstream: &'a str,
-    /// Show each message.
-    pub text: bool,
+    /// How messages are shown.
+    pub show: Show,
     /// The number of connections to serve.
     pub connections: u64,
     /// The file to write the port to.
@@ -17,4 +28,31 @@ pub struct Options<'a> {
     pub script: Option<&'a str>,
     /// From what it is drawn where connections are cut.
     pub seed: Option<u64>,
+    /// The file of records, in which messages are kept.
+    pub record: Option<&'a str>,
+    /// The most bytes of that file.
+    pub limit: u64,
+    /// The number of connections to the server over which the calls of all clients go; without it
+    /// each client has one of its own. `run` doesn't look at it.
+    pub share: Option<u64>,
+}
+
+/// What is told of connections beside their faults.
+#[derive(Clone, Copy, Debug, PartialEq, Eq)]
+pub struct Watching {
+    /// That they are new, and how they ended.
+    pub told: bool,
+    /// Their messages are shown or recorded.
+    pub watched: bool,
+}
+
+impl Options<'_> {
+    /// Returns what is told of connections.
+    pub fn watching(self) -> Watching {
+        let told = self.show != Show::Nothing;
+        Watching {
+            told,
+            watched: told || self.record.is_some(),
+        }
+    }
 }

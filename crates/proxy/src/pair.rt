@@ -1,30 +1,34 @@
 //! A pair of connections, and its turns.
 
+use crate::direction::Direction;
 use crate::ending::Ending;
 use crate::fate::{Fate, fate_of};
 use crate::held_link::HeldLink;
+use crate::sink::Sink;
 use crate::socket::Socket;
-use crate::watch::{Direction, Watch, write_message};
+use crate::watch::Watch;
 use std::alloc::{AllocError, Global};
 use std::io;
 use std::io::{ErrorKind, Write};
+use std::rt::Files;
+use std::time::Clock;
 use test_script::{Flow, Script};
 use wire_relay::{NoTap, Relay, RelayFault, Turned};
 
 /// The most steps of a turn.
 const STEPS: u32 = 16;
 
-/// What shows the messages of a connection.
+/// What finds the messages of a connection.
 #[derive(Drop)]
-pub struct Shown {
-    there: Watch,
-    back: Watch,
+pub struct Watches {
+    pub there: Watch,
+    pub back: Watch,
 }
 
-impl Shown {
-    /// Makes what shows the messages of the connection of this number. It takes no memory.
-    pub fn new(alloc: Global, number: u64) -> Shown {
-        Shown {
+impl Watches {
+    /// Makes what finds the messages of the connection of this number. It takes no memory.
+    pub fn new(alloc: Global, number: u64) -> Watches {
+        Watches {
             there: Watch::new(alloc, number, Direction::There),
             back: Watch::new(alloc, number, Direction::Back),
         }
@@ -60,13 +64,14 @@ fn wants_memory(fault: RelayFault) -> bool {
     }
 }
 
-/// Two connections between which bytes are passed, and what shows them, if they are shown.
+/// Two connections between which bytes are passed, and what finds their messages, if they are shown
+/// or recorded.
 #[derive(Drop)]
 pub struct Pair {
     alloc: Global,
     number: u64,
     relay: Relay<HeldLink<Socket>, HeldLink<Socket>>,
-    shown: Option<Shown>,
+    watches: Option<Watches>,
     /// What becomes of replies that don't go on whole.
     marks: Vec<Mark>,
     /// A request is held for some time.
@@ -84,32 +89,32 @@ impl Pair {
         number: u64,
         near: HeldLink<Socket>,
         far: HeldLink<Socket>,
-        shown: Option<Shown>,
+        watches: Option<Watches>,
     ) -> Result<Pair, AllocError> {
         let relay = Relay::new(alloc, near, far)?;
         Ok(Pair {
             alloc,
             number,
             relay,
-            shown,
+            watches,
             marks: Vec::new(alloc),
             delayed: false,
         })
     }
 
-    /// Passes bytes, in at most so many steps, and writes the messages that passed and are whole, if
-    /// they are shown.
-    fn pass_on<W: Write>(
+    /// Takes a step on each way, and gives the messages that are whole then to the sink, if messages
+    /// are shown or recorded.
+    fn step<R: Files + Clock, W: Write>(
         &mut self,
-        steps: u32,
+        sink: &mut Sink<'_, R>,
         out: &mut W,
     ) -> io::Result<Result<Turned, RelayFault>> {
-        let Some(shown) = &mut self.shown else {
-            return Ok(self.relay.turn(steps, &mut NoTap, &mut NoTap));
+        let Some(watches) = &mut self.watches else {
+            return Ok(self.relay.turn(1, &mut NoTap, &mut NoTap));
         };
-        let turned = self.relay.turn(steps, &mut shown.there, &mut shown.back);
-        shown.there.show(out)?;
-        shown.back.show(out)?;
+        let turned = self.relay.turn(1, &mut watches.there, &mut watches.back);
+        watches.there.show(sink, out)?;
+        watches.back.show(sink, out)?;
         Ok(turned)
     }
 
@@ -142,18 +147,17 @@ impl Pair {
         }
     }
 
-    /// Writes the message that `link` holds, if messages are shown: one that doesn't go on whole.
-    fn show<W: Write>(
+    /// Gives the message that `link` holds to the sink: one that doesn't go on whole.
+    fn show<R: Files + Clock, W: Write>(
         &self,
         link: &HeldLink<Socket>,
         direction: Direction,
+        sink: &mut Sink<'_, R>,
         out: &mut W,
     ) -> io::Result<()> {
         match link.message() {
-            Some(frame) if self.shown.is_some() => {
-                write_message(self.alloc, self.number, direction, frame, out)
-            }
-            _ => Ok(()),
+            Some(frame) => sink.put(self.number, direction, frame, out),
+            None => Ok(()),
         }
     }
 
@@ -174,7 +178,11 @@ impl Pair {
     }
 
     /// Does with a reply that is held, if one is, what the rule says that its request met.
-    fn steer_reply<W: Write>(&mut self, out: &mut W) -> io::Result<()> {
+    fn steer_reply<R: Files + Clock, W: Write>(
+        &mut self,
+        sink: &mut Sink<'_, R>,
+        out: &mut W,
+    ) -> io::Result<()> {
         let (to, size) = match self.relay.far().message() {
             Some(frame) => (frame.header().response_to, frame.as_bytes().len()),
             None => return Ok(()),
@@ -182,11 +190,11 @@ impl Pair {
         match self.take_mark(to) {
             Flow::Whole | Flow::Held(_) => self.relay.far_mut().pass(),
             Flow::Cut(count) => {
-                self.show(self.relay.far(), Direction::Back, out)?;
+                self.show(self.relay.far(), Direction::Back, sink, out)?;
                 self.relay.far_mut().cut(count);
             }
             Flow::Dropped => {
-                self.show(self.relay.far(), Direction::Back, out)?;
+                self.show(self.relay.far(), Direction::Back, sink, out)?;
                 writeln!(out, "{} drop {size} to {to}", self.number)?;
                 self.relay.far_mut().skip();
             }
@@ -196,9 +204,10 @@ impl Pair {
 
     /// Does with a request that is held, if one is, what the script says. Returns what the turn
     /// comes to, if it is over.
-    fn steer_request<W: Write>(
+    fn steer_request<R: Files + Clock, W: Write>(
         &mut self,
         script: &mut Script,
+        sink: &mut Sink<'_, R>,
         out: &mut W,
     ) -> io::Result<Option<Outcome>> {
         let (id, fate) = match self.relay.near().message() {
@@ -218,16 +227,16 @@ impl Pair {
                 Ok(Some(Outcome::Held(millis)))
             }
             Fate::HangUp => {
-                self.show(self.relay.near(), Direction::There, out)?;
+                self.show(self.relay.near(), Direction::There, sink, out)?;
                 Ok(Some(Outcome::Over(Ending::HungUp(id))))
             }
             Fate::CutUp(count) => {
-                self.show(self.relay.near(), Direction::There, out)?;
+                self.show(self.relay.near(), Direction::There, sink, out)?;
                 self.relay.near_mut().cut(count);
                 Ok(None)
             }
             Fate::Reply(bytes) => {
-                self.show(self.relay.near(), Direction::There, out)?;
+                self.show(self.relay.near(), Direction::There, sink, out)?;
                 writeln!(out, "{number} reply to {id}")?;
                 self.relay.near_mut().skip();
                 self.relay.far_mut().put(&bytes)?;
@@ -243,16 +252,21 @@ impl Pair {
 
     /// Takes a turn in single steps, and does with each message that is whole then what the script
     /// says.
-    fn turn_by<W: Write>(&mut self, script: &mut Script, out: &mut W) -> io::Result<Outcome> {
+    fn turn_by<R: Files + Clock, W: Write>(
+        &mut self,
+        script: &mut Script,
+        sink: &mut Sink<'_, R>,
+        out: &mut W,
+    ) -> io::Result<Outcome> {
         for _ in 0..STEPS {
-            let turned = self.pass_on(1, out)?;
+            let turned = self.step(sink, out)?;
             let outcome = self.outcome(turned);
             if let Outcome::Over(_) = outcome {
                 return Ok(outcome);
             }
-            self.steer_reply(out)?;
+            self.steer_reply(sink, out)?;
             if !self.delayed
-                && let Some(outcome) = self.steer_request(script, out)?
+                && let Some(outcome) = self.steer_request(script, sink, out)?
             {
                 return Ok(outcome);
             }
@@ -263,20 +277,39 @@ impl Pair {
         Ok(Outcome::Again)
     }
 
-    /// Takes a turn, and writes what is shown of it.
+    /// Takes a turn in single steps, so that no message is given to the sink before one that came
+    /// earlier on the other way.
+    fn turn_watched<R: Files + Clock, W: Write>(
+        &mut self,
+        sink: &mut Sink<'_, R>,
+        out: &mut W,
+    ) -> io::Result<Outcome> {
+        for _ in 0..STEPS {
+            let turned = self.step(sink, out)?;
+            let outcome = self.outcome(turned);
+            if outcome != Outcome::Again {
+                return Ok(outcome);
+            }
+        }
+        Ok(Outcome::Again)
+    }
+
+    /// Takes a turn, and gives the messages that are whole then to the sink.
     ///
     /// # Errors
     ///
-    /// Returns an error if memory runs out or writing fails.
-    pub fn turn<W: Write>(
+    /// Returns an error if memory runs out, or the sink or writing fails.
+    pub fn turn<R: Files + Clock, W: Write>(
         &mut self,
         script: Option<&mut Script>,
+        sink: &mut Sink<'_, R>,
         out: &mut W,
     ) -> io::Result<Outcome> {
         let outcome = match script {
-            Some(script) => self.turn_by(script, out)?,
+            Some(script) => self.turn_by(script, sink, out)?,
+            None if self.watches.is_some() => self.turn_watched(sink, out)?,
             None => {
-                let turned = self.pass_on(STEPS, out)?;
+                let turned = self.relay.turn(STEPS, &mut NoTap, &mut NoTap);
                 self.outcome(turned)
             }
         };
@@ -296,9 +329,9 @@ impl Pair {
         }
     }
 
-    /// Writes how the connection ended, if it is shown, or the proxy ended it.
-    pub fn write_end<W: Write>(&self, ending: Ending, out: &mut W) -> io::Result<()> {
-        if self.shown.is_some() || ending.is_fault() {
+    /// Writes how the connection ended, if that is told, or the proxy ended it.
+    pub fn write_end<W: Write>(&self, ending: Ending, told: bool, out: &mut W) -> io::Result<()> {
+        if told || ending.is_fault() {
             writeln!(out, "{} {ending}", self.number)?;
         }
         Ok(())

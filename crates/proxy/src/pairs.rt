@@ -1,16 +1,19 @@
 //! The pairs of connections, by their keys.
 
 use crate::chance::drawn_cut;
+use crate::direction::Direction;
 use crate::ending::Ending;
 use crate::held_link::HeldLink;
-use crate::pair::{Outcome, Pair, Shown};
+use crate::options::Watching;
+use crate::pair::{Outcome, Pair, Watches};
+use crate::sink::Sink;
 use crate::socket::Socket;
-use crate::watch::Direction;
 use slab::Slab;
 use std::alloc::{AllocError, Global};
 use std::collections::VecDeque;
 use std::io;
 use std::io::{ErrorKind, Write};
+use std::rt::Files;
 use std::time::{Clock, Duration};
 use test_script::{Delays, Script};
 
@@ -29,8 +32,8 @@ pub struct Faults {
 pub struct Pairs {
     alloc: Global,
     pairs: Slab<Pair>,
-    /// Their messages are shown.
-    text: bool,
+    /// What is told of them.
+    watching: Watching,
     faults: Faults,
     /// The pairs of which a request is held.
     delays: Delays,
@@ -43,12 +46,12 @@ pub struct Pairs {
 }
 
 impl Pairs {
-    /// Begins without pairs, whose messages are shown if `text` is true. It takes no memory.
-    pub fn new(alloc: Global, text: bool, faults: Faults) -> Pairs {
+    /// Begins without pairs. It takes no memory.
+    pub fn new(alloc: Global, watching: Watching, faults: Faults) -> Pairs {
         Pairs {
             alloc,
             pairs: Slab::new(alloc),
-            text,
+            watching,
             faults,
             delays: Delays::new(alloc),
             again: VecDeque::new(alloc),
@@ -96,8 +99,8 @@ impl Pairs {
         Ok(link)
     }
 
-    /// Passes bytes between two connections from now on, and writes that they are new, if they are
-    /// shown.
+    /// Passes bytes between two connections from now on, and writes that they are new, if that is
+    /// told.
     ///
     /// # Errors
     ///
@@ -106,13 +109,13 @@ impl Pairs {
         let number = self.opened.saturating_add(1);
         let near = self.link(number, near, Direction::There)?;
         let far = self.link(number, far, Direction::Back)?;
-        let shown = if self.text {
-            Some(Shown::new(self.alloc, number))
+        let watches = if self.watching.watched {
+            Some(Watches::new(self.alloc, number))
         } else {
             None
         };
-        let pair = Pair::new(self.alloc, number, near, far, shown)?;
-        if self.text {
+        let pair = Pair::new(self.alloc, number, near, far, watches)?;
+        if self.watching.told {
             writeln!(out, "{number} new")?;
         }
         let _ = self.pairs.insert(pair)?;
@@ -121,7 +124,7 @@ impl Pairs {
     }
 
     /// Counts a connection that is closed at once, since connecting to the server failed, and
-    /// writes that, if messages are shown.
+    /// writes that, if connections are told of.
     ///
     /// # Errors
     ///
@@ -130,7 +133,7 @@ impl Pairs {
         let number = self.opened.saturating_add(1);
         self.opened = number;
         self.ended = self.ended.saturating_add(1);
-        if self.text {
+        if self.watching.told {
             writeln!(out, "{number} new")?;
             writeln!(out, "{number} failed: connecting: {kind}")?;
         }
@@ -151,7 +154,7 @@ impl Pairs {
         self.ended = self.ended.saturating_add(1);
         self.delays.forget(key);
         match self.pairs.try_remove(key) {
-            Some(pair) => pair.write_end(ending, out),
+            Some(pair) => pair.write_end(ending, self.watching.told, out),
             None => Ok(()),
         }
     }
@@ -160,17 +163,18 @@ impl Pairs {
     ///
     /// # Errors
     ///
-    /// Returns an error if memory runs out, writing fails, or the clock can't be read.
-    pub fn turn<W: Write>(
+    /// Returns an error if memory runs out, the sink or writing fails, or the clock can't be read.
+    pub fn turn<R: Files + Clock, W: Write>(
         &mut self,
-        clock: &impl Clock,
+        clock: &R,
         key: usize,
+        sink: &mut Sink<'_, R>,
         out: &mut W,
     ) -> io::Result<()> {
         let Some(pair) = self.pairs.get_mut(key) else {
             return Ok(());
         };
-        match pair.turn(self.faults.script.as_mut(), out)? {
+        match pair.turn(self.faults.script.as_mut(), sink, out)? {
             Outcome::Again => Ok(self.take_up(key)?),
             Outcome::Waits => Ok(()),
             Outcome::Held(millis) => {
@@ -186,13 +190,18 @@ impl Pairs {
     ///
     /// # Errors
     ///
-    /// Returns an error if memory runs out, writing fails, or the clock can't be read.
-    pub fn turn_again<W: Write>(&mut self, clock: &impl Clock, out: &mut W) -> io::Result<()> {
+    /// Returns an error if memory runs out, the sink or writing fails, or the clock can't be read.
+    pub fn turn_again<R: Files + Clock, W: Write>(
+        &mut self,
+        clock: &R,
+        sink: &mut Sink<'_, R>,
+        out: &mut W,
+    ) -> io::Result<()> {
         self.release(clock)?;
         let due = self.again.len();
         for _ in 0..due {
             if let Some(key) = self.again.pop_front() {
-                self.turn(clock, key, out)?;
+                self.turn(clock, key, sink, out)?;
             }
         }
         Ok(())

@@ -1,46 +1,27 @@
 //! Accepts connections, and passes their bytes to a server and back.
 
+use crate::acceptor::{ACCEPTS, Acceptor, LISTENER};
 use crate::options::Options;
 use crate::pairs::{Faults, Pairs, ROOM};
+use crate::sink::Sink;
 use crate::socket::Socket;
 use mio::net::{TcpListener, TcpStream};
-use mio::{Events, Interest, Poll, Token};
+use mio::{Events, Token};
 use std::alloc::Global;
 use std::io;
 use std::io::{ErrorKind, Write};
 use std::net::{Net, SocketAddr};
-use std::time::{Clock, Duration};
+use std::rt::Files;
+use std::time::Clock;
 
-/// The token of the listener. Those of the connections of a pair are twice its key, and one more.
-const LISTENER: Token = Token(usize::MAX);
-
-/// The most connections that are accepted at once, before others take turns.
-const ACCEPTS: usize = 16;
-
-/// How many milliseconds are waited where accepting failed, before it is tried again.
-const PAUSE: u64 = 50;
-
-/// A listener, the address of the server, and the pairs of connections.
+/// What accepts connections, the address of the server, and the pairs of connections. The tokens of
+/// the connections of a pair are twice its key, and one more.
 #[derive(Drop)]
 pub struct Proxy {
     alloc: Global,
-    poll: Poll,
-    listener: TcpListener,
+    acceptor: Acceptor,
     upstream: SocketAddr,
     pairs: Pairs,
-    /// A connection may wait at the listener.
-    ready: bool,
-    /// Accepting failed, and is tried again after a pause.
-    pausing: bool,
-    /// How many more connections are accepted.
-    wanted: u64,
-}
-
-/// Has the system tell of a stream, under this token.
-fn watch(poll: &Poll, stream: &mut TcpStream, token: usize) -> io::Result<()> {
-    stream.set_nodelay(true)?;
-    let interest = Interest::READABLE | Interest::WRITABLE;
-    poll.registry().register(stream, Token(token), interest)
 }
 
 impl Proxy {
@@ -58,19 +39,11 @@ impl Proxy {
         options: Options<'_>,
         faults: Faults,
     ) -> io::Result<Proxy> {
-        let poll = Poll::new(net)?;
-        let mut listener = listener;
-        poll.registry()
-            .register(&mut listener, LISTENER, Interest::READABLE)?;
         Ok(Proxy {
             alloc,
-            poll,
-            listener,
+            acceptor: Acceptor::new(net, listener, options.connections)?,
             upstream,
-            pairs: Pairs::new(alloc, options.text, faults),
-            ready: true,
-            pausing: false,
-            wanted: options.connections,
+            pairs: Pairs::new(alloc, options.watching(), faults),
         })
     }
 
@@ -79,57 +52,47 @@ impl Proxy {
         self.pairs.ended()
     }
 
-    /// Connects to the server, for the connection over `stream`.
-    fn connect(
-        &self,
-        net: &impl Net,
-        token: usize,
-        stream: &mut TcpStream,
-    ) -> io::Result<TcpStream> {
-        let mut far = TcpStream::connect(net, self.upstream)?;
-        watch(&self.poll, stream, token)?;
-        watch(&self.poll, &mut far, token | 1)?;
-        Ok(far)
+    /// Has the system tell of both connections of a pair.
+    fn watch(&self, near: &mut TcpStream, far: &mut TcpStream) -> io::Result<()> {
+        let token = self.pairs.next_key().saturating_mul(2);
+        self.acceptor.watch(near, token)?;
+        self.acceptor.watch(far, token | 1)
     }
 
-    /// Connects to the server, for a connection that came. If that fails, both are closed, and
-    /// others are served.
-    fn open<W: Write>(&mut self, net: &impl Net, stream: TcpStream, out: &mut W) -> io::Result<()> {
-        let mut near = stream;
-        let token = self.pairs.next_key().saturating_mul(2);
-        self.wanted = self.wanted.saturating_sub(1);
-        let far = match self.connect(net, token, &mut near) {
-            Ok(far) => far,
-            Err(error) => return self.pairs.refuse(error.kind(), out),
-        };
+    /// Passes bytes between a connection that came and one to the server. If the system can't tell
+    /// of their events, both are closed.
+    fn join<W: Write>(&mut self, near: TcpStream, far: TcpStream, out: &mut W) -> io::Result<()> {
+        let (mut near, mut far) = (near, far);
+        if let Err(error) = self.watch(&mut near, &mut far) {
+            return self.pairs.refuse(error.kind(), out);
+        }
         let near = Socket::new(self.alloc, near)?;
         let far = Socket::new(self.alloc, far)?;
         self.pairs.open(near, far, out)
     }
 
-    /// Accepts a connection, if one waits and one more is wanted. Returns true if another may wait.
-    fn accept_one<W: Write>(&mut self, net: &impl Net, out: &mut W) -> io::Result<bool> {
-        if self.wanted == 0 || self.pairs.len() >= ROOM {
-            self.ready = false;
-            return Ok(false);
-        }
-        match self.listener.accept() {
-            Ok((stream, _)) => {
-                self.open(net, stream, out)?;
-                Ok(true)
+    /// Connects to the server, for a connection that came. If no open file is left, that is tried
+    /// again after a pause. If it fails else, the connection is closed, and others are served.
+    fn open<W: Write>(&mut self, net: &impl Net, near: TcpStream, out: &mut W) -> io::Result<()> {
+        match TcpStream::connect(net, self.upstream) {
+            Ok(far) => self.join(near, far, out),
+            // The system's code that no file is left has no kind of its own.
+            Err(error) if error.kind() == ErrorKind::Uncategorized && self.pairs.len() > 0 => {
+                self.acceptor.take_back(near);
+                Ok(())
             }
-            Err(error) => {
-                self.ready = false;
-                self.pausing = error.kind() != ErrorKind::WouldBlock;
-                Ok(false)
-            }
+            Err(error) => self.pairs.refuse(error.kind(), out),
         }
     }
 
     /// Accepts connections, until none waits, and no more than `ACCEPTS`.
     fn accept_some<W: Write>(&mut self, net: &impl Net, out: &mut W) -> io::Result<()> {
         for _ in 0..ACCEPTS {
-            if !self.accept_one(net, out)? {
+            match self.acceptor.accept(self.pairs.len() < ROOM) {
+                Some(stream) => self.open(net, stream, out)?,
+                None => break,
+            }
+            if !self.acceptor.is_ready() {
                 break;
             }
         }
@@ -137,71 +100,47 @@ impl Proxy {
     }
 
     /// Has each pair of which these events are take a turn.
-    fn take_turns<W: Write>(
+    fn take_turns<R: Files + Clock, W: Write>(
         &mut self,
-        clock: &impl Clock,
+        clock: &R,
         events: &Events<Global>,
+        sink: &mut Sink<'_, R>,
         out: &mut W,
     ) -> io::Result<()> {
         for event in events.iter() {
             match event.token() {
-                LISTENER => self.ready = true,
-                Token(token) => self.pairs.turn(clock, token / 2, out)?,
+                LISTENER => self.acceptor.resume(),
+                Token(token) => self.pairs.turn(clock, token / 2, sink, out)?,
             }
         }
         Ok(())
     }
 
-    /// Returns how long events are waited for: not at all if there is more to do, for a pause if
-    /// accepting failed, and no longer than a request is held.
-    fn timeout(&self, clock: &impl Clock) -> io::Result<Option<Duration>> {
-        if self.ready || self.pairs.has_more() {
-            return Ok(Some(Duration::from_millis(0)));
-        }
-        let held = self.pairs.least_delay(clock)?;
-        if self.pausing {
-            let pause = Duration::from_millis(PAUSE);
-            return Ok(Some(held.map_or(pause, |held| held.min(pause))));
-        }
-        Ok(held)
-    }
-
-    /// Waits for events.
-    fn wait(&mut self, clock: &impl Clock, events: &mut Events<Global>) -> io::Result<()> {
-        let timeout = self.timeout(clock)?;
-        match self.poll.poll(events, timeout) {
-            Ok(()) => {}
-            Err(error) if error.kind() == ErrorKind::Interrupted => {}
-            Err(error) => return Err(error),
-        }
-        if self.pausing {
-            self.pausing = false;
-            self.ready = true;
-        }
-        Ok(())
-    }
-
-    /// Waits for events, passes what can be passed, and writes what is shown of it to `out`.
+    /// Waits for events, passes what can be passed, and gives the messages of it to the sink. What
+    /// is shown or recorded until now is written before it waits.
     ///
     /// # Errors
     ///
     /// Returns an error if waiting or writing fails, or memory runs out.
-    pub fn serve_some<R: Net + Clock, W: Write>(
+    pub fn serve_some<R: Net + Files + Clock, W: Write>(
         &mut self,
         rt: &R,
         events: &mut Events<Global>,
+        sink: &mut Sink<'_, R>,
         out: &mut W,
     ) -> io::Result<()> {
         out.flush()?;
-        self.wait(rt, events)?;
+        sink.flush()?;
+        let least = self.pairs.least_delay(rt)?;
+        self.acceptor.wait(events, self.pairs.has_more(), least)?;
         let ended = self.pairs.ended();
-        self.pairs.turn_again(rt, out)?;
-        self.take_turns(rt, events, out)?;
+        self.pairs.turn_again(rt, sink, out)?;
+        self.take_turns(rt, events, sink, out)?;
         // Where a pair ended there is room for a connection that waits.
         if self.pairs.ended() != ended {
-            self.ready = true;
+            self.acceptor.resume();
         }
-        if self.ready {
+        if self.acceptor.is_ready() {
             self.accept_some(rt, out)?;
         }
         Ok(())

@@ -1,9 +1,11 @@
 //! Runs a proxy, from its first line until enough connections ended.
 
+use crate::acceptor::EVENTS;
 use crate::fault::ProxyFault;
 use crate::options::Options;
 use crate::pairs::Faults;
 use crate::proxy::Proxy;
+use crate::sink::Sink;
 use mio::Events;
 use mio::net::TcpListener;
 use std::alloc::Global;
@@ -15,9 +17,6 @@ use std::rt::Files;
 use std::time::Clock;
 use test_script::{Cause, Script};
 
-/// The most events that one wait tells.
-const EVENTS: usize = 64;
-
 /// Returns the first address that `address` names.
 fn first_address<R: Net>(rt: &R, address: &str) -> io::Result<SocketAddr> {
     match address.to_socket_addrs(rt)?.next() {
@@ -26,11 +25,19 @@ fn first_address<R: Net>(rt: &R, address: &str) -> io::Result<SocketAddr> {
     }
 }
 
+/// Writes the port to a file.
+fn write_port<R: Files>(rt: &R, file: &str, port: u16) -> io::Result<()> {
+    writeln!(File::create(rt, file)?, "{port}")
+}
+
 /// Writes the port to the file, if one is given.
-fn tell_port<R: Files>(rt: &R, file: Option<&str>, port: u16) -> io::Result<()> {
-    match file {
-        Some(file) => writeln!(File::create(rt, file)?, "{port}"),
-        None => Ok(()),
+fn tell_port<R: Files>(rt: &R, file: Option<&str>, port: u16) -> Result<(), ProxyFault> {
+    let Some(file) = file else {
+        return Ok(());
+    };
+    match write_port(rt, file, port) {
+        Ok(()) => Ok(()),
+        Err(error) => Err(ProxyFault::PortFile(error)),
     }
 }
 
@@ -42,7 +49,12 @@ fn read_file<R: Files>(rt: &R, alloc: Global, file: &str) -> io::Result<Vec<u8>>
 }
 
 /// Reads the script, if a file of one is given.
-fn read_script<R: Files>(
+///
+/// # Errors
+///
+/// Returns `Script` if the script is at fault, `ScriptFile` if it can't be read, and `Io` if memory
+/// runs out.
+pub fn read_script<R: Files>(
     rt: &R,
     alloc: Global,
     file: Option<&str>,
@@ -50,7 +62,10 @@ fn read_script<R: Files>(
     let Some(file) = file else {
         return Ok(None);
     };
-    let text = read_file(rt, alloc, file)?;
+    let text = match read_file(rt, alloc, file) {
+        Ok(text) => text,
+        Err(error) => return Err(ProxyFault::ScriptFile(error)),
+    };
     match Script::parse(alloc, &text) {
         Ok(script) => Ok(Some(script)),
         Err(fault) if fault.cause == Cause::OutOfMemory => {
@@ -60,33 +75,63 @@ fn read_script<R: Files>(
     }
 }
 
-/// Listens where the options say, and writes to `out` where that is, and the port to its file.
-fn listen<R: Net + Files, W: Write>(
-    rt: &R,
-    alloc: Global,
-    options: Options<'_>,
-    faults: Faults,
-    out: &mut W,
-) -> io::Result<Proxy> {
-    let listener = TcpListener::bind(rt, first_address(rt, options.listen)?)?;
-    let upstream = first_address(rt, options.upstream)?;
-    let local = listener.local_addr()?;
-    let proxy = Proxy::new(rt, alloc, listener, upstream, options, faults)?;
-    writeln!(out, "listening {local}")?;
-    out.flush()?;
-    tell_port(rt, options.port_file, local.port())?;
-    Ok(proxy)
-}
-
-/// Listens where the options say, and passes connections to the server until as many of them ended
-/// as they ask for. Writes to `out` where it listens, and what is shown of the connections. Opens no
-/// socket if they ask for 0 connections.
+/// Listens where the options say, creates the file of records, and writes to `out` where it
+/// listens, and the port to its file. Returns the listener, the address of the server, and what
+/// shows and records messages.
 ///
 /// # Errors
 ///
-/// Returns `Script` if the script is at fault, which is told before it listens, and `Io` if
-/// reading the script, listening, writing or waiting fails, or memory runs out. A connection that
-/// fails ends alone.
+/// Returns `Itself` if the proxy would be its own server, `RecordFile` or `PortFile` if a file can't
+/// be written, and `Io` if listening or writing fails.
+pub fn listen<'r, R: Net + Files + Clock, W: Write>(
+    rt: &'r R,
+    alloc: Global,
+    options: Options<'_>,
+    out: &mut W,
+) -> Result<(TcpListener, SocketAddr, Sink<'r, R>), ProxyFault> {
+    let listener = TcpListener::bind(rt, first_address(rt, options.listen)?)?;
+    let upstream = first_address(rt, options.upstream)?;
+    let local = listener.local_addr()?;
+    if local == upstream {
+        return Err(ProxyFault::Itself);
+    }
+    let sink = match Sink::new(rt, alloc, options) {
+        Ok(sink) => sink,
+        Err(error) => return Err(ProxyFault::RecordFile(error)),
+    };
+    writeln!(out, "listening {local}")?;
+    out.flush()?;
+    tell_port(rt, options.port_file, local.port())?;
+    Ok((listener, upstream, sink))
+}
+
+/// Passes connections to the server until as many of them ended as wanted.
+fn serve<R: Net + Files + Clock, W: Write>(
+    rt: &R,
+    proxy: &mut Proxy,
+    wanted: u64,
+    events: &mut Events<Global>,
+    sink: &mut Sink<'_, R>,
+    out: &mut W,
+) -> io::Result<()> {
+    for _ in 0..u64::MAX {
+        if proxy.ended() >= wanted {
+            break;
+        }
+        proxy.serve_some(rt, events, sink, out)?;
+    }
+    out.flush()
+}
+
+/// Listens where the options say, and passes connections to the server until as many of them ended
+/// as they ask for. Writes to `out` where it listens, and what is shown of the connections, and to
+/// the file of records the messages. Opens no socket and no file if they ask for 0 connections.
+///
+/// # Errors
+///
+/// Returns `Script` or `ScriptFile` if the script is at fault or can't be read, which is told before
+/// it listens; the errors of `listen`; and `Io` if writing or waiting fails later, or memory runs
+/// out. A connection that fails ends alone. What was recorded by then is written to the file.
 pub fn run<R: Net + Files + Clock, W: Write + Drop>(
     rt: &R,
     alloc: Global,
@@ -102,12 +147,11 @@ pub fn run<R: Net + Files + Clock, W: Write + Drop>(
     }
     let mut out = BufWriter::new(alloc, out)?;
     let mut events = Events::with_capacity(alloc, EVENTS)?;
-    let mut proxy = listen(rt, alloc, options, faults, &mut out)?;
-    for _ in 0..u64::MAX {
-        if proxy.ended() >= options.connections {
-            break;
-        }
-        proxy.serve_some(rt, &mut events, &mut out)?;
-    }
-    Ok(out.flush()?)
+    let (listener, upstream, mut sink) = listen(rt, alloc, options, &mut out)?;
+    let mut proxy = Proxy::new(rt, alloc, listener, upstream, options, faults)?;
+    let wanted = options.connections;
+    let served = serve(rt, &mut proxy, wanted, &mut events, &mut sink, &mut out);
+    let recorded = sink.flush();
+    served?;
+    Ok(recorded?)
 }

@@ -5,8 +5,8 @@
 //! `RecordReader` makes records of bytes that come in pieces. Bytes are told as records and a rest
 //! in one way, and the first fault by its number, cause and offset.
 //!
-//! Uses wire_frame. Used by no crate yet. Read first: `specs/Records.antt`, and then `head`,
-//! `record` and `reader`.
+//! Uses wire_frame. Used by engines, proxy and replay. Read first: `specs/Records.antt`, and then
+//! `head`, `record` and `reader`.
 #![tactic(auto)]
 
 mod fault;

@@ -1,6 +1,6 @@
 //! Writes the text of a message to any writer, as lines or as JSON. No function takes memory.
 //!
-//! Uses bson_text, bson_json and wire_msg. Used by engines and test_server.
+//! Uses bson_text, bson_json and wire_msg. Used by engines, proxy and test_server.
 #![tactic(auto)]
 
 mod message_json;

@@ -1,10 +1,15 @@
-use Rattle.std.proofs.Common.{◌≡◌, sym, subst, true}
+use Rattle.std.proofs.Common.{◌≡◌, List, Option, ℕ, sym, subst, true}
 use Rattle.std.specs.Prelude.{IfSome}
+use Rattle.engines.specs.declared.run.RunEnd.{RunEnd}
 use Rattle.engines.specs.{AppendsText, is_done, is_fault}
 use Rattle.bsonwire.specs.declared.choice.Command.{Command}
 use Rattle.bsonwire.specs.Choices.{CommandText}
 use Rattle.bsonwire.proofs.StopLemmas.{done_ok, written_whole}
 use Rattle.bsonwire.proofs.commands.run_over.Goals as goal
+
+-- the whole text of a command was written, if the run is done
+abbrev Written : Option (List ℕ) → RunEnd → Option (List ℕ) → Option (List ℕ) → Command → Type 0
+Written from end old new command = IfSome from (λ input. is_done end ≡ true → AppendsText (CommandText command input) (is_fault end) old new)
 
 pub returns-in-Bson-clause-read : goal.returns-in-Bson-clause-read
 returns-in-Bson-clause-read g c = done_ok c.run_bson.result c.tell_stop.result c.tell_stop.ensures.err c.run_bson.ensures.cut c.run_bson.ensures.read
@@ -15,5 +20,17 @@ returns-in-Bson-clause-written g c =
     let old = g.W.Write.contents c.args.writer.now in
     let new = g.W.Write.contents c.run_bson.new.writer in
     let end = c.tell_stop.result in
-    subst (λ (command : Command). IfSome from (λ input. is_done end ≡ true → AppendsText (CommandText command input) (is_fault end) old new)) (sym c.in-Bson.is)
+    subst (Written from end old new) (sym c.in-Bson.is)
     (written_whole from old new c.run_bson.result end c.tell_stop.ensures.ok c.tell_stop.ensures.err c.run_bson.ensures.cut c.run_bson.ensures.written)
+
+pub returns-in-Json-clause-written : goal.returns-in-Json-clause-written
+returns-in-Json-clause-written g c =
+    subst (Written (g.R.Read.remaining c.args.reader.now) c.run_json.result (g.W.Write.contents c.args.writer.now) (g.W.Write.contents c.run_json.new.writer)) (sym c.in-Json.is) c.run_json.ensures.written
+
+pub returns-in-Msg-clause-written : goal.returns-in-Msg-clause-written
+returns-in-Msg-clause-written g c =
+    subst (Written (g.R.Read.remaining c.args.reader.now) c.run_msg.result (g.W.Write.contents c.args.writer.now) (g.W.Write.contents c.run_msg.new.writer)) (sym c.in-Msg.is) c.run_msg.ensures.written
+
+pub returns-in-Any-clause-written : goal.returns-in-Any-clause-written
+returns-in-Any-clause-written g c =
+    subst (Written (g.R.Read.remaining c.args.reader.now) c.run_any.result (g.W.Write.contents c.args.writer.now) (g.W.Write.contents c.run_any.new.writer)) (sym c.in-Any.is) c.run_any.ensures.written

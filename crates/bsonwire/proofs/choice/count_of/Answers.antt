@@ -1,0 +1,15 @@
+use Rattle.std.proofs.Common.{subst, Option, ℕ}
+use Rattle.clap.specs.Words.{found_of, one_of, rows_of}
+use Rattle.bsonwire.specs.Choices.{AsksFor}
+use Rattle.bsonwire.proofs.ChoiceLemmas.{asks_for, asks_for_all}
+use Rattle.bsonwire.proofs.choice.count_of.Goals as goal
+
+pub returns-in-Some : goal.returns-in-Some
+returns-in-Some c =
+    let o = one_of c.args.name.now (rows_of (found_of c.args.matches.now)) in
+    asks_for o c.in-Some.count (subst (λ (n : Option ℕ). AsksFor n o) c.in-Some.is c.number_of.ensures)
+
+pub returns-in-None : goal.returns-in-None
+returns-in-None c =
+    let o = one_of c.args.name.now (rows_of (found_of c.args.matches.now)) in
+    asks_for_all o (subst (λ (n : Option ℕ). AsksFor n o) c.in-None.is c.number_of.ensures)

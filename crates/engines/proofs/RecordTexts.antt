@@ -1,0 +1,92 @@
+-- What is written of a record.
+use Rattle.std.proofs.Common.{◌≡◌, ◌≢◌, ◌+◌, ◌++◌, [], ◌∷◌, ◌∙◌, ℕ, ℤ, List, Option, Result, Ok, Err, OnOk, codes, length, refl, ap, subst, arith, length-append}
+use Rattle.std.specs.Prelude.{nat_lt}
+use Rattle.std.specs.Fmt.{decimal}
+use Rattle.std.specs.List.{concat}
+use Rattle.std.proofs.lemmas.Bool.{lt-ltb}
+use Rattle.std.specs.Io.KnownBytes.{Appends}
+use Rattle.std.proofs.KnownBytes.{Appends-trans}
+use Rattle.bson_json.specs.declared.mode.Mode.{Mode}
+use Rattle.wire_frame.specs.declared.opcode.Opcode.{Opcode}
+use Rattle.wire_frame.specs.declared.opcode.Opcode.TheVariants.{Compressed, Msg, Other, Query, Reply}
+use Rattle.wire_msg.specs.{header_of}
+use Rattle.wire_record.specs.declared.head.RecordHead.{RecordHead}
+use Rattle.wire_record.specs.{AreRecords, HasHead, head_of, message_of}
+use Rattle.engines.specs.declared.json.Layout.{Layout}
+use Rattle.engines.specs.declared.record_text.RecordForm.{RecordForm}
+use Rattle.engines.specs.declared.record_text.RecordForm.TheVariants.{Text, Json}
+use Rattle.engines.specs.Documents.{is_there, or_nothing}
+use Rattle.engines.specs.FrameText.{IsFrameText}
+use Rattle.engines.specs.Json.{end_of_value}
+use Rattle.engines.specs.RecordText.{IsFrameJson, IsKindJson, IsRecordText, head_json, head_line, header_json, named, record_closing, record_front}
+use Rattle.engines.specs.Records.{RecordsAre, RecordsText, are_there}
+use Rattle.engines.proofs.FrameTexts.{Wrote}
+
+-- a text of one sort is one of another
+pub wrote_as : {E : Type 0} (r : Result (Unit {0}) E) (a b : Option (List ℕ)) (Is As : List ℕ → Type 0) → ((text : List ℕ) → Is text → As text) → OnOk r (Wrote a b Is) → OnOk r (Wrote a b As)
+wrote_as (Err e) a b Is As more w = tt
+wrote_as (Ok x) a b Is As more (text, is, appends) = (text, more text is, appends)
+
+-- a text behind another one
+pub two_written : {E : Type 0} (r : Result (Unit {0}) E) (a b c : Option (List ℕ)) (first last : List ℕ) → Appends a b first → OnOk r (Appends b c last) → OnOk r (Appends a c (first ++ last))
+two_written (Err e) a b c first last p q = tt
+two_written (Ok x) a b c first last p q = Appends-trans a b c first last p q
+
+-- a header's object, of numbers that are those of the header
+abbrev header_of_numbers : ℕ → ℤ → ℤ → ℤ → List ℕ
+header_of_numbers size id to opcode = (codes "{\"messageLength\":" ++ decimal size) ++ (named (codes ",\"requestID\":") id ++ (named (codes ",\"responseTo\":") to ++ (named (codes ",\"opCode\":") opcode ++ codes "}")))
+
+pub header_written : {E : Type 0} (r : Result (Unit {0}) E) (a b : Option (List ℕ)) (size : ℕ) (id i to t opcode o : ℤ) → id ≡ i → to ≡ t → opcode ≡ o
+    → OnOk r (Appends a b (header_of_numbers size id to opcode)) → OnOk r (Appends a b (header_of_numbers size i t o))
+header_written r a b size id i to t opcode o same so also written =
+    subst (λ (x : List ℕ). OnOk r (Appends a b x)) (is same so also) written
+  where
+    is : id ≡ i → to ≡ t → opcode ≡ o → header_of_numbers size id to opcode ≡ header_of_numbers size i t o
+    is same so also = rw (same, so, also) refl
+
+-- a message that is no OP_MSG is told by its header
+pub other_json : (kind : Opcode) (mode : Mode) (bytes text : List ℕ) → kind ≢ Msg → text ≡ header_json (header_of bytes) → IsKindJson kind mode bytes text
+other_json Reply mode bytes text ne is = is
+other_json Query mode bytes text ne is = is
+other_json Compressed mode bytes text ne is = is
+other_json Msg mode bytes text ne is = absurd (ne refl)
+other_json (Other number) mode bytes text ne is = is
+
+-- the parts of a record's object
+pub object_written : {E : Type 0} (r : Result (Unit {0}) E) (a b c d e f : Option (List ℕ)) (mode : Mode) (layout : Layout) (start : ℕ) (bytes frame front end : List ℕ) (h : RecordHead)
+    → HasHead (head_of bytes) h → frame ≡ message_of bytes → Appends a b front → front ≡ record_front layout start → Appends b c (head_json h) → Wrote c d (IsFrameJson mode frame)
+    → Appends d e (codes "}") → end ≡ end_of_value layout → OnOk r (Appends e f end) → OnOk r (Wrote a f (IsRecordText (Json mode layout) start bytes))
+object_written (Err x) a b c d e f mode layout start bytes frame front end h head message p is q w s at last = tt
+object_written (Ok x) a b c d e f mode layout start bytes frame front end h head message p is q (text, text_is, t) s at last = (
+  front ++ (head_json h ++ (text ++ (codes "}" ++ end))),
+  (
+    h,
+    text,
+    head,
+    subst (λ (y : List ℕ). IsFrameJson mode y text) message text_is,
+    ap (λ (y : List ℕ). y ++ (head_json h ++ (text ++ (codes "}" ++ end)))) is ∙ ap (λ (y : List ℕ). record_front layout start ++ (head_json h ++ (text ++ (codes "}" ++ y)))) at,
+  ),
+  Appends-trans a b f front _ p (Appends-trans b c f (head_json h) _ q (Appends-trans c d f text _ t (Appends-trans d e f (codes "}") end s last))),
+)
+
+-- the line of its head, and its message
+pub lines_written : {E : Type 0} (r : Result (Unit {0}) E) (a b c : Option (List ℕ)) (start : ℕ) (bytes frame : List ℕ) (h : RecordHead)
+    → HasHead (head_of bytes) h → frame ≡ message_of bytes → Appends a b (head_line h) → OnOk r (Wrote b c (IsFrameText (start + 20) frame)) → OnOk r (Wrote a c (IsRecordText Text start bytes))
+lines_written (Err x) a b c start bytes frame h head message p w = tt
+lines_written (Ok x) a b c start bytes frame h head message p (text, text_is, t) =
+    (head_line h ++ text, (h, text, head, subst (λ (y : List ℕ). IsFrameText (start + 20) y text) message text_is, refl), Appends-trans a b c (head_line h) text p t)
+
+-- whether there are records is told by where the reader stands
+any_there : (limit : ℕ) (rs : List (List ℕ)) → AreRecords limit rs → nat_lt 8 (8 + length (concat rs)) ≡ are_there rs
+any_there limit [] are = refl
+any_there limit (r ∷ rs) are = lt-ltb 8 (8 + length (concat (r ∷ rs))) (omega (arith, are.0.head, length-append r (concat rs)))
+
+-- what follows the texts of all records
+pub closing_told : {E : Type 0} (r : Result (Unit {0}) E) (a b : Option (List ℕ)) (form : RecordForm) (start : ℕ) (word : List ℕ) (place : Option ℕ) (bytes texts : List ℕ) (last : Option (List ℕ))
+    (are : RecordsAre form 48000000 place bytes texts last) → start ≡ 8 + length (concat are.records) → word ≡ record_closing form (nat_lt 8 start) → OnOk r (Appends a b word)
+    → OnOk r ((closing : List ℕ) × RecordsText form place bytes (texts ++ (closing ++ or_nothing last)) (is_there last) × Appends a b closing)
+closing_told (Err x) a b form start word place bytes texts last are at is w = tt
+closing_told (Ok x) a b form start word place bytes texts last are at is w =
+    let any : nat_lt 8 start ≡ are_there are.records = ap (nat_lt 8) at ∙ any_there 48000000 are.records are.split.records_are in
+    let same : word ≡ record_closing form (are_there are.records) = is ∙ ap (record_closing form) any in
+    (word, (texts, last, are, ap (λ (y : List ℕ). texts ++ (y ++ or_nothing last)) same, refl), w)

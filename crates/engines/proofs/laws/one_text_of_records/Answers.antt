@@ -1,0 +1,15 @@
+use Rattle.engines.specs.Any.{AnyText}
+use Rattle.engines.specs.Msg.{MsgText}
+use Rattle.engines.specs.declared.msg.MessageForm.TheVariants.{Text}
+use Rattle.engines.proofs.FrameLaws.{one_any_text}
+use Rattle.engines.proofs.MessageLaws.{one_msg_text}
+use Rattle.engines.proofs.RecordLaws.{one_text_or_records}
+use Rattle.engines.proofs.laws.one_text_of_records.Goals as goal
+
+pub returns : goal.returns
+returns c = record {
+  messages = λ place bytes text other fault other_fault fits.
+      one_text_or_records (MsgText Text) place bytes fits (λ a b f g x y. one_msg_text place bytes a b f g fits x y) text other fault other_fault;
+  frames = λ place bytes text other fault other_fault fits.
+      one_text_or_records AnyText place bytes fits (λ a b f g x y. one_any_text place bytes a b f g fits x y) text other fault other_fault;
+}

@@ -1,0 +1,31 @@
+use Rattle.std.proofs.Common.{◌≡◌, List, ℕ, subst, true}
+use Rattle.std.specs.Prelude.{IfSome}
+use Rattle.engines.specs.declared.record_text.RecordForm.{RecordForm}
+use Rattle.engines.specs.declared.run.RunEnd.TheVariants.{Unread}
+use Rattle.engines.specs.Input.{bytes_of}
+use Rattle.engines.specs.Msg.{AllMessages, MsgText}
+use Rattle.engines.specs.OrRecords.{AllOrRecords, TextOrRecords}
+use Rattle.engines.specs.Output.{AppendsText, IsOutput, WritesRead}
+use Rattle.engines.specs.Run.{is_done, is_fault}
+use Rattle.engines.proofs.WaitLemmas.{messages_wait}
+use Rattle.engines.proofs.msg.run_msg.Goals as goal
+
+pub invariant_of-walk : goal.invariant_of-walk
+invariant_of-walk g c = record { waits = messages_wait c.args.form }
+
+pub returns-clause-written : goal.returns-clause-written
+returns-clause-written g c =
+    let end = c.run_walk.result in
+    let old = g.W.Write.contents c.args.writer.now in
+    let new = g.W.Write.contents c.run_walk.new.writer in
+    subst (λ (f : RecordForm). IfSome (g.R.Read.remaining c.args.reader.now) (λ input. is_done end ≡ true → AppendsText (IsOutput (TextOrRecords f (MsgText c.args.form)) c.args.hex input) (is_fault end) old new))
+    c.of_records.ensures c.run_walk.ensures.written
+
+pub returns-clause-unread : goal.returns-clause-unread
+returns-clause-unread g c =
+    let from = g.R.Read.remaining c.args.reader.now in
+    let to = g.R.Read.remaining c.run_walk.new.reader in
+    let old = g.W.Write.contents c.args.writer.now in
+    let new = g.W.Write.contents c.run_walk.new.writer in
+    subst (λ (f : RecordForm). c.run_walk.result ≡ Unread → WritesRead (λ (read : List ℕ). AllOrRecords f (AllMessages c.args.form) (bytes_of c.args.hex read)) from to old new)
+    c.of_records.ensures c.run_walk.ensures.unread

@@ -1,0 +1,176 @@
+//! Accepts connections, as many as are wanted, and waits for what happens on them.
+
+use mio::net::{TcpListener, TcpStream};
+use mio::{Events, Interest, Poll, Token};
+use std::alloc::Global;
+use std::io;
+use std::io::ErrorKind;
+use std::net::{Net, SocketAddr};
+use std::time::Duration;
+
+/// The token of the listener.
+pub const LISTENER: Token = Token(usize::MAX);
+
+/// The most connections that are accepted at once, before others take turns.
+pub const ACCEPTS: usize = 16;
+
+/// The most events that one wait tells.
+pub const EVENTS: usize = 64;
+
+/// How many milliseconds are waited where accepting failed, before it is tried again.
+const PAUSE: u64 = 50;
+
+/// Whether a connection may wait at the listener.
+#[derive(Clone, Copy, Debug, PartialEq, Eq)]
+enum Standing {
+    /// One may wait.
+    Ready,
+    /// None waits, or none is wanted.
+    Waits,
+    /// Accepting failed, and is tried again after a pause.
+    Pauses,
+}
+
+/// A listener, and what tells of its connections and of others.
+#[derive(Drop)]
+pub struct Acceptor {
+    poll: Poll,
+    listener: TcpListener,
+    standing: Standing,
+    /// A connection that came, and is accepted once more.
+    returned: Option<TcpStream>,
+    /// How many more connections are accepted.
+    wanted: u64,
+}
+
+impl Acceptor {
+    /// Begins to listen for so many connections.
+    ///
+    /// # Errors
+    ///
+    /// Returns why listening failed.
+    pub fn new(net: &impl Net, listener: TcpListener, wanted: u64) -> io::Result<Acceptor> {
+        let poll = Poll::new(net)?;
+        let mut listener = listener;
+        poll.registry()
+            .register(&mut listener, LISTENER, Interest::READABLE)?;
+        Ok(Acceptor {
+            poll,
+            listener,
+            standing: Standing::Ready,
+            returned: None,
+            wanted,
+        })
+    }
+
+    /// Has the system tell of a stream, under this token.
+    ///
+    /// # Errors
+    ///
+    /// Returns why the system doesn't.
+    pub fn watch(&self, stream: &mut TcpStream, token: usize) -> io::Result<()> {
+        stream.set_nodelay(true)?;
+        let interest = Interest::READABLE | Interest::WRITABLE;
+        self.poll
+            .registry()
+            .register(stream, Token(token), interest)
+    }
+
+    /// Begins to connect to a server, and has the system tell of the connection, under this token.
+    ///
+    /// # Errors
+    ///
+    /// Returns why that failed.
+    pub fn connect(
+        &self,
+        net: &impl Net,
+        address: SocketAddr,
+        token: usize,
+    ) -> io::Result<TcpStream> {
+        let mut stream = TcpStream::connect(net, address)?;
+        self.watch(&mut stream, token)?;
+        Ok(stream)
+    }
+
+    /// Notes that a connection may wait, or that there is room for one again.
+    pub fn resume(&mut self) {
+        self.standing = Standing::Ready;
+    }
+
+    /// Returns true if a connection may wait.
+    pub fn is_ready(&self) -> bool {
+        self.standing == Standing::Ready
+    }
+
+    /// Returns the next connection, if one waits, one more is wanted and there is room for it.
+    pub fn accept(&mut self, has_room: bool) -> Option<TcpStream> {
+        if !has_room {
+            self.standing = Standing::Waits;
+            return None;
+        }
+        if let Some(stream) = self.returned.take() {
+            return Some(stream);
+        }
+        if self.wanted == 0 {
+            self.standing = Standing::Waits;
+            return None;
+        }
+        match self.listener.accept() {
+            Ok((stream, _)) => {
+                self.wanted -= 1;
+                Some(stream)
+            }
+            Err(error) if error.kind() == ErrorKind::WouldBlock => {
+                self.standing = Standing::Waits;
+                None
+            }
+            Err(_) => {
+                self.standing = Standing::Pauses;
+                None
+            }
+        }
+    }
+
+    /// Takes a connection back, for which there are no open files left. It is accepted once more,
+    /// after a pause.
+    pub fn take_back(&mut self, stream: TcpStream) {
+        self.returned = Some(stream);
+        self.standing = Standing::Pauses;
+    }
+
+    /// Returns how long events are waited for: not at all if a connection may wait or there is more
+    /// to do, for a pause if accepting failed, and no longer than `least`.
+    fn timeout(&self, has_more: bool, least: Option<Duration>) -> Option<Duration> {
+        if has_more || self.standing == Standing::Ready {
+            return Some(Duration::from_millis(0));
+        }
+        if self.standing == Standing::Pauses {
+            let pause = Duration::from_millis(PAUSE);
+            return Some(least.map_or(pause, |least| least.min(pause)));
+        }
+        least
+    }
+
+    /// Waits for events: not at all if there is more to do, and no longer than `least`.
+    ///
+    /// # Errors
+    ///
+    /// Returns why waiting failed.
+    pub fn wait(
+        &mut self,
+        events: &mut Events<Global>,
+        has_more: bool,
+        least: Option<Duration>,
+    ) -> io::Result<()> {
+        let timeout = self.timeout(has_more, least);
+        match self.poll.poll(events, timeout) {
+            Ok(()) => {}
+            Err(error) if error.kind() == ErrorKind::Interrupted => {}
+            Err(error) => return Err(error),
+        }
+        if self.standing == Standing::Pauses {
+            self.standing = Standing::Ready;
+        }
+        Ok(())
+    }
+}

@@ -1,0 +1,28 @@
+//! Which way messages go.
+
+/// Which way messages go.
+#[derive(Clone, Copy, Debug, PartialEq, Eq)]
+pub enum Direction {
+    /// To the server.
+    There,
+    /// From the server.
+    Back,
+}
+
+impl Direction {
+    /// Returns the sign that stands before a message.
+    pub fn sign(self) -> char {
+        match self {
+            Direction::There => '>',
+            Direction::Back => '<',
+        }
+    }
+
+    /// Returns the word for it.
+    pub fn word(self) -> &'static str {
+        match self {
+            Direction::There => "there",
+            Direction::Back => "back",
+        }
+    }
+}

@@ -1,0 +1,107 @@
+//! Appends records of the messages that pass to a file.
+
+use crate::direction::Direction;
+use crate::record_buf::{RecordBuf, recorded_number};
+use std::alloc::Global;
+use std::fs::File;
+use std::io;
+use std::io::Write;
+use std::rt::Files;
+use std::time::{Clock, SystemTime, UNIX_EPOCH};
+use wire_frame::RawFrame;
+use wire_record::RecordHead;
+
+/// How many bytes of records wait at the least before the file is written.
+const ROOM: usize = 65_536;
+
+/// Returns the direction as a record has it.
+fn recorded_direction(direction: Direction) -> wire_record::Direction {
+    match direction {
+        Direction::There => wire_record::Direction::ToServer,
+        Direction::Back => wire_record::Direction::FromServer,
+    }
+}
+
+/// Returns the microseconds since 1970.
+fn micros_now(clock: &impl Clock) -> io::Result<i64> {
+    let Ok(since) = SystemTime::now(clock)?.duration_since(UNIX_EPOCH) else {
+        return Ok(0);
+    };
+    let micros = since
+        .as_secs()
+        .saturating_mul(1_000_000)
+        .saturating_add(u64::from(since.subsec_micros()));
+    match i64::try_from(micros) {
+        Ok(micros) => Ok(micros),
+        Err(_) => Ok(i64::MAX),
+    }
+}
+
+/// A file of records, to which one is appended for each message.
+#[derive(Drop)]
+pub struct Recorder<'r, R: Files + Clock> {
+    rt: &'r R,
+    file: R::File,
+    /// The records that weren't written to the file yet.
+    waiting: RecordBuf,
+}
+
+impl<'r, R: Files + Clock> Recorder<'r, R> {
+    /// Creates the file, or empties it. It is to have at most `limit` bytes.
+    ///
+    /// # Errors
+    ///
+    /// Returns an error if the file can't be created, or memory runs out.
+    pub fn create(rt: &'r R, alloc: Global, path: &str, limit: u64) -> io::Result<Recorder<'r, R>> {
+        let file = File::create(rt, path)?;
+        let waiting = RecordBuf::begin(alloc, limit)?;
+        Ok(Recorder { rt, file, waiting })
+    }
+
+    /// Returns true if a record didn't fit, so that none is appended any more.
+    pub fn is_full(&self) -> bool {
+        self.waiting.left.is_none()
+    }
+
+    /// Appends the record of a message that goes this way on the connection of this number. The
+    /// first one that doesn't fit ends the file. Returns true if this is that one.
+    ///
+    /// # Errors
+    ///
+    /// Returns an error if the file can't be written, the clock can't be read, or memory runs out.
+    pub fn put(
+        &mut self,
+        number: u64,
+        direction: Direction,
+        frame: RawFrame<'_>,
+    ) -> io::Result<bool> {
+        if self.is_full() {
+            return Ok(false);
+        }
+        let head = RecordHead {
+            micros: micros_now(self.rt)?,
+            connection: recorded_number(number),
+            direction: recorded_direction(direction),
+        };
+        let fits = self.waiting.put(head, frame)?;
+        if self.waiting.bytes.len() >= ROOM {
+            self.flush()?;
+        }
+        Ok(!fits)
+    }
+
+    /// Writes the records that wait to the file. If that fails, they are let go, so that none is
+    /// written twice.
+    ///
+    /// # Errors
+    ///
+    /// Returns an error if the file can't be written.
+    pub fn flush(&mut self) -> io::Result<()> {
+        if self.waiting.bytes.is_empty() {
+            return Ok(());
+        }
+        let written = self.file.write_all(&self.waiting.bytes);
+        self.waiting.bytes.clear();
+        written
+    }
+}

@@ -1,0 +1,118 @@
+//! What the messages that pass are given to: some show them, and some record them.
+
+use crate::direction::Direction;
+use crate::message::{write_json_line, write_message};
+use crate::options::{Options, Show};
+use crate::recorder::Recorder;
+use std::alloc::Global;
+use std::io;
+use std::io::Write;
+use std::rt::Files;
+use std::time::Clock;
+use wire_frame::RawFrame;
+use wire_msg::MsgFault;
+
+/// How messages are shown, and the file of records, if they are recorded.
+#[derive(Drop)]
+pub struct Sink<'r, R: Files + Clock> {
+    alloc: Global,
+    show: Show,
+    recorder: Option<Recorder<'r, R>>,
+}
+
+impl<'r, R: Files + Clock> Sink<'r, R> {
+    /// Makes what the options ask for. Creates the file of records, if they name one.
+    ///
+    /// # Errors
+    ///
+    /// Returns an error if the file can't be created, or memory runs out.
+    pub fn new(rt: &'r R, alloc: Global, options: Options<'_>) -> io::Result<Sink<'r, R>> {
+        let recorder = match options.record {
+            Some(path) => Some(Recorder::create(rt, alloc, path, options.limit)?),
+            None => None,
+        };
+        Ok(Sink {
+            alloc,
+            show: options.show,
+            recorder,
+        })
+    }
+
+    /// Returns true if messages are shown, or the file of records has room.
+    pub fn wants_messages(&self) -> bool {
+        let records = match &self.recorder {
+            Some(recorder) => !recorder.is_full(),
+            None => false,
+        };
+        records || self.show != Show::Nothing
+    }
+
+    /// Records a message, if messages are recorded. Tells the first one that doesn't fit.
+    fn record<W: Write>(
+        &mut self,
+        number: u64,
+        direction: Direction,
+        frame: RawFrame<'_>,
+        out: &mut W,
+    ) -> io::Result<()> {
+        let Some(recorder) = &mut self.recorder else {
+            return Ok(());
+        };
+        if recorder.put(number, direction, frame)? {
+            writeln!(out, "record full")?;
+        }
+        Ok(())
+    }
+
+    /// Records and shows a message that goes this way on the connection of this number, as far as
+    /// the options ask for that.
+    ///
+    /// # Errors
+    ///
+    /// Returns an error if the file or `out` can't be written, the clock can't be read, or memory
+    /// runs out.
+    pub fn put<W: Write>(
+        &mut self,
+        number: u64,
+        direction: Direction,
+        frame: RawFrame<'_>,
+        out: &mut W,
+    ) -> io::Result<()> {
+        self.record(number, direction, frame, out)?;
+        match self.show {
+            Show::Nothing => Ok(()),
+            Show::Text => write_message(self.alloc, number, direction, frame, out),
+            Show::Json => write_json_line(self.alloc, number, direction, frame, out),
+        }
+    }
+
+    /// Shows the fault of bytes that no message begins with, if messages are shown.
+    ///
+    /// # Errors
+    ///
+    /// Returns an error if `out` can't be written.
+    pub fn put_fault<W: Write>(
+        &self,
+        number: u64,
+        direction: Direction,
+        fault: MsgFault,
+        out: &mut W,
+    ) -> io::Result<()> {
+        match self.show {
+            Show::Nothing => Ok(()),
+            Show::Text | Show::Json => writeln!(out, "{number} {} {fault}", direction.sign()),
+        }
+    }
+
+    /// Writes the records that wait to their file.
+    ///
+    /// # Errors
+    ///
+    /// Returns an error if the file can't be written.
+    pub fn flush(&mut self) -> io::Result<()> {
+        match &mut self.recorder {
+            Some(recorder) => recorder.flush(),
+            None => Ok(()),
+        }
+    }
+}

@@ -1,0 +1,135 @@
+//! Answers whose counterparts haven't come yet: the recorded one, or the one of the server.
+
+use std::alloc::{AllocError, Global};
+use std::time::Instant;
+use wire_frame::{Opcode, RawFrame};
+
+/// An answer.
+#[derive(Drop)]
+pub struct Answer {
+    /// The id of the request that it answers.
+    pub request: i32,
+    /// Its bytes.
+    pub bytes: Vec<u8>,
+    /// When its counterpart is no longer waited for, if there is such a moment.
+    pub due: Option<Instant>,
+}
+
+/// An answer behind which another one comes, which may have its id as the responseTo.
+#[derive(Clone, Copy)]
+struct Follow {
+    /// The id of the answer.
+    id: i32,
+    /// The id of the request.
+    request: i32,
+}
+
+/// The answers of one side of a connection that have no counterpart yet, in order.
+#[derive(Drop)]
+pub struct Answers {
+    answers: Vec<Answer>,
+    /// The last one of those answers to a request behind which another one comes.
+    follows: Vec<Follow>,
+}
+
+/// The offset of the flags of an OP_MSG.
+const FLAGS: usize = 16;
+
+/// The flag moreToCome in the first byte of them.
+const MORE_TO_COME: u8 = 2;
+
+/// Returns true if another answer to the same request comes behind this one.
+pub fn has_more_to_come(frame: RawFrame<'_>) -> bool {
+    match frame.as_bytes().get(FLAGS) {
+        Some(flags) => frame.opcode() == Opcode::Msg && *flags & MORE_TO_COME != 0,
+        None => false,
+    }
+}
+
+impl Answers {
+    /// Begins without answers. It takes no memory.
+    pub fn new(alloc: Global) -> Answers {
+        Answers {
+            answers: Vec::new(alloc),
+            follows: Vec::new(alloc),
+        }
+    }
+
+    /// Returns the id of the request that an answer with this responseTo answers. Of several answers
+    /// to one request, each but the first may have the id of the one before it there.
+    fn request_of(&self, response_to: i32) -> i32 {
+        match self.follows.iter().find(|follow| follow.id == response_to) {
+            Some(follow) => follow.request,
+            None => response_to,
+        }
+    }
+
+    /// Returns the id of the request that an answer answers, which comes on this side now, and notes
+    /// whether another one comes behind it.
+    ///
+    /// # Errors
+    ///
+    /// Returns `AllocError` if memory runs out.
+    pub fn meet(&mut self, frame: RawFrame<'_>) -> Result<i32, AllocError> {
+        let header = frame.header();
+        let request = self.request_of(header.response_to);
+        if let Some(i) = self
+            .follows
+            .iter()
+            .position(|follow| follow.request == request)
+        {
+            let _ = self.follows.swap_remove(i);
+        }
+        if has_more_to_come(frame) {
+            let id = header.id;
+            self.follows.push(Follow { id, request })?;
+        }
+        Ok(request)
+    }
+
+    /// Adds an answer, behind all others.
+    ///
+    /// # Errors
+    ///
+    /// Returns `AllocError` if memory runs out.
+    pub fn push(&mut self, answer: Answer) -> Result<(), AllocError> {
+        self.answers.push(answer)?;
+        Ok(())
+    }
+
+    /// Takes out the first answer to this request, if there is one.
+    pub fn take(&mut self, request: i32) -> Option<Answer> {
+        let i = self
+            .answers
+            .iter()
+            .position(|answer| answer.request == request)?;
+        Some(self.answers.remove(i))
+    }
+
+    /// Takes out the first answer that isn't waited for at this moment any more, if there is one.
+    pub fn take_due(&mut self, now: Instant) -> Option<Answer> {
+        let i = self.answers.iter().position(|answer| match answer.due {
+            Some(due) => due <= now,
+            None => false,
+        })?;
+        Some(self.answers.remove(i))
+    }
+
+    /// Takes out the first answer, if there is one.
+    pub fn take_first(&mut self) -> Option<Answer> {
+        if self.answers.is_empty() {
+            return None;
+        }
+        Some(self.answers.remove(0))
+    }
+
+    /// Returns the first moment up to which one is waited for, if one is.
+    pub fn least_due(&self) -> Option<Instant> {
+        self.answers.iter().filter_map(|answer| answer.due).min()
+    }
+
+    /// Returns true if there are none.
+    pub fn is_empty(&self) -> bool {
+        self.answers.is_empty()
+    }
+}

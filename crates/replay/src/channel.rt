@@ -1,0 +1,165 @@
+//! A connection to the server, over which messages of any opCode go.
+
+use mio::net::TcpStream;
+use std::alloc::{AllocError, Global};
+use std::io::ErrorKind;
+use std::{fmt, io};
+use wire_frame::{FrameFront, FrameReader, RawFrame};
+use wire_msg::{MAX_MESSAGE_LEN, MsgFault};
+use wire_stream::{Inlet, Link, LinkFault, Moved, Pulled, TcpLink};
+
+/// Why nothing more goes over a connection.
+#[derive(Clone, Copy, Debug, PartialEq, Eq)]
+pub enum Broken {
+    /// Connecting to the server failed.
+    Connecting(ErrorKind),
+    /// Sending failed.
+    Sending(LinkFault),
+    /// Receiving failed.
+    Receiving(LinkFault),
+    /// Bytes came that no message begins with.
+    NoMessage(MsgFault),
+    /// The server ended it.
+    Ended,
+}
+
+impl fmt::Display for Broken {
+    fn fmt<W: fmt::Write>(&self, f: &mut fmt::Formatter<W>) -> fmt::Result {
+        match *self {
+            Broken::Connecting(kind) => write!(f, "connecting: {kind}"),
+            Broken::Sending(fault) => write!(f, "sending: {fault}"),
+            Broken::Receiving(fault) => write!(f, "receiving: {fault}"),
+            Broken::NoMessage(fault) => write!(f, "receiving: {fault}"),
+            Broken::Ended => f.write_str("the server ended it"),
+        }
+    }
+}
+
+/// What receiving came to.
+#[derive(Clone, Copy, Debug, PartialEq, Eq)]
+pub enum Coming {
+    /// A message is whole.
+    Message,
+    /// No message is whole yet.
+    Later,
+    /// Nothing more comes.
+    Over(Broken),
+}
+
+/// Bytes that wait to be sent.
+#[derive(Drop)]
+struct Waiting {
+    bytes: Vec<u8>,
+    /// How many of them were sent.
+    sent: usize,
+}
+
+impl Waiting {
+    /// Returns the bytes that weren't sent yet.
+    fn rest(&self) -> &[u8] {
+        match self.bytes.get(self.sent..) {
+            Some(rest) => rest,
+            None => &[],
+        }
+    }
+
+    /// Sends the bytes over a link. Returns true if all were sent.
+    fn flush<L: Link>(&mut self, link: &mut L) -> Result<bool, LinkFault> {
+        for _ in 0..u64::MAX {
+            if self.rest().is_empty() {
+                break;
+            }
+            match link.send(self.rest())? {
+                Moved::Bytes(n) => self.sent = self.sent.saturating_add(n),
+                Moved::Later => return Ok(false),
+            }
+        }
+        self.bytes.clear();
+        self.sent = 0;
+        Ok(true)
+    }
+}
+
+/// A connection to the server.
+#[derive(Drop)]
+pub struct Channel {
+    link: TcpLink<TcpStream>,
+    waiting: Waiting,
+    inlet: Inlet,
+    reader: FrameReader,
+}
+
+impl Channel {
+    /// Makes the connection over a stream.
+    ///
+    /// # Errors
+    ///
+    /// Returns `AllocError` if memory runs out.
+    pub fn new(alloc: Global, stream: TcpStream) -> Result<Channel, AllocError> {
+        Ok(Channel {
+            link: TcpLink::new(stream),
+            waiting: Waiting {
+                bytes: Vec::new(alloc),
+                sent: 0,
+            },
+            inlet: Inlet::new(alloc)?,
+            reader: FrameReader::new(alloc, MAX_MESSAGE_LEN),
+        })
+    }
+
+    /// Takes bytes that are to be sent.
+    ///
+    /// # Errors
+    ///
+    /// Returns `AllocError` if memory runs out.
+    pub fn push(&mut self, bytes: &[u8]) -> Result<(), AllocError> {
+        self.waiting.bytes.extend_from_slice(bytes)
+    }
+
+    /// Sends the bytes that wait. Returns true if all were sent.
+    ///
+    /// # Errors
+    ///
+    /// Returns `LinkFault` if the connection failed.
+    pub fn flush(&mut self) -> Result<bool, LinkFault> {
+        self.waiting.flush(&mut self.link)
+    }
+
+    /// Returns the message that is whole, if one is.
+    pub fn message(&self) -> Option<RawFrame<'_>> {
+        match self.reader.front() {
+            FrameFront::Whole { frame, .. } => Some(frame),
+            FrameFront::Open { .. } | FrameFront::Bad(_) => None,
+        }
+    }
+
+    /// Lets go of the message that is whole.
+    pub fn release(&mut self) {
+        self.reader.release();
+    }
+
+    /// Receives until a message is whole.
+    ///
+    /// # Errors
+    ///
+    /// Returns `AllocError` if memory runs out.
+    pub fn receive(&mut self) -> Result<Coming, AllocError> {
+        for _ in 0..u64::MAX {
+            match self.reader.front() {
+                FrameFront::Whole { .. } => return Ok(Coming::Message),
+                FrameFront::Bad(fault) => return Ok(Coming::Over(Broken::NoMessage(fault))),
+                FrameFront::Open { .. } => {}
+            }
+            match self.inlet.pull(&mut self.link) {
+                Ok(Pulled::Bytes) => {
+                    let n = self.reader.feed(self.inlet.bytes())?;
+                    self.inlet.used(n);
+                }
+                Ok(Pulled::Later) => break,
+                Ok(Pulled::End) => return Ok(Coming::Over(Broken::Ended)),
+                Err(fault) => return Ok(Coming::Over(Broken::Receiving(fault))),
+            }
+        }
+        Ok(Coming::Later)
+    }
+}

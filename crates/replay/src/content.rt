@@ -1,0 +1,286 @@
+//! What an answer holds: what is compared of it, and shown.
+
+use crate::ignored::{are_same, without_ignored};
+use bson_json::{Mode, write_json, write_json_string};
+use bson_raw::RawDocument;
+use std::alloc::{AllocError, Global};
+use std::io;
+use std::io::Write;
+use wire_frame::{Opcode, RawFrame};
+use wire_msg::{Documents, HEADER_LEN, MAX_MESSAGE_LEN, Payload, RawMsg};
+
+/// The offset of the flags of an OP_MSG.
+const FLAGS: usize = 16;
+
+/// The flag checksumPresent in the first byte of them.
+const CHECKSUM_PRESENT: u8 = 1;
+
+/// The number of bytes of a checksum.
+const CHECKSUM: usize = 4;
+
+/// The offset of the opCode of a message.
+const OPCODE: usize = 12;
+
+/// The opCode of an OP_REPLY.
+const REPLY: [u8; 4] = [1, 0, 0, 0];
+
+/// The offset of the documents of an OP_REPLY.
+const REPLIES: usize = 36;
+
+/// Returns true if a message has a checksum.
+fn has_checksum(frame: RawFrame<'_>) -> bool {
+    match frame.as_bytes().get(FLAGS) {
+        Some(flags) => frame.opcode() == Opcode::Msg && *flags & CHECKSUM_PRESENT != 0,
+        None => false,
+    }
+}
+
+/// Turns the bytes of a message with a checksum into those of the same one without.
+fn remove_checksum(bytes: &mut Vec<u8>) {
+    let len = bytes.len().saturating_sub(CHECKSUM);
+    bytes.truncate(len);
+    let length = len.to_le_bytes();
+    for (i, byte) in bytes.iter_mut().enumerate() {
+        if i < 4 {
+            *byte = length[i];
+        } else if i == FLAGS {
+            *byte &= !CHECKSUM_PRESENT;
+        }
+    }
+}
+
+/// Returns the bytes of a message, without the checksum if it has one.
+///
+/// # Errors
+///
+/// Returns `AllocError` if memory runs out.
+pub fn plain_bytes(alloc: Global, frame: RawFrame<'_>) -> Result<Vec<u8>, AllocError> {
+    let mut bytes = Vec::from_slice(alloc, frame.as_bytes())?;
+    if has_checksum(frame) {
+        remove_checksum(&mut bytes);
+    }
+    Ok(bytes)
+}
+
+/// What an answer holds.
+#[derive(Clone, Copy)]
+enum Content<'a> {
+    Message(RawMsg<'a>),
+    /// The documents of an OP_REPLY, one after another.
+    Reply(&'a [u8]),
+    /// A message that is none of these: its opCode and what is behind it.
+    Other(&'a [u8]),
+}
+
+impl<'a> Content<'a> {
+    /// Reads what an answer holds out of its bytes.
+    fn of(alloc: Global, bytes: &'a [u8]) -> Content<'a> {
+        if let Ok(message) = RawMsg::parse_with(alloc, bytes, MAX_MESSAGE_LEN) {
+            return Content::Message(message);
+        }
+        let opcode = match bytes.get(OPCODE..HEADER_LEN as usize) {
+            Some(opcode) => opcode,
+            None => &[],
+        };
+        match bytes.get(REPLIES..) {
+            Some(documents) if opcode == REPLY.as_slice() => Content::Reply(documents),
+            _ => Content::Other(bytes.get(OPCODE..).unwrap_or(&[])),
+        }
+    }
+}
+
+/// Returns true if documents that stand one after another are the same but for the fields of these
+/// names. What is no document is compared by its bytes.
+fn are_same_replies(
+    alloc: Global,
+    names: &[&str],
+    recorded: &[u8],
+    received: &[u8],
+) -> Result<bool, AllocError> {
+    let mut recorded = recorded;
+    let mut received = received;
+    for _ in 0..u64::MAX {
+        let (Ok((a, a_rest)), Ok((b, b_rest))) = (
+            RawDocument::front(recorded),
+            RawDocument::front(received),
+        ) else {
+            break;
+        };
+        if !are_same(alloc, names, a, b)? {
+            return Ok(false);
+        }
+        recorded = a_rest;
+        received = b_rest;
+    }
+    Ok(recorded == received)
+}
+
+/// Returns true if the documents of two sequences are the same but for the fields of these names.
+fn are_same_lists(
+    alloc: Global,
+    names: &[&str],
+    recorded: Documents<'_>,
+    received: Documents<'_>,
+) -> Result<bool, AllocError> {
+    let mut others = received.iter();
+    for document in recorded.iter() {
+        let Some(other) = others.next() else {
+            return Ok(false);
+        };
+        if !are_same(alloc, names, document, other)? {
+            return Ok(false);
+        }
+    }
+    Ok(others.next().is_none())
+}
+
+/// Returns true if the document sequences of two payloads are the same but for the fields of these
+/// names.
+fn are_same_sequences(
+    alloc: Global,
+    names: &[&str],
+    recorded: Payload<'_>,
+    received: Payload<'_>,
+) -> Result<bool, AllocError> {
+    let mut others = received.sequences();
+    for (identifier, documents) in recorded.sequences() {
+        let Some((other, theirs)) = others.next() else {
+            return Ok(false);
+        };
+        if identifier != other || !are_same_lists(alloc, names, documents, theirs)? {
+            return Ok(false);
+        }
+    }
+    Ok(others.next().is_none())
+}
+
+/// Returns true if two messages hold the same but for the fields of these names.
+fn are_same_messages(
+    alloc: Global,
+    names: &[&str],
+    recorded: RawMsg<'_>,
+    received: RawMsg<'_>,
+) -> Result<bool, AllocError> {
+    let (a, b) = (recorded.payload(), received.payload());
+    if recorded.more_to_come() != received.more_to_come() {
+        return Ok(false);
+    }
+    if !are_same(alloc, names, a.body(), b.body())? {
+        return Ok(false);
+    }
+    are_same_sequences(alloc, names, a, b)
+}
+
+/// Returns true if two answers hold the same but for the fields of these names. Their ids aren't
+/// compared.
+///
+/// # Errors
+///
+/// Returns `AllocError` if memory runs out.
+pub fn are_same_answers(
+    alloc: Global,
+    names: &[&str],
+    recorded: &[u8],
+    received: &[u8],
+) -> Result<bool, AllocError> {
+    match (Content::of(alloc, recorded), Content::of(alloc, received)) {
+        (Content::Message(a), Content::Message(b)) => are_same_messages(alloc, names, a, b),
+        (Content::Reply(a), Content::Reply(b)) => are_same_replies(alloc, names, a, b),
+        (Content::Other(a), Content::Other(b)) => Ok(a == b),
+        _ => Ok(false),
+    }
+}
+
+/// Writes a document as Extended JSON, without the fields of these names.
+fn write_document<W: Write>(
+    alloc: Global,
+    names: &[&str],
+    document: RawDocument<'_>,
+    out: &mut W,
+) -> io::Result<()> {
+    match without_ignored(alloc, names, document)? {
+        Some(left) => write_json(left.as_raw(), Mode::Canonical, out),
+        None => write_json(document, Mode::Canonical, out),
+    }
+}
+
+/// Writes documents that stand one after another, with spaces between.
+fn write_replies<W: Write>(
+    alloc: Global,
+    names: &[&str],
+    documents: &[u8],
+    out: &mut W,
+) -> io::Result<()> {
+    let mut rest = documents;
+    let mut before: &[u8] = b"";
+    for _ in 0..u64::MAX {
+        let Ok((document, after)) = RawDocument::front(rest) else {
+            break;
+        };
+        out.write_all(before)?;
+        write_document(alloc, names, document, out)?;
+        before = b" ";
+        rest = after;
+    }
+    Ok(())
+}
+
+/// Writes the documents of a sequence behind its identifier.
+fn write_sequence<W: Write>(
+    alloc: Global,
+    names: &[&str],
+    documents: Documents<'_>,
+    out: &mut W,
+) -> io::Result<()> {
+    for document in documents.iter() {
+        out.write_all(b" ")?;
+        write_document(alloc, names, document, out)?;
+    }
+    Ok(())
+}
+
+/// Writes what a message holds: the body, and each sequence, with spaces between.
+fn write_message<W: Write>(
+    alloc: Global,
+    names: &[&str],
+    message: RawMsg<'_>,
+    out: &mut W,
+) -> io::Result<()> {
+    let payload = message.payload();
+    write_document(alloc, names, payload.body(), out)?;
+    for (identifier, documents) in payload.sequences() {
+        out.write_all(b" ")?;
+        write_json_string(identifier, out)?;
+        write_sequence(alloc, names, documents, out)?;
+    }
+    if message.more_to_come() {
+        out.write_all(b" moreToCome")?;
+    }
+    Ok(())
+}
+
+/// Writes bytes in hexadecimal.
+fn write_bytes<W: Write>(bytes: &[u8], out: &mut W) -> io::Result<()> {
+    for byte in bytes {
+        write!(out, "{byte:02x}")?;
+    }
+    Ok(())
+}
+
+/// Writes what an answer holds, in one line, without the fields of these names.
+///
+/// # Errors
+///
+/// Returns an error if writing fails or memory runs out.
+pub fn write_answer<W: Write>(
+    alloc: Global,
+    names: &[&str],
+    bytes: &[u8],
+    out: &mut W,
+) -> io::Result<()> {
+    match Content::of(alloc, bytes) {
+        Content::Message(message) => write_message(alloc, names, message, out),
+        Content::Reply(documents) => write_replies(alloc, names, documents, out),
+        Content::Other(bytes) => write_bytes(bytes, out),
+    }
+}

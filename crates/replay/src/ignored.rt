@@ -1,0 +1,176 @@
+//! Compares documents without the fields that are ignored.
+
+ghost use Rattle.std.specs.Prelude.{◌≡◌, ◌↔◌, ◌<◌, IfOk, IsTrue, MatchOption, OnOk, OnSome, false};
+ghost use Rattle.std.specs.Prelude.{map, string_bytes, true};
+ghost use Rattle.bson_elem.specs.{Spells, Tree};
+ghost use Rattle.bson_raw.specs.{document_bytes, is_among};
+ghost use Rattle.bson_doc.specs.{plain, put, tree_of, value_of};
+ghost use Rattle.replay.specs.Stripped.{AreSame, has_own_names, stripped, stripped_value};
+
+use bson_doc::{Array, Bson, DocRefusal, Document, RawDocumentBuf, laws};
+use bson_elem::laws as tree_laws;
+use bson_raw::RawDocument;
+use std::alloc::{AllocError, Global};
+
+/// Returns true if this is one of the names.
+fn is_among(names: &[&str], name: &str) -> bool
+    ensures { result ≡ is_among name.now (map (λ n. n.now) names.now) }
+{
+    for ignored in names {
+        if *ignored == name {
+            return true;
+        }
+    }
+    false
+}
+
+/// Sets the field with this name of a document.
+fn put_field(document: &mut Document, name: String, value: Bson) -> Option<()>
+    ensures { OnSome result (document.new ≡ put (string_bytes name) (value_of value) document.old) }
+{
+    document.insert(name, value).ok()?;
+    Some(())
+}
+
+/// Sets the field with this name of a document.
+fn set(alloc: Global, document: &mut Document, name: &str, value: Bson) -> Result<(), AllocError>
+    ensures { OnOk result (document.new ≡ put name.now (value_of value) document.old) }
+{
+    let name = String::from_str(alloc, name)?;
+    put_field(document, name, value).ok_or(AllocError)
+}
+
+/// Returns a value without the fields of these names.
+#[cycle(stripped)]
+fn stripped_value(alloc: Global, names: &[&str], value: &Bson) -> Result<Bson, AllocError>
+    ensures { IfOk result (λ v.
+        value_of v ≡ stripped_value (map (λ n. n.now) names.now) (value_of value.now)) }
+{
+    match value {
+        Bson::Document(document) => Ok(Bson::Document(stripped(alloc, names, document)?)),
+        Bson::Array(array) => {
+            let values = stripped_values(alloc, names, array.as_slice())?;
+            Ok(Bson::Array(Array::from_vec(values)))
+        }
+        Bson::CodeWithScope { code, scope } => Ok(Bson::CodeWithScope {
+            code: code.clone()?,
+            scope: stripped(alloc, names, scope)?,
+        }),
+        _ => value.try_clone(),
+    }
+}
+
+/// Returns values without the fields of these names.
+#[cycle(stripped)]
+fn stripped_values(alloc: Global, names: &[&str], values: &[Bson]) -> Result<Vec<Bson>, AllocError>
+    ensures { IfOk result (λ vs. map value_of vs.items
+        ≡ map (stripped_value (map (λ n. n.now) names.now)) (map value_of values.now)) }
+{
+    let mut left = Vec::with_capacity(alloc, values.len())?;
+    for value in values {
+        left.push(stripped_value(alloc, names, value)?)?;
+    }
+    Ok(left)
+}
+
+/// Returns a document without the fields of these names, at every depth.
+#[cycle(stripped)]
+fn stripped(alloc: Global, names: &[&str], document: &Document) -> Result<Document, AllocError>
+    ensures { IfOk result (λ d.
+        tree_of d ≡ stripped (map (λ n. n.now) names.now) (tree_of document.now)) }
+{
+    let mut left = Document::new(alloc);
+    for (name, value) in document.iter() {
+        if !is_among(names, name) {
+            set(alloc, &mut left, name, stripped_value(alloc, names, value)?)?;
+        }
+    }
+    Ok(left)
+}
+
+/// Returns a document without the fields of these names, or `None` if a document or a scope in it
+/// has a name twice.
+fn read_stripped(
+    alloc: Global,
+    names: &[&str],
+    raw: RawDocument<'_>,
+) -> Result<Option<Document>, AllocError>
+    ensures { (t : Tree) → Spells t (document_bytes raw.entry)
+        → IfOk result (λ read. MatchOption read
+        (has_own_names t ≡ false)
+        (λ d. (has_own_names t ≡ true)
+        × (tree_of d ≡ stripped (map (λ n. n.now) names.now) (plain t)))) }
+{
+    match Document::from_raw(alloc, raw) {
+        Ok(document) => Ok(Some(stripped(alloc, names, &document)?)),
+        Err(DocRefusal::OutOfMemory) => Err(AllocError),
+        Err(_) => Ok(None),
+    }
+}
+
+/// Returns true if two documents are the same.
+fn are_same_documents(a: &Document, b: &Document) -> bool
+    ensures { IsTrue result ↔ (tree_of a.now ≡ tree_of b.now) }
+{
+    laws::equal_where_same();
+    a == b
+}
+
+/// Returns true if two documents have the same bytes.
+fn have_same_bytes(a: RawDocument<'_>, b: RawDocument<'_>) -> bool
+    ensures { (t u : Tree) → Spells t (document_bytes a.entry) → Spells u (document_bytes b.entry)
+        → (IsTrue result ↔ (t ≡ u)) }
+{
+    tree_laws::one_tree();
+    tree_laws::one_spelling();
+    a.as_bytes() == b.as_bytes()
+}
+
+/// Returns true if two documents are the same but for the fields of these names, at every depth. If
+/// a name stands twice in one of them, or in a document inside, all fields are compared. Each value
+/// is compared with its kind, bit by bit; the names in arrays aren't, unless all is.
+///
+/// # Errors
+///
+/// Returns `AllocError` if memory runs out.
+pub fn are_same(
+    alloc: Global,
+    names: &[&str],
+    recorded: RawDocument<'_>,
+    received: RawDocument<'_>,
+) -> Result<bool, AllocError>
+    ensures { (t u : Tree) → Spells t (document_bytes recorded.entry)
+        → Spells u (document_bytes received.entry)
+        → IfOk result (λ same. IsTrue same ↔ AreSame (map (λ n. n.now) names.now) t u) }
+{
+    let a = read_stripped(alloc, names, recorded)?;
+    let b = read_stripped(alloc, names, received)?;
+    match (a, b) {
+        (Some(a), Some(b)) => Ok(are_same_documents(&a, &b)),
+        _ => Ok(have_same_bytes(recorded, received)),
+    }
+}
+
+/// Returns the bytes of a document without the fields of these names, or `None` if nothing is left
+/// out.
+///
+/// # Errors
+///
+/// Returns `AllocError` if memory runs out.
+pub fn without_ignored(
+    alloc: Global,
+    names: &[&str],
+    raw: RawDocument<'_>,
+) -> Result<Option<RawDocumentBuf>, AllocError> {
+    if names.is_empty() {
+        return Ok(None);
+    }
+    let Some(document) = read_stripped(alloc, names, raw)? else {
+        return Ok(None);
+    };
+    match document.to_raw() {
+        Ok(left) => Ok(Some(left)),
+        Err(DocRefusal::OutOfMemory) => Err(AllocError),
+        Err(_) => Ok(None),
+    }
+}

@@ -1,0 +1,29 @@
+//! Sends what a record's clients sent to a server, and tells which answers differ from the recorded
+//! ones.
+//!
+//! The records of a file are taken in order. A request goes to the server, over a connection of its
+//! recorded connection's own, and a recorded answer is awaited and compared with the one that comes:
+//! on each connection the answer to the same request, and of several the one at the same index. All
+//! connections are served in one thread.
+//!
+//! Uses wire_record, wire_stream and bson_json. Used by bsonwire. Read first: `options`, `ignored`,
+//! `answers`, and then `conn` and `player`.
+#![tactic(auto)]
+
+mod answers;
+mod channel;
+mod conn;
+mod content;
+mod ignored;
+mod input_fault;
+mod options;
+mod pace;
+mod piece;
+mod player;
+mod records;
+mod replaying;
+mod tally;
+mod teller;
+
+pub use options::ReplayOptions;
+pub use replaying::{Outcome, run};

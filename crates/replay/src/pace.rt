@@ -1,0 +1,79 @@
+//! Says when the records are taken.
+
+use std::time::{Duration, Instant};
+
+/// How long an answer is awaited, in milliseconds, beside as long as the record took for it.
+const PATIENCE: u64 = 5_000;
+
+/// Where the clock and the times of the record stood when the first record was taken.
+#[derive(Clone, Copy)]
+struct Begun {
+    now: Instant,
+    micros: i64,
+}
+
+/// When the records are taken.
+#[derive(Clone, Copy)]
+pub struct Pace {
+    /// How fast, in percent, or as fast as answers come.
+    speed: Option<u64>,
+    begun: Option<Begun>,
+    /// The time of the record that was taken last.
+    last: Option<i64>,
+}
+
+/// Returns how many microseconds lie between two times, or 0 if the second one is the earlier.
+fn between(from: i64, to: i64) -> u64 {
+    let micros = (to as i128) - (from as i128);
+    if micros < 0 { 0 } else { micros as u64 }
+}
+
+/// Returns a number of microseconds at a speed in percent.
+fn scaled(micros: u64, speed: u64) -> u64 {
+    let parts = (micros as u128) * 100 / (speed.max(1) as u128);
+    if parts > u64::MAX as u128 {
+        u64::MAX
+    } else {
+        parts as u64
+    }
+}
+
+impl Pace {
+    /// Begins at this speed in percent; without it, records are taken as fast as answers come.
+    pub fn new(speed: Option<u64>) -> Pace {
+        Pace {
+            speed,
+            begun: None,
+            last: None,
+        }
+    }
+
+    /// Returns true if each record waits for the answers that were recorded before it.
+    pub fn waits_for_answers(&self) -> bool {
+        self.speed.is_none()
+    }
+
+    /// Returns the moment at which a record of this time is taken, if there is one.
+    pub fn due(&mut self, now: Instant, micros: i64) -> Option<Instant> {
+        let speed = self.speed?;
+        let begun = match self.begun {
+            Some(begun) => begun,
+            None => Begun { now, micros },
+        };
+        self.begun = Some(begun);
+        let late = scaled(between(begun.micros, micros), speed);
+        begun.now.checked_add(Duration::from_micros(late))
+    }
+
+    /// Notes that a record of this time is taken now. Returns up to when an answer that it has is
+    /// awaited.
+    pub fn take(&mut self, now: Instant, micros: i64) -> Option<Instant> {
+        let gap = match self.last {
+            Some(last) => between(last, micros),
+            None => 0,
+        };
+        self.last = Some(micros);
+        let late = now.checked_add(Duration::from_micros(gap))?;
+        late.checked_add(Duration::from_millis(PATIENCE))
+    }
+}

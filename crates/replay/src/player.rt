@@ -1,0 +1,180 @@
+//! Plays records to a server.
+
+use crate::channel::{Broken, Channel};
+use crate::conn::{Conn, Line};
+use crate::input_fault::InputFault;
+use crate::tally::Tally;
+use crate::teller::Teller;
+use mio::net::TcpStream;
+use mio::{Events, Interest, Poll, Token};
+use std::alloc::{AllocError, Global};
+use std::io;
+use std::io::{ErrorKind, Write};
+use std::net::{Net, SocketAddr};
+use std::time::{Clock, Duration, Instant};
+use wire_record::{Direction, RawRecord};
+
+/// The connections of the record, and the server to which they go.
+#[derive(Drop)]
+pub struct Player<'a, W: Write + Drop> {
+    alloc: Global,
+    poll: Poll,
+    server: SocketAddr,
+    conns: Vec<Conn>,
+    teller: Teller<'a, W>,
+}
+
+impl<'a, W: Write + Drop> Player<'a, W> {
+    /// Begins without connections.
+    ///
+    /// # Errors
+    ///
+    /// Returns an error if the system can't wait for sockets.
+    pub fn new(
+        net: &impl Net,
+        alloc: Global,
+        server: SocketAddr,
+        teller: Teller<'a, W>,
+    ) -> io::Result<Player<'a, W>> {
+        Ok(Player {
+            alloc,
+            poll: Poll::new(net)?,
+            server,
+            conns: Vec::new(alloc),
+            teller,
+        })
+    }
+
+    /// Connects to the server, under this token.
+    fn connect(&self, net: &impl Net, token: usize) -> io::Result<TcpStream> {
+        let mut stream = TcpStream::connect(net, self.server)?;
+        stream.set_nodelay(true)?;
+        let interest = Interest::READABLE | Interest::WRITABLE;
+        self.poll
+            .registry()
+            .register(&mut stream, Token(token), interest)?;
+        Ok(stream)
+    }
+
+    /// Connects to the server for one more connection of the record.
+    fn open(&mut self, net: &impl Net, number: u64) -> Result<(), AllocError> {
+        let line = match self.connect(net, self.conns.len()) {
+            Ok(stream) => Line::Open(Channel::new(self.alloc, stream)?),
+            Err(error) => Line::Lost(Broken::Connecting(error.kind())),
+        };
+        self.conns.push(Conn::new(self.alloc, number, line))?;
+        Ok(())
+    }
+
+    /// Returns the index of the connection of this number, which is made if there is none.
+    fn index_of(&mut self, net: &impl Net, number: u64) -> Result<usize, AllocError> {
+        if let Some(i) = self.conns.iter().position(|conn| conn.number() == number) {
+            return Ok(i);
+        }
+        let i = self.conns.len();
+        self.open(net, number)?;
+        Ok(i)
+    }
+
+    /// Sends the request of a record, or awaits its answer up to the moment `due`.
+    ///
+    /// # Errors
+    ///
+    /// Returns an error if writing fails or memory runs out.
+    pub fn take(
+        &mut self,
+        net: &impl Net,
+        record: RawRecord<'_>,
+        due: Option<Instant>,
+    ) -> io::Result<()> {
+        let head = record.head();
+        let i = self.index_of(net, head.connection)?;
+        let Some(conn) = self.conns.get_mut(i) else {
+            return Ok(());
+        };
+        match head.direction {
+            Direction::ToServer => conn.send(record.frame(), due, &mut self.teller),
+            Direction::FromServer => conn.expect(record.frame(), due, &mut self.teller),
+        }
+    }
+
+    /// Returns true if recorded answers are awaited.
+    pub fn awaits(&self) -> bool {
+        self.conns.iter().any(|conn| conn.awaits())
+    }
+
+    /// Returns true if all requests were sent.
+    pub fn is_sent(&self) -> bool {
+        self.conns.iter().all(|conn| conn.is_sent())
+    }
+
+    /// Returns the first moment up to which an answer is awaited, or bytes have to be sent.
+    fn least_due(&self) -> Option<Instant> {
+        self.conns.iter().filter_map(|conn| conn.least_due()).min()
+    }
+
+    /// Returns how long events are waited for: up to the moment `until`, if there is one, and no
+    /// longer than for an answer.
+    fn timeout(&self, clock: &impl Clock, until: Option<Instant>) -> io::Result<Option<Duration>> {
+        let due = match (until, self.least_due()) {
+            (Some(a), Some(b)) => a.min(b),
+            (Some(a), None) => a,
+            (None, Some(b)) => b,
+            (None, None) => return Ok(None),
+        };
+        let left = due.saturating_duration_since(Instant::now(clock)?);
+        // A wait counts milliseconds, and none would end before the moment.
+        Ok(left.checked_add(Duration::from_millis(1)))
+    }
+
+    /// Tells which answers are missing by now.
+    fn expire(&mut self, clock: &impl Clock) -> io::Result<()> {
+        let now = Instant::now(clock)?;
+        for conn in self.conns.iter_mut() {
+            conn.expire(now, &mut self.teller)?;
+        }
+        Ok(())
+    }
+
+    /// Waits for events, but not beyond the moment `until`, if there is one. Sends what can be sent,
+    /// takes what came, and tells which answers differ or are missing.
+    ///
+    /// # Errors
+    ///
+    /// Returns an error if waiting or writing fails, or memory runs out.
+    pub fn turn<R: Net + Clock>(
+        &mut self,
+        rt: &R,
+        events: &mut Events<Global>,
+        until: Option<Instant>,
+    ) -> io::Result<()> {
+        self.teller.flush()?;
+        let timeout = self.timeout(rt, until)?;
+        match self.poll.poll(events, timeout) {
+            Ok(()) => {}
+            Err(error) if error.kind() == ErrorKind::Interrupted => {}
+            Err(error) => return Err(error),
+        }
+        for event in events.iter() {
+            let Token(token) = event.token();
+            if let Some(conn) = self.conns.get_mut(token) {
+                conn.turn(&mut self.teller)?;
+            }
+        }
+        self.expire(rt)
+    }
+
+    /// Tells the answers that nothing recorded, how many answers there were, and the fault of the
+    /// file, if there is one. Returns how many answers there were.
+    ///
+    /// # Errors
+    ///
+    /// Returns an error if writing fails or memory runs out.
+    pub fn finish(&mut self, fault: Option<InputFault>) -> io::Result<Tally> {
+        for conn in self.conns.iter_mut() {
+            conn.tell_unexpected(&mut self.teller)?;
+        }
+        self.teller.finish(fault)?;
+        Ok(self.teller.tally())
+    }
+}

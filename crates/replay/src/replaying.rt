@@ -1,0 +1,187 @@
+//! Runs a replay, from the first record to the line of its counts.
+
+use crate::options::ReplayOptions;
+use crate::pace::Pace;
+use crate::player::Player;
+use crate::records::Records;
+use crate::teller::Teller;
+use mio::Events;
+use std::alloc::{AllocError, Global};
+use std::fs::File;
+use std::io;
+use std::io::{BufWriter, ErrorKind, Read, Write};
+use std::net::{Net, SocketAddr, ToSocketAddrs};
+use std::rt::Files;
+use std::time::{Clock, Duration, Instant};
+
+/// The most events that one wait tells.
+const EVENTS: usize = 64;
+
+/// How many milliseconds answers may come in behind the last one that is awaited.
+const LINGER: u64 = 200;
+
+/// What a replay came to.
+#[derive(Clone, Copy, Debug, PartialEq, Eq)]
+pub enum Outcome {
+    /// All answers are the same as the recorded ones.
+    Same,
+    /// Some differ, are missing or weren't recorded, or a connection failed.
+    Different,
+    /// The file isn't one of records, at least from some offset on.
+    Fault,
+}
+
+/// Returns the first address that `address` names.
+fn first_address<R: Net>(rt: &R, address: &str) -> io::Result<SocketAddr> {
+    match address.to_socket_addrs(rt)?.next() {
+        Some(first) => Ok(first),
+        None => Err(io::Error::from(ErrorKind::InvalidInput)),
+    }
+}
+
+/// Returns the names in a text that has commas between them.
+fn names_of<'a>(alloc: Global, text: Option<&'a str>) -> Result<Vec<&'a str>, AllocError> {
+    let mut names = Vec::new(alloc);
+    if let Some(text) = text {
+        for name in text.split(',') {
+            names.push(name)?;
+        }
+    }
+    Ok(names)
+}
+
+/// The records, what plays them, and when.
+#[derive(Drop)]
+struct Replay<'a, F: Read + Drop, W: Write + Drop> {
+    records: Records<F>,
+    player: Player<'a, W>,
+    pace: Pace,
+    /// No record is left.
+    is_over: bool,
+}
+
+impl<'a, F: Read + Drop, W: Write + Drop> Replay<'a, F, W> {
+    /// Returns true if the next record may be taken: all requests were sent, and unless records are
+    /// taken at their times, all answers came that are recorded before it.
+    fn may_go_on(&self) -> bool {
+        self.player.is_sent() && !(self.pace.waits_for_answers() && self.player.awaits())
+    }
+
+    /// Takes the record that is held, unless its time hasn't come. Returns that time then.
+    fn take_one<R: Net + Clock>(&mut self, rt: &R) -> io::Result<Option<Instant>> {
+        let Some(record) = self.records.record() else {
+            return Ok(None);
+        };
+        let micros = record.head().micros;
+        let now = Instant::now(rt)?;
+        if let Some(due) = self.pace.due(now, micros)
+            && due > now
+        {
+            return Ok(Some(due));
+        }
+        let due = self.pace.take(now, micros);
+        self.player.take(rt, record, due)?;
+        self.records.release();
+        Ok(None)
+    }
+
+    /// Takes records, as many as may be taken now. Returns the time of the next one, if that hasn't
+    /// come.
+    fn take_some<R: Net + Clock>(&mut self, rt: &R) -> io::Result<Option<Instant>> {
+        for _ in 0..u64::MAX {
+            if !self.may_go_on() {
+                break;
+            }
+            if !self.records.read_one()? {
+                self.is_over = true;
+                break;
+            }
+            if let Some(due) = self.take_one(rt)? {
+                return Ok(Some(due));
+            }
+        }
+        Ok(None)
+    }
+
+    /// Takes all records, up to the last answer that is awaited.
+    fn play<R: Net + Clock>(&mut self, rt: &R, events: &mut Events<Global>) -> io::Result<()> {
+        for _ in 0..u64::MAX {
+            let until = self.take_some(rt)?;
+            if self.is_over && self.player.is_sent() && !self.player.awaits() {
+                break;
+            }
+            self.player.turn(rt, events, until)?;
+        }
+        Ok(())
+    }
+
+    /// Takes answers that come in late.
+    fn linger<R: Net + Clock>(&mut self, rt: &R, events: &mut Events<Global>) -> io::Result<()> {
+        let Some(end) = Instant::now(rt)?.checked_add(Duration::from_millis(LINGER)) else {
+            return Ok(());
+        };
+        for _ in 0..u64::MAX {
+            if Instant::now(rt)? >= end {
+                break;
+            }
+            self.player.turn(rt, events, Some(end))?;
+        }
+        Ok(())
+    }
+
+    /// Plays the records, and tells what came of it.
+    fn run<R: Net + Clock>(&mut self, rt: &R, events: &mut Events<Global>) -> io::Result<Outcome> {
+        self.play(rt, events)?;
+        self.linger(rt, events)?;
+        let fault = self.records.fault();
+        let tally = self.player.finish(fault)?;
+        if fault.is_some() {
+            Ok(Outcome::Fault)
+        } else if tally.is_same() {
+            Ok(Outcome::Same)
+        } else {
+            Ok(Outcome::Different)
+        }
+    }
+}
+
+/// Plays the records that a reader gives.
+fn run_over<R: Net + Clock, F: Read + Drop, W: Write + Drop>(
+    rt: &R,
+    alloc: Global,
+    options: ReplayOptions<'_>,
+    reader: F,
+    out: W,
+) -> io::Result<Outcome> {
+    let server = first_address(rt, options.address)?;
+    let names = names_of(alloc, options.ignore)?;
+    let teller = Teller::new(alloc, names.as_slice(), BufWriter::new(alloc, out)?);
+    let mut events = Events::with_capacity(alloc, EVENTS)?;
+    let mut replay = Replay {
+        records: Records::new(alloc, reader)?,
+        player: Player::new(rt, alloc, server, teller)?,
+        pace: Pace::new(options.speed),
+        is_over: false,
+    };
+    replay.run(rt, &mut events)
+}
+
+/// Sends what the clients of a file of records sent to the server, each connection of the file over
+/// one of its own, and writes to `out` which answers differ from the recorded ones.
+///
+/// # Errors
+///
+/// Returns an error if the file can't be read, the server has no address, writing or waiting fails,
+/// or memory runs out. A connection that fails is told.
+pub fn run<R: Net + Files + Input + Clock, W: Write + Drop>(
+    rt: &R,
+    alloc: Global,
+    options: ReplayOptions<'_>,
+    out: W,
+) -> io::Result<Outcome> {
+    if options.file == "-" {
+        run_over(rt, alloc, options, rt.reader(), out)
+    } else {
+        run_over(rt, alloc, options, File::open(rt, options.file)?, out)
+    }
+}

@@ -1,0 +1,52 @@
+//! Counts the answers.
+
+use std::fmt;
+
+/// How many answers were the same as the recorded ones, and how many weren't.
+#[derive(Clone, Copy, Debug, PartialEq, Eq)]
+pub struct Tally {
+    /// The recorded ones that are the same.
+    pub same: u64,
+    /// The recorded ones in whose place another one came.
+    pub different: u64,
+    /// The recorded ones in whose place none came.
+    pub missing: u64,
+    /// Those that nothing recorded.
+    pub unexpected: u64,
+    /// The connections that failed.
+    pub failed: u64,
+}
+
+impl Tally {
+    /// Nothing came yet.
+    pub const NONE: Tally = Tally {
+        same: 0,
+        different: 0,
+        missing: 0,
+        unexpected: 0,
+        failed: 0,
+    };
+
+    /// Returns true if all answers are the same, and nothing else was told.
+    pub fn is_same(self) -> bool {
+        self.different == 0 && self.missing == 0 && self.unexpected == 0 && self.failed == 0
+    }
+}
+
+impl fmt::Display for Tally {
+    fn fmt<W: fmt::Write>(&self, f: &mut fmt::Formatter<W>) -> fmt::Result {
+        let Tally {
+            same,
+            different,
+            missing,
+            unexpected,
+            failed: _,
+        } = *self;
+        let answers = same.saturating_add(different).saturating_add(missing);
+        write!(
+            f,
+            "{answers} answers, {same} same, {different} different, {missing} missing, \
+             {unexpected} unexpected"
+        )
+    }
+}

@@ -1,0 +1,127 @@
+//! Tells which answers differ.
+
+use crate::channel::Broken;
+use crate::content::{are_same_answers, write_answer};
+use crate::input_fault::InputFault;
+use crate::tally::Tally;
+use std::alloc::Global;
+use std::io;
+use std::io::Write;
+
+/// Compares answers, and writes which ones differ.
+#[derive(Drop)]
+pub struct Teller<'a, W: Write + Drop> {
+    alloc: Global,
+    /// The names of the fields that aren't compared.
+    names: &'a [&'a str],
+    out: W,
+    tally: Tally,
+}
+
+impl<'a, W: Write + Drop> Teller<'a, W> {
+    /// Begins to write to `out`. Takes no memory.
+    pub fn new(alloc: Global, names: &'a [&'a str], out: W) -> Teller<'a, W> {
+        Teller {
+            alloc,
+            names,
+            out,
+            tally: Tally::NONE,
+        }
+    }
+
+    /// Returns how many answers were compared.
+    pub fn tally(&self) -> Tally {
+        self.tally
+    }
+
+    /// Writes out what was told so far.
+    ///
+    /// # Errors
+    ///
+    /// Returns an error if writing fails.
+    pub fn flush(&mut self) -> io::Result<()> {
+        self.out.flush()
+    }
+
+    /// Writes the line of an answer behind its sign.
+    fn write_line(&mut self, sign: char, bytes: &[u8]) -> io::Result<()> {
+        write!(self.out, "{sign} ")?;
+        write_answer(self.alloc, self.names, bytes, &mut self.out)?;
+        writeln!(self.out)
+    }
+
+    /// Compares the recorded answer to this request with the one that came, on the connection of
+    /// this number, and tells that they differ if they do.
+    ///
+    /// # Errors
+    ///
+    /// Returns an error if writing fails or memory runs out.
+    pub fn compare(
+        &mut self,
+        number: u64,
+        request: i32,
+        recorded: &[u8],
+        received: &[u8],
+    ) -> io::Result<()> {
+        if are_same_answers(self.alloc, self.names, recorded, received)? {
+            self.tally.same = self.tally.same.saturating_add(1);
+            return Ok(());
+        }
+        self.tally.different = self.tally.different.saturating_add(1);
+        writeln!(self.out, "{number} differs id {request}")?;
+        self.write_line('-', recorded)?;
+        self.write_line('+', received)
+    }
+
+    /// Tells that no answer came in the place of a recorded one.
+    ///
+    /// # Errors
+    ///
+    /// Returns an error if writing fails or memory runs out.
+    pub fn tell_missing(&mut self, number: u64, request: i32, recorded: &[u8]) -> io::Result<()> {
+        self.tally.missing = self.tally.missing.saturating_add(1);
+        writeln!(self.out, "{number} missing id {request}")?;
+        self.write_line('-', recorded)
+    }
+
+    /// Tells an answer that nothing recorded.
+    ///
+    /// # Errors
+    ///
+    /// Returns an error if writing fails or memory runs out.
+    pub fn tell_unexpected(
+        &mut self,
+        number: u64,
+        request: i32,
+        received: &[u8],
+    ) -> io::Result<()> {
+        self.tally.unexpected = self.tally.unexpected.saturating_add(1);
+        writeln!(self.out, "{number} unexpected id {request}")?;
+        self.write_line('+', received)
+    }
+
+    /// Tells that a connection failed.
+    ///
+    /// # Errors
+    ///
+    /// Returns an error if writing fails.
+    pub fn tell_failed(&mut self, number: u64, broken: Broken) -> io::Result<()> {
+        self.tally.failed = self.tally.failed.saturating_add(1);
+        writeln!(self.out, "{number} failed: {broken}")
+    }
+
+    /// Writes the last line, of how many answers there were, and that of a fault of the file, if
+    /// there is one.
+    ///
+    /// # Errors
+    ///
+    /// Returns an error if writing fails.
+    pub fn finish(&mut self, fault: Option<InputFault>) -> io::Result<()> {
+        let tally = self.tally;
+        writeln!(self.out, "{tally}")?;
+        if let Some(fault) = fault {
+            writeln!(self.out, "{fault}")?;
+        }
+        self.out.flush()
+    }
+}

@@ -1,0 +1,110 @@
+//! Passes a request on, and answers it.
+
+use crate::client::Client;
+use crate::leave::Leave;
+use crate::server::Server;
+use bson_raw::RawDocument;
+use std::alloc::AllocError;
+use wire_peer::CallRefusal;
+use wire_share::{
+    Downstream, GiveRefusal, Need, PassRefusal, Routes, SessionId, begun_by, need_of,
+};
+
+/// Returns the body of the request that waits, if one does.
+fn asked(downstream: &Downstream) -> Option<RawDocument<'_>> {
+    Some(downstream.request()?.payload.body())
+}
+
+/// Returns true if a body has its command inside a field, as `$query`.
+fn is_wrapped(body: RawDocument<'_>) -> bool {
+    match body.iter().next() {
+        Some((name, _)) => name.starts_with('$'),
+        None => false,
+    }
+}
+
+/// Returns what the request that waits needs of the connection that it goes over. One whose command
+/// is inside a field may be any command, and so one that authenticates.
+pub fn need(downstream: &Downstream) -> Need {
+    match asked(downstream) {
+        Some(body) if is_wrapped(body) => Need::Kept,
+        Some(body) => need_of(body),
+        None => Need::Any,
+    }
+}
+
+/// Returns the session whose transaction begins with the request that waits, if one does.
+fn begun(downstream: &Downstream) -> Option<SessionId> {
+    begun_by(asked(downstream)?)
+}
+
+/// Passes the request that waits on to the server, and notes who awaits the reply. Returns why the
+/// client is to be closed, if it is.
+///
+/// # Errors
+///
+/// Returns `AllocError` if memory runs out.
+pub fn pass_on(
+    client: &mut Client,
+    server: &mut Server,
+    routes: &mut Routes,
+) -> Result<Option<Leave>, AllocError> {
+    let begun = begun(&client.downstream);
+    let before = server.upstream.output().len();
+    match client.downstream.pass_on(&mut server.upstream) {
+        Ok(()) | Err(PassRefusal::NothingWaits) => {}
+        Err(PassRefusal::OutOfMemory | PassRefusal::Call(CallRefusal::OutOfMemory)) => {
+            return Err(AllocError);
+        }
+        Err(PassRefusal::Call(refusal)) => return Ok(Some(Leave::Refused(refusal))),
+    }
+    if let Some(count) = client.steering.cut_up {
+        client.steering.cut_up = None;
+        server.cut_behind(before, count);
+    }
+    if let Some(session) = begun {
+        routes.begin(session, server.upstream.number())?;
+    }
+    if let Some(awaited) = client.downstream.awaited() {
+        server.note(awaited.call, client.downstream.connection())?;
+    }
+    Ok(None)
+}
+
+/// Notes what the reply that is ready tells of cursors and transactions.
+fn follow(client: &Client, server: &Server, routes: &mut Routes) -> Result<(), AllocError> {
+    let Some(asked) = asked(&client.downstream) else {
+        return Ok(());
+    };
+    let Some(reply) = server.upstream.reply() else {
+        return Ok(());
+    };
+    routes.answered(asked, reply.payload.body(), server.upstream.number())
+}
+
+/// Answers a client with the reply that is ready, if it is the one that the client awaits, and lets
+/// go of that. Returns true if the client is to get it.
+///
+/// # Errors
+///
+/// Returns `AllocError` if memory runs out.
+pub fn answer(
+    client: &mut Client,
+    server: &mut Server,
+    routes: &mut Routes,
+) -> Result<bool, AllocError> {
+    if client.awaits(server.upstream.number()) {
+        follow(client, server, routes)?;
+    }
+    match client.downstream.answer(&mut server.upstream) {
+        Ok(()) => match Leave::of_front(client.downstream.state()) {
+            Some(leave) if leave.wants_memory() => Err(AllocError),
+            closed => Ok(closed.is_none()),
+        },
+        Err(GiveRefusal::NotAwaited | GiveRefusal::Closed) => {
+            server.upstream.release();
+            Ok(false)
+        }
+        Err(GiveRefusal::OutOfMemory) => Err(AllocError),
+    }
+}

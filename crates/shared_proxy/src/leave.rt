@@ -1,0 +1,97 @@
+//! Why a connection is over.
+
+use proxy::Direction;
+use std::fmt;
+use std::io::ErrorKind;
+use wire_front::{FrontCause, FrontState};
+use wire_peer::{CallRefusal, ClientCause, ClientState, ServerCause};
+use wire_relay::RelayFault;
+use wire_stream::LinkFault;
+
+/// Why a connection is over.
+#[derive(Clone, Copy, Debug, PartialEq, Eq)]
+pub enum Leave {
+    /// The peer ended it, and owes nothing.
+    Ended,
+    /// Moving bytes failed.
+    Failed(RelayFault),
+    /// What the client sent is no request, or its reply can't be written.
+    BadClient(FrontCause),
+    /// What the server sent is no reply to a call.
+    BadServer(ClientCause),
+    /// The server can't be asked.
+    Refused(CallRefusal),
+    /// Connecting to the server failed.
+    Unconnected(ErrorKind),
+    /// The script hung up at the request with this id, which was not passed on.
+    HungUp(i32),
+    /// It was cut once so many bytes went this way.
+    Cut(Direction, u64),
+    /// The connection to the server of this number was lost, and with it the reply.
+    Lost(u64),
+}
+
+impl Leave {
+    /// Returns why the connection of a client is over whose front isn't open, and `None` if it is.
+    pub fn of_front(state: FrontState) -> Option<Leave> {
+        match state {
+            FrontState::Open => None,
+            FrontState::Closed(FrontCause::Server(ServerCause::Ended)) => Some(Leave::Ended),
+            FrontState::Closed(cause) => Some(Leave::BadClient(cause)),
+        }
+    }
+
+    /// Returns why a connection to the server is over whose client isn't open, and `None` if it is.
+    pub fn of_client(state: ClientState) -> Option<Leave> {
+        match state {
+            ClientState::Open => None,
+            ClientState::Closed(ClientCause::Ended) => Some(Leave::Ended),
+            ClientState::Closed(cause) => Some(Leave::BadServer(cause)),
+        }
+    }
+
+    /// Returns why a connection is over over which receiving failed.
+    pub fn receiving(fault: LinkFault) -> Leave {
+        Leave::Failed(RelayFault::Receiving(fault))
+    }
+
+    /// Returns why a connection is over over which sending failed.
+    pub fn sending(fault: LinkFault) -> Leave {
+        Leave::Failed(RelayFault::Sending(fault))
+    }
+
+    /// Returns true if memory ran out.
+    pub fn wants_memory(self) -> bool {
+        match self {
+            Leave::Failed(RelayFault::Receiving(fault) | RelayFault::Sending(fault)) => {
+                fault.kind == ErrorKind::OutOfMemory
+            }
+            Leave::BadClient(FrontCause::NoMemory | FrontCause::Server(ServerCause::NoMemory)) => {
+                true
+            }
+            _ => false,
+        }
+    }
+
+    /// Returns true if it is told also where nothing is shown: the proxy ended the connection, or a
+    /// reply was lost.
+    pub fn is_told(self) -> bool {
+        matches!(self, Leave::HungUp(_) | Leave::Cut(..) | Leave::Lost(_))
+    }
+}
+
+impl fmt::Display for Leave {
+    fn fmt<W: fmt::Write>(&self, f: &mut fmt::Formatter<W>) -> fmt::Result {
+        match *self {
+            Leave::Ended => f.write_str("ended"),
+            Leave::Failed(fault) => write!(f, "failed: {fault}"),
+            Leave::BadClient(cause) => write!(f, "closed: {cause}"),
+            Leave::BadServer(cause) => write!(f, "closed: {cause}"),
+            Leave::Refused(refusal) => write!(f, "closed: {refusal}"),
+            Leave::Unconnected(kind) => write!(f, "failed: connecting: {kind}"),
+            Leave::HungUp(id) => write!(f, "hangup id {id}"),
+            Leave::Cut(direction, count) => write!(f, "cut {} {count}", direction.word()),
+            Leave::Lost(upstream) => write!(f, "lost with upstream {upstream}"),
+        }
+    }
+}

@@ -1,0 +1,173 @@
+//! A connection to the server, and its turns.
+
+use crate::leave::Leave;
+use crate::line::{Line, Step};
+use indexmap::IndexMap;
+use std::alloc::{AllocError, Global};
+use wire_share::Upstream;
+use wire_stream::{Moved, Pulled};
+
+/// Who uses a connection to the server.
+#[derive(Clone, Copy, Debug, PartialEq, Eq)]
+pub enum Use {
+    /// Any client.
+    Shared,
+    /// One call, behind which it is closed.
+    Once,
+    /// The client of this number, with which it is closed.
+    Kept(u64),
+}
+
+/// How many bytes may wait to be sent over a connection before another request is passed on.
+const OUTPUT: usize = 1 << 20;
+
+/// A connection to the server.
+#[derive(Drop)]
+pub struct Server {
+    pub upstream: Upstream,
+    line: Line,
+    pub used: Use,
+    /// The clients that await replies, by the numbers of their calls.
+    pub callers: IndexMap<u64, u64>,
+    /// The clients whose requests wait until more was sent.
+    pub blocked: Vec<u64>,
+}
+
+impl Server {
+    /// Makes the connection of this number, which no other one has. It takes no memory.
+    pub fn new(alloc: Global, number: u64, line: Line, used: Use) -> Server {
+        Server {
+            upstream: Upstream::new(alloc, number),
+            line,
+            used,
+            callers: IndexMap::new(alloc),
+            blocked: Vec::new(alloc),
+        }
+    }
+
+    /// Notes that a client awaits the reply to this call.
+    ///
+    /// # Errors
+    ///
+    /// Returns `AllocError` if memory runs out.
+    pub fn note(&mut self, call: u64, client: u64) -> Result<(), AllocError> {
+        let _ = self.callers.insert(call, client)?;
+        Ok(())
+    }
+
+    /// Returns the client that awaits the reply that is ready, and forgets that it does.
+    pub fn take_caller(&mut self) -> Option<u64> {
+        let call = self.upstream.reply()?.call;
+        self.callers.swap_remove(&call)
+    }
+
+    /// Returns true if so many bytes wait to be sent that no other request is passed on.
+    pub fn is_full(&self) -> bool {
+        self.upstream.output().len() >= OUTPUT
+    }
+
+    /// Notes that the request of a client waits until more was sent.
+    ///
+    /// # Errors
+    ///
+    /// Returns `AllocError` if memory runs out.
+    pub fn block(&mut self, client: u64) -> Result<(), AllocError> {
+        if !self.blocked.contains(&client) {
+            self.blocked.push(client)?;
+        }
+        Ok(())
+    }
+
+    /// Returns a client whose request may be passed on again, and forgets it.
+    pub fn pop_blocked(&mut self) -> Option<u64> {
+        if self.is_full() {
+            return None;
+        }
+        self.blocked.pop()
+    }
+
+    /// Sends what waits to be sent, and is closed behind that, since its client is gone.
+    pub fn finish(&mut self) {
+        self.used = Use::Once;
+    }
+
+    /// Returns true if it was for one call, which is over.
+    pub fn is_done(&self) -> bool {
+        self.used == Use::Once
+            && self.upstream.outstanding() == 0
+            && self.upstream.output().is_empty()
+            && self.upstream.reply().is_none()
+    }
+
+    /// Sends some of what is to be sent.
+    fn send(&mut self) -> Step {
+        if self.upstream.output().is_empty() {
+            return Step::Waits;
+        }
+        match self.line.send(self.upstream.output()) {
+            Ok(Moved::Bytes(n)) => {
+                self.upstream.sent(n);
+                Step::Again
+            }
+            Ok(Moved::Later) => Step::Waits,
+            Err(leave) => Step::Over(leave),
+        }
+    }
+
+    /// Receives bytes, or tells the upstream that no more come.
+    fn pull(&mut self) -> Step {
+        match self.line.pull() {
+            Ok(Pulled::Bytes) => Step::Again,
+            Ok(Pulled::Later) => Step::Waits,
+            Ok(Pulled::End) => {
+                self.upstream.end();
+                Step::Again
+            }
+            Err(leave) => Step::Over(leave),
+        }
+    }
+
+    /// Takes bytes that came, or receives some.
+    fn receive(&mut self) -> Result<Step, AllocError> {
+        if self.line.bytes().is_empty() {
+            return Ok(self.pull());
+        }
+        match self.upstream.feed(self.line.bytes()) {
+            Ok(n) => {
+                self.line.used(n);
+                Ok(Step::Again)
+            }
+            Err(_) => Err(AllocError),
+        }
+    }
+
+    /// Has at most the first `count` bytes sent of what is to be sent behind the first `before`, and
+    /// then the connection cut.
+    pub fn cut_behind(&mut self, before: usize, count: u64) {
+        let size = self.upstream.output().len().saturating_sub(before) as u64;
+        let left = count.min(size).saturating_add(before as u64);
+        self.line.limit_sending(left);
+    }
+
+    /// Takes a step: sends, and if nothing can be sent, receives. Returns `Ready` if a reply is.
+    ///
+    /// # Errors
+    ///
+    /// Returns `AllocError` if memory runs out.
+    pub fn step(&mut self) -> Result<Step, AllocError> {
+        if self.upstream.reply().is_some() {
+            return Ok(Step::Ready);
+        }
+        if let Some(leave) = self.line.cut() {
+            return Ok(Step::Over(leave));
+        }
+        if let Some(leave) = Leave::of_client(self.upstream.state()) {
+            return Ok(Step::Over(leave));
+        }
+        let sent = self.send();
+        if sent != Step::Waits {
+            return Ok(sent);
+        }
+        self.receive()
+    }
+}

@@ -1,0 +1,147 @@
+//! The connections to the server, by their numbers.
+
+use crate::line::Line;
+use crate::server::{Server, Use};
+use indexmap::IndexMap;
+use std::alloc::{AllocError, Global};
+use wire_share::{Need, Routes};
+
+/// Over which connection a request goes.
+#[derive(Clone, Copy, Debug, PartialEq, Eq)]
+pub enum Place {
+    /// The one of this number.
+    At(u64),
+    /// A new one, used so.
+    New(Use),
+}
+
+/// The connections that any client uses.
+#[derive(Drop)]
+struct Shared {
+    numbers: Vec<u64>,
+    /// The most of them.
+    most: usize,
+}
+
+/// The connections to the server, by their numbers.
+#[derive(Drop)]
+pub struct Servers {
+    alloc: Global,
+    servers: IndexMap<u64, Server>,
+    shared: Shared,
+    /// How many were opened, counted up to 2^64 - 1.
+    opened: u64,
+}
+
+impl Servers {
+    /// Begins without connections, of which any client uses at most `most`. It takes no memory.
+    pub fn new(alloc: Global, most: usize) -> Servers {
+        Servers {
+            alloc,
+            servers: IndexMap::new(alloc),
+            shared: Shared {
+                numbers: Vec::new(alloc),
+                most,
+            },
+            opened: 0,
+        }
+    }
+
+    /// Returns the number that the next one has.
+    pub fn next(&self) -> u64 {
+        self.opened.saturating_add(1)
+    }
+
+    /// Returns the connection of this number, if there is one.
+    pub fn get_mut(&mut self, number: u64) -> Option<&mut Server> {
+        self.servers.get_mut(&number)
+    }
+
+    /// Returns how many calls await a reply over a connection.
+    fn outstanding(&self, number: u64) -> usize {
+        match self.servers.get(&number) {
+            Some(server) => server.upstream.outstanding(),
+            None => usize::MAX,
+        }
+    }
+
+    /// Returns the shared connection over which the fewest calls await a reply, if there is one.
+    pub fn freest(&self) -> Option<u64> {
+        let mut found = None;
+        let mut least = usize::MAX;
+        for number in self.shared.numbers.iter() {
+            let outstanding = self.outstanding(*number);
+            if outstanding < least {
+                least = outstanding;
+                found = Some(*number);
+            }
+        }
+        found
+    }
+
+    /// Returns over which shared connection a request goes: one without calls, else a new one if
+    /// there may be one more, and else the one with the fewest calls.
+    fn place_shared(&self) -> Place {
+        match self.freest() {
+            Some(number)
+                if self.outstanding(number) == 0 || self.shared.numbers.len() >= self.shared.most =>
+                { Place::At(number) }
+            _ => Place::New(Use::Shared),
+        }
+    }
+
+    /// Returns true if this connection is there, and a client may use it: any client does, or this
+    /// one alone.
+    fn serves(&self, number: u64, client: u64) -> bool {
+        match self.servers.get(&number) {
+            Some(server) => server.used == Use::Shared || server.used == Use::Kept(client),
+            None => false,
+        }
+    }
+
+    /// Returns true if bytes wait to be sent over a connection.
+    pub fn has_output(&self) -> bool {
+        for server in self.servers.values() {
+            if !server.upstream.output().is_empty() {
+                return true;
+            }
+        }
+        false
+    }
+
+    /// Returns over which connection a request of a client goes that needs this, where `routes` says
+    /// on which ones cursors and transactions live.
+    pub fn place(&self, routes: &Routes, client: u64, need: Need) -> Place {
+        match need {
+            Need::Own => Place::New(Use::Once),
+            Need::Kept => Place::New(Use::Kept(client)),
+            Need::Any | Need::Cursor(_) | Need::Transaction(_) => match routes.find(need) {
+                Some(number) if self.serves(number, client) => Place::At(number),
+                _ => self.place_shared(),
+            },
+        }
+    }
+
+    /// Adds a connection.
+    ///
+    /// # Errors
+    ///
+    /// Returns `AllocError` if memory runs out.
+    pub fn open(&mut self, line: Line, used: Use) -> Result<u64, AllocError> {
+        let number = self.next();
+        let server = Server::new(self.alloc, number, line, used);
+        self.opened = number;
+        let _ = self.servers.insert(number, server)?;
+        if used == Use::Shared {
+            self.shared.numbers.push(number)?;
+        }
+        Ok(number)
+    }
+
+    /// Closes a connection, and returns it.
+    pub fn close(&mut self, number: u64) -> Option<Server> {
+        let server = self.servers.swap_remove(&number);
+        self.shared.numbers.retain(|other| *other != number);
+        server
+    }
+}

@@ -1,0 +1,214 @@
+//! Passes requests on to the server, and gives replies to their clients.
+
+use crate::clients::{Clients, ROOM};
+use crate::connector::Connector;
+use crate::due::{Due, Side};
+use crate::exchange::{answer, need, pass_on};
+use crate::leave::Leave;
+use crate::server::{Server, Use};
+use crate::servers::{Place, Servers};
+use crate::steering::steer_reply;
+use proxy::{Sink, Watching};
+use std::alloc::{AllocError, Global};
+use std::io;
+use std::io::Write;
+use std::net::Net;
+use std::rt::Files;
+use std::time::Clock;
+use wire_share::Routes;
+
+/// The clients, the connections to the server, and which of both are to take a turn.
+#[derive(Drop)]
+pub struct Sharing {
+    pub clients: Clients,
+    pub servers: Servers,
+    /// Where cursors and transactions are.
+    routes: Routes,
+    pub due: Due,
+    pub connector: Connector,
+}
+
+impl Sharing {
+    /// Begins without connections. Any client uses at most `most` connections to the server.
+    pub fn new(alloc: Global, connector: Connector, most: usize, watching: Watching) -> Sharing {
+        Sharing {
+            clients: Clients::new(alloc, watching),
+            servers: Servers::new(alloc, most),
+            routes: Routes::new(alloc),
+            due: Due::new(alloc),
+            connector,
+        }
+    }
+
+    /// Closes a connection to the server, with which its cursors and transactions are lost. Returns
+    /// it.
+    pub fn drop_server(&mut self, upstream: u64) -> Option<Server> {
+        self.routes.lose(upstream);
+        self.servers.close(upstream)
+    }
+
+    /// Closes the connection to the server that a client alone used, behind what waits to be sent.
+    fn leave_server(&mut self, upstream: u64) -> Result<(), AllocError> {
+        let Some(server) = self.servers.get_mut(upstream) else {
+            return Ok(());
+        };
+        if server.upstream.output().is_empty() {
+            let _ = self.drop_server(upstream);
+            return Ok(());
+        }
+        server.finish();
+        self.due.push(Side::Server(upstream))
+    }
+
+    /// Closes a client, for this reason, and the connection to the server that it alone uses.
+    ///
+    /// # Errors
+    ///
+    /// Returns an error if memory runs out or writing fails.
+    pub fn close<W: Write>(&mut self, number: u64, leave: Leave, out: &mut W) -> io::Result<()> {
+        self.connector.resume();
+        if let Some(client) = self.clients.close(number, leave, out)?
+            && let Some(kept) = client.kept
+        {
+            self.leave_server(kept)?;
+        }
+        Ok(())
+    }
+
+    /// Closes the client of this number, if it awaits a reply of a connection that was lost, or uses
+    /// it alone.
+    fn lose_call<W: Write>(&mut self, number: u64, upstream: u64, out: &mut W) -> io::Result<()> {
+        match self.clients.get_mut(number) {
+            Some(client) if client.awaits(upstream) => {
+                self.close(number, Leave::Lost(upstream), out)
+            }
+            Some(client) if client.kept == Some(upstream) => self.close(number, Leave::Ended, out),
+            _ => Ok(()),
+        }
+    }
+
+    /// Closes a connection to the server, for this reason, and all clients that await a reply of it.
+    ///
+    /// # Errors
+    ///
+    /// Returns an error if writing fails.
+    pub fn lose<W: Write>(&mut self, upstream: u64, leave: Leave, out: &mut W) -> io::Result<()> {
+        let Some(server) = self.drop_server(upstream) else {
+            return Ok(());
+        };
+        if leave.is_told() || self.clients.are_told() {
+            writeln!(out, "upstream {upstream} {leave}")?;
+        }
+        if let Use::Kept(number) = server.used {
+            self.lose_call(number, upstream, out)?;
+        }
+        for number in server.callers.values() {
+            self.lose_call(*number, upstream, out)?;
+        }
+        for number in server.blocked.iter() {
+            self.due.push(Side::Client(*number))?;
+        }
+        Ok(())
+    }
+
+    /// Has the clients take a turn whose requests waited until more was sent over a connection, if
+    /// enough was.
+    ///
+    /// # Errors
+    ///
+    /// Returns `AllocError` if memory runs out.
+    pub fn unblock(&mut self, upstream: u64) -> Result<(), AllocError> {
+        let Some(server) = self.servers.get_mut(upstream) else {
+            return Ok(());
+        };
+        for _ in 0..ROOM {
+            let Some(number) = server.pop_blocked() else {
+                break;
+            };
+            self.due.push(Side::Client(number))?;
+        }
+        Ok(())
+    }
+
+    /// Returns over which connection the request of a client goes, a new one if it has to be.
+    fn place(&mut self, net: &impl Net, number: u64) -> Result<Result<u64, Leave>, AllocError> {
+        let Some(client) = self.clients.get_mut(number) else {
+            return Ok(Err(Leave::Ended));
+        };
+        if let Some(kept) = client.kept {
+            return Ok(Ok(kept));
+        }
+        let need = need(&client.downstream);
+        match self.servers.place(&self.routes, number, need) {
+            Place::At(upstream) => Ok(Ok(upstream)),
+            Place::New(used) => self.connector.open(net, &mut self.servers, used),
+        }
+    }
+
+    /// Passes the request of a client on over this connection. Returns false if it waits until more
+    /// was sent.
+    fn pass_over<W: Write>(&mut self, number: u64, upstream: u64, out: &mut W) -> io::Result<bool> {
+        let Some(client) = self.clients.get_mut(number) else {
+            return Ok(false);
+        };
+        let Some(server) = self.servers.get_mut(upstream) else {
+            self.close(number, Leave::Lost(upstream), out)?;
+            return Ok(false);
+        };
+        if server.is_full() {
+            server.block(number)?;
+            return Ok(false);
+        }
+        if server.used == Use::Kept(number) {
+            client.kept = Some(upstream);
+        }
+        match pass_on(client, server, &mut self.routes)? {
+            Some(leave) => self.close(number, leave, out)?,
+            None => self.due.push(Side::Server(upstream))?,
+        }
+        Ok(true)
+    }
+
+    /// Passes the request of a client on. Returns false if it waits until more was sent.
+    ///
+    /// # Errors
+    ///
+    /// Returns an error if memory runs out or writing fails.
+    pub fn pass<W: Write>(&mut self, net: &impl Net, number: u64, out: &mut W) -> io::Result<bool> {
+        match self.place(net, number)? {
+            Ok(upstream) => self.pass_over(number, upstream, out),
+            Err(leave) => {
+                self.close(number, leave, out)?;
+                Ok(false)
+            }
+        }
+    }
+
+    /// Gives the reply that is ready to the client that awaits it, or to none.
+    ///
+    /// # Errors
+    ///
+    /// Returns an error if memory runs out, or the sink or writing fails.
+    pub fn give<R: Files + Clock, W: Write>(
+        &mut self,
+        upstream: u64,
+        sink: &mut Sink<'_, R>,
+        out: &mut W,
+    ) -> io::Result<()> {
+        let Some(server) = self.servers.get_mut(upstream) else {
+            return Ok(());
+        };
+        let Some(number) = server.take_caller() else {
+            server.upstream.release();
+            return Ok(());
+        };
+        let Some(client) = self.clients.get_mut(number) else {
+            server.upstream.release();
+            return Ok(());
+        };
+        if answer(client, server, &mut self.routes)? {
+            steer_reply(client, sink, out)?;
+        }
+        Ok(self.due.push(Side::Client(number))?)
+    }
+}

@@ -1,0 +1,232 @@
+//! Accepts clients, and has each connection take its turns.
+
+use crate::due::Side;
+use crate::line::Step;
+use crate::sharing::Sharing;
+use crate::steering::{Steered, release, steer};
+use mio::Events;
+use proxy::{ACCEPTS, LISTENER, Sink};
+use std::alloc::Global;
+use std::io;
+use std::io::{ErrorKind, Write};
+use std::net::Net;
+use std::rt::Files;
+use std::time::Clock;
+use test_script::{Delays, Script};
+
+/// The most steps of a turn.
+const STEPS: u32 = 16;
+
+/// The most requests that are held at once.
+const HELD: usize = crate::clients::ROOM;
+
+/// The connections, and what a script says of their requests, if there is one.
+#[derive(Drop)]
+pub struct Turns {
+    alloc: Global,
+    sharing: Sharing,
+    script: Option<Script>,
+    /// The clients of which a request is held.
+    delays: Delays,
+}
+
+/// Returns the error that memory ran out.
+fn out_of_memory() -> io::Error {
+    io::Error::from(ErrorKind::OutOfMemory)
+}
+
+impl Turns {
+    /// Begins with these connections, and this script.
+    pub fn new(alloc: Global, sharing: Sharing, script: Option<Script>) -> Turns {
+        Turns {
+            alloc,
+            sharing,
+            script,
+            delays: Delays::new(alloc),
+        }
+    }
+
+    /// Returns true if so many clients are gone, and nothing waits to be sent to the server.
+    pub fn are_over(&self, wanted: u64) -> bool {
+        self.sharing.clients.ended() >= wanted && !self.sharing.servers.has_output()
+    }
+
+    /// Does with the request that a client's line holds what the script says.
+    fn steer<R: Files + Clock, W: Write>(
+        &mut self,
+        clock: &R,
+        number: u64,
+        sink: &mut Sink<'_, R>,
+        out: &mut W,
+    ) -> io::Result<()> {
+        let Some(client) = self.sharing.clients.get_mut(number) else {
+            return Ok(());
+        };
+        let Some(script) = &mut self.script else {
+            return Ok(());
+        };
+        match steer(self.alloc, client, script, sink, out)? {
+            Steered::Again => Ok(()),
+            Steered::Held(millis) => self.delays.hold(clock, number as usize, millis),
+            Steered::Over(leave) => self.sharing.close(number, leave, out),
+        }
+    }
+
+    /// Has a client take a step, if there is one of this number. Returns true if it may take another
+    /// one at once.
+    fn step_client<R: Net + Files + Clock, W: Write>(
+        &mut self,
+        rt: &R,
+        number: u64,
+        sink: &mut Sink<'_, R>,
+        out: &mut W,
+    ) -> io::Result<bool> {
+        let Some(client) = self.sharing.clients.get_mut(number) else {
+            return Ok(false);
+        };
+        let step = client.step()?;
+        client.show(sink, out)?;
+        match step {
+            Step::Again => {}
+            Step::Waits => return Ok(false),
+            Step::Held => self.steer(rt, number, sink, out)?,
+            Step::Ready => return self.sharing.pass(rt, number, out),
+            Step::Over(leave) if leave.wants_memory() => return Err(out_of_memory()),
+            Step::Over(leave) => self.sharing.close(number, leave, out)?,
+        }
+        Ok(true)
+    }
+
+    /// Has a connection to the server take a step, if there is one of this number. Returns true if
+    /// it may take another one at once.
+    fn step_server<R: Files + Clock, W: Write>(
+        &mut self,
+        upstream: u64,
+        sink: &mut Sink<'_, R>,
+        out: &mut W,
+    ) -> io::Result<bool> {
+        let Some(server) = self.sharing.servers.get_mut(upstream) else {
+            return Ok(false);
+        };
+        if server.is_done() {
+            let _ = self.sharing.drop_server(upstream);
+            return Ok(false);
+        }
+        match server.step()? {
+            Step::Again => self.sharing.unblock(upstream)?,
+            Step::Waits | Step::Held => return Ok(false),
+            Step::Ready => self.sharing.give(upstream, sink, out)?,
+            Step::Over(leave) if leave.wants_memory() => return Err(out_of_memory()),
+            Step::Over(leave) => self.sharing.lose(upstream, leave, out)?,
+        }
+        Ok(true)
+    }
+
+    /// Has a connection take a turn, if it is still there.
+    fn turn<R: Net + Files + Clock, W: Write>(
+        &mut self,
+        rt: &R,
+        side: Side,
+        sink: &mut Sink<'_, R>,
+        out: &mut W,
+    ) -> io::Result<()> {
+        for _ in 0..STEPS {
+            let goes_on = match side {
+                Side::Client(number) => self.step_client(rt, number, sink, out)?,
+                Side::Server(upstream) => self.step_server(upstream, sink, out)?,
+            };
+            if !goes_on {
+                return Ok(());
+            }
+        }
+        Ok(self.sharing.due.push(side)?)
+    }
+
+    /// Lets each request go on that was held for long enough.
+    fn release(&mut self, clock: &impl Clock) -> io::Result<()> {
+        for _ in 0..HELD {
+            let Some(number) = self.delays.take_due(clock)? else {
+                break;
+            };
+            let number = number as u64;
+            if let Some(client) = self.sharing.clients.get_mut(number) {
+                release(client);
+                self.sharing.due.push(Side::Client(number))?;
+            }
+        }
+        Ok(())
+    }
+
+    /// Has each connection take a turn that is to take one now.
+    fn turn_due<R: Net + Files + Clock, W: Write>(
+        &mut self,
+        rt: &R,
+        sink: &mut Sink<'_, R>,
+        out: &mut W,
+    ) -> io::Result<()> {
+        let due = self.sharing.due.len();
+        for _ in 0..due {
+            if let Some(side) = self.sharing.due.pop() {
+                self.turn(rt, side, sink, out)?;
+            }
+        }
+        Ok(())
+    }
+
+    /// Has each connection of which these events are take a turn.
+    fn take_turns<R: Net + Files + Clock, W: Write>(
+        &mut self,
+        rt: &R,
+        events: &Events<Global>,
+        sink: &mut Sink<'_, R>,
+        out: &mut W,
+    ) -> io::Result<()> {
+        for event in events.iter() {
+            if event.token() == LISTENER {
+                self.sharing.connector.resume();
+            } else {
+                self.turn(rt, Side::of_token(event.token().0), sink, out)?;
+            }
+        }
+        Ok(())
+    }
+
+    /// Accepts clients, until none waits, and no more than `ACCEPTS`.
+    fn accept_some<W: Write>(&mut self, out: &mut W) -> io::Result<()> {
+        for _ in 0..ACCEPTS {
+            match self.sharing.connector.accept(&self.sharing.clients)? {
+                Some(Ok(line)) => self.sharing.clients.open(line, out)?,
+                Some(Err(_)) => {}
+                None => break,
+            }
+        }
+        Ok(())
+    }
+
+    /// Waits for events, passes what can be passed, and gives the messages of it to the sink. What
+    /// is shown or recorded until now is written before it waits.
+    ///
+    /// # Errors
+    ///
+    /// Returns an error if waiting or writing fails, or memory runs out.
+    pub fn serve_some<R: Net + Files + Clock, W: Write>(
+        &mut self,
+        rt: &R,
+        events: &mut Events<Global>,
+        sink: &mut Sink<'_, R>,
+        out: &mut W,
+    ) -> io::Result<()> {
+        out.flush()?;
+        sink.flush()?;
+        let least = self.delays.least(rt)?;
+        let has_more = self.sharing.due.len() > 0;
+        self.sharing.connector.wait(events, has_more, least)?;
+        self.release(rt)?;
+        self.take_turns(rt, events, sink, out)?;
+        self.turn_due(rt, sink, out)?;
+        if self.sharing.connector.is_ready() {
+            self.accept_some(out)?;
+        }
+        Ok(())
+    }
+}
