@@ -17,9 +17,19 @@ use std::rt::Files;
 use std::time::Clock;
 use test_script::{Cause, Script};
 
-/// Returns the first address that `address` names.
-fn first_address<R: Net>(rt: &R, address: &str) -> io::Result<SocketAddr> {
-    match address.to_socket_addrs(rt)?.next() {
+/// Returns the first IPv4 address that `address` names, and if it names none, the first one. Many
+/// servers listen at 127.0.0.1 alone where `localhost` is `::1` first.
+fn address_of<R: Net>(rt: &R, address: &str) -> io::Result<SocketAddr> {
+    let mut first = None;
+    for found in address.to_socket_addrs(rt)? {
+        if found.is_ipv4() {
+            return Ok(found);
+        }
+        if first.is_none() {
+            first = Some(found);
+        }
+    }
+    match first {
         Some(first) => Ok(first),
         None => Err(io::Error::from(ErrorKind::InvalidInput)),
     }
@@ -89,8 +99,8 @@ pub fn listen<'r, R: Net + Files + Clock, W: Write>(
     options: Options<'_>,
     out: &mut W,
 ) -> Result<(TcpListener, SocketAddr, Sink<'r, R>), ProxyFault> {
-    let listener = TcpListener::bind(rt, first_address(rt, options.listen)?)?;
-    let upstream = first_address(rt, options.upstream)?;
+    let listener = TcpListener::bind(rt, address_of(rt, options.listen)?)?;
+    let upstream = address_of(rt, options.upstream)?;
     let local = listener.local_addr()?;
     if local == upstream {
         return Err(ProxyFault::Itself);

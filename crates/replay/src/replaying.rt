@@ -31,9 +31,19 @@ pub enum Outcome {
     Fault,
 }
 
-/// Returns the first address that `address` names.
-fn first_address<R: Net>(rt: &R, address: &str) -> io::Result<SocketAddr> {
-    match address.to_socket_addrs(rt)?.next() {
+/// Returns the first IPv4 address that `address` names, and if it names none, the first one. Many
+/// servers listen at 127.0.0.1 alone where `localhost` is `::1` first.
+fn address_of<R: Net>(rt: &R, address: &str) -> io::Result<SocketAddr> {
+    let mut first = None;
+    for found in address.to_socket_addrs(rt)? {
+        if found.is_ipv4() {
+            return Ok(found);
+        }
+        if first.is_none() {
+            first = Some(found);
+        }
+    }
+    match first {
         Some(first) => Ok(first),
         None => Err(io::Error::from(ErrorKind::InvalidInput)),
     }
@@ -153,7 +163,7 @@ fn run_over<R: Net + Clock, F: Read + Drop, W: Write + Drop>(
     reader: F,
     out: W,
 ) -> io::Result<Outcome> {
-    let server = first_address(rt, options.address)?;
+    let server = address_of(rt, options.address)?;
     let names = names_of(alloc, options.ignore)?;
     let teller = Teller::new(alloc, names.as_slice(), BufWriter::new(alloc, out)?);
     let mut events = Events::with_capacity(alloc, EVENTS)?;

@@ -40,10 +40,18 @@ pub enum ServingEnd {
 /// The most events that one wait tells.
 const EVENTS: usize = 64;
 
-/// Returns the first address that `address` names.
-fn first_address<R: Net>(rt: &R, address: &str) -> io::Result<SocketAddr> {
-    let mut found = address.to_socket_addrs(rt)?;
-    match found.next() {
+/// Returns the first IPv4 address that `address` names, and if it names none, the first one.
+fn address_of<R: Net>(rt: &R, address: &str) -> io::Result<SocketAddr> {
+    let mut first = None;
+    for found in address.to_socket_addrs(rt)? {
+        if found.is_ipv4() {
+            return Ok(found);
+        }
+        if first.is_none() {
+            first = Some(found);
+        }
+    }
+    match first {
         Some(first) => Ok(first),
         None => Err(io::Error::from(ErrorKind::InvalidInput)),
     }
@@ -137,7 +145,7 @@ fn listen<R: Net + Files + Input, W: Write>(
         scripts.guide.rules.items c.serving) }
 {
     let turns = Turns::new(alloc)?;
-    let listener = TcpListener::bind(rt, first_address(rt, choice.address)?)?;
+    let listener = TcpListener::bind(rt, address_of(rt, choice.address)?)?;
     let local = listener.local_addr()?;
     write_first(local, out)?;
     tell_port(rt, choice.port_file, local.port())?;
