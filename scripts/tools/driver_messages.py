@@ -1,11 +1,11 @@
 #!/usr/bin/env python3
 """Messages as drivers send them to the test server.
 
-    python3 scripts/tools/driver_messages.py ADDRESS
+    python3 scripts/tools/driver_messages.py ADDRESS [COMMAND..]
     python3 scripts/tools/driver_messages.py --wanted
 
-sends it one of each of some commands over one connection, each after the answer to the one before, and ends where the server
-closes; or prints what the server then writes of that connection.
+sends it requests over one connection, each after the answer to the one before, and ends where the server closes: all that it has, or
+of each COMMAND the first one; or prints what the server then writes of that connection.
 """
 
 import os
@@ -1255,10 +1255,23 @@ def wanted():
     return "connection 1 new\n" + entries + "connection 1 end Ended\n"
 
 
-def send(address):
-    """Sends the requests over one connection, up to the first one that isn't answered."""
+def command_of(body):
+    """Returns the name of the first field, which is the command."""
+    return body[5:body.index(0, 5)].decode()
+
+
+def first_of_each(names):
+    """Returns the first request of each of these commands."""
+    firsts = {}
+    for request in REQUESTS:
+        firsts.setdefault(command_of(request[0]), request)
+    return [firsts[name] for name in names]
+
+
+def send(address, names=()):
+    """Sends requests over one connection, up to the first one that isn't answered: all, or the first of each of these commands."""
     with connect(address) as link:
-        for number, (body, documents, _) in enumerate(REQUESTS, 1):
+        for number, (body, documents, _) in enumerate(first_of_each(names) if names else REQUESTS, 1):
             if not is_answered(link, message(number, body, documents)):
                 break
 
@@ -1267,7 +1280,7 @@ def main():
     if sys.argv[1:] == ["--wanted"]:
         print(wanted(), end="")
         return
-    send(sys.argv[1])
+    send(sys.argv[1], sys.argv[2:])
 
 
 if __name__ == "__main__":
