@@ -1,8 +1,10 @@
 //! A connection of the record, and the one to the server over which its requests go.
 
-use crate::answers::{Answer, Answers};
+use crate::answers::{Answer, Answers, has_more_to_come};
+use crate::asked::Asked;
 use crate::channel::{Broken, Channel, Coming};
 use crate::content::plain_bytes;
+use crate::pace::Taken;
 use crate::teller::Teller;
 use std::alloc::{AllocError, Global};
 use std::io;
@@ -30,6 +32,8 @@ pub struct Conn {
     line: Line,
     /// The answers of both sides that have no counterpart yet.
     sides: Sides,
+    /// When the requests were recorded whose answers weren't read yet.
+    asked: Asked,
     /// When what is to be sent has to be sent, if it wasn't.
     stall: Option<Instant>,
 }
@@ -62,6 +66,7 @@ impl Conn {
                 recorded: Answers::new(alloc),
                 received: Answers::new(alloc),
             },
+            asked: Asked::new(alloc),
             stall: None,
         }
     }
@@ -129,7 +134,7 @@ impl Conn {
         Ok(())
     }
 
-    /// Sends a request. What can't be sent at once has to be sent before the moment `due`.
+    /// Sends a request. What can't be sent at once has to be sent within some time.
     ///
     /// # Errors
     ///
@@ -137,17 +142,21 @@ impl Conn {
     pub fn send<W: Write + Drop>(
         &mut self,
         frame: RawFrame<'_>,
-        due: Option<Instant>,
+        taken: Taken,
         teller: &mut Teller<'_, W>,
     ) -> io::Result<()> {
         match &mut self.line {
             Line::Open(channel) => channel.push(frame.as_bytes())?,
             _ => return self.tell_lost(teller),
         }
-        self.flush(due, teller)
+        if !has_more_to_come(frame) {
+            self.asked.note(frame.header().id, taken.micros)?;
+        }
+        self.flush(taken.due(None), teller)
     }
 
-    /// Awaits a recorded answer up to the moment `due`, or compares it, if its counterpart came.
+    /// Awaits a recorded answer for as long as the record took for it, and some time more, or
+    /// compares it, if its counterpart came.
     ///
     /// # Errors
     ///
@@ -155,10 +164,14 @@ impl Conn {
     pub fn expect<W: Write + Drop>(
         &mut self,
         frame: RawFrame<'_>,
-        due: Option<Instant>,
+        taken: Taken,
         teller: &mut Teller<'_, W>,
     ) -> io::Result<()> {
         let request = self.sides.recorded.meet(frame)?;
+        let due = taken.due(self.asked.take(request));
+        if has_more_to_come(frame) {
+            self.asked.note(request, taken.micros)?;
+        }
         let bytes = plain_bytes(self.alloc, frame)?;
         if let Some(answer) = self.sides.received.take(request) {
             return teller.compare(self.number, request, &bytes, &answer.bytes);

@@ -11,6 +11,7 @@
 #![tactic(auto)]
 
 mod answers;
+mod asked;
 mod channel;
 mod conn;
 mod content;

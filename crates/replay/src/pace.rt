@@ -12,6 +12,24 @@ struct Begun {
     micros: i64,
 }
 
+/// When a record is taken, and the times of it and of the record before it.
+#[derive(Clone, Copy)]
+pub struct Taken {
+    pub now: Instant,
+    pub micros: i64,
+    pub last: i64,
+}
+
+impl Taken {
+    /// Returns up to when is waited for what the record has, and began when a record of the time
+    /// `since` was taken, or the one before it if that isn't known.
+    pub fn due(self, since: Option<i64>) -> Option<Instant> {
+        let gap = between(since.unwrap_or(self.last), self.micros);
+        let late = self.now.checked_add(Duration::from_micros(gap))?;
+        late.checked_add(Duration::from_millis(PATIENCE))
+    }
+}
+
 /// When the records are taken.
 #[derive(Clone, Copy)]
 pub struct Pace {
@@ -65,15 +83,10 @@ impl Pace {
         begun.now.checked_add(Duration::from_micros(late))
     }
 
-    /// Notes that a record of this time is taken now. Returns up to when an answer that it has is
-    /// awaited.
-    pub fn take(&mut self, now: Instant, micros: i64) -> Option<Instant> {
-        let gap = match self.last {
-            Some(last) => between(last, micros),
-            None => 0,
-        };
+    /// Notes that a record of this time is taken now.
+    pub fn take(&mut self, now: Instant, micros: i64) -> Taken {
+        let last = self.last.unwrap_or(micros);
         self.last = Some(micros);
-        let late = now.checked_add(Duration::from_micros(gap))?;
-        late.checked_add(Duration::from_millis(PATIENCE))
+        Taken { now, micros, last }
     }
 }

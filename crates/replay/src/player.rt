@@ -3,6 +3,7 @@
 use crate::channel::{Broken, Channel};
 use crate::conn::{Conn, Line};
 use crate::input_fault::InputFault;
+use crate::pace::Taken;
 use crate::tally::Tally;
 use crate::teller::Teller;
 use mio::net::TcpStream;
@@ -76,25 +77,20 @@ impl<'a, W: Write + Drop> Player<'a, W> {
         Ok(i)
     }
 
-    /// Sends the request of a record, or awaits its answer up to the moment `due`.
+    /// Sends the request of a record that is taken now, or awaits its answer.
     ///
     /// # Errors
     ///
     /// Returns an error if writing fails or memory runs out.
-    pub fn take(
-        &mut self,
-        net: &impl Net,
-        record: RawRecord<'_>,
-        due: Option<Instant>,
-    ) -> io::Result<()> {
+    pub fn take(&mut self, net: &impl Net, record: RawRecord<'_>, taken: Taken) -> io::Result<()> {
         let head = record.head();
         let i = self.index_of(net, head.connection)?;
         let Some(conn) = self.conns.get_mut(i) else {
             return Ok(());
         };
         match head.direction {
-            Direction::ToServer => conn.send(record.frame(), due, &mut self.teller),
-            Direction::FromServer => conn.expect(record.frame(), due, &mut self.teller),
+            Direction::ToServer => conn.send(record.frame(), taken, &mut self.teller),
+            Direction::FromServer => conn.expect(record.frame(), taken, &mut self.teller),
         }
     }
 

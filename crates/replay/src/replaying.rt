@@ -89,8 +89,8 @@ impl<'a, F: Read + Drop, W: Write + Drop> Replay<'a, F, W> {
         {
             return Ok(Some(due));
         }
-        let due = self.pace.take(now, micros);
-        self.player.take(rt, record, due)?;
+        let taken = self.pace.take(now, micros);
+        self.player.take(rt, record, taken)?;
         self.records.release();
         Ok(None)
     }
