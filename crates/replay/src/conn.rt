@@ -102,15 +102,17 @@ impl Conn {
         Ok(())
     }
 
-    /// Closes the connection, over which nothing more goes. It is told if answers are awaited.
+    /// Closes the connection, over which nothing more goes. It is told if answers are awaited or a
+    /// request wasn't sent whole.
     fn close<W: Write + Drop>(
         &mut self,
         broken: Broken,
         teller: &mut Teller<'_, W>,
     ) -> io::Result<()> {
+        let lacks = self.awaits() || !self.is_sent();
         self.line = Line::Lost(broken);
         self.stall = None;
-        if self.awaits() || broken != Broken::Ended {
+        if lacks || broken != Broken::Ended {
             self.tell_lost(teller)?;
         }
         Ok(())
