@@ -15,6 +15,9 @@ use std::net::{Net, SocketAddr};
 use std::time::{Clock, Duration, Instant};
 use wire_record::{Direction, RawRecord};
 
+/// The most events that one wait tells.
+pub const EVENTS: usize = 64;
+
 /// The connections of the record, and the server to which they go.
 #[derive(Drop)]
 pub struct Player<'a, W: Write + Drop> {
@@ -151,13 +154,19 @@ impl<'a, W: Write + Drop> Player<'a, W> {
             Err(error) if error.kind() == ErrorKind::Interrupted => {}
             Err(error) => return Err(error),
         }
+        let mut told: usize = 0;
         for event in events.iter() {
+            told = told.saturating_add(1);
             let Token(token) = event.token();
             if let Some(conn) = self.conns.get_mut(token) {
                 conn.turn(&mut self.teller)?;
             }
         }
-        self.expire(rt)
+        // Where a wait told as many events as it can, answers may be there of which it told none.
+        if told < EVENTS {
+            self.expire(rt)?;
+        }
+        Ok(())
     }
 
     /// Tells the answers that nothing recorded, how many answers there were, and the fault of the

@@ -2,7 +2,7 @@
 
 use crate::options::ReplayOptions;
 use crate::pace::Pace;
-use crate::player::Player;
+use crate::player::{EVENTS, Player};
 use crate::records::Records;
 use crate::teller::Teller;
 use mio::Events;
@@ -13,9 +13,6 @@ use std::io::{BufWriter, ErrorKind, Read, Write};
 use std::net::{Net, SocketAddr, ToSocketAddrs};
 use std::rt::Files;
 use std::time::{Clock, Duration, Instant};
-
-/// The most events that one wait tells.
-const EVENTS: usize = 64;
 
 /// How many milliseconds answers may come in behind the last one that is awaited.
 const LINGER: u64 = 200;
