@@ -35,6 +35,14 @@ fn address_of<R: Net>(rt: &R, address: &str) -> io::Result<SocketAddr> {
     }
 }
 
+/// Returns true if who connects to `address` comes to the listener at `local`. One that listens at
+/// all addresses, and those of IPv4 too if it is at one of IPv6, is met at the loopback ones.
+fn meets(address: SocketAddr, local: SocketAddr) -> bool {
+    let (far, near) = (address.ip(), local.ip());
+    let is_all = near.is_unspecified() && (near.is_ipv6() || far.is_ipv4());
+    address.port() == local.port() && (far == near || far.is_loopback() && is_all)
+}
+
 /// Writes the port to a file.
 fn write_port<R: Files>(rt: &R, file: &str, port: u16) -> io::Result<()> {
     writeln!(File::create(rt, file)?, "{port}")
@@ -102,7 +110,7 @@ pub fn listen<'r, R: Net + Files + Clock, W: Write>(
     let listener = TcpListener::bind(rt, address_of(rt, options.listen)?)?;
     let upstream = address_of(rt, options.upstream)?;
     let local = listener.local_addr()?;
-    if local == upstream {
+    if meets(upstream, local) {
         return Err(ProxyFault::Itself);
     }
     let sink = match Sink::new(rt, alloc, options) {
