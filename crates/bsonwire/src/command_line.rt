@@ -81,7 +81,7 @@ fn share_option<'a>(alloc: Global) -> Arg<'a>
     ensures local { result.global ≡ false }
 {
     let number = value_parser!(u64).range(1..=1024);
-    let help = "Pass the calls of all clients over at most N connections, 1 to 1024";
+    let help = "Pass the requests of all clients over N shared connections, 1 to 1024";
     number_option(alloc, "share", "N", help).value_parser(number)
 }
 
@@ -164,11 +164,12 @@ fn msg_command<'a>(alloc: Global) -> Result<Command<'a>, AllocError>
     ensures app { IfOk result (λ c. app_of c ≡ msg_app) }
     ensures local { IfOk result (λ c. (out-Command c).has_globals ≡ false) }
 {
+    let about = "Writes the text of each message; FILE may also be a file of records";
     let json = "Write each message as a JSON object, one a line";
     let relaxed = "With --json, write relaxed Extended JSON";
     let any =
         "Write messages of any opCode, check their checksums, and go on behind faults inside one";
-    file_command(alloc, "msg", "Writes the text of each message")?
+    file_command(alloc, "msg", about)?
         .arg(flag(alloc, "json", json))?
         .arg(flag(alloc, "relaxed", relaxed))?
         .arg(flag(alloc, "any", any))
@@ -205,11 +206,13 @@ fn json_command<'a>(alloc: Global) -> Result<Command<'a>, AllocError>
     ensures app { IfOk result (λ c. app_of c ≡ json_app) }
     ensures local { IfOk result (λ c. (out-Command c).has_globals ≡ false) }
 {
-    let about = "Writes each document as MongoDB Extended JSON, canonical and one a line";
+    let about = "Writes each document as MongoDB Extended JSON, canonical and one a line; \
+                 FILE may also be a file of records";
     let relaxed = "Write relaxed Extended JSON, which doesn't tell the kind of each value";
+    let array = "Write one array of all documents, or of all records";
     file_command(alloc, "json", about)?
         .arg(flag(alloc, "relaxed", relaxed))?
-        .arg(flag(alloc, "array", "Write one array of all documents"))
+        .arg(flag(alloc, "array", array))
 }
 
 /// Makes the subcommand that writes the documents of Extended JSON.
@@ -249,8 +252,9 @@ fn addresses_command<'a>(alloc: Global) -> Result<Command<'a>, AllocError>
 {
     let listen = "The address to listen at, as 127.0.0.1:27018; port 0 takes a free one";
     let upstream = "The address of the server, as 127.0.0.1:27017";
+    let about = "Passes connections to a server and back, and shows or records their messages";
     Command::new(alloc, "proxy")
-        .about("Passes connections to a server and back, and shows their messages")
+        .about(about)
         .arg(operand(alloc, "listen", "LISTEN", listen))?
         .arg(operand(alloc, "upstream", "UPSTREAM", upstream))
 }

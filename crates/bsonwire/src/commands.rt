@@ -327,12 +327,10 @@ fn replay_status<R: Files + Input + Net + Clock + Print + Eprint + AllocGlobal>(
     let ReplayOptions { file, address, .. } = options;
     match replay::run(rt, rt.alloc(), options, io::writer(rt)) {
         Ok(Outcome::Same) => status_of(RunEnd::Good),
-        Ok(Outcome::Different) => status_of(RunEnd::Fault),
-        Ok(Outcome::Fault) => status_of(RunEnd::Fault),
+        Ok(Outcome::Different | Outcome::Fault) => status_of(RunEnd::Fault),
         Err(error) => {
             let _ = eprintln!(rt; "bsonwire: replay of {file:?} to {address:?}: {error}");
-            let end = end_of(&error);
-            status_of(end)
+            status_of(end_of(&error))
         }
     }
 }

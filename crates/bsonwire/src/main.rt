@@ -1,13 +1,14 @@
-//! `bsonwire` reads BSON documents and MongoDB wire messages from a file or standard input.
+//! `bsonwire` reads BSON documents and MongoDB wire messages from a file or standard input, and
+//! passes messages between clients and a server.
 //!
 //! The first word is the subcommand, and `bsonwire --help` lists them. What a subcommand finds out
 //! about its input goes to standard output, and so does a fault in the input. Only what kept it
 //! from reading or writing goes to standard error, in one line.
 //!
-//! The exit status is 0 if the input is good, 1 if it is at fault, 2 if the command line is, 3 if
-//! reading or writing failed, and 4 if memory ran out.
+//! The exit status is 0 if the input is good, 1 if it is at fault or a replayed answer differs, 2 if
+//! the command line or a script is at fault, 3 if reading or writing failed, and 4 if memory ran out.
 //!
-//! Uses engines, proxy and shared_proxy. Read first: `commands`, and then `choice`.
+//! Uses engines, proxy, shared_proxy and replay. Read first: `commands`, and then `choice`.
 #![tactic(auto)]
 
 mod choice;
