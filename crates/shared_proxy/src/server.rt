@@ -4,6 +4,7 @@ use crate::leave::Leave;
 use crate::line::{Line, Step};
 use indexmap::IndexMap;
 use std::alloc::{AllocError, Global};
+use std::collections::VecDeque;
 use wire_share::Upstream;
 use wire_stream::{Moved, Pulled};
 
@@ -29,8 +30,8 @@ pub struct Server {
     pub used: Use,
     /// The clients that await replies, by the numbers of their calls.
     pub callers: IndexMap<u64, u64>,
-    /// The clients whose requests wait until more was sent.
-    pub blocked: Vec<u64>,
+    /// The clients whose requests wait until more was sent, in the order in which they came.
+    pub blocked: VecDeque<u64>,
 }
 
 impl Server {
@@ -41,7 +42,7 @@ impl Server {
             line,
             used,
             callers: IndexMap::new(alloc),
-            blocked: Vec::new(alloc),
+            blocked: VecDeque::new(alloc),
         }
     }
 
@@ -73,17 +74,17 @@ impl Server {
     /// Returns `AllocError` if memory runs out.
     pub fn block(&mut self, client: u64) -> Result<(), AllocError> {
         if !self.blocked.contains(&client) {
-            self.blocked.push(client)?;
+            self.blocked.push_back(client)?;
         }
         Ok(())
     }
 
-    /// Returns a client whose request may be passed on again, and forgets it.
+    /// Returns the first client whose request may be passed on again, and forgets it.
     pub fn pop_blocked(&mut self) -> Option<u64> {
         if self.is_full() {
             return None;
         }
-        self.blocked.pop()
+        self.blocked.pop_front()
     }
 
     /// Sends what waits to be sent, and is closed behind that, since its client is gone.

@@ -1,6 +1,7 @@
 //! Accepts clients, and has each connection take its turns.
 
 use crate::due::Side;
+use crate::leave::Leave;
 use crate::line::Step;
 use crate::sharing::Sharing;
 use crate::steering::{Steered, release, steer};
@@ -196,7 +197,10 @@ impl Turns {
         for _ in 0..ACCEPTS {
             match self.sharing.connector.accept(&self.sharing.clients)? {
                 Some(Ok(line)) => self.sharing.clients.open(line, out)?,
-                Some(Err(_)) => {}
+                Some(Err(error)) => {
+                    let leave = Leave::Unconnected(error.kind());
+                    self.sharing.clients.refuse(leave, out)?;
+                }
                 None => break,
             }
         }
