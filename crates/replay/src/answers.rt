@@ -1,8 +1,10 @@
 //! Answers whose counterparts haven't come yet: the recorded one, or the one of the server.
 
+use crate::flags::{MORE_TO_COME, has_flag};
+use crate::pace::is_past;
 use std::alloc::{AllocError, Global};
 use std::time::Instant;
-use wire_frame::{Opcode, RawFrame};
+use wire_frame::RawFrame;
 
 /// An answer.
 #[derive(Drop)]
@@ -32,20 +34,6 @@ pub struct Answers {
     follows: Vec<Follow>,
 }
 
-/// The offset of the flags of an OP_MSG.
-const FLAGS: usize = 16;
-
-/// The flag moreToCome in the first byte of them.
-const MORE_TO_COME: u8 = 2;
-
-/// Returns true if another answer to the same request comes behind this one.
-pub fn has_more_to_come(frame: RawFrame<'_>) -> bool {
-    match frame.as_bytes().get(FLAGS) {
-        Some(flags) => frame.opcode() == Opcode::Msg && *flags & MORE_TO_COME != 0,
-        None => false,
-    }
-}
-
 impl Answers {
     /// Begins without answers. It takes no memory.
     pub fn new(alloc: Global) -> Answers {
@@ -70,7 +58,7 @@ impl Answers {
     /// # Errors
     ///
     /// Returns `AllocError` if memory runs out.
-    pub fn meet(&mut self, frame: RawFrame<'_>) -> Result<i32, AllocError> {
+    pub fn note(&mut self, frame: RawFrame<'_>) -> Result<i32, AllocError> {
         let header = frame.header();
         let request = self.request_of(header.response_to);
         if let Some(i) = self
@@ -80,7 +68,7 @@ impl Answers {
         {
             let _ = self.follows.swap_remove(i);
         }
-        if has_more_to_come(frame) {
+        if has_flag(frame, MORE_TO_COME) {
             let id = header.id;
             self.follows.push(Follow { id, request })?;
         }
@@ -108,10 +96,10 @@ impl Answers {
 
     /// Takes out the first answer that isn't waited for at this moment any more, if there is one.
     pub fn take_due(&mut self, now: Instant) -> Option<Answer> {
-        let i = self.answers.iter().position(|answer| match answer.due {
-            Some(due) => due <= now,
-            None => false,
-        })?;
+        let i = self
+            .answers
+            .iter()
+            .position(|answer| is_past(answer.due, now))?;
         Some(self.answers.remove(i))
     }
 

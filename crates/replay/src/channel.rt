@@ -57,10 +57,7 @@ struct Waiting {
 impl Waiting {
     /// Returns the bytes that weren't sent yet.
     fn rest(&self) -> &[u8] {
-        match self.bytes.get(self.sent..) {
-            Some(rest) => rest,
-            None => &[],
-        }
+        self.bytes.get(self.sent..).unwrap_or(&[])
     }
 
     /// Sends the bytes over a link. Returns true if all were sent.

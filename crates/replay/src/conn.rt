@@ -1,10 +1,11 @@
 //! A connection of the record, and the one to the server over which its requests go.
 
-use crate::answers::{Answer, Answers, has_more_to_come};
+use crate::answers::{Answer, Answers};
 use crate::asked::Asked;
 use crate::channel::{Broken, Channel, Coming};
 use crate::content::plain_bytes;
-use crate::pace::Taken;
+use crate::flags::{MORE_TO_COME, has_flag};
+use crate::pace::{Taken, earlier, is_past};
 use crate::teller::Teller;
 use std::alloc::{AllocError, Global};
 use std::io;
@@ -45,14 +46,6 @@ struct Sides {
     recorded: Answers,
     /// Those of the server.
     received: Answers,
-}
-
-/// Returns true if there is a moment, and it isn't later than `now`.
-fn is_past(due: Option<Instant>, now: Instant) -> bool {
-    match due {
-        Some(due) => due <= now,
-        None => false,
-    }
 }
 
 impl Conn {
@@ -151,7 +144,7 @@ impl Conn {
             Line::Open(channel) => channel.push(frame.as_bytes())?,
             _ => return self.tell_lost(teller),
         }
-        if !has_more_to_come(frame) {
+        if !has_flag(frame, MORE_TO_COME) {
             self.asked.note(frame.header().id, taken.micros)?;
         }
         self.flush(taken.due(None), teller)
@@ -169,9 +162,9 @@ impl Conn {
         taken: Taken,
         teller: &mut Teller<'_, W>,
     ) -> io::Result<()> {
-        let request = self.sides.recorded.meet(frame)?;
+        let request = self.sides.recorded.note(frame)?;
         let due = taken.due(self.asked.take(request));
-        if has_more_to_come(frame) {
+        if has_flag(frame, MORE_TO_COME) {
             self.asked.note(request, taken.micros)?;
         }
         let bytes = plain_bytes(self.alloc, frame)?;
@@ -198,7 +191,7 @@ impl Conn {
         let Some(frame) = channel.message() else {
             return Ok(None);
         };
-        let request = self.sides.received.meet(frame)?;
+        let request = self.sides.received.note(frame)?;
         let bytes = plain_bytes(self.alloc, frame)?;
         channel.release();
         Ok(Some(Answer {
@@ -277,11 +270,7 @@ impl Conn {
 
     /// Returns the first moment up to which an answer is awaited, or bytes have to be sent.
     pub fn least_due(&self) -> Option<Instant> {
-        match (self.sides.recorded.least_due(), self.stall) {
-            (Some(a), Some(b)) => Some(a.min(b)),
-            (Some(a), None) => Some(a),
-            (None, b) => b,
-        }
+        earlier(self.sides.recorded.least_due(), self.stall)
     }
 
     /// Tells the answers that nothing recorded.

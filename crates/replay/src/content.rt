@@ -1,19 +1,14 @@
 //! What an answer holds: what is compared of it, and shown.
 
+use crate::flags::{CHECKSUM_PRESENT, FLAGS, has_flag};
 use crate::ignored::{are_same, without_ignored};
 use bson_json::{Mode, write_json, write_json_string};
 use bson_raw::RawDocument;
 use std::alloc::{AllocError, Global};
 use std::io;
 use std::io::Write;
-use wire_frame::{Opcode, RawFrame};
+use wire_frame::RawFrame;
 use wire_msg::{Documents, HEADER_LEN, MAX_MESSAGE_LEN, Payload, RawMsg};
-
-/// The offset of the flags of an OP_MSG.
-const FLAGS: usize = 16;
-
-/// The flag checksumPresent in the first byte of them.
-const CHECKSUM_PRESENT: u8 = 1;
 
 /// The number of bytes of a checksum.
 const CHECKSUM: usize = 4;
@@ -26,14 +21,6 @@ const REPLY: [u8; 4] = [1, 0, 0, 0];
 
 /// The offset of the documents of an OP_REPLY.
 const REPLIES: usize = 36;
-
-/// Returns true if a message has a checksum.
-fn has_checksum(frame: RawFrame<'_>) -> bool {
-    match frame.as_bytes().get(FLAGS) {
-        Some(flags) => frame.opcode() == Opcode::Msg && *flags & CHECKSUM_PRESENT != 0,
-        None => false,
-    }
-}
 
 /// Turns the bytes of a message with a checksum into those of the same one without.
 fn remove_checksum(bytes: &mut Vec<u8>) {
@@ -56,7 +43,7 @@ fn remove_checksum(bytes: &mut Vec<u8>) {
 /// Returns `AllocError` if memory runs out.
 pub fn plain_bytes(alloc: Global, frame: RawFrame<'_>) -> Result<Vec<u8>, AllocError> {
     let mut bytes = Vec::from_slice(alloc, frame.as_bytes())?;
-    if has_checksum(frame) {
+    if has_flag(frame, CHECKSUM_PRESENT) {
         remove_checksum(&mut bytes);
     }
     Ok(bytes)
@@ -78,10 +65,7 @@ impl<'a> Content<'a> {
         if let Ok(message) = RawMsg::parse_with(alloc, bytes, MAX_MESSAGE_LEN) {
             return Content::Message(message);
         }
-        let opcode = match bytes.get(OPCODE..HEADER_LEN as usize) {
-            Some(opcode) => opcode,
-            None => &[],
-        };
+        let opcode = bytes.get(OPCODE..HEADER_LEN as usize).unwrap_or(&[]);
         match bytes.get(REPLIES..) {
             Some(documents) if opcode == REPLY.as_slice() => Content::Reply(documents),
             _ => Content::Other(bytes.get(OPCODE..).unwrap_or(&[])),

@@ -15,6 +15,7 @@ mod asked;
 mod channel;
 mod conn;
 mod content;
+mod flags;
 mod ignored;
 mod input_fault;
 mod options;

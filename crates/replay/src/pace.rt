@@ -1,4 +1,4 @@
-//! Says when the records are taken.
+//! Says when records are taken, and compares moments.
 
 use std::time::{Duration, Instant};
 
@@ -40,20 +40,29 @@ pub struct Pace {
     last: Option<i64>,
 }
 
+/// Returns the earlier one of two moments, or the one that there is.
+pub fn earlier(a: Option<Instant>, b: Option<Instant>) -> Option<Instant> {
+    match (a, b) {
+        (Some(a), Some(b)) => Some(a.min(b)),
+        (Some(a), None) => Some(a),
+        (None, b) => b,
+    }
+}
+
+/// Returns true if there is a moment, and it isn't later than `now`.
+pub fn is_past(due: Option<Instant>, now: Instant) -> bool {
+    matches!(due, Some(due) if due <= now)
+}
+
 /// Returns how many microseconds lie between two times, or 0 if the second one is the earlier.
 fn between(from: i64, to: i64) -> u64 {
-    let micros = (to as i128) - (from as i128);
-    if micros < 0 { 0 } else { micros as u64 }
+    if to < from { 0 } else { to.abs_diff(from) }
 }
 
 /// Returns a number of microseconds at a speed in percent.
 fn scaled(micros: u64, speed: u64) -> u64 {
-    let parts = (micros as u128) * 100 / (speed.max(1) as u128);
-    if parts > u64::MAX as u128 {
-        u64::MAX
-    } else {
-        parts as u64
-    }
+    let parts = u128::from(micros) * 100 / u128::from(speed.max(1));
+    u64::try_from(parts).unwrap_or(u64::MAX)
 }
 
 impl Pace {

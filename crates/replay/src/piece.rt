@@ -31,10 +31,7 @@ impl Piece {
 
     /// Returns the bytes that weren't used yet.
     pub fn bytes(&self) -> &[u8] {
-        match self.bytes.get(self.start..self.end) {
-            Some(bytes) => bytes,
-            None => &[],
-        }
+        self.bytes.get(self.start..self.end).unwrap_or(&[])
     }
 
     /// Drops the first `n` of them.

@@ -3,7 +3,7 @@
 use crate::channel::{Broken, Channel};
 use crate::conn::{Conn, Line};
 use crate::input_fault::InputFault;
-use crate::pace::Taken;
+use crate::pace::{Taken, earlier};
 use crate::tally::Tally;
 use crate::teller::Teller;
 use mio::net::TcpStream;
@@ -115,11 +115,8 @@ impl<'a, W: Write + Drop> Player<'a, W> {
     /// Returns how long events are waited for: up to the moment `until`, if there is one, and no
     /// longer than for an answer.
     fn timeout(&self, clock: &impl Clock, until: Option<Instant>) -> io::Result<Option<Duration>> {
-        let due = match (until, self.least_due()) {
-            (Some(a), Some(b)) => a.min(b),
-            (Some(a), None) => a,
-            (None, Some(b)) => b,
-            (None, None) => return Ok(None),
+        let Some(due) = earlier(until, self.least_due()) else {
+            return Ok(None);
         };
         let left = due.saturating_duration_since(Instant::now(clock)?);
         // A wait counts milliseconds, and none would end before the moment.
@@ -169,8 +166,8 @@ impl<'a, W: Write + Drop> Player<'a, W> {
         Ok(())
     }
 
-    /// Tells the answers that nothing recorded, how many answers there were, and the fault of the
-    /// file, if there is one. Returns how many answers there were.
+    /// Tells the answers that nothing recorded, the counts of all answers, and the fault of the
+    /// file, if there is one. Returns the counts.
     ///
     /// # Errors
     ///

@@ -18,7 +18,7 @@ pub struct Tally {
 }
 
 impl Tally {
-    /// Nothing came yet.
+    /// The counts before the first answer.
     pub const NONE: Tally = Tally {
         same: 0,
         different: 0,

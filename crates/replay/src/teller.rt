@@ -29,7 +29,7 @@ impl<'a, W: Write + Drop> Teller<'a, W> {
         }
     }
 
-    /// Returns how many answers were compared.
+    /// Returns the counts of the answers so far.
     pub fn tally(&self) -> Tally {
         self.tally
     }
