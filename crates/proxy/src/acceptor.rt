@@ -44,11 +44,11 @@ pub struct Acceptor {
 }
 
 impl Acceptor {
-    /// Begins to listen for so many connections.
+    /// Begins to accept `wanted` connections at a listener.
     ///
     /// # Errors
     ///
-    /// Returns why listening failed.
+    /// Returns why the listener can't be registered.
     pub fn new(net: &impl Net, listener: TcpListener, wanted: u64) -> io::Result<Acceptor> {
         let poll = Poll::new(net)?;
         let mut listener = listener;
@@ -63,12 +63,12 @@ impl Acceptor {
         })
     }
 
-    /// Has the system tell of a stream, under this token.
+    /// Registers a stream, so that its events come under this token.
     ///
     /// # Errors
     ///
-    /// Returns why the system doesn't.
-    pub fn watch(&self, stream: &mut TcpStream, token: usize) -> io::Result<()> {
+    /// Returns why that failed.
+    pub fn register(&self, stream: &mut TcpStream, token: usize) -> io::Result<()> {
         stream.set_nodelay(true)?;
         let interest = Interest::READABLE | Interest::WRITABLE;
         self.poll
@@ -76,7 +76,7 @@ impl Acceptor {
             .register(stream, Token(token), interest)
     }
 
-    /// Begins to connect to a server, and has the system tell of the connection, under this token.
+    /// Begins to connect to a server, and registers the connection under this token.
     ///
     /// # Errors
     ///
@@ -88,7 +88,7 @@ impl Acceptor {
         token: usize,
     ) -> io::Result<TcpStream> {
         let mut stream = TcpStream::connect(net, address)?;
-        self.watch(&mut stream, token)?;
+        self.register(&mut stream, token)?;
         Ok(stream)
     }
 

@@ -12,7 +12,7 @@ pub struct Cut {
 }
 
 impl Cut {
-    /// Returns how many bytes go this way before the cut, of which there is none on the other way.
+    /// Returns how many bytes may go this way: `u64::MAX` if it is the other way that is cut.
     pub fn left(self, direction: Direction) -> u64 {
         if direction == self.direction {
             self.count
@@ -22,8 +22,8 @@ impl Cut {
     }
 }
 
-/// Draws where the connection of this number is cut: on either way, behind at most 65,535 bytes.
-/// Numbers of as many binary digits are drawn as often as those of any other length.
+/// Draws where the connection of this number is cut: on either way, behind a number of bytes below a
+/// power of two, which is drawn first, from 1 to 65,536.
 pub fn drawn_cut(seed: u64, number: u64) -> Cut {
     let mut words = Pcg32::new(seed, number);
     let direction = if words.next_word() % 2 == 0 {

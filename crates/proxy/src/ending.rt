@@ -20,10 +20,7 @@ pub enum Ending {
 impl Ending {
     /// Returns true if the proxy ended it, and neither side.
     pub fn is_fault(self) -> bool {
-        match self {
-            Ending::Ended | Ending::Failed(_) => false,
-            Ending::HungUp(_) | Ending::Cut(..) => true,
-        }
+        matches!(self, Ending::HungUp(_) | Ending::Cut(..))
     }
 }
 

@@ -40,10 +40,7 @@ struct Held<L> {
 impl<L: Link + Drop> Held<L> {
     /// Returns the bytes of the message that is held, and those behind it.
     fn rest(&self) -> &[u8] {
-        match self.bytes.get(self.may..) {
-            Some(rest) => rest,
-            None => &[],
-        }
+        self.bytes.get(self.may..).unwrap_or(&[])
     }
 
     /// Counts bytes that were given.
@@ -99,17 +96,15 @@ impl<L: Link + Drop> Held<L> {
         self.may = 0;
     }
 
-    /// Receives a piece, unless a message is whole. Gives nothing. At the end of the link the bytes
-    /// of a message that isn't whole are given.
-    fn take(&mut self) -> Result<Moved, LinkFault>
-        ensures { IfOk result (λ moved. bytes_moved moved ≤ 0) }
-    {
+    /// Receives a piece, unless a message is whole. At the end of the link, the bytes of a message
+    /// that isn't whole are given from then on.
+    fn take(&mut self) -> Result<(), LinkFault> {
         if !self.wants_more() {
-            return Ok(Moved::Later);
+            return Ok(());
         }
         self.forget();
         match self.link.recv(&mut self.piece)? {
-            Moved::Later => return Ok(Moved::Later),
+            Moved::Later => return Ok(()),
             Moved::Bytes(0) => self.free = true,
             Moved::Bytes(n) => {
                 if self.bytes.extend_from_slice(&self.piece[..n]).is_err() {
@@ -120,7 +115,7 @@ impl<L: Link + Drop> Held<L> {
             }
         }
         self.again = true;
-        Ok(Moved::Later)
+        Ok(())
     }
 
     /// Gives bytes that may be given, or receives a piece and gives nothing.
@@ -142,7 +137,8 @@ impl<L: Link + Drop> Held<L> {
         } else if self.free {
             self.receive(&mut buffer[..room])
         } else {
-            self.take()
+            self.take()?;
+            Ok(Moved::Later)
         }
     }
 

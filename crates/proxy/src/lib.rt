@@ -9,8 +9,8 @@
 //! seed, from which it is drawn where each connection is cut. With a script a `HeldLink` holds each
 //! message until it is whole, and `fate` asks the script.
 //!
-//! Uses wire_relay, test_script and wire_record. Used by shared_proxy and bsonwire. Read first:
-//! `options`, `pair`, `sink`, and then `proxy`.
+//! Uses wire_relay, test_script, wire_record and engines. Used by shared_proxy and bsonwire. Read
+//! first: `options`, `pair`, `sink`, and then `proxy`.
 #![tactic(auto)]
 
 mod acceptor;
@@ -39,8 +39,7 @@ pub use fate::{Fate, fate_of};
 pub use fault::ProxyFault;
 pub use held_link::HeldLink;
 pub use options::{Options, Show, Watching};
-pub use pair::Watches;
 pub use serving::{listen, read_script, run};
 pub use sink::Sink;
 pub use socket::Socket;
-pub use watch::Watch;
+pub use watch::{Watch, Watches};

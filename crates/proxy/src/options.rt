@@ -26,21 +26,21 @@ pub struct Options<'a> {
     pub port_file: Option<&'a str>,
     /// The file of the script.
     pub script: Option<&'a str>,
-    /// From what it is drawn where connections are cut.
+    /// The seed from which it is drawn where connections are cut.
     pub seed: Option<u64>,
     /// The file of records, in which messages are kept.
     pub record: Option<&'a str>,
     /// The most bytes of that file.
     pub limit: u64,
-    /// The number of connections to the server over which the calls of all clients go; without it
-    /// each client has one of its own. `run` doesn't look at it.
+    /// The number of connections to the server that the requests of all clients share; without it
+    /// each client has one of its own. `run` of this crate doesn't look at it.
     pub share: Option<u64>,
 }
 
 /// What is told of connections beside their faults.
 #[derive(Clone, Copy, Debug, PartialEq, Eq)]
 pub struct Watching {
-    /// That they are new, and how they ended.
+    /// It is told that they are new, and how they ended.
     pub told: bool,
     /// Their messages are shown or recorded.
     pub watched: bool,

@@ -6,7 +6,7 @@ use crate::fate::{Fate, fate_of};
 use crate::held_link::HeldLink;
 use crate::sink::Sink;
 use crate::socket::Socket;
-use crate::watch::Watch;
+use crate::watch::Watches;
 use std::alloc::{AllocError, Global};
 use std::io;
 use std::io::{ErrorKind, Write};
@@ -17,23 +17,6 @@ use wire_relay::{NoTap, Relay, RelayFault, Turned};
 
 /// The most steps of a turn.
 const STEPS: u32 = 16;
-
-/// What finds the messages of a connection.
-#[derive(Drop)]
-pub struct Watches {
-    pub there: Watch,
-    pub back: Watch,
-}
-
-impl Watches {
-    /// Makes what finds the messages of the connection of this number. It takes no memory.
-    pub fn new(alloc: Global, number: u64) -> Watches {
-        Watches {
-            there: Watch::new(alloc, number, Direction::There),
-            back: Watch::new(alloc, number, Direction::Back),
-        }
-    }
-}
 
 /// A request whose reply doesn't go on whole, and what becomes of that.
 #[derive(Clone, Copy)]
@@ -113,8 +96,7 @@ impl Pair {
             return Ok(self.relay.turn(1, &mut NoTap, &mut NoTap));
         };
         let turned = self.relay.turn(1, &mut watches.there, &mut watches.back);
-        watches.there.show(sink, out)?;
-        watches.back.show(sink, out)?;
+        watches.show(sink, out)?;
         Ok(turned)
     }
 

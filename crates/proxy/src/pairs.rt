@@ -5,9 +5,10 @@ use crate::direction::Direction;
 use crate::ending::Ending;
 use crate::held_link::HeldLink;
 use crate::options::Watching;
-use crate::pair::{Outcome, Pair, Watches};
+use crate::pair::{Outcome, Pair};
 use crate::sink::Sink;
 use crate::socket::Socket;
+use crate::watch::Watches;
 use slab::Slab;
 use std::alloc::{AllocError, Global};
 use std::collections::VecDeque;
@@ -109,11 +110,8 @@ impl Pairs {
         let number = self.opened.saturating_add(1);
         let near = self.link(number, near, Direction::There)?;
         let far = self.link(number, far, Direction::Back)?;
-        let watches = if self.watching.watched {
-            Some(Watches::new(self.alloc, number))
-        } else {
-            None
-        };
+        let watches = Watches::new(self.alloc, number);
+        let watches = self.watching.watched.then_some(watches);
         let pair = Pair::new(self.alloc, number, near, far, watches)?;
         if self.watching.told {
             writeln!(out, "{number} new")?;

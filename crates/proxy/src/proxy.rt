@@ -25,12 +25,12 @@ pub struct Proxy {
 }
 
 impl Proxy {
-    /// Begins to listen for as many connections as the options say, which go to the server at
-    /// `upstream`.
+    /// Begins to accept as many connections at `listener` as the options say. They go to the server
+    /// at `upstream`.
     ///
     /// # Errors
     ///
-    /// Returns why listening failed.
+    /// Returns why the listener can't be registered.
     pub fn new(
         net: &impl Net,
         alloc: Global,
@@ -52,18 +52,18 @@ impl Proxy {
         self.pairs.ended()
     }
 
-    /// Has the system tell of both connections of a pair.
-    fn watch(&self, near: &mut TcpStream, far: &mut TcpStream) -> io::Result<()> {
+    /// Registers both connections of a pair.
+    fn register(&self, near: &mut TcpStream, far: &mut TcpStream) -> io::Result<()> {
         let token = self.pairs.next_key().saturating_mul(2);
-        self.acceptor.watch(near, token)?;
-        self.acceptor.watch(far, token | 1)
+        self.acceptor.register(near, token)?;
+        self.acceptor.register(far, token | 1)
     }
 
-    /// Passes bytes between a connection that came and one to the server. If the system can't tell
-    /// of their events, both are closed.
+    /// Passes bytes between a connection that came and one to the server. If they can't be
+    /// registered, both are closed.
     fn join<W: Write>(&mut self, near: TcpStream, far: TcpStream, out: &mut W) -> io::Result<()> {
         let (mut near, mut far) = (near, far);
-        if let Err(error) = self.watch(&mut near, &mut far) {
+        if let Err(error) = self.register(&mut near, &mut far) {
             return self.pairs.refuse(error.kind(), out);
         }
         let near = Socket::new(self.alloc, near)?;

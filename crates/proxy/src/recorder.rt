@@ -31,10 +31,7 @@ fn micros_now(clock: &impl Clock) -> io::Result<i64> {
         .as_secs()
         .saturating_mul(1_000_000)
         .saturating_add(u64::from(since.subsec_micros()));
-    match i64::try_from(micros) {
-        Ok(micros) => Ok(micros),
-        Err(_) => Ok(i64::MAX),
-    }
+    Ok(i64::try_from(micros).unwrap_or(i64::MAX))
 }
 
 /// A file of records, to which one is appended for each message.

@@ -53,10 +53,7 @@ fn tell_port<R: Files>(rt: &R, file: Option<&str>, port: u16) -> Result<(), Prox
     let Some(file) = file else {
         return Ok(());
     };
-    match write_port(rt, file, port) {
-        Ok(()) => Ok(()),
-        Err(error) => Err(ProxyFault::PortFile(error)),
-    }
+    write_port(rt, file, port).map_err(ProxyFault::PortFile)
 }
 
 /// Returns the bytes of a file.
@@ -80,10 +77,7 @@ pub fn read_script<R: Files>(
     let Some(file) = file else {
         return Ok(None);
     };
-    let text = match read_file(rt, alloc, file) {
-        Ok(text) => text,
-        Err(error) => return Err(ProxyFault::ScriptFile(error)),
-    };
+    let text = read_file(rt, alloc, file).map_err(ProxyFault::ScriptFile)?;
     match Script::parse(alloc, &text) {
         Ok(script) => Ok(Some(script)),
         Err(fault) if fault.cause == Cause::OutOfMemory => {
@@ -113,10 +107,7 @@ pub fn listen<'r, R: Net + Files + Clock, W: Write>(
     if meets(upstream, local) {
         return Err(ProxyFault::Itself);
     }
-    let sink = match Sink::new(rt, alloc, options) {
-        Ok(sink) => sink,
-        Err(error) => return Err(ProxyFault::RecordFile(error)),
-    };
+    let sink = Sink::new(rt, alloc, options).map_err(ProxyFault::RecordFile)?;
     writeln!(out, "listening {local}")?;
     out.flush()?;
     tell_port(rt, options.port_file, local.port())?;

@@ -40,11 +40,8 @@ impl<'r, R: Files + Clock> Sink<'r, R> {
 
     /// Returns true if messages are shown, or the file of records has room.
     pub fn wants_messages(&self) -> bool {
-        let records = match &self.recorder {
-            Some(recorder) => !recorder.is_full(),
-            None => false,
-        };
-        records || self.show != Show::Nothing
+        self.show != Show::Nothing
+            || matches!(&self.recorder, Some(recorder) if !recorder.is_full())
     }
 
     /// Records a message, if messages are recorded. Tells the first one that doesn't fit.

@@ -1,4 +1,4 @@
-//! Finds the messages that pass on one way of a connection.
+//! Finds the messages that pass on a connection.
 
 ghost use Rattle.std.specs.Prelude.{None};
 
@@ -109,5 +109,36 @@ impl Watch {
         }
         self.passed.clear();
         Ok(())
+    }
+}
+
+/// What finds the messages of a connection, on both ways.
+#[derive(Drop)]
+pub struct Watches {
+    pub there: Watch,
+    pub back: Watch,
+}
+
+impl Watches {
+    /// Makes what finds the messages of the connection of this number. It takes no memory.
+    pub fn new(alloc: Global, number: u64) -> Watches {
+        Watches {
+            there: Watch::new(alloc, number, Direction::There),
+            back: Watch::new(alloc, number, Direction::Back),
+        }
+    }
+
+    /// Gives the messages to the sink that are whole by what passed, those to the server first.
+    ///
+    /// # Errors
+    ///
+    /// Returns an error if the sink fails, or memory ran out, now or when the bytes passed.
+    pub fn show<R: Files + Clock, W: Write>(
+        &mut self,
+        sink: &mut Sink<'_, R>,
+        out: &mut W,
+    ) -> io::Result<()> {
+        self.there.show(sink, out)?;
+        self.back.show(sink, out)
     }
 }

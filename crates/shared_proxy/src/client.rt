@@ -71,29 +71,21 @@ impl Client {
         line: Line,
         watched: bool,
     ) -> Result<Client, AllocError> {
-        let watches = if watched {
-            Some(Watches::new(alloc, number))
-        } else {
-            None
-        };
         Ok(Client {
             downstream: Downstream::new(alloc, number)?,
             line,
             kept: None,
             steering: Steering::new(alloc),
-            watches,
+            watches: watched.then_some(Watches::new(alloc, number)),
         })
     }
 
     /// Returns true if its reply is awaited of the connection to the server of this number.
     pub fn awaits(&self, upstream: u64) -> bool {
-        match self.downstream.awaited() {
-            Some(awaited) => awaited.upstream == upstream,
-            None => false,
-        }
+        matches!(self.downstream.awaited(), Some(awaited) if awaited.upstream == upstream)
     }
 
-    /// Notes that the bytes came that are there.
+    /// Notes the bytes that came and weren't taken yet, if messages are shown or recorded.
     fn see_there(&mut self) {
         if let Some(watches) = &mut self.watches {
             watches.there.see(self.line.bytes());
@@ -112,10 +104,7 @@ impl Client {
         out: &mut W,
     ) -> io::Result<()> {
         match &mut self.watches {
-            Some(watches) => {
-                watches.there.show(sink, out)?;
-                watches.back.show(sink, out)
-            }
+            Some(watches) => watches.show(sink, out),
             None => Ok(()),
         }
     }
@@ -177,7 +166,7 @@ impl Client {
         }
     }
 
-    /// Returns what a step comes to where nothing is to be sent, and `None` if bytes are received.
+    /// Returns what a step comes to where nothing is to be sent, and `None` if it is to receive.
     fn standing(&self) -> Option<Step> {
         if let Some(leave) = Leave::of_front(self.downstream.state()) {
             return Some(Step::Over(leave));

@@ -57,7 +57,7 @@ impl Clients {
         self.counts.opened.saturating_add(1)
     }
 
-    /// Returns true if it is told why connections are over.
+    /// Returns true if it is told that connections are new, and why they are over.
     pub fn are_told(&self) -> bool {
         self.watching.told
     }

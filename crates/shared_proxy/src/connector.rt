@@ -78,8 +78,8 @@ impl Connector {
         Ok(line)
     }
 
-    /// Accepts the client that has the next number among these, if one waits. If the system can't
-    /// tell of its events, it is closed, and why is returned.
+    /// Accepts the client that has the next number among these, if one waits. If it can't be
+    /// registered, it is closed, and why is returned.
     ///
     /// # Errors
     ///
@@ -89,7 +89,7 @@ impl Connector {
             return Ok(None);
         };
         let token = Side::Client(clients.next()).token();
-        if let Err(error) = self.acceptor.watch(&mut stream, token) {
+        if let Err(error) = self.acceptor.register(&mut stream, token) {
             return Ok(Some(Err(error)));
         }
         Ok(Some(Ok(self.client_line(stream)?)))
@@ -120,7 +120,7 @@ impl Connector {
                 let line = self.server_line(stream, number)?;
                 Ok(Ok(servers.open(line, used)?))
             }
-            Err(error) => match servers.freest() {
+            Err(error) => match servers.least_busy() {
                 Some(other) if used == Use::Shared => Ok(Ok(other)),
                 _ => Ok(Err(Leave::Unconnected(error.kind()))),
             },

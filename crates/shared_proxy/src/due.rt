@@ -13,7 +13,7 @@ pub enum Side {
 }
 
 impl Side {
-    /// Returns the token under which the system tells of it.
+    /// Returns the token under which it is registered.
     pub fn token(self) -> usize {
         match self {
             Side::Client(number) => (number as usize).saturating_mul(2),
@@ -21,7 +21,7 @@ impl Side {
         }
     }
 
-    /// Returns the connection of which the system tells under this token.
+    /// Returns the connection that is registered under this token.
     pub fn of_token(token: usize) -> Side {
         let number = (token / 2) as u64;
         if token % 2 == 0 {
@@ -49,6 +49,11 @@ impl Due {
     /// Returns how many there are.
     pub fn len(&self) -> usize {
         self.sides.len()
+    }
+
+    /// Returns true if there are none.
+    pub fn is_empty(&self) -> bool {
+        self.sides.is_empty()
     }
 
     /// Notes that a connection is to take a turn.

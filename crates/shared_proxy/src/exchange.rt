@@ -17,10 +17,7 @@ fn asked(downstream: &Downstream) -> Option<RawDocument<'_>> {
 
 /// Returns true if a body has its command inside a field, as `$query`.
 fn is_wrapped(body: RawDocument<'_>) -> bool {
-    match body.iter().next() {
-        Some((name, _)) => name.starts_with('$'),
-        None => false,
-    }
+    matches!(body.iter().next(), Some((name, _)) if name.starts_with('$'))
 }
 
 /// Returns what the request that waits needs of the connection that it goes over. One whose command

@@ -93,7 +93,7 @@ impl Line {
         self.link.message()
     }
 
-    /// Has the message come that is held.
+    /// Gives the message that is held.
     pub fn pass(&mut self) {
         self.link.pass();
     }
@@ -103,7 +103,7 @@ impl Line {
         self.link.skip();
     }
 
-    /// Has at most so many more bytes sent. Behind them the connection is cut.
+    /// Limits how many more bytes are sent to `left`. Behind them the connection is cut.
     pub fn limit_sending(&mut self, left: u64) {
         self.sending.left = self.sending.left.min(left);
     }

@@ -87,7 +87,7 @@ impl Server {
         self.blocked.pop_front()
     }
 
-    /// Sends what waits to be sent, and is closed behind that, since its client is gone.
+    /// Has the connection closed behind what waits to be sent, since its client is gone.
     pub fn finish(&mut self) {
         self.used = Use::Once;
     }
@@ -142,8 +142,8 @@ impl Server {
         }
     }
 
-    /// Has at most the first `count` bytes sent of what is to be sent behind the first `before`, and
-    /// then the connection cut.
+    /// Cuts the connection once the first `before` bytes of what is to be sent were sent, and at most
+    /// `count` more.
     pub fn cut_behind(&mut self, before: usize, count: u64) {
         let size = self.upstream.output().len().saturating_sub(before) as u64;
         let left = count.min(size).saturating_add(before as u64);

@@ -15,7 +15,7 @@ pub enum Place {
     New(Use),
 }
 
-/// The connections that any client uses.
+/// The connections that all clients share.
 #[derive(Drop)]
 struct Shared {
     numbers: Vec<u64>,
@@ -34,7 +34,7 @@ pub struct Servers {
 }
 
 impl Servers {
-    /// Begins without connections, of which any client uses at most `most`. It takes no memory.
+    /// Begins without connections. At most `most` of them are shared. It takes no memory.
     pub fn new(alloc: Global, most: usize) -> Servers {
         Servers {
             alloc,
@@ -66,7 +66,7 @@ impl Servers {
     }
 
     /// Returns the shared connection over which the fewest calls await a reply, if there is one.
-    pub fn freest(&self) -> Option<u64> {
+    pub fn least_busy(&self) -> Option<u64> {
         let mut found = None;
         let mut least = usize::MAX;
         for number in self.shared.numbers.iter() {
@@ -82,7 +82,7 @@ impl Servers {
     /// Returns over which shared connection a request goes: one without calls, else a new one if
     /// there may be one more, and else the one with the fewest calls.
     fn place_shared(&self) -> Place {
-        match self.freest() {
+        match self.least_busy() {
             Some(number)
                 if self.outstanding(number) == 0 || self.shared.numbers.len() >= self.shared.most =>
                 { Place::At(number) }
@@ -101,12 +101,9 @@ impl Servers {
 
     /// Returns true if bytes wait to be sent over a connection.
     pub fn has_output(&self) -> bool {
-        for server in self.servers.values() {
-            if !server.upstream.output().is_empty() {
-                return true;
-            }
-        }
-        false
+        self.servers
+            .values()
+            .any(|server| !server.upstream.output().is_empty())
     }
 
     /// Returns over which connection a request of a client goes that needs this, where `routes` says

@@ -29,7 +29,7 @@ pub struct Sharing {
 }
 
 impl Sharing {
-    /// Begins without connections. Any client uses at most `most` connections to the server.
+    /// Begins without connections. At most `most` of those to the server are shared.
     pub fn new(alloc: Global, connector: Connector, most: usize, watching: Watching) -> Sharing {
         Sharing {
             clients: Clients::new(alloc, watching),

@@ -36,11 +36,10 @@ fn show<R: Files + Clock, W: Write>(
 }
 
 /// Has a request pass, and notes what becomes of it and of its reply.
-fn pass(client: &mut Client, flow: Flow, cut_up: Option<u64>) -> Steered {
+fn pass(client: &mut Client, flow: Flow, cut_up: Option<u64>) {
     client.steering.flow = flow;
     client.steering.cut_up = cut_up;
     client.line.pass();
-    Steered::Again
 }
 
 /// Does with the request that a client's line holds, if it holds one, what the script says.
@@ -61,32 +60,32 @@ pub fn steer<R: Files + Clock, W: Write>(
     };
     let number = client.downstream.connection();
     match fate {
-        Fate::Pass(flow) => Ok(pass(client, flow, None)),
-        Fate::CutUp(count) => Ok(pass(client, Flow::Whole, Some(count))),
+        Fate::Pass(flow) => pass(client, flow, None),
+        Fate::CutUp(count) => pass(client, Flow::Whole, Some(count)),
         Fate::Delay(millis) => {
             writeln!(out, "{number} delay {millis} id {id}")?;
             client.steering.delayed = true;
-            Ok(Steered::Held(millis))
+            return Ok(Steered::Held(millis));
         }
         Fate::HangUp => {
             show(client, sink, out)?;
-            Ok(Steered::Over(Leave::HungUp(id)))
+            return Ok(Steered::Over(Leave::HungUp(id)));
         }
         Fate::Reply(bytes) => {
             show(client, sink, out)?;
             writeln!(out, "{number} reply to {id}")?;
             client.line.skip();
             client.steering.reply = bytes;
-            Ok(Steered::Again)
         }
     }
+    Ok(Steered::Again)
 }
 
 /// Lets a request go on that was held for some time.
 pub fn release(client: &mut Client) {
     if client.steering.delayed {
         client.steering.delayed = false;
-        let _ = pass(client, Flow::Whole, None);
+        pass(client, Flow::Whole, None);
     }
 }
 

@@ -223,7 +223,7 @@ impl Turns {
         out.flush()?;
         sink.flush()?;
         let least = self.delays.least(rt)?;
-        let has_more = self.sharing.due.len() > 0;
+        let has_more = !self.sharing.due.is_empty();
         self.sharing.connector.wait(events, has_more, least)?;
         self.release(rt)?;
         self.take_turns(rt, events, sink, out)?;
