@@ -14,6 +14,9 @@ use std::time::Instant;
 use wire_frame::RawFrame;
 use wire_stream::LinkFault;
 
+/// The most messages that a turn takes.
+const STEPS: u32 = 1024;
+
 /// The connection to the server.
 #[derive(Drop)]
 pub enum Line {
@@ -37,6 +40,8 @@ pub struct Conn {
     asked: Asked,
     /// When what is to be sent has to be sent, if it wasn't.
     stall: Option<Instant>,
+    /// More may be there than the last turn took.
+    has_more: bool,
 }
 
 /// The answers that have no counterpart yet.
@@ -61,6 +66,7 @@ impl Conn {
             },
             asked: Asked::new(alloc),
             stall: None,
+            has_more: false,
         }
     }
 
@@ -72,6 +78,11 @@ impl Conn {
     /// Returns true if recorded answers are awaited.
     pub fn awaits(&self) -> bool {
         !self.sides.recorded.is_empty()
+    }
+
+    /// Returns true if it is to take another turn at once.
+    pub fn has_more(&self) -> bool {
+        self.has_more
     }
 
     /// Returns true if all that is to be sent was sent.
@@ -223,24 +234,27 @@ impl Conn {
         }
     }
 
-    /// Sends what waits to be sent, and takes the messages that came.
+    /// Sends what waits to be sent, and takes the messages that came, up to `STEPS`, so that a server
+    /// that sends without end keeps nothing else waiting.
     ///
     /// # Errors
     ///
     /// Returns an error if writing fails or memory runs out. A connection that fails is told.
     pub fn turn<W: Write + Drop>(&mut self, teller: &mut Teller<'_, W>) -> io::Result<()> {
         self.flush(None, teller)?;
-        for _ in 0..u64::MAX {
+        self.has_more = false;
+        for _ in 0..STEPS {
             match self.receive()? {
                 Coming::Message => {
                     if let Some(answer) = self.take_message()? {
                         self.meet(answer, teller)?;
                     }
                 }
-                Coming::Later => break,
+                Coming::Later => return Ok(()),
                 Coming::Over(broken) => return self.close(broken, teller),
             }
         }
+        self.has_more = true;
         Ok(())
     }
 

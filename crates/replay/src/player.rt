@@ -113,8 +113,11 @@ impl<'a, W: Write + Drop> Player<'a, W> {
     }
 
     /// Returns how long events are waited for: up to the moment `until`, if there is one, and no
-    /// longer than for an answer.
+    /// longer than for an answer; not at all if more may be there.
     fn timeout(&self, clock: &impl Clock, until: Option<Instant>) -> io::Result<Option<Duration>> {
+        if self.conns.iter().any(|conn| conn.has_more()) {
+            return Ok(Some(Duration::from_millis(0)));
+        }
         let Some(due) = earlier(until, self.least_due()) else {
             return Ok(None);
         };
@@ -128,6 +131,16 @@ impl<'a, W: Write + Drop> Player<'a, W> {
         let now = Instant::now(clock)?;
         for conn in self.conns.iter_mut() {
             conn.expire(now, &mut self.teller)?;
+        }
+        Ok(())
+    }
+
+    /// Has each connection take another turn that is to take one at once.
+    fn turn_rest(&mut self) -> io::Result<()> {
+        for conn in self.conns.iter_mut() {
+            if conn.has_more() {
+                conn.turn(&mut self.teller)?;
+            }
         }
         Ok(())
     }
@@ -159,6 +172,7 @@ impl<'a, W: Write + Drop> Player<'a, W> {
                 conn.turn(&mut self.teller)?;
             }
         }
+        self.turn_rest()?;
         // Where a wait told as many events as it can, answers may be there of which it told none.
         if told < EVENTS {
             self.expire(rt)?;
