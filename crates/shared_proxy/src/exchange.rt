@@ -1,5 +1,8 @@
 //! Passes a request on, and answers it.
 
+ghost use Rattle.std.specs.Prelude.{length};
+ghost use Rattle.shared_proxy.specs.Uses.{MayServe};
+
 use crate::client::Client;
 use crate::leave::Leave;
 use crate::server::Server;
@@ -45,7 +48,10 @@ pub fn pass_on(
     client: &mut Client,
     server: &mut Server,
     routes: &mut Routes,
-) -> Result<Option<Leave>, AllocError> {
+) -> Result<Option<Leave>, AllocError>
+    requires { MayServe server.old.used client.old.downstream.front.server.connection
+        (length server.old.upstream.client.requests.outstanding) }
+{
     let begun = begun(&client.downstream);
     let before = server.upstream.output().len();
     match client.downstream.pass_on(&mut server.upstream) {

@@ -1,5 +1,8 @@
 //! A connection to the server, and its turns.
 
+ghost use Rattle.std.specs.Prelude.{◌≡◌, true};
+ghost use Rattle.shared_proxy.specs.Uses.{MayServe};
+
 use crate::leave::Leave;
 use crate::line::{Line, Step};
 use indexmap::IndexMap;
@@ -17,6 +20,20 @@ pub enum Use {
     Once,
     /// The client of this number, with which it is closed.
     Kept(u64),
+}
+
+impl Use {
+    /// Returns true if a request of this client may go over a connection that is used so, and over
+    /// which so many calls await a reply.
+    pub fn may_serve(self, client: u64, outstanding: usize) -> bool
+        ensures { result ≡ true → MayServe self client outstanding }
+    {
+        match self {
+            Use::Shared => true,
+            Use::Once => outstanding == 0,
+            Use::Kept(owner) => owner == client,
+        }
+    }
 }
 
 /// How many bytes may wait to be sent over a connection before another request is passed on.

@@ -145,8 +145,8 @@ impl Sharing {
         }
     }
 
-    /// Passes the request of a client on over this connection. Returns false if it waits until more
-    /// was sent.
+    /// Passes the request of a client on over this connection, which may be lost or another one's by
+    /// now. Returns false if it waits until more was sent.
     fn pass_over<W: Write>(&mut self, number: u64, upstream: u64, out: &mut W) -> io::Result<bool> {
         let Some(client) = self.clients.get_mut(number) else {
             return Ok(false);
@@ -157,6 +157,11 @@ impl Sharing {
         };
         if server.is_full() {
             server.block(number)?;
+            return Ok(false);
+        }
+        let outstanding = server.upstream.outstanding();
+        if !server.used.may_serve(client.downstream.connection(), outstanding) {
+            self.close(number, Leave::Lost(upstream), out)?;
             return Ok(false);
         }
         if server.used == Use::Kept(number) {
