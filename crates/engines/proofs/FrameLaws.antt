@@ -1,21 +1,20 @@
 -- Bytes have one text at most as messages of any opCode.
-use Rattle.std.proofs.Common.{◌≡◌, inl, inr, ◌+◌, ◌≤◌, ◌++◌, [], ◌∷◌, ℕ, List, Bool, Option, None, Some, length, refl, sym, ap, subst, ◌∙◌}
-use Rattle.std.specs.List.{concat}
+use Rattle.std.proofs.Common.{◌≡◌, inl, inr, ◌+◌, ◌≤◌, ◌++◌, ℕ, List, Bool, Option, length, refl, sym, ap, subst, ◌∙◌}
 use Rattle.bson_elem.specs.Spelling.{IsBytes}
-use Rattle.bson_elem.proofs.Lemmas.{IsBytes-after}
 use Rattle.wire_msg.specs.declared.fault.MsgFault.{MsgFault}
 use Rattle.wire_msg.specs.{header_of}
-use Rattle.wire_msg.proofs.Lemmas.{IsBytes-front, no_msg_fault, one_message, one_msg_fault}
+use Rattle.wire_msg.proofs.Lemmas.{no_msg_fault, one_message, one_msg_fault}
 use Rattle.wire_text.specs.{message_text}
 use Rattle.wire_frame.specs.declared.checksum.Checksum.{Checksum}
 use Rattle.wire_frame.specs.declared.opcode.Opcode.{Opcode}
 use Rattle.wire_frame.specs.declared.opcode.Opcode.TheVariants.{Compressed, Msg, Other, Query, Reply}
-use Rattle.wire_frame.specs.{AreFrames}
-use Rattle.wire_frame.proofs.Lemmas.{one_checksum, one_kind, one_split, wants_not_lacking}
-use Rattle.engines.specs.Any.{AnyText, AreFrameTexts, IsLastFrame, IsLastFrameAt}
-use Rattle.engines.specs.Documents.{or_nothing, is_there}
+use Rattle.wire_frame.proofs.Lemmas.{one_checksum, one_front, one_kind}
+use Rattle.engines.specs.Any.{AnyText, frames_of}
+use Rattle.engines.specs.Documents.{nothing}
 use Rattle.engines.specs.FrameText.{IsFrameText, IsKindText, IsMsgText, checksum_line, header_line}
 use Rattle.engines.specs.InputFault.{msg_line}
+use Rattle.engines.proofs.FrameReadings.{frames_kind}
+use Rattle.engines.proofs.PartLaws.{IsTold, one_parts_text}
 
 one_of_msg : (start : ℕ) (bytes a b : List ℕ) → IsBytes bytes → length bytes ≤ 48000000 → IsMsgText start bytes a → IsMsgText start bytes b → a ≡ b
 one_of_msg start bytes a b fits within (inl x) (inl y) = x.2 ∙ ap message_text (one_message x.0 y.0 bytes fits x.1 y.1) ∙ sym y.2
@@ -39,41 +38,13 @@ one_of_frame start bytes a b fits within x y =
     let f : x.front ≡ y.front = one_of_kind y.kind start bytes x.front y.front fits within (subst (λ (z : Opcode). IsKindText z start bytes x.front) k x.front_is) y.front_is in
     x.parts ∙ ap (λ (t : List ℕ). t ++ checksum_line x.checksum) f ∙ ap (λ (c : Checksum). y.front ++ checksum_line c) s ∙ sym y.parts
 
--- frames have one text
-one_of_frames : (start : ℕ) (fs : List (List ℕ)) (a b : List ℕ) → IsBytes (concat fs) → AreFrames 48000000 fs → AreFrameTexts start fs a → AreFrameTexts start fs b → a ≡ b
-one_of_frames start [] a b fits are x y = x ∙ sym y
-one_of_frames start (f ∷ fs) a b fits are x y =
-    let here : IsBytes f = IsBytes-front (f ++ concat fs) f (concat fs) fits refl in
-    let first : x.0 ≡ y.0 = one_of_frame start f x.0 y.0 here are.0.within x.2 y.2 in
-    let others : x.1 ≡ y.1 = one_of_frames (start + length f) fs x.1 y.1 (IsBytes-after f (concat fs) fits) are.1 x.3 y.3 in
-    x.4 ∙ ap (λ (t : List ℕ). t ++ x.1) first ∙ ap (λ (t : List ℕ). y.0 ++ t) others ∙ sym y.4
-
--- there is one last line at most
-one_last : (limit start : ℕ) (rest : List ℕ) (last last' : Option (List ℕ)) → IsLastFrame limit start rest last → IsLastFrame limit start rest last' → last ≡ last'
-one_last limit start [] last last' a b = a ∙ sym b
-one_last limit start (x ∷ xs) last last' (inl a) (inl b) = a.1 ∙ sym b.1
-one_last limit start (x ∷ xs) last last' (inl a) (inr b) = absurd (wants_not_lacking limit (x ∷ xs) a.0.0 a.0.1 b.0)
-one_last limit start (x ∷ xs) last last' (inr a) (inl b) = absurd (wants_not_lacking limit (x ∷ xs) b.0.0 b.0.1 a.0)
-one_last limit start (x ∷ xs) last last' (inr a) (inr b) = a.1 ∙ sym b.1
-
--- the same where hexadecimal text is at fault behind the rest
-one_last_at : (limit start : ℕ) (place : Option ℕ) (rest : List ℕ) (last last' : Option (List ℕ)) → IsLastFrameAt limit start place rest last → IsLastFrameAt limit start place rest last' → last ≡ last'
-one_last_at limit start None rest last last' a b = one_last limit start rest last last' a b
-one_last_at limit start (Some offset) rest last last' (inl a) (inl b) = a.1 ∙ sym b.1
-one_last_at limit start (Some offset) rest last last' (inl a) (inr b) = absurd (b.0 a.0)
-one_last_at limit start (Some offset) rest last last' (inr a) (inl b) = absurd (a.0 b.0)
-one_last_at limit start (Some offset) rest last last' (inr a) (inr b) = one_last limit start rest last last' a.1 b.1
+frames_told : IsTold (frames_of 48000000)
+frames_told = record {
+  one_part = λ a b after behind x y same. (one_front 48000000 (a ++ after) a b after behind (record { parts = refl; is = x }) (record { parts = same; is = y })).0;
+  one_text = λ start part a b fits is x y. one_of_frame start part a b fits is.within x y;
+  one_line = λ start bytes a b fits x y. x.1 ∙ sym y.1;
+}
 
 pub one_any_text : (place : Option ℕ) (bytes text text' : List ℕ) (fault fault' : Bool) → IsBytes bytes
     → AnyText place bytes text fault → AnyText place bytes text' fault' → (text ≡ text') × (fault ≡ fault')
-one_any_text place bytes text text' fault fault' fits w w' =
-    let a = w.2 in
-    let b = w'.2 in
-    let same = one_split 48000000 bytes a.0 b.0 a.1 b.1 a.2 b.2 in
-    let frames : IsBytes (concat a.0) = IsBytes-front bytes (concat a.0) a.1 fits a.2.parts in
-    let texts : w.0 ≡ w'.0 = one_of_frames 0 a.0 w.0 w'.0 frames a.2.frames_are a.3 (subst (λ (fs : List (List ℕ)). AreFrameTexts 0 fs w'.0) (sym same.0) b.3) in
-    let again : IsLastFrameAt 48000000 (length (concat a.0)) place a.1 w'.1 =
-    subst (λ (fs : List (List ℕ)). IsLastFrameAt 48000000 (length (concat fs)) place a.1 w'.1) (sym same.0)
-    (subst (λ (r : List ℕ). IsLastFrameAt 48000000 (length (concat b.0)) place r w'.1) (sym same.1) b.4) in
-    let last : w.1 ≡ w'.1 = one_last_at 48000000 (length (concat a.0)) place a.1 w.1 w'.1 a.4 again in
-    (w.3 ∙ ap (λ (x : List ℕ). x ++ or_nothing w.1) texts ∙ ap (λ (x : Option (List ℕ)). w'.0 ++ or_nothing x) last ∙ sym w'.3, w.4 ∙ ap is_there last ∙ sym w'.4)
+one_any_text = one_parts_text (frames_of 48000000) (frames_kind 48000000) frames_told 0 nothing

@@ -3,6 +3,8 @@ pub mod PieceLemmas
 pub mod SalvageLemmas
 pub mod DocumentLemmas
 pub mod TextLaws
+pub mod PartReadings
+pub mod PartLaws
 pub mod MessageReadings
 pub mod MessageLaws
 pub mod FrameTexts

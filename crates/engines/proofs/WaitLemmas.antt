@@ -1,5 +1,5 @@
 -- Nothing is told of the first few bytes of the signature of a file of records, whatever an input is.
-use Rattle.std.proofs.Common.{◌≡◌, inl, inr, ◌-◌, ◌<◌, ◌++◌, [], ◌∷◌, ℕ, List, Bool, Option, Some, length, take, drop, sym, ap, subst, ◌∙◌, append_assoc, arith, length-append, length-take, take-append-drop}
+use Rattle.std.proofs.Common.{◌≡◌, inl, inr, ◌+◌, ◌-◌, ◌<◌, ◌≤◌, ◌++◌, [], ◌∷◌, ℕ, List, Bool, Option, Some, length, take, drop, sym, ap, subst, ◌∙◌, append_assoc, arith, length-append, length-take, take-append-drop}
 use Rattle.std.specs.List.{concat}
 use Rattle.bson_elem.specs.{Tree, document, elements}
 use Rattle.bson_raw.specs.{AreDocuments, documents_bytes}
@@ -7,22 +7,19 @@ use Rattle.bson_stream.specs.Standing.{in_document}
 use Rattle.bson_stream.specs as stream
 use Rattle.bson_stream.proofs.Lemmas.{open_front, spelled_not_open}
 use Rattle.wire_frame.specs.Frames.{of_header}
-use Rattle.wire_frame.specs.{AreFrames}
 use Rattle.wire_msg.specs.Standing.{in_header}
-use Rattle.wire_msg.specs as msg
-use Rattle.wire_msg.specs.{AreSpelled, Message}
 use Rattle.wire_msg.proofs.Lemmas.{least_length}
 use Rattle.wire_record.specs.{signature}
 use Rattle.engines.specs.declared.msg.MessageForm.{MessageForm}
-use Rattle.engines.specs.Any.{AreFrameTexts, IsLastFrame, IsOpenFrame}
 use Rattle.engines.specs.Documents.{AreTexts, IsLast, TextRule, or_nothing}
 use Rattle.engines.specs.DocumentWalk.{document_tells}
-use Rattle.engines.specs.FrameWalk.{any_tells}
+use Rattle.engines.specs.FrameWalk.{any_tells, any_walk}
 use Rattle.engines.specs.InputFault.{hex_line}
-use Rattle.engines.specs.MessageWalk.{message_tells}
-use Rattle.engines.specs.Msg.{IsLastMsg, MayBeMessages, messages_len}
+use Rattle.engines.specs.MessageWalk.{message_tells, message_walk}
 use Rattle.engines.specs.OrRecordsWalk.{Waits}
 use Rattle.engines.specs.Output.{IsLastBefore}
+use Rattle.engines.specs.PartWalk.{PartWalk, part_tells}
+use Rattle.engines.specs.Parts.{AreParts, AreTextsOf, IsLastPart}
 
 few_long : (n : ℕ) → n < 8 → length (take n signature) < 8
 few_long n few = omega (arith, few, length-take n signature)
@@ -32,45 +29,32 @@ cut_line : (Open : List ℕ → Type 0) (Last : List ℕ → Option (List ℕ) �
 cut_line Open Last place rest line o (inl x) = ap or_nothing x.1
 cut_line Open Last place rest line o (inr x) = absurd (x.0 o)
 
--- ---- messages of any opCode
+-- ---- parts that have eight bytes or more, of which fewer are open
 
-open_frame : (bytes : List ℕ) → length bytes < 8 → IsOpenFrame 48000000 bytes
-open_frame bytes few = (16 - length bytes, of_header (omega (arith, few)) (omega (arith, few)))
+module _ {R : Type 0} (walk : PartWalk R) (least : (part : List ℕ) → (walk.kind 48000000).is_part part → 8 ≤ length part) (few_open : (bytes : List ℕ) → length bytes < 8 → (walk.kind 48000000).is_open bytes) where
+  no_parts : (bytes texts rest : List ℕ) (ps : List (List ℕ)) → length bytes < 8 → AreParts (walk.kind 48000000) ps → bytes ≡ concat ps ++ rest → AreTextsOf (walk.kind 48000000) walk.base ps texts
+      → (texts ≡ []) × (rest ≡ bytes)
+  no_parts bytes texts rest [] few are joined none = (none, sym joined)
+  no_parts bytes texts rest (p ∷ ps) few are joined some =
+      absurd (omega (arith, few, ap length joined, length-append (concat (p ∷ ps)) rest, length-append p (concat ps), least p are.0))
 
--- few bytes are no frames
-no_frames : (bytes texts rest : List ℕ) (fs : List (List ℕ)) → length bytes < 8 → AreFrames 48000000 fs → bytes ≡ concat fs ++ rest → AreFrameTexts 0 fs texts → (texts ≡ []) × (rest ≡ bytes)
-no_frames bytes texts rest [] few are parts none = (none, sym parts)
-no_frames bytes texts rest (f ∷ fs) few are parts some =
-    absurd (omega (arith, few, ap length parts, length-append (concat (f ∷ fs)) rest, length-append f (concat fs), are.0.framed.header))
+  parts_wait : Waits (part_tells walk)
+  parts_wait = record {
+    silent = λ n texts few first.
+        let h = first.1 in (no_parts (take n signature) texts first.0 h.parts (few_long n few) h.parts_are h.joined h.texts_are).0;
+    cut = λ n place r texts line few ends.
+        let bytes = take n signature in
+        let k = walk.kind 48000000 in
+        let h = ends.0.have in
+        let none = no_parts bytes texts ends.0.rest h.parts (few_long n few) h.parts_are h.joined h.texts_are in
+        cut_line k.is_open (IsLastPart k (walk.base + length (concat h.parts))) place ends.0.rest line (subst k.is_open (sym none.1) (few_open bytes (few_long n few))) ends.0.last_is;
+  }
 
 pub frames_wait : Waits any_tells
-frames_wait = record {
-  silent = λ n texts few first. (no_frames (take n signature) texts first.0 first.1.frames (few_long n few) first.1.frames_are first.1.parts first.1.texts_are).0;
-  cut = λ n place r texts line few ends.
-      let bytes = take n signature in
-      let none = no_frames bytes texts ends.1 ends.0 (few_long n few) ends.2.frames_are ends.2.parts ends.3 in
-      cut_line (IsOpenFrame 48000000) (IsLastFrame 48000000 (length (concat ends.0))) place ends.1 line (subst (IsOpenFrame 48000000) (sym none.1) (open_frame bytes (few_long n few))) ends.4;
-}
-
--- ---- messages
-
-no_messages : (form : MessageForm) (bytes joined texts rest : List ℕ) (ms : List Message) → length bytes < 8 → AreSpelled 48000000 ms joined → bytes ≡ joined ++ rest → MayBeMessages form ms texts
-    → (texts ≡ []) × (rest ≡ bytes)
-no_messages form bytes joined texts rest [] few none parts is = (is, sym (parts ∙ ap (λ (x : List ℕ). x ++ rest) none))
-no_messages form bytes joined texts rest (m ∷ ms) few (front, others, s, within, more, all) parts is =
-    absurd (omega (arith, few, ap length parts, length-append joined rest, ap length all, length-append front others, least_length m front s))
+frames_wait = parts_wait any_walk (λ part is. omega (arith, is.framed.header)) (λ bytes few. (16 - length bytes, of_header (omega (arith, few)) (omega (arith, few))))
 
 pub messages_wait : (form : MessageForm) → Waits (message_tells form)
-messages_wait form = record {
-  silent = λ n texts few first.
-      let h = first.1 in (no_messages form (take n signature) h.joined texts first.0 h.messages (few_long n few) h.spelled h.parts h.texts_are).0;
-  cut = λ n place r texts line few ends.
-      let bytes = take n signature in
-      let s = ends.2 in
-      let none = no_messages form bytes s.joined texts ends.1 ends.0 (few_long n few) s.spelled s.parts ends.3 in
-      let long = few_long n few in
-      cut_line (msg.IsOpen 48000000) (IsLastMsg 48000000 (messages_len ends.0)) place ends.1 line (subst (msg.IsOpen 48000000) (sym none.1) (in_header (omega (arith, long)))) ends.4;
-}
+messages_wait form = parts_wait (message_walk form) (λ part is. omega (arith, least_length is.1.0 part is.1.1)) (λ bytes few. in_header (omega (arith, few)))
 
 -- ---- documents, of which one that begins as the signature would have 1,212,634,444 bytes
 

@@ -2,8 +2,9 @@
 
 ghost use Rattle.std.specs.Prelude.{◌≡◌, ◌+◌, IfOk};
 ghost use Rattle.engines.specs.InputFault.{input_fault_line, record_line};
-ghost use Rattle.engines.specs.RecordWalk.{GoesOverRecords, record_tells};
-ghost use Rattle.engines.specs.Records.{IsOpenRecord};
+ghost use Rattle.engines.specs.PartWalk.{GoesOverParts};
+ghost use Rattle.engines.specs.RecordWalk.{file_reading, record_tells};
+ghost use Rattle.engines.specs.Records.{IsOpenRecord, records_of};
 ghost use Rattle.engines.specs.Walk.{Tells};
 
 use crate::input_fault::InputFault;
@@ -49,8 +50,8 @@ fn write_each<W: Write>(
     out: &mut W,
 ) -> io::Result<Option<Stop>>
     requires { IsOpenRecord reader.old.records.limit reader.old.records.held }
-    ensures { IfOk result (λ stop. GoesOverRecords form reader.old piece.now reader.new stop
-        (W.contents out.old) (W.contents out.new)) }
+    ensures { IfOk result (λ stop. GoesOverParts (records_of form) (file_reading reader.old)
+        piece.now (file_reading reader.new) stop (W.contents out.old) (W.contents out.new)) }
 {
     let mut rest = piece;
     loop {

@@ -1,12 +1,16 @@
-use Rattle.std.proofs.Common.{◌≡◌, ◌+◌, ◌-◌, ◌++◌, ◌∙◌, ℕ, List, ap, arith, drop, length, refl, subst, take}
+use Rattle.std.proofs.Common.{◌≡◌, ◌+◌, ◌-◌, ◌++◌, ◌∙◌, ℕ, List, ap, arith, drop, length, refl, subst, sym, take}
 use Rattle.std.proofs.lemmas.Bool.Decides.{nat_tests}
+use Rattle.wire_msg.specs.declared.fault.MsgFault.{MsgFault}
 use Rattle.wire_frame.specs.{FrameReading, IsFrame, IsWholeFrame, frame_bytes}
+use Rattle.engines.specs.Any.{IsOpenFrame, frames_of}
 use Rattle.engines.specs.FrameText.{IsFrameText}
-use Rattle.engines.proofs.FrameReadings.{fewer_left, frame_alone, frame_fed, frame_released, lacking_told, no_frame, released_open, some_left, takes_some, whole_takes}
+use Rattle.engines.specs.InputFault.{msg_line}
+use Rattle.engines.proofs.FrameReadings.{frame_alone, frames_kind, takes_some}
+use Rattle.engines.proofs.PartReadings.{fewer_left, no_part, part_fed, part_released, some_left, whole_takes}
 use Rattle.engines.proofs.frames.write_each.Goals as goal
 
 pub loop-taken-init : goal.loop-taken-init
-loop-taken-init g c = (c.requires, refl, no_frame _ _ _ _ _ refl)
+loop-taken-init g c = (c.requires, refl, no_part _ _ _ _)
 
 pub loop-taken-smaller-else-is_empty : goal.loop-taken-smaller-else-is_empty
 loop-taken-smaller-else-is_empty g c =
@@ -21,22 +25,23 @@ returns-in-Bad g c =
     let i = c.loop-taken.invariant in
     let n = c.in-Ok.taken in
     let new = c.feed.new.self in
+    let start = c.loop-taken.reader.start in
     let rest = take (length c.loop-taken.rest.now - n) (drop n c.loop-taken.rest.now) in
     record {
       limit = c.in-Ok.ensures.limit ∙ i.1;
       rest = new.held ++ rest;
-      written = frame_fed _ n _ c.loop-taken.reader.frames.held new.held c.loop-taken.rest.now _ _ _ _ i.2 c.in-Ok.ensures.held.1;
-      stopped = lacking_told (record { alloc = c.loop-taken.reader.alloc; frames = new; start = c.loop-taken.reader.start }) new.held rest c.in-Bad.fault c.in-Bad.ensures.0 c.in-Bad.ensures.1;
+      written = part_fed _ n _ c.loop-taken.reader.frames.held new.held c.loop-taken.rest.now _ _ _ _ i.2 c.in-Ok.ensures.held.1;
+      stopped = (frames_kind new.limit).bad_longer start new.held rest (msg_line start c.in-Bad.fault.cause) (c.in-Bad.ensures.0, ap (λ (x : MsgFault). msg_line start x.cause) c.in-Bad.ensures.1);
     }
 
 pub loop-taken-smaller : goal.loop-taken-smaller
 loop-taken-smaller g c =
-    let o = c.loop-taken.invariant.0 in
     let n = c.in-Ok.taken in
     let r = c.loop-taken.reader.frames in
     let frame = frame_bytes c.in-Whole.frame in
-    let whole = subst (λ (k : ℕ). IsWholeFrame k c.feed.new.self.held frame c.in-Whole.rest.now) c.in-Ok.ensures.limit c.in-Whole.ensures in
-    fewer_left n c.loop-taken.rest.now (whole_takes r.limit n r.held c.feed.new.self.held c.loop-taken.rest.now frame c.in-Whole.rest.now o c.in-Ok.ensures.held.1 whole) c.in-Ok.ensures.held.0
+    let w = subst (λ (k : ℕ). IsWholeFrame k c.feed.new.self.held frame c.in-Whole.rest.now) c.in-Ok.ensures.limit c.in-Whole.ensures in
+    let some = whole_takes (frames_of r.limit) (frames_kind r.limit) n r.held c.feed.new.self.held c.loop-taken.rest.now frame c.in-Whole.rest.now c.loop-taken.invariant.0 c.in-Ok.ensures.held.1 w.parts w.is in
+    fewer_left n c.loop-taken.rest.now some c.in-Ok.ensures.held.0
 
 pub loop-taken-preserved : goal.loop-taken-preserved
 loop-taken-preserved g c =
@@ -53,8 +58,9 @@ loop-taken-preserved g c =
     let is = subst (λ (k : ℕ). IsFrame k new.held) i.1 (subst (IsFrame r.limit) alone whole.is) in
     let written = c.in_ok-write_frame-in-Whole.ensures in
     let next : c.in-Some.behind ≡ start + length new.held = c.in-Some.ensures.1 ∙ ap (λ (x : List ℕ). start + length x) (c.as_bytes.ensures ∙ alone) in
-    let fed = frame_fed _ n _ r.held new.held old _ _ _ _ i.2 c.in-Ok.ensures.held.1 in (
-      released_open new.limit c.release.new.self c.release.ensures,
+    let none = ap (λ (x : FrameReading). x.held) c.release.ensures in
+    let fed = part_fed _ n _ r.held new.held old _ _ _ _ i.2 c.in-Ok.ensures.held.1 in (
+      subst (IsOpenFrame c.release.new.self.limit) (sym none) (frames_kind c.release.new.self.limit).nothing_open,
       ap (λ (x : FrameReading). x.limit) c.release.ensures ∙ c.in-Ok.ensures.limit ∙ i.1,
-      frame_released _ _ new.held c.release.new.self.held _ written.0 _ start _ _ _ _ fed is (subst (λ (b : List ℕ). IsFrameText start b written.0) alone written.1) written.2 next (ap (λ (x : FrameReading). x.held) c.release.ensures),
+      part_released _ _ new.held c.release.new.self.held _ written.0 _ start _ _ _ _ fed is (subst (λ (b : List ℕ). IsFrameText start b written.0) alone written.1) written.2 next none,
     )

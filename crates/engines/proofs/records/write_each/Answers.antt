@@ -1,12 +1,15 @@
-use Rattle.std.proofs.Common.{◌≡◌, ◌+◌, ◌-◌, ◌++◌, ◌∙◌, ℕ, List, ap, arith, drop, length, refl, subst, take}
+use Rattle.std.proofs.Common.{◌≡◌, ◌+◌, ◌-◌, ◌++◌, ◌∙◌, ℕ, List, ap, arith, drop, length, refl, subst, sym, take}
 use Rattle.std.proofs.lemmas.Bool.Decides.{nat_tests}
 use Rattle.wire_record.specs.{IsRecord, IsWholeRecord, RecordReading, record_bytes}
 use Rattle.engines.specs.RecordText.{IsRecordText}
-use Rattle.engines.proofs.RecordReadings.{faulty_told, fewer_left, no_record, record_alone, record_fed, record_released, released_open, some_left, takes_some, whole_takes}
+use Rattle.engines.specs.RecordWalk.{file_reading}
+use Rattle.engines.specs.Records.{IsOpenRecord, records_of}
+use Rattle.engines.proofs.PartReadings.{fewer_left, no_part, part_fed, part_released, some_left, stopped_at_fault, whole_takes}
+use Rattle.engines.proofs.RecordReadings.{record_alone, records_kind, takes_some}
 use Rattle.engines.proofs.records.write_each.Goals as goal
 
 pub loop-taken-init : goal.loop-taken-init
-loop-taken-init g c = (c.requires, refl, no_record _ _ _ _ _ _ refl)
+loop-taken-init g c = (c.requires, refl, no_part _ _ _ _)
 
 pub loop-taken-smaller-else-is_empty : goal.loop-taken-smaller-else-is_empty
 loop-taken-smaller-else-is_empty g c =
@@ -25,18 +28,19 @@ returns-in-Bad g c =
     record {
       limit = c.in-Ok.ensures.limit ∙ i.1;
       rest = new.held ++ rest;
-      written = record_fed _ _ n _ c.loop-taken.reader.records.held new.held c.loop-taken.rest.now _ _ _ _ i.2 c.in-Ok.ensures.held.1;
-      stopped = faulty_told (record { alloc = c.loop-taken.reader.alloc; records = new; start = c.loop-taken.reader.start }) new.held rest c.in-Bad.fault c.stop_at.result c.in-Bad.ensures c.stop_at.ensures;
+      written = part_fed _ n _ c.loop-taken.reader.records.held new.held c.loop-taken.rest.now _ _ _ _ i.2 c.in-Ok.ensures.held.1;
+      stopped = stopped_at_fault (records_of c.args.form) (file_reading (record { alloc = c.loop-taken.reader.alloc; records = new; start = c.loop-taken.reader.start })) new.held rest c.stop_at.result (records_kind c.args.form new.limit)
+          (λ f is. (c.in-Bad.fault, c.in-Bad.ensures, c.stop_at.ensures f is));
     }
 
 pub loop-taken-smaller : goal.loop-taken-smaller
 loop-taken-smaller g c =
-    let o = c.loop-taken.invariant.0 in
     let n = c.in-Ok.taken in
     let r = c.loop-taken.reader.records in
     let one = record_bytes c.in-Whole.one in
-    let whole = subst (λ (k : ℕ). IsWholeRecord k c.feed.new.self.held one c.in-Whole.rest.now) c.in-Ok.ensures.limit c.in-Whole.ensures in
-    fewer_left n c.loop-taken.rest.now (whole_takes r.limit n r.held c.feed.new.self.held c.loop-taken.rest.now one c.in-Whole.rest.now o c.in-Ok.ensures.held.1 whole) c.in-Ok.ensures.held.0
+    let w = subst (λ (k : ℕ). IsWholeRecord k c.feed.new.self.held one c.in-Whole.rest.now) c.in-Ok.ensures.limit c.in-Whole.ensures in
+    let some = whole_takes (records_of c.args.form r.limit) (records_kind c.args.form r.limit) n r.held c.feed.new.self.held c.loop-taken.rest.now one c.in-Whole.rest.now c.loop-taken.invariant.0 c.in-Ok.ensures.held.1 w.parts w.is in
+    fewer_left n c.loop-taken.rest.now some c.in-Ok.ensures.held.0
 
 pub loop-taken-preserved : goal.loop-taken-preserved
 loop-taken-preserved g c =
@@ -53,8 +57,9 @@ loop-taken-preserved g c =
     let is = subst (λ (k : ℕ). IsRecord k new.held) i.1 (subst (IsRecord r.limit) alone whole.is) in
     let written = c.in_ok-write_record-in-Whole.ensures in
     let next : c.in-Some.behind ≡ start + length new.held = c.in-Some.ensures.1 ∙ ap (λ (x : List ℕ). start + length x) (c.as_bytes.ensures ∙ alone) in
-    let fed = record_fed _ _ n _ r.held new.held old _ _ _ _ i.2 c.in-Ok.ensures.held.1 in (
-      released_open new.limit c.release.new.self c.release.ensures,
+    let none = ap (λ (x : RecordReading). x.held) c.release.ensures in
+    let fed = part_fed _ n _ r.held new.held old _ _ _ _ i.2 c.in-Ok.ensures.held.1 in (
+      subst (IsOpenRecord c.release.new.self.limit) (sym none) (records_kind c.args.form c.release.new.self.limit).nothing_open,
       ap (λ (x : RecordReading). x.limit) c.release.ensures ∙ c.in-Ok.ensures.limit ∙ i.1,
-      record_released _ _ _ new.held c.release.new.self.held _ written.0 _ start _ _ _ _ fed is (subst (λ (b : List ℕ). IsRecordText c.args.form start b written.0) alone written.1) written.2 next (ap (λ (x : RecordReading). x.held) c.release.ensures),
+      part_released _ _ new.held c.release.new.self.held _ written.0 _ start _ _ _ _ fed is (subst (λ (b : List ℕ). IsRecordText c.args.form start b written.0) alone written.1) written.2 next none,
     )
