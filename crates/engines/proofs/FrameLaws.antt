@@ -8,13 +8,13 @@ use Rattle.wire_text.specs.{message_text}
 use Rattle.wire_frame.specs.declared.checksum.Checksum.{Checksum}
 use Rattle.wire_frame.specs.declared.opcode.Opcode.{Opcode}
 use Rattle.wire_frame.specs.declared.opcode.Opcode.TheVariants.{Compressed, Msg, Other, Query, Reply}
-use Rattle.wire_frame.proofs.Lemmas.{one_checksum, one_front, one_kind}
+use Rattle.wire_frame.proofs.Lemmas.{lacking_not_whole, one_checksum, one_front, one_kind}
 use Rattle.engines.specs.Any.{AnyText, frames_of}
-use Rattle.engines.specs.Documents.{nothing}
 use Rattle.engines.specs.FrameText.{IsFrameText, IsKindText, IsMsgText, checksum_line, header_line}
 use Rattle.engines.specs.InputFault.{msg_line}
+use Rattle.engines.specs.Output.{nothing}
 use Rattle.engines.proofs.FrameReadings.{frames_kind}
-use Rattle.engines.proofs.PartLaws.{IsTold, one_parts_text}
+use Rattle.engines.proofs.ItemLaws.{IsTold, one_items_text}
 
 one_of_msg : (start : ℕ) (bytes a b : List ℕ) → IsBytes bytes → length bytes ≤ 48000000 → IsMsgText start bytes a → IsMsgText start bytes b → a ≡ b
 one_of_msg start bytes a b fits within (inl x) (inl y) = x.2 ∙ ap message_text (one_message x.0 y.0 bytes fits x.1 y.1) ∙ sym y.2
@@ -40,11 +40,12 @@ one_of_frame start bytes a b fits within x y =
 
 frames_told : IsTold (frames_of 48000000)
 frames_told = record {
-  one_part = λ a b after behind x y same. (one_front 48000000 (a ++ after) a b after behind (record { parts = refl; is = x }) (record { parts = same; is = y })).0;
-  one_text = λ start part a b fits is x y. one_of_frame start part a b fits is.within x y;
+  one_item = λ a b after behind x y same. (one_front 48000000 (a ++ after) a b after behind (record { parts = refl; is = x }) (record { parts = same; is = y })).0;
+  one_text = λ start item a b fits is x y. one_of_frame start item a b fits is.within x y;
   one_line = λ start bytes a b fits x y. x.1 ∙ sym y.1;
+  bad_not_text = λ start frame rest line text fits bad is t. lacking_not_whole 48000000 (frame ++ rest) frame rest bad.0 (record { parts = refl; is = is });
 }
 
 pub one_any_text : (place : Option ℕ) (bytes text text' : List ℕ) (fault fault' : Bool) → IsBytes bytes
     → AnyText place bytes text fault → AnyText place bytes text' fault' → (text ≡ text') × (fault ≡ fault')
-one_any_text = one_parts_text (frames_of 48000000) (frames_kind 48000000) frames_told 0 nothing
+one_any_text = one_items_text (frames_of 48000000) (frames_kind 48000000) frames_told 0 nothing

@@ -1,18 +1,17 @@
--- Messages of any opCode, as parts of one kind, and how a reader of them is fed.
+-- Messages of any opCode, as items of one kind, and how a reader of them is fed.
 use Rattle.std.proofs.Common.{◌≡◌, ◌≢◌, ◌≤◌, ◌++◌, ℕ, List, length, take, min, refl, ap, ◌∙◌, arith, length-append, length-take}
 use Rattle.wire_msg.specs.{number_at}
 use Rattle.wire_frame.specs.Frames.{of_header, of_frame}
 use Rattle.wire_frame.specs.{IsWholeFrame, WantsMore}
-use Rattle.wire_frame.proofs.Lemmas.{lacking_longer, lacking_not_whole, number_front, wants_not_lacking, wants_not_whole, whole_size}
+use Rattle.wire_frame.proofs.Lemmas.{lacking_longer, number_front, wants_not_lacking, wants_not_whole, whole_size}
 use Rattle.engines.specs.Any.{IsOpenFrame, frames_of}
-use Rattle.engines.proofs.PartReadings.{IsKind, part_alone}
+use Rattle.engines.proofs.ItemReadings.{IsKind, item_alone}
 
 pub frames_kind : (limit : ℕ) → IsKind (frames_of limit)
 frames_kind limit = record {
   nothing_open = (16, of_header (omega arith) refl);
   open_not_bad = λ start bytes line o bad. wants_not_lacking limit bytes o.0 o.1 bad.0;
-  open_not_part = λ frame rest o is. wants_not_whole limit (frame ++ rest) frame rest o.0 o.1 (record { parts = refl; is = is });
-  bad_not_part = λ start frame rest line bad is. lacking_not_whole limit (frame ++ rest) frame rest bad.0 (record { parts = refl; is = is });
+  open_not_item = λ frame rest o is. wants_not_whole limit (frame ++ rest) frame rest o.0 o.1 (record { parts = refl; is = is });
   bad_longer = λ start bytes more line bad. (lacking_longer limit bytes more bad.0, bad.1);
 }
 
@@ -34,4 +33,4 @@ within_frame limit n held new rest frame after more (of_frame some long good sum
 -- what a reader holds is the frame that became whole, and nothing behind it
 pub frame_alone : (limit n : ℕ) (held new rest frame after : List ℕ) (o : IsOpenFrame limit held) → n ≡ min o.0 (length rest) → new ≡ held ++ take n rest → IsWholeFrame limit new frame after → frame ≡ new
 frame_alone limit n held new rest frame after o count is w =
-    part_alone new frame after w.parts (within_frame limit n held new rest frame after o.0 o.1 (omega (arith, count)) (omega (arith, count)) is w)
+    item_alone new frame after w.parts (within_frame limit n held new rest frame after o.0 o.1 (omega (arith, count)) (omega (arith, count)) is w)

@@ -1,10 +1,9 @@
-pub mod Readings
+pub mod ItemReadings
+pub mod ItemLaws
 pub mod PieceLemmas
 pub mod SalvageLemmas
-pub mod DocumentLemmas
+pub mod DocumentReadings
 pub mod TextLaws
-pub mod PartReadings
-pub mod PartLaws
 pub mod MessageReadings
 pub mod MessageLaws
 pub mod FrameTexts

@@ -7,7 +7,7 @@ use Rattle.wire_record.specs.declared.head.Direction.{Direction}
 use Rattle.wire_record.specs.declared.head.Direction.TheVariants.{FromServer, ToServer}
 use Rattle.wire_record.specs.declared.head.RecordHead.{RecordHead}
 use Rattle.wire_record.specs.{HasHead, IsRecord, direction_number, message_of, signature}
-use Rattle.wire_record.proofs.Lemmas.{fault_once, one_front}
+use Rattle.wire_record.proofs.Lemmas.{fault_once, faulty_not_whole, one_front}
 use Rattle.engines.specs.declared.record_text.RecordForm.TheVariants as form
 use Rattle.engines.specs.InputFault.{record_line}
 use Rattle.engines.specs.OrRecords.{TextOrRecords}
@@ -15,7 +15,7 @@ use Rattle.engines.specs.Output.{TextOf}
 use Rattle.engines.specs.RecordText.{IsRecordText, direction_sign, head_line, record_closing}
 use Rattle.engines.specs.Records.{RecordsText, records_of}
 use Rattle.engines.proofs.FrameLaws.{one_of_frame}
-use Rattle.engines.proofs.PartLaws.{IsTold, one_parts_text}
+use Rattle.engines.proofs.ItemLaws.{IsTold, one_items_text}
 use Rattle.engines.proofs.RecordReadings.{records_kind}
 use Rattle.std.proofs.lemmas.List.{append_cancel_left}
 
@@ -38,14 +38,15 @@ one_of_record start bytes a b fits is x y =
 
 records_told : IsTold (records_of form.Text 48000000)
 records_told = record {
-  one_part = λ a b after behind x y same. (one_front 48000000 (a ++ after) a b after behind (record { parts = refl; is = x }) (record { parts = same; is = y })).0;
+  one_item = λ a b after behind x y same. (one_front 48000000 (a ++ after) a b after behind (record { parts = refl; is = x }) (record { parts = same; is = y })).0;
   one_text = one_of_record;
   one_line = λ start bytes a b fits x y. x.2 ∙ ap (λ (f : RecordFault). record_line (start + f.at) f.cause) (fault_once 48000000 bytes x.0 y.0 x.1 y.1) ∙ sym y.2;
+  bad_not_text = λ start one rest line text fits bad is t. faulty_not_whole 48000000 (one ++ rest) one rest bad.0 bad.1 (record { parts = refl; is = is });
 }
 
 one_records_text : (place : Option ℕ) (bytes text text' : List ℕ) (fault fault' : Bool) → IsBytes bytes
     → RecordsText form.Text place bytes text fault → RecordsText form.Text place bytes text' fault' → (text ≡ text') × (fault ≡ fault')
-one_records_text = one_parts_text (records_of form.Text 48000000) (records_kind form.Text 48000000) records_told 8 (record_closing form.Text)
+one_records_text = one_items_text (records_of form.Text 48000000) (records_kind form.Text 48000000) records_told 8 (record_closing form.Text)
 
 -- a text, and whether it ends with a fault line, are told by the bytes
 abbrev pub IsOnly : TextOf → Option ℕ → List ℕ → Type 0

@@ -1,20 +1,19 @@
--- Records, as parts of one kind, and how a reader of them is fed.
+-- Records, as items of one kind, and how a reader of them is fed.
 use Rattle.std.proofs.Common.{◌≡◌, ◌≢◌, ◌≤◌, ◌++◌, ℕ, List, length, take, min, refl, ap, ◌∙◌, arith, length-append, length-drop, length-take}
 use Rattle.wire_frame.specs.Frames as frames
 use Rattle.wire_record.specs.Records.{of_head, of_message}
 use Rattle.wire_record.specs.{IsWholeRecord, WantsMore, message_of}
-use Rattle.wire_record.proofs.Lemmas.{drop_front, faulty_longer, faulty_not_whole, wants_not_faulty, wants_not_whole, whole_parts}
+use Rattle.wire_record.proofs.Lemmas.{drop_front, faulty_longer, wants_not_faulty, wants_not_whole, whole_parts}
 use Rattle.engines.specs.declared.record_text.RecordForm.{RecordForm}
 use Rattle.engines.specs.Records.{IsOpenRecord, records_of}
 use Rattle.engines.proofs.FrameReadings.{within_frame}
-use Rattle.engines.proofs.PartReadings.{IsKind, part_alone}
+use Rattle.engines.proofs.ItemReadings.{IsKind, item_alone}
 
 pub records_kind : (form : RecordForm) (limit : ℕ) → IsKind (records_of form limit)
 records_kind form limit = record {
   nothing_open = (20, of_head (omega arith) refl);
   open_not_bad = λ start bytes line o bad. wants_not_faulty limit bytes o.0 bad.0 o.1 bad.1;
-  open_not_part = λ one rest o is. wants_not_whole limit (one ++ rest) one rest o.0 o.1 (record { parts = refl; is = is });
-  bad_not_part = λ start one rest line bad is. faulty_not_whole limit (one ++ rest) one rest bad.0 bad.1 (record { parts = refl; is = is });
+  open_not_item = λ one rest o is. wants_not_whole limit (one ++ rest) one rest o.0 o.1 (record { parts = refl; is = is });
   bad_longer = λ start bytes more line bad. (bad.0, faulty_longer limit bytes more bad.0 bad.1, bad.2);
 }
 
@@ -42,4 +41,4 @@ within_record limit n held new rest one after more (of_message long good wants) 
 -- what a reader holds is the record that became whole, and nothing behind it
 pub record_alone : (limit n : ℕ) (held new rest one after : List ℕ) (o : IsOpenRecord limit held) → n ≡ min o.0 (length rest) → new ≡ held ++ take n rest → IsWholeRecord limit new one after → one ≡ new
 record_alone limit n held new rest one after o count is w =
-    part_alone new one after w.parts (within_record limit n held new rest one after o.0 o.1 (omega (arith, count)) (omega (arith, count)) is w)
+    item_alone new one after w.parts (within_record limit n held new rest one after o.0 o.1 (omega (arith, count)) (omega (arith, count)) is w)

@@ -1,9 +1,6 @@
 -- What is written of a record.
-use Rattle.std.proofs.Common.{◌≡◌, ◌≢◌, ◌+◌, ◌++◌, [], ◌∷◌, ◌∙◌, ℕ, ℤ, List, Option, Result, Ok, Err, OnOk, codes, length, refl, ap, subst, arith, length-append}
-use Rattle.std.specs.Prelude.{nat_lt}
+use Rattle.std.proofs.Common.{◌≡◌, ◌≢◌, ◌+◌, ◌++◌, ◌∙◌, ℕ, ℤ, List, Option, Result, Ok, Err, OnOk, codes, refl, ap, subst}
 use Rattle.std.specs.Fmt.{decimal}
-use Rattle.std.specs.List.{concat}
-use Rattle.std.proofs.lemmas.Bool.{lt-ltb}
 use Rattle.std.specs.Io.KnownBytes.{Appends}
 use Rattle.std.proofs.KnownBytes.{Appends-trans}
 use Rattle.bson_json.specs.declared.mode.Mode.{Mode}
@@ -13,14 +10,10 @@ use Rattle.wire_msg.specs.{header_of}
 use Rattle.wire_record.specs.declared.head.RecordHead.{RecordHead}
 use Rattle.wire_record.specs.{HasHead, head_of, message_of}
 use Rattle.engines.specs.declared.json.Layout.{Layout}
-use Rattle.engines.specs.declared.record_text.RecordForm.{RecordForm}
 use Rattle.engines.specs.declared.record_text.RecordForm.TheVariants.{Text, Json}
-use Rattle.engines.specs.Documents.{is_there, or_nothing}
 use Rattle.engines.specs.FrameText.{IsFrameText}
 use Rattle.engines.specs.Json.{end_of_value}
-use Rattle.engines.specs.RecordText.{IsFrameJson, IsKindJson, IsRecordText, head_json, head_line, header_json, named, record_closing, record_front}
-use Rattle.engines.specs.Parts.{AreParts, PartsAre, are_there}
-use Rattle.engines.specs.Records.{RecordsText, records_of}
+use Rattle.engines.specs.RecordText.{IsFrameJson, IsKindJson, IsRecordText, head_json, head_line, header_json, named, record_front}
 use Rattle.engines.proofs.FrameTexts.{Wrote}
 
 -- a text of one sort is one of another
@@ -76,18 +69,3 @@ pub lines_written : {E : Type 0} (r : Result (Unit {0}) E) (a b c : Option (List
 lines_written (Err x) a b c start bytes frame h head message p w = tt
 lines_written (Ok x) a b c start bytes frame h head message p (text, text_is, t) =
     (head_line h ++ text, (h, text, head, subst (λ (y : List ℕ). IsFrameText (start + 20) y text) message text_is, refl), Appends-trans a b c (head_line h) text p t)
-
--- whether there are records is told by where the reader stands
-any_there : (form : RecordForm) (limit : ℕ) (rs : List (List ℕ)) → AreParts (records_of form limit) rs → nat_lt 8 (8 + length (concat rs)) ≡ are_there rs
-any_there form limit [] are = refl
-any_there form limit (r ∷ rs) are = lt-ltb 8 (8 + length (concat (r ∷ rs))) (omega (arith, are.0.head, length-append r (concat rs)))
-
--- what follows the texts of all records
-pub closing_told : {E : Type 0} (r : Result (Unit {0}) E) (a b : Option (List ℕ)) (form : RecordForm) (start : ℕ) (word : List ℕ) (place : Option ℕ) (bytes texts : List ℕ) (last : Option (List ℕ))
-    (are : PartsAre (records_of form 48000000) 8 place bytes texts last) → start ≡ 8 + length (concat are.have.parts) → word ≡ record_closing form (nat_lt 8 start) → OnOk r (Appends a b word)
-    → OnOk r ((closing : List ℕ) × RecordsText form place bytes (texts ++ (closing ++ or_nothing last)) (is_there last) × Appends a b closing)
-closing_told (Err x) a b form start word place bytes texts last are at is w = tt
-closing_told (Ok x) a b form start word place bytes texts last are at is w =
-    let any : nat_lt 8 start ≡ are_there are.have.parts = ap (nat_lt 8) at ∙ any_there form 48000000 are.have.parts are.have.parts_are in
-    let same : word ≡ record_closing form (are_there are.have.parts) = is ∙ ap (record_closing form) any in
-    (word, (texts, last, are, ap (λ (y : List ℕ). texts ++ (y ++ or_nothing last)) same, refl), w)

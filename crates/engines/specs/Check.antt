@@ -4,8 +4,8 @@ use Rattle.std.specs.Fmt.{decimal}
 use Rattle.bson_elem.specs.{Tree}
 use Rattle.bson_raw.specs.{is_plain}
 use Rattle.bson_text.specs.{document_size}
-use Rattle.engines.specs.Documents.{IsWholeText, nothing, told_by}
-use Rattle.engines.specs.Output.{TextOf}
+use Rattle.engines.specs.Documents.{IsWholeText, told_by}
+use Rattle.engines.specs.Output.{TextOf, nothing}
 
 -- the end of a document's line, by whether it is in canonical form
 abbrev pub form_word : Bool → List ℕ

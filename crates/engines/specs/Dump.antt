@@ -2,8 +2,8 @@
 use Rattle.std.specs.Prelude.{ℕ, List, Bool, true, false, Option, Some}
 use Rattle.bson_elem.specs.{Tree}
 use Rattle.bson_text.specs.{document_text, document_text_at}
-use Rattle.engines.specs.Documents.{IsWholeText, nothing, told_at}
-use Rattle.engines.specs.Output.{TextOf}
+use Rattle.engines.specs.Documents.{IsWholeText, told_at}
+use Rattle.engines.specs.Output.{TextOf, nothing}
 
 -- the text of a document that begins at this offset, by whether with offsets
 abbrev pub dump_text : Bool → ℕ → Tree → List ℕ

@@ -8,8 +8,8 @@ pub mod InputFault
 pub mod Documents
 pub mod Source
 pub mod Walk
-pub mod Parts
-pub mod PartWalk
+pub mod Items
+pub mod ItemWalk
 pub mod HexWalk
 pub mod DocumentWalk
 pub mod Salvaged

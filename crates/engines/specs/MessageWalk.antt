@@ -1,20 +1,25 @@
 -- What is written for the messages of an input, piece by piece.
 use Rattle.engines.specs.declared.messages.MessageReader.{MessageReader}
 use Rattle.engines.specs.declared.msg.MessageForm.{MessageForm}
-use Rattle.engines.specs.Documents.{nothing}
 use Rattle.engines.specs.Msg.{messages_of}
-use Rattle.engines.specs.PartWalk.{PartReading, PartWalk, part_tells}
+use Rattle.engines.specs.Output.{nothing}
+use Rattle.engines.specs.ItemWalk.{ItemReading, ItemWalk, item_tells}
 use Rattle.engines.specs.Walk.{Tells}
 
 -- where a reader of messages stands
-abbrev pub message_reading : MessageReader → PartReading
+abbrev pub message_reading : MessageReader → ItemReading
 message_reading r = record { limit = r.messages.limit; held = r.messages.held; start = r.start }
 
 -- how they are gone over, which are written in this form
-abbrev pub message_walk : MessageForm → PartWalk MessageReader
-message_walk form =
-    record { reading = message_reading; kind = messages_of form; base = 0; closing = nothing }
+abbrev pub message_walk : MessageForm → ItemWalk MessageReader
+message_walk form = record {
+  reading = message_reading;
+  kind = messages_of form;
+  limit = 48000000;
+  base = 0;
+  closing = nothing;
+}
 
 -- what is told of messages that are written in this form
 abbrev pub message_tells : MessageForm → Tells MessageReader
-message_tells form = part_tells (message_walk form)
+message_tells form = item_tells (message_walk form)

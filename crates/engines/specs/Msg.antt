@@ -5,10 +5,9 @@ use Rattle.wire_msg.specs.{IsBad, IsMessage, IsOpen, Message, SpellsMsg}
 use Rattle.wire_text.specs.{IsMessageJson, message_text}
 use Rattle.engines.specs.declared.msg.MessageForm.{MessageForm}
 use Rattle.engines.specs.declared.msg.MessageForm.TheVariants.{Text, Json}
-use Rattle.engines.specs.Documents.{nothing}
-use Rattle.engines.specs.InputFault.{msg_line}
-use Rattle.engines.specs.Output.{TextOf}
-use Rattle.engines.specs.Parts.{AllParts, FirstParts, PartKind, PartsText}
+use Rattle.engines.specs.InputFault.{ended_inside_line, msg_line}
+use Rattle.engines.specs.Output.{TextOf, nothing}
+use Rattle.engines.specs.Items.{AllItems, FirstItems, ItemKind, ItemsText}
 
 -- what may be written for a message: its text; or a line with one JSON object, of which there are
 -- several where the message holds doubles
@@ -19,10 +18,11 @@ MayBeMessage (Json mode) m text =
 
 -- Messages within a limit, which are written in this form. A fault is told at its offset in the
 -- input.
-abbrev pub messages_of : MessageForm → ℕ → PartKind
+abbrev pub messages_of : MessageForm → ℕ → ItemKind
 messages_of form limit = record {
-  is_part = IsMessage limit;
+  is_item = IsMessage limit;
   is_open = IsOpen limit;
+  inside_line = ended_inside_line;
   is_bad = λ start bytes line.
       (f : MsgFault) × IsBad limit bytes f × (line ≡ msg_line (start + f.at) f.cause);
   is_text = λ start bytes text. (m : Message) × SpellsMsg m bytes × MayBeMessage form m text;
@@ -31,12 +31,12 @@ messages_of form limit = record {
 -- What `msg` writes for bytes, and whether it ends with a fault line. The message limit is
 -- 48,000,000 bytes.
 abbrev pub MsgText : MessageForm → TextOf
-MsgText form = PartsText (messages_of form 48000000) 0 nothing
+MsgText form = ItemsText (messages_of form 48000000) 0 nothing
 
 -- the texts of the first few messages in some bytes
 abbrev pub FirstMessages : MessageForm → List ℕ → List ℕ → Type 0
-FirstMessages form = FirstParts (messages_of form 48000000) 0
+FirstMessages form = FirstItems (messages_of form 48000000) 0
 
 -- the texts of all messages in some bytes, up to the first fault
 abbrev pub AllMessages : MessageForm → List ℕ → List ℕ → Type 0
-AllMessages form = AllParts (messages_of form 48000000) 0
+AllMessages form = AllItems (messages_of form 48000000) 0

@@ -1,5 +1,5 @@
 -- What a command writes for an input.
-use Rattle.std.specs.Prelude.{◌≡◌, ◌⊎◌, ℕ, Bool, List, Option, None, Some}
+use Rattle.std.specs.Prelude.{◌≡◌, ◌⊎◌, ℕ, Bool, true, false, List, [], Option, None, Some}
 use Rattle.std.specs.Io.KnownBytes.{Appends, Consumes}
 use Rattle.engines.specs.InputFault.{hex_line}
 use Rattle.engines.specs.Input.{bytes_of, hex_fault}
@@ -12,6 +12,20 @@ TextOf = Option ℕ → List ℕ → List ℕ → Bool → Type 0
 -- what a command writes for an input, by what it writes for bytes
 abbrev pub IsOutput : TextOf → Bool → List ℕ → List ℕ → Bool → Type 0
 IsOutput Text hex input = Text (hex_fault hex input) (bytes_of hex input)
+
+-- a line, or nothing
+abbrev pub or_nothing : Option (List ℕ) → List ℕ
+or_nothing None = []
+or_nothing (Some line) = line
+
+-- whether there is a line
+abbrev pub is_there : Option (List ℕ) → Bool
+is_there None = false
+is_there (Some line) = true
+
+-- nothing follows the texts
+abbrev pub nothing : Bool → List ℕ
+nothing any = []
 
 -- The last line of a rest, behind which the input isn't hexadecimal text at this offset, if there
 -- is one: that of this fault, where more bytes would decide what the rest is, which `Open` tells;

@@ -5,8 +5,8 @@ use Rattle.wire_play.specs.declared.playing.PlayStop.{PlayStop}
 use Rattle.wire_play.specs.declared.playing.PlayStop.TheVariants.{Failed, OutOfMemory}
 use Rattle.engines.specs.declared.run.RunEnd.{RunEnd}
 use Rattle.engines.specs.declared.run.RunEnd.TheVariants as run
-use Rattle.engines.specs.Documents.{or_nothing, is_there}
 use Rattle.engines.specs.InputFault.{script_line}
+use Rattle.engines.specs.Output.{is_there, or_nothing}
 
 -- the last line, if a line of the script is at fault
 abbrev pub last_of : Option ℕ → Option (List ℕ)

@@ -3,9 +3,9 @@ use Rattle.std.specs.Prelude.{◌≡◌, ℕ, ◌+◌, List}
 use Rattle.wire_record.specs.declared.fault.RecordFault.{RecordFault}
 use Rattle.wire_record.specs.{IsAtFault, IsRecord, WantsMore}
 use Rattle.engines.specs.declared.record_text.RecordForm.{RecordForm}
-use Rattle.engines.specs.InputFault.{record_line}
+use Rattle.engines.specs.InputFault.{ended_inside_line, record_line}
 use Rattle.engines.specs.Output.{TextOf}
-use Rattle.engines.specs.Parts.{AllParts, FirstParts, PartKind, PartsText}
+use Rattle.engines.specs.Items.{AllItems, FirstItems, ItemKind, ItemsText}
 use Rattle.engines.specs.RecordText.{IsRecordText, record_closing}
 
 -- more bytes decide whether these begin with a record
@@ -14,10 +14,11 @@ IsOpenRecord limit bytes = (more : ℕ) × WantsMore limit bytes more
 
 -- Records whose messages are within a limit, which are written in this form. A fault is told at its
 -- offset in the input.
-abbrev pub records_of : RecordForm → ℕ → PartKind
+abbrev pub records_of : RecordForm → ℕ → ItemKind
 records_of form limit = record {
-  is_part = IsRecord limit;
+  is_item = IsRecord limit;
   is_open = IsOpenRecord limit;
+  inside_line = ended_inside_line;
   is_bad = λ start bytes line.
       (f : RecordFault) × IsAtFault limit bytes f × (line ≡ record_line (start + f.at) f.cause);
   is_text = IsRecordText form;
@@ -26,12 +27,12 @@ records_of form limit = record {
 -- What is written for the bytes behind the eight of the signature, and whether it ends with a fault
 -- line. A message has at most 48,000,000 bytes.
 abbrev pub RecordsText : RecordForm → TextOf
-RecordsText form = PartsText (records_of form 48000000) 8 (record_closing form)
+RecordsText form = ItemsText (records_of form 48000000) 8 (record_closing form)
 
 -- the texts of the first few records in some bytes behind the signature
 abbrev pub FirstRecords : RecordForm → List ℕ → List ℕ → Type 0
-FirstRecords form = FirstParts (records_of form 48000000) 8
+FirstRecords form = FirstItems (records_of form 48000000) 8
 
 -- the texts of all of them, up to the first fault
 abbrev pub AllRecords : RecordForm → List ℕ → List ℕ → Type 0
-AllRecords form = AllParts (records_of form 48000000) 8
+AllRecords form = AllItems (records_of form 48000000) 8

@@ -3,8 +3,8 @@
 ghost use Rattle.std.specs.Prelude.{◌≡◌, ◌⊎◌, IfOk, IfSome, OnOk, false, true};
 ghost use Rattle.std.specs.Io.KnownBytes.{Appends, IsAtEnd};
 ghost use Rattle.engines.specs.Check.{CheckText, check_of, form_word, sized_line};
-ghost use Rattle.engines.specs.Documents.{AppendsFirst, WritesAll, nothing, told_by};
-ghost use Rattle.engines.specs.Output.{AppendsOne, AppendsText, IsOutput, WritesRead};
+ghost use Rattle.engines.specs.Documents.{AppendsFirst, WritesAll, told_by};
+ghost use Rattle.engines.specs.Output.{AppendsOne, AppendsText, IsOutput, WritesRead, nothing};
 ghost use Rattle.engines.specs.Run.{is_done, is_fault};
 ghost use Rattle.engines.specs.Salvaged.{FirstSalvaged, SalvageText, SalvagedSoFar};
 

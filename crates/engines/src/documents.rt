@@ -6,11 +6,12 @@ ghost use Rattle.std.specs.Io.KnownBytes.{Appends, IsAtEnd};
 ghost use Rattle.bson_elem.specs.{Spells, Tree};
 ghost use Rattle.bson_raw.specs.{document_bytes, is_plain};
 ghost use Rattle.bson_stream.specs.{IsOpen};
-ghost use Rattle.engines.specs.DocumentWalk.{GoesOver, IsWritten, document_tells};
-ghost use Rattle.engines.specs.Documents.{AppendsFirst, IsWholeText, TextRule, WritesAll, is_there};
-ghost use Rattle.engines.specs.Documents.{or_nothing};
+ghost use Rattle.engines.specs.DocumentWalk.{IsWritten, document_reading, document_tells};
+ghost use Rattle.engines.specs.Documents.{AppendsFirst, IsWholeText, TextRule, WritesAll};
+ghost use Rattle.engines.specs.Documents.{documents_of};
 ghost use Rattle.engines.specs.InputFault.{line_of};
-ghost use Rattle.engines.specs.Output.{AppendsText, IsOutput};
+ghost use Rattle.engines.specs.ItemWalk.{GoesOverItems};
+ghost use Rattle.engines.specs.Output.{AppendsText, IsOutput, is_there, or_nothing};
 ghost use Rattle.engines.specs.Run.{is_done, is_fault};
 ghost use Rattle.engines.specs.Walk.{Tells};
 
@@ -76,7 +77,8 @@ fn write_each<E: EachDocument, W: Write>(
 ) -> io::Result<Option<Stop>>
     requires { IsOpen documents.old.held }
     ensures { IfOk result (λ stop.
-        GoesOver (E.rule each.now) documents.old piece.now documents.new stop
+        GoesOverItems (λ limit. documents_of (E.rule each.now)) (document_reading documents.old)
+        piece.now (document_reading documents.new) stop
         (W.contents out.old) (W.contents out.new)) }
 {
     let mut rest = piece;

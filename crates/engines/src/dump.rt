@@ -5,9 +5,9 @@ ghost use Rattle.std.specs.Prelude.{length, true};
 ghost use Rattle.std.specs.Io.KnownBytes.{Appends, IsAtEnd};
 ghost use Rattle.bson_elem.specs.{Spells, Tree};
 ghost use Rattle.bson_raw.specs.{document_bytes};
-ghost use Rattle.engines.specs.Documents.{AppendsFirst, WritesAll, nothing, told_at};
+ghost use Rattle.engines.specs.Documents.{AppendsFirst, WritesAll, told_at};
 ghost use Rattle.engines.specs.Dump.{DumpText, dump_of, dump_text};
-ghost use Rattle.engines.specs.Output.{AppendsText, IsOutput};
+ghost use Rattle.engines.specs.Output.{AppendsText, IsOutput, nothing};
 ghost use Rattle.engines.specs.Run.{is_done, is_fault};
 
 use crate::documents::{EachDocument, Written, run_documents};

@@ -3,7 +3,7 @@
 ghost use Rattle.std.specs.Prelude.{◌≡◌, IfOk};
 ghost use Rattle.engines.specs.Any.{IsOpenFrame, frames_of};
 ghost use Rattle.engines.specs.FrameWalk.{any_reading, any_tells};
-ghost use Rattle.engines.specs.PartWalk.{GoesOverParts};
+ghost use Rattle.engines.specs.ItemWalk.{GoesOverItems};
 ghost use Rattle.engines.specs.Walk.{Tells};
 
 use crate::frame_text::write_frame;
@@ -35,7 +35,7 @@ fn write_each<W: Write>(
     out: &mut W,
 ) -> io::Result<Option<Stop>>
     requires { IsOpenFrame reader.old.frames.limit reader.old.frames.held }
-    ensures { IfOk result (λ stop. GoesOverParts frames_of (any_reading reader.old)
+    ensures { IfOk result (λ stop. GoesOverItems frames_of (any_reading reader.old)
         piece.now (any_reading reader.new) stop (W.contents out.old) (W.contents out.new)) }
 {
     let mut rest = piece;

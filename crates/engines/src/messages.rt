@@ -4,9 +4,9 @@ ghost use Rattle.std.specs.Prelude.{◌≡◌, ◌⊎◌, ◌+◌, IfOk, IfSome,
 ghost use Rattle.std.specs.Io.KnownBytes.{IsAtEnd, Keeps};
 ghost use Rattle.bson_json.specs.{WritesOne};
 ghost use Rattle.engines.specs.InputFault.{input_fault_line, msg_line};
+ghost use Rattle.engines.specs.ItemWalk.{GoesOverItems};
 ghost use Rattle.engines.specs.MessageWalk.{message_reading, message_tells};
 ghost use Rattle.engines.specs.Msg.{MayBeMessage, messages_of};
-ghost use Rattle.engines.specs.PartWalk.{GoesOverParts};
 ghost use Rattle.engines.specs.Walk.{Tells};
 ghost use Rattle.wire_msg.specs.{IsOpen, Message, SpellsMsg, msg_bytes};
 
@@ -66,7 +66,7 @@ fn write_each<W: Write>(
     out: &mut W,
 ) -> io::Result<Option<Stop>>
     requires { IsOpen reader.old.messages.limit reader.old.messages.held }
-    ensures { IfOk result (λ stop. GoesOverParts (messages_of form) (message_reading reader.old)
+    ensures { IfOk result (λ stop. GoesOverItems (messages_of form) (message_reading reader.old)
         piece.now (message_reading reader.new) stop (W.contents out.old) (W.contents out.new)) }
 {
     let mut rest = piece;

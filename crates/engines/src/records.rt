@@ -2,7 +2,7 @@
 
 ghost use Rattle.std.specs.Prelude.{◌≡◌, ◌+◌, IfOk};
 ghost use Rattle.engines.specs.InputFault.{input_fault_line, record_line};
-ghost use Rattle.engines.specs.PartWalk.{GoesOverParts};
+ghost use Rattle.engines.specs.ItemWalk.{GoesOverItems};
 ghost use Rattle.engines.specs.RecordWalk.{file_reading, record_tells};
 ghost use Rattle.engines.specs.Records.{IsOpenRecord, records_of};
 ghost use Rattle.engines.specs.Walk.{Tells};
@@ -50,7 +50,7 @@ fn write_each<W: Write>(
     out: &mut W,
 ) -> io::Result<Option<Stop>>
     requires { IsOpenRecord reader.old.records.limit reader.old.records.held }
-    ensures { IfOk result (λ stop. GoesOverParts (records_of form) (file_reading reader.old)
+    ensures { IfOk result (λ stop. GoesOverItems (records_of form) (file_reading reader.old)
         piece.now (file_reading reader.new) stop (W.contents out.old) (W.contents out.new)) }
 {
     let mut rest = piece;

@@ -1,13 +1,15 @@
-use Rattle.std.proofs.Common.{◌+◌, ◌++◌, length}
+use Rattle.std.proofs.Common.{◌≡◌, ◌+◌, ◌++◌, length}
 use Rattle.bson_stream.specs.{IsOpen}
-use Rattle.engines.specs.DocumentWalk.{AreWritten}
+use Rattle.engines.specs.Documents.{documents_of}
+use Rattle.engines.specs.ItemWalk.{ItemsWritten}
 use Rattle.engines.proofs.documents.write_each.Given as goal
 
 -- the texts of the documents so far were written, and the rest is what the reader holds and what it wasn't fed yet
 abbrev pub invariant-loop-fed : goal.invariant-loop-fed
 invariant-loop-fed g l =
     IsOpen l.documents.held
-    × AreWritten (g.E.EachDocument.rule l.each) (l.initial.documents.held ++ l.piece) l.initial.documents.start l.documents.start (l.documents.held ++ l.rest)
+    × (l.documents.limit ≡ l.initial.documents.limit)
+    × ItemsWritten (documents_of (g.E.EachDocument.rule l.each)) (l.initial.documents.held ++ l.piece) l.initial.documents.start l.documents.start (l.documents.held ++ l.rest)
     (g.W.Write.contents l.initial.out) (g.W.Write.contents l.out)
 
 abbrev pub decreases-loop-fed : goal.decreases-loop-fed

@@ -6,11 +6,11 @@ use Rattle.engines.specs.Any.{IsOpenFrame, frames_of}
 use Rattle.engines.specs.FrameText.{IsFrameText}
 use Rattle.engines.specs.InputFault.{msg_line}
 use Rattle.engines.proofs.FrameReadings.{frame_alone, frames_kind, takes_some}
-use Rattle.engines.proofs.PartReadings.{fewer_left, no_part, part_fed, part_released, some_left, whole_takes}
+use Rattle.engines.proofs.ItemReadings.{fewer_left, no_item, item_fed, item_released, some_left, whole_takes}
 use Rattle.engines.proofs.frames.write_each.Goals as goal
 
 pub loop-taken-init : goal.loop-taken-init
-loop-taken-init g c = (c.requires, refl, no_part _ _ _ _)
+loop-taken-init g c = (c.requires, refl, no_item _ _ _ _)
 
 pub loop-taken-smaller-else-is_empty : goal.loop-taken-smaller-else-is_empty
 loop-taken-smaller-else-is_empty g c =
@@ -30,7 +30,7 @@ returns-in-Bad g c =
     record {
       limit = c.in-Ok.ensures.limit ∙ i.1;
       rest = new.held ++ rest;
-      written = part_fed _ n _ c.loop-taken.reader.frames.held new.held c.loop-taken.rest.now _ _ _ _ i.2 c.in-Ok.ensures.held.1;
+      written = item_fed _ n _ c.loop-taken.reader.frames.held new.held c.loop-taken.rest.now _ _ _ _ i.2 c.in-Ok.ensures.held.1;
       stopped = (frames_kind new.limit).bad_longer start new.held rest (msg_line start c.in-Bad.fault.cause) (c.in-Bad.ensures.0, ap (λ (x : MsgFault). msg_line start x.cause) c.in-Bad.ensures.1);
     }
 
@@ -59,8 +59,8 @@ loop-taken-preserved g c =
     let written = c.in_ok-write_frame-in-Whole.ensures in
     let next : c.in-Some.behind ≡ start + length new.held = c.in-Some.ensures.1 ∙ ap (λ (x : List ℕ). start + length x) (c.as_bytes.ensures ∙ alone) in
     let none = ap (λ (x : FrameReading). x.held) c.release.ensures in
-    let fed = part_fed _ n _ r.held new.held old _ _ _ _ i.2 c.in-Ok.ensures.held.1 in (
+    let fed = item_fed _ n _ r.held new.held old _ _ _ _ i.2 c.in-Ok.ensures.held.1 in (
       subst (IsOpenFrame c.release.new.self.limit) (sym none) (frames_kind c.release.new.self.limit).nothing_open,
       ap (λ (x : FrameReading). x.limit) c.release.ensures ∙ c.in-Ok.ensures.limit ∙ i.1,
-      part_released _ _ new.held c.release.new.self.held _ written.0 _ start _ _ _ _ fed is (subst (λ (b : List ℕ). IsFrameText start b written.0) alone written.1) written.2 next none,
+      item_released _ _ new.held c.release.new.self.held _ written.0 _ start _ _ _ _ fed is (subst (λ (b : List ℕ). IsFrameText start b written.0) alone written.1) written.2 next none,
     )

@@ -1,6 +1,6 @@
 use Rattle.std.proofs.Common.{◌≡◌, ◌++◌, length}
 use Rattle.engines.specs.Any.{IsOpenFrame, frames_of}
-use Rattle.engines.specs.PartWalk.{PartsWritten}
+use Rattle.engines.specs.ItemWalk.{ItemsWritten}
 use Rattle.engines.proofs.frames.write_each.Given as goal
 
 -- the texts of the frames so far were written, and the rest is what the reader holds and what it wasn't fed yet
@@ -8,7 +8,7 @@ abbrev pub invariant-loop-taken : goal.invariant-loop-taken
 invariant-loop-taken g l =
     IsOpenFrame l.reader.frames.limit l.reader.frames.held
     × (l.reader.frames.limit ≡ l.initial.reader.frames.limit)
-    × PartsWritten (frames_of l.initial.reader.frames.limit) (l.initial.reader.frames.held ++ l.piece) l.initial.reader.start l.reader.start (l.reader.frames.held ++ l.rest)
+    × ItemsWritten (frames_of l.initial.reader.frames.limit) (l.initial.reader.frames.held ++ l.piece) l.initial.reader.start l.reader.start (l.reader.frames.held ++ l.rest)
     (g.W.Write.contents l.initial.out) (g.W.Write.contents l.out)
 
 abbrev pub decreases-loop-taken : goal.decreases-loop-taken

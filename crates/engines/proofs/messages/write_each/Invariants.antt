@@ -1,7 +1,7 @@
 use Rattle.std.proofs.Common.{◌≡◌, ◌+◌, ◌++◌, length}
 use Rattle.wire_msg.specs.{IsOpen}
 use Rattle.engines.specs.Msg.{messages_of}
-use Rattle.engines.specs.PartWalk.{PartsWritten}
+use Rattle.engines.specs.ItemWalk.{ItemsWritten}
 use Rattle.engines.proofs.messages.write_each.Given as goal
 
 -- the texts of the messages so far were written, and the rest is what the reader holds and what it wasn't fed yet
@@ -9,7 +9,7 @@ abbrev pub invariant-loop-fed : goal.invariant-loop-fed
 invariant-loop-fed g l =
     IsOpen l.reader.messages.limit l.reader.messages.held
     × (l.reader.messages.limit ≡ l.initial.reader.messages.limit)
-    × PartsWritten (messages_of l.form l.initial.reader.messages.limit) (l.initial.reader.messages.held ++ l.piece) l.initial.reader.start l.reader.start (l.reader.messages.held ++ l.rest)
+    × ItemsWritten (messages_of l.form l.initial.reader.messages.limit) (l.initial.reader.messages.held ++ l.piece) l.initial.reader.start l.reader.start (l.reader.messages.held ++ l.rest)
     (g.W.Write.contents l.initial.out) (g.W.Write.contents l.out)
 
 abbrev pub decreases-loop-fed : goal.decreases-loop-fed

@@ -4,12 +4,12 @@ use Rattle.wire_record.specs.{IsRecord, IsWholeRecord, RecordReading, record_byt
 use Rattle.engines.specs.RecordText.{IsRecordText}
 use Rattle.engines.specs.RecordWalk.{file_reading}
 use Rattle.engines.specs.Records.{IsOpenRecord, records_of}
-use Rattle.engines.proofs.PartReadings.{fewer_left, no_part, part_fed, part_released, some_left, stopped_at_fault, whole_takes}
+use Rattle.engines.proofs.ItemReadings.{fewer_left, no_item, item_fed, item_released, some_left, stopped_at_fault, whole_takes}
 use Rattle.engines.proofs.RecordReadings.{record_alone, records_kind, takes_some}
 use Rattle.engines.proofs.records.write_each.Goals as goal
 
 pub loop-taken-init : goal.loop-taken-init
-loop-taken-init g c = (c.requires, refl, no_part _ _ _ _)
+loop-taken-init g c = (c.requires, refl, no_item _ _ _ _)
 
 pub loop-taken-smaller-else-is_empty : goal.loop-taken-smaller-else-is_empty
 loop-taken-smaller-else-is_empty g c =
@@ -28,7 +28,7 @@ returns-in-Bad g c =
     record {
       limit = c.in-Ok.ensures.limit ∙ i.1;
       rest = new.held ++ rest;
-      written = part_fed _ n _ c.loop-taken.reader.records.held new.held c.loop-taken.rest.now _ _ _ _ i.2 c.in-Ok.ensures.held.1;
+      written = item_fed _ n _ c.loop-taken.reader.records.held new.held c.loop-taken.rest.now _ _ _ _ i.2 c.in-Ok.ensures.held.1;
       stopped = stopped_at_fault (records_of c.args.form) (file_reading (record { alloc = c.loop-taken.reader.alloc; records = new; start = c.loop-taken.reader.start })) new.held rest c.stop_at.result (records_kind c.args.form new.limit)
           (λ f is. (c.in-Bad.fault, c.in-Bad.ensures, c.stop_at.ensures f is));
     }
@@ -58,8 +58,8 @@ loop-taken-preserved g c =
     let written = c.in_ok-write_record-in-Whole.ensures in
     let next : c.in-Some.behind ≡ start + length new.held = c.in-Some.ensures.1 ∙ ap (λ (x : List ℕ). start + length x) (c.as_bytes.ensures ∙ alone) in
     let none = ap (λ (x : RecordReading). x.held) c.release.ensures in
-    let fed = part_fed _ n _ r.held new.held old _ _ _ _ i.2 c.in-Ok.ensures.held.1 in (
+    let fed = item_fed _ n _ r.held new.held old _ _ _ _ i.2 c.in-Ok.ensures.held.1 in (
       subst (IsOpenRecord c.release.new.self.limit) (sym none) (records_kind c.args.form c.release.new.self.limit).nothing_open,
       ap (λ (x : RecordReading). x.limit) c.release.ensures ∙ c.in-Ok.ensures.limit ∙ i.1,
-      part_released _ _ new.held c.release.new.self.held _ written.0 _ start _ _ _ _ fed is (subst (λ (b : List ℕ). IsRecordText c.args.form start b written.0) alone written.1) written.2 next none,
+      item_released _ _ new.held c.release.new.self.held _ written.0 _ start _ _ _ _ fed is (subst (λ (b : List ℕ). IsRecordText c.args.form start b written.0) alone written.1) written.2 next none,
     )

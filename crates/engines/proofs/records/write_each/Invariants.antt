@@ -1,5 +1,5 @@
 use Rattle.std.proofs.Common.{◌≡◌, ◌++◌, length}
-use Rattle.engines.specs.PartWalk.{PartsWritten}
+use Rattle.engines.specs.ItemWalk.{ItemsWritten}
 use Rattle.engines.specs.Records.{IsOpenRecord, records_of}
 use Rattle.engines.proofs.records.write_each.Given as goal
 
@@ -8,7 +8,7 @@ abbrev pub invariant-loop-taken : goal.invariant-loop-taken
 invariant-loop-taken g l =
     IsOpenRecord l.reader.records.limit l.reader.records.held
     × (l.reader.records.limit ≡ l.initial.reader.records.limit)
-    × PartsWritten (records_of l.form l.initial.reader.records.limit) (l.initial.reader.records.held ++ l.piece) l.initial.reader.start l.reader.start (l.reader.records.held ++ l.rest)
+    × ItemsWritten (records_of l.form l.initial.reader.records.limit) (l.initial.reader.records.held ++ l.piece) l.initial.reader.start l.reader.start (l.reader.records.held ++ l.rest)
     (g.W.Write.contents l.initial.out) (g.W.Write.contents l.out)
 
 abbrev pub decreases-loop-taken : goal.decreases-loop-taken

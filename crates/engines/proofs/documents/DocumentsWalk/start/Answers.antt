@@ -1,7 +1,12 @@
 use Rattle.std.proofs.Common.{ap}
 use Rattle.bson_stream.specs.{Reading}
-use Rattle.engines.proofs.DocumentLemmas.{begun}
+use Rattle.engines.specs.DocumentWalk.{document_walk}
+use Rattle.engines.proofs.DocumentReadings.{documents_kind}
+use Rattle.engines.proofs.ItemReadings.{items_begun}
 use Rattle.engines.proofs.documents.DocumentsWalk.start.Goals as goal
 
 pub returns : goal.returns
-returns g c = begun (g.E.EachDocument.rule c.args.self.now.each) (g.E.EachDocument.closing c.args.self.now.each) c.new.result (ap (λ (r : Reading). r.held) c.new.ensures) (ap (λ (r : Reading). r.start) c.new.ensures)
+returns g c =
+    let rule = g.E.EachDocument.rule c.args.self.now.each in
+    let new = c.new.ensures in
+    items_begun (document_walk rule (g.E.EachDocument.closing c.args.self.now.each)) (documents_kind rule) c.new.result (ap (λ (r : Reading). r.limit) new) (ap (λ (r : Reading). r.held) new) (ap (λ (r : Reading). r.start) new)

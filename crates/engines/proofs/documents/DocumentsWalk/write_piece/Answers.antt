@@ -1,7 +1,11 @@
-use Rattle.engines.proofs.DocumentLemmas.{gone_over}
+use Rattle.engines.specs.DocumentWalk.{document_walk}
+use Rattle.engines.proofs.DocumentReadings.{documents_kind}
+use Rattle.engines.proofs.ItemReadings.{items_walk}
 use Rattle.engines.proofs.PieceLemmas.{where_ok}
 use Rattle.engines.proofs.documents.DocumentsWalk.write_piece.Goals as goal
 
 pub returns : goal.returns
 returns g c = λ read texts b.
-    where_ok c.write_each.result _ _ (λ stop w. gone_over (g.E.EachDocument.rule c.args.self.now.each) (g.E.EachDocument.closing c.args.self.now.each) c.args.reader.now c.write_each.new.documents c.args.piece.now stop _ _ read texts b w) c.write_each.ensures
+    let rule = g.E.EachDocument.rule c.args.self.now.each in
+    where_ok c.write_each.result _ _
+    (λ stop w. items_walk (document_walk rule (g.E.EachDocument.closing c.args.self.now.each)) (documents_kind rule) c.args.reader.now c.write_each.new.documents c.args.piece.now stop _ _ read texts b w) c.write_each.ensures

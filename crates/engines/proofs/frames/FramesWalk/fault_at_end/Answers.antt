@@ -2,7 +2,7 @@ use Rattle.std.proofs.Common.{length, ap, sym, ◌∙◌}
 use Rattle.std.proofs.lemmas.List.{nil_from_length}
 use Rattle.engines.specs.FrameWalk.{any_walk}
 use Rattle.engines.proofs.FrameReadings.{frames_kind}
-use Rattle.engines.proofs.PartReadings.{ends_between, ends_inside}
+use Rattle.engines.proofs.ItemReadings.{ends_between, ends_inside}
 use Rattle.engines.proofs.frames.FramesWalk.fault_at_end.Goals as goal
 
 pub returns-then-held-eq0 : goal.returns-then-held-eq0

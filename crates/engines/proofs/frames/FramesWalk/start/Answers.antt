@@ -2,10 +2,10 @@ use Rattle.std.proofs.Common.{ap, refl}
 use Rattle.wire_frame.specs.{FrameReading}
 use Rattle.engines.specs.FrameWalk.{any_walk}
 use Rattle.engines.proofs.FrameReadings.{frames_kind}
-use Rattle.engines.proofs.PartReadings.{parts_begun}
+use Rattle.engines.proofs.ItemReadings.{items_begun}
 use Rattle.engines.proofs.frames.FramesWalk.start.Goals as goal
 
 pub returns : goal.returns
 returns c =
     let new = c.new-frames.ensures in
-    parts_begun any_walk (frames_kind 48000000) (record { alloc = c.args.alloc; frames = c.new-frames.result; start = 0 }) (ap (λ (r : FrameReading). r.limit) new) (ap (λ (r : FrameReading). r.held) new) refl
+    items_begun any_walk (frames_kind 48000000) (record { alloc = c.args.alloc; frames = c.new-frames.result; start = 0 }) (ap (λ (r : FrameReading). r.limit) new) (ap (λ (r : FrameReading). r.held) new) refl

@@ -1,6 +1,6 @@
 use Rattle.engines.specs.FrameWalk.{any_walk}
 use Rattle.engines.proofs.FrameReadings.{frames_kind}
-use Rattle.engines.proofs.PartReadings.{may_feed, parts_walk}
+use Rattle.engines.proofs.ItemReadings.{may_feed, items_walk}
 use Rattle.engines.proofs.PieceLemmas.{where_ok}
 use Rattle.engines.proofs.frames.FramesWalk.write_piece.Goals as goal
 
@@ -10,4 +10,4 @@ write_each-requires g c =
 
 pub returns : goal.returns
 returns g c = λ read texts b.
-    where_ok c.write_each.result _ _ (λ stop w. parts_walk any_walk (frames_kind 48000000) c.args.reader.now c.write_each.new.reader c.args.piece.now stop _ _ read texts b w) c.write_each.ensures
+    where_ok c.write_each.result _ _ (λ stop w. items_walk any_walk (frames_kind 48000000) c.args.reader.now c.write_each.new.reader c.args.piece.now stop _ _ read texts b w) c.write_each.ensures

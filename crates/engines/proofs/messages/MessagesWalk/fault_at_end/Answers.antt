@@ -1,7 +1,7 @@
 use Rattle.std.proofs.Common.{◌≡◌, ◌≢◌, []}
 use Rattle.engines.specs.MessageWalk.{message_walk}
 use Rattle.engines.proofs.MessageReadings.{messages_kind}
-use Rattle.engines.proofs.PartReadings.{ends_between, ends_inside, is_empty, may_feed}
+use Rattle.engines.proofs.ItemReadings.{ends_between, ends_inside, is_empty, may_feed}
 use Rattle.engines.proofs.messages.MessagesWalk.fault_at_end.Goals as goal
 
 pub returns-in-Ended : goal.returns-in-Ended

@@ -1,6 +1,6 @@
 use Rattle.engines.specs.MessageWalk.{message_walk}
 use Rattle.engines.proofs.MessageReadings.{messages_kind}
-use Rattle.engines.proofs.PartReadings.{may_feed, parts_walk}
+use Rattle.engines.proofs.ItemReadings.{may_feed, items_walk}
 use Rattle.engines.proofs.PieceLemmas.{where_ok}
 use Rattle.engines.proofs.messages.MessagesWalk.write_piece.Goals as goal
 
@@ -12,4 +12,4 @@ write_each-requires g c =
 pub returns : goal.returns
 returns g c = λ read texts b.
     let form = c.args.self.now.form in
-    where_ok c.write_each.result _ _ (λ stop w. parts_walk (message_walk form) (messages_kind form 48000000) c.args.reader.now c.write_each.new.reader c.args.piece.now stop _ _ read texts b w) c.write_each.ensures
+    where_ok c.write_each.result _ _ (λ stop w. items_walk (message_walk form) (messages_kind form 48000000) c.args.reader.now c.write_each.new.reader c.args.piece.now stop _ _ read texts b w) c.write_each.ensures

@@ -2,8 +2,7 @@ use Rattle.std.proofs.Common.{◌≡◌, ◌++◌, ℕ, List, Bool, Option, Resu
 use Rattle.std.specs.Io.KnownBytes.{Appends}
 use Rattle.std.proofs.KnownBytes.{Appends-trans}
 use Rattle.wire_play.specs.{TextUpTo, Writes}
-use Rattle.engines.specs.Documents.{or_nothing, is_there}
-use Rattle.engines.specs.Output.{AppendsText}
+use Rattle.engines.specs.Output.{AppendsText, is_there, or_nothing}
 use Rattle.engines.specs.Play.{ScriptText, last_of}
 use Rattle.engines.proofs.play.PlayEngine.write_text.Goals as goal
 

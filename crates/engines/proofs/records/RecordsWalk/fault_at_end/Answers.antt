@@ -1,7 +1,7 @@
 use Rattle.std.proofs.Common.{length, ap, sym, ◌∙◌}
 use Rattle.std.proofs.lemmas.List.{nil_from_length}
 use Rattle.engines.specs.RecordWalk.{record_walk}
-use Rattle.engines.proofs.PartReadings.{ends_between, ends_inside}
+use Rattle.engines.proofs.ItemReadings.{ends_between, ends_inside}
 use Rattle.engines.proofs.RecordReadings.{records_kind}
 use Rattle.engines.proofs.records.RecordsWalk.fault_at_end.Goals as goal
 

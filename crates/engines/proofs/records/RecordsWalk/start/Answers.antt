@@ -2,11 +2,11 @@ use Rattle.std.proofs.Common.{ap, refl}
 use Rattle.wire_record.specs.{RecordReading}
 use Rattle.engines.specs.RecordWalk.{record_walk}
 use Rattle.engines.proofs.RecordReadings.{records_kind}
-use Rattle.engines.proofs.PartReadings.{parts_begun}
+use Rattle.engines.proofs.ItemReadings.{items_begun}
 use Rattle.engines.proofs.records.RecordsWalk.start.Goals as goal
 
 pub returns : goal.returns
 returns c =
     let form = c.args.self.now.form in
     let new = c.new-records.ensures in
-    parts_begun (record_walk form) (records_kind form 48000000) (record { alloc = c.args.alloc; records = c.new-records.result; start = 8 }) (ap (λ (r : RecordReading). r.limit) new) (ap (λ (r : RecordReading). r.held) new) refl
+    items_begun (record_walk form) (records_kind form 48000000) (record { alloc = c.args.alloc; records = c.new-records.result; start = 8 }) (ap (λ (r : RecordReading). r.limit) new) (ap (λ (r : RecordReading). r.held) new) refl

@@ -1,8 +1,10 @@
 use Rattle.std.proofs.Common.{◌∙◌}
-use Rattle.engines.proofs.RecordTexts.{closing_told}
+use Rattle.engines.specs.RecordWalk.{record_walk}
+use Rattle.engines.proofs.ItemReadings.{closing_told}
+use Rattle.engines.proofs.RecordReadings.{records_kind}
 use Rattle.engines.proofs.records.RecordsWalk.write_closing.Goals as goal
 
 pub returns : goal.returns
 returns g c = λ place bytes texts last e.
-    closing_told c.write_all.result (g.W.Write.contents c.args.out.now) (g.W.Write.contents c.write_all.new.self) c.args.self.now.form c.args.reader.now.start _ place bytes texts last e.0 e.1
-    (c.as_bytes.ensures.value ∙ c.record_closing.ensures) c.write_all.ensures.bytes
+    let form = c.args.self.now.form in
+    closing_told (record_walk form) (records_kind form 48000000) c.write_all.result _ _ c.args.reader.now _ place bytes texts last e (c.as_bytes.ensures.value ∙ c.record_closing.ensures) c.write_all.ensures.bytes
