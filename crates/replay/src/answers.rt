@@ -94,21 +94,19 @@ impl Answers {
         Some(self.answers.remove(i))
     }
 
-    /// Takes out the first answer that isn't waited for at this moment any more, if there is one.
-    pub fn take_due(&mut self, now: Instant) -> Option<Answer> {
-        let i = self
-            .answers
-            .iter()
-            .position(|answer| is_past(answer.due, now))?;
-        Some(self.answers.remove(i))
+    /// Returns them, in order.
+    pub fn as_slice(&self) -> &[Answer] {
+        &self.answers
     }
 
-    /// Takes out the first answer, if there is one.
-    pub fn take_first(&mut self) -> Option<Answer> {
-        if self.answers.is_empty() {
-            return None;
-        }
-        Some(self.answers.remove(0))
+    /// Forgets those that aren't waited for at this moment any more.
+    pub fn forget_due(&mut self, now: Instant) {
+        self.answers.retain(|answer| !is_past(answer.due, now));
+    }
+
+    /// Forgets all.
+    pub fn clear(&mut self) {
+        self.answers.clear();
     }
 
     /// Returns the first moment up to which one is waited for, if one is.

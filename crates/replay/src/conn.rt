@@ -97,12 +97,10 @@ impl Conn {
             self.line = Line::Told;
             teller.tell_failed(self.number, broken)?;
         }
-        for _ in 0..u64::MAX {
-            let Some(answer) = self.sides.recorded.take_first() else {
-                break;
-            };
+        for answer in self.sides.recorded.as_slice() {
             teller.tell_missing(self.number, answer.request, &answer.bytes)?;
         }
+        self.sides.recorded.clear();
         Ok(())
     }
 
@@ -269,12 +267,12 @@ impl Conn {
         now: Instant,
         teller: &mut Teller<'_, W>,
     ) -> io::Result<()> {
-        for _ in 0..u64::MAX {
-            let Some(answer) = self.sides.recorded.take_due(now) else {
-                break;
-            };
-            teller.tell_missing(self.number, answer.request, &answer.bytes)?;
+        for answer in self.sides.recorded.as_slice() {
+            if is_past(answer.due, now) {
+                teller.tell_missing(self.number, answer.request, &answer.bytes)?;
+            }
         }
+        self.sides.recorded.forget_due(now);
         if is_past(self.stall, now) {
             let kind = ErrorKind::TimedOut;
             return self.close(Broken::Sending(LinkFault { kind }), teller);
@@ -292,14 +290,8 @@ impl Conn {
     /// # Errors
     ///
     /// Returns an error if writing fails or memory runs out.
-    pub fn tell_unexpected<W: Write + Drop>(
-        &mut self,
-        teller: &mut Teller<'_, W>,
-    ) -> io::Result<()> {
-        for _ in 0..u64::MAX {
-            let Some(answer) = self.sides.received.take_first() else {
-                break;
-            };
+    pub fn tell_unexpected<W: Write + Drop>(&self, teller: &mut Teller<'_, W>) -> io::Result<()> {
+        for answer in self.sides.received.as_slice() {
             teller.tell_unexpected(self.number, answer.request, &answer.bytes)?;
         }
         Ok(())
