@@ -159,8 +159,9 @@ impl Sharing {
             server.block(number)?;
             return Ok(false);
         }
+        let connection = client.downstream.connection();
         let outstanding = server.upstream.outstanding();
-        if !server.used.may_serve(client.downstream.connection(), outstanding) {
+        if !server.used.may_serve(connection, outstanding) {
             self.close(number, Leave::Lost(upstream), out)?;
             return Ok(false);
         }
