@@ -26,7 +26,8 @@ impl Use {
     /// Returns true if a request of this client may go over a connection that is used so, and over
     /// which so many calls await a reply.
     pub fn may_serve(self, client: u64, outstanding: usize) -> bool
-        ensures { result ≡ true → MayServe self client outstanding }
+        ensures found { result ≡ true → MayServe self client outstanding }
+        ensures only { MayServe self client outstanding → result ≡ true }
     {
         match self {
             Use::Shared => true,
