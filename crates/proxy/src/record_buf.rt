@@ -75,6 +75,8 @@ impl RecordBuf {
             IfSome self.new.left (λ after.
             after + length (record_of head (frame_bytes frame.entry)) ≡ before))) }
         ensures full { self.old.left ≡ None → IfOk result (λ fits. fits ≡ false) }
+        ensures short { IfOk result (λ fits. fits ≡ false → IfSome self.old.left (λ before.
+            before < length (record_of head (frame_bytes frame.entry)))) }
         ensures unchanged { OnErr result (self.new.bytes.items ≡ self.old.bytes.items) }
     {
         let Some(left) = self.left else {
