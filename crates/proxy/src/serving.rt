@@ -12,7 +12,7 @@ use std::alloc::Global;
 use std::fs::File;
 use std::io;
 use std::io::{BufWriter, ErrorKind, Read, Write};
-use std::net::{Net, SocketAddr, ToSocketAddrs};
+use std::net::{IpAddr, Ipv4Addr, Ipv6Addr, Net, SocketAddr, ToSocketAddrs};
 use std::rt::Files;
 use std::time::Clock;
 use test_script::{Cause, Script};
@@ -35,10 +35,19 @@ fn address_of<R: Net>(rt: &R, address: &str) -> io::Result<SocketAddr> {
     }
 }
 
+/// Returns the address that a connection to this one comes to: of all addresses the loopback one.
+fn reached(address: IpAddr) -> IpAddr {
+    match address.to_canonical() {
+        IpAddr::V4(far) if far.is_unspecified() => IpAddr::V4(Ipv4Addr::LOCALHOST),
+        IpAddr::V6(far) if far.is_unspecified() => IpAddr::V6(Ipv6Addr::LOCALHOST),
+        far => far,
+    }
+}
+
 /// Returns true if who connects to `address` comes to the listener at `local`. One that listens at
 /// all addresses, and those of IPv4 too if it is at one of IPv6, is met at the loopback ones.
 fn meets(address: SocketAddr, local: SocketAddr) -> bool {
-    let (far, near) = (address.ip(), local.ip());
+    let (far, near) = (reached(address.ip()), local.ip());
     let is_all = near.is_unspecified() && (near.is_ipv6() || far.is_ipv4());
     address.port() == local.port() && (far == near || far.is_loopback() && is_all)
 }
