@@ -35,6 +35,7 @@ port_text port = decimal port ++ codes "\n"
 abbrev pub socket_tells : Tells (Valve (TcpLink (Drained TcpStream)))
 socket_tells =
     tells (λ valve. None) (λ valve. None) (λ valve. valve.link.ends) (λ valve. valve.link.waits)
+    (λ valve. valve.failures)
 
 -- the connections of the program
 abbrev pub Connected : Type 0

@@ -92,7 +92,8 @@ pub struct Serving<L, H> {
 impl<L: Gated + Drop, H: Handler + Drop> Serving<L, H> {
     /// Begins without connections. Requests are asked of `handler`, and told to `guide`.
     pub fn new(alloc: Global, handler: H, guide: Guide) -> Serving<L, H>
-        ensures { IsServing H.does H.stops (tells L.received L.sent L.ends L.waits) L.gate handler
+        ensures { IsServing H.does H.stops
+            (tells L.received L.sent L.ends L.waits L.failures) L.gate handler
             guide.script.rules.items result 0 [] }
     {
         Serving {
@@ -153,7 +154,7 @@ impl<L: Gated + Drop, H: Handler + Drop> Serving<L, H> {
         requires { L.gate link ≡ Gate.Open }
         ensures opened { OnOk result (self.new.hall.next ≡ self.old.hall.next + 1) }
         ensures served { OnOk result (ServesOn H.does H.stops
-            (tells L.received L.sent L.ends L.waits) L.gate
+            (tells L.received L.sent L.ends L.waits L.failures) L.gate
             self.old self.new (W.contents out.old) (W.contents out.new)) }
     {
         let number = self.hall.next_number();
@@ -191,7 +192,7 @@ impl<L: Gated + Drop, H: Handler + Drop> Serving<L, H> {
     /// in its turn, if it answered one. What was cut stays cut.
     fn steer(&mut self, key: usize)
         requires { get self.old.hall.seats key ≢ None }
-        ensures steered { IsSteered (tells L.received L.sent L.ends L.waits) L.gate
+        ensures steered { IsSteered (tells L.received L.sent L.ends L.waits L.failures) L.gate
             self.old.guide.flow key self.old.hall.seats self.new.hall.seats }
         ensures logged { self.new.hall.logged ≡ self.old.hall.logged }
         ensures next { self.new.hall.next ≡ self.old.hall.next }
@@ -224,7 +225,7 @@ impl<L: Gated + Drop, H: Handler + Drop> Serving<L, H> {
     ) -> Result<Option<Turned>, Stop>
         ensures none { result ≡ Ok None → get self.old.hall.seats key ≡ None }
         ensures served { OnOk result (ServesOn H.does H.stops
-            (tells L.received L.sent L.ends L.waits) L.gate
+            (tells L.received L.sent L.ends L.waits L.failures) L.gate
             self.old self.new (W.contents out.old) (W.contents out.new)) }
     {
         let steps = self.steps(most);

@@ -6,8 +6,8 @@ use Rattle.wire_hall.specs.declared.turned.Leave.TheVariants as leaves
 use Rattle.wire_hall.specs.declared.turned.Turned.{Turned}
 use Rattle.wire_hall.specs.declared.turned.Turned.TheVariants as turns
 use Rattle.wire_front.specs.{FrontView}
-use Rattle.wire_hall.specs.Seats.{MovesAs, SeatAct, SeatDoes, SeatMoves, SeatRun, SeatSeen, Tells, TurnedAs, Turns}
-use Rattle.wire_hall.specs.Seats.{Answers, Ends, Fails, Receives, Sends, Takes, Waits}
+use Rattle.wire_hall.specs.Seats.{AllProceed, MovesAs, SeatAct, SeatDoes, SeatMoves, SeatRun, SeatSeen, Tells, TurnedAs, Turns}
+use Rattle.wire_hall.specs.Seats.{Answers, Ends, Fails, Receives, Sends, SetsGate, Takes, Waits}
 
 module _ {H L : Type 0} (does : Does H) (stops : Stops H) (t : Tells L) where
   pub run_on : (acts more : List SeatAct) (old mid new : SeatSeen L) (from then to : Logged H)
@@ -33,6 +33,7 @@ module _ {H L : Type 0} (does : Does H) (stops : Stops H) (t : Tells L) where
   moves_do Ends old new from m = (m, refl)
   moves_do Waits old new from m = (m, refl)
   moves_do Fails old new from m = (m, refl)
+  moves_do SetsGate old new from m = (m, refl)
 
   moves_run : (act : SeatAct) (old new : SeatSeen L) (from : Logged H) → SeatMoves t act old new
       → SeatRun does stops t old from (act ∷ []) new from
@@ -41,44 +42,50 @@ module _ {H L : Type 0} (does : Does H) (stops : Stops H) (t : Tells L) where
   -- a step that asks nothing is a turn of one step
   pub moves_turn : (turned : Turned) (old new : SeatSeen L) (from : Logged H) → MovesAs t turned old new
       → Turns does stops t 1 turned old from new from
-  moves_turn turns.Again old new from (act, m) =
-      record { acts = act ∷ []; run = moves_run act old new from m; few = omega arith; comes_to = refl }
+  moves_turn turns.Again old new from (act, m, proceeds) =
+      record { acts = act ∷ []; run = moves_run act old new from m; few = omega arith; comes_to = (refl, (proceeds, tt)) }
   moves_turn turns.Waits old new from m =
-      record { acts = Waits ∷ []; run = moves_run Waits old new from m; few = omega arith; comes_to = ([], refl) }
+      record { acts = Waits ∷ []; run = moves_run Waits old new from m; few = omega arith; comes_to = ([], refl, tt) }
   moves_turn (turns.Over (leaves.Link fault)) old new from m =
-      record { acts = Fails ∷ []; run = moves_run Fails old new from m; few = omega arith; comes_to = ([], refl) }
-  moves_turn (turns.Over (leaves.Closed cause)) old new from (act, m, closed) =
-      record { acts = act ∷ []; run = moves_run act old new from m; few = omega arith; comes_to = closed }
+      record { acts = Fails ∷ []; run = moves_run Fails old new from m; few = omega arith; comes_to = ([], refl, tt) }
+  moves_turn (turns.Over (leaves.Closed cause)) old new from (act, m, proceeds, closed) =
+      record { acts = act ∷ []; run = moves_run act old new from m; few = omega arith; comes_to = (closed, (proceeds, tt)) }
   moves_turn (turns.Over leaves.OutOfMemory) old new from m =
       record { acts = []; run = (m, refl); few = omega arith; comes_to = tt }
 
-  -- The run of a turn so far: each step was taken.
+  all_on : (acts more : List SeatAct) → AllProceed acts → AllProceed more → AllProceed (acts ++ more)
+  all_on [] more none each = each
+  all_on (act ∷ acts) more (first, rest) each = (first, all_on acts more rest each)
+
+  -- The run of a turn so far: in each step something was done.
   pub record SoFar (steps : ℕ) (old : SeatSeen L) (from : Logged H) (new : SeatSeen L) (to : Logged H) : Type 0 where
     pub acts : List SeatAct
     pub run : SeatRun does stops t old from acts new to
     pub all : length acts ≡ steps
+    pub each : AllProceed acts
 
   pub none_yet : (old : SeatSeen L) (from : Logged H) → SoFar 0 old from old from
-  none_yet old from = record { acts = []; run = (refl, refl); all = refl }
+  none_yet old from = record { acts = []; run = (refl, refl); all = refl; each = tt }
 
   pub one_more : (i : ℕ) (old mid new : SeatSeen L) (from then to : Logged H) → SoFar i old from mid then
       → Turns does stops t 1 turns.Again mid then new to → SoFar (i + 1) old from new to
   one_more i old mid new from then to s one = record {
     acts = s.acts ++ one.acts;
     run = run_on s.acts one.acts old mid new from then to s.run one.run;
-    all = omega (arith, length-append s.acts one.acts, s.all, one.comes_to);
+    all = omega (arith, length-append s.acts one.acts, s.all, one.comes_to.0);
+    each = all_on s.acts one.acts s.each one.comes_to.1;
   }
 
   -- the last step of a turn
   comes_to : (turned : Turned) (i steps : ℕ) (before acts : List SeatAct) (f : FrontView) → (turned ≡ turns.Again → ⊥)
-      → TurnedAs turned 1 acts f → TurnedAs turned steps (before ++ acts) f
-  comes_to turns.Again i steps before acts f differs c = absurd (differs refl)
-  comes_to turns.Waits i steps before acts f differs (first, is) =
-      (before ++ first, ap (λ (x : List SeatAct). before ++ x) is ∙ sym (append_assoc before first (Waits ∷ [])))
-  comes_to (turns.Over (leaves.Link fault)) i steps before acts f differs (first, is) =
-      (before ++ first, ap (λ (x : List SeatAct). before ++ x) is ∙ sym (append_assoc before first (Fails ∷ [])))
-  comes_to (turns.Over (leaves.Closed cause)) i steps before acts f differs c = c
-  comes_to (turns.Over leaves.OutOfMemory) i steps before acts f differs c = tt
+      → AllProceed before → TurnedAs turned 1 acts f → TurnedAs turned steps (before ++ acts) f
+  comes_to turns.Again i steps before acts f differs all c = absurd (differs refl)
+  comes_to turns.Waits i steps before acts f differs all (first, is, each) =
+      (before ++ first, ap (λ (x : List SeatAct). before ++ x) is ∙ sym (append_assoc before first (Waits ∷ [])), all_on before first all each)
+  comes_to (turns.Over (leaves.Link fault)) i steps before acts f differs all (first, is, each) =
+      (before ++ first, ap (λ (x : List SeatAct). before ++ x) is ∙ sym (append_assoc before first (Fails ∷ [])), all_on before first all each)
+  comes_to (turns.Over (leaves.Closed cause)) i steps before acts f differs all (c, each) = (c, all_on before acts all each)
+  comes_to (turns.Over leaves.OutOfMemory) i steps before acts f differs all c = tt
 
   pub last_step : (turned : Turned) (i steps : ℕ) (old mid new : SeatSeen L) (from then to : Logged H) → SoFar i old from mid then
       → i < steps → (turned ≡ turns.Again → ⊥) → Turns does stops t 1 turned mid then new to
@@ -87,10 +94,10 @@ module _ {H L : Type 0} (does : Does H) (stops : Stops H) (t : Tells L) where
     acts = s.acts ++ one.acts;
     run = run_on s.acts one.acts old mid new from then to s.run one.run;
     few = omega (arith, length-append s.acts one.acts, s.all, one.few, lt);
-    comes_to = comes_to turned i steps s.acts one.acts new.front differs one.comes_to;
+    comes_to = comes_to turned i steps s.acts one.acts new.front differs s.each one.comes_to;
   }
 
   pub all_steps : (i steps : ℕ) (old new : SeatSeen L) (from to : Logged H) → SoFar i old from new to → i ≤ steps → steps ≤ i
       → Turns does stops t steps turns.Again old from new to
   all_steps i steps old new from to s most least =
-      record { acts = s.acts; run = s.run; few = omega (arith, s.all, most); comes_to = omega (arith, s.all, most, least) }
+      record { acts = s.acts; run = s.run; few = omega (arith, s.all, most); comes_to = (omega (arith, s.all, most, least), s.each) }

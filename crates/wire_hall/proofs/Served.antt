@@ -29,7 +29,7 @@ use Rattle.wire_front.specs.declared.cause.FrontCause.{FrontCause}
 use Rattle.wire_front.specs.declared.cause.FrontState.{FrontState}
 use Rattle.wire_front.specs.declared.cause.FrontState.TheVariants as fronts
 use Rattle.wire_hall.specs.Seats.{GoesOver, SeatAct, SeatDoes, SeatRun, SeatSeen, SeatTurns, Tells, new_seat}
-use Rattle.wire_hall.specs.Seats.{Answers, Ends, Fails, Receives, Sends, Takes, Waits}
+use Rattle.wire_hall.specs.Seats.{Answers, Ends, Fails, Receives, Sends, SetsGate, Takes, Waits}
 use Rattle.wire_hall.specs.Serving.{IsPutOut, IsServed, SeatServed, Serves, SpellsRequest, all_answered, and_then, made_by, nothing, of_acts, of_turns, one_lost, one_waits, received_by, sent_by}
 
 -- ---- a front that takes bytes is open, and all its requests were answered
@@ -447,7 +447,8 @@ module _ {L : Type 0} (t : Tells L) where
               (ended_served (state_of f) f.part c s.taken went made f (done_by c s.taken made went f r.ready s.served) r.ready.none_waits));
         }
     one_act Waits c first came went made old new from to ((i, rose), l) s = idle c first came went made old new i.over i.front i.inlet s
-    one_act Fails c first came went made old new from to (i, l) s = idle c first came went made old new i.over i.front i.inlet s
+    one_act Fails c first came went made old new from to ((i, rose), l) s = idle c first came went made old new i.over i.front i.inlet s
+    one_act SetsGate c first came went made old new from to (i, l) s = idle c first came went made old new i.over i.front i.inlet s
 
     -- the acts of a turn
     acts_serve : (acts : List SeatAct) (c : ℕ) (first : L) (came went : List ℕ) (made : List LogEntry) (old new : SeatSeen L) (from to : Logged H)

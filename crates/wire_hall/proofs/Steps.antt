@@ -11,14 +11,14 @@ use Rattle.wire_peer.specs.declared.server_state.AnswerRefusal.{AnswerRefusal}
 use Rattle.wire_peer.specs.declared.server_state.AnswerRefusal.TheVariants as refusals
 use Rattle.wire_peer.specs.declared.server_state.ServerState.{ServerState}
 use Rattle.wire_peer.specs.declared.server_state.ServerState.TheVariants as servers
-use Rattle.wire_front.specs.{FrontAnswers, FrontTakes, FrontView, IsReady, ended_front}
+use Rattle.wire_front.specs.{FrontAnswers, FrontTakes, FrontView, IsReady, ended_front, state_of}
 use Rattle.wire_front.specs.Fronts.{state_by}
 use Rattle.wire_front.specs.declared.cause.FrontCause.{FrontCause}
 use Rattle.wire_front.specs.declared.cause.FrontState.TheVariants as fronts
 use Rattle.wire_hall.specs.declared.turned.Leave.TheVariants as leaves
 use Rattle.wire_hall.specs.declared.turned.Turned.{Turned}
 use Rattle.wire_hall.specs.declared.turned.Turned.TheVariants as turns
-use Rattle.wire_hall.specs.Seats.{Answers, Ends, Fails, MovesAs, Receives, SeatAct, SeatMoves, SeatSeen, Sends, StandsAs, Takes, Tells, TurnedAs, Turns}
+use Rattle.wire_hall.specs.Seats.{Answers, Ends, MovesAs, Proceeds, Receives, SeatAct, SeatMoves, SeatSeen, Sends, SetsGate, StandsAs, Takes, Tells, TurnedAs, Turns}
 use Rattle.wire_hall.proofs.Runs.{one_act}
 
 take_some : (n : ℕ) (xs : List ℕ) → 0 < n → xs ≢ [] → take n xs ≢ []
@@ -54,21 +54,21 @@ empty_by b xs ys is holds same =
     sym same ∙ nil_by ys (omega (arith, exact_unsigned_eq (length ys) 0 (sym is ∙ holds)))
 
 -- what a front came to that stands like this
-pub stands_turned : (turned : Turned) (acts : List SeatAct) (f : FrontView) → StandsAs turned f → length acts ≡ 1 → TurnedAs turned 1 acts f
-stands_turned turns.Again acts f s one = one
-stands_turned turns.Waits acts f s one = absurd s
-stands_turned (turns.Over (leaves.Closed cause)) acts f s one = s
-stands_turned (turns.Over (leaves.Link fault)) acts f s one = absurd s
-stands_turned (turns.Over leaves.OutOfMemory) acts f s one = absurd s
+pub stands_turned : (turned : Turned) (act : SeatAct) (f : FrontView) → StandsAs turned f → Proceeds act → TurnedAs turned 1 (act ∷ []) f
+stands_turned turns.Again act f s proceeds = (refl, (proceeds, tt))
+stands_turned turns.Waits act f s proceeds = absurd s
+stands_turned (turns.Over (leaves.Closed cause)) act f s proceeds = (s, (proceeds, tt))
+stands_turned (turns.Over (leaves.Link fault)) act f s proceeds = absurd s
+stands_turned (turns.Over leaves.OutOfMemory) act f s proceeds = absurd s
 
 module _ {L : Type 0} (t : Tells L) where
-  stands_moves : (turned : Turned) (act : SeatAct) (old new : SeatSeen L) → SeatMoves t act old new → StandsAs turned new.front
-      → MovesAs t turned old new
-  stands_moves turns.Again act old new m s = (act, m)
-  stands_moves turns.Waits act old new m s = absurd s
-  stands_moves (turns.Over (leaves.Closed cause)) act old new m s = (act, m, s)
-  stands_moves (turns.Over (leaves.Link fault)) act old new m s = absurd s
-  stands_moves (turns.Over leaves.OutOfMemory) act old new m s = absurd s
+  stands_moves : (turned : Turned) (act : SeatAct) (old new : SeatSeen L) → SeatMoves t act old new → Proceeds act
+      → StandsAs turned new.front → MovesAs t turned old new
+  stands_moves turns.Again act old new m proceeds s = (act, m, proceeds)
+  stands_moves turns.Waits act old new m proceeds s = absurd s
+  stands_moves (turns.Over (leaves.Closed cause)) act old new m proceeds s = (act, m, proceeds, s)
+  stands_moves (turns.Over (leaves.Link fault)) act old new m proceeds s = absurd s
+  stands_moves (turns.Over leaves.OutOfMemory) act old new m proceeds s = absurd s
 
   abbrev seat : FrontView → L → List ℕ → SeatSeen L
   seat front link inlet = record { front = front; link = link; inlet = inlet }
@@ -86,7 +86,7 @@ module _ {L : Type 0} (t : Tells L) where
   }
 
   pub idles : (f : FrontView) (link link' : L) (inlet : List ℕ) → Keeps (t.received link) (t.received link') → Keeps (t.sent link) (t.sent link')
-      → SeatMoves t Fails (seat f link inlet) (seat f link' inlet)
+      → SeatMoves t SetsGate (seat f link inlet) (seat f link' inlet)
   idles f link link' inlet received sent = record {
     over = record { received = kept_none (t.received link) (t.received link') received; sent = kept_none (t.sent link) (t.sent link') sent };
     front = refl;
@@ -103,7 +103,7 @@ module _ {L : Type 0} (t : Tells L) where
         first = sym (take-append-drop n inlet) ∙ ap (λ (x : List ℕ). take n inlet ++ x) (sym is);
         takes = took;
         link = refl;
-      }) stands
+      }) tt stands
 
   came_is : (inlet inlet' more : List ℕ) → inlet ≡ [] → inlet' ≡ inlet ++ more → more ≡ inlet'
   came_is inlet inlet' more none is = sym (is ∙ ap (λ (x : List ℕ). x ++ more) none)
@@ -138,7 +138,7 @@ module _ {L : Type 0} (t : Tells L) where
         };
         front = ended;
         inlet = gone;
-      }) stands
+      }) tt stands
 
   module _ {H : Type 0} (does : Does H) (stops : Stops H) where
     -- the entries that an answer made
@@ -153,16 +153,30 @@ module _ {L : Type 0} (t : Tells L) where
     made_of (Err refusals.NoSuchRequest) s s' h h' log log' (is_open, few, s_is, h_is, log_is) = ([], log_is ∙ sym (append-nil log))
     made_of (Err refusals.OutOfMemory) s s' h h' log log' (is_open, few, s_is, h_is, log_is) = ([], log_is ∙ sym (append-nil log))
 
+    -- what an answer came to at an open server of which a request waits
+    turned_by : (turned : Turned) (result : Result ℕ AnswerRefusal) (made : List LogEntry) (f' : FrontView) (s s' : ServerView) (h h' : H) (log log' : List LogEntry)
+        → s.state ≡ servers.Open → s.waiting ≢ [] → (result ≡ Err refusals.OutOfMemory → turned ≡ turns.Over leaves.OutOfMemory)
+        → (result ≢ Err refusals.OutOfMemory → StandsAs turned f') → AnswerStep does stops 0 result s h log s' h' log'
+        → TurnedAs turned 1 (Answers result made ∷ []) f'
+    turned_by turned (Ok n) made f' s s' h h' log log' is_open some memory other step =
+        stands_turned turned (Answers (Ok n) made) f' (other (λ e. absurd (cc e))) tt
+    turned_by turned (Err (refusals.NowClosed cause)) made f' s s' h h' log log' is_open some memory other step =
+        stands_turned turned (Answers (Err (refusals.NowClosed cause)) made) f' (other (λ e. absurd (cc e))) tt
+    turned_by turned (Err refusals.Closed) made f' s s' h h' log log' is_open some memory other (shut, s_is, h_is, log_is) = absurd (shut is_open)
+    turned_by turned (Err refusals.NoSuchRequest) made f' s s' h h' log log' is_open some memory other (is, few, s_is, h_is, log_is) = absurd (some (nil_by s.waiting few))
+    turned_by turned (Err refusals.OutOfMemory) made f' s s' h h' log log' is_open some memory other step = rw (memory refl) tt
+
     pub answers : (turned : Turned) (result : Result ℕ AnswerRefusal) (f f' : FrontView) (link : L) (inlet : List ℕ) (from to : Logged H)
-        → f.output ≡ []
+        → f.output ≡ [] → state_of f ≡ fronts.Open → f.server.waiting ≢ []
+        → (result ≡ Err refusals.OutOfMemory → turned ≡ turns.Over leaves.OutOfMemory) → (result ≢ Err refusals.OutOfMemory → StandsAs turned f')
         → FrontAnswers does stops result f from.handler (log_of from.entries.items) f' to.handler (log_of to.entries.items)
-        → ((acts : List SeatAct) → length acts ≡ 1 → TurnedAs turned 1 acts f')
         → Turns does stops t 1 turned (seat f link inlet) from (seat f' link inlet) to
-    answers turned result f f' link inlet from to sent a comes =
+    answers turned result f f' link inlet from to sent is_open some memory other a =
         let made = made_of result f.server a.server from.handler to.handler (log_of from.entries.items) (log_of to.entries.items) a.step in record {
           acts = Answers result made.0 ∷ [];
           run = one_act does stops t (Answers result made.0) (seat f link inlet) (seat f' link inlet) from to
               (record { all_sent = sent; answers = a; logged = made.1; link = refl; inlet = refl });
           few = omega arith;
-          comes_to = comes (Answers result made.0 ∷ []) refl;
+          comes_to = turned_by turned result made.0 f' f.server a.server from.handler to.handler (log_of from.entries.items) (log_of to.entries.items)
+              (opens f.cause f.server.state is_open).1 some memory other a.step;
         }

@@ -6,7 +6,7 @@ use Rattle.wire_peer.specs.{Does, LogEntry, Stops, log_of}
 use Rattle.wire_peer.specs.declared.log.Logged.{Logged}
 use Rattle.wire_hall.specs.declared.turned.Turned.{Turned}
 use Rattle.wire_hall.specs.declared.valve.Gate.{Gate}
-use Rattle.wire_hall.specs.Seats.{Fails, SeatAct, SeatMoves, SeatRun, SeatSeen, Tells, Turns}
+use Rattle.wire_hall.specs.Seats.{SeatAct, SeatMoves, SeatRun, SeatSeen, SetsGate, Tells, Turns}
 use Rattle.wire_hall.specs.Seats.{new_seat}
 
 -- The seat of this key took a turn with the handler and its log, and every other seat stayed as it
@@ -19,14 +19,14 @@ IsTurned {H} {L} does stops t key steps (Some turned) old from new to =
     (s s' : SeatSeen L) × (get old key ≡ Some s) × Updates old new key (Some s')
     × Turns does stops t steps turned s from s' to
 
--- The link of the seat of this key was called, moved no byte, and has this gate, and every other
--- seat stayed as it was; or there is no such seat, and nothing changed.
+-- The link of the seat of this key has this gate and moved no byte, and every other seat stayed as
+-- it was; or there is no such seat, and nothing changed.
 abbrev pub IsGated : {L : Type 0} → Tells L → (L → Gate) → (key : ℕ) → Gate → (is_there : Bool)
     → Slab (SeatSeen L) → Slab (SeatSeen L) → Type 0
 IsGated t gate key to false old new = (get old key ≡ None) × (new ≡ old)
 IsGated {L} t gate key to true old new =
     (s s' : SeatSeen L) × (get old key ≡ Some s) × Updates old new key (Some s')
-    × SeatMoves t Fails s s' × (gate s'.link ≡ to)
+    × SeatMoves t SetsGate s s' × (gate s'.link ≡ to)
 
 -- ---- a hall
 

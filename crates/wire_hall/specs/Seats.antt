@@ -1,10 +1,12 @@
 -- A connection that is served in turns, and what is done with it.
-use Rattle.std.specs.Prelude.{◌≡◌, ◌≢◌, ℕ, ◌≤◌, Option, List, [], ◌∷◌, ◌++◌, length, Result}
+use Rattle.std.specs.Prelude.{◌≡◌, ◌≢◌, ℕ, ◌≤◌, Option, List, [], ◌∷◌, ◌++◌, length, Result, Ok}
+use Rattle.std.specs.Prelude.{Err}
 use Rattle.std.specs.Io.KnownBytes.{Appends}
 use Rattle.wire_stream.specs.{Rose}
 use Rattle.wire_peer.specs.{Does, LogEntry, Stops, log_of}
 use Rattle.wire_peer.specs.declared.log.Logged.{Logged}
 use Rattle.wire_peer.specs.declared.server_state.AnswerRefusal.{AnswerRefusal}
+use Rattle.wire_peer.specs.declared.server_state.AnswerRefusal.TheVariants as refusals
 use Rattle.wire_front.specs.{FrontAnswers, FrontTakes, FrontView, IsReady, ended_front, new_front}
 use Rattle.wire_front.specs.{state_of}
 use Rattle.wire_front.specs.declared.cause.FrontState.TheVariants as fronts
@@ -24,18 +26,24 @@ new_seat connection link = record { front = new_front connection; link = link; i
 
 -- ---- links
 
--- what a link tells: the bytes that it received and sent, how often it told its end, and how often
--- it could move no byte
+-- what a link tells: the bytes that it received and sent, how often it told its end, how often it
+-- could move no byte, and how often it failed
 pub record Tells (L : Type 0) : Type 0 where
   pub received : L → Option (List ℕ)
   pub sent : L → Option (List ℕ)
   pub ends : L → ℕ
   pub waits : L → ℕ
+  pub failures : L → ℕ
 
-abbrev pub tells : {L : Type 0} → (received sent : L → Option (List ℕ)) → (ends waits : L → ℕ)
-    → Tells L
-tells received sent ends waits =
-    record { received = received; sent = sent; ends = ends; waits = waits }
+abbrev pub tells : {L : Type 0} → (received sent : L → Option (List ℕ))
+    → (ends waits failures : L → ℕ) → Tells L
+tells received sent ends waits failures = record {
+  received = received;
+  sent = sent;
+  ends = ends;
+  waits = waits;
+  failures = failures;
+}
 
 -- These bytes came over the link, and these went.
 pub record GoesOver {L : Type 0} (t : Tells L) (came went : List ℕ) (old new : L) : Type 0 where
@@ -46,7 +54,7 @@ pub record GoesOver {L : Type 0} (t : Tells L) (came went : List ℕ) (old new :
 
 -- An act at a seat: bytes come over the link, the front takes some, answers its first request,
 -- which makes entries, has bytes sent, or is told the end of the link; or the link can move no
--- byte, or it fails.
+-- byte, or it fails; or it is said what becomes of the bytes that are sent from now on.
 pub data SeatAct : Type 0 where
   Receives : (bytes : List ℕ) → SeatAct
   Takes : (bytes : List ℕ) → SeatAct
@@ -55,6 +63,7 @@ pub data SeatAct : Type 0 where
   Ends : SeatAct
   Waits : SeatAct
   Fails : SeatAct
+  SetsGate : SeatAct
 
 -- bytes came over the link, where the front takes some and none were left
 pub record IsReceived {L : Type 0} (t : Tells L) (bytes : List ℕ) (old new : SeatSeen L) : Type 0
@@ -92,7 +101,7 @@ pub record IsEnded {L : Type 0} (t : Tells L) (old new : SeatSeen L) : Type 0 wh
   pub front : new.front ≡ ended_front old.front
   pub inlet : new.inlet ≡ []
 
--- nothing was done but that the link was called, and it moved no byte
+-- nothing was done at the front, and no byte was moved
 pub record IsIdle {L : Type 0} (t : Tells L) (old new : SeatSeen L) : Type 0 where
   pub over : GoesOver t [] [] old.link new.link
   pub front : new.front ≡ old.front
@@ -117,7 +126,8 @@ SeatMoves t (Answers result made) old new = ⊥
 SeatMoves t (Sends bytes) old new = IsSent t bytes old new
 SeatMoves t Ends old new = IsEnded t old new
 SeatMoves t Waits old new = IsIdle t old new × Rose (t.waits old.link) (t.waits new.link)
-SeatMoves t Fails old new = IsIdle t old new
+SeatMoves t Fails old new = IsIdle t old new × Rose (t.failures old.link) (t.failures new.link)
+SeatMoves t SetsGate old new = IsIdle t old new
 
 -- The act was done at the seat, with a handler and its log. Only an answer changes these.
 abbrev pub SeatDoes : {H L : Type 0} → Does H → Stops H → Tells L → SeatAct → SeatSeen L → Logged H
@@ -144,31 +154,50 @@ SeatTurns {H} {L} does stops t old (acts ∷ others) new =
 
 -- ---- what a turn came to
 
+-- Something was done in the act: bytes were moved, the end was told, or a request got its answers
+-- or closed the front.
+abbrev pub Proceeds : SeatAct → Type 0
+Proceeds (Receives bytes) = Unit {0}
+Proceeds (Takes bytes) = Unit {0}
+Proceeds (Answers (Ok entry) made) = Unit {0}
+Proceeds (Answers (Err (refusals.NowClosed cause)) made) = Unit {0}
+Proceeds (Sends bytes) = Unit {0}
+Proceeds Ends = Unit {0}
+Proceeds act = ⊥
+
+abbrev pub AllProceed : List SeatAct → Type 0
+AllProceed [] = Unit {0}
+AllProceed (act ∷ acts) = Proceeds act × AllProceed acts
+
 -- the front is open, or closed for this cause
 abbrev pub StandsAs : Turned → FrontView → Type 0
 StandsAs turns.Again f = state_of f ≡ fronts.Open
 StandsAs (turns.Over (leaves.Closed cause)) f = state_of f ≡ fronts.Closed cause
 StandsAs turned f = ⊥
 
--- A step that asks nothing came to this: an act was done; or the link can move no byte now, or it
--- failed; or the front closed, for this cause; or memory ran out, and nothing was done.
+-- A step that asks nothing came to this: something was done; or the link can move no byte now, or
+-- it failed; or something was done, and the front closed, for this cause; or memory ran out, and
+-- nothing was done.
 abbrev pub MovesAs : {L : Type 0} → Tells L → Turned → SeatSeen L → SeatSeen L → Type 0
-MovesAs t turns.Again old new = (act : SeatAct) × SeatMoves t act old new
+MovesAs t turns.Again old new = (act : SeatAct) × SeatMoves t act old new × Proceeds act
 MovesAs t turns.Waits old new = SeatMoves t Waits old new
 MovesAs t (turns.Over (leaves.Link fault)) old new = SeatMoves t Fails old new
 MovesAs t (turns.Over (leaves.Closed cause)) old new =
-    (act : SeatAct) × SeatMoves t act old new × (state_of new.front ≡ fronts.Closed cause)
+    (act : SeatAct) × SeatMoves t act old new × Proceeds act
+    × (state_of new.front ≡ fronts.Closed cause)
 MovesAs t (turns.Over leaves.OutOfMemory) old new = new ≡ old
 
--- A turn of at most so many steps came to this, by its acts and the front after them: all steps
--- were taken; or the link can move no byte now, or it failed; or the front closed, for this cause;
--- or memory ran out.
+-- A turn of at most so many steps came to this, by its acts and the front after them: something was
+-- done in each of all steps; or the link can move no byte now, or it failed, behind acts in which
+-- something was done; or the front closed, for this cause; or memory ran out.
 abbrev pub TurnedAs : Turned → ℕ → List SeatAct → FrontView → Type 0
-TurnedAs turns.Again steps acts f = length acts ≡ steps
-TurnedAs turns.Waits steps acts f = (before : List SeatAct) × (acts ≡ before ++ Waits ∷ [])
+TurnedAs turns.Again steps acts f = (length acts ≡ steps) × AllProceed acts
+TurnedAs turns.Waits steps acts f =
+    (before : List SeatAct) × (acts ≡ before ++ Waits ∷ []) × AllProceed before
 TurnedAs (turns.Over (leaves.Link fault)) steps acts f =
-    (before : List SeatAct) × (acts ≡ before ++ Fails ∷ [])
-TurnedAs (turns.Over (leaves.Closed cause)) steps acts f = state_of f ≡ fronts.Closed cause
+    (before : List SeatAct) × (acts ≡ before ++ Fails ∷ []) × AllProceed before
+TurnedAs (turns.Over (leaves.Closed cause)) steps acts f =
+    (state_of f ≡ fronts.Closed cause) × AllProceed acts
 TurnedAs (turns.Over leaves.OutOfMemory) steps acts f = Unit {0}
 
 -- Acts were done, at most so many, and it came to this.

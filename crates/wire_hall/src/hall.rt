@@ -1,7 +1,7 @@
 //! Many connections, with one handler and its log.
 
-ghost use Rattle.std.specs.Prelude.{◌≡◌, ◌+◌, ◌≤◌, [], ℕ, None, Some, IfOk, OnErr, OnOk, drop};
-ghost use Rattle.std.specs.Prelude.{option_copied, take};
+ghost use Rattle.std.specs.Prelude.{◌≡◌, ◌+◌, ◌≤◌, ◌^◌, [], ℕ, None, Some, Err, IfOk};
+ghost use Rattle.std.specs.Prelude.{OnErr, OnOk, drop, option_copied, take};
 ghost use Rattle.std.specs.Vec.{vec_len};
 ghost use Rattle.slab.specs.Slab.{Updates, get, slab_len};
 ghost use Rattle.wire_peer.specs.{log_of};
@@ -56,6 +56,7 @@ impl<L: Link + Drop, H: Handler + Drop> Hall<L, H> {
         ensures seats { IfOk result (λ key. Updates self.old.seats self.new.seats key
             (Some (new_seat self.old.next link))) }
         ensures next { OnOk result (self.new.next ≡ self.old.next + 1) }
+        ensures spent { result ≡ Err OpenRefusal.NumbersSpent → self.old.next + 1 ≡ 2 ^ 64 }
         ensures unchanged { OnErr result ((self.new.seats.slots ≡ self.old.seats.slots)
             × (self.new.next ≡ self.old.next)) }
         ensures logged { self.new.logged ≡ self.old.logged }
@@ -105,11 +106,12 @@ impl<L: Link + Drop, H: Handler + Drop> Hall<L, H> {
     /// Has the seat of this key take a turn of at most `steps` steps. `None` if there is no such
     /// seat.
     pub fn turn(&mut self, key: usize, steps: u32) -> Option<Turned>
-        ensures turned { IsTurned H.does H.stops (tells L.received L.sent L.ends L.waits)
+        ensures turned { IsTurned H.does H.stops
+            (tells L.received L.sent L.ends L.waits L.failures)
             key steps result self.old.seats self.old.logged self.new.seats self.new.logged }
         ensures next { self.new.next ≡ self.old.next }
         ensures act { (act : HallAct L)
-            × HallDoes H.does H.stops (tells L.received L.sent L.ends L.waits) act
+            × HallDoes H.does H.stops (tells L.received L.sent L.ends L.waits L.failures) act
             (hall_seen self.old.seats self.old.logged self.old.next)
             (hall_seen self.new.seats self.new.logged self.new.next) }
     {
@@ -162,12 +164,13 @@ impl<L: Gated + Drop, H: Handler + Drop> Hall<L, H> {
     /// Says what becomes of the bytes that are sent at the seat of this key from now on. Its link is
     /// called, and moves no byte. Returns false if there is no such seat.
     pub fn set_gate(&mut self, key: usize, to: Gate) -> bool
-        ensures gated { IsGated (tells L.received L.sent L.ends L.waits) L.gate key to result
+        ensures gated { IsGated (tells L.received L.sent L.ends L.waits L.failures)
+            L.gate key to result
             self.old.seats self.new.seats }
         ensures logged { self.new.logged ≡ self.old.logged }
         ensures next { self.new.next ≡ self.old.next }
         ensures act { (act : HallAct L)
-            × HallDoes H.does H.stops (tells L.received L.sent L.ends L.waits) act
+            × HallDoes H.does H.stops (tells L.received L.sent L.ends L.waits L.failures) act
             (hall_seen self.old.seats self.old.logged self.old.next)
             (hall_seen self.new.seats self.new.logged self.new.next) }
     {

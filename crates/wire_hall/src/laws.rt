@@ -11,8 +11,8 @@ use wire_stream::Link;
 /// for it are their replies, whatever others do between its turns.
 pub fn connections_are_served_in_order<L: Link, H: Handler>()
     ensures { (connection : ℕ) (link : L) (turns : List (List SeatAct)) (now : SeatSeen L)
-        → SeatTurns H.does H.stops (tells L.received L.sent L.ends L.waits)
+        → SeatTurns H.does H.stops (tells L.received L.sent L.ends L.waits L.failures)
         (new_seat connection link) turns now
-        → SeatServed (tells L.received L.sent L.ends L.waits) connection link
+        → SeatServed (tells L.received L.sent L.ends L.waits L.failures) connection link
         (of_turns received_by turns) (of_turns made_by turns) (of_turns sent_by turns) now }
 {}

@@ -1,8 +1,8 @@
 //! One connection of many, which is served in turns.
 
 ghost use Rattle.std.specs.Prelude.{◌≡◌, ◌≢◌, [], IfOk};
-ghost use Rattle.wire_front.specs.{IsReady};
-ghost use Rattle.wire_hall.specs.Seats.{Fails, MovesAs, SeatMoves, StandsAs, Turns, new_seat};
+ghost use Rattle.wire_front.specs.{IsReady, state_of};
+ghost use Rattle.wire_hall.specs.Seats.{MovesAs, SeatMoves, SetsGate, StandsAs, Turns, new_seat};
 ghost use Rattle.wire_hall.specs.Seats.{tells};
 
 use crate::turned::{Leave, Turned};
@@ -68,10 +68,23 @@ impl<L: Link + Drop> Seat<L> {
         }
     }
 
+    /// Returns what a turn came to whose answer was refused.
+    fn refused(&self, refusal: AnswerRefusal) -> Turned
+        ensures memory { refusal ≡ AnswerRefusal.OutOfMemory
+            → result ≡ Turned.Over Leave.OutOfMemory }
+        ensures other { refusal ≢ AnswerRefusal.OutOfMemory → StandsAs result self.now.front }
+    {
+        match refusal {
+            AnswerRefusal::OutOfMemory => Turned::Over(Leave::OutOfMemory),
+            _ => self.standing(),
+        }
+    }
+
     /// Sends some of what waits.
     fn send(&mut self) -> Turned
         requires { self.old.front.output ≢ [] }
-        ensures { MovesAs (tells L.received L.sent L.ends L.waits) result self.old self.new }
+        ensures { MovesAs (tells L.received L.sent L.ends L.waits L.failures) result
+            self.old self.new }
     {
         match self.link.send(self.front.output()) {
             Ok(Moved::Bytes(n)) => {
@@ -87,7 +100,8 @@ impl<L: Link + Drop> Seat<L> {
     fn take(&mut self) -> Turned
         requires ready { IsReady self.old.front }
         requires some { self.old.inlet ≢ [] }
-        ensures { MovesAs (tells L.received L.sent L.ends L.waits) result self.old self.new }
+        ensures { MovesAs (tells L.received L.sent L.ends L.waits L.failures) result
+            self.old self.new }
     {
         match self.front.feed(self.inlet.bytes()) {
             Ok(n) => {
@@ -102,7 +116,8 @@ impl<L: Link + Drop> Seat<L> {
     fn receive(&mut self) -> Turned
         requires ready { IsReady self.old.front }
         requires none { self.old.inlet ≡ [] }
-        ensures { MovesAs (tells L.received L.sent L.ends L.waits) result self.old self.new }
+        ensures { MovesAs (tells L.received L.sent L.ends L.waits L.failures) result
+            self.old self.new }
     {
         match self.inlet.pull(&mut self.link) {
             Ok(Pulled::Bytes) => Turned::Again,
@@ -117,20 +132,22 @@ impl<L: Link + Drop> Seat<L> {
 
     /// Answers the first request.
     fn answer<H: Handler>(&mut self, logged: &mut Logged<H>) -> Turned
-        requires { self.old.front.output ≡ [] }
-        ensures { Turns H.does H.stops (tells L.received L.sent L.ends L.waits) 1 result
+        requires sent { self.old.front.output ≡ [] }
+        requires open { state_of self.old.front ≡ FrontState.Open }
+        requires waits { self.old.front.server.waiting ≢ [] }
+        ensures { Turns H.does H.stops (tells L.received L.sent L.ends L.waits L.failures) 1 result
             self.old logged.old self.new logged.new }
     {
         match self.front.answer(logged) {
-            Err(AnswerRefusal::OutOfMemory) => Turned::Over(Leave::OutOfMemory),
-            _ => self.standing(),
+            Ok(_) => self.standing(),
+            Err(refusal) => self.refused(refusal),
         }
     }
 
     /// Takes a step: sends what waits, else answers the first request, else takes what came, else
     /// receives.
     fn step<H: Handler>(&mut self, logged: &mut Logged<H>) -> Turned
-        ensures { Turns H.does H.stops (tells L.received L.sent L.ends L.waits) 1 result
+        ensures { Turns H.does H.stops (tells L.received L.sent L.ends L.waits L.failures) 1 result
             self.old logged.old self.new logged.new }
     {
         match self.front.state() {
@@ -150,7 +167,8 @@ impl<L: Link + Drop> Seat<L> {
 
     /// Takes a turn of at most `steps` steps.
     pub(crate) fn turn<H: Handler>(&mut self, logged: &mut Logged<H>, steps: u32) -> Turned
-        ensures { Turns H.does H.stops (tells L.received L.sent L.ends L.waits) steps result
+        ensures { Turns H.does H.stops
+            (tells L.received L.sent L.ends L.waits L.failures) steps result
             self.old logged.old self.new logged.new }
     {
         for i in 0..steps {
@@ -167,7 +185,8 @@ impl<L: Gated + Drop> Seat<L> {
     /// Says what becomes of the bytes that are sent from now on.
     pub(crate) fn set_gate(&mut self, to: Gate)
         ensures gate { L.gate self.new.link ≡ to }
-        ensures idle { SeatMoves (tells L.received L.sent L.ends L.waits) Fails self.old self.new }
+        ensures idle { SeatMoves (tells L.received L.sent L.ends L.waits L.failures) SetsGate
+            self.old self.new }
     {
         self.link.set_gate(to);
     }

@@ -1,6 +1,7 @@
 //! A link whose sending is cut short or swallowed.
 
-ghost use Rattle.std.specs.Prelude.{◌≡◌, ◌≢◌, ◌≤◌, ◌<◌, ◌-◌, None, IfOk, OnErr, OnOk, length, min};
+ghost use Rattle.std.specs.Prelude.{◌≡◌, ◌≢◌, ◌≤◌, ◌<◌, ◌-◌, ◌⊎◌, None, IfOk, OnErr, OnOk, length};
+ghost use Rattle.std.specs.Prelude.{min};
 ghost use Rattle.std.specs.Io.KnownBytes.{Keeps};
 ghost use Rattle.wire_stream.specs.{Rose, TellsLater, bytes_moved};
 ghost use Rattle.wire_hall.specs.Valves.{GoOver, Passes, count_moved};
@@ -95,6 +96,7 @@ impl<L: Link + Drop> Valve<L> {
         ensures later { TellsLater result (L.waits self.old.link) (L.waits self.new.link) }
         ensures works { OnOk result (self.new.failures ≡ self.old.failures) }
         ensures fails { OnErr result (Rose self.old.failures self.new.failures) }
+        ensures own { OnErr result (Rose (L.failures self.old.link) (L.failures self.new.link)) }
         ensures gate { self.new.gate ≡ self.old.gate }
     {
         let outcome = self.link.send(bytes);
@@ -114,6 +116,7 @@ impl<L: Link + Drop> Valve<L> {
         ensures later { TellsLater result (L.waits self.old.link) (L.waits self.new.link) }
         ensures works { OnOk result (self.new.failures ≡ self.old.failures) }
         ensures fails { OnErr result (Rose self.old.failures self.new.failures) }
+        ensures own { OnErr result (Rose (L.failures self.old.link) (L.failures self.new.link)) }
         ensures gate { self.new.gate
             ≡ Gate.Cut (min left (length bytes.now) - count_moved result) }
     {
@@ -144,6 +147,8 @@ impl<L: Link + Drop> Valve<L> {
         ensures later { TellsLater result (L.waits self.old.link) (L.waits self.new.link) }
         ensures works { OnOk result (self.new.failures ≡ self.old.failures) }
         ensures fails { OnErr result (Rose self.old.failures self.new.failures) }
+        ensures own { OnErr result (Rose (L.failures self.old.link) (L.failures self.new.link)
+            ⊎ (self.old.gate ≡ Gate.Cut 0)) }
     {
         match self.gate {
             Gate::Open => self.send_inside(bytes),

@@ -10,7 +10,7 @@ use Rattle.wire_front.specs.declared.cause.FrontState.{FrontState}
 use Rattle.wire_front.specs.declared.cause.FrontState.TheVariants as fronts
 use Rattle.wire_hall.specs.{SeatAct, SeatRun, SeatSeen, Tells, made_by, of_acts, sent_by, taken_by}
 use Rattle.wire_hall.specs.Seats.{IsAnswered, SeatDoes}
-use Rattle.wire_hall.specs.Seats.{Answers, Ends, Fails, Receives, Sends, Takes, Waits}
+use Rattle.wire_hall.specs.Seats.{Answers, Ends, Fails, Receives, Sends, SetsGate, Takes, Waits}
 use Rattle.wire_model.specs.{AreContents}
 use Rattle.wire_model.proofs.Lemmas.{log_contents}
 use Rattle.wire_channels.specs.{ServerAct, ServerEnd, ServerMovesOn, ServerRun, bytes_sent_down, bytes_taken_up}
@@ -273,7 +273,8 @@ module _ {H L : Type 0} (does : Does H) (stops : Stops H) (t : Tells L) (told : 
     one_act (Sends bytes) old new from to (r, l) p = sent_act bytes r.rest old.front new.front from to r.first r.front l p
     one_act Ends old new from to (r, l) p = ended_act old.front new.front from to r.ready r.front l p
     one_act Waits old new from to ((i, rose), l) p = idle old.front new.front from to i.front l p
-    one_act Fails old new from to (i, l) p = idle old.front new.front from to i.front l p
+    one_act Fails old new from to ((i, rose), l) p = idle old.front new.front from to i.front l p
+    one_act SetsGate old new from to (i, l) p = idle old.front new.front from to i.front l p
 
   -- two after another
   owned_then : (c : ℕ) (came went fed given a b x y : List ℕ) (made more : List LogEntry) (old mid new : FrontView) (from then to : Logged H)

@@ -17,8 +17,9 @@ use wire_stream::Link;
 pub fn halls_own_servers<L: Link, H: Handler>()
     ensures { (made : ℕ → Made) (first : H) (acts : List (HallAct L)) (old new : HallSeen H L)
         → ((c : ℕ) → (made c).server_window ≡ 1) → IsNewHall first old
-        → HallRun H.does H.stops (tells L.received L.sent L.ends L.waits) old acts new
-        → OwnsServers H.does H.stops (tells L.received L.sent L.ends L.waits) made first acts new }
+        → HallRun H.does H.stops (tells L.received L.sent L.ends L.waits L.failures) old acts new
+        → OwnsServers H.does H.stops (tells L.received L.sent L.ends L.waits L.failures)
+        made first acts new }
 {}
 
 /// Proves that the clients of a hall know what their calls got, whoever else is connected.
@@ -29,8 +30,8 @@ pub fn halls_own_servers<L: Link, H: Handler>()
 /// of strangers.
 pub fn clients_know<L: Link, H: Handler>()
     ensures { (made : ℕ → Made) (first : H) (acts : List (HallAct L)) (hall : HallSeen H L)
-        (owned : OwnsServers H.does H.stops (tells L.received L.sent L.ends L.waits) made first
-        acts hall) (strange : ℕ → Bool) (turns : List Turn) (ends : ℕ → ClientEnd)
+        (owned : OwnsServers H.does H.stops (tells L.received L.sent L.ends L.waits L.failures)
+        made first acts hall) (strange : ℕ → Bool) (turns : List Turn) (ends : ℕ → ClientEnd)
         → AreMade made → server_turns turns ≡ server_turns owned.turns
         → ((c : ℕ) → strange c ≡ false
         → ClientRun c (first_end 48000000 made c) (acts_at c (deeds_of turns)) (ends c))

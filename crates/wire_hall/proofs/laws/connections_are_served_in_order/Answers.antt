@@ -7,5 +7,5 @@ pub returns : goal.returns
 returns g c = λ connection link turns now ran.
     let L = g.L.Link in
     let H = g.H.Handler in
-    let t = tells L.received L.sent L.ends L.waits in
+    let t = tells L.received L.sent L.ends L.waits L.failures in
     turns_serve t H.does H.stops turns connection link [] [] [] (new_seat connection link) now ran (none_served t connection link)

@@ -6,7 +6,7 @@ use Rattle.test_server.proofs.serving.Serving.steer.Goals as goal
 
 pub returns-clause-steered : goal.returns-clause-steered
 returns-clause-steered g c =
-    let t = tells g.L.Link.received g.L.Link.sent g.L.Link.ends g.L.Link.waits in
+    let t = tells g.L.Link.received g.L.Link.sent g.L.Link.ends g.L.Link.waits g.L.Link.failures in
     let seats = c.args.self.now.hall.seats in
     steered_by g.H.Handler.does g.H.Handler.stops t g.L.Gated.gate c.args.self.now.guide.flow c.in-Some.flow c.args.key c.in-Some-seat.seat.now c.set_gate.result seats c.set_gate.new.self.seats
     (sym c.in-Some.ensures) (sym c.in-Some-seat.ensures)

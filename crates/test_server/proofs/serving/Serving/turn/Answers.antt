@@ -10,7 +10,7 @@ use Rattle.test_server.proofs.serving.Serving.turn.Goals as goal
 
 pub returns-in-Ok-close-clause-served : goal.returns-in-Ok-close-clause-served
 returns-in-Ok-close-clause-served g c =
-    let t = tells g.L.Link.received g.L.Link.sent g.L.Link.ends g.L.Link.waits in
+    let t = tells g.L.Link.received g.L.Link.sent g.L.Link.ends g.L.Link.waits g.L.Link.failures in
     let old = c.args.self.now in
     let made = c.turn.new.self.logged in
     let follows = subst (λ es. Follows old.guide (log_of es) c.follow.new.self) c.entries.ensures c.in-Ok.ensures in
@@ -28,7 +28,7 @@ returns-in-Ok-close-clause-served g c =
 
 pub returns-in-Again-clause-served : goal.returns-in-Again-clause-served
 returns-in-Again-clause-served g c =
-    let t = tells g.L.Link.received g.L.Link.sent g.L.Link.ends g.L.Link.waits in
+    let t = tells g.L.Link.received g.L.Link.sent g.L.Link.ends g.L.Link.waits g.L.Link.failures in
     let old = c.args.self.now in
     let made = c.turn.new.self.logged in
     let follows = subst (λ es. Follows old.guide (log_of es) c.follow.new.self) c.entries.ensures c.in-Ok.ensures in

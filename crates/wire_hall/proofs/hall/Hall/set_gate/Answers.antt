@@ -2,7 +2,7 @@ use Rattle.std.proofs.Common.{◌≡◌, [], ◌∷◌, Some, refl, sym}
 use Rattle.slab.specs.Slab.{get}
 use Rattle.slab.proofs.SlabLemmas.{Updates-with_value}
 use Rattle.wire_hall.specs.Halls.{Acts}
-use Rattle.wire_hall.specs.Seats.{Fails}
+use Rattle.wire_hall.specs.Seats.{SetsGate}
 use Rattle.wire_hall.proofs.hall.Hall.set_gate.Goals as goal
 
 pub returns-clause-gated : goal.returns-clause-gated
@@ -22,7 +22,7 @@ returns-clause-act g c =
     let seats = c.args.self.now.seats in
     let seat = c.in-Some.gated.now in
     let at : get seats c.args.key ≡ Some seat = sym c.in-Some.ensures.value in (
-      Acts c.args.key seat.front.server.connection (Fails ∷ []),
+      Acts c.args.key seat.front.server.connection (SetsGate ∷ []),
       record {
         seat = seat;
         at = at;

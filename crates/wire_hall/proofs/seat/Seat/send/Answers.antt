@@ -14,8 +14,9 @@ returns-in-Ok-Bytes g c =
     let went = rw c.in-Ok-Bytes.field-0-is at c.in-Ok-Bytes.ensures.sent in
     rw (← c.self.view_is) (
       Sends (take n s.front.output),
-      sends (tells g.L.Link.received g.L.Link.sent g.L.Link.ends g.L.Link.waits) s.front c.sent.new.self s.link c.send.new.self s.inlet n some
+      sends (tells g.L.Link.received g.L.Link.sent g.L.Link.ends g.L.Link.waits g.L.Link.failures) s.front c.sent.new.self s.link c.send.new.self s.inlet n some
           (λ none. c.in-Ok-Bytes.ensures.some long (c.in-Ok-Bytes.field-0-is ∙ ap moved.Bytes none))
           (subst (λ (o : List ℕ). Appends (g.L.Link.sent s.link) (g.L.Link.sent c.send.new.self) (take n o)) c.output.ensures went)
           c.in-Ok-Bytes.ensures.received c.sent.ensures,
+      tt,
     )

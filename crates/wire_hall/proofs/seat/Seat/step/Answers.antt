@@ -30,15 +30,15 @@ receive-requires-clause-ready g c =
 
 pub returns-then-not-is_empty : goal.returns-then-not-is_empty
 returns-then-not-is_empty g c =
-    moves_turn g.H.Handler.does g.H.Handler.stops (tells g.L.Link.received g.L.Link.sent g.L.Link.ends g.L.Link.waits)
+    moves_turn g.H.Handler.does g.H.Handler.stops (tells g.L.Link.received g.L.Link.sent g.L.Link.ends g.L.Link.waits g.L.Link.failures)
     c.send.result c.args.self.now c.send.new.self c.args.logged.now c.send.ensures
 
 pub returns-then-not-is_empty-2 : goal.returns-then-not-is_empty-2
 returns-then-not-is_empty-2 g c =
-    moves_turn g.H.Handler.does g.H.Handler.stops (tells g.L.Link.received g.L.Link.sent g.L.Link.ends g.L.Link.waits)
+    moves_turn g.H.Handler.does g.H.Handler.stops (tells g.L.Link.received g.L.Link.sent g.L.Link.ends g.L.Link.waits g.L.Link.failures)
     c.take.result c.args.self.now c.take.new.self c.args.logged.now c.take.ensures
 
 pub returns-else-not-is_empty-2 : goal.returns-else-not-is_empty-2
 returns-else-not-is_empty-2 g c =
-    moves_turn g.H.Handler.does g.H.Handler.stops (tells g.L.Link.received g.L.Link.sent g.L.Link.ends g.L.Link.waits)
+    moves_turn g.H.Handler.does g.H.Handler.stops (tells g.L.Link.received g.L.Link.sent g.L.Link.ends g.L.Link.waits g.L.Link.failures)
     c.receive.result c.args.self.now c.receive.new.self c.args.logged.now c.receive.ensures
