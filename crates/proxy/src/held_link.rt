@@ -172,6 +172,7 @@ pub struct HeldLink<L> {
     failures: u64,
     ends: u64,
     waits: u64,
+    endings: u64,
 }
 
 impl<L: Link + Drop> HeldLink<L> {
@@ -194,6 +195,7 @@ impl<L: Link + Drop> HeldLink<L> {
             failures: 0,
             ends: 0,
             waits: 0,
+            endings: 0,
         }
     }
 
@@ -318,8 +320,15 @@ impl<L: Link + Drop> Link for HeldLink<L> {
 }
 
 impl<L: EndSending + Drop> EndSending for HeldLink<L> {
+    ghost endings = { λ s. s.endings };
+
     fn end_sending(&mut self) -> Result<(), LinkFault> {
         self.has_ended = true;
-        self.held.link.end_sending()
+        let outcome = self.held.link.end_sending();
+        match outcome {
+            Ok(()) => self.endings = self.endings.saturating_add(1),
+            Err(_) => self.failures = self.failures.saturating_add(1),
+        }
+        outcome
     }
 }

@@ -38,6 +38,8 @@ impl Write for Shared {
 pub struct Socket {
     link: TcpLink<Shared>,
     stream: Rc<TcpStream>,
+    failures: u64,
+    endings: u64,
 }
 
 impl Socket {
@@ -52,6 +54,8 @@ impl Socket {
         Ok(Socket {
             link: TcpLink::new(shared),
             stream,
+            failures: 0,
+            endings: 0,
         })
     }
 }
@@ -63,26 +67,42 @@ impl Link for Socket {
 
     ghost turns = { λ _. None };
 
-    ghost failures = { λ s. s.link.failures };
+    ghost failures = { λ s. s.failures };
 
     ghost ends = { λ s. s.link.ends };
 
     ghost waits = { λ s. s.link.waits };
 
     fn recv(&mut self, buffer: &mut [u8]) -> Result<Moved, LinkFault> {
-        self.link.recv(buffer)
+        let outcome = self.link.recv(buffer);
+        if outcome.is_err() {
+            self.failures = self.failures.saturating_add(1);
+        }
+        outcome
     }
 
     fn send(&mut self, bytes: &[u8]) -> Result<Moved, LinkFault> {
-        self.link.send(bytes)
+        let outcome = self.link.send(bytes);
+        if outcome.is_err() {
+            self.failures = self.failures.saturating_add(1);
+        }
+        outcome
     }
 }
 
 impl EndSending for Socket {
+    ghost endings = { λ s. s.endings };
+
     fn end_sending(&mut self) -> Result<(), LinkFault> {
         match self.stream.shutdown(Shutdown::Write) {
-            Ok(()) => Ok(()),
-            Err(error) => Err(LinkFault { kind: error.kind() }),
+            Ok(()) => {
+                self.endings = self.endings.saturating_add(1);
+                Ok(())
+            }
+            Err(error) => {
+                self.failures = self.failures.saturating_add(1);
+                Err(LinkFault { kind: error.kind() })
+            }
         }
     }
 }

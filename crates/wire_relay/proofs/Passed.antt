@@ -1,9 +1,10 @@
 -- What has passed on a way after some acts.
-use Rattle.std.proofs.Common.{◌≡◌, ℕ, Option, List, [], ◌∷◌, ◌++◌, ap, refl, subst, sym, ◌∙◌, append_assoc, append-nil}
+use Rattle.std.proofs.Common.{◌≡◌, ℕ, Option, List, [], ◌∷◌, ◌++◌, ap, refl, subst, sym, inl, inr, ◌∙◌, append_assoc, append-nil}
 use Rattle.std.proofs.KnownBytes.{Appends-nil, Appends-trans}
 use Rattle.std.specs.Io.KnownBytes.{Appends}
-use Rattle.wire_relay.specs.declared.way.Stage.TheVariants.{Open, Ending, Ended}
-use Rattle.wire_relay.specs.Acts.{Back, Comes, Ends, EndsSending, Goes, Idles, RelayAct, RelayRun, RelayView, Tells, There, WayAct, WayMoves, WayView, back_came, back_went, came, there_came, there_went, went}
+use Rattle.wire_relay.specs.declared.turned.RelayFault.TheVariants.{Receiving, Sending}
+use Rattle.wire_relay.specs.declared.way.Stage.TheVariants.{Open, Ended}
+use Rattle.wire_relay.specs.Acts.{Back, Comes, Ends, EndsSending, Fails, Goes, RelayAct, RelayRun, RelayView, Tells, There, Waits, WayAct, WayMoves, WayView, back_came, back_went, came, there_came, there_went, went}
 use Rattle.wire_relay.specs.Passing.{HasPassed}
 
 -- What has passed so far: what came over the one link and went over the other since they had received and sent this.
@@ -14,6 +15,16 @@ record So {F T : Type 0} (f : Tells F) (t : Tells T) (received sent : Option (Li
   pub all : way.stage ≡ Ended → way.held ≡ []
 
 module _ {F T : Type 0} (f : Tells F) (t : Tells T) (r s : Option (List ℕ)) where
+  -- an act on the way in which no byte was moved
+  moved_none : (c w : List ℕ) (old new : WayView) (from from' : F) (to to' : T) → So f t r s c w from to old → Appends (f.received from) (f.received from') []
+      → Appends (t.sent to) (t.sent to') [] → new ≡ old → So f t r s (c ++ []) (w ++ []) from' to' new
+  moved_none c w old new from from' to to' so none_came none_went same = record {
+    comes = Appends-trans r (f.received from) (f.received from') c [] so.comes none_came;
+    goes = Appends-trans s (t.sent to) (t.sent to') w [] so.goes none_went;
+    order = rw (append-nil c, append-nil w, same) so.order;
+    all = rw same so.all;
+  }
+
   -- an act on the way
   on_act : (act : WayAct) (c w : List ℕ) (old new : WayView) (from from' : F) (to to' : T) → So f t r s c w from to old → WayMoves f t act old new from from' to to'
       → So f t r s (c ++ came act) (w ++ went act) from' to' new
@@ -30,24 +41,26 @@ module _ {F T : Type 0} (f : Tells F) (t : Tells T) (r s : Option (List ℕ)) wh
     order = rw (append-nil c) (so.order ∙ ap (λ (x : List ℕ). w ++ x) first ∙ sym (append_assoc w (byte ∷ bytes) new.held));
     all = λ ended. let none = so.all (sym stage ∙ ended) in absurd (cc);
   }
-  on_act Ends c w old new from from' to to' so (is_open, none, is, told, over, same) = record {
+  on_act Ends c w old new from from' to to' so (is_open, none, is, (told, over), same) = record {
     comes = Appends-trans r (f.received from) (f.received from') c [] so.comes over.received;
     goes = rw (append-nil w, same) so.goes;
     order = rw (append-nil c, append-nil w, is) so.order;
     all = λ ended. absurd (cc);
   }
-  on_act EndsSending c w old new from from' to to' so (ending, none, is, over, same) = record {
+  on_act EndsSending c w old new from from' to to' so (ending, none, is, (told, over), same) = record {
     comes = rw (append-nil c, same) so.comes;
     goes = Appends-trans s (t.sent to) (t.sent to') w [] so.goes over.sent;
     order = rw (append-nil c, append-nil w, is) so.order;
     all = λ _. rw is none;
   }
-  on_act Idles c w old new from from' to to' so (same, over, under) = record {
-    comes = Appends-trans r (f.received from) (f.received from') c [] so.comes over.received;
-    goes = Appends-trans s (t.sent to) (t.sent to') w [] so.goes under.sent;
-    order = rw (append-nil c, append-nil w, same) so.order;
-    all = rw same so.all;
-  }
+  on_act Waits c w old new from from' to to' so (same, inl (none, (told, over), still)) =
+      moved_none c w old new from from' to to' so over.received (rw still (Appends-nil (t.sent to))) same
+  on_act Waits c w old new from from' to to' so (same, inr (some, (told, over), still)) =
+      moved_none c w old new from from' to to' so (rw still (Appends-nil (f.received from))) over.sent same
+  on_act (Fails (Receiving fault)) c w old new from from' to to' so (same, over, still) =
+      moved_none c w old new from from' to to' so over.received (rw still (Appends-nil (t.sent to))) same
+  on_act (Fails (Sending fault)) c w old new from from' to to' so (same, over, still) =
+      moved_none c w old new from from' to to' so (rw still (Appends-nil (f.received from))) over.sent same
 
   -- an act on the other way, in which nothing came over the one link and went over the other
   on_other : (c w : List ℕ) (way new : WayView) (from from' : F) (to to' : T) → So f t r s c w from to way → Appends (f.received from) (f.received from') []
@@ -75,9 +88,12 @@ quiet : {F T : Type 0} (f : Tells F) (t : Tells T) (act : WayAct) (old new : Way
     → Appends (f.sent from) (f.sent from') [] × Appends (t.received to) (t.received to') []
 quiet f t (Comes bytes) old new from from' to to' (is_open, none, some, is, over, same) = (over.sent, rw same (Appends-nil (t.received to)))
 quiet f t (Goes bytes) old new from from' to to' (some, first, stage, over, same) = (rw same (Appends-nil (f.sent from)), over.received)
-quiet f t Ends old new from from' to to' (is_open, none, is, told, over, same) = (over.sent, rw same (Appends-nil (t.received to)))
-quiet f t EndsSending old new from from' to to' (ending, none, is, over, same) = (rw same (Appends-nil (f.sent from)), over.received)
-quiet f t Idles old new from from' to to' (same, over, under) = (over.sent, under.received)
+quiet f t Ends old new from from' to to' (is_open, none, is, (told, over), same) = (over.sent, rw same (Appends-nil (t.received to)))
+quiet f t EndsSending old new from from' to to' (ending, none, is, (told, over), same) = (rw same (Appends-nil (f.sent from)), over.received)
+quiet f t Waits old new from from' to to' (same, inl (none, (told, over), still)) = (over.sent, rw still (Appends-nil (t.received to)))
+quiet f t Waits old new from from' to to' (same, inr (some, (told, over), still)) = (rw still (Appends-nil (f.sent from)), over.received)
+quiet f t (Fails (Receiving fault)) old new from from' to to' (same, over, still) = (over.sent, rw still (Appends-nil (t.received to)))
+quiet f t (Fails (Sending fault)) old new from from' to to' (same, over, still) = (rw still (Appends-nil (f.sent from)), over.received)
 
 module _ {N F : Type 0} (n : Tells N) (f : Tells F) (r s : Option (List ℕ)) where
   there_run : (acts : List RelayAct) (c w : List ℕ) (old now : RelayView N F) → So n f r s c w old.near old.far old.there → RelayRun n f old acts now

@@ -1,14 +1,12 @@
 -- Acts of a relay, one after another.
-use Rattle.std.proofs.Common.{◌≡◌, ℕ, ◌+◌, ◌≤◌, Option, List, [], ◌∷◌, ◌++◌, length, ap, arith, refl, sym, subst, ◌∙◌, append_assoc, append-nil, length-append}
+use Rattle.std.proofs.Common.{◌≡◌, ℕ, ◌+◌, ◌≤◌, Option, List, [], ◌∷◌, ◌++◌, ap, arith, refl, sym, subst, inl, inr, ◌∙◌, append_assoc, append-nil}
 use Rattle.std.proofs.KnownBytes.{Appends-nil, Appends-trans}
 use Rattle.std.specs.Io.KnownBytes.{Appends}
 use Rattle.std.specs.Prelude.{Result, Ok, Err}
-use Rattle.std.specs.Result.{IsErr}
 use Rattle.wire_relay.specs.declared.turned.RelayFault.{RelayFault}
 use Rattle.wire_relay.specs.declared.turned.Turned.{Turned}
-use Rattle.wire_relay.specs.declared.turned.Turned.TheVariants.{Again, Waits, Over}
-use Rattle.wire_relay.specs.declared.way.Stage.TheVariants.{Ended}
-use Rattle.wire_relay.specs.Acts.{Back, Idles, RelayAct, RelayRun, RelayView, Tells, There, TurnedAs, Turns, back, back_came, both, came, there, there_came}
+use Rattle.wire_relay.specs.declared.turned.Turned.TheVariants as turns
+use Rattle.wire_relay.specs.Acts.{Back, Comes, Ends, EndsSending, Fails, Goes, RelayAct, RelayRun, RelayView, Tells, There, TurnedAs, Turns, Waits, WayAct, all_done, back, back_came, both, came, done, fault_of, faults, there, there_came}
 use Rattle.wire_relay.specs.Steps.{WaySteps, taken_together}
 
 -- what came in acts, one after another
@@ -22,11 +20,31 @@ back_on [] more = refl
 back_on (There act ∷ acts) more = back_on acts more
 back_on (Back act ∷ acts) more = ap (λ (x : List ℕ). came act ++ x) (back_on acts more) ∙ sym (append_assoc (came act) (back_came acts) (back_came more))
 
--- how many acts a step on a way is at least
+-- how many of the acts did something, and the faults of them, one after another
+done_on : (acts more : List RelayAct) → all_done (acts ++ more) ≡ all_done acts + all_done more
+done_on [] more = omega arith
+done_on (There act ∷ acts) more = omega (arith, done_on acts more)
+done_on (Back act ∷ acts) more = omega (arith, done_on acts more)
+
+faults_on : (acts more : List RelayAct) → faults (acts ++ more) ≡ faults acts ++ faults more
+faults_on [] more = refl
+faults_on (There act ∷ acts) more = ap (λ (x : List RelayFault). fault_of act ++ x) (faults_on acts more) ∙ sym (append_assoc (fault_of act) (faults acts) (faults more))
+faults_on (Back act ∷ acts) more = ap (λ (x : List RelayFault). fault_of act ++ x) (faults_on acts more) ∙ sym (append_assoc (fault_of act) (faults acts) (faults more))
+
+-- an act that did something didn't fail
+fine_done : (act : WayAct) → done act ≡ 1 → fault_of act ≡ []
+fine_done (Comes bytes) is = refl
+fine_done (Goes bytes) is = refl
+fine_done Ends is = refl
+fine_done EndsSending is = refl
+fine_done Waits is = refl
+fine_done (Fails fault) is = absurd cc
+
+-- how many acts of a step on a way did something at least
 abbrev least : Turned → ℕ
-least Again = 1
-least Waits = 1
-least Over = 0
+least turns.Again = 1
+least turns.Waits = 0
+least turns.Over = 0
 
 module _ {N F : Type 0} (n : Tells N) (f : Tells F) where
   run_on : (acts more : List RelayAct) (old mid new : RelayView N F) → RelayRun n f old acts mid → RelayRun n f mid more new
@@ -38,19 +56,21 @@ module _ {N F : Type 0} (n : Tells N) (f : Tells F) where
   pub record SoFar (count : ℕ) (old new : RelayView N F) (there there' back back' : Option (List ℕ)) : Type 0 where
     pub acts : List RelayAct
     pub run : RelayRun n f old acts new
-    pub enough : count ≤ length acts
+    pub enough : count ≤ all_done acts
+    pub fine : faults acts ≡ []
     pub there_seen : Appends there there' (there_came acts)
     pub back_seen : Appends back back' (back_came acts)
 
   pub none_yet : (r : RelayView N F) (t s : Option (List ℕ)) → SoFar 0 r r t t s s
-  none_yet r t s = record { acts = []; run = refl; enough = omega arith; there_seen = Appends-nil t; back_seen = Appends-nil s }
+  none_yet r t s = record { acts = []; run = refl; enough = omega arith; fine = refl; there_seen = Appends-nil t; back_seen = Appends-nil s }
 
   then : (i j : ℕ) (old mid new : RelayView N F) (a a' a'' b b' b'' : Option (List ℕ)) → SoFar i old mid a a' b b' → SoFar j mid new a' a'' b' b''
       → SoFar (i + j) old new a a'' b b''
   then i j old mid new a a' a'' b b' b'' s r = record {
     acts = s.acts ++ r.acts;
     run = run_on s.acts r.acts old mid new s.run r.run;
-    enough = omega (arith, length-append s.acts r.acts, s.enough, r.enough);
+    enough = omega (arith, done_on s.acts r.acts, s.enough, r.enough);
+    fine = faults_on s.acts r.acts ∙ ap (λ (x : List RelayFault). x ++ faults r.acts) s.fine ∙ r.fine;
     there_seen = rw (there_on s.acts r.acts) (Appends-trans a a' a'' (there_came s.acts) (there_came r.acts) s.there_seen r.there_seen);
     back_seen = rw (back_on s.acts r.acts) (Appends-trans b b' b'' (back_came s.acts) (back_came r.acts) s.back_seen r.back_seen);
   }
@@ -67,99 +87,135 @@ module _ {N F : Type 0} (n : Tells N) (f : Tells F) where
   -- a step that did something is an act, and one on a way that is over is none
   there_does : (a : Turned) (old mid : RelayView N F) (t t' b : Option (List ℕ)) → WaySteps n f (Ok a) old.there mid.there old.near mid.near old.far mid.far t t'
       → mid.back ≡ old.back → SoFar (least a) old mid t t' b b
-  there_does Again old mid t t' b (act, moves, seen) keeps =
-      record { acts = There act ∷ []; enough = omega arith; run = (mid, (moves, keeps), refl); there_seen = rw (append-nil (came act)) seen; back_seen = Appends-nil b }
-  there_does Waits old mid t t' b (moves, same) keeps =
-      record { acts = There Idles ∷ []; enough = omega arith; run = (mid, (moves, keeps), refl); there_seen = rw same (Appends-nil t); back_seen = Appends-nil b }
-  there_does Over old mid t t' b (is, way, from, to, same) keeps =
-      record { acts = []; enough = omega arith; run = rw (way, from, to, keeps) refl; there_seen = rw same (Appends-nil t); back_seen = Appends-nil b }
+  there_does turns.Again old mid t t' b (act, does, moves, seen) keeps = record {
+    acts = There act ∷ [];
+    enough = omega (arith, does);
+    fine = rw (fine_done act does) refl;
+    run = (mid, (moves, keeps), refl);
+    there_seen = rw (append-nil (came act)) seen;
+    back_seen = Appends-nil b;
+  }
+  there_does turns.Waits old mid t t' b (moves, same) keeps =
+      record { acts = There Waits ∷ []; enough = omega arith; fine = refl; run = (mid, (moves, keeps), refl); there_seen = rw same (Appends-nil t); back_seen = Appends-nil b }
+  there_does turns.Over old mid t t' b (is, way, from, to, same) keeps =
+      record { acts = []; enough = omega arith; fine = refl; run = rw (way, from, to, keeps) refl; there_seen = rw same (Appends-nil t); back_seen = Appends-nil b }
 
   back_does : (b : Turned) (mid new : RelayView N F) (t s s' : Option (List ℕ)) → WaySteps f n (Ok b) mid.back new.back mid.far new.far mid.near new.near s s'
       → new.there ≡ mid.there → SoFar (least b) mid new t t s s'
-  back_does Again mid new t s s' (act, moves, seen) keeps =
-      record { acts = Back act ∷ []; enough = omega arith; run = (new, (moves, keeps), refl); there_seen = Appends-nil t; back_seen = rw (append-nil (came act)) seen }
-  back_does Waits mid new t s s' (moves, same) keeps =
-      record { acts = Back Idles ∷ []; enough = omega arith; run = (new, (moves, keeps), refl); there_seen = Appends-nil t; back_seen = rw same (Appends-nil s) }
-  back_does Over mid new t s s' (is, way, from, to, same) keeps =
-      record { acts = []; enough = omega arith; run = rw (way, from, to, keeps) refl; there_seen = Appends-nil t; back_seen = rw same (Appends-nil s) }
+  back_does turns.Again mid new t s s' (act, does, moves, seen) keeps = record {
+    acts = Back act ∷ [];
+    enough = omega (arith, does);
+    fine = rw (fine_done act does) refl;
+    run = (new, (moves, keeps), refl);
+    there_seen = Appends-nil t;
+    back_seen = rw (append-nil (came act)) seen;
+  }
+  back_does turns.Waits mid new t s s' (moves, same) keeps =
+      record { acts = Back Waits ∷ []; enough = omega arith; fine = refl; run = (new, (moves, keeps), refl); there_seen = Appends-nil t; back_seen = rw same (Appends-nil s) }
+  back_does turns.Over mid new t s s' (is, way, from, to, same) keeps =
+      record { acts = []; enough = omega arith; fine = refl; run = rw (way, from, to, keeps) refl; there_seen = Appends-nil t; back_seen = rw same (Appends-nil s) }
 
   both_do : (a b : Turned) (old mid new : RelayView N F) (t t' s s' : Option (List ℕ)) → Stepped (Ok a) (Ok b) old mid new t t' s s'
       → SoFar (least a + least b) old new t t' s s'
   both_do a b old mid new t t' s s' x =
       then (least a) (least b) old mid new t t' t' s s s' (there_does a old mid t t' s x.there_steps x.there_keeps) (back_does b mid new t' s s' x.back_steps x.back_keeps)
 
-  turns_to : (steps i : ℕ) (result : Result Turned RelayFault) (old new : RelayView N F) (t t' s s' : Option (List ℕ)) (x : SoFar i old new t t' s s')
-      → TurnedAs steps result x.acts new → Turns n f steps result old new t t' s s'
-  turns_to steps i result old new t t' s s' x comes = record { acts = x.acts; run = x.run; comes_to = comes; there_seen = x.there_seen; back_seen = x.back_seen }
+  turns_to : (steps i : ℕ) (turned : Turned) (old new : RelayView N F) (t t' s s' : Option (List ℕ)) (x : SoFar i old new t t' s s')
+      → TurnedAs steps (Ok turned) x.acts new → Turns n f steps (Ok turned) old new t t' s s'
+  turns_to steps i turned old new t t' s s' x comes = record { acts = x.acts; run = x.run; comes_to = comes; failed = x.fine; there_seen = x.there_seen; back_seen = x.back_seen }
+
+  -- a failure after other acts
+  fails_on : (steps : ℕ) (e : RelayFault) (front acts : List RelayAct) (r : RelayView N F) → TurnedAs steps (Err e) acts r → TurnedAs steps (Err e) (front ++ acts) r
+  fails_on steps e front acts r (before, inl is) = (front ++ before, inl (ap (λ (x : List RelayAct). front ++ x) is ∙ sym (append_assoc front before (There (Fails e) ∷ []))))
+  fails_on steps e front acts r (before, inr is) = (front ++ before, inr (ap (λ (x : List RelayAct). front ++ x) is ∙ sym (append_assoc front before (Back (Fails e) ∷ []))))
+
+  pub last_fails : (steps i : ℕ) (e : RelayFault) (old mid new : RelayView N F) (t t' t'' s s' s'' : Option (List ℕ)) → SoFar i old mid t t' s s'
+      → Turns n f 1 (Err e) mid new t' t'' s' s'' → Turns n f steps (Err e) old new t t'' s s''
+  last_fails steps i e old mid new t t' t'' s s' s'' so x = record {
+    acts = so.acts ++ x.acts;
+    run = run_on so.acts x.acts old mid new so.run x.run;
+    comes_to = fails_on steps e so.acts x.acts new x.comes_to;
+    failed = faults_on so.acts x.acts ∙ ap (λ (y : List RelayFault). y ++ faults x.acts) so.fine ∙ x.failed;
+    there_seen = rw (there_on so.acts x.acts) (Appends-trans t t' t'' (there_came so.acts) (there_came x.acts) so.there_seen x.there_seen);
+    back_seen = rw (back_on so.acts x.acts) (Appends-trans s s' s'' (back_came so.acts) (back_came x.acts) so.back_seen x.back_seen);
+  }
 
   -- the link failed on the way there
-  pub there_fails : (e : RelayFault) (result : Result Turned RelayFault) (old mid : RelayView N F) (t t' s : Option (List ℕ)) → IsErr result
-      → WaySteps n f (Err e) old.there mid.there old.near mid.near old.far mid.far t t' → mid.back ≡ old.back → Turns n f 1 result old mid t t' s s
-  there_fails e (Ok turned) old mid t t' s is moves keeps = absurd cc
-  there_fails e (Err fault) old mid t t' s is (moves, same) keeps =
-      turns_to 1 1 (Err fault) old mid t t' s s (there_does Waits old mid t t' s (moves, same) keeps) tt
+  pub there_fails : (e : RelayFault) (old mid : RelayView N F) (t t' s : Option (List ℕ)) → WaySteps n f (Err e) old.there mid.there old.near mid.near old.far mid.far t t'
+      → mid.back ≡ old.back → Turns n f 1 (Err e) old mid t t' s s
+  there_fails e old mid t t' s (moves, same) keeps = record {
+    acts = There (Fails e) ∷ [];
+    run = (mid, (moves, keeps), refl);
+    comes_to = ([], inl refl);
+    failed = refl;
+    there_seen = rw same (Appends-nil t);
+    back_seen = Appends-nil s;
+  }
+
+  back_failed : (e : RelayFault) (mid new : RelayView N F) (t s s' : Option (List ℕ)) → WaySteps f n (Err e) mid.back new.back mid.far new.far mid.near new.near s s'
+      → new.there ≡ mid.there → Turns n f 1 (Err e) mid new t t s s'
+  back_failed e mid new t s s' (moves, same) keeps = record {
+    acts = Back (Fails e) ∷ [];
+    run = (new, (moves, keeps), refl);
+    comes_to = ([], inr refl);
+    failed = refl;
+    there_seen = Appends-nil t;
+    back_seen = rw same (Appends-nil s);
+  }
 
   -- the link failed on the way back
-  pub back_fails : (a : Turned) (e : RelayFault) (result : Result Turned RelayFault) (old mid new : RelayView N F) (t t' s s' : Option (List ℕ)) → IsErr result
-      → Stepped (Ok a) (Err e) old mid new t t' s s' → Turns n f 1 result old new t t' s s'
-  back_fails a e (Ok turned) old mid new t t' s s' is x = absurd cc
-  back_fails a e (Err fault) old mid new t t' s s' is x =
-      turns_to 1 (least a + 1) (Err fault) old new t t' s s'
-      (both_do a Waits old mid new t t' s s' (record { there_steps = x.there_steps; there_keeps = x.there_keeps; back_steps = x.back_steps; back_keeps = x.back_keeps })) tt
+  pub back_fails : (a : Turned) (e : RelayFault) (old mid new : RelayView N F) (t t' s s' : Option (List ℕ)) → Stepped (Ok a) (Err e) old mid new t t' s s'
+      → Turns n f 1 (Err e) old new t t' s s'
+  back_fails a e old mid new t t' s s' x =
+      last_fails 1 (least a) e old mid new t t' t' s s s' (there_does a old mid t t' s x.there_steps x.there_keeps) (back_failed e mid new t' s s' x.back_steps x.back_keeps)
 
   pub both_step : (a b : Turned) (old mid new : RelayView N F) (t t' s s' : Option (List ℕ)) → Stepped (Ok a) (Ok b) old mid new t t' s s'
       → Turns n f 1 (Ok (taken_together a b)) old new t t' s s'
   unfolding both_do there_does back_does then
-  both_step Again b old mid new t t' s s' x =
-      let done = both_do Again b old mid new t t' s s' x in
-      turns_to 1 (1 + least b) (Ok Again) old new t t' s s' done (omega (arith, done.enough))
-  both_step Waits Again old mid new t t' s s' x =
-      let done = both_do Waits Again old mid new t t' s s' x in
-      turns_to 1 2 (Ok Again) old new t t' s s' done (omega (arith, done.enough))
-  both_step Over Again old mid new t t' s s' x =
-      let done = both_do Over Again old mid new t t' s s' x in
-      turns_to 1 1 (Ok Again) old new t t' s s' done (omega (arith, done.enough))
-  both_step Waits Waits old mid new t t' s s' x = turns_to 1 2 (Ok Waits) old new t t' s s' (both_do Waits Waits old mid new t t' s s' x) (both [] refl)
-  both_step Waits Over old mid new t t' s s' x =
-      turns_to 1 1 (Ok Waits) old new t t' s s' (both_do Waits Over old mid new t t' s s' x) (there [] refl (rw x.back_steps.1 x.back_steps.0))
-  both_step Over Waits old mid new t t' s s' x =
-      turns_to 1 1 (Ok Waits) old new t t' s s' (both_do Over Waits old mid new t t' s s' x) (back [] refl (rw (x.back_keeps, x.there_steps.1) x.there_steps.0))
-  both_step Over Over old mid new t t' s s' x =
-      turns_to 1 0 (Ok Over) old new t t' s s' (both_do Over Over old mid new t t' s s' x)
+  both_step turns.Again b old mid new t t' s s' x =
+      let done = both_do turns.Again b old mid new t t' s s' x in
+      turns_to 1 (1 + least b) turns.Again old new t t' s s' done (omega (arith, done.enough))
+  both_step turns.Waits turns.Again old mid new t t' s s' x =
+      let done = both_do turns.Waits turns.Again old mid new t t' s s' x in
+      turns_to 1 1 turns.Again old new t t' s s' done (omega (arith, done.enough))
+  both_step turns.Over turns.Again old mid new t t' s s' x =
+      let done = both_do turns.Over turns.Again old mid new t t' s s' x in
+      turns_to 1 1 turns.Again old new t t' s s' done (omega (arith, done.enough))
+  both_step turns.Waits turns.Waits old mid new t t' s s' x = turns_to 1 0 turns.Waits old new t t' s s' (both_do turns.Waits turns.Waits old mid new t t' s s' x) (both [] refl)
+  both_step turns.Waits turns.Over old mid new t t' s s' x =
+      turns_to 1 0 turns.Waits old new t t' s s' (both_do turns.Waits turns.Over old mid new t t' s s' x) (there [] refl (rw x.back_steps.1 x.back_steps.0))
+  both_step turns.Over turns.Waits old mid new t t' s s' x =
+      turns_to 1 0 turns.Waits old new t t' s s' (both_do turns.Over turns.Waits old mid new t t' s s' x) (back [] refl (rw (x.back_keeps, x.there_steps.1) x.there_steps.0))
+  both_step turns.Over turns.Over old mid new t t' s s' x =
+      turns_to 1 0 turns.Over old new t t' s s' (both_do turns.Over turns.Over old mid new t t' s s' x)
       (rw (x.back_keeps, x.there_steps.1) x.there_steps.0, rw x.back_steps.1 x.back_steps.0)
 
   -- ---- a turn
 
-  of_turn : (result : Result Turned RelayFault) (old new : RelayView N F) (t t' s s' : Option (List ℕ)) → Turns n f 1 result old new t t' s s' → SoFar 0 old new t t' s s'
-  of_turn result old new t t' s s' x = record { acts = x.acts; run = x.run; enough = omega arith; there_seen = x.there_seen; back_seen = x.back_seen }
+  of_turn : (turned : Turned) (old new : RelayView N F) (t t' s s' : Option (List ℕ)) → Turns n f 1 (Ok turned) old new t t' s s' → SoFar 0 old new t t' s s'
+  of_turn turned old new t t' s s' x = record { acts = x.acts; run = x.run; enough = omega arith; fine = x.failed; there_seen = x.there_seen; back_seen = x.back_seen }
 
   -- one more step, after which there may be more to do
   pub one_more : (i : ℕ) (old mid new : RelayView N F) (t t' t'' s s' s'' : Option (List ℕ)) → SoFar i old mid t t' s s'
-      → Turns n f 1 (Ok Again) mid new t' t'' s' s'' → SoFar (i + 1) old new t t'' s s''
+      → Turns n f 1 (Ok turns.Again) mid new t' t'' s' s'' → SoFar (i + 1) old new t t'' s s''
   one_more i old mid new t t' t'' s s' s'' so x =
-      then i 1 old mid new t t' t'' s s' s'' so (record { acts = x.acts; run = x.run; enough = x.comes_to; there_seen = x.there_seen; back_seen = x.back_seen })
+      then i 1 old mid new t t' t'' s s' s'' so (record { acts = x.acts; run = x.run; enough = x.comes_to; fine = x.failed; there_seen = x.there_seen; back_seen = x.back_seen })
 
-  comes_on : (steps : ℕ) (front acts : List RelayAct) (turned : Turned) (r : RelayView N F) → (turned ≡ Again → ⊥) → TurnedAs 1 (Ok turned) acts r
+  comes_on : (steps : ℕ) (front acts : List RelayAct) (turned : Turned) (r : RelayView N F) → (turned ≡ turns.Again → ⊥) → TurnedAs 1 (Ok turned) acts r
       → TurnedAs steps (Ok turned) (front ++ acts) r
-  comes_on steps front acts Over r not x = x
-  comes_on steps front acts Waits r not (both before is) = both (front ++ before) (ap (λ (x : List RelayAct). front ++ x) is ∙ sym (append_assoc front before (There Idles ∷ Back Idles ∷ [])))
-  comes_on steps front acts Waits r not (there before is ended) = there (front ++ before) (ap (λ (x : List RelayAct). front ++ x) is ∙ sym (append_assoc front before (There Idles ∷ []))) ended
-  comes_on steps front acts Waits r not (back before is ended) = back (front ++ before) (ap (λ (x : List RelayAct). front ++ x) is ∙ sym (append_assoc front before (Back Idles ∷ []))) ended
-  comes_on steps front acts Again r not x = absurd (not refl)
+  comes_on steps front acts turns.Over r not x = x
+  comes_on steps front acts turns.Waits r not (both before is) = both (front ++ before) (ap (λ (x : List RelayAct). front ++ x) is ∙ sym (append_assoc front before (There Waits ∷ Back Waits ∷ [])))
+  comes_on steps front acts turns.Waits r not (there before is ended) = there (front ++ before) (ap (λ (x : List RelayAct). front ++ x) is ∙ sym (append_assoc front before (There Waits ∷ []))) ended
+  comes_on steps front acts turns.Waits r not (back before is ended) = back (front ++ before) (ap (λ (x : List RelayAct). front ++ x) is ∙ sym (append_assoc front before (Back Waits ∷ []))) ended
+  comes_on steps front acts turns.Again r not x = absurd (not refl)
 
   -- a step after which there is nothing more to do
   pub last_step : (steps i : ℕ) (turned : Turned) (old mid new : RelayView N F) (t t' t'' s s' s'' : Option (List ℕ)) → SoFar i old mid t t' s s'
-      → (turned ≡ Again → ⊥) → Turns n f 1 (Ok turned) mid new t' t'' s' s'' → Turns n f steps (Ok turned) old new t t'' s s''
+      → (turned ≡ turns.Again → ⊥) → Turns n f 1 (Ok turned) mid new t' t'' s' s'' → Turns n f steps (Ok turned) old new t t'' s s''
   unfolding of_turn then
   last_step steps i turned old mid new t t' t'' s s' s'' so not x =
-      turns_to steps (i + 0) (Ok turned) old new t t'' s s'' (then i 0 old mid new t t' t'' s s' s'' so (of_turn (Ok turned) mid new t' t'' s' s'' x))
+      turns_to steps (i + 0) turned old new t t'' s s'' (then i 0 old mid new t t' t'' s s' s'' so (of_turn turned mid new t' t'' s' s'' x))
       (comes_on steps so.acts x.acts turned new not x.comes_to)
 
-  pub last_fails : (steps i : ℕ) (e : RelayFault) (result : Result Turned RelayFault) (old mid new : RelayView N F) (t t' t'' s s' s'' : Option (List ℕ)) → IsErr result
-      → SoFar i old mid t t' s s' → Turns n f 1 (Err e) mid new t' t'' s' s'' → Turns n f steps result old new t t'' s s''
-  last_fails steps i e (Ok turned) old mid new t t' t'' s s' s'' is so x = absurd cc
-  last_fails steps i e (Err fault) old mid new t t' t'' s s' s'' is so x =
-      turns_to steps (i + 0) (Err fault) old new t t'' s s'' (then i 0 old mid new t t' t'' s s' s'' so (of_turn (Err e) mid new t' t'' s' s'' x)) tt
-
-  pub all_steps : (steps i : ℕ) (old new : RelayView N F) (t t' s s' : Option (List ℕ)) → SoFar i old new t t' s s' → steps ≤ i → Turns n f steps (Ok Again) old new t t' s s'
-  all_steps steps i old new t t' s s' so all = turns_to steps i (Ok Again) old new t t' s s' so (omega (arith, so.enough, all))
+  pub all_steps : (steps i : ℕ) (old new : RelayView N F) (t t' s s' : Option (List ℕ)) → SoFar i old new t t' s s' → steps ≤ i → Turns n f steps (Ok turns.Again) old new t t' s s'
+  all_steps steps i old new t t' s s' so all = turns_to steps i turns.Again old new t t' s s' so (omega (arith, so.enough, all))

@@ -1,5 +1,5 @@
 -- What is held in a piece from one place to another.
-use Rattle.std.proofs.Common.{◌≡◌, ℕ, ◌+◌, ◌-◌, ◌≤◌, ◌<◌, List, [], ◌∷◌, ◌++◌, zero, suc, ◌≢◌, length, take, drop, refl, sym, ap, ◌∙◌, arith, length-take, take-append-drop}
+use Rattle.std.proofs.Common.{◌≡◌, ℕ, ◌+◌, ◌-◌, ◌≤◌, ◌<◌, List, [], ◌∷◌, ◌++◌, zero, suc, ◌≢◌, length, take, drop, refl, sym, ap, ◌∙◌, arith, length-drop, length-take, take-append-drop}
 use Rattle.std.proofs.lemmas.List.{drop-take, drop-drop}
 
 -- The first n of the bytes that are held, and those that are held then.
@@ -18,6 +18,10 @@ pub none_held : (piece : List ℕ) (start end : ℕ) → end ≤ start → take 
 none_held piece start end le =
     let none : end - start ≡ 0 = omega arith in
     ap (λ (k : ℕ). take k (drop start piece)) none
+
+-- Some are held from a place to one behind it.
+pub some_held : (piece : List ℕ) (start end : ℕ) → start < end → end ≤ length piece → take (end - start) (drop start piece) ≢ []
+some_held piece start end lt le = λ none. omega (arith, length-take (end - start) (drop start piece), length-drop start piece, ap length none)
 
 -- The first of some bytes are some.
 pub some_first : (n : ℕ) (bytes : List ℕ) → n ≤ length bytes → (0 < length bytes → n ≡ 0 → ⊥) → bytes ≢ [] → take n bytes ≢ []

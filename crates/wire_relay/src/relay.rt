@@ -80,8 +80,9 @@ impl<N: EndSending + Drop, F: EndSending + Drop> Relay<N, F> {
         there_tap: &mut A,
         back_tap: &mut B,
     ) -> Result<Turned, RelayFault>
-        ensures { Turns (tells N.received N.sent N.ends N.waits)
-            (tells F.received F.sent F.ends F.waits) 1 result self.old self.new
+        ensures { Turns (tells N.received N.sent N.ends N.waits N.failures N.endings)
+            (tells F.received F.sent F.ends F.waits F.failures F.endings)
+            1 result self.old self.new
             (A.seen there_tap.old) (A.seen there_tap.new)
             (B.seen back_tap.old) (B.seen back_tap.new) }
     {
@@ -95,16 +96,16 @@ impl<N: EndSending + Drop, F: EndSending + Drop> Relay<N, F> {
     ///
     /// # Errors
     ///
-    /// Returns which link failed, by the way that it failed on. Nothing is lost, and nothing is
-    /// sent twice.
+    /// Returns what a link failed at. Nothing is lost, and nothing is sent twice.
     pub fn turn<A: Tap, B: Tap>(
         &mut self,
         steps: u32,
         there: &mut A,
         back: &mut B,
     ) -> Result<Turned, RelayFault>
-        ensures { Turns (tells N.received N.sent N.ends N.waits)
-            (tells F.received F.sent F.ends F.waits) steps result self.old self.new
+        ensures { Turns (tells N.received N.sent N.ends N.waits N.failures N.endings)
+            (tells F.received F.sent F.ends F.waits F.failures F.endings)
+            steps result self.old self.new
             (A.seen there.old) (A.seen there.new) (B.seen back.old) (B.seen back.new) }
     {
         for i in 0..steps {

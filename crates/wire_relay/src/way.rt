@@ -1,7 +1,8 @@
 //! One way between two links.
 
-ghost use Rattle.std.specs.Prelude.{◌≡◌, ◌≢◌, IfOk, []};
+ghost use Rattle.std.specs.Prelude.{◌≡◌, ◌≢◌, ℕ, IfOk, OnErr, OnOk, []};
 ghost use Rattle.std.specs.Io.KnownBytes.{Keeps};
+ghost use Rattle.wire_stream.specs.{Rose};
 ghost use Rattle.wire_relay.specs.Acts.{new_way, tells};
 ghost use Rattle.wire_relay.specs.Steps.{Finishes, Receives, Sends, WaySteps};
 
@@ -16,6 +17,9 @@ const ROOM: usize = 65_536;
 
 /// A link whose sending can be ended, while bytes still come.
 pub trait EndSending: Link {
+    // The number of calls that ended the sending, counted up to 2 ^ 64 - 1.
+    ghost endings: { Self → ℕ };
+
     /// Tells the other side that no more bytes are sent.
     ///
     /// # Errors
@@ -23,7 +27,11 @@ pub trait EndSending: Link {
     /// Returns `LinkFault` if the link failed.
     fn end_sending(&mut self) -> Result<(), LinkFault>
         ensures received { Keeps (Self.received self.old) (Self.received self.new) }
-        ensures sent { Keeps (Self.sent self.old) (Self.sent self.new) };
+        ensures sent { Keeps (Self.sent self.old) (Self.sent self.new) }
+        ensures ended { OnOk result (Rose (endings self.old) (endings self.new)) }
+        ensures not_ended { OnErr result (endings self.new ≡ endings self.old) }
+        ensures works { OnOk result (Self.failures self.new ≡ Self.failures self.old) }
+        ensures fails { OnErr result (Rose (Self.failures self.old) (Self.failures self.new)) };
 }
 
 /// How far a way is.
@@ -77,9 +85,9 @@ impl Way {
     }
 
     /// Sends some of what is held.
-    fn send<T: Link>(&mut self, to: &mut T) -> Result<Turned, RelayFault>
+    fn send<T: EndSending>(&mut self, to: &mut T) -> Result<Turned, RelayFault>
         requires some { self.old.held ≢ [] }
-        ensures { Sends (tells T.received T.sent T.ends T.waits) result
+        ensures { Sends (tells T.received T.sent T.ends T.waits T.failures T.endings) result
             self.old self.new to.old to.new }
     {
         match to.send(&self.piece[self.start..self.end]) {
@@ -93,10 +101,14 @@ impl Way {
     }
 
     /// Receives a piece, or notes the end of the link.
-    fn receive<F: Link, P: Tap>(&mut self, from: &mut F, tap: &mut P) -> Result<Turned, RelayFault>
+    fn receive<F: EndSending, P: Tap>(
+        &mut self,
+        from: &mut F,
+        tap: &mut P,
+    ) -> Result<Turned, RelayFault>
         requires open { self.old.stage ≡ Stage.Open }
         requires none { self.old.held ≡ [] }
-        ensures { Receives (tells F.received F.sent F.ends F.waits) result
+        ensures { Receives (tells F.received F.sent F.ends F.waits F.failures F.endings) result
             self.old self.new from.old from.new (P.seen tap.old) (P.seen tap.new) }
     {
         match from.recv(&mut self.piece) {
@@ -119,7 +131,7 @@ impl Way {
     fn finish<T: EndSending>(&mut self, to: &mut T) -> Result<Turned, RelayFault>
         requires ending { self.old.stage ≡ Stage.Ending }
         requires none { self.old.held ≡ [] }
-        ensures { Finishes (tells T.received T.sent T.ends T.waits) result
+        ensures { Finishes (tells T.received T.sent T.ends T.waits T.failures T.endings) result
             self.old self.new to.old to.new }
     {
         match to.end_sending() {
@@ -136,14 +148,14 @@ impl Way {
     /// # Errors
     ///
     /// Returns which link failed. Nothing is lost, and nothing is sent twice.
-    pub(crate) fn step<F: Link, T: EndSending, P: Tap>(
+    pub(crate) fn step<F: EndSending, T: EndSending, P: Tap>(
         &mut self,
         from: &mut F,
         to: &mut T,
         tap: &mut P,
     ) -> Result<Turned, RelayFault>
-        ensures { WaySteps (tells F.received F.sent F.ends F.waits)
-            (tells T.received T.sent T.ends T.waits) result
+        ensures { WaySteps (tells F.received F.sent F.ends F.waits F.failures F.endings)
+            (tells T.received T.sent T.ends T.waits T.failures T.endings) result
             self.old self.new from.old from.new to.old to.new
             (P.seen tap.old) (P.seen tap.new) }
     {

@@ -10,11 +10,11 @@ use wire_stream::{Link, LinkFault, MemLink, Moved};
 /// The most bytes that a link takes.
 const ROOM: usize = 64;
 
-/// A link in memory that knows whether its sending was ended.
+/// A link in memory that knows how often its sending was ended.
 #[derive(Drop)]
 pub(crate) struct Side {
     link: MemLink,
-    ended: bool,
+    endings: u64,
 }
 
 impl Link for Side {
@@ -40,8 +40,10 @@ impl Link for Side {
 }
 
 impl EndSending for Side {
+    ghost endings = { λ s. s.endings };
+
     fn end_sending(&mut self) -> Result<(), LinkFault> {
-        self.ended = true;
+        self.endings = self.endings.saturating_add(1);
         Ok(())
     }
 }
@@ -54,7 +56,7 @@ pub(crate) fn link_of(alloc: Global, bytes: &[u8], most: usize) -> Option<Side>
     let link = MemLink::new(alloc, input, ROOM).ok()?;
     Some(Side {
         link: link.moving_at_most(most),
-        ended: false,
+        endings: 0,
     })
 }
 
@@ -70,9 +72,9 @@ impl Tap for Kept {
     }
 }
 
-/// Returns true if the side was sent these bytes and the end.
+/// Returns true if the side was sent these bytes and then, once, the end.
 pub(crate) fn has(side: &Side, bytes: &[u8]) -> bool {
-    side.link.sent_bytes() == bytes && side.ended
+    side.link.sent_bytes() == bytes && side.endings == 1
 }
 
 /// Returns whether each side gets the other's bytes and end, moved at most so many at a time, and
@@ -106,7 +108,7 @@ fn fails(alloc: Global) -> Option<Result<Turned, RelayFault>> {
         link: MemLink::new(alloc, Vec::new(alloc), ROOM)
             .ok()?
             .failing_after(0),
-        ended: false,
+        endings: 0,
     };
     let mut relay = Relay::new(alloc, near, far).ok()?;
     Some(relay.turn(1000, &mut NoTap, &mut NoTap))
