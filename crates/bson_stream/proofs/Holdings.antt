@@ -10,7 +10,7 @@ use Rattle.bson_raw.specs.{IsSpelled}
 use Rattle.bson_stream.specs.declared.reader_state.ReaderState.{ReaderState}
 use Rattle.bson_stream.specs.declared.reader_state.ReaderState.TheVariants.{Need, Ready, Bad}
 use Rattle.bson_stream.specs.Holding.{IsGathered, IsWanted, for_document, for_fault, for_length}
-use Rattle.bson_stream.specs.Readers.{Feeds, HoldsNoMore, StandsAt}
+use Rattle.bson_stream.specs.Readers.{AnnouncesMore, Feeds, HoldsNoMore, StandsAt}
 use Rattle.bson_stream.specs.Standing.{IsBad, IsLength, IsOpen, announced, in_document, in_length, in_stream}
 use Rattle.bson_stream.proofs.Standings.{announced_front, announced_take, nothing_open, spelled_announced, spelled_length, spelled_not_bad, spelled_not_open}
 
@@ -66,6 +66,12 @@ more_wanted limit w held piece (in_length lt) (for_fault four bad is) = omega (a
 more_wanted limit w held piece (in_document four good lt) (for_fault four' bad is) = absurd (bad (subst IsLength (sym (announced_front held piece four)) good))
 more_wanted limit w held piece (in_length lt) (for_document four good le is) = omega (arith, lt, is, good.0)
 more_wanted limit w held piece (in_document four good lt) (for_document four' good' le is) = omega (arith, lt, is, announced_front held piece four)
+
+-- a good length above the limit isn't gathered for
+pub wanted_within : (limit w : ℕ) (bytes : List ℕ) → IsWanted limit bytes w → AnnouncesMore limit bytes → ⊥
+wanted_within limit w bytes (for_length lt is) a = omega (arith, lt, a.complete)
+wanted_within limit w bytes (for_fault four bad is) a = bad a.good
+wanted_within limit w bytes (for_document four good le is) a = omega (arith, le, a.more)
 
 -- ---- the state that is told of gathered bytes
 
@@ -183,3 +189,9 @@ bad_once start held f g fits a b = a.told ∙ ap (in_stream start) (one_front he
 
 pub need_is : (start : ℕ) (held : List ℕ) (s : ReaderState) → StandsAt start held s → s ≡ Need → IsOpen held
 need_is start held s at is = subst (StandsAt start held) is at
+
+-- a state in which no more is needed isn't that of open bytes
+pub not_need : (start : ℕ) (held : List ℕ) (s : ReaderState) → StandsAt start held s → (s ≡ Need → ⊥) → IsOpen held → ⊥
+not_need start held Need at decided o = decided refl
+not_need start held (Ready canonical) at decided o = spelled_not_open held at.0 o
+not_need start held (Bad f) at decided o = at.decided o

@@ -1,14 +1,16 @@
 -- The parts that were found, put one behind another.
-use Rattle.std.proofs.Common.{◌≡◌, ℕ, ◌+◌, ◌<◌, ◌≤◌, Bool, true, false, List, [], ◌∷◌, ◌++◌, None, get_or, length, take, refl, sym, subst, ◌∙◌}
+use Rattle.std.proofs.Common.{◌≡◌, ℕ, ◌+◌, ◌<◌, ◌≤◌, Bool, true, false, List, [], ◌∷◌, ◌++◌, None, get_or, length, take, drop, refl, sym, ap, subst, ◌∙◌, arith, length-append}
 use Rattle.bson_elem.specs.{Spells, Tree}
 use Rattle.bson_stream.specs.declared.gap.Find.TheVariants as find
 use Rattle.bson_stream.specs.declared.gap.Gap.{Gap}
+use Rattle.bson_stream.specs.declared.reader_state.ReadRefusal.{ReadRefusal}
+use Rattle.bson_stream.specs.declared.reader_state.ReadRefusal.TheVariants.{OutOfMemory, TooFar, TooLong}
 use Rattle.bson_stream.specs.declared.salvage.SalvagedPart.{SalvagedPart}
 use Rattle.bson_stream.specs.declared.salvage.SalvagedPart.TheVariants as part
 use Rattle.bson_stream.specs.Salvage.{Part, a_document, a_gap}
-use Rattle.bson_stream.specs.SalvagedParts.{ArePartsOf, FindsParts, HaveParts, IsPart, ToldParts}
-use Rattle.bson_stream.specs.Salvagers.{IsFound, IsSettled, Salvaging, SoFar}
-use Rattle.bson_stream.proofs.Gatherings.{Piece, told, told_all, up_to}
+use Rattle.bson_stream.specs.SalvagedParts.{ArePartsOf, FindsParts, HaveParts, IsPart, IsUnsalvaged, ToldParts}
+use Rattle.bson_stream.specs.Salvagers.{IsFound, IsNotFed, IsSettled, Salvaging, SoFar}
+use Rattle.bson_stream.proofs.Gatherings.{Piece, split_at, told, told_all, up_to}
 use Rattle.bson_stream.proofs.Salvagings.{all_told, ended_now}
 
 parts-push : (found : List SalvagedPart) (ps : List Part) (x : SalvagedPart) (p : Part) → ArePartsOf found ps → IsPart x p → ArePartsOf (found ++ x ∷ []) (ps ++ p ∷ [])
@@ -73,3 +75,14 @@ pieces_ended limit pieces i old new found more le before finds same =
     let ended : ToldParts true (told pieces) old found = told_ended (told pieces) old found (subst (λ (b : List ℕ). ToldParts false b old found) (told_all pieces i le) before) in
     let last = finds.0 (told pieces) ended in
     all_found limit (told pieces) new more last.0 last.1 (finds.1 ∙ same)
+
+-- ---- why they weren't found
+
+pub out_of_memory : (bytes : List ℕ) (e : ReadRefusal) → e ≡ OutOfMemory → IsUnsalvaged bytes e
+out_of_memory bytes e is = subst (IsUnsalvaged bytes) (sym is) tt
+
+pub piece_not_fed : (pieces : List Piece) (i : ℕ) (d : Piece) (s : Salvaging) (found : List SalvagedPart) (e : ReadRefusal) → i < length pieces → ToldParts false (told (take i pieces)) s found → IsNotFed s (get_or pieces i d).now e → IsUnsalvaged (told pieces) e
+piece_not_fed pieces i d s found OutOfMemory lt before refused = tt
+piece_not_fed pieces i d s found TooLong lt before refused = absurd refused
+piece_not_fed pieces i d s found TooFar lt (ps, so, are) refused =
+    omega (arith, refused, so.size, ap length (up_to pieces i d lt), length-append (told (take i pieces)) (get_or pieces i d).now, ap length (split_at pieces (i + 1)), length-append (told (take (i + 1) pieces)) (told (drop (i + 1) pieces)))

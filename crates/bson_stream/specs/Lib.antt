@@ -7,7 +7,7 @@ pub mod Salvage
 pub mod Salvagers
 pub mod SalvagedParts
 -- the words that clauses of other crates cite
-pub use Rattle.bson_stream.specs.Cutting.{Cuts, IsFaultOf, SpellEach}
+pub use Rattle.bson_stream.specs.Cutting.{Cuts, HasTooLong, IsFaultOf, IsUnread, SpellEach}
 pub use Rattle.bson_stream.specs.Gathering.{HasRead}
 pub use Rattle.bson_stream.specs.Readers.{AnnouncesMore, Feeds, HoldsNoMore, IsRefused, Passes}
 pub use Rattle.bson_stream.specs.Readers.{Reading, StandsAt, TellsForm}

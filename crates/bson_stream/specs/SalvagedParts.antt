@@ -1,6 +1,9 @@
 -- The parts that were found in bytes of which some are damaged, as values.
-use Rattle.std.specs.Prelude.{◌≡◌, ℕ, List, [], ◌∷◌, Bool}
+use Rattle.std.specs.Prelude.{◌≡◌, ℕ, ◌^◌, ◌≤◌, List, [], ◌∷◌, Bool, length}
 use Rattle.bson_elem.specs.{Spells}
+use Rattle.bson_stream.specs.declared.reader_state.ReadRefusal.{ReadRefusal}
+use Rattle.bson_stream.specs.declared.reader_state.ReadRefusal.TheVariants.{OutOfMemory}
+use Rattle.bson_stream.specs.declared.reader_state.ReadRefusal.TheVariants.{TooFar, TooLong}
 use Rattle.bson_stream.specs.declared.salvage.SalvagedPart.{SalvagedPart}
 use Rattle.bson_stream.specs.declared.salvage.SalvagedPart.TheVariants.{Document, Gap}
 use Rattle.bson_stream.specs.Salvage.{AreParts, Part, a_document, a_gap}
@@ -23,6 +26,12 @@ ArePartsOf found parts = ⊥
 abbrev pub HaveParts : ℕ → List ℕ → List SalvagedPart → Type 0
 HaveParts limit bytes found =
     (parts : List Part) × AreParts limit bytes parts × ArePartsOf found parts
+
+-- why the parts of the bytes weren't found
+abbrev pub IsUnsalvaged : List ℕ → ReadRefusal → Type 0
+IsUnsalvaged bytes OutOfMemory = Unit {0}
+IsUnsalvaged bytes TooLong = ⊥
+IsUnsalvaged bytes TooFar = 2 ^ 64 ≤ length bytes
 
 -- Of bytes that were fed, the parts so far were told, and these are their values.
 abbrev pub ToldParts : Bool → List ℕ → Salvaging → List SalvagedPart → Type 0

@@ -1,8 +1,8 @@
 //! Reads all documents of bytes that come in pieces.
 
-ghost use Rattle.std.specs.Prelude.{◌^◌, ◌<◌, IfOk, flat_map};
-ghost use Rattle.bson_stream.specs.Cutting.{Cuts};
-ghost use Rattle.bson_stream.specs.Gathering.{Gathers};
+ghost use Rattle.std.specs.Prelude.{◌^◌, ◌<◌, ◌++◌, IfErr, IfOk, List, flat_map, ℕ};
+ghost use Rattle.bson_stream.specs.Cutting.{Cuts, IsUnread};
+ghost use Rattle.bson_stream.specs.Gathering.{Gathered, Gathers};
 ghost use Rattle.bson_stream.specs.Standing.{IsOpen};
 
 use crate::document_buf::DocumentBuf;
@@ -30,7 +30,9 @@ pub struct PiecesRead {
 pub fn read_pieces(alloc: Global, limit: u32, pieces: &[&[u8]]) -> Result<PiecesRead, ReadRefusal>
     requires { limit < 2 ^ 31 }
     ensures cuts { IfOk result (λ read.
-        Cuts (flat_map (λ piece. piece.now) pieces.now) read.documents.items read.fault) }
+        Cuts limit (flat_map (λ piece. piece.now) pieces.now) read.documents.items read.fault) }
+    ensures refused { IfErr result
+        (λ e. IsUnread limit (flat_map (λ piece. piece.now) pieces.now) e) }
 {
     let mut reader = DocumentReader::new(alloc, limit);
     let mut documents = Vec::new(alloc);
@@ -73,8 +75,11 @@ fn read_piece(
     piece: &[u8],
 ) -> Result<Fed, ReadRefusal>
     requires { IsOpen reader.old.held }
-    ensures { IfOk result (λ fed. Gathers documents.old.items reader.old piece.now
+    ensures gathers { IfOk result (λ fed. Gathers documents.old.items reader.old piece.now
         documents.new.items reader.new fed) }
+    ensures refused { IfErr result (λ e. (bytes : List ℕ)
+        → Gathered bytes documents.old.items reader.old
+        → IsUnread reader.old.limit (bytes ++ piece.now) e) }
 {
     let mut taken = 0;
     loop {

@@ -1,12 +1,14 @@
 //! Reads documents from bytes that come in pieces.
 
-ghost use Rattle.std.specs.Prelude.{◌≡◌, ◌≢◌, ◌≤◌, ◌<◌, ◌+◌, ◌^◌, ◌++◌, [], Err, IfErr, IfNone};
-ghost use Rattle.std.specs.Prelude.{IfOk, IfSome, IsOkAnd, IsSome, List, Ok, OnErr, length, ℕ};
+ghost use Rattle.std.specs.Prelude.{◌≡◌, ◌≢◌, ◌≤◌, ◌<◌, ◌+◌, ◌^◌, ◌++◌, ◌⊎◌, [], Err, IfErr};
+ghost use Rattle.std.specs.Prelude.{IfNone, IfOk, IfSome, IsOkAnd, IsSome, List, Ok, OnErr, length};
+ghost use Rattle.std.specs.Prelude.{ℕ};
 ghost use Rattle.bson_elem.specs.declared.fault.BsonCause.{BsonCause};
 ghost use Rattle.bson_elem.specs.declared.fault.BsonFault.{BsonFault};
 ghost use Rattle.bson_elem.specs.{fault};
 ghost use Rattle.bson_raw.specs.{IsSpelled, document_bytes};
-ghost use Rattle.bson_stream.specs.Readers.{Feeds, IsRefused, Passes, Reading, StandsAt, TellsForm};
+ghost use Rattle.bson_stream.specs.Readers.{AnnouncesMore, Feeds, IsRefused, Passes, Reading};
+ghost use Rattle.bson_stream.specs.Readers.{StandsAt, TellsForm};
 ghost use Rattle.bson_stream.specs.Standing.{IsBad, IsOpen};
 
 use crate::gather::{put_behind, state_of, wanted, whole_len};
@@ -98,6 +100,9 @@ impl DocumentReader {
         ensures state { IfOk result (λ fed. StandsAt self.new.start self.new.held fed.state) }
         ensures none { (IsOpen self.old.held → ⊥)
             → IsOkAnd result (λ fed. fed.taken ≡ 0) × (self.new ≡ self.old) }
+        ensures long { IsOpen self.old.held
+            → AnnouncesMore self.old.limit (self.old.held ++ piece.now)
+            → (result ≡ Err ReadRefusal.TooLong) ⊎ (result ≡ Err ReadRefusal.TooFar) }
         ensures refused { IfErr result (λ e. IsRefused self.old piece.now e) }
         ensures unchanged { OnErr result (self.new ≡ self.old) }
     {

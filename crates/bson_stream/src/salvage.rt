@@ -1,7 +1,7 @@
 //! Finds all documents in bytes that come in pieces, of which some are damaged.
 
-ghost use Rattle.std.specs.Prelude.{◌^◌, ◌<◌, IfOk, OnOk, flat_map};
-ghost use Rattle.bson_stream.specs.SalvagedParts.{FindsParts, HaveParts};
+ghost use Rattle.std.specs.Prelude.{◌≡◌, ◌^◌, ◌<◌, IfErr, IfOk, OnOk, flat_map};
+ghost use Rattle.bson_stream.specs.SalvagedParts.{FindsParts, HaveParts, IsUnsalvaged};
 
 use crate::document_buf::DocumentBuf;
 use crate::gap::{Find, Gap};
@@ -33,6 +33,8 @@ pub fn salvage_pieces(
     requires { limit < 2 ^ 31 }
     ensures cuts { IfOk result (λ found.
         HaveParts limit (flat_map (λ piece. piece.now) pieces.now) found.items) }
+    ensures refused { IfErr result
+        (λ e. IsUnsalvaged (flat_map (λ piece. piece.now) pieces.now) e) }
 {
     let mut salvager = Salvager::new(alloc, limit);
     let mut found = Vec::new(alloc);
@@ -56,8 +58,9 @@ fn take_parts(
     ended: bool,
     found: &mut Vec<SalvagedPart>,
 ) -> Result<(), ReadRefusal>
-    ensures { OnOk result (FindsParts ended salvager.old found.old.items
+    ensures finds { OnOk result (FindsParts ended salvager.old found.old.items
         salvager.new found.new.items) }
+    ensures refused { IfErr result (λ e. e ≡ ReadRefusal.OutOfMemory) }
 {
     loop {
         match salvager.find(ended) {

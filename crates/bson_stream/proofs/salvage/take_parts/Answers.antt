@@ -4,8 +4,8 @@ use Rattle.bson_stream.specs.SalvagedParts.{ToldParts}
 use Rattle.bson_stream.proofs.SalvagedFound.{told_document, told_gap, told_same}
 use Rattle.bson_stream.proofs.salvage.take_parts.Goals as goal
 
-pub returns-in-Nothing : goal.returns-in-Nothing
-returns-in-Nothing c =
+pub returns-in-Nothing-clause-finds : goal.returns-in-Nothing-clause-finds
+returns-in-Nothing-clause-finds c =
     let i = c.loop-gap.invariant in (
       (λ fed before. told_same c.args.ended fed c.loop-gap.salvager c.find.new.self c.loop-gap.found.items (λ ps so. c.in-Nothing.ensures.found fed ps so) (i.told fed before)),
       c.find.ensures.limit ∙ i.limit,

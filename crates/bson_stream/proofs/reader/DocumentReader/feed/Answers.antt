@@ -2,7 +2,7 @@ use Rattle.std.proofs.Common.{◌+◌, ◌++◌, length, subst, sym, take, arith
 use Rattle.bson_elem.proofs.Lemmas.{IsBytes-take}
 use Rattle.bson_elem.specs.{IsBytes}
 use Rattle.bson_stream.specs.Holding.{IsWanted}
-use Rattle.bson_stream.proofs.Holdings.{IsFed, bytes_join, is_put}
+use Rattle.bson_stream.proofs.Holdings.{IsFed, bytes_join, is_put, not_need, wanted_within}
 use Rattle.bson_stream.proofs.reader.DocumentReader.feed.Goals as goal
 use Rattle.bson_stream.proofs.reader.DocumentReader.feed.Goals.{After-deref-2}
 
@@ -32,3 +32,12 @@ pub returns-clause-fed : goal.returns-clause-fed
 returns-clause-fed c = λ o.
     let f = fed (goal.at.returns-clause-fed c).After-deref-2 in
     rw (← c.self.view_is) (f.feeds c.state_of-self-inside.result (rw c.deref-2.ensures.value at c.state_of-self-inside.ensures.stands) (λ e. rw c.deref-2.ensures.value at c.state_of-self-inside.ensures.all e))
+
+pub returns-in_default-clause-long : goal.returns-in_default-clause-long
+returns-in_default-clause-long c = λ o a. absurd (not_need _ _ _ c.self.invariant.state c.in_default.not-Need (rw (← c.self.view_is) at o))
+
+pub returns-in_err-put_behind-clause-long : goal.returns-in_err-put_behind-clause-long
+returns-in_err-put_behind-clause-long c = λ o a. absurd (wanted_within _ _ _ (rw c.deref.ensures.value at c.in_ok-wanted.ensures.wanted) (rw (← c.self.view_is) at a))
+
+pub returns-clause-long : goal.returns-clause-long
+returns-clause-long c = λ o a. absurd (wanted_within _ _ _ (rw c.deref.ensures.value at c.in_ok-wanted.ensures.wanted) (rw (← c.self.view_is) at a))
