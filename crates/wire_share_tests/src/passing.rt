@@ -62,39 +62,55 @@ fn a_query_goes_as_a_message(rt: HostRuntime) {
     assert!(rt; is_respelled(rt.alloc()) == Some(true));
 }
 
-/// Returns why nothing is passed on, in turn: where nothing came, over an upstream that has ended,
-/// where the request was passed on before, and where the downstream has ended.
-fn refusals(alloc: Global) -> Option<[Result<(), PassRefusal>; 5]> {
-    let mut upstream = Upstream::new(alloc, 5);
-    let mut ended = Upstream::new(alloc, 6);
-    ended.end();
+/// Makes a downstream at which a request waits.
+fn asked(alloc: Global) -> Option<Downstream> {
     let mut downstream = Downstream::new(alloc, 1).ok()?;
-    let nothing = downstream.pass_on(&mut upstream);
-    if !comes(&mut downstream, ASKED[0]) {
-        return None;
+    if comes(&mut downstream, ASKED[0]) {
+        Some(downstream)
+    } else {
+        None
     }
-    let over = downstream.pass_on(&mut ended);
-    let passed = downstream.pass_on(&mut upstream);
-    let again = downstream.pass_on(&mut upstream);
-    if !goes(&mut upstream, PASSED[0]) {
-        return None;
-    }
+}
+
+/// Returns what passing on comes to where nothing came.
+fn at_once(alloc: Global) -> Option<Result<(), PassRefusal>> {
+    let mut downstream = Downstream::new(alloc, 1).ok()?;
+    let mut upstream = Upstream::new(alloc, 5);
+    Some(downstream.pass_on(&mut upstream))
+}
+
+/// Returns what passing on comes to over an upstream that has ended.
+fn over_an_end(alloc: Global) -> Option<Result<(), PassRefusal>> {
+    let mut downstream = asked(alloc)?;
+    let mut upstream = Upstream::new(alloc, 6);
+    upstream.end();
+    Some(downstream.pass_on(&mut upstream))
+}
+
+/// Returns what passing on comes to, and then passing on once more.
+fn twice(alloc: Global) -> Option<[Result<(), PassRefusal>; 2]> {
+    let mut downstream = asked(alloc)?;
+    let mut upstream = Upstream::new(alloc, 5);
+    let first = downstream.pass_on(&mut upstream);
+    Some([first, downstream.pass_on(&mut upstream)])
+}
+
+/// Returns how a downstream stands that has ended behind its request, and what passing on comes to.
+fn behind_an_end(alloc: Global) -> Option<(FrontState, Result<(), PassRefusal>)> {
+    let mut downstream = asked(alloc)?;
+    let mut upstream = Upstream::new(alloc, 5);
+    let _ = downstream.pass_on(&mut upstream);
     downstream.end();
-    if downstream.state() != FrontState::Closed(FrontCause::Server(ServerCause::Ended)) {
-        return None;
-    }
-    Some([
-        nothing,
-        over,
-        passed,
-        again,
-        downstream.pass_on(&mut upstream),
-    ])
+    Some((downstream.state(), downstream.pass_on(&mut upstream)))
 }
 
 #[test]
 fn a_request_is_passed_on_once(rt: HostRuntime) {
+    let alloc = rt.alloc();
     let nothing = Err(PassRefusal::NothingWaits);
-    let closed = Err(PassRefusal::Call(CallRefusal::Closed));
-    assert!(rt; refusals(rt.alloc()) == Some([nothing, closed, Ok(()), nothing, nothing]));
+    let ended = FrontState::Closed(FrontCause::Server(ServerCause::Ended));
+    assert!(rt; at_once(alloc) == Some(nothing));
+    assert!(rt; over_an_end(alloc) == Some(Err(PassRefusal::Call(CallRefusal::Closed))));
+    assert!(rt; twice(alloc) == Some([Ok(()), nothing]));
+    assert!(rt; behind_an_end(alloc) == Some((ended, nothing)));
 }

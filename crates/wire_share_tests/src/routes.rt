@@ -204,18 +204,23 @@ fn are_followed(alloc: Global, rows: &[(&str, &str, u64, [Option<u64>; 3])]) -> 
     Some(routes.find(Need::Cursor(7)).is_none() && routes.find(Need::Any).is_none())
 }
 
-/// Returns true if a transaction is known from its begin to its commit.
-fn is_transacted(alloc: Global) -> Option<bool> {
-    let mut routes = Routes::new(alloc);
-    routes.begin(SESSION, 4).ok()?;
-    let begun = routes.find(Need::Transaction(SESSION)) == Some(4);
-    let commit = in_session(
+/// Notes the reply to a commit in the session. `None` if one of these can't be made.
+fn commit(alloc: Global, routes: &mut Routes) -> Option<()> {
+    let asked = in_session(
         alloc,
         "{\"commitTransaction\": 1, \"autocommit\": false, \"lsid\": {\"id\": ",
         "}}",
     )?;
     let told = document(alloc, "{\"ok\": 1.0}")?;
-    routes.answered(commit.as_raw(), told.as_raw(), 4).ok()?;
+    routes.answered(asked.as_raw(), told.as_raw(), 4).ok()
+}
+
+/// Returns true if a transaction is known from its begin to its commit.
+fn is_transacted(alloc: Global) -> Option<bool> {
+    let mut routes = Routes::new(alloc);
+    routes.begin(SESSION, 4).ok()?;
+    let begun = routes.find(Need::Transaction(SESSION)) == Some(4);
+    commit(alloc, &mut routes)?;
     Some(begun && routes.find(Need::Transaction(SESSION)).is_none())
 }
 

@@ -27,30 +27,41 @@ fn replies(upstream: &mut Upstream) -> bool {
     upstream.feed(REPLIES[0]) == Ok(33)
 }
 
+/// Passes the request on, once more where memory was refused, which has to put nothing out.
+fn passes(downstream: &mut Downstream, upstream: &mut Upstream) -> bool {
+    match downstream.pass_on(upstream) {
+        Ok(()) => true,
+        Err(PassRefusal::Call(CallRefusal::OutOfMemory)) => {
+            upstream.output().is_empty() && downstream.pass_on(upstream) == Ok(())
+        }
+        Err(_) => false,
+    }
+}
+
+/// Answers the request, once more where memory was refused, which has to leave the reply.
+fn answers(downstream: &mut Downstream, upstream: &mut Upstream) -> bool {
+    match downstream.answer(upstream) {
+        Ok(()) => true,
+        Err(GiveRefusal::OutOfMemory) => {
+            upstream.reply().is_some() && downstream.answer(upstream) == Ok(())
+        }
+        Err(_) => false,
+    }
+}
+
 /// Returns whether a request is answered; none if memory for a downstream or for its reply is
 /// refused. Where nothing changed by a refusal the same is done again.
 fn is_answered(alloc: Global) -> Option<bool> {
     let mut upstream = Upstream::new(alloc, 5);
     let mut downstream = Downstream::new(alloc, 1).ok()?;
-    if !comes(&mut downstream) {
-        return Some(false);
-    }
-    let mut passed = downstream.pass_on(&mut upstream);
-    if passed == Err(PassRefusal::Call(CallRefusal::OutOfMemory)) && upstream.output().is_empty() {
-        passed = downstream.pass_on(&mut upstream);
-    }
-    if passed != Ok(()) || upstream.output() != PASSED[0] || !replies(&mut upstream) {
-        return Some(false);
-    }
-    let mut given = downstream.answer(&mut upstream);
-    if given == Err(GiveRefusal::OutOfMemory) && upstream.reply().is_some() {
-        given = downstream.answer(&mut upstream);
-    }
+    let given = comes(&mut downstream)
+        && passes(&mut downstream, &mut upstream)
+        && upstream.output() == PASSED[0]
+        && replies(&mut upstream)
+        && answers(&mut downstream, &mut upstream);
     match downstream.state() {
         FrontState::Closed(FrontCause::Server(ServerCause::NoMemory)) => None,
-        state => {
-            Some(given == Ok(()) && state == FrontState::Open && downstream.output() == GIVEN[0])
-        }
+        state => Some(given && state == FrontState::Open && downstream.output() == GIVEN[0]),
     }
 }
 

@@ -70,41 +70,84 @@ fn passed(alloc: Global, number: u64, asked: &[u8], upstream: &mut Upstream) -> 
     Some(downstream)
 }
 
-/// Returns true if the replies, of which this one comes first, are given to the two clients.
-fn are_shared(alloc: Global, first: usize) -> Option<bool>
-    requires { first < 2 }
+/// Makes a downstream whose request was passed on and went. `None` if one of these fails.
+fn sent(alloc: Global, number: u64, which: usize, upstream: &mut Upstream) -> Option<Downstream>
+    requires { which < 2 }
 {
+    let downstream = passed(alloc, number, ASKED[which], upstream)?;
+    if goes(upstream, PASSED[which]) {
+        Some(downstream)
+    } else {
+        None
+    }
+}
+
+/// Returns true if this is what a client is to get.
+fn gets(downstream: &Downstream, bytes: &[u8]) -> bool {
+    downstream.output() == bytes
+}
+
+/// Returns true if the reply to this client's call is given to it, and to the other one not.
+fn is_given(
+    upstream: &mut Upstream,
+    own: &mut Downstream,
+    other: &mut Downstream,
+    which: usize,
+) -> bool
+    requires { which < 2 }
+{
+    if !replies(upstream, REPLIES[which]) || upstream.reply().is_none() {
+        return false;
+    }
+    let kept = other.answer(upstream) == Err(GiveRefusal::NotAwaited);
+    kept && own.answer(upstream) == Ok(()) && gets(own, GIVEN[which])
+}
+
+/// Returns true if the replies are given to the two clients, that to the second one first if
+/// `swapped`.
+fn are_shared(alloc: Global, swapped: bool) -> Option<bool> {
     let mut upstream = Upstream::new(alloc, 5);
-    let mut one = passed(alloc, 1, ASKED[0], &mut upstream)?;
-    if !goes(&mut upstream, PASSED[0]) {
-        return Some(false);
-    }
-    let mut two = passed(alloc, 2, ASKED[1], &mut upstream)?;
-    if !goes(&mut upstream, PASSED[1]) || upstream.outstanding() != 2 {
-        return Some(false);
-    }
-    let second = 1 - first;
-    let mut given = [false, false];
-    for turn in 0..2 {
-        let which = if turn == 0 { first } else { second };
-        if !replies(&mut upstream, REPLIES[which]) || upstream.reply().is_none() {
-            return Some(false);
-        }
-        let (own, other) = if which == 0 {
-            (&mut one, &mut two)
-        } else {
-            (&mut two, &mut one)
-        };
-        let kept = other.answer(&mut upstream) == Err(GiveRefusal::NotAwaited);
-        given[which] = kept && own.answer(&mut upstream) == Ok(()) && own.output() == GIVEN[which];
-    }
-    Some(given[0] && given[1] && upstream.outstanding() == 0)
+    let mut one = sent(alloc, 1, 0, &mut upstream)?;
+    let mut two = sent(alloc, 2, 1, &mut upstream)?;
+    let outstanding = upstream.outstanding();
+    let given = if swapped {
+        is_given(&mut upstream, &mut two, &mut one, 1)
+            && is_given(&mut upstream, &mut one, &mut two, 0)
+    } else {
+        is_given(&mut upstream, &mut one, &mut two, 0)
+            && is_given(&mut upstream, &mut two, &mut one, 1)
+    };
+    Some(outstanding == 2 && given && upstream.outstanding() == 0)
 }
 
 #[test]
 fn each_client_gets_its_own_reply(rt: HostRuntime) {
-    assert!(rt; are_shared(rt.alloc(), 0) == Some(true));
-    assert!(rt; are_shared(rt.alloc(), 1) == Some(true));
+    assert!(rt; are_shared(rt.alloc(), false) == Some(true));
+    assert!(rt; are_shared(rt.alloc(), true) == Some(true));
+}
+
+/// Returns true if a downstream awaits the reply to the first call of upstream 6.
+fn awaits_another(downstream: &Downstream) -> bool {
+    let awaited = Awaited {
+        upstream: 6,
+        call: 0,
+    };
+    downstream.awaited() == Some(awaited) && downstream.connection() == 2
+}
+
+/// Returns true if the reply of an upstream isn't given to a client that awaits none of it.
+fn is_kept(another: &mut Upstream, one: &mut Downstream) -> bool {
+    replies(another, REPLIES[0])
+        && one.answer(another) == Err(GiveRefusal::NotAwaited)
+        && one.state() == FrontState::Open
+        && one.output().is_empty()
+}
+
+/// Returns true if the reply of an upstream is let go, and then its end is told.
+fn is_let_go(another: &mut Upstream) -> bool {
+    another.release();
+    another.end();
+    another.reply().is_none() && another.state() != ClientState::Open
 }
 
 /// Returns true if the reply to the first call of another upstream isn't given to a client that
@@ -114,23 +157,9 @@ fn is_told_apart(alloc: Global) -> Option<bool> {
     let mut another = Upstream::new(alloc, 6);
     let mut one = passed(alloc, 1, ASKED[0], &mut upstream)?;
     let two = passed(alloc, 2, ASKED[1], &mut another)?;
-    let awaited = Awaited {
-        upstream: 6,
-        call: 0,
-    };
-    if two.awaited() != Some(awaited) || another.number() != 6 || two.connection() != 2 {
-        return Some(false);
-    }
+    let awaits = awaits_another(&two) && another.number() == 6;
     drop(two);
-    if !replies(&mut another, REPLIES[0])
-        || one.answer(&mut another) != Err(GiveRefusal::NotAwaited)
-    {
-        return Some(false);
-    }
-    another.release();
-    another.end();
-    let all = another.reply().is_none() && another.state() != ClientState::Open;
-    Some(all && one.state() == FrontState::Open && one.output().is_empty())
+    Some(awaits && is_kept(&mut another, &mut one) && is_let_go(&mut another))
 }
 
 #[test]
