@@ -53,6 +53,8 @@ class Connection:
             raise
         # The room is given back where the reply comes, also for a caller that was cancelled meanwhile.
         reply: asyncio.Future[lughemra.Message] = asyncio.get_running_loop().create_future()
+        # What fails it is told by `drain`, too, or to no one where the caller was cancelled.
+        reply.add_done_callback(lambda ended: ended.cancelled() or ended.exception())
         self.waiting[made.number] = reply
         self.send()
         await self.writer.drain()

@@ -95,7 +95,7 @@ class End(Held):
 
     def output(self, most: int = PIECE) -> bytes:
         """Returns the first bytes that wait to be sent, at most so many. They wait until `sent` says that they were."""
-        room, address, length = room_of(max(0, most))
+        room, address, length = room_of(max(0, min(most, self.waiting)))
         told = self._tell("output", address, length)
         refuse(told.refusal)
         return bytes(memoryview(room)[: told.copied])
@@ -104,7 +104,7 @@ class End(Held):
         """Takes the first `count` bytes that wait off, since they were sent."""
         if count < 0:
             raise ValueError(f"{count} bytes can't be sent")
-        refuse(self._tell("sent", ctypes.c_size_t(count)))
+        refuse(self._tell("sent", ctypes.c_size_t(min(count, (1 << 64) - 1))))
 
     def _keep(self, piece: Any) -> None:
         """Keeps a copy of a piece behind what was fed before."""

@@ -47,6 +47,8 @@ class Client(End):
         require("limit", limit, 26, lib.MAX_LIMIT)
         super().__init__(lib.short.client_new, ctypes.c_int32(first_id), lib.size(window), lib.limit_of(limit))
         self._closed: Optional[ClientClosed] = None
+        # A reply is ready that wasn't taken yet.
+        self._ready = False
 
     def call(self, body: Any, sequences: Iterable[tuple[str, Iterable[Any]]] = ()) -> Call:
         """Makes a call that has one reply. Its request waits to be sent then.
@@ -89,9 +91,12 @@ class Client(End):
 
         Raises ClientClosed where what came closes the client, each time from then on.
         """
+        if self._ready:
+            return self._take_reply()
         while self._at < len(self._held) and not self._closed:
             state = self._hand_over().state
             if state.ready:
+                self._ready = True
                 return self._take_reply()
             self._note(state)
         if self._closed and self._closed.number != ClientClosed.ENDED:
@@ -108,6 +113,7 @@ class Client(End):
         refuse(told.refusal)
         reply = Reply(told.call, told.last, Message(bytes(room), lib.MAX_LIMIT))
         refuse(lib.short.client_release(self._core))
+        self._ready = False
         return reply
 
     def _note(self, state: Any) -> None:

@@ -147,7 +147,8 @@ class CallRefused(RuntimeError):
 class Closed(ConnectionError):
     """Tells why an end of a connection was closed, by the numbers and names of lughemra.h.
 
-    `fault` is the fault of the message that closed it, and `response_to` the number that no call bears, if these are why.
+    `fault` is the fault of the message that closed it, whose offset is counted from the first byte of that message, and
+    `response_to` the number that no call bears, if these are why.
     """
 
     NAMES: dict[int, str] = {}

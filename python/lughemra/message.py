@@ -13,6 +13,7 @@ from .document import Document
 from .errors import DocumentError, MessageError
 
 MAX_LIMIT = lib.MAX_LIMIT
+NO_BODY = 8
 ENDED_INSIDE = 14
 
 
@@ -96,11 +97,11 @@ class Message:
     @functools.cached_property
     def body(self) -> Document:
         """Returns the body."""
-        return next(
-            document_at(self._data, self._pointer, self._size, section.documents)
-            for section in self._walk()
-            if section.kind == lib.SECTION_BODY
-        )
+        for section in self._walk():
+            if section.kind == lib.SECTION_BODY:
+                return document_at(self._data, self._pointer, self._size, section.documents)
+        # Bytes that changed since they were checked may have none.
+        raise MessageError(NO_BODY, len(self._data))
 
     @functools.cached_property
     def sequences(self) -> tuple[DocumentSequence, ...]:

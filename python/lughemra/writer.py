@@ -37,6 +37,20 @@ MASK = (1 << 64) - 1
 MILLISECOND = datetime.timedelta(milliseconds=1)
 
 
+def _bits(value: int, least: int, width: int) -> int:
+    """Returns the bits of a number, and raises OverflowError where it is less than `least` or has no room in so many bits."""
+    if not 0 <= value - least < 1 << width:
+        raise OverflowError(f"{value} has no room in {width} bits")
+    return value & MASK
+
+
+def _binary(value: Binary) -> Given:
+    """Returns binary data."""
+    if not 0 <= value.subtype < 256:
+        raise EncodeError(EncodeError.VALUE, f"{value.subtype} is no subtype")
+    return Kind.BINARY, value.subtype, 0, b"", value.data
+
+
 def _integer(value: int) -> Given:
     """Returns an int32 if the number is one, and else an int64."""
     if -(1 << 31) <= value < 1 << 31:
@@ -63,19 +77,19 @@ GIVEN: dict[type, Callable[[Any], Given]] = {
     float: lambda it: (Kind.DOUBLE, 0, struct.unpack("<Q", struct.pack("<d", it))[0], b"", b""),
     str: lambda it: (Kind.STRING, 0, 0, it.encode(), b""),
     bytes: lambda it: (Kind.BINARY, 0, 0, b"", it),
-    Binary: lambda it: (Kind.BINARY, it.subtype, 0, b"", it.data),
+    Binary: _binary,
     Undefined: lambda it: (Kind.UNDEFINED, 0, 0, b"", b""),
     ObjectId: lambda it: (Kind.OBJECT_ID, 0, 0, b"", it.data),
     bool: lambda it: (Kind.BOOL, 0, int(it), b"", b""),
     datetime.datetime: _date,
-    DatetimeMS: lambda it: (Kind.DATETIME, 0, it.milliseconds & MASK, b"", b""),
+    DatetimeMS: lambda it: (Kind.DATETIME, 0, _bits(it.milliseconds, -(1 << 63), 64), b"", b""),
     type(None): lambda it: (Kind.NULL, 0, 0, b"", b""),
     Regex: lambda it: (Kind.REGEX, 0, 0, it.pattern.encode(), it.options.encode()),
     DBPointer: lambda it: (Kind.DB_POINTER, 0, 0, it.namespace.encode(), it.id.data),
     Code: _code,
     Symbol: lambda it: (Kind.SYMBOL, 0, 0, it.text.encode(), b""),
     int: _integer,
-    Timestamp: lambda it: (Kind.TIMESTAMP, 0, it.seconds << 32 | it.increment, b"", b""),
+    Timestamp: lambda it: (Kind.TIMESTAMP, 0, _bits(it.seconds, 0, 32) << 32 | _bits(it.increment, 0, 32), b"", b""),
     Decimal128: lambda it: (Kind.DECIMAL128, 0, 0, b"", it.data),
     MinKey: lambda it: (Kind.MIN_KEY, 0, 0, b"", b""),
     MaxKey: lambda it: (Kind.MAX_KEY, 0, 0, b"", b""),
@@ -116,7 +130,9 @@ class _Room:
         given = GIVEN.get(type(value))
         if given is None:
             raise TypeError(f"{type(value).__name__} stands for no value of BSON")
-        kind_byte, subtype, bits, text, content = given(value)
+        kind_byte, subtype, bits, text, data = given(value)
+        # A call would take a text, too, and read its letters as they stand in memory.
+        content = data if type(data) is bytes else bytes(memoryview(data))
         numbers = ctypes.byref(lib.Numbers(kind_byte, subtype, bits))
         sizes = [lib.size(len(it)) for it in (name, text, content)]
         self.build(
@@ -188,7 +204,8 @@ def encode_message(
             raise OverflowError(f"{number} is no int32")
     content, sections = document_bytes(body), sequence_bytes(sequences)
     room = bytearray(21 + len(content) + len(sections))
-    numbers = lib.MessageNumbers(request_id, response_to, int(flags) & 0xFFFF_FFFF)
+    # What has no room in 32 bits is refused like a checksum that no one writes.
+    numbers = lib.MessageNumbers(request_id, response_to, int(flags) if 0 <= flags < 1 << 32 else 1)
     told = lib.long.write_message(
         ctypes.byref(numbers),
         content,

@@ -1,6 +1,7 @@
 """The client's end of a connection."""
 
 import gc
+import sys
 
 import pytest
 
@@ -143,6 +144,15 @@ def test_numbers_out_of_range_are_refused():
         Client().sent(-1)
 
 
+def test_counts_of_any_size_are_taken():
+    client = Client()
+    client.call({"a": 1})
+    assert client.output(sys.maxsize) == client.output()
+    with pytest.raises(CallRefused) as told:
+        client.sent((1 << 64) + 5)
+    assert told.value.name == "TooMany"
+
+
 def test_a_closed_client_answers_nothing():
     with Client() as client:
         client.call({})
@@ -162,6 +172,20 @@ def test_one_call_without_memory_changes_nothing(monkeypatch):
     refused = lughemra._library.Fed(lughemra._library.NO_MEMORY, 0)
     with monkeypatch.context() as patch:
         patch.setattr(lughemra._library.short, "client_feed", lambda *arguments: refused)
+        with pytest.raises(MemoryError):
+            next(client)
+    assert bodies(client) == [(0, True, {"a": 1})]
+
+
+def test_a_reply_without_memory_is_given_again(monkeypatch):
+    client = Client()
+    client.feed(reply_to(client.call({}).request_id, {"a": 1}))
+
+    def room_of(size):
+        raise MemoryError
+
+    with monkeypatch.context() as patch:
+        patch.setattr(lughemra.client, "room_of", room_of)
         with pytest.raises(MemoryError):
             next(client)
     assert bodies(client) == [(0, True, {"a": 1})]

@@ -255,3 +255,12 @@ def test_a_piece_may_change_once_it_was_fed():
     reader.feed(piece)
     piece[:] = bytes(len(piece))
     assert next(reader).raw == PING
+
+
+def test_bytes_that_changed_have_no_body():
+    data = bytearray(lughemra.encode_message({"a": 1}))
+    read = Message(data)
+    data[20] = 7
+    with pytest.raises(MessageError) as told:
+        read.body
+    assert told.value.name == "NoBody"

@@ -52,6 +52,7 @@ REFUSED = [
     ({"r": lughemra.Regex("a\0b")}, "BadValue"),
     ({"o": lughemra.ObjectId(b"short")}, "BadValue"),
     ({"b": lughemra.Binary(256, b"")}, "BadValue"),
+    ({"b": lughemra.Binary(2**32, b"")}, "BadValue"),
     ({"c": lughemra.Code("f", {})}, "BadValue"),
     (deep(201), "TooDeep"),
 ]
@@ -64,11 +65,33 @@ def test_what_has_no_spelling_is_refused(meant, name):
     assert refused.value.name == name
 
 
-def test_what_is_no_value_is_refused():
+NO_ROOM = [
+    2**63,
+    lughemra.DatetimeMS(2**63),
+    lughemra.DatetimeMS(-(2**63) - 1),
+    lughemra.Timestamp(2**32, 0),
+    lughemra.Timestamp(4, 2**32),
+    lughemra.Timestamp(5, -1),
+]
+
+
+@pytest.mark.parametrize("value", NO_ROOM)
+def test_a_number_that_has_no_room_is_refused(value):
     with pytest.raises(OverflowError):
-        encode({"n": 2**63})
+        encode({"n": value})
+
+
+@pytest.mark.parametrize("value", [{1, 2}, lughemra.Binary(5, "text"), lughemra.ObjectId("abcdefghijkl")])
+def test_what_is_no_value_is_refused(value):
     with pytest.raises(TypeError):
-        encode({"s": {1, 2}})
+        encode({"v": value})
+
+
+def test_data_may_be_any_bytes():
+    assert encode({"b": lughemra.Binary(5, bytearray(b"ab"))}) == encode({"b": lughemra.Binary(5, b"ab")})
+
+
+def test_what_nests_200_deep_is_written():
     assert Document(encode(deep(200))).to_dict() == deep(200)
 
 
@@ -113,7 +136,7 @@ def test_what_no_message_carries_is_refused():
     with pytest.raises(MessageError) as refused:
         encode_message({"docs": None}, [("docs", [])])
     assert (refused.value.name, refused.value.offset) == ("SequenceInBody", 21 + len(encode({"docs": None})))
-    for bits in (1, 4, 1 << 17, 1 << 31, -1):
+    for bits in (1, 4, 1 << 17, 1 << 31, 1 << 32, -1):
         with pytest.raises(MessageError) as refused:
             encode_message({}, flags=bits)
         assert (refused.value.name, refused.value.offset) == ("Flags", 16)

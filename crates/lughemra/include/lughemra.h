@@ -20,7 +20,7 @@
  * allocator. Don't call what takes memory from a signal handler, nor from the forked child of a process
  * with threads.
  *
- * A call took less than 40 KiB of the stack wherever it was measured. Documents that nest 200 deep take the most. */
+ * A call took less than 44 KiB of the stack wherever it was measured. Documents that nest 200 deep take the most. */
 #ifndef LUGHEMRA_H
 #define LUGHEMRA_H
 
