@@ -205,6 +205,18 @@ static void try_builders(void)
     expect(lughemra_begin(room, 16, &wrong, "a", 1, LUGHEMRA_ARRAY, &inner).refusal == LUGHEMRA_TOO_DEEP, "a container of depth 201");
     expect(lughemra_begin(room, 16, &first, "a", 1, LUGHEMRA_NULL, &inner).refusal == LUGHEMRA_BAD_KIND, "a null is opened");
     expect(lughemra_begin(room, 16, &first, "a\0", 2, LUGHEMRA_ARRAY, &inner).refusal == LUGHEMRA_BAD_NAME, "a name with 00");
+    wrong = first;
+    wrong.end = (size_t)INT32_MAX - 1;
+    expect(lughemra_finish(room, 16, &wrong).wanted == INT32_MAX, "a document of 2,147,483,647 bytes");
+    wrong.end++;
+    expect(lughemra_finish(room, 16, &wrong).refusal == LUGHEMRA_OUT_OF_RANGE, "a document of 2,147,483,648 bytes");
+    wrong = first;
+    expect(lughemra_begin(room, 16, &wrong, "a", 1, LUGHEMRA_ARRAY, &inner).wanted == 13, "an array inside");
+    for (size_t length = 0; length < 13; length++) {
+        struct lughemra_built built = lughemra_end(room, length, &wrong, &inner);
+        expect(built.refusal == LUGHEMRA_NO_ROOM && built.wanted == 13, "the room is shorter than it was");
+    }
+    expect(lughemra_end(room, 13, &wrong, &inner).refusal == LUGHEMRA_DONE && wrong.end == 12, "an array ends");
     inner = first;
     expect(lughemra_end(room, 16, &first, &inner).refusal == LUGHEMRA_OUT_OF_RANGE, "a container ends in itself");
     expect(lughemra_append(room, 16, &first, "a", 1, value, NULL, 0, bytes, 11).refusal == LUGHEMRA_BAD_VALUE, "11 bytes");

@@ -13,9 +13,9 @@ use Rattle.bson_doc.specs.Appended.{with_pair_appended}
 use Rattle.bson_doc.specs.Values.{element_bytes}
 use Rattle.byte_builder.specs.declared.builder.Builder.{Builder}
 use Rattle.byte_builder.specs.declared.built.Built.{Built}
-use Rattle.byte_builder.specs.Appends.{IsPushed, IsPushedNamed, done, is_put, is_pushed, no_name, refused, too_large, too_short}
+use Rattle.byte_builder.specs.Appends.{is_put, is_pushed, no_name, too_large, too_short}
 use Rattle.byte_builder.specs.Builders.{Builds, longer, next_name, pair_bytes}
-use Rattle.byte_builder.specs.Nesting.{CanClose, CanEnd, IsBegun, IsEnded, IsFinished, StandsBehind, cannot_end, cannot_finish, closed, container_of, deeper, first_builder, four_zeros, is_ended, is_finished, no_place, is_open, is_shut, no_kind, opened, out_of_range, too_deep, with_inner}
+use Rattle.byte_builder.specs.Nesting.{IsBegun, IsEnded, IsFinished, StandsBehind, cannot_end, cannot_finish, closed, container_of, deeper, first_builder, four_zeros, is_ended, is_finished, is_too_short, no_place, is_open, is_shut, no_kind, opened, out_of_range, too_deep, with_inner}
 use Rattle.byte_builder.specs.Placing.{placed}
 use Rattle.byte_builder.proofs.Building.{front_is, front_of, grown, length-front, length-pair, refusal_is}
 use Rattle.byte_builder.proofs.Places.{placed_seam}
@@ -172,13 +172,14 @@ ends_inner room new outer inner after t u k name s i h is after-is =
 
 pub ends_pairs : (room new : List ℕ) (outer inner after : Builder) (t u : Tree) (k : Kind) (name : List ℕ) (w : Built) → IsEnded room outer inner new after w → Builds room outer t → Builds room inner u
     → StandsBehind room outer inner k name → w.refusal ≡ 0 → Builds new after (with_pair_appended name (document_value k no_code u) t)
-ends_pairs room new outer inner after t u k name w (is_ended can is after-is told) s i h none = ends_inner room new outer inner after t u k name s i h is after-is
+ends_pairs room new outer inner after t u k name w (is_ended can room-is is after-is told) s i h none = ends_inner room new outer inner after t u k name s i h is after-is
+ends_pairs room new outer inner after t u k name w (is_too_short can short told new-is after-is) s i h none = absurd (omega (arith, none, ap (λ (x : Built). x.refusal) told))
 ends_pairs room new outer inner after t u k name w (cannot_end unable told new-is after-is) s i h none = absurd (refusal_is w 254 told none)
 
 pub finishes : (room new : List ℕ) (b : Builder) (t : Tree) (w : Built) → IsFinished room b new w → Builds room b t → b.start ≡ 0 → b.depth ≡ 1 → w.refusal ≡ 0 → Spells t (take w.wanted new)
 finishes room new b t w (cannot_finish unable told new-is) s start one none = absurd (refusal_is w 254 told none)
 finishes room new b t w (no_place known short told new-is) s start one none = absurd (omega (arith, none, ap (λ (x : Built). x.refusal) told))
-finishes room new b t w (is_finished can is told) s start one none =
+finishes room new b t w (is_finished can room-is is told) s start one none =
     let es = elements t in let rest = drop 1 s.behind in
     let wanted-is : w.wanted ≡ length (document es) = omega (arith, ap (λ (x : Built). x.wanted) told, length-doc es, s.end_is, start) in
     let new-is : new ≡ document es ++ rest = closed_is room new b t s is ∙ ap (λ (x : List ℕ). x ++ (document es ++ rest)) (no_bytes s.before (s.start_is ∙ start)) in

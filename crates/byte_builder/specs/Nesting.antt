@@ -68,35 +68,39 @@ pub data IsBegun (room : List ℕ) (outer : Builder) (name : List ℕ) (kind : �
 abbrev pub closed : ℕ → ℕ → List ℕ → List ℕ
 closed start end room = placed end (0 ∷ []) (placed start (little (end + 1 - start)) room)
 
--- the container has room for its last 00
-pub record CanClose (room : List ℕ) (b : Builder) : Type 0 where
+-- the numbers of the builder are in range, with a byte for the end of each container that is open
+pub record IsClosable (b : Builder) : Type 0 where
   pub in_range : IsInRange b
-  pub has_room : b.end < length room
+  pub short : b.end + b.depth < 2 ^ 31
 
--- it is behind the outer one, and one deeper
-pub record CanEnd (room : List ℕ) (outer inner : Builder) : Type 0 where
+-- the inner container is behind the outer one, and one deeper
+pub record CanEnd (outer inner : Builder) : Type 0 where
   pub outer_is : IsInRange outer
-  pub closes : CanClose room inner
+  pub inner_is : IsClosable inner
   pub in_order : outer.end < inner.start
   pub deeper : inner.depth ≡ outer.depth + 1
 
 abbrev pub with_inner : Builder → Builder → Builder
 with_inner outer inner = record outer { end = inner.end + 1; count = outer.count + 1 }
 
--- The inner container is ended and is a pair of the outer one; or the numbers are out of range.
+-- The inner container is ended and is a pair of the outer one; or the room is too short for the ends
+-- of all containers that are open; or the numbers are out of range.
 pub data IsEnded (room : List ℕ) (outer inner : Builder) (new : List ℕ) (after : Builder)
     : Built → Type 0 where
-  is_ended : {w : Built} → CanEnd room outer inner → new ≡ closed inner.start inner.end room
-      → after ≡ with_inner outer inner → w ≡ done (inner.end + 1 + outer.depth)
+  is_ended : {w : Built} → CanEnd outer inner → inner.end + inner.depth ≤ length room
+      → new ≡ closed inner.start inner.end room → after ≡ with_inner outer inner
+      → w ≡ done (inner.end + inner.depth) → IsEnded room outer inner new after w
+  is_too_short : {w : Built} → CanEnd outer inner → length room < inner.end + inner.depth
+      → w ≡ no_room (inner.end + inner.depth) → new ≡ room → after ≡ outer
       → IsEnded room outer inner new after w
-  cannot_end : {w : Built} → (CanEnd room outer inner → ⊥) → w ≡ refused 255 → new ≡ room
+  cannot_end : {w : Built} → (CanEnd outer inner → ⊥) → w ≡ refused 255 → new ≡ room
       → after ≡ outer → IsEnded room outer inner new after w
 
--- The document is ended; or there is no room for its last 00, or the numbers are out of range.
+-- The document is ended; or the room is too short; or the numbers are out of range.
 pub data IsFinished (room : List ℕ) (b : Builder) (new : List ℕ) : Built → Type 0 where
-  is_finished : {w : Built} → CanClose room b → new ≡ closed b.start b.end room
-      → w ≡ done (b.end + 1) → IsFinished room b new w
-  no_place : {w : Built} → IsInRange b → length room ≤ b.end → w ≡ no_room (b.end + 1)
-      → new ≡ room → IsFinished room b new w
-  cannot_finish : {w : Built} → (IsInRange b → ⊥) → w ≡ refused 255 → new ≡ room
+  is_finished : {w : Built} → IsClosable b → b.end + b.depth ≤ length room
+      → new ≡ closed b.start b.end room → w ≡ done (b.end + 1) → IsFinished room b new w
+  no_place : {w : Built} → IsClosable b → length room < b.end + b.depth
+      → w ≡ no_room (b.end + b.depth) → new ≡ room → IsFinished room b new w
+  cannot_finish : {w : Built} → (IsClosable b → ⊥) → w ≡ refused 255 → new ≡ room
       → IsFinished room b new w

@@ -1,13 +1,13 @@
 //! Containers that are opened inside others, and ended; and the outermost document.
 
 ghost use Rattle.std.specs.Prelude.{◌≡◌, ◌≤◌, ◌<◌, ◌+◌, ◌^◌, List, ℕ, length, take};
-ghost use Rattle.std.specs.Prelude.{true, false};
+ghost use Rattle.std.specs.Prelude.{MatchOption};
 ghost use Rattle.bson_elem.specs.declared.kinds.Kind.{Kind};
 ghost use Rattle.bson_elem.specs.{Spells, Tree, no_code, no_pairs};
 ghost use Rattle.bson_raw.specs.{document_value};
 ghost use Rattle.bson_doc.specs.Appended.{with_pair_appended};
 ghost use Rattle.byte_builder.specs.Builders.{Builds, next_name};
-ghost use Rattle.byte_builder.specs.Nesting.{CanClose, CanEnd, IsBegun, IsEnded, IsFinished};
+ghost use Rattle.byte_builder.specs.Nesting.{CanEnd, IsBegun, IsClosable, IsEnded, IsFinished};
 ghost use Rattle.byte_builder.specs.Nesting.{StandsBehind, closed, container_of, first_builder};
 
 use crate::builder::Builder;
@@ -15,7 +15,7 @@ use crate::built::Built;
 use crate::pieces::Pieces;
 use crate::place::put;
 use crate::refusal::BuildRefusal;
-use bson_elem::{Kind, MAX_DEPTH};
+use bson_elem::{Kind, MAX_DEPTH, MAX_LEN};
 
 /// Returns the builder of a document that begins at the front of a room, with no pairs.
 pub fn first() -> Builder
@@ -85,36 +85,43 @@ pub fn begin(room: &mut [u8], outer: &Builder, name: &[u8], kind: u32, inner: &m
     open(room, outer, name, kind, inner)
 }
 
-/// Returns true if the container can be ended.
-fn can_close(room: &[u8], builder: &Builder) -> bool
-    ensures yes { result ≡ true → CanClose room.now builder.now }
-    ensures no { result ≡ false → CanClose room.now builder.now → ⊥ }
+/// Returns how long the room has to be for the ends of all containers that are open, if the
+/// numbers are in range with them.
+fn closing_len(builder: &Builder) -> Option<usize>
+    ensures { MatchOption result (IsClosable builder.now → ⊥)
+        (λ n. IsClosable builder.now × (n ≡ builder.now.end + builder.now.depth)) }
 {
     if !builder.is_in_range() {
-        return false;
+        return None;
     }
-    builder.end < room.len()
+    let wanted = builder.end + builder.depth as usize;
+    if wanted > MAX_LEN {
+        return None;
+    }
+    Some(wanted)
 }
 
-/// Returns true if the inner container can be ended, behind the outer one.
-fn can_end(room: &[u8], outer: &Builder, inner: &Builder) -> bool
-    ensures yes { result ≡ true → CanEnd room.now outer.now inner.now }
-    ensures no { result ≡ false → CanEnd room.now outer.now inner.now → ⊥ }
+/// Returns how long the room has to be to end the inner container, if it stands behind the outer
+/// one and is one deeper.
+fn ending_len(outer: &Builder, inner: &Builder) -> Option<usize>
+    ensures { MatchOption result (CanEnd outer.now inner.now → ⊥)
+        (λ n. CanEnd outer.now inner.now × (n ≡ inner.now.end + inner.now.depth)) }
 {
     if !outer.is_in_range() {
-        return false;
+        return None;
     }
-    if !can_close(room, inner) {
-        return false;
+    let wanted = closing_len(inner)?;
+    if outer.end >= inner.start || inner.depth != outer.depth + 1 {
+        return None;
     }
-    outer.end < inner.start && inner.depth == outer.depth + 1
+    Some(wanted)
 }
 
 /// Writes the length and the last 00 of a container.
 fn close(room: &mut [u8], start: usize, end: usize)
     requires begun { start + 4 ≤ end }
     requires has_room { end < length room.old }
-    requires short { end < 2 ^ 31 }
+    requires short { end + 1 < 2 ^ 31 }
     ensures { room.new ≡ closed start end room.old }
 {
     let size = (end + 1 - start) as u32;
@@ -126,13 +133,17 @@ fn close(room: &mut [u8], start: usize, end: usize)
 fn end_inner(room: &mut [u8], outer: &mut Builder, inner: &Builder) -> Built
     ensures { IsEnded room.old outer.old inner.now room.new outer.new result }
 {
-    if !can_end(room, outer, inner) {
-        return Built::refused(BuildRefusal::OutOfRange);
+    let wanted = match ending_len(outer, inner) {
+        Some(wanted) => wanted,
+        None => return Built::refused(BuildRefusal::OutOfRange),
+    };
+    if wanted > room.len() {
+        return Built::no_room(wanted);
     }
     close(room, inner.start, inner.end);
     outer.end = inner.end + 1;
     outer.count += 1;
-    Built::done(outer.end + outer.depth as usize)
+    Built::done(wanted)
 }
 
 /// Ends the document or the array `inner`, which `begin` opened in `outer`. It is a pair of `outer`
@@ -151,11 +162,12 @@ pub fn end(room: &mut [u8], outer: &mut Builder, inner: &Builder) -> Built
 fn finish_document(room: &mut [u8], builder: &Builder) -> Built
     ensures { IsFinished room.old builder.now room.new result }
 {
-    if !builder.is_in_range() {
-        return Built::refused(BuildRefusal::OutOfRange);
-    }
-    if builder.end >= room.len() {
-        return Built::no_room(builder.end + 1);
+    let wanted = match closing_len(builder) {
+        Some(wanted) => wanted,
+        None => return Built::refused(BuildRefusal::OutOfRange),
+    };
+    if wanted > room.len() {
+        return Built::no_room(wanted);
     }
     close(room, builder.start, builder.end);
     Built::done(builder.end + 1)

@@ -392,15 +392,15 @@ enum lughemra_refusal {
     LUGHEMRA_TOO_DEEP = 4,    /* the container would be deeper than 200 */
     LUGHEMRA_NO_ROOM = 5      /* the room has fewer than `wanted` bytes */
                               /* LUGHEMRA_TOO_LARGE: the document would have more than 2,147,483,647 bytes */
-                              /* LUGHEMRA_OUT_OF_RANGE: the numbers of a builder are out of range of the room */
+                              /* LUGHEMRA_OUT_OF_RANGE: the numbers of a builder are none that the calls give */
 };
 
 /* What became of a call that builds. Where it isn't done, nothing changed. */
 struct lughemra_built {
     /* An enum lughemra_refusal, LUGHEMRA_TOO_LARGE or LUGHEMRA_OUT_OF_RANGE. */
     uint32_t refusal;
-    /* How many bytes the room has to have for what was asked, and for the ends of all containers that are open. After
-     * lughemra_finish, the number of bytes of the document. Where it isn't done, and not for want of room, 0. */
+    /* How many bytes the room has to have for what was asked, and for the ends of all containers that are open. Where
+     * lughemra_finish is done, the number of bytes of the document. Where it isn't done, and not for want of room, 0. */
     size_t wanted;
 };
 

@@ -1,12 +1,15 @@
-use Rattle.std.proofs.Common.{refl}
+use Rattle.std.proofs.Common.{refl, ap, ◌∙◌, arith}
+use Rattle.byte_builder.specs.Appends.{no_room}
 use Rattle.byte_builder.specs.Nesting.{cannot_finish, is_finished, no_place}
 use Rattle.byte_builder.proofs.nest.finish_document.Goals as goal
 
-pub returns-then-not-is_in_range : goal.returns-then-not-is_in_range
-returns-then-not-is_in_range c = cannot_finish (c.is_in_range.ensures.no c.if-not-is_in_range.true) c.refused.ensures refl
+pub returns-in-None : goal.returns-in-None
+returns-in-None c = cannot_finish c.in-None.ensures c.refused.ensures refl
 
-pub returns-then-builder-room : goal.returns-then-builder-room
-returns-then-builder-room c = no_place (c.is_in_range.ensures.yes c.if-not-is_in_range.false) c.if-builder-room.true c.no_room.ensures refl
+pub returns-then-wanted-room : goal.returns-then-wanted-room
+returns-then-wanted-room c =
+    let can = c.in-Some.ensures in no_place can.0 (omega (arith, c.if-wanted-room.true, can.1)) (c.no_room.ensures ∙ ap no_room can.1) refl
 
 pub returns : goal.returns
-returns c = is_finished (record { in_range = c.is_in_range.ensures.yes c.if-not-is_in_range.false; has_room = c.if-builder-room.false }) c.close.ensures c.done.ensures
+returns c =
+    let can = c.in-Some.ensures in is_finished can.0 (omega (arith, c.if-wanted-room.false, can.1)) c.close.ensures c.done.ensures
