@@ -78,4 +78,4 @@ goes_on bytes s e next (outside out is stays) some = absurd (some (ap (λ (x : E
 goes_on bytes s e next (at_end inside last is stays) some = absurd (some (ap (λ (x : Element). x.kind) is))
 goes_on bytes s e next (reads read inside lt is rest goes e_is) some = goes
 goes_on bytes s e next (fails f inside lt is e_is stays) some = absurd (some (ap (λ (x : Element). x.kind) e_is))
-goes_on bytes s e next (not_text inside lt is goes kind) some = goes
+goes_on bytes s e next (not_text name words rest inside lt is string after goes e_is) some = goes

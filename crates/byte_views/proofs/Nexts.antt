@@ -163,6 +163,6 @@ step_gives bytes s e next short (reads read inside lt is rest goes e_is) t from 
 step_gives bytes s e next short (fails f inside lt is e_is stays) t from =
     let r = first_read t s.depth s.start s.at from.1 (omega (arith, ap length from.2, slice_size bytes s.at s.end (omega (arith, from.0.1)), lt)) in
     absurd (let no : Ok r.0 ≡ Err f = sym (ap (element_at s.depth s.start s.at) from.2 ∙ r.1) ∙ is in cc)
-step_gives bytes s e next short (not_text inside lt is goes kind) t from =
+step_gives bytes s e next short (not_text name words rest inside lt is string after goes e_is) t from =
     let r = first_read t s.depth s.start s.at from.1 (omega (arith, ap length from.2, slice_size bytes s.at s.end (omega (arith, from.0.1)), lt)) in
     absurd (let no : Ok r.0 ≡ Err (fault s.at Text) = sym (ap (element_at s.depth s.start s.at) from.2 ∙ r.1) ∙ is in cc)

@@ -66,6 +66,6 @@ step_offsets bytes s e next deep t from (reads read inside lt is rest goes e_is)
 step_offsets bytes s e next deep t from (fails f inside lt is e_is stays) =
     let r = first_read t s.depth s.start s.at from.1 (omega (arith, ap length from.2, slice_size bytes s.at s.end (omega (arith, from.0.1)), lt)) in
     absurd (let no : Ok r.0 ≡ Err f = sym (ap (element_at s.depth s.start s.at) from.2 ∙ r.1) ∙ is in cc)
-step_offsets bytes s e next deep t from (not_text inside lt is goes kind) =
+step_offsets bytes s e next deep t from (not_text name words rest inside lt is string after goes e_is) =
     let r = first_read t s.depth s.start s.at from.1 (omega (arith, ap length from.2, slice_size bytes s.at s.end (omega (arith, from.0.1)), lt)) in
     absurd (let no : Ok r.0 ≡ Err (fault s.at Text) = sym (ap (element_at s.depth s.start s.at) from.2 ∙ r.1) ∙ is in cc)

@@ -1,23 +1,24 @@
 -- The values of common kinds, as they are read.
-use Rattle.std.proofs.Common.{◌≡◌, ℕ, suc, ◌+◌, ◌-◌, ◌<◌, ◌≤◌, ◌^◌, true, false, ltb, leb, eqb, ◌||◌, Option, Some, None, List, ◌∷◌, length, get_or, take, drop, Ok, Err, refl, sym, ap, subst, ◌∙◌, arith, inl, inr}
+use Rattle.std.proofs.Common.{◌≡◌, ℕ, suc, ◌+◌, ◌-◌, ◌<◌, ◌≤◌, ◌^◌, true, false, ltb, leb, eqb, ◌||◌, Option, Some, None, List, [], ◌∷◌, length, ◌++◌, get_or, take, drop, Ok, Err, refl, sym, ap, subst, ◌∙◌, append_assoc, arith, inl, inr}
 use Rattle.std.specs.Prelude.{IfSome, slice_range}
 use Rattle.std.specs.Int.{w32, w64, cast_signed, cast_unsigned, from_le_bytes}
 use Rattle.std.specs.Str.{is_utf8}
 use Rattle.std.proofs.lemmas.Int.{of_z-to_z}
 use Rattle.std.proofs.lemmas.Bool.{cases_Bool, eq-eqb, eqb-true, le-ltb, lt-leb, lt-ltb}
-use Rattle.std.proofs.lemmas.List.{drop_more, get_or-drop, length-drop, length-take}
+use Rattle.std.proofs.lemmas.List.{drop_at, drop_more, get_or-drop, length-append, length-drop, length-take, take-append-drop}
+use Rattle.std.proofs.lemmas.Nat.{le_bytes_4}
 use Rattle.bson_elem.specs.declared.fault.BsonCause.TheVariants.{Text}
 use Rattle.bson_elem.specs.declared.kinds.Kind.TheVariants as kinds
 use Rattle.bson_elem.specs.declared.fault.BsonFault.{BsonFault}
 use Rattle.bson_elem.specs.declared.kinds.Kind.{Kind}
 use Rattle.bson_elem.specs.Kinds.{all_kinds, byte_of, document_form, form_of, int32_form, int64_form, kind_of, raw_form, string_form}
-use Rattle.bson_elem.specs.Spelling.{IsBytes}
+use Rattle.bson_elem.specs.Spelling.{IsBytes, cstring, little, string}
 use Rattle.bson_elem.specs.Trees.{no_code, number_value, raw_value, text_value}
 use Rattle.bson_elem.specs.Checks.{ElementRead, Value, a_leaf, cstring_at, document_at, element_at, fault, leaf_at, length_at, opens, string_at, text_at, value_at}
 use Rattle.byte_views.specs.declared.element.Element.{Element}
 use Rattle.byte_views.specs.Quick.{IsQuick, bad_text, is_value}
 use Rattle.bson_elem.specs.Documents.{IsFramed, elements_of}
-use Rattle.bson_elem.proofs.Lemmas.{IsBytes-take, kind_is, length-document, made, rest_in}
+use Rattle.bson_elem.proofs.Lemmas.{IsBytes-drop, IsBytes-take, cstring_takes, kind_is, length-document, made, part_after, past_one, rest_in}
 use Rattle.byte_views.specs.declared.iter.ElementIter.{ElementIter}
 use Rattle.byte_views.specs.Elements.{bare, element_place, value_place}
 use Rattle.byte_views.specs.Iters.{IsInside, IsStep, not_text, reads}
@@ -64,8 +65,20 @@ string_bad : (depth at from n : ℕ) (rest : List ℕ) → 4 ≤ length rest →
 unfolding value_at leaf_at string_at
 string_bad depth at from n rest long is low high room bad = rw (length_read n rest long is low high, le-ltb (length (drop 4 rest)) n room, text_bad (n - 1) (drop 4 rest) bad) refl
 
-pub string_quick : (depth at from n : ℕ) (rest : List ℕ) (bare e : Element) → 5 ≤ length rest → n ≡ from_le_bytes w32 (take 4 rest) → 1 ≤ n → n < 2 ^ 31 → n ≤ length rest - 4 → get_or rest (n + 3) 0 ≡ 0 → e ≡ record bare { text = view (from + 4) (n - 1) } → IsQuick depth at from kinds.String rest bare e (n + 4)
-string_quick depth at from n rest bare e long is low high room zero e_is =
+-- the string, and what follows it
+string_parts : (n : ℕ) (rest : List ℕ) → IsBytes rest → 4 ≤ length rest → n ≡ from_le_bytes w32 (take 4 rest) → 1 ≤ n → n ≤ length (drop 4 rest) → get_or (drop 4 rest) (n - 1) 0 ≡ 0
+    → rest ≡ string (take (n - 1) (drop 4 rest)) ++ drop (n - 1 + 1) (drop 4 rest)
+string_parts n rest fits long is low room zero =
+    let m : List ℕ = drop 4 rest in
+    let words : List ℕ = take (n - 1) m in
+    let after : List ℕ = drop (n - 1 + 1) m in
+    let size : length words + 1 ≡ n = omega (arith, length-take (n - 1) m, room, low) in
+    let front : little (length words + 1) ≡ take 4 rest = le_bytes_4 (take 4 rest) (length words + 1) (omega (arith, length-take 4 rest, long)) (IsBytes-take 4 rest fits) (size ∙ is) in
+    let back : m ≡ cstring words ++ after = past_one (n - 1) m 0 (omega (arith, room, low)) zero in
+    sym (take-append-drop 4 rest) ∙ ap (λ (x : List ℕ). x ++ m) (sym front) ∙ ap (λ (x : List ℕ). little (length words + 1) ++ x) back ∙ sym (append_assoc (little (length words + 1)) (cstring words) after)
+
+pub string_quick : (depth at from n : ℕ) (rest : List ℕ) (bare e : Element) → IsBytes rest → 5 ≤ length rest → n ≡ from_le_bytes w32 (take 4 rest) → 1 ≤ n → n < 2 ^ 31 → n ≤ length rest - 4 → get_or rest (n + 3) 0 ≡ 0 → e ≡ record bare { text = view (from + 4) (n - 1) } → IsQuick depth at from kinds.String rest bare e (n + 4)
+string_quick depth at from n rest bare e fits long is low high room zero e_is =
     let m : List ℕ = drop 4 rest in
     let size : length m ≡ length rest - 4 = length-drop 4 rest in
     let four : 4 ≤ length rest = omega (arith, long) in
@@ -73,15 +86,16 @@ string_quick depth at from n rest bare e long is low high room zero e_is =
     let last : get_or m (n - 1) 0 ≡ 0 = get_or-drop 4 rest (n - 1) 0 ∙ ap (λ (k : ℕ). get_or rest k 0) (let k : 4 + (n - 1) ≡ n + 3 = omega (arith, low) in k) ∙ zero in
     let words : List ℕ = take (n - 1) m in
     let count : length words ≡ n - 1 = omega (arith, length-take (n - 1) m, within) in
+    let place = e_is ∙ ap (λ (k : ℕ). let x : Element = record bare { text = view (from + 4) k } in x) (sym count) in
     elim (cases_Bool (is_utf8 words)) [
       | inl good ↦ is_value (record {
         value = a_leaf (text_value words);
         after = drop (n - 1 + 1) m;
         read = string_read depth at from n rest four (sym is) low high within last good;
         size = omega (arith, length-drop (n - 1 + 1) m, size, room, low, long);
-        place = e_is ∙ ap (λ (k : ℕ). let x : Element = record bare { text = view (from + 4) k } in x) (sym count);
+        place = place;
       })
-      | inr bad ↦ bad_text refl (string_bad depth at from n rest four (sym is) low high within bad) (ap (λ (x : Element). x.kind) e_is) (omega (arith, room, long))
+      | inr bad ↦ bad_text words (drop (n - 1 + 1) m) refl (string_bad depth at from n rest four (sym is) low high within bad) (string_parts n rest fits four is low within last) (omega (arith, count, low, high)) (omega (arith, count, low)) place
     ]
 
 -- ---- of the kind with a type byte
@@ -129,6 +143,14 @@ nonzero byte k some =
       | inr other ↦ other
     ]
 
+-- what follows the front of the bytes between two offsets
+rest_after : (bytes front rest : List ℕ) (at next end : ℕ) → end ≤ length bytes → at ≤ end → slice_range bytes at end ≡ front ++ rest → next ≡ at + length front → (next ≤ end) × (rest ≡ slice_range bytes next end)
+rest_after bytes front rest at next end within le is next_is =
+    let size : end - at ≡ length front + length rest = sym (slice_size bytes at end within) ∙ ap length is ∙ length-append front rest in
+    let high : next ≤ end = omega (arith, size, next_is, le) in
+    let n : length front ≡ next - at = omega (arith, next_is) in
+    (high, sym (drop_at front rest (next - at) n) ∙ ap (drop (next - at)) (sym is) ∙ part_after bytes at next end (omega (arith, next_is)) high)
+
 element_of : (depth start at byte : ℕ) (tail name rest after : List ℕ) (k : Kind) (v : Value) → kind_of byte ≡ Some k → cstring_at tail ≡ Ok (name, rest) → value_at depth at (at + length name + 2) (form_of k) rest ≡ Ok (v, after)
     → element_at depth start at (byte ∷ tail) ≡ Ok (made name k v after)
 unfolding element_at
@@ -154,10 +176,20 @@ quick_step bytes s name rest from n k place bare' e fits inside lt named parts s
     let bare_at : bare' ≡ bare (view (s.at + 1) (length name)) (byte_of k) = bare_is ∙ ap (λ (x : View). bare x byte) place_is ∙ ap (bare (view (s.at + 1) (length name))) b in
     let placed : e ≡ element_place s.at (from + n) element = v.place ∙ ap (λ (q : ℕ). value_place q (from + n) k bare' v.value) from_is ∙ ap (λ (x : Element). value_place (s.at + length name + 2) (from + n) k x v.value) bare_at in
     reads element inside lt is (r.1 ∙ ap (λ (m : ℕ). slice_range bytes m s.end) next) (omega (arith, next, r.0, lt), omega (arith, next)) placed
-quick_step bytes s name rest from n k place bare' e fits inside lt named parts some from_is place_is bare_is (bad_text is_string bad kind within) =
+quick_step bytes s name rest from n k place bare' e fits inside lt named parts some from_is place_is bare_is (bad_text words after is_string bad is short size e_is) =
     let byte : ℕ = get_or bytes s.at 0 in
     let tail : List ℕ = slice_range bytes (s.at + 1) s.end in
-    let size : length tail ≡ s.end - (s.at + 1) = slice_size bytes (s.at + 1) s.end (omega (arith, inside.1)) in
+    let v : Value = a_leaf (text_value words) in
     let read : value_at s.depth s.at (s.at + length name + 2) (form_of k) rest ≡ Err (fault s.at Text) = subst (λ (q : ℕ). value_at s.depth s.at q (form_of k) rest ≡ Err (fault s.at Text)) from_is bad in
-    not_text inside lt (ap (element_at s.depth s.start s.at) (room_is bytes s.at s.end lt inside.1) ∙ element_bad s.depth s.start s.at byte tail name rest k (fault s.at Text) some named read)
-    (omega (arith, from_is), omega (arith, from_is, parts, size, within, lt)) (kind ∙ ap (λ (x : Element). x.kind) bare_is ∙ kind_is all_kinds byte k some ∙ ap byte_of is_string)
+    let t = cstring_takes tail (name, rest) (IsBytes-take (s.end - (s.at + 1)) (drop (s.at + 1) bytes) (IsBytes-drop (s.at + 1) bytes fits)) named in
+    let b : byte ≡ byte_of k = kind_is all_kinds byte k some in
+    let front : List ℕ = byte_of kinds.String ∷ (cstring name ++ string words) in
+    let whole : slice_range bytes s.at s.end ≡ byte_of kinds.String ∷ (cstring name ++ (string words ++ after)) =
+    room_is bytes s.at s.end lt inside.1 ∙ ap (λ (x : ℕ). x ∷ tail) (b ∙ ap byte_of is_string) ∙ ap (λ (x : List ℕ). byte_of kinds.String ∷ x) (t.0.parts ∙ ap (λ (x : List ℕ). cstring name ++ x) is) in
+    let split : slice_range bytes s.at s.end ≡ front ++ after = whole ∙ ap (λ (x : List ℕ). byte_of kinds.String ∷ x) (sym (append_assoc (cstring name) (string words) after)) in
+    let next : from + n ≡ s.at + length front = omega (arith, from_is, size, length-append (cstring name) (string words), length-append name (0 ∷ []), length-append (little (length words + 1)) (cstring words), length-append words (0 ∷ [])) in
+    let r = rest_after bytes front after s.at (from + n) s.end (omega (arith, inside.1)) inside.0 split next in
+    let bare_at : bare' ≡ bare (view (s.at + 1) (length name)) (byte_of k) = bare_is ∙ ap (λ (x : View). bare x byte) place_is ∙ ap (bare (view (s.at + 1) (length name))) b in
+    let placed : e ≡ element_place s.at (from + n) (made name k v after) = e_is ∙ ap (λ (q : ℕ). value_place q (from + n) k bare' v) from_is ∙ ap (λ (x : Element). value_place (s.at + length name + 2) (from + n) k x v) bare_at in
+    not_text name words after inside lt (ap (element_at s.depth s.start s.at) (room_is bytes s.at s.end lt inside.1) ∙ element_bad s.depth s.start s.at byte tail name rest k (fault s.at Text) some named read)
+    (record { parts = whole; is_name = t.1; short = short }) r.1 (omega (arith, from_is), r.0) (placed ∙ ap (λ (j : Kind). element_place s.at (from + n) (made name j v after)) is_string)

@@ -16,7 +16,7 @@ step_goes bytes s e next (outside out is stays) some = absurd (some (ap (λ (x :
 step_goes bytes s e next (at_end inside last is stays) some = absurd (some (ap (λ (x : Element). x.kind) is))
 step_goes bytes s e next (reads read inside lt is rest goes e_is) some = goes.0
 step_goes bytes s e next (fails f inside lt is e_is stays) some = absurd (some (ap (λ (x : Element). x.kind) e_is))
-step_goes bytes s e next (not_text inside lt is goes kind) some = goes.0
+step_goes bytes s e next (not_text name words rest inside lt is string after goes e_is) some = goes.0
 
 -- a search for the first 00 gives its offset
 pub first_zero : (bytes : List ℕ) (r : Option ℕ) → IsFirstByte (is_byte 0) bytes r → r ≡ position is_zero bytes

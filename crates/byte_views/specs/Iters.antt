@@ -1,10 +1,11 @@
 -- A walk over the elements of a document, as a caller makes it: one element for each call.
-use Rattle.std.specs.Prelude.{◌≡◌, ◌<◌, ◌≤◌, ◌⊎◌, ℕ, ◌+◌, ◌-◌, ◌^◌, List, [], length, slice_range}
-use Rattle.std.specs.Prelude.{None, Some, Ok, Err}
+use Rattle.std.specs.Prelude.{◌≡◌, ◌<◌, ◌≤◌, ◌⊎◌, ℕ, ◌+◌, ◌-◌, ◌^◌, List, [], ◌∷◌, ◌++◌, length}
+use Rattle.std.specs.Prelude.{slice_range, None, Some, Ok, Err}
 use Rattle.bson_elem.specs.declared.fault.BsonFault.{BsonFault}
 use Rattle.bson_elem.specs.declared.fault.BsonCause.TheVariants.{Text}
 use Rattle.bson_elem.specs.declared.kinds.Kind.TheVariants.{String}
-use Rattle.bson_elem.specs.{byte_of, document_at, fault}
+use Rattle.bson_elem.specs.{IsName, a_leaf, byte_of, cstring, document_at, fault, string}
+use Rattle.bson_elem.specs.{text_value}
 use Rattle.bson_elem.specs.Checks.{ElementRead, element_at}
 use Rattle.bson_raw.specs.{WholeFault}
 use Rattle.byte_views.specs.declared.element.Element.{Element}
@@ -54,9 +55,20 @@ pub data IsFirst (bytes : List ℕ) : FirstElement → Type 0 where
 abbrev pub IsInside : List ℕ → ElementIter → Type 0
 IsInside bytes s = (s.at ≤ s.end) × (s.end < length bytes)
 
+-- an element with this name and a string of these words
+abbrev pub string_element : List ℕ → List ℕ → List ℕ → ElementRead
+string_element name words rest =
+    record { name = name; kind = String; value = a_leaf (text_value words); rest = rest }
+
+-- The bytes begin with such an element, and the rest follows. The words needn't be UTF-8.
+pub record BeginsWithString (bytes name words rest : List ℕ) : Type 0 where
+  pub parts : bytes ≡ byte_of String ∷ (cstring name ++ (string words ++ rest))
+  pub is_name : IsName name
+  pub short : length words + 1 < 2 ^ 31
+
 -- What is read at the walk's offset, and the offset after it: nothing where the offsets are out of
 -- range or behind the last element, and else the element, or its first fault. A string whose one
--- fault is that its text isn't UTF-8 may be passed.
+-- fault is that its text isn't UTF-8 may be read as if it were.
 pub data IsStep (bytes : List ℕ) (s : ElementIter) : Element → ℕ → Type 0 where
   outside : {e : Element} {next : ℕ} → (IsInside bytes s → ⊥) → e ≡ wrong_element → next ≡ s.at
       → IsStep bytes s e next
@@ -69,9 +81,11 @@ pub data IsStep (bytes : List ℕ) (s : ElementIter) : Element → ℕ → Type 
   fails : {e : Element} {next : ℕ} (f : BsonFault) → IsInside bytes s → s.at < s.end
       → element_at s.depth s.start s.at (slice_range bytes s.at s.end) ≡ Err f
       → e ≡ fault_element f → next ≡ s.at → IsStep bytes s e next
-  not_text : {e : Element} {next : ℕ} → IsInside bytes s → s.at < s.end
+  not_text : {e : Element} {next : ℕ} (name words rest : List ℕ) → IsInside bytes s → s.at < s.end
       → element_at s.depth s.start s.at (slice_range bytes s.at s.end) ≡ Err (fault s.at Text)
-      → (s.at < next) × (next ≤ s.end) → e.kind ≡ byte_of String → IsStep bytes s e next
+      → BeginsWithString (slice_range bytes s.at s.end) name words rest
+      → rest ≡ slice_range bytes next s.end → (s.at < next) × (next ≤ s.end)
+      → e ≡ element_place s.at next (string_element name words rest) → IsStep bytes s e next
 
 -- ---- a document inside
 

@@ -1,9 +1,9 @@
 -- A value that is read in few steps, for a walk.
-use Rattle.std.specs.Prelude.{◌≡◌, ◌≤◌, ℕ, ◌+◌, List, length, Ok, Err, Some}
+use Rattle.std.specs.Prelude.{◌≡◌, ◌<◌, ℕ, ◌+◌, ◌^◌, List, ◌++◌, length, Ok, Err, Some}
 use Rattle.bson_elem.specs.declared.fault.BsonCause.TheVariants.{Text}
 use Rattle.bson_elem.specs.declared.kinds.Kind.{Kind}
 use Rattle.bson_elem.specs.declared.kinds.Kind.TheVariants.{String}
-use Rattle.bson_elem.specs.{Value, fault, form_of, kind_of}
+use Rattle.bson_elem.specs.{Value, a_leaf, fault, form_of, kind_of, string, text_value}
 use Rattle.bson_elem.specs.Checks.{value_at}
 use Rattle.byte_views.specs.declared.element.Element.{Element}
 use Rattle.byte_views.specs.Elements.{value_place}
@@ -18,13 +18,16 @@ pub record IsValueAt (depth at from : ℕ) (k : Kind) (rest : List ℕ) (bare e 
   pub size : n + length after ≡ length rest
   pub place : e ≡ value_place from (from + n) k bare value
 
--- The same; or the value is a string, and its one fault is that its text isn't UTF-8.
+-- The same; or the value is a string of these words, and its one fault is that they aren't UTF-8.
+-- Then the element has the view of them.
 pub data IsQuick (depth at from : ℕ) (k : Kind) (rest : List ℕ) (bare e : Element)
     (n : ℕ) : Type 0 where
   is_value : IsValueAt depth at from k rest bare e n → IsQuick depth at from k rest bare e n
-  bad_text : k ≡ String → value_at depth at from (form_of k) rest ≡ Err (fault at Text)
-      → e.kind ≡ bare.kind
-      → n ≤ length rest → IsQuick depth at from k rest bare e n
+  bad_text : (words after : List ℕ) → k ≡ String
+      → value_at depth at from (form_of k) rest ≡ Err (fault at Text)
+      → rest ≡ string words ++ after → length words + 1 < 2 ^ 31 → n ≡ length words + 5
+      → e ≡ value_place from (from + n) k bare (a_leaf (text_value words))
+      → IsQuick depth at from k rest bare e n
 
 -- the same of the kind with this type byte
 abbrev pub IsQuickly : ℕ → ℕ → ℕ → ℕ → List ℕ → Element → Element → ℕ → Type 0

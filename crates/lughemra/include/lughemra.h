@@ -769,7 +769,8 @@ static inline bool lughemra_next_document(const uint8_t *bytes, size_t length, s
 }
 
 /* ---- walks: each element is checked as it is read, so that the bytes needn't be checked before. But the text of a string
- * isn't tested for UTF-8: who wants that of bytes that weren't checked checks the document first. */
+ * isn't tested for UTF-8, and its view has its bytes, whatever they are: who wants UTF-8 of bytes that weren't checked checks
+ * the document first. */
 
 /* Begins a walk over the document that the bytes are. Checks its length and its last byte, but none of its elements. */
 static inline struct lughemra_first lughemra_first(const uint8_t *bytes, size_t length)
