@@ -2,12 +2,12 @@
 use Rattle.std.specs.Prelude.{◌≡◌, ◌<◌, ◌≤◌, ◌⊎◌, ℕ, ◌+◌, ◌-◌, ◌^◌, List, [], ◌∷◌, ◌++◌, length}
 use Rattle.std.specs.Prelude.{slice_range, None, Some, Ok, Err}
 use Rattle.bson_elem.specs.declared.fault.BsonFault.{BsonFault}
-use Rattle.bson_elem.specs.declared.fault.BsonCause.TheVariants.{Text}
+use Rattle.bson_elem.specs.declared.fault.BsonCause.TheVariants.{Length, Text}
 use Rattle.bson_elem.specs.declared.kinds.Kind.TheVariants.{String}
 use Rattle.bson_elem.specs.{IsName, a_leaf, byte_of, cstring, document_at, fault, string}
 use Rattle.bson_elem.specs.{text_value}
 use Rattle.bson_elem.specs.Checks.{ElementRead, element_at}
-use Rattle.bson_raw.specs.{WholeFault}
+use Rattle.bson_raw.specs.Spelled.{IsLengthOf}
 use Rattle.byte_views.specs.declared.element.Element.{Element}
 use Rattle.byte_views.specs.declared.fault.FirstFault.{FirstFault}
 use Rattle.byte_views.specs.declared.iter.ElementIter.{ElementIter}
@@ -41,13 +41,16 @@ first_begins bytes = record {
 abbrev pub first_fails : FirstFault → FirstElement
 first_fails fault = record { fault = fault; iter = wrong_iter }
 
--- The bytes begin with their number and end with 00, and the walk begins; or this is the first
--- fault of the bytes as a document.
+-- The bytes begin with their number and end with 00, and the walk begins; or this is the fault of
+-- that number or of the last byte. No element is looked at.
 pub data IsFirst (bytes : List ℕ) : FirstElement → Type 0 where
   begins : {first : FirstElement} (body : List ℕ) → document_at 0 0 bytes ≡ Ok (body, [])
       → first ≡ first_begins bytes → IsFirst bytes first
-  has_fault : {first : FirstElement} (f : BsonFault) → WholeFault bytes f
-      → first ≡ first_fails (first_fault (Some f)) → IsFirst bytes first
+  other_length : {first : FirstElement} → (IsLengthOf bytes → ⊥)
+      → first ≡ first_fails (first_fault (Some (fault 0 Length))) → IsFirst bytes first
+  has_fault : {first : FirstElement} (f : BsonFault) → IsLengthOf bytes
+      → document_at 0 0 bytes ≡ Err f → first ≡ first_fails (first_fault (Some f))
+      → IsFirst bytes first
 
 -- ---- a step
 
