@@ -107,6 +107,8 @@ pub fn spell_content(
     limit: u32,
 ) -> Result<Vec<u8>, ContentRefusal>
     requires { limit ≤ 48_000_000 }
+    ensures joined { IfOk result (λ message.
+        message.items ≡ plain_message body.now sequences.now) }
     ensures spelled { IfOk result (λ message. IsMessage limit message.items) }
     ensures content { IfOk result (λ message. (m : Message) → SpellsMsg m message.items
         → AreParts [] body.now sequences.now m.content) }
