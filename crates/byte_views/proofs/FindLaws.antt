@@ -11,7 +11,7 @@ use Rattle.bson_raw.specs.Pairs.{TreeValue, document_value, first_named, leaf_va
 use Rattle.byte_views.specs.declared.element.Element.{Element}
 use Rattle.byte_views.specs.declared.iter.ElementIter.{ElementIter}
 use Rattle.byte_views.specs.declared.view.View.{View}
-use Rattle.byte_views.specs.Finding.{Finds, GivesNamed, Passes, no_step, one_more, none_named, named}
+use Rattle.byte_views.specs.Finding.{Finds, GivesNamed, Passes, no_step, one_more, none_named, named, pairs_behind}
 use Rattle.byte_views.specs.Iters.{IsStep, at_end, fails, moved, not_text, outside, reads}
 use Rattle.byte_views.specs.Pairs.{PairsFrom, ShowsValue, gives, no_more}
 use Rattle.byte_views.specs.Views.{IsView}
@@ -22,9 +22,9 @@ one_name : (bytes : List ℕ) (v : View) (a b : List ℕ) → IsView bytes v a �
 one_name bytes v a b x y = sym x.part_is ∙ y.part_is
 
 -- the first pair has the name
-here : (n name : List ℕ) (v : TreeValue) (ps : Tree) → n ≡ name → first_named name (with_first n v ps) ≡ Some v
-here n name (leaf_value k leaf) ps is = rw ((bytes_eq-Decides n name).1 is) refl
-here n name (document_value k b inner) ps is = rw ((bytes_eq-Decides n name).1 is) refl
+here : (n name : List ℕ) (v : TreeValue) (ps : Tree) → n ≡ name → (first_named name (with_first n v ps) ≡ Some v) × (pairs_behind name (with_first n v ps) ≡ ps)
+here n name (leaf_value k leaf) ps is = rw ((bytes_eq-Decides n name).1 is) (refl, refl)
+here n name (document_value k b inner) ps is = rw ((bytes_eq-Decides n name).1 is) (refl, refl)
 
 -- it has another
 unlike : (n name : List ℕ) → (n ≡ name → ⊥) → bytes_eq n name ≡ false
@@ -34,9 +34,9 @@ unlike n name other =
       | inr differs ↦ differs
     ]
 
-later : (n name : List ℕ) (v : TreeValue) (ps : Tree) → (n ≡ name → ⊥) → first_named name (with_first n v ps) ≡ first_named name ps
-later n name (leaf_value k leaf) ps other = rw (unlike n name other) refl
-later n name (document_value k b inner) ps other = rw (unlike n name other) refl
+later : (n name : List ℕ) (v : TreeValue) (ps : Tree) → (n ≡ name → ⊥) → (first_named name (with_first n v ps) ≡ first_named name ps) × (pairs_behind name (with_first n v ps) ≡ pairs_behind name ps)
+later n name (leaf_value k leaf) ps other = rw (unlike n name other) (refl, refl)
+later n name (document_value k b inner) ps other = rw (unlike n name other) (refl, refl)
 
 low_byte : (k : Kind) → 1 ≤ byte_of k
 low_byte Double = omega arith
@@ -51,13 +51,15 @@ kind_some bytes s e (leaf_value k leaf) shown none = byte_some k (sym shown.0 �
 kind_some bytes s e (document_value k b inner) shown none = byte_some k (sym shown.0 ∙ none)
 
 -- the pairs that are left, where others were passed
-pub passed_left : (bytes name : List ℕ) (s : ElementIter) (at : ℕ) → length bytes < 2 ^ 64 → Passes bytes name s at → (t : Tree) → PairsFrom bytes s t → (rest : Tree) × PairsFrom bytes (moved s at) rest × (first_named name t ≡ first_named name rest)
-passed_left bytes name s at short (no_step is) t from = (t, subst (λ (n : ℕ). PairsFrom bytes (moved s n) t) (sym is) from, refl)
+pub passed_left : (bytes name : List ℕ) (s : ElementIter) (at : ℕ) → length bytes < 2 ^ 64 → Passes bytes name s at → (t : Tree) → PairsFrom bytes s t → (rest : Tree) × PairsFrom bytes (moved s at) rest × (first_named name t ≡ first_named name rest) × (pairs_behind name t ≡ pairs_behind name rest)
+passed_left bytes name s at short (no_step is) t from = (t, subst (λ (n : ℕ). PairsFrom bytes (moved s n) t) (sym is) from, refl, refl)
 passed_left bytes name s at short (one_more before e passed step some other) t from =
     let i = passed_left bytes name s before short passed t from in
     elim (step_gives bytes (moved s before) e at short step i.0 i.1) [
       | no_more none is stays ↦ absurd (some (ap (λ (x : Element). x.kind) is))
-      | gives n v others is shown value left ↦ (others, left, i.2 ∙ ap (first_named name) is ∙ later n name v others (λ same. other (subst (IsView bytes e.name) same shown)))
+      | gives n v others is shown value left ↦
+          let l = later n name v others (λ same. other (subst (IsView bytes e.name) same shown)) in
+          (others, left, i.2 ∙ ap (first_named name) is ∙ l.0, i.3 ∙ ap (pairs_behind name) is ∙ l.1)
     ]
 
 pub finds_named : (bytes name : List ℕ) (s : ElementIter) (e : Element) (next : ℕ) → length bytes < 2 ^ 64 → Finds bytes name s e next → (t : Tree) → PairsFrom bytes s t → GivesNamed bytes name s e (moved s next) t
@@ -68,7 +70,9 @@ finds_named bytes name s e next short f t from =
       | gives n v others is shown value left ↦
           elim f.stops [
             | inl none ↦ absurd (kind_some bytes (moved s f.at) e v value none)
-            | inr same ↦ named v (i.2 ∙ ap (first_named name) is ∙ here n name v others (one_name bytes e.name n name shown same)) same value others left
+            | inr same ↦
+                let h = here n name v others (one_name bytes e.name n name shown same) in
+                named v (i.2 ∙ ap (first_named name) is ∙ h.0) same value (subst (PairsFrom bytes (moved s next)) (sym (i.3 ∙ ap (pairs_behind name) is ∙ h.1)) left)
           ]
     ]
 

@@ -1,6 +1,8 @@
 -- A search for an element by its name, from where a walk stands.
 use Rattle.std.specs.Prelude.{◌≡◌, ◌≢◌, ◌⊎◌, ℕ, List, Some, None}
-use Rattle.bson_elem.specs.{Tree, no_pairs}
+use Rattle.std.specs.Prelude.{if◌then◌else◌}
+use Rattle.std.specs.Str.{bytes_eq}
+use Rattle.bson_elem.specs.{Tree, inner_pair, leaf_pair, no_pairs}
 use Rattle.bson_raw.specs.{TreeValue, first_named}
 use Rattle.byte_views.specs.declared.element.Element.{Element}
 use Rattle.byte_views.specs.declared.iter.ElementIter.{ElementIter}
@@ -25,14 +27,21 @@ pub record Finds (bytes name : List ℕ) (s : ElementIter) (e : Element) (next :
   pub step : IsStep bytes (moved s at) e next
   pub stops : (e.kind ≡ 0) ⊎ IsView bytes e.name name
 
+-- the pairs behind the first one with this name
+abbrev pub pairs_behind : List ℕ → Tree → Tree
+pairs_behind name no_pairs = no_pairs
+pairs_behind name (leaf_pair n k v ps) = if bytes_eq n name then ps else pairs_behind name ps
+pairs_behind name (inner_pair n k b inner ps) =
+    if bytes_eq n name then ps else pairs_behind name ps
+
 -- No pair has the name, and none is given; or the value of the first pair with it is given, and the
--- pairs after that one are left.
+-- pairs behind that one are left.
 pub data GivesNamed (bytes name : List ℕ) (s : ElementIter) (e : Element) (after : ElementIter)
     (t : Tree) : Type 0 where
   none_named : first_named name t ≡ None → e ≡ no_element → PairsFrom bytes after no_pairs
       → GivesNamed bytes name s e after t
   named : (v : TreeValue) → first_named name t ≡ Some v → IsView bytes e.name name
-      → ShowsValue bytes s e v → (others : Tree) → PairsFrom bytes after others
+      → ShowsValue bytes s e v → PairsFrom bytes after (pairs_behind name t)
       → GivesNamed bytes name s e after t
 
 -- The walk begins at the document's front, and finds the element; or the document's length or its
