@@ -128,7 +128,8 @@ abbrev pub part_told : List ℕ → ℕ
 part_told [] = 0
 part_told (kind ∷ bytes) = if nat_lt 1 kind then 1 else 1 + length_told 5 0 bytes
 
--- what stands at an offset: a number of the header, the flags, or a section
+-- what stands at an offset: below 20 four bytes, whether a number of the header or the flags begin
+-- there or not; and else a section
 abbrev pub at_told : List ℕ → ℕ → ℕ
 at_told bytes at = if nat_lt at 20 then 4 else part_told (drop at bytes)
 

@@ -175,9 +175,9 @@ fn part_told(rest: &[u8]) -> usize
     }
 }
 
-/// Returns the view of what stands at offset `at` of a message: of a number of the header or of the
-/// flags; or else of the section whose kind byte is there. One at fault ends where its own length
-/// tells, or with the message.
+/// Returns the view of what stands at offset `at` of a message: below offset 20, of the four bytes
+/// from there on, as a number of the header and the flags have; or else of the section whose kind
+/// byte is there. One at fault ends where its own length tells, or with the message.
 pub fn message_span(bytes: &[u8], at: usize) -> View
     ensures { result ≡ message_span bytes.now at }
 {

@@ -348,9 +348,9 @@ struct lughemra_message_numbers {
 
 /* What became of a message. */
 struct lughemra_written {
-    /* The first fault that the message would have, by an enum lughemra_message_fault: FLAGS where any other bit is set, DOCUMENT
-     * where the body or a document of a sequence isn't one; or LUGHEMRA_TOO_LARGE, LUGHEMRA_NO_MEMORY or
-     * LUGHEMRA_LIMIT_TOO_LARGE. Then nothing is written. */
+    /* Why there is no message, by an enum lughemra_message_fault: FLAGS at 16 where any other bit is set, DOCUMENT at 21 where the
+     * body isn't one document, or else the first fault that a check of the message would tell; or LUGHEMRA_TOO_LARGE,
+     * LUGHEMRA_NO_MEMORY or LUGHEMRA_LIMIT_TOO_LARGE. Then nothing is written. */
     struct lughemra_fault fault;
     /* The document's own fault, as in struct lughemra_message_check. */
     struct lughemra_fault document_fault;
@@ -1033,8 +1033,8 @@ static inline struct lughemra_written lughemra_write_message(const struct lughem
  *   - malloc, realloc and free are of one allocator all the while.
  *
  * Nothing is lent: what waits to be sent, replies and requests are copied into the program's room. A call may take memory; where
- * there is none, it says so, and nothing changed. Each takes a null pointer to a handle for one of no core, and what is for one
- * kind of core takes a handle of another kind for that, too. */
+ * there is none, it says so, and nothing changed, but that lughemra_server_answer may have closed its server. Each takes a null
+ * pointer to a handle for one of no core, and what is for one kind of core takes a handle of another kind for that, too. */
 
 /* Frees the core of a handle, which has none then. Returns 0, or LUGHEMRA_NO_CORE where it had none. */
 static inline uint32_t lughemra_free(struct lughemra_core *core)
