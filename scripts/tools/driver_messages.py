@@ -32,13 +32,21 @@ def double(number):
     return struct.pack("<d", number)
 
 
+def sequence(identifier, documents):
+    """Returns the section of a document sequence."""
+    given = identifier.encode() + b"\0" + b"".join(documents)
+    return b"\1" + int32(4 + len(given)) + given
+
+
+def message_with(number, body, sections):
+    """Returns a message with this body, and with these sections behind it."""
+    joined = b"\0" + body + b"".join(sections)
+    return struct.pack("<iiiiI", 20 + len(joined), number, 0, 2013, 0) + joined
+
+
 def message(number, body, documents=()):
     """Returns a message with this body, and with these documents in a sequence, if there are any."""
-    sections = b"\0" + body
-    if documents:
-        joined = b"".join(documents)
-        sections += b"\1" + int32(4 + 10 + len(joined)) + b"documents\0" + joined
-    return struct.pack("<iiiiI", 20 + len(sections), number, 0, 2013, 0) + sections
+    return message_with(number, body, [sequence("documents", documents)] if documents else ())
 
 
 def command(name, value, *others):
@@ -168,11 +176,11 @@ REFUSED = updates(
 INDEX = document([element(DOCUMENT, "key", document([field("a", 1)])), element(STRING, "name", string("a_1"))])
 INDEXES = element(ARRAY, "indexes", document([element(DOCUMENT, "0", INDEX)]))
 
-# Each request: its body, the documents of its sequence, and what the server writes of it.
+# Each request: its body, its document sequences, and what the server writes of it.
 REQUESTS = [
     (
         command("insert", COLLECTION),
-        [document([element(INT32, "_id", int32(number))]) for number in (1, 2)],
+        [sequence("documents", [document([element(INT32, "_id", int32(number))]) for number in (1, 2)])],
         """\
 request "insert"
 document 33
@@ -315,6 +323,77 @@ document 104
 request "find"
 document 46
   "find" string "c"
+""",
+    ),
+    (
+        command("insert", COLLECTION),
+        [sequence("documents", [document([field("_id", 50)])]), sequence("docs", [document([field("_id", 51)])])],
+        """\
+request "insert"
+document 33
+  "insert" string "c"
+  "$db" string "test"
+sequence "documents" 1
+sequence "docs" 1
+answer
+document 104
+  "ok" double 0000000000000000
+  "errmsg" string "the field 'docs' is not carried out"
+  "code" int32 238
+  "codeName" string "NotImplemented"
+""",
+    ),
+    (
+        command("insert", COLLECTION),
+        [sequence("documents", [document([field("_id", number)])]) for number in (50, 51)],
+        """\
+request "insert"
+document 33
+  "insert" string "c"
+  "$db" string "test"
+sequence "documents" 1
+sequence "documents" 1
+answer
+document 109
+  "ok" double 0000000000000000
+  "errmsg" string "the field 'documents' is not carried out"
+  "code" int32 238
+  "codeName" string "NotImplemented"
+""",
+    ),
+    (
+        command("find", COLLECTION),
+        [sequence("filter", [document([field("_id", 1)])])],
+        """\
+request "find"
+document 31
+  "find" string "c"
+  "$db" string "test"
+sequence "filter" 1
+answer
+document 106
+  "ok" double 0000000000000000
+  "errmsg" string "the field 'filter' is not carried out"
+  "code" int32 238
+  "codeName" string "NotImplemented"
+""",
+    ),
+    (
+        command("bulkWrite", ONE),
+        [sequence("ops", [document([])]), sequence("nsInfo", [document([])])],
+        """\
+request "bulkWrite"
+document 34
+  "bulkWrite" int32 1
+  "$db" string "test"
+sequence "ops" 1
+sequence "nsInfo" 1
+answer
+document 98
+  "ok" double 0000000000000000
+  "errmsg" string "no such command: 'bulkWrite'"
+  "code" int32 59
+  "codeName" string "CommandNotFound"
   "batchSize" int32 0
   "$db" string "test"
 answer
@@ -631,7 +710,7 @@ document 122
     ),
     (
         command("insert", PATHS),
-        [document([field("_id", 1), element(DOCUMENT, "a", document([field("b", 1)])), field("n", 1)]), document([field("_id", 2), element(ARRAY, "a", document([element(DOCUMENT, "0", document([field("b", 2)])), element(DOCUMENT, "1", document([field("b", 3)]))])), field("n", 2)]), document([field("_id", 3), element(ARRAY, "a", document([field("0", 5)])), field("n", 3)])],
+        [sequence("documents", [document([field("_id", 1), element(DOCUMENT, "a", document([field("b", 1)])), field("n", 1)]), document([field("_id", 2), element(ARRAY, "a", document([element(DOCUMENT, "0", document([field("b", 2)])), element(DOCUMENT, "1", document([field("b", 3)]))])), field("n", 2)]), document([field("_id", 3), element(ARRAY, "a", document([field("0", 5)])), field("n", 3)])])],
         """\
 request "insert"
 document 33
@@ -854,7 +933,7 @@ document 49
     ),
     (
         command("insert", PRODUCTS),
-        PRODUCT_DOCUMENTS,
+        [sequence("documents", PRODUCT_DOCUMENTS)],
         """\
 request "insert"
 document 40
@@ -1189,7 +1268,7 @@ document 33
     ),
     (
         command("insert", COLLECTION),
-        [document([field("_id", 1)])],
+        [sequence("documents", [document([field("_id", 1)])])],
         """\
 request "insert"
 document 33
@@ -1285,3 +1364,20 @@ def main():
 
 if __name__ == "__main__":
     main()
+""",
+    ),
+    (
+        command("ping", ONE),
+        [sequence("documents", [document([])])],
+        """\
+request "ping"
+document 29
+  "ping" int32 1
+  "$db" string "test"
+sequence "documents" 1
+answer
+document 109
+  "ok" double 0000000000000000
+  "errmsg" string "the field 'documents' is not carried out"
+  "code" int32 238
+  "codeName" string "NotImplemented"

@@ -403,19 +403,19 @@ abbrev pub settled : StoreView → Result Reply CommandError → Reply
 settled s (Ok r) = r
 settled s (Err e) = record { answer = refusal_pairs e; held = s }
 
--- the error of a command with a field that isn't carried out
+-- the error of a command with a field, or a sequence in its place, that isn't carried out
 abbrev pub unread_pairs : List ℕ → List (List ℕ × TreeValue)
 unread_pairs name =
     error_pairs (codes "the field '" ++ name ++ codes "' is not carried out") (pos 238)
     (codes "NotImplemented")
 
--- what a command is answered that has this field, which isn't carried out, or none
+-- what a command is answered that has this field or sequence, which isn't carried out, or none
 abbrev pub unless_unread : Option (List ℕ) → StoreView → Reply → Reply
 unless_unread None s r = r
 unless_unread (Some name) s r = record { answer = unread_pairs name; held = s }
 
 abbrev pub reply_of : Command → StoreView → Content → Reply
-reply_of k s c = unless_unread (first_unread k c.body) s (settled s (run k s c))
+reply_of k s c = unless_unread (first_unread k c) s (settled s (run k s c))
 
 -- the answer to a request, and what is held after it
 abbrev pub reply_to : StoreView → Content → Reply

@@ -1,14 +1,17 @@
--- Which fields each command carries out. A command with any other field is refused, unless that
--- field is false.
+-- Which fields and document sequences each command carries out. A command with any other field is
+-- refused, unless that field is false, and so is one with any other sequence.
 use Rattle.std.specs.Prelude.{ℕ, List, [], ◌∷◌, Bool, true, not, ◌&&◌, ◌||◌, Option, Some}
 use Rattle.std.specs.Prelude.{None, codes, if◌then◌else◌}
 use Rattle.std.specs.Str.{bytes_eq}
 use Rattle.bson_elem.specs.declared.kinds.Kind.TheVariants as kinds
 use Rattle.bson_elem.specs.{Tree, boolean_value, inner_pair, leaf_pair, no_pairs}
-use Rattle.bson_raw.specs.{TreeValue, document_value, leaf_value}
+use Rattle.bson_raw.specs.{TreeValue, document_value, first_named, leaf_value}
+use Rattle.wire_msg.specs.{Content, Sequence}
 use Rattle.doc_update.specs.{is_one_of}
 use Rattle.test_store.specs.declared.commands.Command.{Command}
 use Rattle.test_store.specs.declared.commands.Command.TheVariants as commands
+use Rattle.test_store.specs.declared.options.Scope.{Scope}
+use Rattle.test_store.specs.declared.options.Scope.TheVariants.{Body, Cursor}
 
 -- a field that never changes an answer
 abbrev pub is_general : List ℕ → Bool
@@ -83,19 +86,81 @@ reads commands.ListIndexes name =
     (bytes_eq name (codes "listIndexes") || bytes_eq name (codes "cursor")) || is_general name
 reads _ name = true
 
+-- the fields that are carried out, of a body and of its field `cursor`
+abbrev pub reads_in : Scope → List ℕ → Bool
+reads_in (Body c) name = reads c name
+reads_in Cursor name = bytes_eq name (codes "batchSize")
+
 -- a field that is false asks for nothing
 abbrev pub asks : TreeValue → Bool
 asks (leaf_value kinds.Boolean (boolean_value truth)) = truth
 asks _ = true
 
--- a field asks for what the command doesn't carry out
-abbrev pub is_unread : Command → List ℕ → TreeValue → Bool
-is_unread c name v = not (reads c name) && asks v
+-- a field asks for what isn't carried out
+abbrev pub is_unread : Scope → List ℕ → TreeValue → Bool
+is_unread s name v = not (reads_in s name) && asks v
 
--- the name of the first field of a body that asks for what the command doesn't carry out
-abbrev pub first_unread : Command → Tree → Option (List ℕ)
-first_unread c no_pairs = None
-first_unread c (leaf_pair n k v ps) =
-    if is_unread c n (leaf_value k v) then Some n else first_unread c ps
-first_unread c (inner_pair n k b inner ps) =
-    if is_unread c n (document_value k b inner) then Some n else first_unread c ps
+-- the name of the first field that asks for what isn't carried out
+abbrev pub unread_field : Scope → Tree → Option (List ℕ)
+unread_field s no_pairs = None
+unread_field s (leaf_pair n k v ps) =
+    if is_unread s n (leaf_value k v) then Some n else unread_field s ps
+unread_field s (inner_pair n k b inner ps) =
+    if is_unread s n (document_value k b inner) then Some n else unread_field s ps
+
+-- ---- the fields of `cursor`
+
+-- the command has a field `cursor`, which says how its cursor is made
+abbrev pub reads_cursor : Command → Bool
+reads_cursor commands.Aggregate = true
+reads_cursor commands.ListCollections = true
+reads_cursor commands.ListIndexes = true
+reads_cursor _ = false
+
+abbrev pub unread_in_cursor : Option TreeValue → Option (List ℕ)
+unread_in_cursor (Some (document_value kinds.Document b t)) = unread_field Cursor t
+unread_in_cursor _ = None
+
+-- the name of the first field of `cursor` that asks for what isn't carried out
+abbrev pub unread_option : Command → Tree → Option (List ℕ)
+unread_option c t =
+    if reads_cursor c then unread_in_cursor (first_named (codes "cursor") t) else None
+
+-- ---- document sequences
+
+-- the command takes its documents or statements from a sequence with this identifier
+abbrev pub reads_sequence : Command → List ℕ → Bool
+reads_sequence commands.Insert name = bytes_eq name (codes "documents")
+reads_sequence commands.Update name = bytes_eq name (codes "updates")
+reads_sequence commands.Delete name = bytes_eq name (codes "deletes")
+reads_sequence _ name = false
+
+abbrev pub first_identifier : List Sequence → Option (List ℕ)
+first_identifier [] = None
+first_identifier (q ∷ qs) = Some q.identifier
+
+-- the identifier of the first sequence that the command doesn't read, which reads one at most
+abbrev pub unread_sequence : Command → List Sequence → Option (List ℕ)
+unread_sequence c [] = None
+unread_sequence c (q ∷ qs) =
+    if reads_sequence c q.identifier then first_identifier qs else Some q.identifier
+
+-- ---- requests
+
+-- the first of two names, if there is one, and else the second
+abbrev pub or_next : Option (List ℕ) → Option (List ℕ) → Option (List ℕ)
+or_next (Some name) next = Some name
+or_next None next = next
+
+-- a command that isn't known is refused as such, whatever its sequences are
+abbrev pub unless_unknown : Command → Option (List ℕ) → Option (List ℕ)
+unless_unknown commands.Unknown name = None
+unless_unknown _ name = name
+
+-- the name of the first field that asks for what a command doesn't carry out, or of the first
+-- sequence where no field does
+abbrev pub first_unread : Command → Content → Option (List ℕ)
+first_unread c content =
+    or_next (unread_field (Body c) content.body)
+    (or_next (unread_option c content.body)
+    (unless_unknown c (unread_sequence c content.sequences)))

@@ -160,7 +160,8 @@ fn run(command: Command, store: &mut Store, payload: Payload<'_>) -> Result<Docu
     }
 }
 
-/// Makes the answer that says that a command has a field which isn't carried out.
+/// Makes the answer that says that a command has a field, or a document sequence in its place,
+/// which isn't carried out.
 fn unread_field(alloc: Global, name: &str) -> Result<Document, AllocError>
     ensures { IfOk result (λ d. d ≡ unread_pairs name.now) }
 {
@@ -214,7 +215,7 @@ pub fn answer_to(store: &mut Store, payload: Payload<'_>) -> Result<Document, Al
         → (store_of store.new).collections ≡ (store_of store.old).collections }
 {
     let command = command_of(name_of(payload.body()));
-    match first_unread(command, payload.body()) {
+    match first_unread(command, payload) {
         Some(name) => unread_field(store.allocator(), name),
         None => carry_out(command, store, payload),
     }

@@ -1,17 +1,30 @@
-//! Tells which fields a command carries out. A command with any other field is refused by the name
-//! of that field, since its answer would be another one than was asked for.
+//! Tells which fields and document sequences a command carries out. A command with any other one is
+//! refused by its name, since its answer would be another one than was asked for.
 
 ghost use Rattle.std.specs.Prelude.{◌≡◌, MatchOption, None, Some};
 ghost use Rattle.bson_elem.specs.{Spells, Tree};
 ghost use Rattle.bson_raw.specs.{Shows, TreeValue, document_bytes};
+ghost use Rattle.wire_msg.specs.{Carries, Content};
 ghost use Rattle.test_store.specs.Options.{asks, first_unread, is_aggregate_field, is_count_field};
 ghost use Rattle.test_store.specs.Options.{is_databases_field, is_delete_field, is_find_field};
 ghost use Rattle.test_store.specs.Options.{is_general};
 ghost use Rattle.test_store.specs.Options.{is_insert_field, is_list_field, is_more_field};
-ghost use Rattle.test_store.specs.Options.{is_unread, is_update_field, reads};
+ghost use Rattle.test_store.specs.Options.{is_unread, is_update_field};
+ghost use Rattle.test_store.specs.Options.{reads, reads_cursor, reads_in, reads_sequence};
+ghost use Rattle.test_store.specs.Options.{unread_field, unread_option, unread_sequence};
 
 use crate::commands::Command;
 use bson_raw::{RawBson, RawDocument};
+use wire_msg::Payload;
+
+/// A document whose fields are carried out or not.
+#[derive(Clone, Copy, Debug)]
+enum Scope {
+    /// The body of this command.
+    Body(Command),
+    /// The field `cursor` of a command.
+    Cursor,
+}
 
 /// Returns true if this field of a command never changes its answer.
 fn is_general(name: &str) -> bool
@@ -141,6 +154,16 @@ fn reads(command: Command, name: &str) -> bool
     }
 }
 
+/// Returns true if a field of such a document is carried out, or never changes the answer.
+fn reads_in(scope: Scope, name: &str) -> bool
+    ensures { result ≡ reads_in scope name.now }
+{
+    match scope {
+        Scope::Body(command) => reads(command, name),
+        Scope::Cursor => name == "batchSize",
+    }
+}
+
 /// Returns true unless the value is false. An option that is false asks for nothing.
 fn asks(value: RawBson<'_>) -> bool
     ensures { (v : TreeValue) → Shows value.entry v → result ≡ asks v }
@@ -151,23 +174,97 @@ fn asks(value: RawBson<'_>) -> bool
     }
 }
 
-/// Returns true if a field asks for what the command doesn't carry out.
-fn is_unread(command: Command, name: &str, value: RawBson<'_>) -> bool
-    ensures { (v : TreeValue) → Shows value.entry v → result ≡ is_unread command name.now v }
+/// Returns true if a field asks for what isn't carried out.
+fn is_unread(scope: Scope, name: &str, value: RawBson<'_>) -> bool
+    ensures { (v : TreeValue) → Shows value.entry v → result ≡ is_unread scope name.now v }
 {
-    !reads(command, name) && asks(value)
+    !reads_in(scope, name) && asks(value)
 }
 
-/// Returns the name of the first field that asks for what the command doesn't carry out.
-pub fn first_unread(command: Command, body: RawDocument<'_>) -> Option<&str>
-    ensures { (t : Tree) → Spells t (document_bytes body.entry)
-        → MatchOption result (first_unread command t ≡ None)
-        (λ n. first_unread command t ≡ Some n.now) }
+/// Returns the name of the first field of a document that asks for what isn't carried out.
+fn unread_field(scope: Scope, document: RawDocument<'_>) -> Option<&str>
+    ensures { (t : Tree) → Spells t (document_bytes document.entry)
+        → MatchOption result (unread_field scope t ≡ None)
+        (λ n. unread_field scope t ≡ Some n.now) }
 {
-    for (name, value) in body.iter() {
-        if is_unread(command, name, value) {
+    for (name, value) in document.iter() {
+        if is_unread(scope, name, value) {
             return Some(name);
         }
     }
     None
+}
+
+/// Returns true if a command has a field `cursor`, which says how its cursor is made.
+fn reads_cursor(command: Command) -> bool
+    ensures { result ≡ reads_cursor command }
+{
+    match command {
+        Command::Aggregate | Command::ListCollections | Command::ListIndexes => true,
+        _ => false,
+    }
+}
+
+/// Returns the name of the first field of the field `cursor` that asks for what isn't carried out.
+fn unread_option(command: Command, body: RawDocument<'_>) -> Option<&str>
+    ensures { (t : Tree) → Spells t (document_bytes body.entry)
+        → MatchOption result (unread_option command t ≡ None)
+        (λ n. unread_option command t ≡ Some n.now) }
+{
+    if !reads_cursor(command) {
+        return None;
+    }
+    match body.get("cursor") {
+        Some(RawBson::Document(cursor)) => unread_field(Scope::Cursor, cursor),
+        _ => None,
+    }
+}
+
+/// Returns true if a command takes its documents or statements from a sequence with this
+/// identifier.
+fn reads_sequence(command: Command, identifier: &str) -> bool
+    ensures { result ≡ reads_sequence command identifier.now }
+{
+    match command {
+        Command::Insert => identifier == "documents",
+        Command::Update => identifier == "updates",
+        Command::Delete => identifier == "deletes",
+        _ => false,
+    }
+}
+
+/// Returns the identifier of the first document sequence that a command doesn't read. It reads one
+/// at most, the first.
+fn unread_sequence(command: Command, payload: Payload<'_>) -> Option<&str>
+    ensures { (c : Content) → Carries payload.entry c
+        → MatchOption result (unread_sequence command c.sequences ≡ None)
+        (λ n. unread_sequence command c.sequences ≡ Some n.now) }
+{
+    let mut sequences = payload.sequences();
+    let (first, _) = sequences.next()?;
+    if !reads_sequence(command, first) {
+        return Some(first);
+    }
+    let (second, _) = sequences.next()?;
+    Some(second)
+}
+
+/// Returns the name of the first field that asks for what a command doesn't carry out, or of the
+/// first document sequence where no field does.
+pub fn first_unread(command: Command, payload: Payload<'_>) -> Option<&str>
+    ensures { (c : Content) → Carries payload.entry c
+        → MatchOption result (first_unread command c ≡ None)
+        (λ n. first_unread command c ≡ Some n.now) }
+{
+    let body = payload.body();
+    if let Some(name) = unread_field(Scope::Body(command), body) {
+        return Some(name);
+    }
+    if let Some(name) = unread_option(command, body) {
+        return Some(name);
+    }
+    match command {
+        Command::Unknown => None,
+        _ => unread_sequence(command, payload),
+    }
 }
