@@ -173,6 +173,9 @@ REFUSED = updates(
     statement(PRODUCT, [inner("$set", field("tags.1500001", 1))]),
 )
 
+DELETED = (STRING, string("d"))
+BATCHES_OF_1 = inner("cursor", field("batchSize", 1))
+
 INDEX = document([element(DOCUMENT, "key", document([field("a", 1)])), element(STRING, "name", string("a_1"))])
 INDEXES = element(ARRAY, "indexes", document([element(DOCUMENT, "0", INDEX)]))
 
@@ -317,15 +320,6 @@ document 104
 """,
     ),
     (
-        command("find", COLLECTION, element(INT32, "batchSize", int32(0))),
-        (),
-        """\
-request "find"
-document 46
-  "find" string "c"
-""",
-    ),
-    (
         command("insert", COLLECTION),
         [sequence("documents", [document([field("_id", 50)])]), sequence("docs", [document([field("_id", 51)])])],
         """\
@@ -394,6 +388,15 @@ document 98
   "errmsg" string "no such command: 'bulkWrite'"
   "code" int32 59
   "codeName" string "CommandNotFound"
+""",
+    ),
+    (
+        command("find", COLLECTION, element(INT32, "batchSize", int32(0))),
+        (),
+        """\
+request "find"
+document 46
+  "find" string "c"
   "batchSize" int32 0
   "$db" string "test"
 answer
@@ -1148,6 +1151,23 @@ document 56
 """,
     ),
     (
+        command("createIndexes", (STRING, string("e")), array("indexes")),
+        (),
+        """\
+request "createIndexes"
+document 54
+  "createIndexes" string "e"
+  "indexes" array 5
+  "$db" string "test"
+answer
+document 104
+  "ok" double 0000000000000000
+  "errmsg" string "Must specify at least one index to create"
+  "code" int32 2
+  "codeName" string "BadValue"
+""",
+    ),
+    (
         command("listCollections", ONE),
         (),
         """\
@@ -1167,6 +1187,120 @@ document 170
           "readOnly" boolean false
     "id" int64 0
     "ns" string "test.$cmd.listCollections"
+  "ok" double 000000000000f03f
+""",
+    ),
+    (
+        command("insert", DELETED),
+        [sequence("documents", [document([field("_id", number)]) for number in (1, 2, 3, 4)])],
+        """\
+request "insert"
+document 33
+  "insert" string "d"
+  "$db" string "test"
+sequence "documents" 4
+answer
+document 24
+  "n" int32 4
+  "ok" double 000000000000f03f
+""",
+    ),
+    (
+        command("listCollections", ONE, element(BOOLEAN, "nameOnly", b"\1"), BATCHES_OF_1),
+        (),
+        """\
+request "listCollections"
+document 79
+  "listCollections" int32 1
+  "nameOnly" boolean true
+  "cursor" document 20
+    "batchSize" int32 1
+  "$db" string "test"
+answer
+document 134
+  "cursor" document 109
+    "firstBatch" array 46
+      "0" document 38
+        "name" string "c"
+        "type" string "collection"
+    "id" int64 4294967298
+    "ns" string "test.$cmd.listCollections"
+  "ok" double 000000000000f03f
+""",
+    ),
+    (
+        command("getMore", (INT64, int64(4294967298)), text("collection", "$cmd.listCollections")),
+        (),
+        """\
+request "getMore"
+document 73
+  "getMore" int64 4294967298
+  "collection" string "$cmd.listCollections"
+  "$db" string "test"
+answer
+document 133
+  "cursor" document 108
+    "nextBatch" array 46
+      "0" document 38
+        "name" string "d"
+        "type" string "collection"
+    "id" int64 0
+    "ns" string "test.$cmd.listCollections"
+  "ok" double 000000000000f03f
+""",
+    ),
+    (
+        command("listCollections", ONE, inner("cursor", field("batchSize", 1), element(BOOLEAN, "tailable", b"\0"), field("maxTimeMS", 5))),
+        (),
+        """\
+request "listCollections"
+document 94
+  "listCollections" int32 1
+  "cursor" document 46
+    "batchSize" int32 1
+    "tailable" boolean false
+    "maxTimeMS" int32 5
+  "$db" string "test"
+answer
+document 109
+  "ok" double 0000000000000000
+  "errmsg" string "the field 'maxTimeMS' is not carried out"
+  "code" int32 238
+  "codeName" string "NotImplemented"
+""",
+    ),
+    (
+        command("aggregate", DELETED, array("pipeline"), inner("cursor", field("batchSize", 1), text("comment", "a"))),
+        (),
+        """\
+request "aggregate"
+document 94
+  "aggregate" string "d"
+  "pipeline" array 5
+  "cursor" document 35
+    "batchSize" int32 1
+    "comment" string "a"
+  "$db" string "test"
+answer
+document 107
+  "ok" double 0000000000000000
+  "errmsg" string "the field 'comment' is not carried out"
+  "code" int32 238
+  "codeName" string "NotImplemented"
+""",
+    ),
+    (
+        command("drop", DELETED),
+        (),
+        """\
+request "drop"
+document 31
+  "drop" string "d"
+  "$db" string "test"
+answer
+document 49
+  "nIndexesWas" int32 1
+  "ns" string "test.d"
   "ok" double 000000000000f03f
 """,
     ),
@@ -1214,6 +1348,30 @@ document 169
           "a" int32 1
         "name" string "a_1"
     "id" int64 0
+    "ns" string "test.c"
+  "ok" double 000000000000f03f
+""",
+    ),
+    (
+        command("listIndexes", COLLECTION, BATCHES_OF_1),
+        (),
+        """\
+request "listIndexes"
+document 66
+  "listIndexes" string "c"
+  "cursor" document 20
+    "batchSize" int32 1
+  "$db" string "test"
+answer
+document 123
+  "cursor" document 98
+    "firstBatch" array 54
+      "0" document 46
+        "v" int32 2
+        "key" document 14
+          "_id" int32 1
+        "name" string "_id_"
+    "id" int64 4294967299
     "ns" string "test.c"
   "ok" double 000000000000f03f
 """,
@@ -1325,6 +1483,23 @@ document 17
   "ok" double 000000000000f03f
 """,
     ),
+    (
+        command("ping", ONE),
+        [sequence("documents", [document([])])],
+        """\
+request "ping"
+document 29
+  "ping" int32 1
+  "$db" string "test"
+sequence "documents" 1
+answer
+document 109
+  "ok" double 0000000000000000
+  "errmsg" string "the field 'documents' is not carried out"
+  "code" int32 238
+  "codeName" string "NotImplemented"
+""",
+    ),
 ]
 
 
@@ -1350,8 +1525,8 @@ def first_of_each(names):
 def send(address, names=()):
     """Sends requests over one connection, up to the first one that isn't answered: all, or the first of each of these commands."""
     with connect(address) as link:
-        for number, (body, documents, _) in enumerate(first_of_each(names) if names else REQUESTS, 1):
-            if not is_answered(link, message(number, body, documents)):
+        for number, (body, sections, _) in enumerate(first_of_each(names) if names else REQUESTS, 1):
+            if not is_answered(link, message_with(number, body, sections)):
                 break
 
 
@@ -1364,20 +1539,3 @@ def main():
 
 if __name__ == "__main__":
     main()
-""",
-    ),
-    (
-        command("ping", ONE),
-        [sequence("documents", [document([])])],
-        """\
-request "ping"
-document 29
-  "ping" int32 1
-  "$db" string "test"
-sequence "documents" 1
-answer
-document 109
-  "ok" double 0000000000000000
-  "errmsg" string "the field 'documents' is not carried out"
-  "code" int32 238
-  "codeName" string "NotImplemented"

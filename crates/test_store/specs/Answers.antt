@@ -137,9 +137,11 @@ cursor_pairs b vs id ns =
 abbrev pub cursor_answer : Batch → List TreeValue → ℤ → List ℕ → List (List ℕ × TreeValue)
 cursor_answer b vs id ns = (codes "cursor", inner (cursor_pairs b vs id ns)) ∷ ok_alone
 
--- the listing of the collection with this name
-abbrev pub listing : List ℕ → TreeValue
-listing name =
+-- the listing of the collection with this name, by whether names alone are asked for
+abbrev pub listing : Bool → List ℕ → TreeValue
+listing true name =
+    inner ((codes "name", text name) ∷ (codes "type", text (codes "collection")) ∷ [])
+listing false name =
     inner ((codes "name", text name) ∷ (codes "type", text (codes "collection"))
     ∷ (codes "options", inner [])
     ∷ (codes "info", inner ((codes "readOnly", truth false) ∷ [])) ∷ [])

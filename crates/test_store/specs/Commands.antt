@@ -24,8 +24,8 @@ use Rattle.test_store.specs.Answers.{created_pairs, database_listing, databases_
 use Rattle.test_store.specs.Answers.{dropped_database_pairs, error_pairs, hello_pairs}
 use Rattle.test_store.specs.Answers.{inserted_pairs, killed_pairs}
 use Rattle.test_store.specs.Answers.{listing, ok_alone, refusal_pairs, updated_pairs}
-use Rattle.test_store.specs.Fields.{asked_size, batch_size, flag_field, id_field, namespace_at}
-use Rattle.test_store.specs.Fields.{text_field}
+use Rattle.test_store.specs.Fields.{batch_size, first_size, flag_field, id_field, list_size}
+use Rattle.test_store.specs.Fields.{namespace_at, text_field}
 use Rattle.test_store.specs.Held.{CollectionView, CursorView, NamespaceView, StoreView, closed_at}
 use Rattle.test_store.specs.Held.{cursor_index, documents_in, id_if_left, index_of_value, is_open}
 use Rattle.test_store.specs.Held.{held_indexes, indexes_in, with_indexes_of}
@@ -176,12 +176,6 @@ update s c =
 
 -- ---- aggregate
 
--- the size of the first batch, in the field `cursor`
-abbrev pub first_size : Option TreeValue → Result ℕ CommandError
-first_size (Some (document_value kinds.Document b t)) =
-    asked_size 0 errors.FirstBatchSize (first_named (codes "batchSize") t)
-first_size _ = Err errors.Cursor
-
 abbrev pub aggregate_reply : StoreView → NamespaceView → Tree → Result Reply CommandError
 aggregate_reply s n fields =
     and_then (or_error errors.Stage (array_in (first_named (codes "pipeline") fields))) (λ stages.
@@ -269,25 +263,29 @@ drop_database s t =
 -- ---- listCollections
 
 -- the listings of the collections of a database, in order
-abbrev pub listings : List ℕ → List CollectionView → List TreeValue
-listings db [] = []
-listings db (c ∷ cs) =
-    if bytes_eq c.namespace.database db then listing c.namespace.collection ∷ listings db cs
-    else listings db cs
+abbrev pub listings : Bool → List ℕ → List CollectionView → List TreeValue
+listings name_only db [] = []
+listings name_only db (c ∷ cs) =
+    if bytes_eq c.namespace.database db
+    then listing name_only c.namespace.collection ∷ listings name_only db cs
+    else listings name_only db cs
 
-abbrev pub list_answer : StoreView → List ℕ → Tree → List (List ℕ × TreeValue)
-list_answer s db f =
-    cursor_answer First (found f (listings db s.collections)) (pos 0)
-    (namespace_text (record { database = db; collection = codes "$cmd.listCollections" }))
+-- the namespace of a cursor over listings of collections
+abbrev pub listings_namespace : List ℕ → NamespaceView
+listings_namespace db = record { database = db; collection = codes "$cmd.listCollections" }
 
-abbrev pub list_reply : StoreView → List ℕ → Tree → Reply
-list_reply s db f = record { answer = list_answer s db f; held = s }
+abbrev pub list_reply : StoreView → List ℕ → Bool → Tree → ℕ → Reply
+list_reply s db name_only f count =
+    found_reply s (listings_namespace db) (found f (listings name_only db s.collections)) count
+    false
 
 -- the answer of listCollections and what is held after it, or its error
 abbrev pub list_collections : StoreView → Tree → Result Reply CommandError
 list_collections s t =
     and_then (text_field (codes "$db") errors.Database t) (λ db.
-    and_then (filter_field (codes "filter") t) (λ f. Ok (list_reply s db f)))
+    and_then (flag_field (codes "nameOnly") false errors.NameOnly t) (λ name_only.
+    and_then (list_size t) (λ count.
+    and_then (filter_field (codes "filter") t) (λ f. Ok (list_reply s db name_only f count)))))
 
 -- ---- listDatabases
 
@@ -318,26 +316,34 @@ created_reply s n is = record {
   held = record { collections = with_indexes_of n is s.collections; cursors = s.cursors };
 }
 
+-- the error of createIndexes that asks for no index
+abbrev pub no_index_pairs : List (List ℕ × TreeValue)
+no_index_pairs =
+    error_pairs (codes "Must specify at least one index to create") (pos 2) (codes "BadValue")
+
+abbrev pub created_by : StoreView → NamespaceView → List TreeValue → Result Reply CommandError
+created_by s n [] = unchanged s no_index_pairs
+created_by s n (v ∷ vs) =
+    and_then (with_indexes (v ∷ vs) (indexes_in n s.collections)) (λ is.
+    Ok (created_reply s n is))
+
 -- the answer of createIndexes and what is held after it, or its error
 abbrev pub create_indexes : StoreView → Tree → Result Reply CommandError
 create_indexes s t =
     and_then (namespace_at (codes "createIndexes") errors.CreateIndexes t) (λ n.
     and_then (body_of t) (λ fields.
     and_then (or_error errors.Indexes (array_in (first_named (codes "indexes") fields))) (λ vs.
-    and_then (with_indexes vs (indexes_in n s.collections)) (λ is. Ok (created_reply s n is)))))
+    created_by s n vs)))
 
 -- ---- listIndexes
-
-abbrev pub indexes_answer : NamespaceView → List IndexView → List (List ℕ × TreeValue)
-indexes_answer n is =
-    cursor_answer First (map index_listing is) (pos 0) (namespace_text n)
 
 -- the answer of listIndexes and what is held after it, or its error
 abbrev pub list_indexes : StoreView → Tree → Result Reply CommandError
 list_indexes s t =
     and_then (namespace_at (codes "listIndexes") errors.ListIndexes t) (λ n.
+    and_then (list_size t) (λ count.
     and_then (or_error errors.NamespaceNotFound (held_indexes n s.collections)) (λ is.
-    unchanged s (indexes_answer n is)))
+    Ok (found_reply s n (map index_listing is) count false))))
 
 -- ---- all commands
 

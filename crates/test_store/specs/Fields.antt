@@ -1,9 +1,9 @@
 -- The fields of a command.
-use Rattle.std.specs.Prelude.{ℕ, ℤ, List, Option, Some, None, Result, Ok, codes}
+use Rattle.std.specs.Prelude.{ℕ, ℤ, List, Option, Some, None, Result, Ok, Err, codes}
 use Rattle.std.specs.Prelude.{Bool}
 use Rattle.bson_elem.specs.declared.kinds.Kind.TheVariants as kinds
 use Rattle.bson_elem.specs.{Tree, number_value}
-use Rattle.bson_raw.specs.{TreeValue, first_named, leaf_value}
+use Rattle.bson_raw.specs.{TreeValue, document_value, first_named, leaf_value}
 use Rattle.doc_query.specs.declared.failure.CommandError.{CommandError}
 use Rattle.doc_query.specs.declared.failure.CommandError.TheVariants as errors
 use Rattle.doc_query.specs.{and_then, asked_flag, at_least, count_of, or_error, text_of}
@@ -48,3 +48,16 @@ asked_size least error (Some v) = at_least least error (count_of v)
 -- the batch size that a command asks for, which must be at least this, or 101 if it asks for none
 abbrev pub batch_size : ℕ → CommandError → Tree → Result ℕ CommandError
 batch_size least error t = asked_size least error (first_named (codes "batchSize") t)
+
+-- the size of the first batch, in the field `cursor`
+abbrev pub first_size : Option TreeValue → Result ℕ CommandError
+first_size (Some (document_value kinds.Document b t)) = batch_size 0 errors.FirstBatchSize t
+first_size _ = Err errors.Cursor
+
+abbrev pub asked_list_size : Option TreeValue → Result ℕ CommandError
+asked_list_size None = Ok 101
+asked_list_size (Some v) = first_size (Some v)
+
+-- the size of the first batch of listings, which is 101 if there is no field `cursor`
+abbrev pub list_size : Tree → Result ℕ CommandError
+list_size t = asked_list_size (first_named (codes "cursor") t)

@@ -4,8 +4,8 @@ ghost use Rattle.std.specs.Prelude.{◌≡◌, Err, MatchOption, MatchResult, No
 ghost use Rattle.bson_elem.specs.{Spells, Tree};
 ghost use Rattle.bson_raw.specs.{Shows, ShowsFound, TreeValue, document_bytes, first_named};
 ghost use Rattle.doc_query.specs.{count_of, text_of};
-ghost use Rattle.test_store.specs.Fields.{batch_size, flag_field, id_field, id_of, namespace_at};
-ghost use Rattle.test_store.specs.Fields.{number_field, text_field};
+ghost use Rattle.test_store.specs.Fields.{batch_size, flag_field, id_field, id_of, list_size};
+ghost use Rattle.test_store.specs.Fields.{namespace_at, number_field, text_field};
 ghost use Rattle.test_store.specs.Held.{namespace_of};
 
 use crate::namespace::Namespace;
@@ -171,5 +171,22 @@ pub fn batch_size(
     match count_of(value) {
         Some(count) if count >= least => Ok(count),
         _ => Err(error),
+    }
+}
+
+/// Returns the most listings that the first batch may have: the field `batchSize` of the field
+/// `cursor`, or 101 if there is none.
+///
+/// # Errors
+///
+/// Returns `Cursor` if the field `cursor` isn't a document, and `FirstBatchSize` if its field isn't
+/// a whole number.
+pub fn list_size(body: RawDocument<'_>) -> Result<usize, CommandError>
+    ensures { (t : Tree) → Spells t (document_bytes body.entry) → result ≡ list_size t }
+{
+    match body.get("cursor") {
+        None => Ok(DEFAULT_BATCH_SIZE),
+        Some(RawBson::Document(cursor)) => batch_size(cursor, 0, CommandError::FirstBatchSize),
+        Some(_) => Err(CommandError::Cursor),
     }
 }

@@ -4,7 +4,8 @@ ghost use Rattle.std.specs.Prelude.{◌≡◌, codes};
 ghost use Rattle.bson_elem.specs.{Spells, Tree};
 ghost use Rattle.bson_raw.specs.{document_bytes, first_named};
 ghost use Rattle.bson_doc.specs.{tree_of};
-ghost use Rattle.test_store.specs.Commands.{IsCarriedOut, aggregate, first_size};
+ghost use Rattle.test_store.specs.Commands.{IsCarriedOut, aggregate};
+ghost use Rattle.test_store.specs.Fields.{first_size};
 ghost use Rattle.test_store.specs.Held.{store_of};
 
 use crate::commands::find::answer_found;

@@ -4,11 +4,11 @@ ghost use Rattle.std.specs.Prelude.{◌≡◌, ◌<◌, ◌^◌, IfOk, OnErr, ma
 ghost use Rattle.bson_elem.specs.{Spells, Tree};
 ghost use Rattle.bson_raw.specs.{document_bytes};
 ghost use Rattle.test_store.specs.Answers.{created_pairs};
-ghost use Rattle.test_store.specs.Commands.{IsCarriedOut, create_indexes};
+ghost use Rattle.test_store.specs.Commands.{IsCarriedOut, create_indexes, no_index_pairs};
 ghost use Rattle.test_store.specs.Held.{indexes_in, namespace_of, store_of};
 ghost use Rattle.test_store.specs.Indexes.{index_view};
 
-use crate::answer::set_ok;
+use crate::answer::{error_answer, set_ok};
 use crate::fields::namespace_field;
 use crate::indexes::{Index, add_indexes, copies, first_indexes};
 use crate::namespace::Namespace;
@@ -54,6 +54,18 @@ fn indexes_in(
     }
 }
 
+/// Makes the answer that says that a command asks for no index.
+fn no_index(alloc: Global) -> Result<Document, AllocError>
+    ensures { IfOk result (λ d. d ≡ no_index_pairs) }
+{
+    error_answer(
+        alloc,
+        "Must specify at least one index to create",
+        2,
+        "BadValue",
+    )
+}
+
 /// Makes indexes of a collection, and the collection if there is none.
 pub fn create_indexes(
     alloc: Global,
@@ -71,10 +83,15 @@ pub fn create_indexes(
     let Some(asked) = array_field(&fields, "indexes") else {
         return Err(Failure::Refused(CommandError::Indexes));
     };
+    let asked = asked.as_slice();
+    if asked.is_empty() {
+        let answer = no_index(alloc)?;
+        return Ok(answer);
+    }
     let is_new = store.indexes(namespace).is_none();
     let mut indexes = indexes_in(alloc, store, namespace)?;
     let before = indexes.len();
-    add_indexes(alloc, asked.as_slice(), &mut indexes)?;
+    add_indexes(alloc, asked, &mut indexes)?;
     let answer = created_answer(alloc, before, indexes.len(), is_new)?;
     store.put_indexes(namespace, indexes)?;
     Ok(answer)

@@ -6,11 +6,12 @@ ghost use Rattle.bson_raw.specs.{document_bytes};
 ghost use Rattle.bson_doc.specs.{value_of, tree_of};
 ghost use Rattle.doc_query.specs.{inner, truth};
 ghost use Rattle.test_store.specs.Answers.{listing};
-ghost use Rattle.test_store.specs.Commands.{IsCarriedOut, list_answer, list_collections, listings};
+ghost use Rattle.test_store.specs.Commands.{IsCarriedOut, list_collections, list_reply, listings};
 ghost use Rattle.test_store.specs.Held.{collection_of, store_of};
 
-use crate::answer::{Batch, cursor_answer, set_text};
-use crate::fields::text_field;
+use crate::answer::set_text;
+use crate::commands::find::answer_found;
+use crate::fields::{flag_field, list_size, text_field};
 use crate::namespace::Namespace;
 use crate::store::{Collection, Store};
 use bson_doc::{Bson, Document};
@@ -27,21 +28,19 @@ fn info(alloc: Global) -> Result<Document, AllocError>
     Ok(info)
 }
 
-/// Makes the listing of the collection with this name.
-fn listing(alloc: Global, name: &str) -> Result<Document, AllocError>
-    ensures { IfOk result (λ d. inner d ≡ listing name.now) }
+/// Makes the listing of the collection with this name: with `name_only` its name and type alone.
+fn listing(alloc: Global, name: &str, name_only: bool) -> Result<Document, AllocError>
+    ensures { IfOk result (λ d. inner d ≡ listing name_only name.now) }
 {
-    let info = info(alloc)?;
     let mut listing = Document::new(alloc);
     set_text(alloc, &mut listing, "name", name)?;
     set_text(alloc, &mut listing, "type", "collection")?;
-    set(
-        alloc,
-        &mut listing,
-        "options",
-        Bson::Document(Document::new(alloc)),
-    )?;
-    set(alloc, &mut listing, "info", Bson::Document(info))?;
+    if !name_only {
+        let options = Document::new(alloc);
+        let info = info(alloc)?;
+        set(alloc, &mut listing, "options", Bson::Document(options))?;
+        set(alloc, &mut listing, "info", Bson::Document(info))?;
+    }
     Ok(listing)
 }
 
@@ -50,41 +49,47 @@ fn listings(
     alloc: Global,
     collections: &[Collection],
     database: &str,
+    name_only: bool,
 ) -> Result<Vec<Bson>, AllocError>
-    ensures { IfOk result
-        (λ vs. map value_of vs.items ≡ listings database.now (map collection_of collections.now)) }
+    ensures { IfOk result (λ vs. map value_of vs.items
+        ≡ listings name_only database.now (map collection_of collections.now)) }
 {
     let mut found = Vec::new(alloc);
     for collection in collections {
         if collection.namespace.database.as_str() == database {
-            let listing = listing(alloc, collection.namespace.collection.as_str())?;
+            let name = collection.namespace.collection.as_str();
+            let listing = listing(alloc, name, name_only)?;
             found.push(Bson::Document(listing))?;
         }
     }
     Ok(found)
 }
 
-/// Answers with the listings of the collections of a database that match a filter.
+/// Answers with the first listings of the collections of a database that match a filter, and opens
+/// a cursor over the others.
 fn answer_list(
     alloc: Global,
-    store: &Store,
+    store: &mut Store,
     database: &str,
+    name_only: bool,
     filter: &Document,
+    count: usize,
 ) -> Result<Document, AllocError>
-    ensures { IfOk result
-        (λ d. d ≡ list_answer (store_of store.now) database.now (tree_of filter.now)) }
+    ensures answered { IfOk result (λ d. list_reply (store_of store.old) database.now name_only
+        (tree_of filter.now) count ≡ record { answer = d; held = store_of store.new }) }
+    ensures steady { (store_of store.new).collections ≡ (store_of store.old).collections }
 {
-    let all = listings(alloc, &store.collections, database)?;
+    let all = listings(alloc, &store.collections, database, name_only)?;
     let found = matching(alloc, filter, &all)?;
     let namespace = Namespace {
         database,
         collection: "$cmd.listCollections",
     };
-    let text = namespace.to_text(alloc)?;
-    cursor_answer(alloc, Batch::First, found, 0, text)
+    answer_found(alloc, store, namespace, found, count, false)
 }
 
-/// Answers with the listings of the collections of a database that match a filter.
+/// Answers with the first listings of the collections of a database that match a filter, and opens
+/// a cursor over the others.
 pub fn list_collections(
     alloc: Global,
     store: &mut Store,
@@ -96,7 +101,9 @@ pub fn list_collections(
     ensures steady { (store_of store.new).collections ≡ (store_of store.old).collections }
 {
     let database = text_field(body, "$db", CommandError::Database)?;
+    let name_only = flag_field(body, "nameOnly", false, CommandError::NameOnly)?;
+    let count = list_size(body)?;
     let filter = filter_field(alloc, body, "filter")?;
-    let answer = answer_list(alloc, store, database, &filter)?;
+    let answer = answer_list(alloc, store, database, name_only, &filter, count)?;
     Ok(answer)
 }
