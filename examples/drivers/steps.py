@@ -83,6 +83,17 @@ def twice():
     raise ValueError("a second _id 1 was taken")
 
 
+def deletes():
+    try:
+        items.bulk_write([pymongo.DeleteOne({"_id": 5}), pymongo.DeleteMany({"$or": []}), pymongo.DeleteOne({"_id": 6})])
+    except pymongo.errors.BulkWriteError as error:
+        same([(one["index"], one["code"]) for one in error.details["writeErrors"]], [(1, 2)])
+        same(error.details["nRemoved"], 1)
+        same(items.count_documents({}), 998)
+        return
+    raise ValueError("$or of nothing was carried out")
+
+
 def dotted():
     items.update_one({"_id": 4}, {"$set": {"b.c": 1, "t.1": 2}, "$inc": {"b.n": 3}, "$unset": {"a": 1}})
     items.update_one({"_id": 4}, {"$set": {"t": [1, {"u": 2}, 3]}})
@@ -115,6 +126,8 @@ step("close_early", close_early)
 step("update", lambda: same(items.update_one({"_id": 2}, {"$set": {"a": -1}}).modified_count, 1))
 step("delete", lambda: same(items.delete_one({"_id": 3}).deleted_count, 1))
 step("count", lambda: same(items.count_documents({}), 999))
+step("deletes", deletes)
+step("names", lambda: same(client.shop.list_collection_names(filter={"name": sys.argv[2]}), [sys.argv[2]]))
 step("dotted", dotted)
 step("drop", items.drop)
 step("rest", lambda: time.sleep(11))

@@ -176,6 +176,12 @@ REFUSED = updates(
 DELETED = (STRING, string("d"))
 BATCHES_OF_1 = inner("cursor", field("batchSize", 1))
 
+
+def deletion(limit, *query):
+    """Returns a statement of delete."""
+    return document([inner("q", *query), field("limit", limit)])
+
+
 INDEX = document([element(DOCUMENT, "key", document([field("a", 1)])), element(STRING, "name", string("a_1"))])
 INDEXES = element(ARRAY, "indexes", document([element(DOCUMENT, "0", INDEX)]))
 
@@ -1202,6 +1208,72 @@ sequence "documents" 4
 answer
 document 24
   "n" int32 4
+  "ok" double 000000000000f03f
+""",
+    ),
+    (
+        command("delete", DELETED),
+        [sequence("deletes", [deletion(1, field("_id", 1)), deletion(0, array("$or")), deletion(1, field("_id", 2))])],
+        """\
+request "delete"
+document 33
+  "delete" string "d"
+  "$db" string "test"
+sequence "deletes" 3
+answer
+document 122
+  "n" int32 1
+  "writeErrors" array 85
+    "0" document 77
+      "index" int32 1
+      "code" int32 2
+      "errmsg" string "$and/$or/$nor must be a nonempty array"
+  "ok" double 000000000000f03f
+""",
+    ),
+    (
+        command("delete", DELETED, element(BOOLEAN, "ordered", b"\0")),
+        [sequence("deletes", [deletion(2), deletion(0, inner("_id", field("$gt", 3))), deletion(0, array("$or"))])],
+        """\
+request "delete"
+document 43
+  "delete" string "d"
+  "ordered" boolean false
+  "$db" string "test"
+sequence "deletes" 3
+answer
+document 228
+  "n" int32 1
+  "writeErrors" array 191
+    "0" document 103
+      "index" int32 0
+      "code" int32 9
+      "errmsg" string "a statement must have a filter 'q' and a 'limit' of 0 or 1 alone"
+    "1" document 77
+      "index" int32 2
+      "code" int32 2
+      "errmsg" string "$and/$or/$nor must be a nonempty array"
+  "ok" double 000000000000f03f
+""",
+    ),
+    (
+        command("find", DELETED),
+        (),
+        """\
+request "find"
+document 31
+  "find" string "d"
+  "$db" string "test"
+answer
+document 108
+  "cursor" document 83
+    "firstBatch" array 39
+      "0" document 14
+        "_id" int32 2
+      "1" document 14
+        "_id" int32 3
+    "id" int64 0
+    "ns" string "test.d"
   "ok" double 000000000000f03f
 """,
     ),

@@ -65,7 +65,7 @@ killed_pairs killed missing =
     (codes "cursorsKilled", array killed) ∷ (codes "cursorsNotFound", array missing)
     ∷ (codes "cursorsAlive", array []) ∷ (codes "cursorsUnknown", array []) ∷ ok_alone
 
--- the number of documents that a command counted, deleted or changed
+-- the number of documents that a command counted
 abbrev pub counted_pairs : ℕ → List (List ℕ × TreeValue)
 counted_pairs n = (codes "n", count_value n) ∷ ok_alone
 
@@ -74,9 +74,10 @@ abbrev pub errors_pairs : List TreeValue → List (List ℕ × TreeValue)
 errors_pairs [] = ok_alone
 errors_pairs (e ∷ es) = (codes "writeErrors", array (e ∷ es)) ∷ ok_alone
 
--- the answer to insert: how many documents were inserted, and the errors of others
-abbrev pub inserted_pairs : ℕ → List TreeValue → List (List ℕ × TreeValue)
-inserted_pairs n errors = (codes "n", count_value n) ∷ errors_pairs errors
+-- the answer to insert and to delete: how many documents were inserted or deleted, and the errors
+-- of other documents or of statements
+abbrev pub written_pairs : ℕ → List TreeValue → List (List ℕ × TreeValue)
+written_pairs n errors = (codes "n", count_value n) ∷ errors_pairs errors
 
 -- the fields with an array of these values at the name, unless there are none
 abbrev pub put_any : List ℕ → List TreeValue → List (List ℕ × TreeValue)

@@ -22,8 +22,8 @@ use Rattle.test_store.specs.Adding.{AddingView, gathered}
 use Rattle.test_store.specs.Answers.{build_pairs, counted_pairs, cursor_answer, dropped_pairs}
 use Rattle.test_store.specs.Answers.{created_pairs, database_listing, databases_pairs}
 use Rattle.test_store.specs.Answers.{dropped_database_pairs, error_pairs, hello_pairs}
-use Rattle.test_store.specs.Answers.{inserted_pairs, killed_pairs}
-use Rattle.test_store.specs.Answers.{listing, ok_alone, refusal_pairs, updated_pairs}
+use Rattle.test_store.specs.Answers.{killed_pairs}
+use Rattle.test_store.specs.Answers.{listing, ok_alone, refusal_pairs, updated_pairs, written_pairs}
 use Rattle.test_store.specs.Fields.{batch_size, first_size, flag_field, id_field, list_size}
 use Rattle.test_store.specs.Fields.{namespace_at, text_field}
 use Rattle.test_store.specs.Held.{CollectionView, CursorView, NamespaceView, StoreView, closed_at}
@@ -50,7 +50,7 @@ unchanged s pairs = Ok (record { answer = pairs; held = s })
 
 abbrev pub insert_reply : StoreView → NamespaceView → AddingView → Reply
 insert_reply s n a = record {
-  answer = inserted_pairs (length a.added) a.errors;
+  answer = written_pairs (length a.added) a.errors;
   held = record { collections = with_documents n a.added s.collections; cursors = s.cursors };
 }
 
@@ -143,20 +143,24 @@ count s t =
 
 -- ---- delete
 
--- this is left of the documents
-abbrev pub delete_reply : StoreView → NamespaceView → List TreeValue → Reply
-delete_reply s n left = record {
-  answer = counted_pairs (length (documents_in n s.collections) - length left);
+-- this is left of the documents, and these are the errors of statements
+abbrev pub delete_reply : StoreView → NamespaceView → List TreeValue → List TreeValue → Reply
+delete_reply s n left errors = record {
+  answer = written_pairs (length (documents_in n s.collections) - length left) errors;
   held = record { collections = with_replaced n left s.collections; cursors = s.cursors };
 }
+
+abbrev pub delete_by : StoreView → NamespaceView → Bool → List TreeValue → Reply
+delete_by s n ordered vs =
+    let d = after_deletes ordered vs (documents_in n s.collections) in
+    delete_reply s n d.documents d.errors
 
 -- the answer of delete and what is held after it, or its error
 abbrev pub delete : StoreView → Content → Result Reply CommandError
 delete s c =
     and_then (namespace_at (codes "delete") errors.Delete c.body) (λ n.
-    and_then (brought (codes "deletes") c) (λ vs.
-    and_then (after_deletes vs (documents_in n s.collections)) (λ left.
-    Ok (delete_reply s n left))))
+    and_then (flag_field (codes "ordered") true errors.Ordered c.body) (λ ordered.
+    and_then (brought (codes "deletes") c) (λ vs. Ok (delete_by s n ordered vs))))
 
 -- ---- update
 

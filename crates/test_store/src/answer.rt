@@ -1,10 +1,11 @@
 //! Makes the parts of answers.
 
-ghost use Rattle.std.specs.Prelude.{◌≡◌, ◌<◌, ◌^◌, IfOk, OnOk, codes, map, string_bytes};
+ghost use Rattle.std.specs.Prelude.{◌≡◌, ◌<◌, ◌^◌, ◌∷◌, IfOk, OnOk, codes, map, string_bytes};
 ghost use Rattle.bson_doc.specs.{value_of, put};
-ghost use Rattle.doc_query.specs.{text};
+ghost use Rattle.doc_query.specs.{array, count_value, text};
 ghost use Rattle.test_store.specs.Answers.{batch_name, counted_pairs, cursor_answer, cursor_pairs};
 ghost use Rattle.test_store.specs.Answers.{double_one, error_pairs, ok_alone, refusal_pairs};
+ghost use Rattle.test_store.specs.Answers.{written_pairs};
 
 use bson_doc::{Array, Bson, Document};
 use doc_query::{CommandError, count_value, set};
@@ -72,6 +73,37 @@ pub fn counted_answer(alloc: Global, count: usize) -> Result<Document, AllocErro
     set(alloc, &mut answer, "n", count_value(count))?;
     set_ok(alloc, &mut answer)?;
     Ok(answer)
+}
+
+/// Makes the answer with a number of documents in its field `n`, and these errors of others.
+fn failed_answer(alloc: Global, count: usize, errors: Vec<Bson>) -> Result<Document, AllocError>
+    requires { count < 2 ^ 63 }
+    ensures { IfOk result (λ d. d ≡ (codes "n", count_value count)
+        ∷ (codes "writeErrors", array (map value_of errors.items)) ∷ ok_alone) }
+{
+    let mut answer = Document::new(alloc);
+    set(alloc, &mut answer, "n", count_value(count))?;
+    let errors = Array::from_vec(errors);
+    set(alloc, &mut answer, "writeErrors", Bson::Array(errors))?;
+    set_ok(alloc, &mut answer)?;
+    Ok(answer)
+}
+
+/// Makes the answer that says how many documents a command wrote, and why others, or statements,
+/// weren't carried out.
+pub fn written_answer(
+    alloc: Global,
+    count: usize,
+    errors: Vec<Bson>,
+) -> Result<Document, AllocError>
+    requires { count < 2 ^ 63 }
+    ensures { IfOk result (λ d. d ≡ written_pairs count (map value_of errors.items)) }
+{
+    if errors.is_empty() {
+        counted_answer(alloc, count)
+    } else {
+        failed_answer(alloc, count, errors)
+    }
 }
 
 /// Makes the answer for an error.

@@ -5,8 +5,8 @@ ghost use Rattle.wire_msg.specs.{Carries, Content};
 ghost use Rattle.test_store.specs.Commands.{IsCarriedOut, delete};
 ghost use Rattle.test_store.specs.Held.{store_of};
 
-use crate::answer::counted_answer;
-use crate::fields::namespace_field;
+use crate::answer::written_answer;
+use crate::fields::{flag_field, namespace_field};
 use crate::inserted::brought_documents;
 use crate::store::Store;
 use bson_doc::Document;
@@ -24,12 +24,14 @@ pub fn delete(alloc: Global, store: &mut Store, payload: Payload<'_>) -> Result<
     ensures kept { OnErr result
         ((store_of store.new).collections ≡ (store_of store.old).collections) }
 {
-    let namespace = namespace_field(payload.body(), "delete", CommandError::Delete)?;
+    let body = payload.body();
+    let namespace = namespace_field(body, "delete", CommandError::Delete)?;
+    let is_ordered = flag_field(body, "ordered", true, CommandError::Ordered)?;
     let statements = brought_documents(alloc, payload, "deletes")?;
-    let documents = store.documents(namespace);
-    let left = after_deletes(alloc, statements.as_slice(), documents)?;
-    let count = documents.len().saturating_sub(left.len());
-    let answer = counted_answer(alloc, count)?;
-    store.put_documents(namespace, left)?;
+    let held = store.documents(namespace);
+    let deletes = after_deletes(alloc, is_ordered, statements.as_slice(), held)?;
+    let count = held.len().saturating_sub(deletes.documents.len());
+    let answer = written_answer(alloc, count, deletes.errors)?;
+    store.put_documents(namespace, deletes.documents)?;
     Ok(answer)
 }
