@@ -21,6 +21,7 @@ mod frame;
 mod iso;
 pub mod laws;
 mod members;
+mod misfit;
 mod nodes;
 mod number;
 mod owned;

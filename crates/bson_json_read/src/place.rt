@@ -4,6 +4,7 @@ ghost use Rattle.std.specs.Prelude.{◌≡◌, ◌≤◌, IfOk, length, take};
 ghost use Rattle.bson_json_read.specs.Places.{StandsIn, place_behind};
 
 use crate::fault::{Cause, JsonFault};
+use crate::misfit::misfit;
 use crate::text::JSON_DEPTH;
 use json::{Reader, Scratch, Token};
 use std::alloc::{AllocError, Global};
@@ -71,12 +72,9 @@ fn follow(reader: &mut Reader<'_>, path: &[usize], at_name: bool) {
     }
 }
 
-/// Passes over what stands before a fault.
+/// Passes over what stands before a fault of a text that is JSON.
 fn pass_to(reader: &mut Reader<'_>, fault: &JsonFault) {
     match fault.cause {
-        Cause::NotJson => {
-            let _passed = reader.skip_value(JSON_DEPTH);
-        }
         Cause::RepeatedName | Cause::ZeroInName => follow(reader, &fault.path, true),
         _ => follow(reader, &fault.path, false),
     }
@@ -89,13 +87,16 @@ impl JsonFault {
     {
         let mut scratch = Scratch::new(alloc);
         let mut reader = Reader::new(text, &mut scratch)?;
+        if self.cause == Cause::NotJson {
+            return misfit(alloc, text.as_bytes(), &mut reader);
+        }
         pass_to(&mut reader, self);
         Ok(reader.offset().min(text.len()))
     }
 
     /// Returns where in `text` the fault is, which is one of reading this text: at the value at
-    /// fault, or at its name if that is at fault. Where the text is no JSON, it is the place from
-    /// which on it isn't.
+    /// fault, or at its name if that is at fault. Where the text is no JSON, it is the place of the
+    /// first token that doesn't fit, or behind the text where that ends too early.
     ///
     /// # Errors
     ///

@@ -28,6 +28,8 @@ use std::marker::Model;
 #[derive(Clone, Copy, Debug, PartialEq, Eq)]
 pub struct TextFault {
     pub cause: Cause,
+    /// The place that `JsonFault::place` tells of a text. Of one that isn't UTF-8 it is the first byte
+    /// from which on it isn't, and where memory was refused the beginning of the text.
     pub place: Place,
 }
 

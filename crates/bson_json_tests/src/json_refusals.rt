@@ -13,6 +13,9 @@ const TEXT: &str =
 /// A text that has a name twice, with an escape.
 const REPEATED: &str = "{\"a\":\n[{\"b\":\"c\",\"\\u0062\":1}]}";
 
+/// A text that is no JSON, since its array ends with a brace.
+const MISFIT: &str = "{\"a\":\n[{}, {\"b\":[1}]}";
+
 /// Two texts. The second one has a name twice.
 const SEVERAL: &str = "{\"a\":[{\"b\":\"c\"}]} {\"a\":1,\"a\":2}";
 
@@ -36,15 +39,15 @@ fn reads(alloc: Global) -> Result<bool, Cause> {
     }
 }
 
-/// Returns the fault of the text that has a name twice.
-fn fault(alloc: Global) -> Result<JsonFault, Cause> {
-    match from_json(alloc, REPEATED) {
-        Ok(_document) => Err(Cause::NotJson),
+/// Returns the fault of a text, unless memory is refused.
+fn fault(alloc: Global, text: &str) -> Result<JsonFault, Cause> {
+    match from_json(alloc, text) {
+        Ok(_document) => Err(Cause::NotAnObject),
         Err(fault) => {
-            if fault.cause == Cause::RepeatedName {
-                Ok(fault)
-            } else {
+            if fault.cause == Cause::OutOfMemory {
                 Err(fault.cause)
+            } else {
+                Ok(fault)
             }
         }
     }
@@ -52,19 +55,13 @@ fn fault(alloc: Global) -> Result<JsonFault, Cause> {
 
 /// Returns whether the repeated name is told.
 fn tells(alloc: Global) -> Result<bool, Cause> {
-    Ok(fault(alloc)?.path.as_slice() == [1, 0, 0].as_slice())
+    Ok(fault(alloc, REPEATED)?.path.as_slice() == [1, 0, 0].as_slice())
 }
 
-/// Returns whether the place of the repeated name is told.
-fn places(alloc: Global, fault: &JsonFault) -> Result<bool, Cause> {
-    match fault.place(alloc, REPEATED) {
-        Ok(place) => Ok(
-            place
-                == Place {
-                    line: 2,
-                    column: 11,
-                },
-        ),
+/// Returns whether the text's fault is told in its second line, at this column.
+fn places(alloc: Global, text: &str, fault: &JsonFault, column: usize) -> Result<bool, Cause> {
+    match fault.place(alloc, text) {
+        Ok(place) => Ok(place == Place { line: 2, column }),
         Err(_) => Err(Cause::OutOfMemory),
     }
 }
@@ -144,12 +141,15 @@ fn a_text_is_read_again(rt: HostRuntime) {
 #[test]
 fn a_place_is_found_again(rt: HostRuntime) {
     let alloc = rt.alloc();
-    let found = match fault(alloc) {
-        Ok(fault) => Ok(fault),
-        Err(_) => fault(alloc),
-    };
-    let Ok(fault) = found else {
-        return assert!(rt; false);
-    };
-    assert!(rt; comes_right(places(alloc, &fault), places(alloc, &fault)));
+    for (text, column) in [(REPEATED, 11), (MISFIT, 13)] {
+        let found = match fault(alloc, text) {
+            Ok(fault) => Ok(fault),
+            Err(_) => fault(alloc, text),
+        };
+        let Ok(fault) = found else {
+            return assert!(rt; false);
+        };
+        let first = places(alloc, text, &fault, column);
+        assert!(rt; comes_right(first, places(alloc, text, &fault, column)));
+    }
 }

@@ -16,6 +16,8 @@ mod json_refusals;
 #[cfg(test)]
 mod lossy;
 #[cfg(test)]
+mod places;
+#[cfg(test)]
 mod reading;
 #[cfg(test)]
 mod several;

@@ -2,7 +2,7 @@
 
 use crate::examples::{BINARIES, CONTAINERS, DATES, DECIMALS, DOUBLES, INTEGERS, OTHERS, TEXTS};
 use bson_json::{Mode, write_json};
-use bson_json_read::{Cause, Form, JsonTexts, NextBytes, Place, from_json};
+use bson_json_read::{Cause, Form, JsonTexts, NextBytes, from_json};
 use bson_raw::RawDocument;
 use bson_raw_tests::hex_bytes::read_digits;
 use std::alloc::Global;
@@ -308,32 +308,4 @@ fn documents_stand_200_deep(rt: HostRuntime) {
         return assert!(rt; false);
     };
     assert!(rt; is_refused(alloc, &deeper, Cause::Depth, &[0; 200]));
-}
-
-/// Returns true if the text's fault is at this line and this column.
-fn is_at(alloc: Global, text: &str, line: usize, column: usize) -> bool {
-    match from_json(alloc, text) {
-        Ok(_) => false,
-        Err(fault) => fault.place(alloc, text) == Ok(Place { line, column }),
-    }
-}
-
-#[test]
-fn faults_tell_their_place(rt: HostRuntime) {
-    let alloc = rt.alloc();
-    assert!(rt; is_at(alloc, "{\"a\":1,\n \"é\": 2, \"a\":3}", 2, 10));
-    assert!(rt; is_at(alloc, "{\"a\": [1,\n\n  {\"b\": {\"$oid\": 5}}]}", 3, 9));
-    assert!(rt; is_at(alloc, "\n[]", 2, 1));
-    assert!(rt; is_at(alloc, "{\"a\":\n  tru}", 2, 3));
-    assert!(rt; is_at(alloc, "{} \n {}", 2, 2));
-    assert!(rt; is_at(alloc, "{\"a\":1,\n}", 2, 1));
-    assert!(rt;
-        is_at(
-            alloc,
-            "{\"s\":{\"$code\":\"\",\n\"$scope\":{\"a\":1,\n\"a\":2}}}",
-            3,
-            1
-        )
-    );
-    assert!(rt; is_at(alloc, "{\"d\":1, \"e\": [0, 1e999]}", 1, 18));
 }
