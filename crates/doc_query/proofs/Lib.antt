@@ -4,6 +4,8 @@ pub mod Shown
 pub mod Naming
 pub mod PathLaws
 pub mod Depths
+pub mod EqualValues
+pub mod HeldDecimals
 pub mod Keeping
 pub mod StableSorts
 pub mod SortOrders

@@ -9,10 +9,11 @@ use Rattle.std.specs.declared.cmp.Ordering.{Ordering}
 use Rattle.bson_elem.specs.declared.kinds.Kind.TheVariants as kinds
 use Rattle.bson_elem.specs.{Tree, boolean_value, inner_pair, leaf_pair, no_pairs, raw_value}
 use Rattle.bson_raw.specs.{TreeValue, document_value, leaf_value}
-use Rattle.bson_doc.specs.{coded_value, same}
 use Rattle.doc_query.specs.declared.conditions.Operator.{Operator}
 use Rattle.doc_query.specs.declared.conditions.Operator.TheVariants as operators
 use Rattle.doc_query.specs.Comparing.{PlaceView, place, place_order}
+use Rattle.doc_query.specs.Decimals.{holds_decimal}
+use Rattle.doc_query.specs.Equality.{equal}
 use Rattle.doc_query.specs.Owned.{values_in}
 
 -- the operator with this name
@@ -31,11 +32,10 @@ operator_of name =
 -- ---- operands
 
 -- A value may be equal to others. A regex asks for a match in its place, and a decimal128 isn't
--- compared.
+-- compared, at any depth.
 abbrev pub is_equated : TreeValue → Bool
-is_equated (leaf_value kinds.Decimal128 v) = false
 is_equated (leaf_value kinds.Regex v) = false
-is_equated _ = true
+is_equated v = not (holds_decimal v)
 
 abbrev pub are_equated : List TreeValue → Bool
 are_equated [] = true
@@ -78,10 +78,10 @@ accepts operators.Lt o = is_lt o
 accepts operators.Lte o = is_le o
 accepts _ o = is_eq o
 
--- Values are compared in one bracket alone. Those without a place are equal if they are the same.
+-- Values are compared in one bracket alone. Those without a place may be equal.
 abbrev pub passes_at : Operator → TreeValue → TreeValue → Option PlaceView → Option PlaceView → Bool
 passes_at op own v (Some p) (Some q) = (p.bracket == q.bracket) && accepts op (place_order p q)
-passes_at op own v None None = same coded_value own v
+passes_at op own v None None = equal own v
 passes_at op own v _ _ = false
 
 abbrev pub passes : Operator → TreeValue → TreeValue → Bool

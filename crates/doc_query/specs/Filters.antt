@@ -1,6 +1,6 @@
 -- The filters of find: which ones are accepted, and which documents match them.
 use Rattle.std.specs.Prelude.{ℕ, List, [], ◌∷◌, Bool, true, false, not, ◌&&◌, ◌||◌, ◌==◌}
-use Rattle.std.specs.Prelude.{Option, Some, None, Result, Ok, Err, codes, if◌then◌else◌}
+use Rattle.std.specs.Prelude.{Option, Some, None, Result, Ok, Err, codes, is_some, if◌then◌else◌}
 use Rattle.std.specs.List.{list_any}
 use Rattle.std.specs.Option.{option_or}
 use Rattle.std.specs.Str.{bytes_eq}
@@ -15,11 +15,12 @@ use Rattle.doc_query.specs.declared.logical.Logical.{Logical}
 use Rattle.doc_query.specs.declared.logical.Logical.TheVariants as logicals
 use Rattle.doc_query.specs.declared.logical.Purpose.{Purpose}
 use Rattle.doc_query.specs.declared.logical.Purpose.TheVariants as purposes
-use Rattle.doc_query.specs.Conditions.{are_conditions, finds, is_equated, meets_all}
+use Rattle.doc_query.specs.Conditions.{are_conditions, elements, finds, is_equated, meets_all}
 use Rattle.doc_query.specs.Errors.{and_then, or_error}
-use Rattle.doc_query.specs.Criteria.{is_decimal}
+use Rattle.doc_query.specs.Criteria.{has_decimal}
 use Rattle.doc_query.specs.Owned.{owned}
 use Rattle.doc_query.specs.Paths.{Reached, values_at}
+use Rattle.doc_query.specs.Values.{text_of}
 
 -- ---- which filters are accepted
 
@@ -41,15 +42,40 @@ begins_with_operator (inner_pair n k b inner ps) = is_operator n
 -- a field may be asked for this: a value that it equals, or operators that are carried out
 abbrev pub is_asked : TreeValue → Bool
 is_asked (document_value kinds.Document b t) =
-    if begins_with_operator t then are_conditions t else true
+    if begins_with_operator t then are_conditions t
+    else is_equated (document_value kinds.Document b t)
 is_asked v = is_equated v
 
 -- a field of a filter isn't carried out: an operator of filters, or what it may not be asked for
 abbrev pub is_refused_field : List ℕ → TreeValue → Bool
 is_refused_field n v = is_operator n || not (is_asked v)
 
+-- a database reference, which is a value (MongoDB manual, Database References)
+abbrev pub is_reference : Tree → Bool
+is_reference t =
+    is_some (text_of (first_named (codes "$ref") t)) && is_some (first_named (codes "$id") t)
+
+-- a value in a list is a document of operators
+abbrev pub is_nested : TreeValue → Bool
+is_nested (document_value kinds.Document b t) = begins_with_operator t && not (is_reference t)
+is_nested v = false
+
+abbrev pub lists_operator : Option TreeValue → Bool
+lists_operator None = false
+lists_operator (Some list) = list_any is_nested (elements list)
+
+-- a field is asked for $in or $nin with a list that has an operator
+abbrev pub nests_operator : TreeValue → Bool
+nests_operator (document_value kinds.Document b t) =
+    begins_with_operator t
+    && (lists_operator (first_named (codes "$in") t)
+    || lists_operator (first_named (codes "$nin") t))
+nests_operator v = false
+
 abbrev pub field_fault : List ℕ → TreeValue → Option CommandError
-field_fault n v = if is_refused_field n v then Some errors.Operator else None
+field_fault n v =
+    if is_refused_field n v then Some errors.Operator else
+    if nests_operator v then Some errors.NestedOperator else None
 
 -- the logical operator with this name
 abbrev pub logical_of : List ℕ → Option Logical
@@ -156,9 +182,9 @@ has_value owns (document_value kinds.Document b t) =
     else finds operators.Eq owns (document_value kinds.Document b t)
 has_value owns v = finds operators.Eq owns v
 
--- a filter doesn't compare a decimal128
+-- a filter doesn't compare a decimal128, at any depth
 abbrev pub is_uncompared : Reached → Bool
-is_uncompared owns = list_any is_decimal owns
+is_uncompared owns = list_any has_decimal owns
 
 -- what is asked of the values of a field: that they are as the filter says, or that it compares
 -- them

@@ -8,7 +8,8 @@ ghost use Rattle.doc_query.specs.Conditions.{is_equated, is_list, is_named_opera
 ghost use Rattle.doc_query.specs.Conditions.{is_ranked, is_truth, operator_of, passes};
 
 use crate::comparing::{place_of, place_order};
-use crate::owned::is_same;
+use crate::decimals::holds_decimal;
+use crate::equality::is_equal;
 use bson_doc::{Bson, Document};
 use std::cmp::Ordering;
 
@@ -49,8 +50,8 @@ pub fn is_equated(value: &Bson) -> bool
     ensures { result ≡ is_equated (value_of value.now) }
 {
     match value {
-        Bson::Decimal128(_) | Bson::Regex { .. } => false,
-        _ => true,
+        Bson::Regex { .. } => false,
+        _ => !holds_decimal(value),
     }
 }
 
@@ -128,7 +129,7 @@ pub fn passes(operator: Operator, own: &Bson, operand: &Bson) -> bool
 {
     match (place_of(own), place_of(operand)) {
         (Some(a), Some(b)) => a.bracket == b.bracket && accepts(operator, place_order(a, b)),
-        (None, None) => is_same(own, operand),
+        (None, None) => is_equal(own, operand),
         _ => false,
     }
 }

@@ -2,9 +2,10 @@
 
 ghost use Rattle.std.specs.Prelude.{◌≡◌, option_map};
 ghost use Rattle.bson_doc.specs.{value_of};
-ghost use Rattle.doc_query.specs.Criteria.{fits, is_decimal};
+ghost use Rattle.doc_query.specs.Criteria.{fits, has_decimal};
 
 use crate::conditions::{Operator, passes};
+use crate::decimals::holds_decimal;
 use bson_doc::Bson;
 
 /// What is asked of a value.
@@ -14,17 +15,17 @@ pub enum Criterion<'a> {
     Passes(Operator, &'a Bson),
     /// That it isn't missing.
     IsThere,
-    /// That it is a decimal128, which isn't compared.
-    IsDecimal,
+    /// That it is a decimal128, or holds one at any depth, so that it isn't compared.
+    HasDecimal,
 }
 
-/// Returns true if a value is a decimal128.
-fn is_decimal(own: Option<&Bson>) -> bool
-    ensures { result ≡ is_decimal (option_map (λ v. value_of v.now) own.entry) }
+/// Returns true if a value is there, and is or holds a decimal128.
+fn has_decimal(own: Option<&Bson>) -> bool
+    ensures { result ≡ has_decimal (option_map (λ v. value_of v.now) own.entry) }
 {
     match own {
-        Some(Bson::Decimal128(_)) => true,
-        _ => false,
+        Some(value) => holds_decimal(value),
+        None => false,
     }
 }
 
@@ -37,6 +38,6 @@ pub fn fits(criterion: Criterion<'_>, own: Option<&Bson>) -> bool
             passes(operator, own.unwrap_or(&Bson::Null), operand)
         }
         Criterion::IsThere => own.is_some(),
-        Criterion::IsDecimal => is_decimal(own),
+        Criterion::HasDecimal => has_decimal(own),
     }
 }

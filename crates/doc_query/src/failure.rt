@@ -75,6 +75,8 @@ pub enum CommandError {
     Overflow,
     /// An update would change an `_id`.
     ImmutableId,
+    /// An update would insert a document with an `_id` that no document may have.
+    InvalidId,
     /// The field `killCursors` isn't a string.
     KillCursors,
     /// The field `cursors` isn't an array.
@@ -97,6 +99,8 @@ pub enum CommandError {
     NoClauses,
     /// `$and` or `$or` of a filter joins something else than documents.
     Clause,
+    /// The list of `$in` or `$nin` has a document of operators.
+    NestedOperator,
     /// The filter would compare a decimal128.
     Decimal,
     /// The field `sort` isn't a document, or a name is repeated in it.
@@ -167,8 +171,10 @@ impl CommandError {
             CommandError::AndArray
             | CommandError::OrArray
             | CommandError::NoClauses
-            | CommandError::Clause => 2,
+            | CommandError::Clause
+            | CommandError::NestedOperator => 2,
             CommandError::ImmutableId => 66,
+            CommandError::InvalidId => 53,
             CommandError::Duplicate => 11000,
             CommandError::Index => 67,
             CommandError::IndexName => 86,
@@ -197,8 +203,10 @@ impl CommandError {
             CommandError::AndArray
             | CommandError::OrArray
             | CommandError::NoClauses
-            | CommandError::Clause => "BadValue",
+            | CommandError::Clause
+            | CommandError::NestedOperator => "BadValue",
             CommandError::ImmutableId => "ImmutableField",
+            CommandError::InvalidId => "InvalidIdField",
             CommandError::Duplicate => "DuplicateKey",
             CommandError::Index => "CannotCreateIndex",
             CommandError::IndexName => "IndexKeySpecsConflict",
@@ -252,6 +260,9 @@ impl CommandError {
             CommandError::Backfill => "can't backfill more than 1500000 elements",
             CommandError::Increment => "$inc must add an int32, an int64 or a double to one",
             CommandError::Overflow => "the sum that $inc makes must be an int64",
+            CommandError::InvalidId => {
+                "The '_id' value cannot be of type array, regex or undefined"
+            }
             CommandError::ImmutableId => "an update must not change the immutable field '_id'",
             CommandError::Documents => {
                 "the command must bring from 1 to 100000 documents, with no name twice in one"
@@ -263,6 +274,7 @@ impl CommandError {
             CommandError::OrArray => "$or must be an array",
             CommandError::NoClauses => "$and/$or/$nor must be a nonempty array",
             CommandError::Clause => "$or/$and/$nor entries need to be full objects",
+            CommandError::NestedOperator => "cannot nest $ under $in",
             CommandError::Decimal => "a filter must compare no decimal128",
             CommandError::Sort => "the field 'sort' must be a document with no name twice",
             CommandError::Direction => {

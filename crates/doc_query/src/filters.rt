@@ -3,8 +3,9 @@
 
 ghost use Rattle.std.specs.Prelude.{◌≡◌, Err, IfErr, IfOk, MatchOption, None, Ok, OnOk, Option};
 ghost use Rattle.std.specs.Prelude.{map};
+ghost use Rattle.std.specs.List.{list_any};
 ghost use Rattle.bson_elem.specs.{Spells, Tree};
-ghost use Rattle.bson_raw.specs.{ShowsFound, TreeValue, document_bytes};
+ghost use Rattle.bson_raw.specs.{ShowsFound, TreeValue, document_bytes, first_named};
 ghost use Rattle.bson_doc.specs.{array_tree, tree_of, value_of};
 ghost use Rattle.doc_query.specs.Errors.{IsFailure};
 ghost use Rattle.doc_query.specs.Filters.{array_fault, begins_with_operator, clause_fault};
@@ -12,15 +13,17 @@ ghost use Rattle.doc_query.specs.Filters.{compared, compares, compares_all, fiel
 ghost use Rattle.doc_query.specs.Filters.{filter_fault, filter_field, filter_in, filter_of, found};
 ghost use Rattle.doc_query.specs.Filters.{found_in, has_clause, has_clauses, has_field, has_fields};
 ghost use Rattle.doc_query.specs.Filters.{has_pair, has_value, is_asked, is_operator, is_path};
-ghost use Rattle.doc_query.specs.Filters.{is_refused_field, is_uncompared, matches, read_filter};
-ghost use Rattle.doc_query.specs.Filters.{value_fault};
+ghost use Rattle.doc_query.specs.Filters.{is_nested, is_reference, is_refused_field};
+ghost use Rattle.doc_query.specs.Filters.{is_uncompared, lists_operator, matches, nests_operator};
+ghost use Rattle.doc_query.specs.Filters.{read_filter, value_fault};
 ghost use Rattle.doc_query.specs.Paths.{own_values};
 
-use crate::conditions::{Operator, are_conditions, is_equated};
+use crate::conditions::{Operator, are_conditions, elements, is_equated};
 use crate::criteria::Criterion;
 use crate::failure::{CommandError, Failure};
 use crate::logical::{Logical, Purpose, joined_none, joining, logical_of, no_array};
 use crate::meeting::{finds, meets_all};
+use crate::owned::field;
 use crate::paths::OwnValues;
 use bson_doc::{Bson, DocRefusal, Document};
 use bson_raw::{RawBson, RawDocument};
@@ -57,7 +60,7 @@ fn is_asked(value: &Bson) -> bool
     ensures { result ≡ is_asked (value_of value.now) }
 {
     match value {
-        Bson::Document(document) => !begins_with_operator(document) || are_conditions(document),
+        Bson::Document(document) if begins_with_operator(document) => are_conditions(document),
         _ => is_equated(value),
     }
 }
@@ -69,12 +72,69 @@ fn is_refused_field(name: &str, value: &Bson) -> bool
     is_operator(name) || !is_asked(value)
 }
 
+/// Returns true if a document is a database reference, which is a value.
+fn is_reference(document: &Document) -> bool
+    ensures { result ≡ is_reference (tree_of document.now) }
+{
+    match field(document, "$ref") {
+        Some(Bson::String(_)) => field(document, "$id").is_some(),
+        _ => false,
+    }
+}
+
+/// Returns true if a value in a list is a document of operators.
+fn is_nested(value: &Bson) -> bool
+    ensures { result ≡ is_nested (value_of value.now) }
+{
+    match value {
+        Bson::Document(document) => begins_with_operator(document) && !is_reference(document),
+        _ => false,
+    }
+}
+
+/// Returns true if one of these values is a document of operators.
+fn any_nested(values: &[Bson]) -> bool
+    ensures { result ≡ list_any is_nested (map value_of values.now) }
+{
+    for value in values {
+        if is_nested(value) {
+            return true;
+        }
+    }
+    false
+}
+
+/// Returns true if the operator with this name has a list with an operator.
+fn lists_operator(conditions: &Document, name: &str) -> bool
+    ensures { result ≡ lists_operator (first_named name.now (tree_of conditions.now)) }
+{
+    match field(conditions, name) {
+        Some(list) => any_nested(elements(list)),
+        None => false,
+    }
+}
+
+/// Returns true if a field is asked for `$in` or `$nin` with a list that has an operator.
+fn nests_operator(value: &Bson) -> bool
+    ensures { result ≡ nests_operator (value_of value.now) }
+{
+    match value {
+        Bson::Document(conditions) => {
+            begins_with_operator(conditions)
+                && (lists_operator(conditions, "$in") || lists_operator(conditions, "$nin"))
+        }
+        _ => false,
+    }
+}
+
 /// Returns why a field isn't carried out that is no logical operator.
 fn field_fault(name: &str, value: &Bson) -> Option<CommandError>
     ensures { result ≡ field_fault name.now (value_of value.now) }
 {
     if is_refused_field(name, value) {
         Some(CommandError::Operator)
+    } else if nests_operator(value) {
+        Some(CommandError::NestedOperator)
     } else {
         None
     }
@@ -221,7 +281,7 @@ fn has_value(own: OwnValues<'_>, value: &Bson) -> bool
 fn is_uncompared(own: OwnValues<'_>) -> bool
     ensures { result ≡ is_uncompared (own_values own.entry) }
 {
-    own.any(Criterion::IsDecimal)
+    own.any(Criterion::HasDecimal)
 }
 
 /// Returns true if the values of a field are as is asked.

@@ -4,16 +4,18 @@
 //! their fields are kept, and each stage of a pipeline makes documents of those that the stage
 //! before left. What is carried out of MongoDB's own query language is a stated part of it, and all
 //! else is refused by a `CommandError`. Values are compared by their place in a stated order, and
-//! numbers of all kinds by value, exactly.
+//! numbers of all kinds by value, exactly, also inside documents and arrays.
 //!
-//! Stands on bson_doc. doc_update and test_store stand on it. Read first: `comparing`, `conditions`,
-//! `paths` and `filters`, and then `sorting`, `projection` and `pipeline`.
+//! Stands on bson_doc. doc_update and test_store stand on it. Read first: `comparing`, `equality`,
+//! `conditions`, `paths` and `filters`, and then `sorting`, `projection` and `pipeline`.
 #![tactic(auto)]
 
 mod batches;
 mod comparing;
 mod conditions;
 mod criteria;
+mod decimals;
+mod equality;
 mod failure;
 mod filters;
 mod logical;
@@ -27,6 +29,7 @@ mod projection;
 mod sorting;
 
 pub use batches::{copies, take_batch};
+pub use equality::is_equal;
 pub use failure::{CommandError, Failure};
 pub use filters::{
     applicable, begins_with_operator, compared, filter_field, found_in, is_match, is_operator,

@@ -1,8 +1,11 @@
-//! Tests of what no contract of updates says: how long one of many paths takes. They are in a crate
-//! of their own, since a crate is proved once more with its tests.
+//! Tests of what no contract of queries and updates says: how long one of many paths takes, and that
+//! the definitions are MongoDB's. They are in a crate of their own, since a crate is proved once more
+//! with its tests.
 //!
-//! Uses doc_update. Read first: `many_paths`.
+//! Uses doc_query and doc_update. Read first: `equality`, and then `many_paths`.
 #![tactic(auto)]
 
+#[cfg(test)]
+mod equality;
 #[cfg(test)]
 mod many_paths;
