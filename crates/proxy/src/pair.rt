@@ -129,17 +129,21 @@ impl Pair {
         }
     }
 
-    /// Gives the message that `link` holds to the sink: one that doesn't go on whole.
+    /// Gives the message that `link` holds to the sink, if only its first `count` bytes go on. One
+    /// that goes on whole is found as it passes.
     fn show<R: Files + Clock, W: Write>(
         &self,
         link: &HeldLink<Socket>,
         direction: Direction,
+        count: u64,
         sink: &mut Sink<'_, R>,
         out: &mut W,
     ) -> io::Result<()> {
         match link.message() {
-            Some(frame) => sink.put(self.number, direction, frame, out),
-            None => Ok(()),
+            Some(frame) if count < frame.as_bytes().len() as u64 => {
+                sink.put(self.number, direction, frame, out)
+            }
+            _ => Ok(()),
         }
     }
 
@@ -172,11 +176,11 @@ impl Pair {
         match self.take_mark(to) {
             Flow::Whole | Flow::Held(_) => self.relay.far_mut().pass(),
             Flow::Cut(count) => {
-                self.show(self.relay.far(), Direction::Back, sink, out)?;
+                self.show(self.relay.far(), Direction::Back, count, sink, out)?;
                 self.relay.far_mut().cut(count);
             }
             Flow::Dropped => {
-                self.show(self.relay.far(), Direction::Back, sink, out)?;
+                self.show(self.relay.far(), Direction::Back, 0, sink, out)?;
                 writeln!(out, "{} drop {size} to {to}", self.number)?;
                 self.relay.far_mut().skip();
             }
@@ -209,16 +213,16 @@ impl Pair {
                 Ok(Some(Outcome::Held(millis)))
             }
             Fate::HangUp => {
-                self.show(self.relay.near(), Direction::There, sink, out)?;
+                self.show(self.relay.near(), Direction::There, 0, sink, out)?;
                 Ok(Some(Outcome::Over(Ending::HungUp(id))))
             }
             Fate::CutUp(count) => {
-                self.show(self.relay.near(), Direction::There, sink, out)?;
+                self.show(self.relay.near(), Direction::There, count, sink, out)?;
                 self.relay.near_mut().cut(count);
                 Ok(None)
             }
             Fate::Reply(bytes) => {
-                self.show(self.relay.near(), Direction::There, sink, out)?;
+                self.show(self.relay.near(), Direction::There, 0, sink, out)?;
                 writeln!(out, "{number} reply to {id}")?;
                 self.relay.near_mut().skip();
                 self.relay.far_mut().put(&bytes)?;
