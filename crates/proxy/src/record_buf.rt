@@ -1,7 +1,7 @@
 //! The records that wait to be written to their file, and how many more bytes that may have.
 
 ghost use Rattle.std.specs.Prelude.{◌≡◌, ◌+◌, ◌++◌, ◌<◌, ◌≤◌, [], IfOk, IfSome, MatchBool, OnErr};
-ghost use Rattle.std.specs.Prelude.{None, Some, false, length, true};
+ghost use Rattle.std.specs.Prelude.{IsSomeAnd, None, Some, false, length, true};
 ghost use Rattle.wire_frame.specs.{frame_bytes};
 ghost use Rattle.wire_record.specs.{IsConnection, record_of, signature};
 
@@ -14,7 +14,8 @@ const LAST: u64 = i64::MAX as u64;
 
 /// Returns the number by which a record has a connection: its own, if a record can have that.
 pub fn recorded_number(number: u64) -> u64
-    ensures { IsConnection result }
+    ensures in_range { IsConnection result }
+    ensures own { IsConnection number → result ≡ number }
 {
     if number < 1 {
         1
@@ -41,7 +42,7 @@ impl RecordBuf {
     /// Returns `AllocError` if memory runs out.
     pub fn begin(alloc: Global, limit: u64) -> Result<RecordBuf, AllocError>
         ensures signed { 8 ≤ limit → IfOk result (λ b. (b.bytes.items ≡ signature)
-            × IfSome b.left (λ left. left + 8 ≡ limit)) }
+            × IsSomeAnd b.left (λ left. left + 8 ≡ limit)) }
         ensures small { limit < 8 → IfOk result (λ b. (b.bytes.items ≡ []) × (b.left ≡ Some 0)) }
     {
         let mut bytes = Vec::new(alloc);
@@ -72,7 +73,7 @@ impl RecordBuf {
             ≡ self.old.bytes.items ++ record_of head (frame_bytes frame.entry))
             ((self.new.bytes.items ≡ self.old.bytes.items) × (self.new.left ≡ None))) }
         ensures room { IfOk result (λ fits. fits ≡ true → IfSome self.old.left (λ before.
-            IfSome self.new.left (λ after.
+            IsSomeAnd self.new.left (λ after.
             after + length (record_of head (frame_bytes frame.entry)) ≡ before))) }
         ensures full { self.old.left ≡ None → IfOk result (λ fits. fits ≡ false) }
         ensures short { IfOk result (λ fits. fits ≡ false → IfSome self.old.left (λ before.
