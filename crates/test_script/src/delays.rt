@@ -1,5 +1,10 @@
 //! The connections of which a message is held, each until a moment.
 
+ghost use Rattle.std.specs.Prelude.{◌≡◌, ◌++◌, ◌∷◌, [], IfOk, MatchOption, OnErr, OnOk};
+ghost use Rattle.std.specs.Prelude.{IsSome, is_some, true};
+ghost use Rattle.test_script.specs.Delaying.{IsHeldFor, IsTaken, index_of, without};
+ghost use Rattle.test_script.specs.declared.delays.Delay.{Delay};
+
 use std::alloc::Global;
 use std::io;
 use std::time::{Clock, Duration, Instant};
@@ -15,7 +20,9 @@ struct Delay {
 
 impl Delay {
     /// Returns true if the message is let go at this moment.
-    fn is_due(self, now: Instant) -> bool {
+    fn is_due(self, now: Instant) -> bool
+        ensures { result ≡ true → IsSome self.due }
+    {
         match self.due {
             Some(due) => due <= now,
             None => false,
@@ -31,15 +38,26 @@ pub struct Delays {
 
 impl Delays {
     /// Makes an empty list. It takes no memory.
-    pub fn new(alloc: Global) -> Delays {
+    pub fn new(alloc: Global) -> Delays
+        ensures { result.list.items ≡ [] }
+    {
         Delays {
             list: Vec::new(alloc),
         }
     }
 
+    /// Returns the index of this connection, if a message of it is held.
+    fn index(&self, key: usize) -> Option<usize>
+        ensures { result ≡ index_of key self.now.list.items }
+    {
+        self.list.iter().position(|delay| delay.key == key)
+    }
+
     /// Returns true if a message of this connection is held.
-    pub fn holds(&self, key: usize) -> bool {
-        self.list.iter().any(|delay| delay.key == key)
+    pub fn holds(&self, key: usize) -> bool
+        ensures { result ≡ is_some (index_of key self.now.list.items) }
+    {
+        self.index(key).is_some()
     }
 
     /// Notes that a message of this connection is held for so many milliseconds from now on.
@@ -47,16 +65,23 @@ impl Delays {
     /// # Errors
     ///
     /// Returns an error if the clock can't be read, or memory runs out.
-    pub fn hold(&mut self, clock: &impl Clock, key: usize, millis: u64) -> io::Result<()> {
+    pub fn hold(&mut self, clock: &impl Clock, key: usize, millis: u64) -> io::Result<()>
+        ensures held { OnOk result ((d : Delay) × IsHeldFor key millis d
+            × (self.new.list.items ≡ self.old.list.items ++ d ∷ [])) }
+        ensures unchanged { OnErr result (self.new.list.items ≡ self.old.list.items) }
+    {
         let due = Instant::now(clock)?.checked_add(Duration::from_millis(millis));
         self.list.push(Delay { key, due })?;
         Ok(())
     }
 
     /// Forgets that a message of this connection is held, if one is.
-    pub fn forget(&mut self, key: usize) {
-        if let Some(i) = self.list.iter().position(|delay| delay.key == key) {
-            let _ = self.list.swap_remove(i);
+    pub fn forget(&mut self, key: usize)
+        ensures { self.new.list.items
+            ≡ without (index_of key self.old.list.items) self.old.list.items }
+    {
+        if let Some(i) = self.index(key) {
+            let _ = self.list.remove(i);
         }
     }
 
@@ -88,13 +113,18 @@ impl Delays {
     /// # Errors
     ///
     /// Returns an error if the clock can't be read.
-    pub fn take_due(&mut self, clock: &impl Clock) -> io::Result<Option<usize>> {
+    pub fn take_due(&mut self, clock: &impl Clock) -> io::Result<Option<usize>>
+        ensures taken { IfOk result (λ found. MatchOption found
+            (self.new.list.items ≡ self.old.list.items)
+            (λ key. IsTaken key self.old.list.items self.new.list.items)) }
+        ensures unchanged { OnErr result (self.new.list.items ≡ self.old.list.items) }
+    {
         if self.list.is_empty() {
             return Ok(None);
         }
         let now = Instant::now(clock)?;
         match self.list.iter().position(|delay| delay.is_due(now)) {
-            Some(i) => Ok(Some(self.list.swap_remove(i).key)),
+            Some(i) => Ok(Some(self.list.remove(i).key)),
             None => Ok(None),
         }
     }
