@@ -58,6 +58,13 @@ impl<L: Link + Drop> Seat<L> {
         &self.link
     }
 
+    /// Returns the bytes that are to be sent.
+    pub fn output(&self) -> &[u8]
+        ensures { result.now ≡ self.now.front.output }
+    {
+        self.front.output()
+    }
+
     /// Returns `Again` if the front is open.
     fn standing(&self) -> Turned
         ensures { StandsAs result self.now.front }
