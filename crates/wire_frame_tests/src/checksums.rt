@@ -37,8 +37,11 @@ const SHORT: [&[u8]; 2] = [
     b"\x17\0\0\0\x04\0\0\0\0\0\0\0\xdd\x07\0\0\x01\0\0\0\0\0\0",
 ];
 
-/// Frames without flags: an OP_MSG that ends behind its header, and one whose flags are cut.
-const CUT: [&[u8]; 2] = [
+/// Frames without the flag: a message and a query without a checksum, an OP_MSG that ends behind its
+/// header, and one whose flags are cut.
+const UNCHECKED: [&[u8]; 4] = [
+    PING,
+    QUERY,
     b"\x10\0\0\0\x04\0\0\0\0\0\0\0\xdd\x07\0\0",
     b"\x13\0\0\0\x04\0\0\0\0\0\0\0\xdd\x07\0\0\x01\0\0",
 ];
@@ -51,6 +54,23 @@ fn checksum_of(bytes: &[u8]) -> Option<Checksum> {
     }
 }
 
+/// Returns true if each of these frames says this of its checksum.
+fn all_say(frames: &[&[u8]], checksum: Checksum) -> bool {
+    for bytes in frames {
+        if checksum_of(bytes) != Some(checksum) {
+            return false;
+        }
+    }
+    true
+}
+
+/// Returns what `CHECKED` says of its checksum once these bits of the byte at `at` are turned.
+fn turned(at: usize, bits: u8) -> Option<Checksum> {
+    let mut bytes = *CHECKED;
+    *bytes.get_mut(at)? ^= bits;
+    checksum_of(&bytes)
+}
+
 #[test]
 fn check_values_are_those_of_the_standard(rt: HostRuntime) {
     for (bytes, value) in &VALUES {
@@ -60,26 +80,17 @@ fn check_values_are_those_of_the_standard(rt: HostRuntime) {
 
 #[test]
 fn a_checksum_is_right_or_wrong(rt: HostRuntime) {
-    assert!(rt; checksum_of(CHECKED) == Some(Checksum::Right));
+    assert!(rt; all_say(&[CHECKED], Checksum::Right));
+    assert!(rt; all_say(&SHORT, Checksum::Wrong));
     // a bit of the id, of the flags, of the body and of the checksum
     for at in &[4, 19, 40, 51, 54] {
-        let mut bytes = *CHECKED;
-        bytes[*at] ^= 0x40;
-        assert!(rt; checksum_of(&bytes) == Some(Checksum::Wrong), "{at}");
-    }
-    for bytes in &SHORT {
-        assert!(rt; checksum_of(bytes) == Some(Checksum::Wrong));
+        assert!(rt; turned(*at, 0x40) == Some(Checksum::Wrong), "{at}");
     }
 }
 
 #[test]
 fn other_frames_have_none(rt: HostRuntime) {
-    assert!(rt; checksum_of(PING) == Some(Checksum::Absent));
-    assert!(rt; checksum_of(QUERY) == Some(Checksum::Absent));
-    let mut query = *CHECKED;
-    query[12] = 0xd4;
-    assert!(rt; checksum_of(&query) == Some(Checksum::Absent));
-    for bytes in &CUT {
-        assert!(rt; checksum_of(bytes) == Some(Checksum::Absent));
-    }
+    assert!(rt; all_say(&UNCHECKED, Checksum::Absent));
+    // the opCode of a query
+    assert!(rt; turned(12, 0xdd ^ 0xd4) == Some(Checksum::Absent));
 }

@@ -1,6 +1,8 @@
 //! Messages of each kind, as PyMongo 3.11 sends them or as the manual lays them out, and readers
 //! that take them in pieces.
 
+ghost use Rattle.std.specs.Prelude.{◌≤◌};
+
 use std::alloc::Global;
 use wire_frame::{FrameFront, FrameReader, Opcode, RawFrame};
 use wire_msg::{MsgCause, MsgFault, MsgHeader};
@@ -89,6 +91,23 @@ fn opcodes_are_those_of_the_manual(rt: HostRuntime) {
     }
 }
 
+/// Returns true if `QUERY` is no frame with this length in the place of its own.
+fn is_bad_with(length: &[u8; 4]) -> bool {
+    let mut bytes = *QUERY;
+    bytes[..4].copy_from_slice(length);
+    RawFrame::front(&bytes, 58) == BAD
+}
+
+/// Returns true if the first `n` bytes of `QUERY` are a front to which `wanted` are added next.
+fn wants(n: usize, limit: u32, wanted: usize) -> bool
+    requires { limit ≤ 48000000 }
+{
+    match QUERY.get(..n) {
+        Some(front) => RawFrame::front(front, limit) == FrameFront::Open { wanted },
+        None => false,
+    }
+}
+
 #[test]
 fn lengths_are_within_the_limit(rt: HostRuntime) {
     // 15, 59, -1 and 2 ^ 31 - 1
@@ -98,14 +117,12 @@ fn lengths_are_within_the_limit(rt: HostRuntime) {
         b"\xff\xff\xff\xff",
         b"\xff\xff\xff\x7f",
     ] {
-        let mut bytes = *QUERY;
-        bytes[..4].copy_from_slice(*length);
-        assert!(rt; RawFrame::front(&bytes, 58) == BAD);
+        assert!(rt; is_bad_with(*length));
     }
     assert!(rt; RawFrame::front(QUERY, 57) == BAD);
-    assert!(rt; RawFrame::front(&QUERY[..3], 57) == FrameFront::Open { wanted: 13 });
-    assert!(rt; RawFrame::front(&QUERY[..16], 58) == FrameFront::Open { wanted: 42 });
-    assert!(rt; RawFrame::front(&QUERY[..57], 58) == FrameFront::Open { wanted: 1 });
+    assert!(rt; wants(3, 57, 13));
+    assert!(rt; wants(16, 58, 42));
+    assert!(rt; wants(57, 58, 1));
 }
 
 /// Returns true if the reader's frame has these bytes.
