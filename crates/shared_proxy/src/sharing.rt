@@ -15,9 +15,11 @@ use std::io::Write;
 use std::net::Net;
 use std::rt::Files;
 use std::time::Clock;
+use test_script::Delays;
 use wire_share::Routes;
 
-/// The clients, the connections to the server, and which of both are to take a turn.
+/// The clients, the connections to the server, which of both are to take a turn, and of which clients
+/// a request is held.
 #[derive(Drop)]
 pub struct Sharing {
     pub clients: Clients,
@@ -25,6 +27,7 @@ pub struct Sharing {
     /// Where cursors and transactions are.
     routes: Routes,
     pub due: Due,
+    pub delays: Delays,
     pub connector: Connector,
 }
 
@@ -36,6 +39,7 @@ impl Sharing {
             servers: Servers::new(alloc, most),
             routes: Routes::new(alloc),
             due: Due::new(alloc),
+            delays: Delays::new(alloc),
             connector,
         }
     }
@@ -67,6 +71,7 @@ impl Sharing {
     /// Returns an error if memory runs out or writing fails.
     pub fn close<W: Write>(&mut self, number: u64, leave: Leave, out: &mut W) -> io::Result<()> {
         self.connector.resume();
+        self.delays.forget(number as usize);
         if let Some(client) = self.clients.close(number, leave, out)?
             && let Some(kept) = client.kept
         {

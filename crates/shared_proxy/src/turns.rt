@@ -13,7 +13,7 @@ use std::io::{ErrorKind, Write};
 use std::net::Net;
 use std::rt::Files;
 use std::time::Clock;
-use test_script::{Delays, Script};
+use test_script::Script;
 
 /// The most steps of a turn.
 const STEPS: u32 = 16;
@@ -27,8 +27,6 @@ pub struct Turns {
     alloc: Global,
     sharing: Sharing,
     script: Option<Script>,
-    /// The clients of which a request is held.
-    delays: Delays,
 }
 
 /// Returns the error that memory ran out.
@@ -43,7 +41,6 @@ impl Turns {
             alloc,
             sharing,
             script,
-            delays: Delays::new(alloc),
         }
     }
 
@@ -68,7 +65,7 @@ impl Turns {
         };
         match steer(self.alloc, client, script, sink, out)? {
             Steered::Again => Ok(()),
-            Steered::Held(millis) => self.delays.hold(clock, number as usize, millis),
+            Steered::Held(millis) => self.sharing.delays.hold(clock, number as usize, millis),
             Steered::Over(leave) => self.sharing.close(number, leave, out),
         }
     }
@@ -146,7 +143,7 @@ impl Turns {
     /// Lets each request go on that was held for long enough.
     fn release(&mut self, clock: &impl Clock) -> io::Result<()> {
         for _ in 0..HELD {
-            let Some(number) = self.delays.take_due(clock)? else {
+            let Some(number) = self.sharing.delays.take_due(clock)? else {
                 break;
             };
             let number = number as u64;
@@ -222,7 +219,7 @@ impl Turns {
     ) -> io::Result<()> {
         out.flush()?;
         sink.flush()?;
-        let least = self.delays.least(rt)?;
+        let least = self.sharing.delays.least(rt)?;
         let has_more = !self.sharing.due.is_empty();
         self.sharing.connector.wait(events, has_more, least)?;
         self.release(rt)?;
