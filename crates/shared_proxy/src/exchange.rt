@@ -1,7 +1,7 @@
 //! Passes a request on, and answers it.
 
-ghost use Rattle.std.specs.Prelude.{length};
-ghost use Rattle.shared_proxy.specs.Uses.{MayServe};
+ghost use Rattle.std.specs.Prelude.{◌≡◌};
+ghost use Rattle.shared_proxy.specs.Uses.{MayServe, used_up};
 
 use crate::client::Client;
 use crate::leave::Leave;
@@ -49,9 +49,10 @@ pub fn pass_on(
     server: &mut Server,
     routes: &mut Routes,
 ) -> Result<Option<Leave>, AllocError>
-    requires { MayServe server.old.used client.old.downstream.front.server.connection
-        (length server.old.upstream.client.requests.outstanding) }
+    requires { MayServe server.old.used client.old.downstream.front.server.connection }
+    ensures { server.new.used ≡ used_up server.old.used }
 {
+    server.use_up();
     let begun = begun(&client.downstream);
     let before = server.upstream.output().len();
     match client.downstream.pass_on(&mut server.upstream) {

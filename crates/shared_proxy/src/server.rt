@@ -1,7 +1,7 @@
 //! A connection to the server, and its turns.
 
 ghost use Rattle.std.specs.Prelude.{◌≡◌, true};
-ghost use Rattle.shared_proxy.specs.Uses.{MayServe};
+ghost use Rattle.shared_proxy.specs.Uses.{MayServe, used_up};
 
 use crate::leave::Leave;
 use crate::line::{Line, Step};
@@ -16,23 +16,24 @@ use wire_stream::{Moved, Pulled};
 pub enum Use {
     /// Any client.
     Shared,
-    /// One call, behind which it is closed.
+    /// One request, which didn't go over it yet.
     Once,
     /// The client of this number, with which it is closed.
     Kept(u64),
+    /// None any more: it is closed once the calls over it are over.
+    Over,
 }
 
 impl Use {
-    /// Returns true if a request of this client may go over a connection that is used so, and over
-    /// which so many calls await a reply.
-    pub fn may_serve(self, client: u64, outstanding: usize) -> bool
-        ensures found { result ≡ true → MayServe self client outstanding }
-        ensures only { MayServe self client outstanding → result ≡ true }
+    /// Returns true if a request of this client may go over a connection that is used so.
+    pub fn may_serve(self, client: u64) -> bool
+        ensures found { result ≡ true → MayServe self client }
+        ensures only { MayServe self client → result ≡ true }
     {
         match self {
-            Use::Shared => true,
-            Use::Once => outstanding == 0,
+            Use::Shared | Use::Once => true,
             Use::Kept(owner) => owner == client,
+            Use::Over => false,
         }
     }
 }
@@ -45,7 +46,7 @@ const OUTPUT: usize = 1 << 20;
 pub struct Server {
     pub upstream: Upstream,
     line: Line,
-    pub used: Use,
+    used: Use,
     /// The clients that await replies, by the numbers of their calls.
     pub callers: IndexMap<u64, u64>,
     /// The clients whose requests wait until more was sent, in the order in which they came.
@@ -54,7 +55,9 @@ pub struct Server {
 
 impl Server {
     /// Makes the connection of this number, which no other one has. It takes no memory.
-    pub fn new(alloc: Global, number: u64, line: Line, used: Use) -> Server {
+    pub fn new(alloc: Global, number: u64, line: Line, used: Use) -> Server
+        ensures { result.used ≡ used }
+    {
         Server {
             upstream: Upstream::new(alloc, number),
             line,
@@ -64,18 +67,38 @@ impl Server {
         }
     }
 
+    /// Returns who uses it.
+    pub fn used(&self) -> Use
+        ensures { result ≡ self.now.used }
+    {
+        self.used
+    }
+
+    /// Notes that a request goes over it.
+    pub fn use_up(&mut self)
+        ensures { self.new.used ≡ used_up self.old.used }
+    {
+        if self.used == Use::Once {
+            self.used = Use::Over;
+        }
+    }
+
     /// Notes that a client awaits the reply to this call.
     ///
     /// # Errors
     ///
     /// Returns `AllocError` if memory runs out.
-    pub fn note(&mut self, call: u64, client: u64) -> Result<(), AllocError> {
+    pub fn note(&mut self, call: u64, client: u64) -> Result<(), AllocError>
+        ensures { self.new.used ≡ self.old.used }
+    {
         let _ = self.callers.insert(call, client)?;
         Ok(())
     }
 
     /// Returns the client that awaits the reply that is ready, and forgets that it does.
-    pub fn take_caller(&mut self) -> Option<u64> {
+    pub fn take_caller(&mut self) -> Option<u64>
+        ensures { self.new.used ≡ self.old.used }
+    {
         let call = self.upstream.reply()?.call;
         self.callers.swap_remove(&call)
     }
@@ -90,7 +113,9 @@ impl Server {
     /// # Errors
     ///
     /// Returns `AllocError` if memory runs out.
-    pub fn block(&mut self, client: u64) -> Result<(), AllocError> {
+    pub fn block(&mut self, client: u64) -> Result<(), AllocError>
+        ensures { self.new.used ≡ self.old.used }
+    {
         if !self.blocked.contains(&client) {
             self.blocked.push_back(client)?;
         }
@@ -98,7 +123,9 @@ impl Server {
     }
 
     /// Returns the first client whose request may be passed on again, and forgets it.
-    pub fn pop_blocked(&mut self) -> Option<u64> {
+    pub fn pop_blocked(&mut self) -> Option<u64>
+        ensures { self.new.used ≡ self.old.used }
+    {
         if self.is_full() {
             return None;
         }
@@ -106,20 +133,24 @@ impl Server {
     }
 
     /// Has the connection closed behind what waits to be sent, since its client is gone.
-    pub fn finish(&mut self) {
-        self.used = Use::Once;
+    pub fn finish(&mut self)
+        ensures { self.new.used ≡ Use.Over }
+    {
+        self.used = Use::Over;
     }
 
-    /// Returns true if it was for one call, which is over.
+    /// Returns true if nobody uses it any more, and the calls over it are over.
     pub fn is_done(&self) -> bool {
-        self.used == Use::Once
+        self.used == Use::Over
             && self.upstream.outstanding() == 0
             && self.upstream.output().is_empty()
             && self.upstream.reply().is_none()
     }
 
     /// Sends some of what is to be sent.
-    fn send(&mut self) -> Step {
+    fn send(&mut self) -> Step
+        ensures { self.new.used ≡ self.old.used }
+    {
         if self.upstream.output().is_empty() {
             return Step::Waits;
         }
@@ -134,7 +165,9 @@ impl Server {
     }
 
     /// Receives bytes, or tells the upstream that no more come.
-    fn pull(&mut self) -> Step {
+    fn pull(&mut self) -> Step
+        ensures { self.new.used ≡ self.old.used }
+    {
         match self.line.pull() {
             Ok(Pulled::Bytes) => Step::Again,
             Ok(Pulled::Later) => Step::Waits,
@@ -147,7 +180,9 @@ impl Server {
     }
 
     /// Takes bytes that came, or receives some.
-    fn receive(&mut self) -> Result<Step, AllocError> {
+    fn receive(&mut self) -> Result<Step, AllocError>
+        ensures { self.new.used ≡ self.old.used }
+    {
         if self.line.bytes().is_empty() {
             return Ok(self.pull());
         }
@@ -162,7 +197,9 @@ impl Server {
 
     /// Cuts the connection once the first `before` bytes of what is to be sent were sent, and at most
     /// `count` more.
-    pub fn cut_behind(&mut self, before: usize, count: u64) {
+    pub fn cut_behind(&mut self, before: usize, count: u64)
+        ensures { self.new.used ≡ self.old.used }
+    {
         let size = self.upstream.output().len().saturating_sub(before) as u64;
         let left = count.min(size).saturating_add(before as u64);
         self.line.limit_sending(left);
@@ -173,7 +210,9 @@ impl Server {
     /// # Errors
     ///
     /// Returns `AllocError` if memory runs out.
-    pub fn step(&mut self) -> Result<Step, AllocError> {
+    pub fn step(&mut self) -> Result<Step, AllocError>
+        ensures { self.new.used ≡ self.old.used }
+    {
         if self.upstream.reply().is_some() {
             return Ok(Step::Ready);
         }

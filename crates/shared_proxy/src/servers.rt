@@ -94,7 +94,7 @@ impl Servers {
     /// one alone.
     fn serves(&self, number: u64, client: u64) -> bool {
         match self.servers.get(&number) {
-            Some(server) => server.used == Use::Shared || server.used == Use::Kept(client),
+            Some(server) => { server.used() == Use::Shared || server.used() == Use::Kept(client) }
             None => false,
         }
     }

@@ -104,7 +104,7 @@ impl Sharing {
         if leave.is_told() || self.clients.are_told() {
             writeln!(out, "upstream {upstream} {leave}")?;
         }
-        if let Use::Kept(number) = server.used {
+        if let Use::Kept(number) = server.used() {
             self.lose_call(number, upstream, out)?;
         }
         for number in server.callers.values() {
@@ -165,12 +165,11 @@ impl Sharing {
             return Ok(false);
         }
         let connection = client.downstream.connection();
-        let outstanding = server.upstream.outstanding();
-        if !server.used.may_serve(connection, outstanding) {
+        if !server.used().may_serve(connection) {
             self.close(number, Leave::Lost(upstream), out)?;
             return Ok(false);
         }
-        if server.used == Use::Kept(number) {
+        if server.used() == Use::Kept(number) {
             client.kept = Some(upstream);
         }
         match pass_on(client, server, &mut self.routes)? {
