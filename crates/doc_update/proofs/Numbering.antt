@@ -28,3 +28,7 @@ at_free left i n vs ws lt is =
 
 pub none_left : (left i n : ℕ) (vs ws : List TreeValue) → left - i ≡ 0 → free_from (left - i) n vs ws ≡ n
 none_left left i n vs ws is = ap (λ (k : ℕ). free_from k n vs ws) is
+
+-- a value that is the `_id` of a number is taken where that is
+pub taken_by : (v : TreeValue) (n : ℕ) (vs ws : List TreeValue) → v ≡ made_id n → (is_taken (Some v) vs || is_taken (Some v) ws) ≡ (is_taken (Some (made_id n)) vs || is_taken (Some (made_id n)) ws)
+taken_by v n vs ws e = ap (λ (w : TreeValue). is_taken (Some w) vs || is_taken (Some w) ws) e

@@ -6,8 +6,9 @@ use Rattle.std.specs.Int.{to_be_bytes, w64}
 use Rattle.bson_elem.specs.declared.kinds.Kind.TheVariants as kinds
 use Rattle.bson_elem.specs.{no_code, raw_value}
 use Rattle.bson_raw.specs.{TreeValue, document_value, first_named, leaf_value}
-use Rattle.bson_doc.specs.{coded_value, put, same, tree_of}
+use Rattle.bson_doc.specs.{put, tree_of}
 use Rattle.bson_doc.specs.Document.{value_named}
+use Rattle.doc_query.specs.{equal}
 use Rattle.doc_update.specs.Pairs.{Pairs, pairs_of}
 
 -- the `_id` of a document
@@ -15,14 +16,22 @@ abbrev pub id_in : TreeValue → Option TreeValue
 id_in (document_value kinds.Document b t) = first_named (codes "_id") t
 id_in _ = None
 
+-- two `_id`s are one if they are equal: 1 and 1.0 are
 abbrev pub is_same_id : Option TreeValue → Option TreeValue → Bool
-is_same_id (Some a) (Some b) = same coded_value a b
+is_same_id (Some a) (Some b) = equal a b
 is_same_id _ _ = false
 
 -- one of the documents has this `_id`
 abbrev pub is_taken : Option TreeValue → List TreeValue → Bool
 is_taken id [] = false
 is_taken id (v ∷ vs) = if is_same_id (id_in v) id then true else is_taken id vs
+
+-- why a value can't be an `_id`, in the words of a server
+abbrev pub id_fault : Option TreeValue → Option (List ℕ)
+id_fault (Some (document_value kinds.Array b t)) = Some (codes "can't use an array for _id")
+id_fault (Some (leaf_value kinds.Regex v)) = Some (codes "can't use a regex for _id")
+id_fault (Some (leaf_value kinds.Undefined v)) = Some (codes "can't use a undefined for _id")
+id_fault _ = None
 
 -- ---- making one
 

@@ -2,7 +2,7 @@
 -- Commands: update).
 use Rattle.std.specs.Prelude.{ℕ, ◌+◌, List, [], ◌∷◌, ◌++◌, ◌==◌, Bool, true, false, ◌&&◌, ◌||◌}
 use Rattle.std.specs.Prelude.{Option, Some, None, Result, Ok, Err, codes, map, option_map}
-use Rattle.std.specs.Prelude.{if◌then◌else◌}
+use Rattle.std.specs.Prelude.{is_some, if◌then◌else◌}
 use Rattle.bson_elem.specs.declared.kinds.Kind.TheVariants as kinds
 use Rattle.bson_elem.specs.{Tree, no_code}
 use Rattle.bson_raw.specs.{TreeValue, document_value, first_named, names_of}
@@ -19,7 +19,7 @@ use Rattle.doc_query.specs.{words_of}
 use Rattle.doc_update.specs.Pairs.{pairs_of}
 use Rattle.doc_update.specs.Changing.{changed}
 use Rattle.doc_update.specs.Deleting.{filter_at}
-use Rattle.doc_update.specs.Identity.{free_number, id_in, is_taken, with_id}
+use Rattle.doc_update.specs.Identity.{free_number, id_fault, id_in, is_taken, with_id}
 use Rattle.doc_update.specs.Operators.{change_in, is_one_of}
 use Rattle.doc_update.specs.Upserts.{new_fields}
 use Rattle.doc_update.specs.WriteErrors.{has_error, write_error}
@@ -141,9 +141,10 @@ updated u (v ∷ vs) r = and_then (update_one u v r) (λ s. updated u vs s)
 
 -- ---- what it inserts
 
--- a document is inserted behind others, unless its `_id` is taken
+-- a document is inserted behind others, unless no document may have its `_id`, or it is taken
 abbrev pub inserted : TreeValue → List TreeValue → Result OutcomeView CommandError
 inserted v vs =
+    if is_some (id_fault (id_in v)) then Err errors.InvalidId else
     if is_taken (id_in v) vs then Err errors.Duplicate
     else Ok (record {
       documents = vs ++ v ∷ [];

@@ -4,12 +4,13 @@ ghost use Rattle.std.specs.Prelude.{◌≡◌, ◌∷◌, [], ◌||◌, IfOk, On
 ghost use Rattle.std.specs.Prelude.{option_map};
 ghost use Rattle.bson_doc.specs.{value_of};
 ghost use Rattle.bson_doc.specs.Document.{value_named};
-ghost use Rattle.doc_update.specs.Identity.{free_from, free_number, id_in, identified, is_same_id};
-ghost use Rattle.doc_update.specs.Identity.{is_taken, made_id, own_or_made, put_each, with_id};
+ghost use Rattle.doc_update.specs.Identity.{free_from, free_number, id_fault, id_in, identified};
+ghost use Rattle.doc_update.specs.Identity.{is_same_id, is_taken, made_id, own_or_made, put_each};
+ghost use Rattle.doc_update.specs.Identity.{with_id};
 
 use crate::counts::plus;
 use bson_doc::{Bson, Document};
-use doc_query::{field, is_same, set};
+use doc_query::{field, is_equal, set};
 use std::alloc::{AllocError, Global};
 
 /// Returns the `_id` of a value, if it is a document that has one.
@@ -22,13 +23,13 @@ pub fn id_in(value: &Bson) -> Option<&Bson>
     }
 }
 
-/// Returns true if both are there and are the same.
+/// Returns true if both are there and are equal.
 fn is_same_id(a: Option<&Bson>, b: Option<&Bson>) -> bool
     ensures { result ≡ is_same_id (option_map (λ v. value_of v.now) a.entry)
         (option_map (λ v. value_of v.now) b.entry) }
 {
     match (a, b) {
-        (Some(a), Some(b)) => is_same(a, b),
+        (Some(a), Some(b)) => is_equal(a, b),
         _ => false,
     }
 }
@@ -46,6 +47,19 @@ pub fn is_taken(id: Option<&Bson>, documents: &[Bson]) -> bool
     false
 }
 
+/// Returns why a value can't be an `_id`, if it can't.
+pub fn id_fault(id: Option<&Bson>) -> Option<&'static str>
+    ensures { option_map (λ s. s.now) result
+        ≡ id_fault (option_map (λ v. value_of v.now) id.entry) }
+{
+    match id {
+        Some(Bson::Array(_)) => Some("can't use an array for _id"),
+        Some(Bson::Regex { .. }) => Some("can't use a regex for _id"),
+        Some(Bson::Undefined) => Some("can't use a undefined for _id"),
+        _ => None,
+    }
+}
+
 // ---- making one
 
 /// Makes the ObjectId with this number.
@@ -56,14 +70,21 @@ fn made_id(number: usize) -> Bson
     Bson::ObjectId([0, 0, 0, 0, a, b, c, d, e, f, g, h])
 }
 
+/// Returns true if this is the `_id` of one of these documents, or of those.
+fn is_taken_in(id: &Bson, held: &[Bson], added: &[Bson]) -> bool
+    ensures { result ≡ (is_taken (Some (value_of id.now)) (map value_of held.now)
+        || is_taken (Some (value_of id.now)) (map value_of added.now)) }
+{
+    is_taken(Some(id), held) || is_taken(Some(id), added)
+}
+
 /// Returns true if the ObjectId with this number is the `_id` of one of these documents, or of
 /// those.
 fn is_number_taken(number: usize, held: &[Bson], added: &[Bson]) -> bool
     ensures { result ≡ (is_taken (Some (made_id number)) (map value_of held.now)
         || is_taken (Some (made_id number)) (map value_of added.now)) }
 {
-    let id = made_id(number);
-    is_taken(Some(&id), held) || is_taken(Some(&id), added)
+    is_taken_in(&made_id(number), held, added)
 }
 
 /// Returns the number of the `_id` that is made beside these documents and those: the first one that

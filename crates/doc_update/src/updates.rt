@@ -19,7 +19,7 @@ ghost use Rattle.doc_update.specs.WriteErrors.{has_error};
 use crate::changing::changed;
 use crate::counts::plus;
 use crate::deletes::filter_at;
-use crate::identity::{id_in, is_taken, with_id};
+use crate::identity::{id_fault, id_in, is_taken, with_id};
 use crate::operators::{Change, change_in};
 use crate::upserts::new_fields;
 use crate::write_errors::write_error;
@@ -292,13 +292,16 @@ fn with_last(alloc: Global, documents: &[Bson], last: Bson) -> Result<Vec<Bson>,
 ///
 /// # Errors
 ///
-/// Returns `Duplicate` if its `_id` is taken.
+/// Returns `InvalidId` if no document may have its `_id`, and `Duplicate` if it is taken.
 fn inserted(alloc: Global, document: Bson, documents: &[Bson]) -> Result<Outcome, Failure>
     ensures ok { IfOk result (λ r.
         inserted (value_of document) (map value_of documents.now) ≡ Ok (outcome_view r)) }
     ensures refused { IfErr result (λ e. IsFailure
         (inserted (value_of document) (map value_of documents.now)) e) }
 {
+    if id_fault(id_in(&document)).is_some() {
+        return Err(Failure::Refused(CommandError::InvalidId));
+    }
     if is_taken(id_in(&document), documents) {
         return Err(Failure::Refused(CommandError::Duplicate));
     }

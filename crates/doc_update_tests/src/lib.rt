@@ -2,10 +2,12 @@
 //! the definitions are MongoDB's. They are in a crate of their own, since a crate is proved once more
 //! with its tests.
 //!
-//! Uses doc_query and doc_update. Read first: `equality`, and then `many_paths`.
+//! Uses doc_query and doc_update. Read first: `equality`, `ids`, and then `many_paths`.
 #![tactic(auto)]
 
 #[cfg(test)]
 mod equality;
+#[cfg(test)]
+mod ids;
 #[cfg(test)]
 mod many_paths;
