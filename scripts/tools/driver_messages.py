@@ -181,6 +181,15 @@ def deletion(limit, *query):
     """Returns a statement of delete."""
     return document([inner("q", *query), field("limit", limit)])
 
+# Numbers are equal by value in documents, as an _id and in the key of an index, and no _id is an array.
+IDS = (STRING, string("ids"))
+ID_DOCUMENTS = [
+    document([field("_id", 1), inner("d", field("b", 1))]),
+    document([element(DOUBLE, "_id", double(1))]),
+    document([array("_id", lambda at: field(at, 1))]),
+]
+SAME_KEYS = array("indexes", lambda at: inner(at, inner("key", field("a", 1)), text("name", "a_1")),
+                  lambda at: inner(at, inner("key", element(DOUBLE, "a", double(1))), text("name", "b_1")))
 
 INDEX = document([element(DOCUMENT, "key", document([field("a", 1)])), element(STRING, "name", string("a_1"))])
 INDEXES = element(ARRAY, "indexes", document([element(DOCUMENT, "0", INDEX)]))
@@ -1523,6 +1532,116 @@ answer
 document 49
   "nIndexesWas" int32 1
   "ns" string "test.c"
+  "ok" double 000000000000f03f
+""",
+    ),
+    (
+        command("insert", IDS, element(BOOLEAN, "ordered", b"\0")),
+        ID_DOCUMENTS,
+        """\
+request "insert"
+document 45
+  "insert" string "ids"
+  "ordered" boolean false
+  "$db" string "test"
+sequence "documents" 3
+answer
+document 211
+  "n" int32 1
+  "writeErrors" array 174
+    "0" document 98
+      "index" int32 1
+      "code" int32 11000
+      "errmsg" string "E11000 duplicate key error collection: test.ids index: _id_"
+    "1" document 65
+      "index" int32 2
+      "code" int32 2
+      "errmsg" string "can't use an array for _id"
+  "ok" double 000000000000f03f
+""",
+    ),
+    (
+        command("find", IDS, inner("filter", inner("d", element(DOUBLE, "b", double(1))))),
+        (),
+        """\
+request "find"
+document 65
+  "find" string "ids"
+  "filter" document 24
+    "d" document 16
+      "b" double 000000000000f03f
+  "$db" string "test"
+answer
+document 108
+  "cursor" document 83
+    "firstBatch" array 37
+      "0" document 29
+        "_id" int32 1
+        "d" document 12
+          "b" int32 1
+    "id" int64 0
+    "ns" string "test.ids"
+  "ok" double 000000000000f03f
+""",
+    ),
+    (
+        command("find", IDS, inner("filter", inner("d", array("$in", lambda at: inner(at, field("$gt", 1)))))),
+        (),
+        """\
+request "find"
+document 81
+  "find" string "ids"
+  "filter" document 40
+    "d" document 32
+      "$in" array 22
+        "0" document 14
+          "$gt" int32 1
+  "$db" string "test"
+answer
+document 86
+  "ok" double 0000000000000000
+  "errmsg" string "cannot nest $ under $in"
+  "code" int32 2
+  "codeName" string "BadValue"
+""",
+    ),
+    (
+        command("createIndexes", IDS, SAME_KEYS),
+        (),
+        """\
+request "createIndexes"
+document 138
+  "createIndexes" string "ids"
+  "indexes" array 87
+    "0" document 36
+      "key" document 12
+        "a" int32 1
+      "name" string "a_1"
+    "1" document 40
+      "key" document 16
+        "a" double 000000000000f03f
+      "name" string "b_1"
+  "$db" string "test"
+answer
+document 101
+  "ok" double 0000000000000000
+  "errmsg" string "another index has this key"
+  "code" int32 85
+  "codeName" string "IndexOptionsConflict"
+""",
+    ),
+    (
+        command("drop", IDS),
+        (),
+        """\
+request "drop"
+document 33
+  "drop" string "ids"
+  "$db" string "test"
+answer
+document 51
+  "nIndexesWas" int32 1
+  "ns" string "test.ids"
   "ok" double 000000000000f03f
 """,
     ),

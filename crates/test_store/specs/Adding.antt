@@ -1,13 +1,15 @@
 -- Adding documents to those of a namespace, in which no two have one `_id`.
-use Rattle.std.specs.Prelude.{ℕ, pos, ◌+◌, List, [], ◌∷◌, ◌++◌, Bool, ◌&&◌, ◌||◌}
-use Rattle.std.specs.Prelude.{codes, map, if◌then◌else◌}
+use Rattle.std.specs.Prelude.{ℕ, pos, ◌+◌, List, [], ◌∷◌, ◌++◌, Bool, true, false, ◌&&◌, ◌||◌}
+use Rattle.std.specs.Prelude.{Option, Some, None, codes, map, option_map, if◌then◌else◌}
+use Rattle.std.specs.Option.{option_or}
 use Rattle.bson_raw.specs.{TreeValue}
 use Rattle.bson_doc.specs.{value_of}
 use Rattle.test_store.specs.declared.adding.Adding.{Adding}
-use Rattle.doc_update.specs.{free_number, has_error, id_in, identified, is_taken, write_error}
+use Rattle.doc_update.specs.{free_number, has_error, id_fault, id_in, identified, is_taken}
+use Rattle.doc_update.specs.{write_error}
 use Rattle.test_store.specs.Held.{NamespaceView, namespace_text}
 
--- the documents to add, and the errors of those whose `_id` is taken
+-- the documents to add, and the errors of those that can't be added
 pub record AddingView : Type 0 where
   pub added : List TreeValue
   pub errors : List TreeValue
@@ -22,12 +24,25 @@ duplicate_error i n =
     write_error i (pos 11000)
     (codes "E11000 duplicate key error collection: " ++ namespace_text n ++ codes " index: _id_")
 
--- a document is added, unless its `_id` is that of one that is held or was added before
+abbrev pub if_taken : Bool → TreeValue → Option TreeValue
+if_taken true error = Some error
+if_taken false error = None
+
+-- The error of the document at this index: of one whose `_id` can't be one, or is that of one that
+-- is held or was added before.
+abbrev pub error_of : NamespaceView → List TreeValue → List TreeValue → ℕ → Option TreeValue
+    → Option TreeValue
+error_of n held added i id =
+    option_or (option_map (λ words. write_error i (pos 2) words) (id_fault id))
+    (if_taken (is_taken id held || is_taken id added) (duplicate_error i n))
+
+-- a document is added, unless it has this error
+abbrev pub add_unless : Option TreeValue → TreeValue → AddingView → AddingView
+add_unless None v a = record { added = a.added ++ v ∷ []; errors = a.errors }
+add_unless (Some e) v a = record { added = a.added; errors = a.errors ++ e ∷ [] }
+
 abbrev pub add : NamespaceView → List TreeValue → ℕ → TreeValue → AddingView → AddingView
-add n held i v a =
-    if is_taken (id_in v) held || is_taken (id_in v) a.added
-    then record { added = a.added; errors = a.errors ++ duplicate_error i n ∷ [] }
-    else record { added = a.added ++ v ∷ []; errors = a.errors }
+add n held i v a = add_unless (error_of n held a.added i (id_in v)) v a
 
 -- the documents from this index on are added one after another, with an `_id`; where they are
 -- ordered, nothing follows the first error

@@ -8,10 +8,10 @@ use Rattle.std.specs.Str.{bytes_eq}
 use Rattle.bson_elem.specs.declared.kinds.Kind.TheVariants as kinds
 use Rattle.bson_elem.specs.{Tree, inner_pair, leaf_pair, no_pairs}
 use Rattle.bson_raw.specs.{TreeValue, document_value, first_named, leaf_value}
-use Rattle.bson_doc.specs.{coded_value, same, value_of}
+use Rattle.bson_doc.specs.{value_of}
 use Rattle.doc_query.specs.declared.failure.CommandError.{CommandError}
 use Rattle.doc_query.specs.declared.failure.CommandError.TheVariants as errors
-use Rattle.doc_query.specs.{and_then, are_keys, inner, int32, or_error, text, text_of}
+use Rattle.doc_query.specs.{and_then, are_keys, equal, inner, int32, or_error, text, text_of}
 use Rattle.doc_update.specs.{is_one_of}
 use Rattle.test_store.specs.declared.indexes.Index.{Index}
 
@@ -66,9 +66,9 @@ index_in _ = None
 abbrev pub has_name : List ℕ → IndexView → Bool
 has_name name i = bytes_eq i.name name
 
--- two keys are one if their fields and directions are, in one order
+-- two keys are one if their fields and directions are equal, in one order
 abbrev pub has_key : TreeValue → IndexView → Bool
-has_key key i = same coded_value i.key key
+has_key key i = equal i.key key
 
 abbrev pub is_index : IndexView → IndexView → Bool
 is_index i j = has_name i.name j && has_key i.key j

@@ -1,17 +1,17 @@
 //! Collects the documents that may be added to those of a namespace, in which no two have one
-//! `_id`.
+//! `_id`, and none has an array, a regex or undefined there.
 
 ghost use Rattle.std.specs.Prelude.{◌≡◌, ◌<◌, ◌≤◌, ◌^◌, ◌++◌, IfOk, OnOk, codes, length, map};
-ghost use Rattle.std.specs.Prelude.{string_bytes};
+ghost use Rattle.std.specs.Prelude.{option_map, string_bytes};
 ghost use Rattle.bson_doc.specs.{value_of};
 ghost use Rattle.doc_query.specs.{inner};
 ghost use Rattle.doc_update.specs.{has_error};
-ghost use Rattle.test_store.specs.Adding.{add, adding_of, duplicate_error, gathered};
+ghost use Rattle.test_store.specs.Adding.{add, adding_of, duplicate_error, error_of, gathered};
 ghost use Rattle.test_store.specs.Held.{namespace_of, namespace_text};
 
 use crate::namespace::Namespace;
 use bson_doc::{Bson, Document};
-use doc_update::{id_in, identified, is_taken, write_error};
+use doc_update::{id_fault, id_in, identified, is_taken, write_error};
 use std::alloc::{AllocError, Global};
 
 /// What was made of the documents of a command so far.
@@ -19,12 +19,12 @@ use std::alloc::{AllocError, Global};
 pub struct Adding {
     /// The documents to add.
     pub added: Vec<Bson>,
-    /// The errors of those whose `_id` is taken.
+    /// The errors of those whose `_id` is taken, or can't be one.
     pub errors: Vec<Bson>,
 }
 
 impl Adding {
-    /// Returns true if the `_id` of a document is taken.
+    /// Returns true if a document can't be added.
     fn has_error(&self) -> bool
         ensures { result ≡ has_error (adding_of self.now).errors }
     {
@@ -57,7 +57,34 @@ fn duplicate_error(
     write_error(alloc, index, 11000, words)
 }
 
-/// Adds a document, unless its `_id` is that of one that is held or was added before.
+/// Makes the error of the document at `index` whose `_id` this is, if the `_id` can't be one, or is
+/// that of one that is held or was added before.
+fn error_of(
+    alloc: Global,
+    namespace: Namespace<'_>,
+    held: &[Bson],
+    added: &[Bson],
+    index: usize,
+    id: Option<&Bson>,
+) -> Result<Option<Document>, AllocError>
+    requires { index < 2 ^ 63 }
+    ensures { IfOk result (λ error. option_map (λ d. inner d) error
+        ≡ error_of (namespace_of namespace.entry) (map value_of held.now) (map value_of added.now)
+        index (option_map (λ v. value_of v.now) id.entry)) }
+{
+    if let Some(words) = id_fault(id) {
+        let words = String::from_str(alloc, words)?;
+        let error = write_error(alloc, index, 2, words)?;
+        return Ok(Some(error));
+    }
+    if is_taken(id, held) || is_taken(id, added) {
+        let error = duplicate_error(alloc, index, namespace)?;
+        return Ok(Some(error));
+    }
+    Ok(None)
+}
+
+/// Adds a document, unless it has an error.
 fn add(
     alloc: Global,
     namespace: Namespace<'_>,
@@ -71,16 +98,14 @@ fn add(
         (map value_of held.now) index (value_of document) (adding_of adding.old)) }
 {
     let id = id_in(&document);
-    if is_taken(id, held) || is_taken(id, &adding.added) {
-        let error = duplicate_error(alloc, index, namespace)?;
-        adding.errors.push(Bson::Document(error))?;
-    } else {
-        adding.added.push(document)?;
+    match error_of(alloc, namespace, held, &adding.added, index, id)? {
+        Some(error) => adding.errors.push(Bson::Document(error))?,
+        None => adding.added.push(document)?,
     }
     Ok(())
 }
 
-/// Collects the documents to add, and the errors of those whose `_id` is taken. One without `_id` is
+/// Collects the documents to add, and the errors of those that can't be added. One without `_id` is
 /// given one that is free. Where they are ordered, nothing follows the first error.
 pub fn gather(
     alloc: Global,

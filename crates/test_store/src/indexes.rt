@@ -13,7 +13,7 @@ ghost use Rattle.test_store.specs.Indexes.{with_indexes};
 
 use crate::answer::set_text;
 use bson_doc::{Bson, Document};
-use doc_query::{CommandError, Failure, are_keys, field, is_same, set};
+use doc_query::{CommandError, Failure, are_keys, field, is_equal, set};
 use std::alloc::{AllocError, Global};
 
 /// An index of a collection.
@@ -129,7 +129,7 @@ fn any_has_name(indexes: &[Index], name: &str) -> bool
 fn any_has_key(indexes: &[Index], key: &Bson) -> bool
     ensures { result ≡ list_any (has_key (value_of key.now)) (map index_view indexes.now) }
 {
-    indexes.iter().any(|index| is_same(&index.key, key))
+    indexes.iter().any(|index| is_equal(&index.key, key))
 }
 
 /// Returns true if this is one of the indexes.
@@ -137,7 +137,7 @@ fn is_held(indexes: &[Index], index: &Index) -> bool
     ensures { result ≡ list_any (is_index (index_view index.now)) (map index_view indexes.now) }
 {
     let name = index.name.as_str();
-    indexes.iter().any(|other| other.name.as_str() == name && is_same(&other.key, &index.key))
+    indexes.iter().any(|other| other.name.as_str() == name && is_equal(&other.key, &index.key))
 }
 
 /// Adds an index, unless it is there.
