@@ -9,7 +9,7 @@ use Rattle.std.proofs.lemmas.List.Elements.{All-get_or}
 use Rattle.std.proofs.lemmas.Option.{slice_get-get_or}
 use Rattle.bson_elem.specs.{Spells, Tree, coded_text, document, elements}
 use Rattle.bson_raw.specs.{AreDocuments, IsDocument, documents_bytes, first_repeated}
-use Rattle.bson_raw.proofs.Lemmas.{Walked, is_document}
+use Rattle.bson_raw.proofs.Lemmas.{Walked, document_takes, is_document}
 use Rattle.wire_msg.specs.{Carries, Content, IsMessage, Message, SpellsMsg, body_alone, canonical, message_len}
 use Rattle.wire_msg.specs.declared.fault.MsgCause.{MsgCause}
 use Rattle.wire_msg.specs.declared.fault.MsgCause.TheVariants as faults
@@ -132,7 +132,7 @@ pub refused_here : (bytes rest : List ℕ) (ts : List Tree) (at : ℕ) (t : Tree
     → IsRefusedAt at t why → AreGiven bytes (Err why)
 refused_here bytes rest ts at t b after OutOfMemory w fit here s is refused = tt
 refused_here bytes rest ts at t b after (Fault f) w fit here s is refused =
-    (ts, rest, fit, w.parts, refused.0 ∙ here, begins_unfit t rest after f.cause (is_document t b s) (is ∙ ap (λ (x : List ℕ). x ++ after) s.parts) refused.1)
+    (ts, rest, fit, w.parts, (λ e. omega (arith, ap length e, document_takes t b rest after s is)), refused.0 ∙ here, begins_unfit t rest after f.cause (is_document t b s) (is ∙ ap (λ (x : List ℕ). x ++ after) s.parts) refused.1)
 
 -- ---- how many answers
 

@@ -51,7 +51,7 @@ AreGiven bytes (Ok a) =
     × (answers_of a ≡ map body_alone ts)
 AreGiven bytes (Err (Fault f)) =
     (ts : List Tree) × (rest : List ℕ) × AreFit ts × (bytes ≡ documents_bytes ts ++ rest)
-    × (f.at ≡ length (documents_bytes ts)) × BeginsUnfit rest f.cause
+    × (rest ≢ []) × (f.at ≡ length (documents_bytes ts)) × BeginsUnfit rest f.cause
 AreGiven bytes (Err OutOfMemory) = Unit {0}
 
 -- ---- answers

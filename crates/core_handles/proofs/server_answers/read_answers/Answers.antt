@@ -13,7 +13,8 @@ loop-rest-init c = record { within = omega arith; so_far = ([], none_walked c.ar
 pub returns-in-Err : goal.returns-in-Err
 returns-in-Err c =
     let i = c.loop-rest.invariant.so_far in
-    (i.0, c.loop-rest.rest.now, are_fit c.loop-rest.answers c.args.documents.now c.loop-rest.rest.now i.0 i.1 i.2, i.1.parts, omega (arith, offset_is c.args.documents.now c.loop-rest.rest.now i.0 i.1), c.in-Err.ensures.fault)
+    let some : length c.loop-rest.rest.now ≡ 0 → ⊥ = search rules in
+    (i.0, c.loop-rest.rest.now, are_fit c.loop-rest.answers c.args.documents.now c.loop-rest.rest.now i.0 i.1 i.2, i.1.parts, (λ e. some (ap length e)), omega (arith, offset_is c.args.documents.now c.loop-rest.rest.now i.0 i.1), c.in-Err.ensures.fault)
 
 pub returns-in_err-push_body : goal.returns-in_err-push_body
 returns-in_err-push_body c =
