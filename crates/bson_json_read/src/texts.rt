@@ -7,7 +7,7 @@ ghost use Rattle.std.specs.Str.{is_utf8};
 ghost use Rattle.bson_json_read.specs.Extents.{text_len};
 ghost use Rattle.bson_json_read.specs.Places.{StandsIn};
 ghost use Rattle.bson_json_read.specs.Sequences.{Fails, Gives, GivesBytes, IsWritten, next_in};
-ghost use Rattle.bson_json_read.specs.Sequences.{text_here, utf8_read};
+ghost use Rattle.bson_json_read.specs.Sequences.{nothing, text_here, utf8_read};
 ghost use Rattle.bson_json_read.specs.Seeking.{IsFound, IsText, next_at};
 ghost use Rattle.bson_json_read.specs.Values.{Pair};
 
@@ -307,7 +307,7 @@ impl<'a> JsonTexts<'a> {
 
     /// Puts the bytes of the next text's document into `out`, in place of what that holds, if the
     /// text begins a line and ends with the last brace of it, and if its JSON is written directly.
-    /// Returns the text then. Else nothing is said of `out`.
+    /// Returns the text then. Else nothing is said of `out`, unless the input ends.
     ///
     /// So the end of a text isn't sought where each has a line. A line is tried once, by its first
     /// text.
@@ -324,6 +324,8 @@ impl<'a> JsonTexts<'a> {
             × (f.start + f.len ≤ length self.old.input)
             × (length self.old.input ≤ f.start + length self.old.left.rest)) }
         ensures kept { self.new ≡ self.old }
+        ensures ended { next_in self.old.left.frame self.old.left.rest ≡ nothing
+            → out.new.items ≡ out.old.items }
     {
         let (passed, Sought::Text(frame)) = seek(self.frame, &self.input[self.offset..]) else {
             return None;
@@ -340,7 +342,8 @@ impl<'a> JsonTexts<'a> {
         Some(Found { frame, start, len })
     }
 
-    /// Reads the next document. Returns `None` at the end of the input.
+    /// Reads the next document. Returns `None` at the end of the input, and again in each call behind
+    /// that.
     ///
     /// # Errors
     ///
@@ -354,6 +357,8 @@ impl<'a> JsonTexts<'a> {
             ⊎ Fails (next_in self.old.left.frame self.old.left.rest) e.cause) }
         ensures shorter { IfOk result (λ found. is_some found ≡ true
             → length self.new.left.rest < length self.old.left.rest) }
+        ensures ended { next_in self.old.left.frame self.old.left.rest ≡ nothing
+            → (result ≡ Ok None) × (self.new ≡ self.old) }
         ensures place { IfErr result (λ e.
             StandsIn self.old.input e.place.line e.place.column) }
         ensures input { self.new.input ≡ self.old.input }
@@ -383,6 +388,9 @@ impl<'a> JsonTexts<'a> {
             ⊎ Fails (next_in self.old.left.frame self.old.left.rest) e.cause) }
         ensures shorter { IfOk result (λ read. read ≢ NextBytes.AtEnd
             → length self.new.left.rest < length self.old.left.rest) }
+        ensures ended { next_in self.old.left.frame self.old.left.rest ≡ nothing
+            → (result ≡ Ok NextBytes.AtEnd) × (self.new ≡ self.old)
+            × (out.new.items ≡ out.old.items) }
         ensures place { IfErr result (λ e.
             StandsIn self.old.input e.place.line e.place.column) }
         ensures input { self.new.input ≡ self.old.input }
@@ -425,6 +433,9 @@ impl<'a> JsonTexts<'a> {
             ⊎ Fails (next_in self.old.left.frame self.old.left.rest) e.cause) }
         ensures shorter { IfOk result (λ read. read ≢ NextBytes.AtEnd
             → length self.new.left.rest < length self.old.left.rest) }
+        ensures ended { next_in self.old.left.frame self.old.left.rest ≡ nothing
+            → (result ≡ Ok NextBytes.AtEnd) × (self.new ≡ self.old)
+            × (out.new.items ≡ out.old.items) }
         ensures place { IfErr result (λ e.
             StandsIn self.old.input e.place.line e.place.column) }
         ensures input { self.new.input ≡ self.old.input }
