@@ -1,9 +1,10 @@
 -- The documents that the texts of an input give, one after another.
-use Rattle.std.specs.Prelude.{◌≡◌, ⊤, ℕ, List, [], ◌∷◌, take, drop, Option, Some, None}
+use Rattle.std.specs.Prelude.{◌≡◌, ◌≢◌, ⊤, ℕ, List, [], ◌∷◌, take, drop, Option, Some, None}
 use Rattle.std.specs.Prelude.{Ok, Err, if◌then◌else◌}
 use Rattle.std.specs.Str.{is_utf8}
 use Rattle.bson_elem.specs.{document, elements}
 use Rattle.bson_doc.specs.declared.refusal.DocRefusal.{DocRefusal}
+use Rattle.bson_doc.specs.declared.refusal.DocRefusal.TheVariants.{OutOfMemory}
 use Rattle.bson_doc.specs.{IsUnwritable, tree_of}
 use Rattle.bson_json_read.specs.declared.fault.Cause.{Cause}
 use Rattle.bson_json_read.specs.declared.fault.Cause.TheVariants as causes
@@ -62,10 +63,14 @@ Gives (text_here frame rest) (Some d) left =
     (front_read rest ≡ Ok d) × (left ≡ behind_front frame rest)
 Gives next found left = ⊥
 
+-- the document has no bytes, for this reason of its own, which want of memory is not
+abbrev pub HasNoBytes : List Pair → DocRefusal → Type 0
+HasNoBytes d refusal = (refusal ≢ OutOfMemory) × IsUnwritable (tree_of d) refusal
+
 -- the bytes of a document, or the reason why it has none
 abbrev pub IsWritten : List Pair → Option DocRefusal → List ℕ → Type 0
 IsWritten d None bytes = bytes ≡ document (elements (tree_of d))
-IsWritten d (Some refusal) bytes = IsUnwritable (tree_of d) refusal
+IsWritten d (Some refusal) bytes = HasNoBytes d refusal
 
 -- reading what is next gives the bytes of a document, or a document that has none, or the end
 abbrev pub GivesBytes : Next → NextBytes → List ℕ → Left → Type 0

@@ -220,7 +220,7 @@ pub enum NextBytes {
     AtEnd,
     /// The bytes of the text's document are there.
     Document,
-    /// The text's document has no bytes, for this reason.
+    /// The text's document has no bytes, for this reason, which isn't want of memory.
     Refused(DocRefusal),
 }
 

@@ -1,5 +1,5 @@
 -- How a run of `bson` ends, by why it wrote no more documents.
-use Rattle.std.proofs.Common.{◌≡◌, ◌∙◌, inl, inr, ℕ, List, Bool, true, false, Option, Some, None, Result, Ok, Err, refl, ap, sym, subst, true≢false}
+use Rattle.std.proofs.Common.{◌≡◌, ◌∙◌, inl, inr, ℕ, List, Bool, true, false, Option, Some, None, Result, Ok, Err, refl, ap, length, sym, subst, true≢false}
 use Rattle.std.specs.Prelude.{IfErr, IfOk, IfSome, OnOk, is_some}
 use Rattle.bson_json_read.specs.{Left}
 use Rattle.engines.specs.declared.bson.TextStop.{TextStop}
@@ -16,13 +16,13 @@ pub done_ok : {P : Type 0} (ended : Result (Option TextStop) RunEnd) (end : RunE
 done_ok (Ok stop) end told cut p done = p
 done_ok (Err e) end told cut p done = absurd (true≢false (sym done ∙ ap is_done told ∙ cut))
 
-ends : (left : Left) (stop : Option TextStop) → StopsAt stop left → EndsAt (is_some stop) left
-ends left None why = why
-ends left (Some (Fault f)) why = inl (f.cause, why)
-ends left (Some (Refused refusal number)) why = inr (refusal, why)
+ends : (count : ℕ) (left : Left) (stop : Option TextStop) → StopsAt stop count left → EndsAt (is_some stop) left
+ends count left None why = why
+ends count left (Some (Fault f)) why = inl (f.cause, why)
+ends count left (Some (Refused refusal number)) (same, why) = inr (refusal, why)
 
 text_of : (input : List ℕ) (stop : Option TextStop) (fault : Bool) (old new : Option (List ℕ)) → fault ≡ is_some stop → WritesTexts input (StopsAt stop) old new → AppendsText (BsonText input) fault old new
-text_of input stop fault old new same (ds, left, reads, why, appends) = (bytes_of_each ds, (ds, left, reads, subst (λ (b : Bool). EndsAt b left) (sym same) (ends left stop why), refl), appends)
+text_of input stop fault old new same (ds, left, reads, why, appends) = (bytes_of_each ds, (ds, left, reads, subst (λ (b : Bool). EndsAt b left) (sym same) (ends (length ds) left stop why), refl), appends)
 
 -- the whole text was written, where the run is done
 pub written_whole : (from old new : Option (List ℕ)) (ended : Result (Option TextStop) RunEnd) (end : RunEnd) → Tells ended end → IfErr ended (λ e. end ≡ e) → IfErr ended (λ e. is_done e ≡ false)

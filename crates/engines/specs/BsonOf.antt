@@ -1,14 +1,14 @@
 -- What `bson` writes.
-use Rattle.std.specs.Prelude.{◌≡◌, ◌⊎◌, ⊤, ℕ, List, ◌++◌, map, codes, Bool, true, false, Option}
-use Rattle.std.specs.Prelude.{Some, None}
+use Rattle.std.specs.Prelude.{◌≡◌, ◌⊎◌, ⊤, ℕ, ◌+◌, List, ◌++◌, length, map, codes, Bool, true}
+use Rattle.std.specs.Prelude.{false, Option, Some, None}
 use Rattle.std.specs.Fmt.{decimal}
 use Rattle.std.specs.Io.KnownBytes.{Appends}
 use Rattle.bson_raw.specs.{documents_bytes}
 use Rattle.bson_doc.specs.declared.refusal.DocRefusal.{DocRefusal}
 use Rattle.bson_doc.specs.Refusals.{refusal_text}
-use Rattle.bson_doc.specs.{IsUnwritable, tree_of}
+use Rattle.bson_doc.specs.{tree_of}
 use Rattle.bson_json_read.specs.declared.fault.Cause.{Cause}
-use Rattle.bson_json_read.specs.{Fails, Gives, Left, Pair, ReadsTo, next_in, nothing}
+use Rattle.bson_json_read.specs.{Fails, Gives, HasNoBytes, Left, Pair, ReadsTo, next_in, nothing}
 use Rattle.bson_json_read.specs.{text_fault_text}
 use Rattle.engines.specs.declared.bson.TextStop.{TextStop}
 use Rattle.engines.specs.declared.bson.TextStop.TheVariants.{Fault, Refused}
@@ -17,31 +17,34 @@ use Rattle.engines.specs.declared.bson.TextStop.TheVariants.{Fault, Refused}
 abbrev pub IsRefused : Left → DocRefusal → Type 0
 IsRefused left refusal =
     (d : List Pair) × (behind : Left) × Gives (next_in left.frame left.rest) (Some d) behind
-    × IsUnwritable (tree_of d) refusal
+    × HasNoBytes d refusal
 
--- Why no more documents are written, where this is left: the input ends, as it may; what is next is
--- at fault; or its document isn't written.
-abbrev pub StopsAt : Option TextStop → Left → Type 0
-StopsAt None left = next_in left.frame left.rest ≡ nothing
-StopsAt (Some (Fault f)) left = Fails (next_in left.frame left.rest) f.cause
-StopsAt (Some (Refused refusal number)) left = IsRefused left refusal
+-- Why no more documents are written, where this many were and this is left: the input ends, as it
+-- may; what is next is at fault; or its document isn't written, and its number, from 1, is told.
+abbrev pub StopsAt : Option TextStop → ℕ → Left → Type 0
+StopsAt None count left = next_in left.frame left.rest ≡ nothing
+StopsAt (Some (Fault f)) count left = Fails (next_in left.frame left.rest) f.cause
+StopsAt (Some (Refused refusal number)) count left =
+    (number ≡ count + 1) × IsRefused left refusal
 
 -- the bytes of documents
 abbrev pub bytes_of_each : List (List Pair) → List ℕ
 bytes_of_each ds = documents_bytes (map tree_of ds)
 
--- The documents of an input's first texts were written, and what is left is of this sort.
-abbrev pub WritesTexts : List ℕ → (Left → Type 0) → Option (List ℕ) → Option (List ℕ) → Type 0
+-- The documents of an input's first texts were written. How many they were, and what is left, is
+-- of this sort.
+abbrev pub WritesTexts : List ℕ → (ℕ → Left → Type 0) → Option (List ℕ) → Option (List ℕ)
+    → Type 0
 WritesTexts input IsLeft old new =
-    (ds : List (List Pair)) × (left : Left) × ReadsTo input ds left × IsLeft left
+    (ds : List (List Pair)) × (left : Left) × ReadsTo input ds left × IsLeft (length ds) left
     × Appends old new (bytes_of_each ds)
 
-abbrev pub IsAnything : Left → Type 0
-IsAnything left = ⊤
+abbrev pub IsAnything : ℕ → Left → Type 0
+IsAnything count left = ⊤
 
 -- what is next is at fault, or it isn't
 abbrev pub EndsAt : Bool → Left → Type 0
-EndsAt false left = StopsAt None left
+EndsAt false left = next_in left.frame left.rest ≡ nothing
 EndsAt true left =
     ((cause : Cause) × Fails (next_in left.frame left.rest) cause)
     ⊎ ((refusal : DocRefusal) × IsRefused left refusal)

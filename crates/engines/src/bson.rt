@@ -79,7 +79,7 @@ fn write_texts<W: Write>(
             },
         }
         write_bytes(&bytes, out)?;
-        number = number.saturating_add(1);
+        number += 1;
     }
 }
 
