@@ -61,6 +61,11 @@ abbrev pub after_begin : SessionId → ℕ → RoutesSeen → RoutesSeen
 after_begin session upstream r =
     with_transactions r (noted is_session session upstream r.transactions)
 
+-- There was no memory to note that it began. Where the table was full, the oldest one is gone.
+abbrev pub without_begin : SessionId → RoutesSeen → RoutesSeen
+without_begin session r =
+    with_transactions r (made_room is_session session r.transactions)
+
 -- what lives on other upstreams
 abbrev pub after_loss : ℕ → RoutesSeen → RoutesSeen
 after_loss upstream r =
@@ -115,3 +120,9 @@ abbrev pub after_reply : Tree → Tree → ℕ → RoutesSeen → RoutesSeen
 after_reply request reply upstream r =
     with_cursors (after_end request r)
     (after_cursor (opened_by reply) request upstream (after_end request r).cursors)
+
+-- There was no memory to note the cursor that a reply to this request opens. What the request has
+-- ended is forgotten, and where the table was full, the oldest cursor is gone.
+abbrev pub without_cursor : Tree → ℤ → RoutesSeen → RoutesSeen
+without_cursor request id r =
+    with_cursors (after_end request r) (made_room int_eq id (after_end request r).cursors)

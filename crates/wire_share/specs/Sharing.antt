@@ -125,16 +125,20 @@ pub record Awaits (d : DownSeen) (u : UpSeen) (reply : ReadyReply) : Type 0 wher
   pub last : reply.last ≡ true
   pub awaited : d.awaited ≡ Some (record { upstream = u.number; call = reply.call })
 
--- The request of a downstream was answered with the ready reply of an upstream, with this result.
+-- The request of a downstream, which is open, was answered with the ready reply of an upstream, with
+-- this result.
 abbrev pub GiveStep : Result (Unit {0}) GiveRefusal → DownSeen → UpSeen → DownSeen → UpSeen
     → Type 0
 GiveStep (Ok _) d u d' u' =
-    (reply : ReadyReply) × (m answer : Message) × Awaits d u reply × WaitsAt d.front.server 0 m
+    (reply : ReadyReply) × (m answer : Message) × (state_of d.front ≡ fronts.Open)
+    × Awaits d u reply × WaitsAt d.front.server 0 m
     × SpellsMsg answer u.client.held × IsGiven answer.content d.front d'.front
     × (d'.awaited ≡ None) × (u' ≡ with_client u (released u.client))
 GiveStep (Err given.NotAwaited) d u d' u' =
     ((reply : ReadyReply) → Awaits d u reply → ⊥) × (d' ≡ d) × (u' ≡ u)
 GiveStep (Err given.Closed) d u d' u' =
-    (state_of d.front ≢ fronts.Open) × (d' ≡ d) × (u' ≡ u)
+    ((reply : ReadyReply) × Awaits d u reply) × (state_of d.front ≢ fronts.Open)
+    × (d' ≡ d) × (u' ≡ u)
 GiveStep (Err given.OutOfMemory) d u d' u' =
-    ((reply : ReadyReply) × Awaits d u reply) × (d' ≡ d) × (u' ≡ u)
+    ((reply : ReadyReply) × Awaits d u reply) × (state_of d.front ≡ fronts.Open)
+    × (d' ≡ d) × (u' ≡ u)

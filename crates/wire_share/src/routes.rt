@@ -1,12 +1,15 @@
 //! On which connections to the server the cursors and transactions of clients live.
 
-ghost use Rattle.std.specs.Prelude.{◌≡◌, [], MatchOption, None, OnOk, Option};
+ghost use Rattle.std.specs.Ordering.{int_eq};
+ghost use Rattle.std.specs.Prelude.{◌≡◌, ℤ, [], MatchOption, None, OnErr, OnOk, Option, Some};
 ghost use Rattle.bson_elem.specs.{Spells, Tree};
 ghost use Rattle.bson_raw.specs.{ShowsFound, TreeValue, array_bytes, document_bytes};
-ghost use Rattle.wire_share.specs.Needs.{command_name, ended_by, id_of, more_of, topic_of};
+ghost use Rattle.wire_share.specs.Needs.{command_name, ended_by, id_of, more_of, opened_by};
+ghost use Rattle.wire_share.specs.Needs.{topic_of};
 ghost use Rattle.wire_share.specs.Routing.{after_begin, after_cursor, after_kill, after_loss};
-ghost use Rattle.wire_share.specs.Routing.{after_reply, found, no_routes};
-ghost use Rattle.wire_share.specs.Routing.{with_cursors, with_transactions, without_id};
+ghost use Rattle.wire_share.specs.Routing.{after_reply, found, made_room, no_routes, without_begin};
+ghost use Rattle.wire_share.specs.Routing.{with_cursors, with_transactions, without_cursor};
+ghost use Rattle.wire_share.specs.Routing.{without_id};
 ghost use Rattle.wire_share.specs.Routing.{without_ids, without_listed, without_session};
 
 use crate::need::{Need, SessionId, Topic, ended_by, id_of, more_of, opened_by, topic_in};
@@ -58,9 +61,11 @@ impl Routes {
     ///
     /// # Errors
     ///
-    /// Returns `AllocError` if memory runs out.
+    /// Returns `AllocError` if memory runs out. Nothing changes then, except that the oldest
+    /// transaction may be gone.
     pub fn begin(&mut self, session: SessionId, upstream: u64) -> Result<(), AllocError>
-        ensures { OnOk result (self.new ≡ after_begin session upstream self.old) }
+        ensures noted { OnOk result (self.new ≡ after_begin session upstream self.old) }
+        ensures room { OnErr result (self.new ≡ without_begin session self.old) }
     {
         self.transactions.note(session, upstream)
     }
@@ -139,9 +144,11 @@ impl Routes {
         told: Option<i64>,
         upstream: u64,
     ) -> Result<(), AllocError>
-        ensures { (t : Tree) → Spells t (document_bytes request.entry)
+        ensures noted { (t : Tree) → Spells t (document_bytes request.entry)
             → OnOk result (self.new ≡ with_cursors self.old
             (after_cursor told t upstream self.old.cursors)) }
+        ensures room { OnErr result ((id : ℤ) × (told ≡ Some id)
+            × (self.new ≡ with_cursors self.old (made_room int_eq id self.old.cursors))) }
     {
         match told {
             None => Ok(()),
@@ -158,16 +165,21 @@ impl Routes {
     ///
     /// # Errors
     ///
-    /// Returns `AllocError` if memory runs out.
+    /// Returns `AllocError` if memory runs out for a cursor that is open. What the request has ended is
+    /// forgotten then, and the oldest cursor may be gone.
     pub fn answered(
         &mut self,
         request: RawDocument<'_>,
         reply: RawDocument<'_>,
         upstream: u64,
     ) -> Result<(), AllocError>
-        ensures { (asked told : Tree) → Spells asked (document_bytes request.entry)
+        ensures noted { (asked told : Tree) → Spells asked (document_bytes request.entry)
             → Spells told (document_bytes reply.entry)
             → OnOk result (self.new ≡ after_reply asked told upstream self.old) }
+        ensures room { (asked told : Tree) → Spells asked (document_bytes request.entry)
+            → Spells told (document_bytes reply.entry)
+            → OnErr result ((id : ℤ) × (opened_by told ≡ Some id)
+            × (self.new ≡ without_cursor asked id self.old)) }
     {
         self.forget_cursors(request);
         self.forget_transaction(request);

@@ -1,4 +1,4 @@
-use Rattle.std.proofs.Common.{ap, refl, subst}
+use Rattle.std.proofs.Common.{ap, refl, rules, subst}
 use Rattle.wire_peer.specs.{WaitsAt, content_of, ready_of}
 use Rattle.wire_share.specs.Sharing.{DownSeen, IsGiven}
 use Rattle.wire_share.proofs.Passing.{gives_own, is_awaited}
@@ -12,6 +12,7 @@ returns c =
       ready_of c.in-Some.reply,
       waits.0,
       whole.0,
+      search rules,
       awaits,
       subst (λ (d : DownSeen). WaitsAt d.front.server 0 waits.0) c.self.view_is waits.1,
       whole.1,
