@@ -38,15 +38,15 @@ def sequence(identifier, documents):
     return b"\1" + int32(4 + len(given)) + given
 
 
-def message_with(number, body, sections):
-    """Returns a message with this body, and with these sections behind it."""
+def message_with(number, body, sections, flags=0):
+    """Returns a message with this body and these flags, and with these sections behind the body."""
     joined = b"\0" + body + b"".join(sections)
-    return struct.pack("<iiiiI", 20 + len(joined), number, 0, 2013, 0) + joined
+    return struct.pack("<iiiiI", 20 + len(joined), number, 0, 2013, flags) + joined
 
 
-def message(number, body, documents=()):
-    """Returns a message with this body, and with these documents in a sequence, if there are any."""
-    return message_with(number, body, [sequence("documents", documents)] if documents else ())
+def message(number, body, documents=(), flags=0):
+    """Returns a message with this body and these flags, and with these documents in a sequence, if there are any."""
+    return message_with(number, body, [sequence("documents", documents)] if documents else (), flags)
 
 
 def command(name, value, *others):

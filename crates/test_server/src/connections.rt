@@ -1,7 +1,9 @@
 //! Serves many connections in one thread.
 
-ghost use Rattle.std.specs.Prelude.{◌≡◌, ℕ, IfOk, List, OnOk, Option};
+ghost use Rattle.std.specs.Prelude.{◌≡◌, ℕ, IfOk, List, OnOk, Option, Some};
 ghost use Rattle.test_server.specs.Runs.{GoesOnServing, HasBegun};
+ghost use Rattle.test_server.specs.Serving.{settled};
+ghost use Rattle.wire_hall.specs.declared.turned.Leave.{Leave};
 
 use crate::drained::{Drained, Turns};
 use crate::guide::Guide;
@@ -206,7 +208,9 @@ impl<I: BufRead + Drop> Connections<I> {
 
     /// Goes on after a turn of a connection. Returns why the server stops, if it does.
     fn after_turn(&mut self, key: usize, turned: Option<Turned>) -> Result<(), Stop>
-        ensures { self.new.serving ≡ self.old.serving }
+        ensures serving { self.new.serving ≡ self.old.serving }
+        ensures stops { (leave : Leave) → turned ≡ Some (Turned.Over leave)
+            → result ≡ settled leave }
     {
         match turned {
             Some(Turned::Again) => self.take_up(key),
@@ -218,12 +222,12 @@ impl<I: BufRead + Drop> Connections<I> {
         }
     }
 
-    /// Holds the reply to the request that a connection answered in its last turn, which came to
-    /// `turned`, if it goes on and answered one whose reply is to be held.
+    /// Holds the reply that a connection put out in its last turn, which came to `turned`, if it goes
+    /// on and put out one that is to be held.
     fn hold(&mut self, clock: &impl Clock, key: usize, turned: Option<Turned>) -> Result<(), Stop>
         ensures { self.new.serving ≡ self.old.serving }
     {
-        match (turned, self.serving.flow()) {
+        match (turned, self.serving.flow(key)) {
             (Some(Turned::Again | Turned::Waits), Some(Flow::Held(millis))) => {
                 or_stop(self.delays.hold(clock, key, millis))
             }

@@ -1,13 +1,13 @@
 //! Serves the connections of a hall, and writes what they ask and how they end.
 
-ghost use Rattle.std.specs.Prelude.{◌≡◌, ◌≢◌, ◌↔◌, ◌+◌, [], IsTrue, None, Ok, OnOk, Some, flat_map};
-ghost use Rattle.std.specs.Prelude.{min};
+ghost use Rattle.std.specs.Prelude.{◌≡◌, ◌↔◌, ◌+◌, [], IfOk, IfSome, IsTrue, None, Ok, OnOk, Some};
+ghost use Rattle.std.specs.Prelude.{flat_map, min};
 ghost use Rattle.slab.specs.Slab.{Updates, get};
 ghost use Rattle.text_writer.specs.{WritesOut};
 ghost use Rattle.wire_hall.specs.{SeatSeen, tells};
 ghost use Rattle.wire_peer.specs.{log_of};
-ghost use Rattle.test_server.specs.Serving.{IsServing, IsSteered, IsStepped, ServesOn, gate_after};
-ghost use Rattle.test_server.specs.Serving.{settled};
+ghost use Rattle.test_server.specs.Serving.{IsServing, IsSteered, IsStepped, ServesOn, TakesTurn};
+ghost use Rattle.test_server.specs.Serving.{gate_after, reply_flow, settled};
 ghost use Rattle.test_server.specs.Transcript.{end_text, told_text};
 
 use crate::guide::{Guide, gate_for};
@@ -122,12 +122,15 @@ impl<L: Gated + Drop, H: Handler + Drop> Serving<L, H> {
         self.guide.is_idle()
     }
 
-    /// Returns what becomes of the reply to the last request of the last turn, if one was answered
-    /// in it.
-    pub fn flow(&self) -> Option<Flow>
-        ensures { result ≡ self.now.guide.flow }
+    /// Returns what becomes of the reply that the connection of this key put out in the last turn,
+    /// if that was its turn, and it put one out and has it to send.
+    pub fn flow(&self, key: usize) -> Option<Flow>
+        ensures { result ≡ reply_flow (get self.now.hall.seats key) self.now.guide.flow }
     {
-        self.guide.flow()
+        match self.hall.seat(key) {
+            Some(seat) if !seat.output().is_empty() => self.guide.flow(),
+            _ => None,
+        }
     }
 
     /// Returns the key that the next connection has.
@@ -188,31 +191,31 @@ impl<L: Gated + Drop, H: Handler + Drop> Serving<L, H> {
         write_end(number, leave, out)
     }
 
-    /// Says what becomes of the reply to the request that the connection of this key answered last
-    /// in its turn, if it answered one. What was cut stays cut.
+    /// Says what becomes of the reply that the connection of this key put out in its turn, if it put
+    /// one out. What was cut stays cut.
     fn steer(&mut self, key: usize)
-        requires { get self.old.hall.seats key ≢ None }
         ensures steered { IsSteered (tells L.received L.sent L.ends L.waits L.failures) L.gate
-            self.old.guide.flow key self.old.hall.seats self.new.hall.seats }
+            (reply_flow (get self.old.hall.seats key) self.old.guide.flow) key
+            self.old.hall.seats self.new.hall.seats }
         ensures logged { self.new.hall.logged ≡ self.old.hall.logged }
         ensures next { self.new.hall.next ≡ self.old.hall.next }
         ensures guide { self.new.guide ≡ self.old.guide }
         ensures ended { self.new.ended ≡ self.old.ended }
     {
-        let Some(flow) = self.guide.flow() else {
+        let Some(flow) = self.flow(key) else {
             return;
         };
         let gate = match self.hall.seat(key) {
             Some(seat) => seat.link().gate(),
-            None => unreachable!(),
+            None => return,
         };
         self.hall.set_gate(key, gate_after(flow, gate));
     }
 
     /// Has the connection of this key take a turn of at most `most` steps, which is a single one
-    /// where there are rules, and writes the entries that it made. If it is over then, forgets it and writes its last line, and
-    /// else says what becomes of its replies. Returns what the turn came to, or `None` if there is
-    /// no such connection.
+    /// where there are rules, and writes the entries that it made. If it is over then, forgets it and
+    /// writes its last line, and else says what becomes of its reply. Returns what the turn came to,
+    /// or `None` if there is no such connection.
     ///
     /// # Errors
     ///
@@ -224,6 +227,9 @@ impl<L: Gated + Drop, H: Handler + Drop> Serving<L, H> {
         out: &mut W,
     ) -> Result<Option<Turned>, Stop>
         ensures none { result ≡ Ok None → get self.old.hall.seats key ≡ None }
+        ensures turned { IfOk result (λ o. IfSome o (λ how. TakesTurn H.does H.stops
+            (tells L.received L.sent L.ends L.waits L.failures) L.gate key how
+            self.old self.new (W.contents out.old) (W.contents out.new))) }
         ensures served { OnOk result (ServesOn H.does H.stops
             (tells L.received L.sent L.ends L.waits L.failures) L.gate
             self.old self.new (W.contents out.old) (W.contents out.new)) }

@@ -5,4 +5,4 @@ use Rattle.test_server.proofs.connections.Connections.answer_one.Goals as goal
 
 pub returns : goal.returns
 returns g c =
-    on_any c.after_turn.result (subst (λ s. GoesOnServing c.args.self.now.serving s (g.W.Write.contents c.args.out.now) (g.W.Write.contents c.turn.new.out)) (sym c.after_turn.ensures) c.in_ok-turned.ensures.served)
+    on_any c.after_turn.result (subst (λ s. GoesOnServing c.args.self.now.serving s (g.W.Write.contents c.args.out.now) (g.W.Write.contents c.turn.new.out)) (sym c.after_turn.ensures.serving) c.in_ok-turned.ensures.served)
