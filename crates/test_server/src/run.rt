@@ -1,7 +1,7 @@
 //! Runs the server, from its first line to its last.
 
 ghost use Rattle.std.specs.Prelude.{◌≡◌, ◌<◌, IfErr, IfOk, List, OnOk, Option, min, true, ℕ};
-ghost use Rattle.test_script.specs.{IsScript};
+ghost use Rattle.test_script.specs.{FailsAt, IsScript};
 ghost use Rattle.text_writer.specs.{WritesOut};
 ghost use Rattle.test_server.specs.Runs.{GoesOnServing, HasBegun, HasServed, IsEnough, IsRun};
 ghost use Rattle.test_server.specs.Runs.{ShowsServing};
@@ -90,9 +90,14 @@ struct Scripts {
 }
 
 /// Reads the script out of its text.
+///
+/// # Errors
+///
+/// Returns the first line that is no rule, and why.
 fn parse_scripts(alloc: Global, text: &[u8]) -> Result<Scripts, ScriptFault>
     ensures script { IfOk result (λ s. IsScript text.now s.script.rules.items) }
     ensures guide { IfOk result (λ s. IsScript text.now s.guide.rules.items) }
+    ensures fault { IfErr result (λ fault. FailsAt text.now fault) }
 {
     let script = Script::parse(alloc, text)?;
     let guide = Script::parse(alloc, text)?;
