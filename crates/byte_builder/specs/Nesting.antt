@@ -83,8 +83,8 @@ pub record CanEnd (outer inner : Builder) : Type 0 where
 abbrev pub with_inner : Builder → Builder → Builder
 with_inner outer inner = record outer { end = inner.end + 1; count = outer.count + 1 }
 
--- The inner container is ended and is a pair of the outer one; or the room is too short for the ends
--- of all containers that are open; or the numbers are out of range.
+-- The inner container is ended and is a pair of the outer one; or the room is too short for the
+-- ends of all containers that are open; or the numbers are out of range.
 pub data IsEnded (room : List ℕ) (outer inner : Builder) (new : List ℕ) (after : Builder)
     : Built → Type 0 where
   is_ended : {w : Built} → CanEnd outer inner → inner.end + inner.depth ≤ length room

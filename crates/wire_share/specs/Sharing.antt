@@ -125,8 +125,8 @@ pub record Awaits (d : DownSeen) (u : UpSeen) (reply : ReadyReply) : Type 0 wher
   pub last : reply.last ≡ true
   pub awaited : d.awaited ≡ Some (record { upstream = u.number; call = reply.call })
 
--- The request of a downstream, which is open, was answered with the ready reply of an upstream, with
--- this result.
+-- The request of a downstream, which is open, was answered with the ready reply of an upstream,
+-- with this result.
 abbrev pub GiveStep : Result (Unit {0}) GiveRefusal → DownSeen → UpSeen → DownSeen → UpSeen
     → Type 0
 GiveStep (Ok _) d u d' u' =

@@ -165,8 +165,8 @@ impl Routes {
     ///
     /// # Errors
     ///
-    /// Returns `AllocError` if memory runs out for a cursor that is open. What the request has ended is
-    /// forgotten then, and the oldest cursor may be gone.
+    /// Returns `AllocError` if memory runs out for a cursor that is open. What the request has ended
+    /// is forgotten then, and the oldest cursor may be gone.
     pub fn answered(
         &mut self,
         request: RawDocument<'_>,

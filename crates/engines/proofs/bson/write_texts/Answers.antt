@@ -10,7 +10,7 @@ pub loop-bytes-init : goal.loop-bytes-init
 loop-bytes-init g c =
     let known = g.W.Write.contents c.args.out.now in
     subst (λ (t : InputLeft). Reached c.args.input.now 1 t.left known known × (1 + length t.left.rest ≤ length c.args.input.now + 1)) (sym c.new-texts.ensures)
-        (begins c.args.input.now known, omega arith)
+    (begins c.args.input.now known, omega arith)
 
 pub returns-in-Ok-AtEnd-clause-ok : goal.returns-in-Ok-AtEnd-clause-ok
 returns-in-Ok-AtEnd-clause-ok g c =
