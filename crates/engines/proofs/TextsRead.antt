@@ -1,5 +1,5 @@
 -- The documents of Extended JSON texts, one after another, and their bytes.
-use Rattle.std.proofs.Common.{◌≡◌, ◌⊎◌, inl, inr, ◌++◌, [], ◌∷◌, ℕ, ◌+◌, suc, List, length, Option, Some, None, refl, sym, ap, subst, ◌∙◌, append-nil, append_assoc}
+use Rattle.std.proofs.Common.{◌≡◌, ◌⊎◌, inl, inr, ◌++◌, [], ◌∷◌, ℕ, ◌+◌, List, length, Option, Some, None, refl, sym, ap, subst, ◌∙◌, arith, append-nil, append_assoc, length-append}
 use Rattle.std.specs.Io.KnownBytes.{Appends}
 use Rattle.std.proofs.KnownBytes.{Appends-nil, Appends-trans}
 use Rattle.bson_elem.specs.Spelling.{document, elements}
@@ -27,16 +27,12 @@ Reached input number left old new =
 pub begins : (input : List ℕ) (old : Option (List ℕ)) → Reached input 1 (record { frame = Start; rest = input }) old old
 begins input old = ([], refl, refl, Appends-nil old)
 
-one_more : (ds : List (List Pair)) (d : List Pair) → length (ds ++ d ∷ []) ≡ length ds + 1
-one_more [] d = refl
-one_more (e ∷ ds) d = ap suc (one_more ds d)
-
 pub goes_on : (input : List ℕ) (number : ℕ) (left behind : Left) (d : List Pair) (old mid new : Option (List ℕ)) → Reached input number left old mid → Gives (next_in left.frame left.rest) (Some d) behind
     → Appends mid new (document (elements (tree_of d))) → Reached input (number + 1) behind old new
 goes_on input number left behind d old mid new (ds, reads, same, appends) gives more = (
   ds ++ d ∷ [],
   reads_more _ left behind ds d reads gives,
-  ap (λ (n : ℕ). n + 1) (same ∙ sym (one_more ds d)),
+  omega (arith, same, length-append ds (d ∷ [])),
   subst (Appends old new) (sym (bytes_more ds d)) (Appends-trans old mid new (bytes_of_each ds) (document (elements (tree_of d))) appends more),
 )
 
