@@ -2,7 +2,7 @@
 use Rattle.std.specs.Prelude.{◌≡◌, ℕ, ℤ, pos, List, [], ◌∷◌, ◌++◌, Bool, true, false, is_some, not}
 use Rattle.std.specs.Prelude.{Result, Ok, Err}
 use Rattle.std.specs.Prelude.{Option, Some, None, codes, drop, length, map, take, ◌-◌}
-use Rattle.std.specs.Prelude.{if◌then◌else◌}
+use Rattle.std.specs.Prelude.{if◌then◌else◌, nat_eq}
 use Rattle.std.specs.Str.{bytes_eq}
 use Rattle.bson_elem.specs.declared.kinds.Kind.TheVariants as kinds
 use Rattle.bson_elem.specs.{Tree, inner_pair, leaf_pair, no_pairs}
@@ -326,9 +326,9 @@ no_index_pairs =
     error_pairs (codes "Must specify at least one index to create") (pos 2) (codes "BadValue")
 
 abbrev pub created_by : StoreView → NamespaceView → List TreeValue → Result Reply CommandError
-created_by s n [] = unchanged s no_index_pairs
-created_by s n (v ∷ vs) =
-    and_then (with_indexes (v ∷ vs) (indexes_in n s.collections)) (λ is.
+created_by s n vs =
+    if nat_eq (length vs) 0 then unchanged s no_index_pairs
+    else and_then (with_indexes vs (indexes_in n s.collections)) (λ is.
     Ok (created_reply s n is))
 
 -- the answer of createIndexes and what is held after it, or its error
