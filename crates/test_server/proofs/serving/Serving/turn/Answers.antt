@@ -1,10 +1,11 @@
 use Rattle.std.proofs.Common.{sym, subst, ap, ◌∙◌, ◌≡◌, Some, None}
 use Rattle.slab.specs.Slab.{Updates, get}
 use Rattle.wire_hall.specs.{tells}
+use Rattle.wire_hall.specs.declared.turned.Turned.{Turned}
 use Rattle.wire_peer.specs.{log_of}
 use Rattle.test_server.specs.declared.guide.Guide.{Guide}
 use Rattle.test_server.specs.Guides.{Follows}
-use Rattle.test_server.specs.Serving.{IsForgotten, IsSteered, reply_flow}
+use Rattle.test_server.specs.Serving.{IsForgotten, IsSteered, TakesTurn, reply_flow}
 use Rattle.test_server.proofs.Steps.{serves_turn, turns_on, turns_over}
 use Rattle.test_server.proofs.serving.Serving.turn.Goals as goal
 
@@ -17,18 +18,21 @@ returns-in-Ok-close-clause-turned g c =
     let seat = c.in-Some.ensures.turned.1 in
     let there = c.in-Some.ensures.turned.3.changed in
     let stays = subst (λ s. get s c.args.key ≡ Some seat) (sym c.tell.ensures.seats) there in
-    turns_over g.H.Handler.does g.H.Handler.stops t g.L.Gated.gate old c.close.new.self c.turn.new.self.seats made c.args.key _ c.in-Some.turned c.in-Over.leave seat _ (g.W.Write.contents c.tell.new.out) _
+    let before = g.W.Write.contents c.args.out.now in
+    let after = g.W.Write.contents c.close.new.out in
+    subst (λ (how : Turned). TakesTurn g.H.Handler.does g.H.Handler.stops t g.L.Gated.gate c.args.key how old c.close.new.self before after) c.in-Over.is
+    (turns_over g.H.Handler.does g.H.Handler.stops t g.L.Gated.gate old c.close.new.self c.turn.new.self.seats made c.args.key _ c.in-Some.turned c.in-Over.leave seat _ (g.W.Write.contents c.tell.new.out) _
     c.steps-steps.ensures c.in-Over.is c.in-Some.ensures.turned
     (subst (λ l. IsForgotten made l) (sym c.close.ensures.logged) (c.in-Ok-tell.ensures.forgotten, c.tell.ensures.handler)) there
     (subst (λ s. Updates s c.close.new.self.hall.seats c.args.key None) c.tell.ensures.seats c.in-Ok-close.ensures.seats)
     (ap (λ (u : Guide). u.script.rules.items) c.close.ensures.guide ∙ follows.0)
     (c.close.ensures.next ∙ c.tell.ensures.next ∙ c.turn.ensures.next) (c.close.ensures.ended seat stays)
-    c.in-Ok-tell.ensures.told (c.in-Ok-close.ensures.told seat stays)
+    c.in-Ok-tell.ensures.told (c.in-Ok-close.ensures.told seat stays))
 
 pub returns-in-Ok-close-clause-served : goal.returns-in-Ok-close-clause-served
 returns-in-Ok-close-clause-served g c =
     serves_turn g.H.Handler.does g.H.Handler.stops (tells g.L.Link.received g.L.Link.sent g.L.Link.ends g.L.Link.waits g.L.Link.failures) g.L.Gated.gate
-    c.args.self.now c.close.new.self c.args.key c.in-Some.turned _ _ (returns-in-Ok-close-clause-turned g c)
+    c.args.self.now c.close.new.self c.args.key _ _ _ (returns-in-Ok-close-clause-turned g c)
 
 pub returns-in-Again-clause-turned : goal.returns-in-Again-clause-turned
 returns-in-Again-clause-turned g c =
