@@ -1537,7 +1537,7 @@ document 49
     ),
     (
         command("insert", IDS, element(BOOLEAN, "ordered", b"\0")),
-        ID_DOCUMENTS,
+        [sequence("documents", ID_DOCUMENTS)],
         """\
 request "insert"
 document 45
