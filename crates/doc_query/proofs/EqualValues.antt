@@ -1,11 +1,10 @@
 -- Documents and arrays are equal by their names and by their values.
-use Rattle.std.proofs.Common.{◌≡◌, ◌<◌, ◌≤◌, ℕ, suc, ◌+◌, Bool, true, false, ◌&&◌, List, [], ◌∷◌, Option, Some, None, String, string_bytes, length, map, drop, get_or, refl, sym, ap, ◌∙◌}
+use Rattle.std.proofs.Common.{◌≡◌, ◌<◌, ◌≤◌, ℕ, suc, ◌+◌, Bool, true, false, ◌&&◌, List, [], ◌∷◌, Option, Some, None, String, string_bytes, length, map, refl, sym, ap, ◌∙◌}
 use lib.Pointwise.{pointwise}
 use Rattle.std.specs.Fmt.{decimal}
 use Rattle.std.specs.Str.{bytes_eq}
 use Rattle.std.specs.String.{string_eq}
 use Rattle.std.specs.declared.alloc.Global.{Global}
-use Rattle.std.proofs.lemmas.List.{drop_all}
 use Rattle.std.proofs.lemmas.Slice.Eq.{bytes_eq-Decides}
 use Rattle.bson_elem.specs.declared.kinds.Kind.{Kind}
 use Rattle.bson_elem.specs.declared.kinds.Kind.TheVariants as kinds
@@ -16,7 +15,6 @@ use Rattle.bson_doc.specs.Array.{array_tree}
 use Rattle.bson_doc.specs.Bson.{value_of}
 use Rattle.bson_doc.specs.Document.{tree_of}
 use Rattle.doc_query.specs.Comparing.{PlaceView, place}
-use Rattle.doc_query.proofs.Depths.{values_left}
 use Rattle.doc_query.specs.Equality.{equal, equal_alone, equal_at, equal_each, equal_pairs}
 
 none_between : (b c : Bool) → false ≡ (b && false && c)
@@ -101,13 +99,6 @@ unlike_lengths (v ∷ vs) [] n = refl
 unlike_lengths (v ∷ vs) (w ∷ ws) n =
     ap (λ (e : Bool). equal (value_of v) (value_of w) && e) (unlike_lengths vs ws (λ e. n (ap suc e)))
     ∙ none_then (equal (value_of v) (value_of w))
-
-pub all_equal : (vs ws : List Bson) (i : ℕ) → length vs ≤ i → length ws ≤ i → equal_each (map value_of (drop i vs)) (map value_of (drop i ws)) ≡ true
-all_equal vs ws i e f = (λ j. equal_each (map value_of (drop_all i vs e j)) (map value_of (drop_all i ws f j)))
-
-pub first_equal : (vs ws : List Bson) (i : ℕ) (v w : Bson) → i < length vs → i < length ws → v ≡ get_or vs i v → w ≡ get_or ws i w
-    → equal_each (map value_of (drop i vs)) (map value_of (drop i ws)) ≡ (equal (value_of v) (value_of w) && equal_each (map value_of (drop (i + 1) vs)) (map value_of (drop (i + 1) ws)))
-first_equal vs ws i v w lt lt' is is' = λ j. equal_each (values_left vs i v lt is j) (values_left ws i w lt' is' j)
 
 -- documents are equal by their names, as the code compares them, and by their values
 pub equal_named : (ps qs : List (List ℕ × TreeValue)) (ks ms : List (String Global)) → map string_bytes ks ≡ map (λ p. p.0) ps → map string_bytes ms ≡ map (λ p. p.0) qs

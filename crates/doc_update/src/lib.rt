@@ -23,7 +23,7 @@ mod updates;
 mod upserts;
 mod write_errors;
 
-pub use deletes::after_deletes;
+pub use deletes::{Deletes, after_deletes};
 pub use identity::{id_fault, id_in, identified, is_taken};
 pub use updates::{Updates, after_updates};
 pub use write_errors::write_error;
