@@ -2,6 +2,7 @@
 
 ghost use Rattle.std.specs.Prelude.{◌≡◌, ◌≢◌, ◌∷◌, [], ℕ, List, Ok, IfErr, IfOk, OnErr, OnOk};
 ghost use Rattle.std.specs.Prelude.{false, length, option_map, slice_get, true};
+ghost use Rattle.std.specs.Io.KnownBytes.{Keeps};
 ghost use Rattle.wire_channels.specs.Owners.{Calls, ClientAct, EndsDown, SendsUp};
 ghost use Rattle.wire_end.specs.Ends.{EndRuns, FailsAs, HandsOut, IsWaiting, NextEnds, NextLater};
 ghost use Rattle.wire_end.specs.Ends.{StandsAs, new_end};
@@ -12,7 +13,7 @@ ghost use Rattle.wire_peer.specs.{IsCallRefusal, MayTake, content_of};
 ghost use Rattle.wire_peer.specs.declared.calls.CallKind.TheVariants.{Exhaust, Plain};
 ghost use Rattle.wire_peer.specs.declared.calls.CallKind.TheVariants.{Unacknowledged};
 ghost use Rattle.wire_peer.specs.declared.client_state.ClientState.TheVariants.{Closed};
-ghost use Rattle.wire_stream.specs.{FlushesLater, Rose};
+ghost use Rattle.wire_stream.specs.{AddsTurns, FlushesLater, Rose};
 
 use crate::call_record::CallRecord;
 use crate::next::{EndFault, Next};
@@ -156,9 +157,13 @@ impl<L: Link + Drop> ClientEnd<L> {
     pub fn flush(&mut self) -> Result<Flushed, LinkFault>
         ensures ran { (gone : List ℕ)
             × EndRuns L.sent L.received self.old (SendsUp gone ∷ []) self.new }
+        ensures inlet { self.new.inlet ≡ self.old.inlet }
         ensures all { result ≡ Ok Flushed.All → self.new.own.client.requests.output ≡ [] }
         ensures later { result ≡ Ok Flushed.Later → self.new.own.client.requests.output ≢ [] }
         ensures waits { FlushesLater result (L.waits self.old.link) (L.waits self.new.link) }
+        ensures received { Keeps (L.received self.old.link) (L.received self.new.link) }
+        ensures turns { AddsTurns (L.turns self.old.link) (L.turns self.new.link) [] }
+        ensures ends { L.ends self.new.link ≡ L.ends self.old.link }
         ensures works { OnOk result (L.failures self.new.link ≡ L.failures self.old.link) }
         ensures fails { OnErr result (Rose (L.failures self.old.link) (L.failures self.new.link)) }
     {
