@@ -95,6 +95,8 @@ impl<L: Link + Drop> ClientEnd<L> {
         ensures refused { IfErr result (λ e. e ≢ CallRefusal.OutOfMemory
             → IsCallRefusal self.old.own.client Plain (content_of payload.entry) e) }
         ensures unchanged { OnErr result (self.new ≡ self.old) }
+        ensures link { self.new.link ≡ self.old.link }
+        ensures inlet { self.new.inlet ≡ self.old.inlet }
     {
         self.call_as(CallKind::Plain, payload)
     }
@@ -110,6 +112,8 @@ impl<L: Link + Drop> ClientEnd<L> {
         ensures refused { IfErr result (λ e. e ≢ CallRefusal.OutOfMemory
             → IsCallRefusal self.old.own.client Exhaust (content_of payload.entry) e) }
         ensures unchanged { OnErr result (self.new ≡ self.old) }
+        ensures link { self.new.link ≡ self.old.link }
+        ensures inlet { self.new.inlet ≡ self.old.inlet }
     {
         self.call_as(CallKind::Exhaust, payload)
     }
@@ -125,6 +129,8 @@ impl<L: Link + Drop> ClientEnd<L> {
         ensures refused { IfErr result (λ e. e ≢ CallRefusal.OutOfMemory
             → IsCallRefusal self.old.own.client Unacknowledged (content_of payload.entry) e) }
         ensures unchanged { OnErr result (self.new ≡ self.old) }
+        ensures link { self.new.link ≡ self.old.link }
+        ensures inlet { self.new.inlet ≡ self.old.inlet }
     {
         self.call_as(CallKind::Unacknowledged, payload)
     }
@@ -136,6 +142,8 @@ impl<L: Link + Drop> ClientEnd<L> {
         ensures refused { IfErr result (λ e. e ≢ CallRefusal.OutOfMemory
             → IsCallRefusal self.old.own.client kind (content_of payload.entry) e) }
         ensures unchanged { OnErr result (self.new ≡ self.old) }
+        ensures link { self.new.link ≡ self.old.link }
+        ensures inlet { self.new.inlet ≡ self.old.inlet }
     {
         let alloc = *self.records.allocator();
         let Ok(record) = CallRecord::new(alloc, kind, payload) else {
