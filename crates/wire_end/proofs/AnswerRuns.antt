@@ -7,12 +7,13 @@ use Rattle.wire_stream.specs.{Turn}
 use Rattle.wire_peer.specs.{AnswerStep, Does, Stops, log_of}
 use Rattle.wire_peer.specs.declared.log.Logged.{Logged}
 use Rattle.wire_peer.specs.declared.server_state.AnswerRefusal.{AnswerRefusal}
+use Rattle.wire_peer.specs.declared.server_state.ServerState.TheVariants.{Open}
 use Rattle.wire_channels.specs.{ServerAct}
 use Rattle.wire_channels.specs.Owners.{Answers, SendsDown}
-use Rattle.wire_end.specs.Answering.{AnswersAs, SentPart, WaitsAlone, end_of}
+use Rattle.wire_end.specs.Answering.{AnswersAs, SentPart, StandsAfter, WaitsAlone, end_of}
 use Rattle.wire_end.specs.ServerEnds.{ServerEndMoves, ServerEndRuns, ServerEndSeen, with_logged}
 use Rattle.wire_end.specs.Serving.{Seen, seen}
-use Rattle.wire_end.proofs.OneAnswer.{flushed, no_replies, replies_cut, replies_sent, step_of}
+use Rattle.wire_end.proofs.OneAnswer.{answered_open, flushed, no_replies, refused_stands, replies_cut, replies_sent, step_of}
 use Rattle.wire_end.proofs.ServerRuns.{end_runs_on, moves_runs}
 
 module _ {H L : Type 0} (does : Does H) (stops : Stops H) (received sent : L → Option (List ℕ)) (turns : L → Option (List Turn)) (failures ends waits : L → ℕ) where
@@ -30,6 +31,11 @@ module _ {H L : Type 0} (does : Does H) (stops : Stops H) (received sent : L →
   was_refused old mid from to refusal r stays request alone =
       no_replies does stops refusal old.server mid.server request mid.server.next_id (at from old) (at to mid) alone.is_open alone.one alone.whole (answer_step old mid from to (Err refusal) r)
       (ap failures stays) (subst (λ l. Appends (sent old.link) (sent l) []) (sym stays) (Appends-nil (sent old.link)))
+
+  -- how the server stands then
+  pub stands_refused : (old mid : ServerEndSeen L) (from to : Logged H) (refusal : AnswerRefusal) → ServerEndRuns does stops sent received old from (Answers 0 (Err refusal) ∷ []) mid to
+      → old.server.state ≡ Open → StandsAfter (end_of refusal) mid.server.state
+  stands_refused old mid from to refusal r is_open = refused_stands does stops refusal old.server mid.server (at from old) (at to mid) is_open (answer_step old mid from to (Err refusal) r)
 
   module _ (n : ℕ) (old mid new : ServerEndSeen L) (from to : Logged H) (answered : ServerEndRuns does stops sent received old from (Answers 0 (Ok n) ∷ []) mid to) (stays : mid.link ≡ old.link)
       (gone : List ℕ) (moves : ServerEndMoves sent received mid (SendsDown gone ∷ []) new) where
@@ -57,3 +63,9 @@ module _ {H L : Type 0} (does : Does H) (stops : Stops H) (received sent : L →
     were_cut request alone =
         let f = flushed mid.server new.server gone moves.moves in
         replies_cut does stops n old.server mid.server new.server request gone (at from old) (at to new) alone.one (answer_step old mid from to (Ok n) answered) alone.sent went f.0
+
+    -- the server is open, however many of them were sent
+    pub stays_open : old.server.state ≡ Open → new.server.state ≡ Open
+    stays_open is_open =
+        let f = flushed mid.server new.server gone moves.moves in
+        answered_open does stops n old.server mid.server new.server (at from old) (at to new) is_open (answer_step old mid from to (Ok n) answered) f.1

@@ -14,11 +14,22 @@ use Rattle.wire_peer.specs.declared.log.NoReplies.TheVariants as none
 use Rattle.wire_peer.specs.declared.server_state.AnswerRefusal.{AnswerRefusal}
 use Rattle.wire_peer.specs.declared.server_state.AnswerRefusal.TheVariants as refusals
 use Rattle.wire_peer.specs.declared.server_state.ServerCause.{ServerCause}
-use Rattle.wire_peer.specs.declared.server_state.ServerState.TheVariants.{Open}
+use Rattle.wire_peer.specs.declared.server_state.ServerCause.TheVariants as causes
+use Rattle.wire_peer.specs.declared.server_state.ServerState.{ServerState}
+use Rattle.wire_peer.specs.declared.server_state.ServerState.TheVariants.{Closed, Open}
 use Rattle.wire_channels.specs.{ServerEnd, ServerMovesOn, ServerRun}
 use Rattle.wire_channels.specs.Owners.{Answers, SendsDown}
-use Rattle.wire_end.specs.Answering.{AnswersAs, GotEntry, SentPart, end_of}
+use Rattle.wire_end.specs.Answering.{AnswersAs, GotEntry, SentPart, StandsAfter, end_by, end_of}
 use Rattle.wire_end.specs.Serving.{Seen}
+
+-- a server that closed for a cause stands as serving that this cause ended says
+pub closed_stands : (cause : ServerCause) (state : ServerState) → state ≡ Closed cause → StandsAfter (end_by cause) state
+closed_stands causes.Ended state is = is
+closed_stands causes.EndedInside state is = is
+closed_stands (causes.Message fault) state is = is
+closed_stands causes.ReplyTooLarge state is = is
+closed_stands causes.NoMemory state is = inr is
+closed_stands causes.HandlerFailed state is = is
 
 module _ {H : Type 0} (does : Does H) (stops : Stops H) where
   -- a handler that answered, and one that stopped, has its entry
@@ -76,6 +87,14 @@ module _ {H : Type 0} (does : Does H) (stops : Stops H) where
   no_replies refusals.NoSuchRequest s s' front id' old new is_open only whole x works sent =
       let none : length s.waiting ≡ 1 = ap length only in absurd (let le = x.1 in omega arith)
 
+  -- how the server stands then
+  pub refused_stands : (refusal : AnswerRefusal) (s s' : ServerView) (old new : Seen H) → s.state ≡ Open → AnswerStep does stops 0 (Err refusal) s old.handler old.log s' new.handler new.log
+      → StandsAfter (end_of refusal) s'.state
+  refused_stands (refusals.NowClosed cause) s s' old new is_open x = closed_stands cause s'.state (ap (λ (q : ServerView). q.state) x.1)
+  refused_stands refusals.OutOfMemory s s' old new is_open x = inl (ap (λ (q : ServerView). q.state) x.2 ∙ is_open)
+  refused_stands refusals.Closed s s' old new is_open x = absurd (x.0 is_open)
+  refused_stands refusals.NoSuchRequest s s' old new is_open x = inl (ap (λ (q : ServerView). q.state) x.2 ∙ is_open)
+
   -- ---- replies
 
   -- what is put behind nothing is all that waits
@@ -110,6 +129,11 @@ module _ {H : Type 0} (does : Does H) (stops : Stops H) where
         spelled_front s.waiting front x.2.1.bytes m only x.2.1.at x.2.1.spelled,
         (answered s.connection m a.0 old new a.1, (λ n. cc), gone, after.output, sent, out_is (replies_of s) x.2.2.0 (replies id m.id (asked_by m) a.0) (next_id id (asked_by m) a.0) empty a.3 ∙ split),
       )
+
+  -- the server is open then, whatever was sent of them
+  pub answered_open : (n : ℕ) (s mid after : ServerView) (old new : Seen H) → s.state ≡ Open → AnswerStep does stops 0 (Ok n) s old.handler old.log mid new.handler new.log
+      → after ≡ record mid { output = after.output } → after.state ≡ Open
+  answered_open n s mid after old new is_open x others = ap (λ (q : ServerView). q.state) others ∙ ap (λ (q : ServerView). q.state) x.2.2.2 ∙ is_open
 
   -- ---- by the acts of the end
 

@@ -10,9 +10,9 @@ use Rattle.wire_peer.specs.{Does, ServerView, Stops, end_cause, new_server}
 use Rattle.wire_peer.specs.declared.log.Logged.{Logged}
 use Rattle.wire_peer.specs.declared.server_state.ServerCause.{ServerCause}
 use Rattle.wire_peer.specs.declared.server_state.ServerCause.TheVariants as causes
-use Rattle.wire_peer.specs.declared.server_state.ServerState.TheVariants.{Open}
+use Rattle.wire_peer.specs.declared.server_state.ServerState.TheVariants.{Closed, Open}
 use Rattle.wire_channels.specs.{ServerAct, bytes_taken_up}
-use Rattle.wire_end.specs.Answering.{AnswersAs, CountsLater, WaitsAlone, end_by, end_with}
+use Rattle.wire_end.specs.Answering.{AnswersAs, CountsLater, StandsAfter, WaitsAlone, end_by, end_with}
 use Rattle.wire_end.specs.NextRequests.{AreBetween, Closes, HasGoodHeader, RequestComes, RequestFails, RequestLater}
 use Rattle.wire_end.specs.ServerEnds.{ServerEndMoves, ServerEndRuns, ServerEndSeen}
 use Rattle.wire_end.specs.Serving.{AllSent, EndsAs, IsUnused, Seen, Served, seen}
@@ -21,6 +21,7 @@ use Rattle.wire_end.specs.declared.next.RequestFault.{RequestFault}
 use Rattle.wire_end.specs.declared.next.RequestFault.TheVariants as faults
 use Rattle.wire_end.specs.declared.serving.ServeEnd.{ServeEnd}
 use Rattle.wire_end.specs.declared.serving.ServeEnd.TheVariants as end
+use Rattle.wire_end.proofs.OneAnswer.{closed_stands}
 use Rattle.wire_end.proofs.Progress.{Progress, all_sent, answers_as, ends_answer, ends_budget, progress_came, progress_sent, progress_start, rose_from, served_by}
 use Rattle.wire_end.proofs.ServerRuns.{end_runs_on, moves_runs, nothing_done}
 
@@ -209,6 +210,27 @@ module _ {H L : Type 0} (does : Does H) (stops : Stops H) (received sent : L →
         ended budget end.OutOfMemory (request ++ new.inlet) lt refl (λ p all count. (fails ∙ rests.works, x.0.told ∙ rests.told, inl (all, count, header)))
     ends_fault budget (faults.Closed cause) lt (inl (shut, same)) fails = absurd (let live = is_live in cc)
     ends_fault budget (faults.Closed cause) lt (inr (takes, closes)) fails = by_cause budget cause lt (fails ∙ rests.works) closes
+
+    -- ---- how the server stands then
+
+    pub stands_later : RequestComes ends (Ok Later) request e new → StandsAfter end.Later new.server.state
+    stands_later x = ap (λ (s : ServerView). s.state) x.0.same ∙ is_live
+
+    closed_by : (cause : ServerCause) → Closes ends cause request e new → new.server.state ≡ Closed cause
+    closed_by (causes.Message fault) (is_bad, more, is, told) = ap (λ (s : ServerView). s.state) is
+    closed_by causes.Ended (is_open, for, none, is, rose) = ap (λ (s : ServerView). s.state) is
+    closed_by causes.EndedInside (is_open, for, none, is, rose) = ap (λ (s : ServerView). s.state) is
+    closed_by causes.ReplyTooLarge (is_open, for, none, is, rose) = ap (λ (s : ServerView). s.state) is
+    closed_by causes.NoMemory (is_open, for, none, is, rose) = ap (λ (s : ServerView). s.state) is
+    closed_by causes.HandlerFailed (is_open, for, none, is, rose) = ap (λ (s : ServerView). s.state) is
+
+    pub stands_fault : (fault : RequestFault) → RequestComes ends (Err fault) request e new → StandsAfter (end_with fault) new.server.state
+    stands_fault (faults.Link fault) x = ap (λ (s : ServerView). s.state) x.same ∙ is_live
+    stands_fault faults.OutOfMemory x = inl (ap (λ (s : ServerView). s.state) x.0.same ∙ is_live)
+    stands_fault (faults.Closed cause) (inl (shut, same)) = absurd (let live = is_live in cc)
+    stands_fault (faults.Closed cause) (inr (takes, closes)) = closed_stands cause new.server.state (closed_by cause closes)
+
+    -- ---- a request comes, or none can
 
     -- as many as may wait already
     pub never_full : RequestComes ends (Ok Full) request e new → ⊥

@@ -10,14 +10,15 @@ use Rattle.wire_peer.specs.declared.server_state.AnswerRefusal.{AnswerRefusal}
 use Rattle.wire_peer.specs.declared.server_state.AnswerRefusal.TheVariants as refusals
 use Rattle.wire_peer.specs.declared.server_state.ServerCause.{ServerCause}
 use Rattle.wire_peer.specs.declared.server_state.ServerCause.TheVariants as causes
-use Rattle.wire_peer.specs.declared.server_state.ServerState.TheVariants.{Open}
+use Rattle.wire_peer.specs.declared.server_state.ServerState.{ServerState}
+use Rattle.wire_peer.specs.declared.server_state.ServerState.TheVariants.{Closed, Open}
 use Rattle.wire_end.specs.Serving.{Seen, WantedMemory, id_behind, replies_to}
 use Rattle.wire_end.specs.declared.next.RequestFault.{RequestFault}
 use Rattle.wire_end.specs.declared.next.RequestFault.TheVariants as faults
 use Rattle.wire_end.specs.declared.serving.ServeEnd.{ServeEnd}
 use Rattle.wire_end.specs.declared.serving.ServeEnd.TheVariants.{Ended, EndedInside, Fault, Link}
-use Rattle.wire_end.specs.declared.serving.ServeEnd.TheVariants.{Later, ReplyTooLarge, OutOfMemory}
-use Rattle.wire_end.specs.declared.serving.ServeEnd.TheVariants.{HandlerFailed}
+use Rattle.wire_end.specs.declared.serving.ServeEnd.TheVariants.{Later, Budget, ReplyTooLarge}
+use Rattle.wire_end.specs.declared.serving.ServeEnd.TheVariants.{OutOfMemory, HandlerFailed}
 
 -- The server is open, this request alone waits in it, and no reply has yet to be sent.
 pub record WaitsAlone (s : ServerView) (request : List ℕ) : Type 0 where
@@ -101,3 +102,16 @@ abbrev pub end_with : RequestFault → ServeEnd
 end_with (faults.Link fault) = Link
 end_with (faults.Closed cause) = end_by cause
 end_with faults.OutOfMemory = OutOfMemory
+
+-- How the server stands where serving ended so: closed for the cause that is this end, and open
+-- where that is none of the server's. Where memory ran out, it is the one or the other.
+abbrev pub StandsAfter : ServeEnd → ServerState → Type 0
+StandsAfter Ended state = state ≡ Closed causes.Ended
+StandsAfter EndedInside state = state ≡ Closed causes.EndedInside
+StandsAfter (Fault fault) state = state ≡ Closed (causes.Message fault)
+StandsAfter Link state = state ≡ Open
+StandsAfter Later state = state ≡ Open
+StandsAfter Budget state = state ≡ Open
+StandsAfter ReplyTooLarge state = state ≡ Closed causes.ReplyTooLarge
+StandsAfter OutOfMemory state = (state ≡ Open) ⊎ (state ≡ Closed causes.NoMemory)
+StandsAfter HandlerFailed state = state ≡ Closed causes.HandlerFailed

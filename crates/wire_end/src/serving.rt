@@ -1,12 +1,13 @@
 //! Serves a connection at the end of a server: its requests are answered in order, and the replies
 //! to each are sent before the next one is received.
 
-ghost use Rattle.std.specs.Prelude.{◌≡◌, [], List, OnOk, ℕ};
+ghost use Rattle.std.specs.Prelude.{◌≡◌, [], List, IfErr, OnOk, ℕ};
 ghost use Rattle.std.specs.Io.KnownBytes.{Keeps};
 ghost use Rattle.wire_channels.specs.{ServerAct};
 ghost use Rattle.wire_msg.specs.{Message, SpellsMsg};
+ghost use Rattle.wire_peer.specs.declared.server_state.ServerState.TheVariants.{Open};
 ghost use Rattle.wire_stream.specs.{AddsTurns};
-ghost use Rattle.wire_end.specs.Answering.{AnswersAs, CountsLater, WaitsAlone};
+ghost use Rattle.wire_end.specs.Answering.{AnswersAs, CountsLater, StandsAfter, WaitsAlone};
 ghost use Rattle.wire_end.specs.Answering.{end_by, end_of, end_with};
 ghost use Rattle.wire_end.specs.ServerEnds.{ServerEndRuns};
 ghost use Rattle.wire_end.specs.Serving.{IsUnused, Served, seen};
@@ -100,6 +101,8 @@ impl<L: Link + Drop> ServerEnd<L> {
               output = [];
               next_id = self.new.server.next_id;
             }) }
+        ensures stands { self.old.server.state ≡ Open
+            → IfErr result (λ end. StandsAfter end self.new.server.state) }
         ensures inlet { self.new.inlet ≡ self.old.inlet }
         ensures received { Keeps (L.received self.old.link) (L.received self.new.link) }
         ensures turns { AddsTurns (L.turns self.old.link) (L.turns self.new.link) [] }
@@ -118,6 +121,7 @@ impl<L: Link + Drop> ServerEnd<L> {
 
     /// Serves the connection: receives requests and answers them in order, at most `budget` of
     /// them. All replies to one are sent before the next one is received. Returns why it ended.
+    /// The server is still open where the link or the budget is why.
     pub fn serve<H: Handler>(&mut self, logged: &mut Logged<H>, budget: u64) -> ServeEnd
         requires { IsUnused self.old }
         ensures served { Served H.does H.stops self.old.server.connection self.old.server.limit
@@ -126,6 +130,7 @@ impl<L: Link + Drop> ServerEnd<L> {
             (seen L.received L.sent L.turns L.failures L.ends L.waits logged.new self.new.link) }
         ensures ran { (acts : List ServerAct) × ServerEndRuns H.does H.stops L.sent L.received
             self.old logged.old acts self.new logged.new }
+        ensures stands { StandsAfter result self.new.server.state }
     {
         for i in 0..budget {
             match self.next_request() {

@@ -1,5 +1,6 @@
-use Rattle.std.proofs.Common.{◌≡◌, arith}
-use Rattle.wire_end.proofs.Serves.{asked, ends_fault, ends_later, ends_spent, ends_unanswered, never_full, ran_so, ran_through, rests_again, rests_first}
+use Rattle.std.proofs.Common.{◌≡◌, ap, arith}
+use Rattle.wire_peer.specs.{ServerView}
+use Rattle.wire_end.proofs.Serves.{asked, ends_fault, ends_later, ends_spent, ends_unanswered, never_full, ran_so, ran_through, rests_again, rests_first, stands_fault, stands_later}
 use Rattle.wire_end.proofs.server_end.ServerEnd.serve.Goals as goal
 
 pub loop-i-init : goal.loop-i-init
@@ -28,6 +29,15 @@ returns-in-Ok-Later-clause-ran g c =
     ran_so H.does H.stops L.received L.sent L.turns L.failures L.ends L.waits c.args.self.now c.args.logged.now c.loop-i.self c.loop-i.logged c.loop-i.i c.loop-i.invariant
     c.next_request.new.self n.comes.0 n.comes.1 n.sent n.turns
 
+pub returns-in-Ok-Later-clause-stands : goal.returns-in-Ok-Later-clause-stands
+returns-in-Ok-Later-clause-stands g c =
+    let L = g.L.Link in
+    let H = g.H.Handler in
+    let n = c.next_request.ensures in
+    let came = rw c.in-Ok-Later.field-0-is at c.in-Ok-Later.ensures.comes in
+    stands_later H.does H.stops L.received L.sent L.turns L.failures L.ends L.waits c.args.self.now c.args.logged.now c.loop-i.self c.loop-i.logged c.loop-i.i c.loop-i.invariant
+    c.next_request.new.self came.0 came.1 n.sent n.turns came.2
+
 pub unreachable-requires : goal.unreachable-requires
 unreachable-requires g c =
     let L = g.L.Link in
@@ -53,6 +63,15 @@ returns-in-Err-clause-ran g c =
     let n = c.next_request.ensures in
     ran_so H.does H.stops L.received L.sent L.turns L.failures L.ends L.waits c.args.self.now c.args.logged.now c.loop-i.self c.loop-i.logged c.loop-i.i c.loop-i.invariant
     c.next_request.new.self n.comes.0 n.comes.1 n.sent n.turns
+
+pub returns-in-Err-clause-stands : goal.returns-in-Err-clause-stands
+returns-in-Err-clause-stands g c =
+    let L = g.L.Link in
+    let H = g.H.Handler in
+    let n = c.next_request.ensures in
+    let came = c.in-Err.ensures.comes in
+    rw c.from.ensures (stands_fault H.does H.stops L.received L.sent L.turns L.failures L.ends L.waits c.args.self.now c.args.logged.now c.loop-i.self c.loop-i.logged c.loop-i.i c.loop-i.invariant
+    c.next_request.new.self came.0 came.1 n.sent n.turns c.in-Err.fault came.2)
 
 -- ---- a request
 
@@ -84,6 +103,17 @@ returns-in-Err-answer_first-clause-ran g c =
     ran_through H.does H.stops L.received L.sent L.turns L.failures L.ends L.waits c.args.self.now c.args.logged.now c.next_request.new.self c.loop-i.logged c.loop-i.i waits
     c.answer_first.new.self c.answer_first.new.logged a.ran a.inlet a.received a.turns a.end
 
+pub returns-in-Err-answer_first-clause-stands : goal.returns-in-Err-answer_first-clause-stands
+returns-in-Err-answer_first-clause-stands g c =
+    let L = g.L.Link in
+    let H = g.H.Handler in
+    let n = c.next_request.ensures in
+    let came = rw c.in-Ok-Waits.field-0-is at c.in-Ok-Waits.ensures.comes in
+    let later = rw c.in-Ok-Waits.field-0-is at c.in-Ok-Waits.ensures.later in
+    let waits = asked H.does H.stops L.received L.sent L.turns L.failures L.ends L.waits c.args.self.now c.args.logged.now c.loop-i.self c.loop-i.logged c.loop-i.i c.loop-i.invariant
+    c.next_request.new.self came.0 came.1 n.sent n.turns came.2 later c.in-Ok-Waits.ensures.fails in
+    c.in-Err-answer_first.ensures.stands waits.alone.is_open
+
 pub loop-i-preserved : goal.loop-i-preserved
 loop-i-preserved g c =
     let L = g.L.Link in
@@ -109,3 +139,6 @@ returns-clause-served g c =
 
 pub returns-clause-ran : goal.returns-clause-ran
 returns-clause-ran g c = c.loop-i.invariant.ran
+
+pub returns-clause-stands : goal.returns-clause-stands
+returns-clause-stands g c = ap (λ (s : ServerView). s.state) c.loop-i.invariant.same
