@@ -1,7 +1,7 @@
 //! A client's end: a client, its link, and the records of its calls.
 
 ghost use Rattle.std.specs.Prelude.{◌≡◌, ◌≢◌, ◌∷◌, [], ℕ, List, Ok, IfErr, IfOk, OnErr, OnOk};
-ghost use Rattle.std.specs.Prelude.{false, length, option_map, slice_get, true};
+ghost use Rattle.std.specs.Prelude.{Some, false, length, option_map, slice_get, true};
 ghost use Rattle.std.specs.Io.KnownBytes.{Keeps};
 ghost use Rattle.wire_channels.specs.Owners.{Calls, ClientAct, EndsDown, SendsUp};
 ghost use Rattle.wire_end.specs.Ends.{EndRuns, FailsAs, HandsOut, IsWaiting, NextEnds, NextLater};
@@ -70,6 +70,7 @@ impl<L: Link + Drop> ClientEnd<L> {
         client: Client,
         link: L,
     ) -> Result<ClientEnd<L>, AllocError>
+        requires { client.requests.next_number ≡ Some 0 }
         ensures { IfOk result (λ end. end ≡ new_end connection client link) }
     {
         let inlet = Inlet::new(alloc)?;
