@@ -1,6 +1,6 @@
 -- The conditions of filters: what the operators ask of a field (MongoDB manual, Query and
 -- Projection Operators: Comparison, and Element).
-use Rattle.std.specs.Prelude.{ℕ, List, [], ◌∷◌, Bool, true, false, not, ◌&&◌, ◌||◌, ◌==◌}
+use Rattle.std.specs.Prelude.{ℕ, pos, List, [], ◌∷◌, Bool, true, false, not, ◌&&◌, ◌||◌, ◌==◌}
 use Rattle.std.specs.Prelude.{Option, Some, None, codes, is_some, unwrap_or, if◌then◌else◌}
 use Rattle.std.specs.List.{list_any}
 use Rattle.std.specs.Ordering.{is_eq, is_ge, is_gt, is_le, is_lt}
@@ -15,6 +15,7 @@ use Rattle.doc_query.specs.Comparing.{PlaceView, place, place_order}
 use Rattle.doc_query.specs.Decimals.{holds_decimal}
 use Rattle.doc_query.specs.Equality.{equal}
 use Rattle.doc_query.specs.Owned.{values_in}
+use Rattle.doc_query.specs.Values.{int32}
 
 -- the operator with this name
 abbrev pub operator_of : List ℕ → Option Operator
@@ -55,17 +56,13 @@ abbrev pub is_list : TreeValue → Bool
 is_list (document_value kinds.Array b t) = are_equated (values_in t)
 is_list _ = false
 
-abbrev pub is_truth : TreeValue → Bool
-is_truth (leaf_value kinds.Boolean (boolean_value b)) = true
-is_truth _ = false
-
 -- the operand is one that the operator takes
 abbrev pub is_operand : Operator → TreeValue → Bool
 is_operand operators.Eq v = is_equated v
 is_operand operators.Ne v = is_equated v
 is_operand operators.In v = is_list v
 is_operand operators.Nin v = is_list v
-is_operand operators.Exists v = is_truth v
+is_operand operators.Exists v = not (holds_decimal v)
 is_operand _ v = is_ranked v
 
 -- ---- one value
@@ -109,9 +106,12 @@ finds_one owns (v ∷ vs) = finds operators.Eq owns v || finds_one owns vs
 abbrev pub is_there : List (Option TreeValue) → Bool
 is_there owns = list_any is_some owns
 
+-- any value is true but for false, null, undefined and the number 0
 abbrev pub is_true : TreeValue → Bool
 is_true (leaf_value kinds.Boolean (boolean_value b)) = b
-is_true _ = false
+is_true (leaf_value kinds.Null v) = false
+is_true (leaf_value kinds.Undefined v) = false
+is_true v = not (passes operators.Eq v (int32 (pos 0)))
 
 -- the values of a field are as the operator asks
 abbrev pub meets : Operator → List (Option TreeValue) → TreeValue → Bool

@@ -5,7 +5,7 @@ ghost use Rattle.std.specs.Prelude.{◌≡◌, map};
 ghost use Rattle.bson_doc.specs.{tree_of, value_of};
 ghost use Rattle.doc_query.specs.Conditions.{accepts, are_conditions, are_equated, elements};
 ghost use Rattle.doc_query.specs.Conditions.{is_equated, is_list, is_named_operand, is_operand};
-ghost use Rattle.doc_query.specs.Conditions.{is_ranked, is_truth, operator_of, passes};
+ghost use Rattle.doc_query.specs.Conditions.{is_ranked, operator_of, passes};
 
 use crate::comparing::{place_of, place_order};
 use crate::decimals::holds_decimal;
@@ -88,16 +88,6 @@ fn is_list(value: &Bson) -> bool
     }
 }
 
-/// Returns true if a value is a boolean.
-fn is_truth(value: &Bson) -> bool
-    ensures { result ≡ is_truth (value_of value.now) }
-{
-    match value {
-        Bson::Boolean(_) => true,
-        _ => false,
-    }
-}
-
 /// Returns true if an operator takes this operand.
 fn is_operand(operator: Operator, operand: &Bson) -> bool
     ensures { result ≡ is_operand operator (value_of operand.now) }
@@ -105,7 +95,7 @@ fn is_operand(operator: Operator, operand: &Bson) -> bool
     match operator {
         Operator::Eq | Operator::Ne => is_equated(operand),
         Operator::In | Operator::Nin => is_list(operand),
-        Operator::Exists => is_truth(operand),
+        Operator::Exists => !holds_decimal(operand),
         _ => is_ranked(operand),
     }
 }

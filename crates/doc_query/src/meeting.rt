@@ -6,7 +6,7 @@ ghost use Rattle.doc_query.specs.Conditions.{finds, finds_one, is_there, is_true
 ghost use Rattle.doc_query.specs.Conditions.{meets_named, operator_of};
 ghost use Rattle.doc_query.specs.Paths.{own_values};
 
-use crate::conditions::{Operator, elements, operator_of};
+use crate::conditions::{Operator, elements, operator_of, passes};
 use crate::criteria::Criterion;
 use crate::paths::OwnValues;
 use bson_doc::{Bson, Document};
@@ -31,13 +31,14 @@ fn finds_one(own: OwnValues<'_>, operands: &[Bson]) -> bool
     false
 }
 
-/// Returns true if a value is the boolean true.
+/// Returns true if a value is true: any but for false, null, undefined and the number 0.
 fn is_true(value: &Bson) -> bool
     ensures { result ≡ is_true (value_of value.now) }
 {
     match value {
         Bson::Boolean(truth) => *truth,
-        _ => false,
+        Bson::Null | Bson::Undefined => false,
+        _ => !passes(Operator::Eq, value, &Bson::Int32(0)),
     }
 }
 
