@@ -1,7 +1,7 @@
 //! Sorts documents by the keys of a command.
 
-ghost use Rattle.std.specs.Prelude.{◌≡◌, Err, IfErr, IfOk, MatchOption, None, Ok, OnOk, Option};
-ghost use Rattle.std.specs.Prelude.{map, option_map};
+ghost use Rattle.std.specs.Prelude.{◌≡◌, Err, IfErr, IfOk, MatchOption, None, Ok, OnErr, OnOk};
+ghost use Rattle.std.specs.Prelude.{Option, map, option_map};
 ghost use Rattle.bson_elem.specs.{Spells, Tree};
 ghost use Rattle.bson_raw.specs.{ShowsFound, TreeValue, document_bytes};
 ghost use Rattle.bson_doc.specs.{tree_of, value_of};
@@ -192,8 +192,9 @@ fn all_ordered(keys: &Document, documents: &[Bson]) -> bool
 
 /// Sorts documents. Those that are equal by all keys stay in their order.
 fn sort(keys: &Document, documents: &mut Vec<Bson>) -> Result<(), AllocError>
-    ensures { OnOk result (map value_of documents.new.items
+    ensures sorted { OnOk result (map value_of documents.new.items
         ≡ sorted (keys_order (tree_of keys.now)) (map value_of documents.old.items)) }
+    ensures unchanged { OnErr result (documents.new.items ≡ documents.old.items) }
 {
     documents.sort_by(|a, b| keys_order(keys, a, b))?;
     Ok(())
@@ -204,12 +205,13 @@ fn sort(keys: &Document, documents: &mut Vec<Bson>) -> Result<(), AllocError>
 /// # Errors
 ///
 /// Returns `Unsorted` if a document has a value that isn't compared in a field by which they are
-/// sorted, and `OutOfMemory` if memory runs out.
+/// sorted, and `OutOfMemory` if memory runs out. Then the documents are unchanged.
 pub fn sort_in(keys: &Document, documents: &mut Vec<Bson>) -> Result<(), Failure>
     ensures ok { OnOk result (sorted_in (tree_of keys.now) (map value_of documents.old.items)
         ≡ Ok (map value_of documents.new.items)) }
     ensures refused { IfErr result (λ e. IsFailure
         (sorted_in (tree_of keys.now) (map value_of documents.old.items)) e) }
+    ensures unchanged { OnErr result (documents.new.items ≡ documents.old.items) }
 {
     if !all_ordered(keys, documents.as_slice()) {
         return Err(Failure::Refused(CommandError::Unsorted));

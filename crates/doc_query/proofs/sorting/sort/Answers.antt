@@ -9,8 +9,8 @@ use Rattle.doc_query.proofs.SortOrders.{documents_total}
 use Rattle.doc_query.proofs.StableSorts.{sorted-map, sorted_is}
 use Rattle.doc_query.proofs.sorting.sort.Goals as goal
 
-pub returns : goal.returns
-returns c =
+pub returns-clause-sorted : goal.returns-clause-sorted
+returns-clause-sorted c =
     let keys = tree_of c.args.keys.now in
     let order = on value_of (keys_order keys) in
     let ranks = ranks_by (documents_total keys) (λ x. x) in
