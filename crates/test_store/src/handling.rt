@@ -16,12 +16,14 @@ use wire_peer::{Answers, Handler, HandlerStop, Request};
 ///
 /// # Errors
 ///
-/// Returns `Failed` if the answer can't be written, and `OutOfMemory` if memory runs out.
+/// Returns `Failed` if the answer can't be written, and `OutOfMemory` if memory runs out. Then the
+/// answers are unchanged.
 pub fn put_answer(answer: &Document, answers: &mut Answers) -> Result<(), HandlerStop>
     ensures put { OnOk result
         (answers_of answers.new ≡ answers_of answers.old ++ body_alone (tree_of answer.now) ∷ []) }
     ensures failed { IfErr result
         (λ stop. stop ≡ HandlerStop.Failed → IsUnanswerable (tree_of answer.now)) }
+    ensures unchanged { OnErr result (answers_of answers.new ≡ answers_of answers.old) }
 {
     let body = match answer.to_raw() {
         Ok(body) => body,
