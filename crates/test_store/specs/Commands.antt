@@ -30,7 +30,7 @@ use Rattle.test_store.specs.Held.{CollectionView, CursorView, NamespaceView, Sto
 use Rattle.test_store.specs.Held.{cursor_index, documents_in, id_if_left, index_of_value, is_open}
 use Rattle.test_store.specs.Held.{held_indexes, indexes_in, with_indexes_of}
 use Rattle.test_store.specs.Held.{database_names, has_database, namespace_text, open_at, opened}
-use Rattle.test_store.specs.Held.{opened_id, with_documents}
+use Rattle.test_store.specs.Held.{opened_id, with_any}
 use Rattle.test_store.specs.Held.{with_left, with_replaced, without_collection, without_database}
 use Rattle.test_store.specs.Indexes.{IndexView, index_listing, with_indexes}
 use Rattle.test_store.specs.Inserted.{brought}
@@ -51,7 +51,7 @@ unchanged s pairs = Ok (record { answer = pairs; held = s })
 abbrev pub insert_reply : StoreView → NamespaceView → AddingView → Reply
 insert_reply s n a = record {
   answer = written_pairs (length a.added) a.errors;
-  held = record { collections = with_documents n a.added s.collections; cursors = s.cursors };
+  held = record { collections = with_any n a.added s.collections; cursors = s.cursors };
 }
 
 -- the answer of insert and what is held after it, or its error

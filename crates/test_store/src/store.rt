@@ -97,12 +97,9 @@ impl Store {
         }
     }
 
-    /// Inserts documents into a namespace, after those that are there.
-    ///
-    /// # Errors
-    ///
-    /// Returns `AllocError` if memory runs out. Then the held documents are unchanged.
-    pub(crate) fn insert(
+    /// Inserts documents into a namespace, after those that are there, and makes its collection if
+    /// there is none.
+    fn insert(
         &mut self,
         namespace: Namespace<'_>,
         mut documents: Vec<Bson>,
@@ -130,8 +127,12 @@ impl Store {
         }
     }
 
-    /// Inserts documents, unless there are none.
-    fn insert_any(
+    /// Inserts documents into a namespace, after those that are there, unless there are none.
+    ///
+    /// # Errors
+    ///
+    /// Returns `AllocError` if memory runs out. Then the held documents are unchanged.
+    pub(crate) fn insert_any(
         &mut self,
         namespace: Namespace<'_>,
         documents: Vec<Bson>,

@@ -16,7 +16,8 @@ use std::alloc::Global;
 use wire_msg::Payload;
 
 /// Inserts the documents of the array `documents` in the body, or of the sequences with the
-/// identifier `documents`, except those whose `_id` is taken.
+/// identifier `documents`, except those whose `_id` is taken or can't be one. An insert of none
+/// makes no collection.
 pub fn insert(alloc: Global, store: &mut Store, payload: Payload<'_>) -> Result<Document, Failure>
     ensures carried { (c : Content) → Carries payload.entry c
         → IsCarriedOut (insert (store_of store.old) c) (store_of store.old) result
@@ -37,6 +38,6 @@ pub fn insert(alloc: Global, store: &mut Store, payload: Payload<'_>) -> Result<
         documents.as_slice(),
     )?;
     let answer = written_answer(alloc, added.len(), errors)?;
-    store.insert(namespace, added)?;
+    store.insert_any(namespace, added)?;
     Ok(answer)
 }
