@@ -73,9 +73,11 @@ has_key key i = equal i.key key
 abbrev pub is_index : IndexView → IndexView → Bool
 is_index i j = has_name i.name j && has_key i.key j
 
--- the indexes with one more, unless it is there; no two have one name or one key
+-- The indexes with one more, unless it is there; no two have one name or one key. One by `{_id: 1}`
+-- is the one that each collection has, whatever its name.
 abbrev pub with_index : IndexView → List IndexView → Result (List IndexView) CommandError
 with_index i js =
+    if has_key i.key id_index then Ok js else
     if list_any (is_index i) js then Ok js else
     if list_any (has_name i.name) js then Err errors.IndexName else
     if list_any (has_key i.key) js then Err errors.IndexKey else Ok (js ++ i ∷ [])

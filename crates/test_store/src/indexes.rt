@@ -140,14 +140,22 @@ fn is_held(indexes: &[Index], index: &Index) -> bool
     indexes.iter().any(|other| other.name.as_str() == name && is_equal(&other.key, &index.key))
 }
 
+/// Returns true if this key is that of the index on `_id`.
+fn is_id_key(alloc: Global, key: &Bson) -> Result<bool, AllocError>
+    ensures { IfOk result (λ is. is ≡ has_key (value_of key.now) id_index) }
+{
+    let index = id_index(alloc)?;
+    Ok(is_equal(&index.key, key))
+}
+
 /// Adds an index, unless it is there.
-fn add_index(index: Index, indexes: &mut Vec<Index>) -> Result<(), Failure>
+fn add_index(alloc: Global, index: Index, indexes: &mut Vec<Index>) -> Result<(), Failure>
     ensures ok { OnOk result (with_index (index_view index) (map index_view indexes.old.items)
         ≡ Ok (map index_view indexes.new.items)) }
     ensures refused { IfErr result
         (λ e. IsFailure (with_index (index_view index) (map index_view indexes.old.items)) e) }
 {
-    if is_held(indexes, &index) {
+    if is_id_key(alloc, &index.key)? || is_held(indexes, &index) {
         return Ok(());
     }
     if any_has_name(indexes, index.name.as_str()) {
@@ -176,7 +184,7 @@ pub fn add_indexes(alloc: Global, asked: &[Bson], indexes: &mut Vec<Index>) -> R
 {
     for value in asked {
         let index = index_in(alloc, value)?;
-        add_index(index, indexes)?;
+        add_index(alloc, index, indexes)?;
     }
     Ok(())
 }
