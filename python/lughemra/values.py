@@ -38,6 +38,12 @@ class Kind(enum.IntEnum):
     MIN_KEY = 0xFF
 
 
+class Int64(int):
+    """Holds a number that is written as an int64 whatever its size. What is read is `int`."""
+
+    __slots__ = ()
+
+
 @dataclass(frozen=True, order=True, slots=True)
 class ObjectId:
     """Holds the 12 bytes of an ObjectId."""

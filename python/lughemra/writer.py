@@ -6,11 +6,12 @@ import ctypes
 import datetime
 import struct
 from collections.abc import Iterable, Iterator, Mapping, Sequence
-from typing import Any, Callable
+from typing import Any, Callable, Optional
 
 from . import _library as lib
 
 from .checks import check
+from .document import Array, Document
 from .errors import DocumentError, EncodeError, MessageError
 from .leaves import EPOCH
 from .message import MAX_LIMIT, Flags
@@ -20,6 +21,7 @@ from .values import (
     DatetimeMS,
     DBPointer,
     Decimal128,
+    Int64,
     Kind,
     MaxKey,
     MinKey,
@@ -54,9 +56,14 @@ def _binary(value: Binary) -> Given:
 def _integer(value: int) -> Given:
     """Returns an int32 if the number is one, and else an int64."""
     if -(1 << 31) <= value < 1 << 31:
-        return Kind.INT32, 0, value & MASK, b"", b""
+        return Kind.INT32, 0, int(value) & MASK, b"", b""
+    return _long(value)
+
+
+def _long(value: int) -> Given:
+    """Returns an int64, whatever its size."""
     if -(1 << 63) <= value < 1 << 63:
-        return Kind.INT64, 0, value & MASK, b"", b""
+        return Kind.INT64, 0, int(value) & MASK, b"", b""
     raise OverflowError(f"{value} is no int64")
 
 
@@ -77,6 +84,8 @@ GIVEN: dict[type, Callable[[Any], Given]] = {
     float: lambda it: (Kind.DOUBLE, 0, struct.unpack("<Q", struct.pack("<d", it))[0], b"", b""),
     str: lambda it: (Kind.STRING, 0, 0, it.encode(), b""),
     bytes: lambda it: (Kind.BINARY, 0, 0, b"", it),
+    bytearray: lambda it: (Kind.BINARY, 0, 0, b"", it),
+    memoryview: lambda it: (Kind.BINARY, 0, 0, b"", it),
     Binary: _binary,
     Undefined: lambda it: (Kind.UNDEFINED, 0, 0, b"", b""),
     ObjectId: lambda it: (Kind.OBJECT_ID, 0, 0, b"", it.data),
@@ -89,11 +98,50 @@ GIVEN: dict[type, Callable[[Any], Given]] = {
     Code: _code,
     Symbol: lambda it: (Kind.SYMBOL, 0, 0, it.text.encode(), b""),
     int: _integer,
+    Int64: _long,
     Timestamp: lambda it: (Kind.TIMESTAMP, 0, _bits(it.seconds, 0, 32) << 32 | _bits(it.increment, 0, 32), b"", b""),
     Decimal128: lambda it: (Kind.DECIMAL128, 0, 0, b"", it.data),
     MinKey: lambda it: (Kind.MIN_KEY, 0, 0, b"", b""),
     MaxKey: lambda it: (Kind.MAX_KEY, 0, 0, b"", b""),
 }
+# What tells a type of PyMongo's. Some of them come from `int`, `str` or `bytes`, and hold more than these.
+MARKER = "_type_marker"
+
+
+def _is_buffer(value: Any) -> bool:
+    """Returns true if the value lends its bytes."""
+    try:
+        memoryview(value)
+    except TypeError:
+        return False
+    return True
+
+
+def _container_of(value: Any) -> Optional[Kind]:
+    """Returns the kind of a value that holds others: a document of a mapping, an array of a sequence that is no text and no bytes."""
+    if isinstance(value, Mapping):
+        return Kind.DOCUMENT
+    if isinstance(value, (list, tuple, Array)):
+        return Kind.ARRAY
+    if isinstance(value, Sequence) and not isinstance(value, str) and not _is_buffer(value):
+        return Kind.ARRAY
+    return None
+
+
+def _pairs_of(value: Any) -> Iterable[tuple[Any, Any]]:
+    """Returns the pairs of a mapping or of a sequence. Those of what was read are all of its elements, each of its own kind."""
+    if isinstance(value, (Document, Array)):
+        return ((it.name, Int64(it.value) if it.kind == Kind.INT64 else it.value) for it in value.elements())
+    return value.items() if isinstance(value, Mapping) else (("", it) for it in value)
+
+
+def _given(value: Any) -> Given:
+    """Returns a value that holds no others, by its type, or else by the nearest type that this comes from."""
+    kind = type(value)
+    for it in (kind,) if hasattr(kind, MARKER) else kind.__mro__:
+        if it in GIVEN:
+            return GIVEN[it](value)
+    raise TypeError(f"{kind.__name__} stands for no value of BSON")
 
 
 class _Room:
@@ -118,19 +166,16 @@ class _Room:
 
     def append(self, builder: lib.Builder, name: bytes, value: Any) -> None:
         """Appends a pair, at all depths."""
-        if isinstance(value, (Mapping, Sequence)) and not isinstance(value, (str, bytes)):
+        container = None if type(value) in GIVEN else _container_of(value)
+        if container is not None:
             inner = lib.Builder()
-            kind = lib.limit_of(Kind.DOCUMENT if isinstance(value, Mapping) else Kind.ARRAY)
-            pairs = value.items() if isinstance(value, Mapping) else (("", it) for it in value)
             outer_argument, inner_argument = ctypes.byref(builder), ctypes.byref(inner)
+            kind = lib.limit_of(container)
             self.build(lib.short.begin, outer_argument, name, lib.size(len(name)), kind, inner_argument)
-            self.append_all(inner, pairs)
+            self.append_all(inner, _pairs_of(value))
             self.build(lib.short.end, outer_argument, inner_argument)
             return
-        given = GIVEN.get(type(value))
-        if given is None:
-            raise TypeError(f"{type(value).__name__} stands for no value of BSON")
-        kind_byte, subtype, bits, text, data = given(value)
+        kind_byte, subtype, bits, text, data = _given(value)
         # A call would take a text, too, and read its letters as they stand in memory.
         content = data if type(data) is bytes else bytes(memoryview(data))
         numbers = ctypes.byref(lib.Numbers(kind_byte, subtype, bits))
@@ -139,18 +184,27 @@ class _Room:
             lib.short.append, ctypes.byref(builder), name, sizes[0], numbers, text, sizes[1], content, sizes[2]
         )
 
-    def append_all(self, builder: lib.Builder, pairs: Iterable[tuple[str, Any]]) -> None:
-        """Appends the pairs in their order."""
+    def append_all(self, builder: lib.Builder, pairs: Iterable[tuple[Any, Any]]) -> None:
+        """Appends the pairs in their order. Raises TypeError for a name that is no text."""
         for name, value in pairs:
+            if not isinstance(name, str):
+                raise TypeError(f"the name {name!r} is no str")
             self.append(builder, name.encode(), value)
 
 
 def encode(pairs: Mapping[str, Any]) -> bytes:
     """Returns the bytes of a document with these pairs.
 
-    The values are those that a `Document` gives. A list, or any sequence, is an array; an `int` is an int32 if it is one, and
-    else an int64; a `datetime` without a time zone is in UTC. Raises EncodeError for what BSON can't spell.
+    The values are those that a `Document` gives. A list, or any sequence that lends no bytes, is an array; an `int` is an int32 if
+    it is one, and else an int64; an `Int64` is an int64; a `datetime` without a time zone is in UTC. Raises EncodeError for what
+    BSON can't spell, and TypeError for what is no mapping, no name or no value. A `Document` gives its own bytes, which are
+    checked.
     """
+    if isinstance(pairs, Document):
+        pairs.check()
+        return pairs.raw
+    if not isinstance(pairs, Mapping):
+        raise TypeError(f"{type(pairs).__name__} is no mapping")
     room = _Room()
     builder = lib.short.build()
     room.append_all(builder, pairs.items())
@@ -159,8 +213,10 @@ def encode(pairs: Mapping[str, Any]) -> bytes:
 
 
 def document_bytes(given: Any) -> bytes:
-    """Returns the bytes of a document: those of a mapping, or those that are given."""
-    return encode(given) if isinstance(given, Mapping) else bytes(given)
+    """Returns the bytes of a document: those of a mapping, or those that are given. Raises TypeError for what lends no bytes."""
+    if isinstance(given, Document):
+        return given.raw
+    return encode(given) if isinstance(given, Mapping) else bytes(memoryview(given))
 
 
 def documents_bytes(given: Iterable[Any]) -> Iterator[bytes]:

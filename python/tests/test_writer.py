@@ -1,13 +1,16 @@
 """Tests what `encode` and `encode_message` write: each kind by its row, documents in documents, messages by their layout, and what
 isn't spelled."""
 
+import array
+import collections
 import datetime
+import enum
 
 import pytest
-from rows import KINDS, document, document_of, element, string
+from rows import KINDS, document, document_of, element, scope, string
 
 import lughemra
-from lughemra import Document, DocumentError, EncodeError, Flags, Kind, Message, MessageError, encode, encode_message
+from lughemra import Document, DocumentError, EncodeError, Flags, Int64, Kind, Message, MessageError, encode, encode_message
 
 WRITTEN = [row for row in KINDS if row[0] != Kind.CODE_WITH_SCOPE]
 
@@ -30,6 +33,90 @@ def test_documents_and_arrays_hold_each_other():
 def test_a_document_that_was_read_is_written_again():
     data = encode({"a": [1, 2.5, {"b": b"\0"}], "c": "d"})
     assert encode(Document(data)) == data
+
+
+# An int64 that is small, a name that stands twice, and an array whose one name is "x".
+KEPT = [
+    element(0x12, "n", (5).to_bytes(8, "little")),
+    element(0x10, "n", (6).to_bytes(4, "little")),
+    element(0x04, "a", document(element(0x12, "x", bytes(8)))),
+]
+SCOPED = element(0x0F, "c", scope("f", document()))
+
+
+def test_a_document_gives_its_own_bytes():
+    data = document(*KEPT, SCOPED)
+    read = Document(document(element(0x03, "d", data)))["d"]
+    assert encode(read) == encode(Document(data)) == data
+    assert encode_message(read, [("docs", [read])]) == message(data, sequence(b"docs", data))
+    with pytest.raises(DocumentError) as fault:
+        encode(Document(document(element(0x08, "b", b"\2"))))
+    assert (fault.value.name, fault.value.offset) == ("Boolean", 4)
+
+
+def test_a_document_inside_keeps_its_elements():
+    inner = document(*KEPT[:2], element(0x04, "a", document(element(0x12, "0", bytes(8)))))
+    assert encode({"d": Document(document(*KEPT))}) == document(element(0x03, "d", inner))
+    array_ = Document(document(KEPT[2]))["a"]
+    assert encode({"a": array_}) == document(element(0x04, "a", document(element(0x12, "0", bytes(8)))))
+    with pytest.raises(EncodeError) as refused:
+        encode({"d": Document(document(SCOPED))})
+    assert refused.value.name == "BadValue"
+
+
+@pytest.mark.parametrize("number_", [0, 5, -5, 2**40, 2**63 - 1, -(2**63)])
+def test_an_int64_is_one_whatever_its_size(number_):
+    assert encode({"v": Int64(number_)}) == document_of(Kind.INT64, number_.to_bytes(8, "little", signed=True).hex())
+    assert Document(encode({"v": Int64(number_)}))["v"] == number_ == Int64(number_)
+
+
+@pytest.mark.parametrize("value", [bytearray(b"ab"), memoryview(b"ab"), memoryview(b"a-b-")[::2], type("B", (bytes,), {})(b"ab")])
+def test_bytes_of_each_type_are_binary_data(value):
+    assert encode({"v": value}) == document_of(Kind.BINARY, "02000000" "00" "6162")
+
+
+class Level(enum.IntEnum):
+    HIGH = 7
+
+
+Pair = collections.namedtuple("Pair", "x y")
+SUBCLASSES = [
+    (Level.HIGH, 7),
+    (Kind.INT32, 16),
+    (Flags.EXHAUST_ALLOWED | Flags.MORE_TO_COME, 0x10002),
+    (type("Text", (str,), {})("é"), "é"),
+    (type("Real", (float,), {})(0.5), 0.5),
+    (type("Date", (datetime.datetime,), {})(2001, 2, 3), datetime.datetime(2001, 2, 3)),
+    (Pair(1, 2), [1, 2]),
+    (collections.deque([1]), [1]),
+    (range(2), [0, 1]),
+    (collections.OrderedDict(a=1), {"a": 1}),
+]
+
+
+@pytest.mark.parametrize("value, meant", SUBCLASSES)
+def test_a_value_of_a_subclass_is_written_as_one_of_the_class(value, meant):
+    assert encode({"v": value}) == encode({"v": meant})
+
+
+def test_pymongos_own_types_are_refused():
+    bson = pytest.importorskip("bson")
+    for value in (bson.Int64(5), bson.Binary(b"a", 5), bson.Code("f"), bson.ObjectId(bytes(12))):
+        with pytest.raises(TypeError):
+            encode({"v": value})
+
+
+@pytest.mark.parametrize("meant", [{1: 2}, {b"a": 1}, {None: 1}, {"a": {1: 2}}, None, [("a", 1)], 5, b"\5\0\0\0\0"])
+def test_what_is_no_mapping_or_no_name_is_refused(meant):
+    with pytest.raises(TypeError):
+        encode(meant)
+
+
+@pytest.mark.parametrize("given", [5, [5, 0, 0, 0, 0], None, "text"])
+def test_what_lends_no_bytes_is_no_document(given):
+    for call in (lambda: encode_message(given), lambda: encode_message({}, [("docs", [given])])):
+        with pytest.raises(TypeError):
+            call()
 
 
 @pytest.mark.parametrize("count", [0, 1, 40, 5000])
@@ -67,6 +154,8 @@ def test_what_has_no_spelling_is_refused(meant, name):
 
 NO_ROOM = [
     2**63,
+    Int64(2**63),
+    Int64(-(2**63) - 1),
     lughemra.DatetimeMS(2**63),
     lughemra.DatetimeMS(-(2**63) - 1),
     lughemra.Timestamp(2**32, 0),
@@ -81,7 +170,10 @@ def test_a_number_that_has_no_room_is_refused(value):
         encode({"n": value})
 
 
-@pytest.mark.parametrize("value", [{1, 2}, lughemra.Binary(5, "text"), lughemra.ObjectId("abcdefghijkl")])
+NO_VALUES = [{1, 2}, lughemra.Binary(5, "text"), lughemra.ObjectId("abcdefghijkl"), array.array("i", [1]), object(), int]
+
+
+@pytest.mark.parametrize("value", NO_VALUES)
 def test_what_is_no_value_is_refused(value):
     with pytest.raises(TypeError):
         encode({"v": value})
