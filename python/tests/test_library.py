@@ -60,6 +60,7 @@ RENAMED = {
     "bytes_length": "bytes.length",
 }
 PACKAGE = pathlib.Path(lughemra.__file__).parent
+LOADED = {_library.VARIABLE: lughemra.LIBRARY_PATH}
 
 
 def test_the_functions_are_those_that_are_exported():
@@ -143,6 +144,12 @@ def test_the_shared_object_may_stand_beside_the_module_or_where_the_loader_looks
 def test_another_shared_object_is_refused():
     ran = run("import lughemra", LUGHEMRA_LIBRARY="libc.so.6")
     assert ran.returncode == 1 and "LibraryNotFound" in ran.stderr and "lughemra_check_document_nonnull" in ran.stderr
+
+
+def test_other_modules_have_the_functions_of_python_as_they_were():
+    told = "[(it.argtypes, it.restype is ctypes.c_int) for it in (api.PyObject_GetBuffer, api.PyBuffer_Release)]"
+    ran = run(f"import ctypes, lughemra; api = ctypes.pythonapi; print({told})", **LOADED)
+    assert (ran.returncode, ran.stdout) == (0, "[(None, True), (None, True)]\n")
 
 
 def test_only_bytes_that_no_one_writes_to_are_read_without_the_lock():
