@@ -156,7 +156,9 @@ class Closed(ConnectionError):
     def __init__(
         self, number: int, response_to: Optional[int] = None, fault: Optional[MessageError] = None
     ) -> None:
-        super().__init__(number, response_to, fault)
+        # OSError would take the number for an errno.
+        super().__init__()
+        self.args = (number, response_to, fault)
         self.number = number
         self.name = self.NAMES.get(number, "")
         self.response_to = response_to

@@ -1,5 +1,6 @@
 """Reads hostile bytes: each beginning of documents, and each byte of them with other values."""
 
+import copy
 import pickle
 
 import pytest
@@ -153,6 +154,17 @@ def test_documents_back_to_back_tell_how_many_are_whole():
         walk = lughemra.documents(good + rest)
         assert next(walk).raw == good
         assert fault_in(next, walk) == (wanted[0], len(good) + wanted[1])
+
+
+@pytest.mark.parametrize("raised", [lughemra.ClientClosed, lughemra.ServerClosed])
+def test_why_an_end_was_closed_is_no_error_of_the_system(raised):
+    inside = lughemra.MessageError(7, 21, document=DocumentError(3, 0))
+    for told in (raised(1, None, inside), raised(2, 9), raised(4), raised(5)):
+        for it in (told, pickle.loads(pickle.dumps(told)), copy.copy(told)):
+            assert isinstance(it, ConnectionError) and (it.errno, it.strerror, it.filename) == (None, None, None)
+            assert type(it) is raised and (it.number, it.name, it.response_to) == (told.number, told.name, told.response_to)
+            assert str(it) == str(told) and str(it.fault) == str(told.fault)
+            assert it.args[:2] == (told.number, told.response_to) and it.args[2] is it.fault
 
 
 def test_bytes_that_change_meanwhile_are_read_without_harm():
