@@ -80,7 +80,7 @@ class Client(End):
     def feed(self, piece: Any) -> None:
         """Takes a piece of the bytes that came, which is copied. Iterating gives the replies in it."""
         if self._closed:
-            raise self._closed
+            raise self._closed.with_traceback(None)
         self._keep(piece)
 
     def __iter__(self) -> Iterator[Reply]:
@@ -100,7 +100,7 @@ class Client(End):
                 return self._take_reply()
             self._note(state)
         if self._closed and self._closed.number != ClientClosed.ENDED:
-            raise self._closed
+            raise self._closed.with_traceback(None)
         raise StopIteration
 
     def _take_reply(self) -> Reply:

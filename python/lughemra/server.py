@@ -130,4 +130,4 @@ class Server(End):
     def _raise_if_closed(self) -> None:
         """Raises why the server is closed, if it is."""
         if self._closed:
-            raise self._closed
+            raise self._closed.with_traceback(None)

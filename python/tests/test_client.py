@@ -2,6 +2,7 @@
 
 import gc
 import sys
+import traceback
 
 import pytest
 
@@ -134,6 +135,18 @@ def test_the_end_of_the_bytes():
     assert str(client.closed) == "EndedInside"
     with pytest.raises(ClientClosed):
         next(client)
+
+
+def test_what_is_told_again_keeps_no_frames():
+    client = Client()
+    client.feed(reply_to(9, {}))
+    for it in (lambda: next(client), lambda: client.feed(b"")):
+        lengths = set()
+        for _ in range(3):
+            with pytest.raises(ClientClosed) as told:
+                it()
+            lengths.add(sum(1 for _ in traceback.walk_tb(told.value.__traceback__)))
+        assert len(lengths) == 1
 
 
 def test_numbers_out_of_range_are_refused():

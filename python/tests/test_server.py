@@ -2,6 +2,7 @@
 
 import gc
 import struct
+import traceback
 
 import pytest
 
@@ -159,6 +160,19 @@ def test_the_end_of_the_bytes():
     assert (server.closed.number, str(server.closed)) == (6, "EndedInside")
     with pytest.raises(ServerClosed):
         server.answer(0, [OK])
+
+
+def test_what_is_told_again_keeps_no_frames():
+    server = Server()
+    with pytest.raises(ServerClosed):
+        server.feed(b"no message, as of 16 bytes or more")
+    for it in (lambda: server.feed(b""), lambda: server.answer(0, [OK])):
+        lengths = set()
+        for _ in range(3):
+            with pytest.raises(ServerClosed) as told:
+                it()
+            lengths.add(sum(1 for _ in traceback.walk_tb(told.value.__traceback__)))
+        assert len(lengths) == 1
 
 
 def test_numbers_out_of_range_are_refused():
