@@ -3,6 +3,7 @@
 from __future__ import annotations
 
 import ctypes
+from collections import deque
 from collections.abc import Callable, Iterable, Iterator
 from typing import Any, NamedTuple, Optional
 
@@ -49,6 +50,8 @@ class Client(End):
         self._closed: Optional[ClientClosed] = None
         # A reply is ready that wasn't taken yet.
         self._ready = False
+        # Replies that came before the end, and weren't given yet.
+        self._replies: deque[Reply] = deque()
 
     def call(self, body: Any, sequences: Iterable[tuple[str, Iterable[Any]]] = ()) -> Call:
         """Makes a call that has one reply. Its request waits to be sent then.
@@ -91,17 +94,22 @@ class Client(End):
 
         Raises ClientClosed where what came closes the client, each time from then on.
         """
-        if self._ready:
-            return self._take_reply()
-        while self._at < len(self._held) and not self._closed:
-            state = self._hand_over().state
-            if state.ready:
-                self._ready = True
-                return self._take_reply()
-            self._note(state)
+        reply = self._replies.popleft() if self._replies else self._next_reply()
+        if reply is not None:
+            return reply
         if self._closed and self._closed.number != ClientClosed.ENDED:
             raise self._closed.with_traceback(None)
         raise StopIteration
+
+    def _next_reply(self) -> Optional[Reply]:
+        """Feeds the core until a reply is whole, and returns that; nothing where more bytes are wanted, or the client is closed."""
+        while not self._ready:
+            if self._at == len(self._held) or self._closed:
+                return None
+            state = self._hand_over().state
+            self._ready = state.ready
+            self._note(state)
+        return self._take_reply()
 
     def _take_reply(self) -> Reply:
         """Copies the reply that is ready, and lets go of it."""
@@ -123,7 +131,9 @@ class Client(End):
             self._closed = ClientClosed(state.cause, told, fault_of(state))
 
     def end(self) -> None:
-        """Tells that no more bytes come, once all replies were taken. It closes the client."""
+        """Tells that no more bytes come, which closes the client. Iterating gives the replies that came before, and then why."""
+        while (reply := self._next_reply()) is not None:
+            self._replies.append(reply)
         refuse(lib.short.client_end(self._core))
         self._note(lib.short.client_state(self._core))
 

@@ -37,6 +37,7 @@ class Server(End):
         require("limit", limit, 26, lib.MAX_LIMIT)
         super().__init__(lib.short.server_new, lib.size(window), lib.limit_of(limit))
         self._closed: Optional[ServerClosed] = None
+        self._ended = False
 
     def feed(self, piece: Any) -> None:
         """Takes a piece of the bytes that came, which is copied. The requests that are whole by then wait.
@@ -45,17 +46,22 @@ class Server(End):
         closes the server, and each time from then on.
         """
         self._raise_if_closed()
+        if self._ended:
+            raise ValueError("a piece comes behind the end")
         self._keep(piece)
         self._move()
         self._raise_if_closed()
 
     def _move(self) -> None:
-        """Feeds the core as much as it takes."""
+        """Feeds the core as much as it takes. Behind all that was fed it tells the end, once no request waits."""
         while self._at < len(self._held) and not self._closed:
             state = self._hand_over().state
             self._note(state)
             if state.full:
                 break
+        if self._ended and not self.pending:
+            refuse(lib.short.server_end(self._core))
+            self._note(lib.short.server_state(self._core))
 
     @property
     def pending(self) -> int:
@@ -113,9 +119,9 @@ class Server(End):
         self._move()
 
     def end(self) -> None:
-        """Tells that no more bytes come. It closes the server, whose output may still be sent."""
-        refuse(lib.short.server_end(self._core))
-        self._note(lib.short.server_state(self._core))
+        """Tells that no more bytes come. It closes the server once all requests are answered; its output may still be sent."""
+        self._ended = True
+        self._move()
 
     @property
     def closed(self) -> Optional[ServerClosed]:

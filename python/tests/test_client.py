@@ -137,6 +137,38 @@ def test_the_end_of_the_bytes():
         next(client)
 
 
+@pytest.mark.parametrize("rest, told", [(b"", "Ended"), (b"\x1a\0\0", "EndedInside"), (reply_to(9, {}), "UnknownReply: 9")])
+def test_what_came_before_the_end_is_given(rest, told):
+    client = Client()
+    ids = [client.call({"n": n}).request_id for n in range(4)]
+    client.feed(b"".join(reply_to(request, {"of": request}) for request in ids[:3]) + rest)
+    assert next(client).call == 0
+    client.end()
+    client.end()
+    assert str(client.closed) == told and client.outstanding == 1
+    with pytest.raises(CallRefused):
+        client.call({})
+    assert [next(client).message.body["of"] for _ in range(2)] == ids[1:3]
+    for _ in range(2):
+        with pytest.raises(StopIteration if told == "Ended" else ClientClosed):
+            next(client)
+
+
+def test_the_end_without_memory_may_be_told_again(monkeypatch):
+    client = Client()
+    client.feed(reply_to(client.call({}).request_id, {"a": 1}))
+
+    def room_of(size):
+        raise MemoryError
+
+    with monkeypatch.context() as patch:
+        patch.setattr(lughemra.client, "room_of", room_of)
+        with pytest.raises(MemoryError):
+            client.end()
+    client.end()
+    assert str(client.closed) == "Ended" and bodies(client) == [(0, True, {"a": 1})]
+
+
 def test_what_is_told_again_keeps_no_frames():
     client = Client()
     client.feed(reply_to(9, {}))

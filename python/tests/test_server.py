@@ -162,6 +162,33 @@ def test_the_end_of_the_bytes():
         server.answer(0, [OK])
 
 
+@pytest.mark.parametrize("rest, told", [(b"", "Ended"), (message(9, 0, TWO)[:20], "EndedInside")])
+def test_what_came_before_the_end_is_answered(rest, told):
+    server = Server(window=2)
+    server.feed(b"".join(message(n, 0, encode({"n": n})) for n in range(1, 6)) + rest)
+    server.end()
+    server.end()
+    with pytest.raises(ValueError):
+        server.feed(b"")
+    for n in range(1, 6):
+        assert server.closed is None and server.request(0).message.body == {"n": n}
+        server.answer(0, [OK])
+    assert str(server.closed) == told and server.pending == 0
+    for call in (lambda: server.feed(b""), lambda: server.answer(0, [OK])):
+        with pytest.raises(ServerClosed):
+            call()
+    server.end()
+    assert sent_by(server) == b"".join(message(n, n, OK) for n in range(1, 6))
+
+
+def test_bytes_at_fault_behind_a_full_window_close_the_server_behind_the_end():
+    server = Server(window=1)
+    server.feed(message(1, 0, TWO) + message(2, 0, TWO)[:12] + bytes.fromhex("d4070000"))
+    server.end()
+    server.answer(0, [OK])
+    assert str(server.closed) == "Message: Opcode at 12" and sent_by(server) == message(1, 1, OK)
+
+
 def test_what_is_told_again_keeps_no_frames():
     server = Server()
     with pytest.raises(ServerClosed):
