@@ -6,7 +6,7 @@ It is written from crates/wire_peer/specs, crates/wire_pool/specs and crates/wir
 from dataclasses import dataclass, field
 from typing import NamedTuple
 
-from text_model import SIZES, STRINGS
+from text_model import SIZES, STRINGS, little
 
 OPEN, MAX_ID, MAX_U64 = "open", 2**31 - 1, 2**64 - 1
 
@@ -106,10 +106,6 @@ class Message(NamedTuple):
     more: bool
     allows: bool
     content: Content
-
-
-def little(n):
-    return (n % 2**32).to_bytes(4, "little")
 
 
 def sequence_section(identifier, documents):

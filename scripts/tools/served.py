@@ -1,10 +1,12 @@
-"""A test server that a check runs, and asks over raw sockets."""
+"""A test server or a proxy that a check runs, and asks over raw sockets."""
 
+import _thread
 import os
 import socket
 import subprocess
 import sys
 import tempfile
+import threading
 import time
 
 from driver_messages import message, receive
@@ -13,9 +15,41 @@ ROOT = os.path.dirname(os.path.dirname(os.path.dirname(os.path.realpath(__file__
 
 
 def check(what, holds, *told):
-    """Ends with status 1 where it doesn't hold."""
-    if not holds:
-        sys.exit(f"FAILED: {what}: {' '.join(str(one) for one in told)}")
+    """Ends the program where it doesn't hold: with status 1, or from another thread than the main one by interrupting that."""
+    if holds:
+        return
+    words = f"FAILED: {what}: {' '.join(str(one) for one in told)}"
+    if threading.current_thread() is not threading.main_thread():
+        print(words, file=sys.stderr, flush=True)
+        _thread.interrupt_main()
+    sys.exit(words)
+
+
+def expect(what, holds, *told):
+    """Does so, and prints what holds."""
+    check(what, holds, *told)
+    print(what)
+
+
+def program_words(words):
+    """Returns these words, or those of the program that is built, which this builds where it isn't."""
+    if words:
+        return words
+    subprocess.run([os.path.join(ROOT, "bsonwire"), "--version"], check=True, stdout=subprocess.DEVNULL)
+    return [os.path.join(ROOT, "crates", "bsonwire", "out", "bsonwire")]
+
+
+def connect_to(port):
+    """Returns a connection to this port, over which bytes go as soon as they are sent."""
+    link = socket.create_connection(("127.0.0.1", port), timeout=20)
+    link.setsockopt(socket.IPPROTO_TCP, socket.TCP_NODELAY, 1)
+    return link
+
+
+def memory_of(process):
+    """Returns the KiB of memory that a process holds."""
+    with open(f"/proc/{process.pid}/status", encoding="utf-8") as file:
+        return next(int(line.split()[1]) for line in file if line.startswith("VmRSS"))
 
 
 def server_words(words):
@@ -65,9 +99,7 @@ class Server:
         sys.exit("FAILED: no port was written")
 
     def connect(self):
-        link = socket.create_connection(("127.0.0.1", self.port), timeout=20)
-        link.setsockopt(socket.IPPROTO_TCP, socket.TCP_NODELAY, 1)
-        return link
+        return connect_to(self.port)
 
     def end(self):
         """Closes standard input. Returns the status and the lines of the output."""
@@ -81,4 +113,46 @@ class Server:
     def __exit__(self, *_):
         if self.output is None:
             self.end()
+        self.room.cleanup()
+
+
+class Proxy:
+    """The proxy to a server with an `address`, as a context. A script is written to a file for it."""
+
+    def __init__(self, words, server, *options, script=None):
+        self.room = tempfile.TemporaryDirectory()
+        self.path, rules = (os.path.join(self.room.name, name) for name in ("output", "rules"))
+        if script is not None:
+            with open(rules, "w", encoding="utf-8") as out:
+                out.write(script)
+            options = ("--script", rules, *options)
+        with open(self.path, "wb") as output:
+            self.process = subprocess.Popen([*words, "proxy", *options, "127.0.0.1:0", "{}:{}".format(*server.address)], stdout=output)
+        while not (lines := self.lines()):
+            check("the proxy listens", self.process.poll() is None, self.process.returncode)
+            time.sleep(0.01)
+        self.port = int(lines[0].rsplit(":", 1)[1])
+
+    def lines(self):
+        """Returns the lines that it has written."""
+        with open(self.path, encoding="utf-8") as file:
+            return [line[:-1] for line in file if line.endswith("\n")]
+
+    def told(self, count=1):
+        """Returns the lines behind the first one, once there are so many."""
+        for _ in range(1000):
+            if len(lines := self.lines()) > count:
+                break
+            time.sleep(0.01)
+        return lines[1:]
+
+    def connect(self):
+        return connect_to(self.port)
+
+    def __enter__(self):
+        return self
+
+    def __exit__(self, *_):
+        self.process.kill()
+        self.process.wait()
         self.room.cleanup()
