@@ -11,14 +11,15 @@
  *   - a pointer to a struct is null, or points to one, aligned as C has it.
  *
  * Nothing else is owed, but of a handle, which has a section of its own below: any content, any `limit` and any number in a struct
- * that is handed in have an answer. Calls may run at once in several threads, each handle in one. An offset is counted from `bytes`.
+ * that is handed in have an answer. Calls may run at once in several threads, on each handle one at a time. An offset is counted
+ * from `bytes`.
  *
- * The functions for documents take no memory, but for those that write texts or canonical forms. Those for whole messages take some in
- * proportion to the number of names in a body, by malloc, realloc and free of the program, and give it back before they
- * return. If there is none, the answer is the same, but takes time in proportion to the square of the number of names.
- * Those that write texts take as much as the text, and tell where there is none. The three functions must come from one
- * allocator. Don't call what takes memory from a signal handler, nor from the forked child of a process
- * with threads.
+ * The functions for documents take no memory, but for those that write texts or canonical forms. Those that check whole messages
+ * take some in proportion to the number of names in a body, by malloc, realloc and free of the program, and give it back before
+ * they return. If there is none, the answer is the same, but takes time in proportion to the square of the number of names.
+ * Those that write texts take as much as the text, lughemra_write_message takes as much as the message twice, and each tells
+ * where there is none. malloc, realloc and free must come from one allocator. Don't call what takes memory from a signal handler,
+ * nor from the forked child of a process with threads.
  *
  * A call took less than 44 KiB of the stack wherever it was measured. Documents that nest 200 deep take the most. */
 #ifndef LUGHEMRA_H
@@ -810,7 +811,8 @@ static inline struct lughemra_iter lughemra_enter(const struct lughemra_iter *it
 }
 
 /* Goes on to the next element with this name, of `name_length` bytes, and moves the iterator behind it. Returns false if
- * there is none, or a fault comes before it, as lughemra_next does. */
+ * there is none, and the iterator then stands behind the last element: another name is looked for with a copy that was made
+ * before. Returns false, too, where a fault comes before it; the iterator then stands at the element that has the fault. */
 static inline bool lughemra_find(const uint8_t *bytes, size_t length, const char *name, size_t name_length,
                                  struct lughemra_iter *iter, struct lughemra_element *element)
 {
@@ -1029,7 +1031,7 @@ static inline struct lughemra_written lughemra_write_message(const struct lughem
  *
  *   - it begins as {NULL, false}, its fields are written by these functions alone, and no one reads or writes what it points to;
  *   - it has one owner: a copy of the struct isn't used beside the original, nor after a call with that;
- *   - one call at a time, in the thread that made it; what is handed in lies neither in the handle nor where it points to;
+ *   - one call at a time, in any thread; what is handed in lies neither in the handle nor where it points to;
  *   - malloc, realloc and free are of one allocator all the while.
  *
  * Nothing is lent: what waits to be sent, replies and requests are copied into the program's room. A call may take memory; where
