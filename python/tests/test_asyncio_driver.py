@@ -49,7 +49,7 @@ def test_a_thousand_pings_come_back_over_one_connection(capsys):
     assert capsys.readouterr().out == "1000 of 1000 pings came back, over one connection\n"
 
 
-def test_more_calls_than_the_window_wait_for_their_turn(capsys):
+def test_more_calls_than_the_window_wait_for_their_turn():
     assert run(3000, 1 << 30) == (0, 3000)
 
 

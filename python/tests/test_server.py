@@ -7,7 +7,7 @@ import traceback
 import pytest
 
 import lughemra
-from lughemra import CallRefused, Client, Flags, Server, ServerClosed, encode, encode_message
+from lughemra import CallRefused, Client, Flags, Server, ServerClosed, encode
 
 # {"ok": int32 1} and {"n": int32 2}
 OK = bytes.fromhex("0d000000 106f6b0001000000 00")
