@@ -4,6 +4,7 @@
  *
  * On the first connection it hangs up after so many answers, in the midst of the next one. */
 #include <arpa/inet.h>
+#include <errno.h>
 #include <inttypes.h>
 #include <netinet/in.h>
 #include <stdio.h>
@@ -14,9 +15,31 @@
 
 #include "lughemra.h"
 
-static uint8_t held[1 << 20];
+/* What came and isn't answered yet, in a room that grows, and where the messages in it begin. */
+static uint8_t *held;
+static size_t *starts, room_length;
 /* How many answers it gives before it hangs up. */
 static size_t answers;
+
+/* Makes the room twice as long. No message has fewer than 26 bytes. */
+static void grow(void)
+{
+    room_length = room_length > 0 ? 2 * room_length : 1 << 20;
+    held = realloc(held, room_length);
+    starts = realloc(starts, (room_length / 26 + 1) * sizeof *starts);
+    if (held == NULL || starts == NULL)
+        exit(4);
+}
+
+/* Receives some bytes behind those that are held, whatever signals come meanwhile. */
+static ssize_t receive_behind(int link, size_t length)
+{
+    ssize_t came;
+    do
+        came = recv(link, held + length, room_length - length, 0);
+    while (came < 0 && errno == EINTR);
+    return came;
+}
 
 /* Sends the answer to a request, or half of it where it hangs up. Returns false if the connection ends. */
 static bool answer(int link, const uint8_t *request, size_t length, int32_t id)
@@ -36,6 +59,8 @@ static bool answer(int link, const uint8_t *request, size_t length, int32_t id)
     wanted = answers > 0 ? written.length : written.length / 2;
     while (sent < wanted) {
         ssize_t more = send(link, room + sent, wanted - sent, MSG_NOSIGNAL);
+        if (more < 0 && errno == EINTR)
+            continue;
         if (more <= 0)
             break;
         sent += (size_t)more;
@@ -50,7 +75,6 @@ static bool answer(int link, const uint8_t *request, size_t length, int32_t id)
 /* Answers the messages that stand at the front of what is held, and takes them off. Returns false if the connection ends. */
 static bool answer_all(int link, size_t *length, int32_t *id)
 {
-    static size_t starts[sizeof held / 26 + 1];
     size_t count = 0, at = 0;
     struct lughemra_message_front front;
     while ((front = lughemra_message_front(held + at, *length - at, LUGHEMRA_MAX_LIMIT)).state == LUGHEMRA_FRONT_WHOLE) {
@@ -74,14 +98,16 @@ static void serve(int link)
     size_t length = 0;
     int32_t id = 0;
     ssize_t came;
-    while ((came = recv(link, held + length, sizeof held - length, 0)) > 0) {
+    while ((came = receive_behind(link, length)) > 0) {
         length += (size_t)came;
         if (!answer_all(link, &length, &id))
             break;
+        if (length == room_length)
+            grow();
     }
     /* What the other side still sends is dropped, so that it gets all that was sent before. */
     shutdown(link, SHUT_WR);
-    while (recv(link, held, sizeof held, 0) > 0)
+    while (receive_behind(link, 0) > 0)
         continue;
     close(link);
 }
@@ -100,13 +126,19 @@ int main(int argc, char **argv)
         return 3;
     printf("%u\n", (unsigned)ntohs(address.sin_port));
     fflush(stdout);
+    grow();
     for (; connections > 0; connections--) {
-        int link = accept(listener, NULL, NULL);
+        int link;
+        do
+            link = accept(listener, NULL, NULL);
+        while (link < 0 && errno == EINTR);
         if (link < 0)
             return 3;
         serve(link);
         answers = SIZE_MAX;
     }
     close(listener);
+    free(held);
+    free(starts);
     return 0;
 }
