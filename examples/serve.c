@@ -28,6 +28,8 @@ struct connection {
 };
 
 static struct connection *connections;
+/* No more files can be opened, so that nothing is accepted until a connection ends. */
+static bool full;
 static uint8_t piece[1 << 16], request[LIMIT];
 
 static void stop(int status, const char *why)
@@ -117,13 +119,17 @@ static bool await(int events, int how, struct connection *c)
     return epoll_ctl(events, how, c->link, &event) == 0;
 }
 
-/* Accepts a connection. */
+/* Accepts a connection. Where no file can be opened for it, the listener is waited for again once another connection has ended. */
 static void begin(int events, int listener)
 {
     int link = accept(listener, NULL, NULL);
     struct connection *c;
-    if (link < 0)
+    if (link < 0) {
+        full = errno == EMFILE || errno == ENFILE;
+        if (full && (connections == NULL || epoll_ctl(events, EPOLL_CTL_DEL, listener, NULL) != 0))
+            stop(3, strerror(errno));
         return;
+    }
     c = calloc(1, sizeof *c);
     if (c == NULL || lughemra_server_new(&c->core, 100, LIMIT) != 0)
         stop(4, "no memory for a server");
@@ -178,8 +184,12 @@ int main(int argc, char **argv)
             break;
         if (ready.data.ptr == &accepts)
             begin(events, listener);
-        else if (!go_on(events, ready.data.ptr))
+        else if (!go_on(events, ready.data.ptr)) {
             left--;
+            if (full && epoll_ctl(events, EPOLL_CTL_ADD, listener, &accepts) != 0)
+                stop(3, strerror(errno));
+            full = false;
+        }
     }
     while (connections != NULL)
         end(connections);
