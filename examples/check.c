@@ -7,7 +7,7 @@
  *     check messages [FILE [LIMIT]]    messages back to back
  *     check front [FILE [LIMIT]]       what stands in front, where more bytes may follow
  *     check parts [FILE [LIMIT]]       the numbers of exactly one message
- *     check write [FILE [LIMIT]]       the same message, written anew, if its body comes first
+ *     check write [FILE [LIMIT]]       the same message, written anew with its body first
  *     check dump [FILE]                the text of exactly one document
  *     check json [FILE]                the same as canonical Extended JSON
  *     check relaxed [FILE]             the same as relaxed Extended JSON
@@ -108,26 +108,35 @@ static int check_parts(const uint8_t *bytes, size_t length, uint32_t limit)
     return write_message_fault(parts.fault, parts.document_fault);
 }
 
-/* Writes a message anew, whose sections behind the body are the sequences. */
+/* Writes a message anew, its sequences behind its body. */
 static int write_message(const uint8_t *bytes, size_t length, uint32_t limit)
 {
     struct lughemra_message_parts parts = lughemra_message_parts(bytes, length, limit);
     struct lughemra_message_numbers numbers = {parts.id, parts.response_to, parts.flag_bits};
-    struct lughemra_section body = lughemra_section(bytes, length, parts.sections);
+    struct lughemra_section body;
     struct lughemra_written written;
-    uint8_t *room;
+    size_t at = parts.sections, before, behind;
+    uint8_t *room, *sequences;
     if (parts.fault.number != 0)
         return write_message_fault(parts.fault, parts.document_fault);
     room = malloc(length);
-    if (!room)
+    sequences = malloc(length);
+    if (!room || !sequences)
         fail("memory ran out");
-    written = lughemra_write_message(&numbers, bytes + body.documents.offset, body.documents.length, bytes + body.next,
-                                     length - body.next, limit, room, length);
+    while ((body = lughemra_section(bytes, length, at)).kind == LUGHEMRA_SECTION_SEQUENCE)
+        at = body.next;
+    before = at - parts.sections;
+    behind = length - body.next;
+    memcpy(sequences, bytes + parts.sections, before);
+    memcpy(sequences + before, bytes + body.next, behind);
+    written = lughemra_write_message(&numbers, bytes + body.documents.offset, body.documents.length, sequences,
+                                     before + behind, limit, room, length);
     if (written.fault.number == LUGHEMRA_NO_MEMORY)
         fail("memory ran out");
     if (written.written)
         fwrite(room, 1, written.length, stdout);
     free(room);
+    free(sequences);
     return write_message_fault(written.fault, written.document_fault);
 }
 
