@@ -131,7 +131,8 @@ def _container_of(value: Any) -> Optional[Kind]:
 def _pairs_of(value: Any) -> Iterable[tuple[Any, Any]]:
     """Returns the pairs of a mapping or of a sequence. Those of what was read are all of its elements, each of its own kind."""
     if isinstance(value, (Document, Array)):
-        return ((it.name, Int64(it.value) if it.kind == Kind.INT64 else it.value) for it in value.elements())
+        elements: Iterable[Any] = value.elements()
+        return ((it.name, Int64(it.value) if it.kind == Kind.INT64 else it.value) for it in elements)
     return value.items() if isinstance(value, Mapping) else (("", it) for it in value)
 
 

@@ -183,7 +183,7 @@ def test_what_came_before_the_end_is_answered(rest, told):
 
 def test_bytes_at_fault_behind_a_full_window_close_the_server_behind_the_end():
     server = Server(window=1)
-    server.feed(message(1, 0, TWO) + message(2, 0, TWO)[:12] + bytes.fromhex("d4070000"))
+    server.feed(message(1, 0, TWO) + message(2, 0, TWO)[:12] + bytes.fromhex("d4070000") + message(2, 0, TWO)[16:])
     server.end()
     server.answer(0, [OK])
     assert str(server.closed) == "Message: Opcode at 12" and sent_by(server) == message(1, 1, OK)

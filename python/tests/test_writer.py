@@ -48,7 +48,9 @@ def test_a_document_gives_its_own_bytes():
     data = document(*KEPT, SCOPED)
     read = Document(document(element(0x03, "d", data)))["d"]
     assert encode(read) == encode(Document(data)) == data
-    assert encode_message(read, [("docs", [read])]) == message(data, sequence(b"docs", data))
+    # A body has no name twice.
+    body = document(KEPT[0], SCOPED)
+    assert encode_message(Document(body), [("docs", [read])]) == message(body, sequence(b"docs", data))
     with pytest.raises(DocumentError) as fault:
         encode(Document(document(element(0x08, "b", b"\2"))))
     assert (fault.value.name, fault.value.offset) == ("Boolean", 4)
