@@ -1,6 +1,6 @@
 //! A link whose messages are held until it is said what becomes of them.
 
-ghost use Rattle.std.specs.Prelude.{◌≡◌, ◌≢◌, ◌≤◌, ◌<◌, None, IfOk, length};
+ghost use Rattle.std.specs.Prelude.{◌≡◌, ◌≢◌, ◌≤◌, ◌<◌, None, IfErr, IfOk, length};
 ghost use Rattle.wire_stream.specs.{bytes_moved};
 
 use std::alloc::{AllocError, Global};
@@ -65,7 +65,8 @@ impl<L: Link + Drop> Held<L> {
 
     /// Gives bytes as they come.
     fn receive(&mut self, buffer: &mut [u8]) -> Result<Moved, LinkFault>
-        ensures { IfOk result (λ moved. bytes_moved moved ≤ length buffer.old) }
+        ensures within { IfOk result (λ moved. bytes_moved moved ≤ length buffer.old) }
+        ensures never { IfErr result (λ fault. fault.kind ≢ ErrorKind.WouldBlock) }
     {
         let moved = self.link.recv(buffer)?;
         if let Moved::Bytes(n) = moved {
@@ -98,7 +99,9 @@ impl<L: Link + Drop> Held<L> {
 
     /// Receives a piece, unless a message is whole. At the end of the link, the bytes of a message
     /// that isn't whole are given from then on.
-    fn take(&mut self) -> Result<(), LinkFault> {
+    fn take(&mut self) -> Result<(), LinkFault>
+        ensures { IfErr result (λ fault. fault.kind ≢ ErrorKind.WouldBlock) }
+    {
         if !self.wants_more() {
             return Ok(());
         }
@@ -120,7 +123,8 @@ impl<L: Link + Drop> Held<L> {
 
     /// Gives bytes that may be given, or receives a piece and gives nothing.
     fn pull(&mut self, buffer: &mut [u8]) -> Result<Moved, LinkFault>
-        ensures { IfOk result (λ moved. bytes_moved moved ≤ length buffer.old) }
+        ensures within { IfOk result (λ moved. bytes_moved moved ≤ length buffer.old) }
+        ensures never { IfErr result (λ fault. fault.kind ≢ ErrorKind.WouldBlock) }
     {
         self.again = false;
         let room = buffer.len().min(self.left as usize);
@@ -146,6 +150,7 @@ impl<L: Link + Drop> Held<L> {
     fn send(&mut self, bytes: &[u8]) -> Result<Moved, LinkFault>
         ensures within { IfOk result (λ moved. bytes_moved moved ≤ length bytes.now) }
         ensures some { 0 < length bytes.now → IfOk result (λ moved. moved ≢ Moved.Bytes 0) }
+        ensures never { IfErr result (λ fault. fault.kind ≢ ErrorKind.WouldBlock) }
     {
         self.link.send(bytes)
     }

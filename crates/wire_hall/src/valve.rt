@@ -1,7 +1,7 @@
 //! A link whose sending is cut short or swallowed.
 
-ghost use Rattle.std.specs.Prelude.{◌≡◌, ◌≢◌, ◌≤◌, ◌<◌, ◌-◌, ◌⊎◌, None, IfOk, OnErr, OnOk, length};
-ghost use Rattle.std.specs.Prelude.{min};
+ghost use Rattle.std.specs.Prelude.{◌≡◌, ◌≢◌, ◌≤◌, ◌<◌, ◌-◌, ◌⊎◌, None, IfErr, IfOk, OnErr, OnOk};
+ghost use Rattle.std.specs.Prelude.{length, min};
 ghost use Rattle.std.specs.Io.KnownBytes.{Keeps};
 ghost use Rattle.wire_stream.specs.{Rose, TellsLater, bytes_moved};
 ghost use Rattle.wire_hall.specs.Valves.{GoOver, Passes, count_moved};
@@ -64,6 +64,7 @@ impl<L: Link + Drop> Valve<L> {
 
     /// Returns the fault of a call of what was cut, which is counted.
     fn fault(&mut self) -> LinkFault
+        ensures kind { result.kind ≡ ErrorKind.ConnectionAborted }
         ensures failures { Rose self.old.failures self.new.failures }
         ensures link { self.new.link ≡ self.old.link }
         ensures gate { self.new.gate ≡ self.old.gate }
@@ -94,6 +95,7 @@ impl<L: Link + Drop> Valve<L> {
         ensures received { Keeps (L.received self.old.link) (L.received self.new.link) }
         ensures end { L.ends self.new.link ≡ L.ends self.old.link }
         ensures later { TellsLater result (L.waits self.old.link) (L.waits self.new.link) }
+        ensures never { IfErr result (λ fault. fault.kind ≢ ErrorKind.WouldBlock) }
         ensures works { OnOk result (self.new.failures ≡ self.old.failures) }
         ensures fails { OnErr result (Rose self.old.failures self.new.failures) }
         ensures own { OnErr result (Rose (L.failures self.old.link) (L.failures self.new.link)) }
@@ -114,6 +116,7 @@ impl<L: Link + Drop> Valve<L> {
         ensures received { Keeps (L.received self.old.link) (L.received self.new.link) }
         ensures end { L.ends self.new.link ≡ L.ends self.old.link }
         ensures later { TellsLater result (L.waits self.old.link) (L.waits self.new.link) }
+        ensures never { IfErr result (λ fault. fault.kind ≢ ErrorKind.WouldBlock) }
         ensures works { OnOk result (self.new.failures ≡ self.old.failures) }
         ensures fails { OnErr result (Rose self.old.failures self.new.failures) }
         ensures own { OnErr result (Rose (L.failures self.old.link) (L.failures self.new.link)) }
@@ -145,6 +148,7 @@ impl<L: Link + Drop> Valve<L> {
         ensures received { Keeps (L.received self.old.link) (L.received self.new.link) }
         ensures end { L.ends self.new.link ≡ L.ends self.old.link }
         ensures later { TellsLater result (L.waits self.old.link) (L.waits self.new.link) }
+        ensures never { IfErr result (λ fault. fault.kind ≢ ErrorKind.WouldBlock) }
         ensures works { OnOk result (self.new.failures ≡ self.old.failures) }
         ensures fails { OnErr result (Rose self.old.failures self.new.failures) }
         ensures own { OnErr result (Rose (L.failures self.old.link) (L.failures self.new.link)

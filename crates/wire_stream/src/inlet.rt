@@ -1,13 +1,14 @@
 //! Holds the piece of bytes that a link gave last.
 
-ghost use Rattle.std.specs.Prelude.{◌≡◌, ◌≢◌, ◌≤◌, ◌<◌, ◌++◌, ◌∷◌, [], Ok, OnErr, OnOk, IfOk, List};
-ghost use Rattle.std.specs.Prelude.{drop, length, ℕ};
+ghost use Rattle.std.specs.Prelude.{◌≡◌, ◌≢◌, ◌≤◌, ◌<◌, ◌++◌, ◌∷◌, [], Ok, OnErr, OnOk, IfErr};
+ghost use Rattle.std.specs.Prelude.{IfOk, List, drop, length, ℕ};
 ghost use Rattle.std.specs.Io.KnownBytes.{Appends, Keeps};
 ghost use Rattle.wire_stream.specs.Links.{AddsTurns, Rose};
 ghost use Rattle.wire_stream.specs.Pulls.{IsPulled, PullsLater};
 
 use crate::link::{Link, LinkFault, Moved};
 use std::alloc::{AllocError, Global};
+use std::io::ErrorKind;
 use std::marker::Model;
 
 /// The most bytes that a piece has.
@@ -97,6 +98,7 @@ impl Inlet {
         ensures within { length self.new ≤ 4096 }
         ensures found { IsPulled result (self.new) (L.ends link.old) (L.ends link.new) }
         ensures later { PullsLater result (L.waits link.old) (L.waits link.new) }
+        ensures never { IfErr result (λ fault. fault.kind ≢ ErrorKind.WouldBlock) }
         ensures sent { Keeps (L.sent link.old) (L.sent link.new) }
         ensures works { OnOk result (L.failures link.new ≡ L.failures link.old) }
         ensures fails { OnErr result (Rose (L.failures link.old) (L.failures link.new)) }

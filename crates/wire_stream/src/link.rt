@@ -1,7 +1,7 @@
 //! Names what a link is: something that moves bytes both ways.
 
-ghost use Rattle.std.specs.Prelude.{◌≡◌, ◌≢◌, ◌<◌, ◌≤◌, ◌∷◌, [], ℕ, List, Option, IfOk, OnErr};
-ghost use Rattle.std.specs.Prelude.{OnOk, length, take};
+ghost use Rattle.std.specs.Prelude.{◌≡◌, ◌≢◌, ◌<◌, ◌≤◌, ◌∷◌, [], ℕ, List, Option, IfErr, IfOk};
+ghost use Rattle.std.specs.Prelude.{OnErr, OnOk, length, take};
 ghost use Rattle.std.specs.Io.KnownBytes.{Appends, Keeps};
 ghost use Rattle.wire_stream.specs.Links.{AddsTurns, Rose, TellsEnd, TellsLater, Turn, bytes_moved};
 
@@ -12,7 +12,7 @@ use thiserror::Error;
 #[derive(Clone, Copy, Debug, PartialEq, Eq, Error)]
 #[error("the link failed: {kind}")]
 pub struct LinkFault {
-    /// What sort of failure it was.
+    /// What sort of failure it was. A call of a `Link` never fails with `WouldBlock`.
     pub kind: ErrorKind,
 }
 
@@ -56,6 +56,7 @@ pub trait Link {
             (record { received = received self.old; sent = sent self.old } ∷ []) }
         ensures end { TellsEnd (length buffer.old) result (ends self.old) (ends self.new) }
         ensures later { TellsLater result (waits self.old) (waits self.new) }
+        ensures never { IfErr result (λ fault. fault.kind ≢ ErrorKind.WouldBlock) }
         ensures works { OnOk result (failures self.new ≡ failures self.old) }
         ensures fails { OnErr result (Rose (failures self.old) (failures self.new)) };
 
@@ -75,6 +76,7 @@ pub trait Link {
         ensures turns { AddsTurns (turns self.old) (turns self.new) [] }
         ensures end { ends self.new ≡ ends self.old }
         ensures later { TellsLater result (waits self.old) (waits self.new) }
+        ensures never { IfErr result (λ fault. fault.kind ≢ ErrorKind.WouldBlock) }
         ensures works { OnOk result (failures self.new ≡ failures self.old) }
         ensures fails { OnErr result (Rose (failures self.old) (failures self.new)) };
 }

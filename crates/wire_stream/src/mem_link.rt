@@ -1,7 +1,7 @@
 //! Makes a link of bytes in memory.
 
-ghost use Rattle.std.specs.Prelude.{◌≡◌, ◌≢◌, ◌<◌, ◌≤◌, ◌-◌, ◌^◌, ◌++◌, [], Ok, IfOk, IsErr, OnErr};
-ghost use Rattle.std.specs.Prelude.{OnOk, None, Some, drop, false, length, take, true};
+ghost use Rattle.std.specs.Prelude.{◌≡◌, ◌≢◌, ◌<◌, ◌≤◌, ◌-◌, ◌^◌, ◌++◌, [], Err, Ok, IfErr, IfOk};
+ghost use Rattle.std.specs.Prelude.{OnErr, OnOk, None, Some, drop, false, length, take, true};
 ghost use Rattle.std.specs.Io.KnownBytes.{Appends, Keeps};
 ghost use Rattle.wire_stream.specs.Links.{Rose, TellsEnd, bytes_moved};
 ghost use Rattle.wire_stream.specs.MemLinks.{is_due, moved, one_less};
@@ -179,10 +179,12 @@ impl Link for MemLink {
         ensures sent { self.new.sent ≡ self.old.sent }
         ensures end { TellsEnd (length buffer.old) result self.old.ends self.new.ends }
         ensures later { result ≢ Ok Moved.Later }
+        ensures never { IfErr result (λ fault. fault.kind ≢ ErrorKind.WouldBlock) }
         ensures works { OnOk result (self.new.failures ≡ self.old.failures) }
         ensures fails { OnErr result (Rose self.old.failures self.new.failures) }
         ensures given { self.old.received ++ self.old.left ≡ self.new.received ++ self.new.left }
-        ensures fault { is_due self.old.fails_after ≡ true → IsErr result }
+        ensures fault { is_due self.old.fails_after ≡ true
+            → result ≡ Err (record { kind = ErrorKind.ConnectionReset }) }
         ensures moved { is_due self.old.fails_after ≡ false
             → result ≡ Ok (Moved.Bytes (moved self.old.most (length buffer.old)
             (length self.old.left))) }
@@ -209,10 +211,13 @@ impl Link for MemLink {
             × (self.new.left ≡ self.old.left) }
         ensures end { self.new.ends ≡ self.old.ends }
         ensures later { result ≢ Ok Moved.Later }
+        ensures never { IfErr result (λ fault. fault.kind ≢ ErrorKind.WouldBlock) }
         ensures works { OnOk result (self.new.failures ≡ self.old.failures) }
         ensures fails { OnErr result (Rose self.old.failures self.new.failures) }
-        ensures fault { is_due self.old.fails_after ≡ true → IsErr result }
-        ensures full { self.old.room ≡ 0 → bytes.now ≢ [] → IsErr result }
+        ensures fault { is_due self.old.fails_after ≡ true
+            → result ≡ Err (record { kind = ErrorKind.ConnectionReset }) }
+        ensures full { is_due self.old.fails_after ≡ false → self.old.room ≡ 0 → bytes.now ≢ []
+            → result ≡ Err (record { kind = ErrorKind.WriteZero }) }
         ensures empty { is_due self.old.fails_after ≡ false → bytes.now ≡ []
             → result ≡ Ok (Moved.Bytes 0) }
         ensures moved { is_due self.old.fails_after ≡ false

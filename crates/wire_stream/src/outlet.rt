@@ -1,12 +1,13 @@
 //! Sends bytes that wait.
 
-ghost use Rattle.std.specs.Prelude.{◌≡◌, ◌≢◌, ◌≤◌, ◌++◌, [], ℕ, List, Ok, OnErr, OnOk, drop};
+ghost use Rattle.std.specs.Prelude.{◌≡◌, ◌≢◌, ◌≤◌, ◌++◌, [], ℕ, List, IfErr, Ok, OnErr, OnOk, drop};
 ghost use Rattle.std.specs.Prelude.{length};
 ghost use Rattle.std.specs.Io.KnownBytes.{Appends, Keeps};
 ghost use Rattle.wire_stream.specs.Links.{AddsTurns, Rose};
 ghost use Rattle.wire_stream.specs.Flushes.{FlushesLater};
 
 use crate::link::{Link, LinkFault, Moved};
+use std::io::ErrorKind;
 
 /// A thing that has bytes waiting to be sent.
 pub trait Outlet {
@@ -58,6 +59,7 @@ pub fn flush<L: Link, O: Outlet>(link: &mut L, outlet: &mut O) -> Result<Flushed
     ensures all { result ≡ Ok Flushed.All → O.waiting outlet.new ≡ [] }
     ensures later { result ≡ Ok Flushed.Later → O.waiting outlet.new ≢ [] }
     ensures waits { FlushesLater result (L.waits link.old) (L.waits link.new) }
+    ensures never { IfErr result (λ fault. fault.kind ≢ ErrorKind.WouldBlock) }
     ensures received { Keeps (L.received link.old) (L.received link.new) }
     ensures turns { AddsTurns (L.turns link.old) (L.turns link.new) [] }
     ensures end { L.ends link.new ≡ L.ends link.old }
