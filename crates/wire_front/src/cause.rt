@@ -15,7 +15,7 @@ pub enum FrontCause {
     #[error("the bytes are no query: {0}")]
     Query(QueryFault),
     /// The bytes ended inside a header or a query.
-    #[error("the bytes ended inside a query")]
+    #[error("the bytes ended inside a header or a query")]
     EndedInside,
     /// The answer to a query isn't a body alone, as that of an OP_REPLY is.
     #[error("the answer to a query isn't a body alone")]

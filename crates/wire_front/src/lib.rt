@@ -8,8 +8,8 @@
 //! byte is taken while a request waits or a reply isn't sent, so replies go out in the order of
 //! the requests.
 //!
-//! Uses wire_peer and wire_query. Used by wire_hall and wire_share. Read first: `front`, and then
-//! `passing`.
+//! Stands on wire_peer and wire_query. wire_hall, wire_share, test_server and shared_proxy stand on
+//! it. Read first: `front`, and then `passing`.
 #![tactic(auto)]
 
 mod cause;

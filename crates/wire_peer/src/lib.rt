@@ -10,8 +10,8 @@
 //! fed to it, requests wait in it and are answered in any order, and its output is taken off as it
 //! is sent.
 //!
-//! Stands on wire_stream. wire_model, wire_world, wire_end, wire_front, engines and test_store stand on
-//! it. Read first: `handlers` and `log`, then `servers` and `clients`.
+//! Stands on wire_stream. Cores of handles, worlds, ends over links, fronts, stores and scripts stand
+//! on it. Read first: `handlers` and `log`, then `servers` and `clients`.
 #![tactic(auto)]
 
 mod answer_list;

@@ -88,6 +88,7 @@ pub fn write_reply(
     document: RawDocument<'_>,
     limit: u32,
 ) -> Result<(), MsgRefusal>
+    requires { limit < 2 ^ 31 }
     ensures written { (t : Tree) → Spells t (document_bytes document.entry)
         → OnOk result (out.new.items ≡ out.old.items ++ reply_bytes head t) }
     ensures within { (t : Tree) → Spells t (document_bytes document.entry)
