@@ -23,6 +23,7 @@ pub mod Zeros
 -- the words that clauses of other crates cite
 pub use Rattle.bson_json_read.specs.Causes.{text_fault_text}
 pub use Rattle.bson_json_read.specs.Extents.{text_len}
+pub use Rattle.bson_json_read.specs.Places.{StandsIn}
 pub use Rattle.bson_json_read.specs.Sequences.{AreRead, Fails, Gives, GivesBytes, HasNoBytes, Left}
 pub use Rattle.bson_json_read.specs.Sequences.{ReadsTo, next_in, nothing, utf8_read}
 pub use Rattle.bson_json_read.specs.Texts.{document_in}

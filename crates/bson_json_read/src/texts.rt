@@ -1,8 +1,8 @@
 //! Reads documents from an input of several texts.
 
 ghost use Rattle.std.specs.Prelude.{◌≡◌, ◌≢◌, ◌≤◌, ◌<◌, ◌+◌, ◌⊎◌, ℕ, List, Err, IfErr, IfOk};
-ghost use Rattle.std.specs.Prelude.{IfSome, MatchResult, None, Ok, drop, false, is_some, length};
-ghost use Rattle.std.specs.Prelude.{take, true};
+ghost use Rattle.std.specs.Prelude.{IfSome, MatchResult, None, Ok, OnErr, drop, false, is_some};
+ghost use Rattle.std.specs.Prelude.{length, take, true};
 ghost use Rattle.std.specs.Str.{is_utf8};
 ghost use Rattle.bson_json_read.specs.Extents.{text_len};
 ghost use Rattle.bson_json_read.specs.Places.{StandsIn};
@@ -348,7 +348,7 @@ impl<'a> JsonTexts<'a> {
     /// # Errors
     ///
     /// Returns the first fault of what is next, or `OutOfMemory` if memory is refused. Then nothing
-    /// is said of what is left.
+    /// was read, and it is what is next again.
     #[tactic(auto, using(crate::proofs::TextBytes::told))]
     pub fn next(&mut self, alloc: Global) -> Result<Option<Document>, TextFault>
         ensures ok { IfOk result (λ found.
@@ -362,6 +362,7 @@ impl<'a> JsonTexts<'a> {
         ensures place { IfErr result (λ e.
             StandsIn self.old.input e.place.line e.place.column) }
         ensures input { self.new.input ≡ self.old.input }
+        ensures unchanged { OnErr result (self.new ≡ self.old) }
     {
         let Some(found) = self.find()? else {
             return Ok(None);
@@ -394,6 +395,7 @@ impl<'a> JsonTexts<'a> {
         ensures place { IfErr result (λ e.
             StandsIn self.old.input e.place.line e.place.column) }
         ensures input { self.new.input ≡ self.old.input }
+        ensures unchanged { OnErr result (self.new ≡ self.old) }
     {
         let Some(found) = self.find()? else {
             return Ok(NextBytes::AtEnd);
@@ -424,7 +426,7 @@ impl<'a> JsonTexts<'a> {
     /// # Errors
     ///
     /// Returns the first fault of what is next, or `OutOfMemory` if memory is refused. Then nothing
-    /// is said of what is left, and of `out`.
+    /// was read, and it is what is next again. Nothing is said of `out`.
     pub fn next_bytes(&mut self, alloc: Global, out: &mut Vec<u8>) -> Result<NextBytes, TextFault>
         ensures ok { IfOk result (λ read.
             GivesBytes (next_in self.old.left.frame self.old.left.rest) read out.new.items
@@ -439,6 +441,7 @@ impl<'a> JsonTexts<'a> {
         ensures place { IfErr result (λ e.
             StandsIn self.old.input e.place.line e.place.column) }
         ensures input { self.new.input ≡ self.old.input }
+        ensures unchanged { OnErr result (self.new ≡ self.old) }
     {
         if let Some(found) = self.write_line(alloc, out) {
             self.offset = found.start + found.len;

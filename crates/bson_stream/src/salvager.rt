@@ -64,6 +64,7 @@ impl Salvager {
         ensures fresh { SoFar false [] [] result }
         ensures settled { IsSettled false result }
         ensures limit { result.limit ≡ limit }
+        ensures room { result.room ≡ 0 }
     {
         Salvager {
             limit,
