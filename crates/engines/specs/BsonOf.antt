@@ -9,7 +9,7 @@ use Rattle.bson_doc.specs.Refusals.{refusal_text}
 use Rattle.bson_doc.specs.{tree_of}
 use Rattle.bson_json_read.specs.declared.fault.Cause.{Cause}
 use Rattle.bson_json_read.specs.{Fails, Gives, HasNoBytes, Left, Pair, ReadsTo, next_in, nothing}
-use Rattle.bson_json_read.specs.{text_fault_text}
+use Rattle.bson_json_read.specs.{StandsIn, text_fault_text}
 use Rattle.engines.specs.declared.bson.TextStop.{TextStop}
 use Rattle.engines.specs.declared.bson.TextStop.TheVariants.{Fault, Refused}
 
@@ -26,6 +26,11 @@ StopsAt None count left = next_in left.frame left.rest ≡ nothing
 StopsAt (Some (Fault f)) count left = Fails (next_in left.frame left.rest) f.cause
 StopsAt (Some (Refused refusal number)) count left =
     (number ≡ count + 1) × IsRefused left refusal
+
+-- the place that is told of a fault is one of the input
+abbrev pub IsPlaced : List ℕ → Option TextStop → Type 0
+IsPlaced input (Some (Fault f)) = StandsIn input f.place.line f.place.column
+IsPlaced input _ = ⊤
 
 -- the bytes of documents
 abbrev pub bytes_of_each : List (List Pair) → List ℕ

@@ -36,7 +36,7 @@ IsLastBefore Open Last None rest last = Last rest last
 IsLastBefore Open Last (Some offset) rest last =
     (Open rest × (last ≡ Some (hex_line offset))) ⊎ ((Open rest → ⊥) × Last rest last)
 
--- known bytes grow by a text, and fault says whether it ends with a fault line
+-- known bytes grow by a text, and fault says whether it is that of an input with a fault
 abbrev pub AppendsText : (List ℕ → Bool → Type 0) → Bool → Option (List ℕ) → Option (List ℕ)
     → Type 0
 AppendsText IsText fault old new = (text : List ℕ) × IsText text fault × Appends old new text

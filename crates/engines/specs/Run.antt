@@ -12,7 +12,7 @@ is_done Good = true
 is_done Fault = true
 is_done _ = false
 
--- the run wrote a text that ends with a fault line
+-- the run wrote the whole text of an input that has a fault
 abbrev pub is_fault : RunEnd → Bool
 is_fault Fault = true
 is_fault _ = false

@@ -1,8 +1,8 @@
 //! The command `bson`: the documents of Extended JSON texts.
 
-ghost use Rattle.std.specs.Prelude.{◌≡◌, ◌⊎◌, [], Err, IfErr, IfOk, IfSome, OnOk, false};
+ghost use Rattle.std.specs.Prelude.{◌≡◌, ◌≢◌, ◌⊎◌, [], Err, IfErr, IfOk, IfSome, OnOk, false};
 ghost use Rattle.std.specs.Io.KnownBytes.{Appends, IsAtEnd, Keeps};
-ghost use Rattle.engines.specs.BsonOf.{IsAnything, StopsAt, WritesTexts};
+ghost use Rattle.engines.specs.BsonOf.{IsAnything, IsPlaced, StopsAt, WritesTexts};
 ghost use Rattle.engines.specs.Run.{is_done};
 
 use crate::buffered::Buffered;
@@ -43,6 +43,7 @@ fn write_bytes<W: Write>(bytes: &[u8], out: &mut W) -> Result<(), RunEnd>
     ensures written { OnOk result
         (Appends (W.contents out.old) (W.contents out.new) bytes.now) }
     ensures cut { IfErr result (λ end. end ≡ RunEnd.InOut) }
+    ensures unread { result ≢ Err RunEnd.Unread }
 {
     match out.write_all(bytes) {
         Ok(()) => Ok(()),
@@ -62,6 +63,8 @@ fn write_texts<W: Write>(
     ensures memory { result ≡ Err RunEnd.OutOfMemory → WritesTexts input.now IsAnything
         (W.contents out.old) (W.contents out.new) }
     ensures cut { IfErr result (λ end. is_done end ≡ false) }
+    ensures unread { result ≢ Err RunEnd.Unread }
+    ensures placed { IfOk result (λ stop. IsPlaced input.now stop) }
 {
     let mut texts = JsonTexts::new(alloc, input);
     let mut bytes = Vec::new(alloc);
@@ -99,6 +102,8 @@ fn write_through<W: Write>(writer: W, job: Job) -> (W, Result<Option<TextStop>, 
     ensures memory { result.1 ≡ Err RunEnd.OutOfMemory → WritesTexts job.input.items IsAnything
         (W.contents writer) (W.contents result.0) }
     ensures cut { IfErr result.1 (λ end. is_done end ≡ false) }
+    ensures unread { result.1 ≢ Err RunEnd.Unread }
+    ensures placed { IfOk result.1 (λ stop. IsPlaced job.input.items stop) }
 {
     let Job {
         alloc,
@@ -136,7 +141,11 @@ pub fn run_bson<R: Read, W: Write>(
         Keeps (W.contents writer.old) (W.contents writer.new) }
     ensures memory { IfSome (R.remaining reader.old) (λ input. result ≡ Err RunEnd.OutOfMemory →
         WritesTexts input IsAnything (W.contents writer.old) (W.contents writer.new)) }
+    ensures unread { result ≡ Err RunEnd.Unread →
+        Keeps (W.contents writer.old) (W.contents writer.new) }
     ensures cut { IfErr result (λ end. is_done end ≡ false) }
+    ensures placed { IfSome (R.remaining reader.old) (λ input.
+        IfOk result (λ stop. IsPlaced input stop)) }
 {
     let input = read_whole(alloc, reader)?;
     let Ok(buffer) = Vec::with_capacity(alloc, BUFFER) else {

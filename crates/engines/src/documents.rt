@@ -1,7 +1,7 @@
 //! Documents out of an input, for each of which a command writes a text.
 
-ghost use Rattle.std.specs.Prelude.{◌≡◌, ◌⊎◌, ◌+◌, ◌<◌, ◌^◌, ℕ, Bool, List, Option, IfErr, IfOk};
-ghost use Rattle.std.specs.Prelude.{IfSome, OnOk, false, length, true};
+ghost use Rattle.std.specs.Prelude.{◌≡◌, ◌≢◌, ◌⊎◌, ◌+◌, ◌<◌, ◌^◌, ℕ, Bool, List, Option, Err};
+ghost use Rattle.std.specs.Prelude.{IfErr, IfOk, IfSome, OnOk, false, length, true};
 ghost use Rattle.std.specs.Io.KnownBytes.{Appends, IsAtEnd};
 ghost use Rattle.bson_elem.specs.{Spells, Tree};
 ghost use Rattle.bson_raw.specs.{document_bytes, is_plain};
@@ -173,6 +173,7 @@ pub fn write_last<W: Write>(fault: Option<InputFault>, out: &mut W) -> Result<bo
     ensures written { IfOk result (λ there. (there ≡ is_there (line_of fault))
         × Appends (W.contents out.old) (W.contents out.new) (or_nothing (line_of fault))) }
     ensures stopped { IfErr result (λ end. end ≡ RunEnd.InOut) }
+    ensures unread { result ≢ Err RunEnd.Unread }
 {
     let Some(fault) = fault else {
         return Ok(false);

@@ -1,8 +1,8 @@
 //! One call over a connection of the program with itself: its client asks, its server answers, and
 //! the client takes the reply.
 
-ghost use Rattle.std.specs.Prelude.{◌≡◌, ◌+◌, ◌++◌, ◌∷◌, ◌↔◌, ℕ, [], List, IfErr, IfOk, IsTrue};
-ghost use Rattle.std.specs.Prelude.{OnOk, Some, false, map, pos, slice_get};
+ghost use Rattle.std.specs.Prelude.{◌≡◌, ◌≢◌, ◌+◌, ◌++◌, ◌∷◌, ◌↔◌, ℕ, [], List, Err, IfErr, IfOk};
+ghost use Rattle.std.specs.Prelude.{IsTrue, OnOk, Some, false, map, pos, slice_get};
 ghost use Rattle.std.specs.Io.KnownBytes.{Appends};
 ghost use Rattle.bson_elem.specs.{Spells, Tree};
 ghost use Rattle.bson_raw.specs.{document_bytes};
@@ -76,6 +76,7 @@ impl<L: Link + Drop> Loopback<L> {
             (GetsReply k (L.received self.old.client.link) (L.received self.new.client.link)
             (arrived self.old.client) (arrived self.new.client)) }
         ensures stopped { IfErr result (λ end. is_done end ≡ false) }
+        ensures unread { result ≢ Err RunEnd.Unread }
     {
         let payload = payload_of(alloc, k)?;
         let sent = payload.as_payload();
@@ -90,6 +91,7 @@ impl<L: Link + Drop> Loopback<L> {
 fn payload_of(alloc: Global, number: u8) -> Result<PayloadBuf, RunEnd>
     ensures body { IfOk result (λ payload. BufCarries payload (body_alone (call_body number))) }
     ensures stopped { IfErr result (λ end. is_done end ≡ false) }
+    ensures unread { result ≢ Err RunEnd.Unread }
 {
     let Ok(mut body) = RawDocumentBuf::new(alloc) else {
         return Err(RunEnd::OutOfMemory);
@@ -108,6 +110,7 @@ fn payload_of(alloc: Global, number: u8) -> Result<PayloadBuf, RunEnd>
 fn whole(flushed: Result<Flushed, LinkFault>) -> Result<(), RunEnd>
     ensures all { OnOk result (flushed ≡ Ok Flushed.All) }
     ensures stopped { IfErr result (λ end. is_done end ≡ false) }
+    ensures unread { result ≢ Err RunEnd.Unread }
 {
     match flushed {
         Ok(Flushed::All) => Ok(()),
@@ -121,6 +124,7 @@ fn ask<L: Link + Drop>(end: &mut ClientEnd<L>, payload: Payload<'_>) -> Result<C
         (Calls Plain payload.entry call ∷ SendsUp gone ∷ []) end.new) }
     ensures sent { OnOk result (end.new.own.client.requests.output ≡ []) }
     ensures stopped { IfErr result (λ end. is_done end ≡ false) }
+    ensures unread { result ≢ Err RunEnd.Unread }
 {
     let call = match end.call(payload) {
         Ok(call) => call,
@@ -140,6 +144,7 @@ fn answer<L: Link + Drop>(end: &mut ServerEnd<L>, logged: &mut Logged<Echo>) -> 
         (IsEchoed (log_of logged.old.entries.items) (log_of logged.new.entries.items)) }
     ensures sent { OnOk result (end.new.server.output ≡ []) }
     ensures stopped { IfErr result (λ end. is_done end ≡ false) }
+    ensures unread { result ≢ Err RunEnd.Unread }
 {
     match end.next_request() {
         Ok(NextRequest::Waits) => {}
@@ -170,6 +175,7 @@ fn take_reply<L: Link + Drop>(
         → OnOk result ((x : Record) × (slice_get end.new.own.records call ≡ Some x)
         × (x.parts ≡ body_alone t ∷ [])) }
     ensures stopped { IfErr result (λ end. is_done end ≡ false) }
+    ensures unread { result ≢ Err RunEnd.Unread }
 {
     match end.next_reply() {
         Ok(Next::Reply(_)) => {}

@@ -1,6 +1,6 @@
 //! The command `loop`: calls over a connection of the program with itself.
 
-ghost use Rattle.std.specs.Prelude.{◌≡◌, ◌≢◌, ◌+◌, ℕ, List, [], IfErr, IfOk, OnOk, false, pos};
+ghost use Rattle.std.specs.Prelude.{◌≡◌, ◌≢◌, ◌+◌, ℕ, List, [], Err, IfErr, IfOk, OnOk, false, pos};
 ghost use Rattle.std.specs.Io.KnownBytes.{Appends};
 ghost use Rattle.engines.specs.Calling.{AreComplete};
 ghost use Rattle.engines.specs.Loopback.{AppendsUpTo, HaveMade, HaveRun, HaveTold, call_line};
@@ -48,6 +48,7 @@ fn write_line<W: Write>(line: &[u8], out: &mut W) -> Result<(), RunEnd>
         × AppendsUpTo left line.now (W.contents out.old) (W.contents out.new)
         × OnOk result (left ≡ []) }
     ensures stopped { IfErr result (λ end. is_done end ≡ false) }
+    ensures unread { result ≢ Err RunEnd.Unread }
 {
     let mut rest = line;
     for _ in 0..u64::MAX {
@@ -72,6 +73,7 @@ fn write_call<W: Write>(alloc: Global, call: CallNo, out: &mut W) -> Result<(), 
         → (left : List ℕ) × AppendsUpTo left (call_line k) (W.contents out.old) (W.contents out.new)
         × OnOk result (left ≡ []) }
     ensures stopped { IfErr result (λ end. is_done end ≡ false) }
+    ensures unread { result ≢ Err RunEnd.Unread }
 {
     let CallNo { number, id } = call;
     let Ok(line) = format!(in alloc; "call {number} id {id} done\n") else {
@@ -85,6 +87,7 @@ fn write_last<W: Write>(alloc: Global, calls: u8, out: &mut W) -> Result<(), Run
     ensures written { (left : List ℕ) × AppendsUpTo left (last_line calls)
         (W.contents out.old) (W.contents out.new) × OnOk result (left ≡ []) }
     ensures stopped { IfErr result (λ end. is_done end ≡ false) }
+    ensures unread { result ≢ Err RunEnd.Unread }
 {
     let Ok(line) = format!(in alloc; "loop {calls} done\n") else {
         return Err(RunEnd::OutOfMemory);
@@ -115,6 +118,7 @@ fn make_calls<L: Link + Drop, W: Write>(
         (Appends (L.sent loopback.old.client.link) (L.sent loopback.new.client.link)
         (requests_bytes calls)) }
     ensures stopped { IfErr result (λ end. is_done end ≡ false) }
+    ensures unread { result ≢ Err RunEnd.Unread }
 {
     for k in 0..calls {
         let call = loopback.call(alloc, k)?;
@@ -130,6 +134,7 @@ fn run_calls<R: Net + AllocGlobal, W: Write>(rt: &R, calls: u8, out: &mut W) -> 
     ensures ran { OnOk result (HaveRun calls) }
     ensures told { HaveTold calls (W.contents out.old) (W.contents out.new) }
     ensures stopped { IfErr result (λ end. is_done end ≡ false) }
+    ensures unread { result ≢ Err RunEnd.Unread }
 {
     let alloc = rt.alloc();
     let (near, far) = match connect(rt) {
@@ -147,14 +152,15 @@ fn run_calls<R: Net + AllocGlobal, W: Write>(rt: &R, calls: u8, out: &mut W) -> 
 /// calls are numbered from 0, and their ids count from 1.
 ///
 /// The line of a call is written when its reply has come and carries what was sent. If all went
-/// well, the acts of the client and those of its server are told, and `HaveRun` says the headline
-/// of this very run: where bytes arrived in order, each call that is reported as done has an entry
-/// of its own in the server's log, with the call's payload, and what it got back are the answers
-/// of that. The same holds of the calls that were made before a run was cut short (`HaveTold`). No
-/// contract says that a socket moves bytes in order, nor what it carries; so this is a premise, and
-/// no clause says that the run is good.
+/// well, there are acts of a client and of its server, and `HaveRun` says the headline of them:
+/// where bytes arrived in order, each call that is reported as done has an entry of its own in the
+/// server's log, with the call's payload, and what it got back are the answers of that. The same
+/// holds of the calls that were made before a run was cut short (`HaveTold`). That these are the
+/// acts of this run is what `make_calls` says of the ends that it is given. No contract says that a
+/// socket moves bytes in order, nor what it carries; so this is a premise, and no clause says that
+/// the run is good.
 pub fn run_loop<R: Net + AllocGlobal, W: Write>(rt: &R, calls: u8, writer: &mut W) -> RunEnd
-    ensures ends { result ≢ RunEnd.Fault }
+    ensures ends { (result ≢ RunEnd.Fault) × (result ≢ RunEnd.Unread) }
     ensures written { (left : List ℕ) × AppendsUpTo left (loop_text calls)
         (W.contents writer.old) (W.contents writer.new) × (result ≡ RunEnd.Good → left ≡ []) }
     ensures ran { result ≡ RunEnd.Good → HaveRun calls }

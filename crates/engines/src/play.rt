@@ -1,6 +1,6 @@
 //! The command `play`: what happens in a world by a script of events.
 
-ghost use Rattle.std.specs.Prelude.{◌≡◌, ◌⊎◌, IfSome, true};
+ghost use Rattle.std.specs.Prelude.{◌≡◌, ◌≢◌, ◌⊎◌, IfSome, true};
 ghost use Rattle.std.specs.Io.KnownBytes.{IsAtEnd, Keeps};
 ghost use Rattle.engines.specs.InputFault.{line_of};
 ghost use Rattle.engines.specs.Output.{AppendsText};
@@ -32,7 +32,8 @@ fn script_fault(line: Option<usize>) -> Option<InputFault>
 
 /// Returns the end of a run whose play stopped so.
 fn end_of_stop(stop: PlayStop) -> RunEnd
-    ensures { result ≡ end_of_stop stop }
+    ensures end { result ≡ end_of_stop stop }
+    ensures unread { result ≢ RunEnd.Unread }
 {
     match stop {
         PlayStop::Failed => RunEnd::InOut,
@@ -61,6 +62,8 @@ pub fn run_play<R: Read, W: Write>(alloc: Global, reader: &mut R, writer: &mut W
         AppendsText (ScriptText script) (is_fault result) (W.contents writer.old)
         (W.contents writer.new)) }
     ensures late { (IsAtEnd (R.remaining reader.new)) ⊎
+        Keeps (W.contents writer.old) (W.contents writer.new) }
+    ensures unread { result ≡ RunEnd.Unread →
         Keeps (W.contents writer.old) (W.contents writer.new) }
 {
     let play = Play { alloc };

@@ -1,7 +1,7 @@
 //! The frame of a command that reads all of its input: writes through a buffer, and tells how that
 //! ended.
 
-ghost use Rattle.std.specs.Prelude.{◌≡◌, ◌⊎◌, [], ℕ, Bool, List, IfErr, IfOk, IfSome, IsSome, None};
+ghost use Rattle.std.specs.Prelude.{◌≡◌, ◌≢◌, ◌⊎◌, [], ℕ, Bool, List, IfErr, IfOk, IfSome, None};
 ghost use Rattle.std.specs.Prelude.{Err, OnOk, Ok, codes, true, false};
 ghost use Rattle.std.specs.Io.KnownBytes.{IsAtEnd, Keeps};
 ghost use Rattle.std.specs.IoError.{error_kind, raw_os_error};
@@ -21,9 +21,9 @@ pub const BUFFER: usize = 64 * 1024;
 /// How a run ended.
 #[derive(Clone, Copy, Debug, PartialEq, Eq, Drop)]
 pub enum RunEnd {
-    /// The whole text was written, and it has no fault line.
+    /// The whole text was written, and the input has no fault.
     Good,
-    /// The whole text was written, and it ends with a fault line.
+    /// The whole text was written, and the input has a fault.
     Fault,
     /// Reading failed.
     Unread,
@@ -43,7 +43,8 @@ pub trait Engine {
     fn write_text<W: Write>(&self, bytes: &[u8], out: &mut W) -> Result<bool, RunEnd>
         ensures written { IfOk result (λ fault. AppendsText (is_text self.now bytes.now) fault
             (W.contents out.old) (W.contents out.new)) }
-        ensures stopped { IfErr result (λ end. is_done end ≡ false) };
+        ensures stopped { IfErr result (λ end. is_done end ≡ false) }
+        ensures unread { result ≢ Err RunEnd.Unread };
 }
 
 /// Writes the text of the whole input.
@@ -61,6 +62,8 @@ pub fn run<E: Engine, R: Read, W: Write>(
         AppendsText (E.is_text engine.now input) (is_fault result)
         (W.contents writer.old) (W.contents writer.new)) }
     ensures late { (IsAtEnd (R.remaining reader.new)) ⊎
+        Keeps (W.contents writer.old) (W.contents writer.new) }
+    ensures unread { result ≡ RunEnd.Unread →
         Keeps (W.contents writer.old) (W.contents writer.new) }
 {
     let input = match read_whole(alloc, reader) {
@@ -94,7 +97,8 @@ pub fn read_whole<R: Read>(alloc: Global, reader: &mut R) -> Result<Vec<u8>, Run
 /// Returns the end of a run that meets `error`. A refused allocation has no code of the system; if
 /// the error has one, it is the system that lacks memory, and not this program.
 pub fn end_of(error: &io::Error) -> RunEnd
-    ensures { result ≡ end_of_error (error_kind error.now) (raw_os_error error.now) }
+    ensures kind { result ≡ end_of_error (error_kind error.now) (raw_os_error error.now) }
+    ensures unread { result ≢ RunEnd.Unread }
 {
     if error.kind() == ErrorKind::OutOfMemory && error.raw_os_error().is_none() {
         RunEnd::OutOfMemory
@@ -124,9 +128,10 @@ struct Job<'a, E> {
 /// Writes the text of a job. Returns the writer, and how the run ended.
 fn write_through<E: Engine, W: Write>(writer: W, job: Job<'_, E>) -> (W, RunEnd)
     requires { job.buffer.items ≡ [] }
-    ensures { is_done result.1 ≡ true →
+    ensures written { is_done result.1 ≡ true →
         AppendsText (E.is_text job.entry.engine.now job.entry.input.items)
         (is_fault result.1) (W.contents writer) (W.contents result.0) }
+    ensures unread { result.1 ≢ RunEnd.Unread }
 {
     let mut out = Buffered::new(writer, job.buffer);
     let written = job.engine.write_text(&job.input, &mut out);
@@ -136,11 +141,13 @@ fn write_through<E: Engine, W: Write>(writer: W, job: Job<'_, E>) -> (W, RunEnd)
 /// Passes on what is left in the buffer. Returns the inner writer, and how a run ended of which the
 /// writing ended as `written`.
 fn finish<W: Write>(mut out: Buffered<W>, written: Result<bool, RunEnd>) -> (W, RunEnd)
-    requires { IfErr written (λ end. is_done end ≡ false) }
+    requires cut { IfErr written (λ end. is_done end ≡ false) }
+    requires read { written ≢ Err RunEnd.Unread }
     ensures stopped { IfErr written (λ end. result.1 ≡ end) }
     ensures told { is_done result.1 ≡ true → written ≡ Ok (is_fault result.1) }
     ensures kept { is_done result.1 ≡ true →
         Keeps (buffered_contents W.contents out) (W.contents result.0) }
+    ensures unread { result.1 ≢ RunEnd.Unread }
 {
     let end = match written {
         Err(end) => end,
