@@ -279,7 +279,7 @@ MayChoose met =
 
 -- ---- what a choice asks for
 
--- what a command writes for an input, and whether it ends with a fault line
+-- what a command writes for an input, and whether the input has a fault
 abbrev pub CommandText : Command → List ℕ → List ℕ → Bool → Type 0
 CommandText (Dump hex offsets) = IsOutput (DumpText offsets) hex
 CommandText (Check Bytes) = IsOutput CheckText false

@@ -23,14 +23,14 @@ exit_status OutOfMemory = 4
 abbrev pub tells_done : ℕ → Bool
 tells_done status = status == 0 || status == 1
 
--- the status says that the text ends with a fault line
+-- the status says that the input has a fault
 abbrev pub tells_fault : ℕ → Bool
 tells_fault status = status == 1
 
 -- ---- words
 
 -- the status of what was chosen: that of an end, also of a replay, and of calls, that of an end
--- without a fault; of a proxy also 2, for a script at fault
+-- without a fault; of a proxy also 2, for a script at fault, or for itself as its server
 abbrev pub IsStatusFor : Choice → ℕ → Type 0
 IsStatusFor (Over command file quiet) status = (end : RunEnd) × (status ≡ exit_status end)
 IsStatusFor (Loop calls) status = (end : RunEnd) × (end ≢ Fault) × (status ≡ exit_status end)

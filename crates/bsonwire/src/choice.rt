@@ -391,6 +391,14 @@ fn is_record_wanted(matches: &ArgMatches<'_>) -> bool
     }
 }
 
+/// Returns true if the subcommand is `canon`.
+fn is_canon(matches: &ArgMatches<'_>) -> bool {
+    match matches.subcommand() {
+        Some((name, _)) => name == "canon",
+        None => false,
+    }
+}
+
 /// Returns the choice that the matches of a parse name, the error of the parse, that of a
 /// `--relaxed` that wants `--json`, that of a `--salvage` beside `--hex`, that of an `--any` beside
 /// `--json`, that of a `--text` beside `--json`, or that of a `--limit` that wants `--record`.
@@ -410,7 +418,7 @@ fn chosen<'a>(alloc: Global, parse: Result<ArgMatches<'a>, Error>) -> Result<Cho
         return Err(json_wanted(alloc)?);
     }
     if is_text_salvaged(&matches) {
-        return Err(bytes_wanted(alloc)?);
+        return Err(bytes_wanted(alloc, is_canon(&matches))?);
     }
     if is_any_as_json(&matches) {
         return Err(text_wanted(alloc)?);

@@ -154,7 +154,7 @@ fn canon_command<'a>(alloc: Global) -> Result<Command<'a>, AllocError>
     ensures app { IfOk result (λ c. app_of c ≡ canon_app) }
     ensures local { IfOk result (λ c. (out-Command c).has_globals ≡ false) }
 {
-    let about = "Writes the canonical form of each document";
+    let about = "Writes the canonical form of each document, with --hex in hexadecimal digits";
     let salvage = "Write those behind faults too, of at most 16793600 bytes, and no fault";
     salvage_command(alloc, "canon", about, salvage)
 }
@@ -185,12 +185,18 @@ pub fn json_wanted(alloc: Global) -> Result<Error, AllocError>
         .error(ErrorKind::MissingRequiredArgument, wanted)
 }
 
-/// Makes the error of a `--salvage` beside `--hex`, in the form of `clap`'s own.
-pub fn bytes_wanted(alloc: Global) -> Result<Error, AllocError>
+/// Makes the error of a `--salvage` beside `--hex` of `check`, or of `canon`, in the form of `clap`'s
+/// own.
+pub fn bytes_wanted(alloc: Global, is_canon: bool) -> Result<Error, AllocError>
     ensures { IfOk result (λ e. kind_of e ≡ ErrorKind.ArgumentConflict) }
 {
     let conflict = "the argument '--salvage' cannot be used with '--hex'";
-    top(alloc).error(ErrorKind::ArgumentConflict, conflict)
+    let mut command = if is_canon {
+        canon_command(alloc)?.bin_name("bsonwire canon")?
+    } else {
+        check_command(alloc)?.bin_name("bsonwire check")?
+    };
+    command.error(ErrorKind::ArgumentConflict, conflict)
 }
 
 /// Makes the error of an `--any` beside `--json`, in the form of `clap`'s own.
@@ -198,7 +204,9 @@ pub fn text_wanted(alloc: Global) -> Result<Error, AllocError>
     ensures { IfOk result (λ e. kind_of e ≡ ErrorKind.ArgumentConflict) }
 {
     let apart = "the argument '--any' cannot be used with '--json'";
-    top(alloc).error(ErrorKind::ArgumentConflict, apart)
+    msg_command(alloc)?
+        .bin_name("bsonwire msg")?
+        .error(ErrorKind::ArgumentConflict, apart)
 }
 
 /// Makes the subcommand that writes Extended JSON.
@@ -293,7 +301,9 @@ pub fn text_alone_wanted(alloc: Global) -> Result<Error, AllocError>
     ensures { IfOk result (λ e. kind_of e ≡ ErrorKind.ArgumentConflict) }
 {
     let twice = "the argument '--text' cannot be used with '--json'";
-    top(alloc).error(ErrorKind::ArgumentConflict, twice)
+    proxy_command(alloc)?
+        .bin_name("bsonwire proxy")?
+        .error(ErrorKind::ArgumentConflict, twice)
 }
 
 /// Makes the error of a `--limit` of `proxy` without `--record`, in the form of `clap`'s own.
