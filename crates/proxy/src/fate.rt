@@ -1,10 +1,20 @@
 //! Asks a script what becomes of a request.
 
+ghost use Rattle.std.specs.Prelude.{◌≡◌, ◌≢◌, ◌++◌, IfErr, IfOk, IfSome, None, OnOk};
+ghost use Rattle.std.specs.Prelude.{option_copied};
+ghost use Rattle.bson_elem.specs.{Spells, Tree};
+ghost use Rattle.bson_raw.specs.{document_bytes};
+ghost use Rattle.bson_doc.specs.{tree_of};
+ghost use Rattle.wire_frame.specs.{frame_bytes};
+ghost use Rattle.test_script.specs.{after, first_met};
+ghost use Rattle.proxy.specs.Fates.{Asked, Becomes, IsAsked, IsFate, IsReplied, IsReplyRefusal};
+ghost use Rattle.proxy.specs.Fates.{IsRequest, asked_content, reply_to, wants_reply};
+
 use bson_doc::{DocRefusal, Document};
 use bson_raw::RawDocument;
 use std::alloc::{AllocError, Global};
 use test_script::{Action, Flow, Script};
-use wire_frame::{Opcode, RawFrame};
+use wire_frame::RawFrame;
 use wire_msg::{MAX_MESSAGE_LEN, MsgFlags, MsgRefusal, PayloadBuf, RawMsg, write_msg};
 use wire_query::{RawQuery, ReplyHead, write_reply};
 
@@ -32,23 +42,25 @@ enum Request<'a> {
 
 impl<'a> Request<'a> {
     /// Reads the request of a command. Other messages are none.
-    fn of(alloc: Global, frame: RawFrame<'a>) -> Option<Request<'a>> {
+    fn of(alloc: Global, frame: RawFrame<'a>) -> Option<Request<'a>>
+        ensures some { IfSome result (λ r. (a : Asked) × IsAsked (frame_bytes frame.entry) a
+            × IsRequest r a) }
+        ensures none { result ≡ None → (a : Asked) → IsAsked (frame_bytes frame.entry) a → ⊥ }
+    {
         let bytes = frame.as_bytes();
-        match frame.opcode() {
-            Opcode::Msg => match RawMsg::parse_with(alloc, bytes, MAX_MESSAGE_LEN) {
-                Ok(message) => Some(Request::Message(message)),
-                Err(_) => None,
-            },
-            Opcode::Query => match RawQuery::parse(alloc, bytes, MAX_MESSAGE_LEN) {
-                Ok(query) => Some(Request::Query(query)),
-                Err(_) => None,
-            },
-            Opcode::Reply | Opcode::Compressed | Opcode::Other(_) => None,
+        if let Ok(message) = RawMsg::parse_with(alloc, bytes, MAX_MESSAGE_LEN) {
+            return Some(Request::Message(message));
+        }
+        match RawQuery::parse(alloc, bytes, MAX_MESSAGE_LEN) {
+            Ok(query) => Some(Request::Query(query)),
+            Err(_) => None,
         }
     }
 
     /// Returns true if a reply to it is wanted.
-    fn wants_reply(self) -> bool {
+    fn wants_reply(self) -> bool
+        ensures { (a : Asked) → IsRequest self.entry a → result ≡ wants_reply a }
+    {
         match self {
             Request::Message(message) => !message.more_to_come(),
             Request::Query(_) => true,
@@ -56,16 +68,18 @@ impl<'a> Request<'a> {
     }
 
     /// Returns the index of the rule that it meets, which is used once more.
-    fn meet(self, alloc: Global, script: &mut Script) -> Result<Option<usize>, AllocError> {
+    fn meet(self, alloc: Global, script: &mut Script) -> Result<Option<usize>, AllocError>
+        ensures met { (a : Asked) → IsRequest self.entry a → IfOk result
+            (λ i. i ≡ first_met (asked_content a) script.old.rules.items) }
+        ensures used { (a : Asked) → IsRequest self.entry a → OnOk result
+            (script.new.rules.items ≡ after (asked_content a) script.old.rules.items) }
+    {
         match self {
             Request::Message(message) => script.meet(alloc, message.payload()),
             Request::Query(query) => {
                 let mut bytes = Vec::new(alloc);
                 query.write_msg(&mut bytes)?;
-                match RawMsg::parse_with(alloc, &bytes, MAX_MESSAGE_LEN) {
-                    Ok(message) => script.meet(alloc, message.payload()),
-                    Err(_) => Ok(None),
-                }
+                script.meet(alloc, RawMsg::from_spelled(&bytes).payload())
             }
         }
     }
@@ -76,10 +90,19 @@ impl<'a> Request<'a> {
         alloc: Global,
         body: RawDocument<'_>,
         out: &mut Vec<u8>,
-    ) -> Result<(), MsgRefusal> {
+    ) -> Result<(), MsgRefusal>
+        ensures written { (a : Asked) (t : Tree) → IsRequest self.entry a
+            → Spells t (document_bytes body.entry)
+            → OnOk result (out.new.items ≡ out.old.items ++ reply_to a t) }
+        ensures refused { (a : Asked) (t : Tree) → IsRequest self.entry a
+            → Spells t (document_bytes body.entry)
+            → IfErr result (λ e. IsReplyRefusal a t e) }
+    {
         match self {
-            Request::Message(message) if message.more_to_come() => Ok(()),
             Request::Message(message) => {
+                if message.more_to_come() {
+                    return Ok(());
+                }
                 let id = message.id();
                 let payload = PayloadBuf::new(alloc, body)?;
                 let payload = payload.as_payload();
@@ -94,7 +117,10 @@ impl<'a> Request<'a> {
 
     /// Returns what becomes of it where the reply to it is this document. If that can't be written,
     /// the connection is closed.
-    fn reply(self, alloc: Global, answer: &Document) -> Result<Fate, AllocError> {
+    fn reply(self, alloc: Global, answer: &Document) -> Result<Fate, AllocError>
+        ensures { (a : Asked) → IsRequest self.entry a → IfOk result
+            (λ fate. IsReplied a (tree_of answer.now) fate) }
+    {
         let body = match answer.to_raw() {
             Ok(body) => body,
             Err(DocRefusal::OutOfMemory) => return Err(AllocError),
@@ -107,6 +133,25 @@ impl<'a> Request<'a> {
             Err(_) => Ok(Fate::HangUp),
         }
     }
+
+    /// Returns what becomes of it where this is done with it.
+    fn fate(self, alloc: Global, action: Option<&Action>) -> Result<Fate, AllocError>
+        ensures { (a : Asked) → IsRequest self.entry a → IfOk result
+            (λ fate. IsFate a (option_copied action.entry) fate) }
+    {
+        match action {
+            None | Some(Action::Pass) => Ok(Fate::Pass(Flow::Whole)),
+            Some(Action::Reply(answer)) => self.reply(alloc, answer),
+            Some(Action::Delay(millis)) => Ok(Fate::Delay(*millis)),
+            Some(Action::HangUp) => Ok(Fate::HangUp),
+            Some(Action::CutUp(count)) => Ok(Fate::CutUp(*count)),
+            Some(Action::Cut(_) | Action::NoReply) if !self.wants_reply() => {
+                Ok(Fate::Pass(Flow::Whole))
+            }
+            Some(Action::Cut(count)) => Ok(Fate::Pass(Flow::Cut(*count))),
+            Some(Action::NoReply) => Ok(Fate::Pass(Flow::Dropped)),
+        }
+    }
 }
 
 /// Returns what becomes of a message that a client sent, by the rule that it meets, which is used
@@ -115,25 +160,13 @@ impl<'a> Request<'a> {
 /// # Errors
 ///
 /// Returns `AllocError` if memory runs out.
-pub fn fate_of(
-    alloc: Global,
-    script: &mut Script,
-    frame: RawFrame<'_>,
-) -> Result<Fate, AllocError> {
+pub fn fate_of(alloc: Global, script: &mut Script, frame: RawFrame<'_>) -> Result<Fate, AllocError>
+    ensures { IfOk result (λ fate. Becomes (frame_bytes frame.entry) script.old.rules.items fate
+        script.new.rules.items) }
+{
     let Some(request) = Request::of(alloc, frame) else {
         return Ok(Fate::Pass(Flow::Whole));
     };
     let met = request.meet(alloc, script)?;
-    match script.action(met) {
-        None | Some(Action::Pass) => Ok(Fate::Pass(Flow::Whole)),
-        Some(Action::Reply(answer)) => request.reply(alloc, answer),
-        Some(Action::Delay(millis)) => Ok(Fate::Delay(*millis)),
-        Some(Action::HangUp) => Ok(Fate::HangUp),
-        Some(Action::CutUp(count)) => Ok(Fate::CutUp(*count)),
-        Some(Action::Cut(_) | Action::NoReply) if !request.wants_reply() => {
-            Ok(Fate::Pass(Flow::Whole))
-        }
-        Some(Action::Cut(count)) => Ok(Fate::Pass(Flow::Cut(*count))),
-        Some(Action::NoReply) => Ok(Fate::Pass(Flow::Dropped)),
-    }
+    request.fate(alloc, script.action(met))
 }

@@ -114,14 +114,23 @@ impl Script {
         self.rules.is_empty()
     }
 
-    /// Returns what the rule does that a request met, by the index that `meet` returned for it.
-    pub fn action(&self, found: Option<usize>) -> Option<&Action>
+    /// Returns what the rule at an index does.
+    fn action_at(&self, found: Option<usize>) -> Option<&Action>
         ensures { option_copied result ≡ action_at found self.now.rules.items }
     {
         match self.rules.get(found?) {
             Some(rule) => Some(rule.action()),
             None => None,
         }
+    }
+
+    /// Returns what the rule does that a request met, by the index that `meet` returned for it.
+    pub fn action(&self, found: Option<usize>) -> Option<&Action>
+        ensures at { option_copied result ≡ action_at found self.now.rules.items }
+        ensures met { (c : Content) (rs : List RuleView) → self.now.rules.items ≡ after c rs
+            → found ≡ first_met c rs → option_copied result ≡ met c rs }
+    {
+        self.action_at(found)
     }
 
     /// Returns what becomes of the reply to a request, by the index that `meet` returned for it.
