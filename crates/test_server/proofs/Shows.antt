@@ -1,9 +1,12 @@
 -- What is shown of what a server did, and how much of it is counted.
-use Rattle.std.proofs.Common.{◌≡◌, ◌∙◌, ◌≤◌, ◌<◌, ◌+◌, ◌-◌, ℕ, true, List, [], Option, Some, None, Result, Ok, Err, sym, subst, append-nil, inl, inr, arith}
+use Rattle.std.proofs.Common.{◌≡◌, ◌∙◌, ◌≤◌, ◌<◌, ◌+◌, ◌-◌, ℕ, true, List, [], Option, Some, None, Result, Ok, Err, refl, sym, subst, append-nil, inl, inr, arith}
 use Rattle.std.specs.Prelude.{OnOk, min}
 use Rattle.std.specs.Io.KnownBytes.{Appends, Keeps}
-use Rattle.test_server.specs.Runs.{Connected, GoesOnServing, IsEnough, ShowsServing, listening_line}
+use Rattle.test_script.specs.{RuleView}
+use Rattle.test_server.specs.Runs.{AreRead, Connected, EndsSo, GoesOnServing, IsEnough, IsRefused, IsRun, ShowsServing, script_file}
 use Rattle.test_server.specs.declared.choice.Choice.{Choice}
+use Rattle.test_server.specs.declared.run.ServingEnd.{ServingEnd}
+use Rattle.test_server.specs.declared.run.ServingEnd.TheVariants as runs
 
 nothing_more : (a : Option (List ℕ)) → Appends a a []
 nothing_more None = tt
@@ -16,17 +19,26 @@ quiet_shows (Ok u) old new a served = λ first guide ended text serving.
     let went = served first guide ended text serving in (went.0, went.1, went.2, nothing_more a)
 quiet_shows (Err e) old new a served = tt
 
--- text that was written stands after a flush
-stays : (a b c : Option (List ℕ)) (text : List ℕ) → Appends a b text → Keeps b c → Appends a c text
-stays None b c text told kept = tt
-stays (Some x) None c text told kept = absurd told
-stays (Some x) (Some y) None text told kept = absurd kept
-stays (Some x) (Some y) (Some z) text told kept = kept ∙ told
+-- ---- how a run ends
 
-pub told_first : {E : Type 0} (r : Result (Unit {0}) E) (a b c : Option (List ℕ)) (text : List ℕ) → Appends a b (listening_line text) → Keeps b c
-    → OnOk r ((local : List ℕ) × Appends a c (listening_line local))
-told_first (Ok u) a b c text told kept = (text, stays a b c (listening_line text) told kept)
-told_first (Err e) a b c text told kept = tt
+all_kept : (a : Option (List ℕ)) → Keeps a a
+all_kept None = tt
+all_kept (Some x) = refl
+
+-- a run whose script wasn't read ends so
+pub refused_ends : (choice : Choice) (end : ServingEnd) (a : Option (List ℕ)) → IsRefused (script_file choice) end → EndsSo choice end a a
+refused_ends choice (runs.Served n) a refused = absurd refused
+refused_ends choice (runs.Script fault) a refused = (refused, all_kept a)
+refused_ends choice runs.InOut a refused = tt
+refused_ends choice runs.OutOfMemory a refused = tt
+
+-- a run by the rules that were read ends so
+pub run_ends : (choice : Choice) (rules guide : List RuleView) (end : ServingEnd) (a b : Option (List ℕ)) → AreRead (script_file choice) rules guide → IsRun choice rules guide end a b
+    → EndsSo choice end a b
+run_ends choice rules guide (runs.Served n) a b read ran = (rules, guide, read, ran)
+run_ends choice rules guide (runs.Script fault) a b read ran = absurd ran
+run_ends choice rules guide runs.InOut a b read ran = tt
+run_ends choice rules guide runs.OutOfMemory a b read ran = tt
 
 -- ---- counts
 

@@ -1,5 +1,5 @@
 -- The exit status of a server's end, and of the words of a command line.
-use Rattle.std.specs.Prelude.{◌≡◌, ◌⊎◌, ℕ, Bool, List, []}
+use Rattle.std.specs.Prelude.{◌≡◌, ◌⊎◌, ℕ, Bool, List, [], Option}
 use Rattle.clap.specs.Words.{IsAmong, Kinds, Text, fault_of}
 use Rattle.clap.specs.declared.error.kind.ErrorKind.{ErrorKind}
 use Rattle.clap.specs.declared.error.kind.ErrorKind.TheVariants as kind
@@ -10,7 +10,7 @@ use Rattle.test_server.specs.declared.run.ServingEnd.TheVariants.{Served, Script
 use Rattle.test_server.specs.declared.run.ServingEnd.TheVariants.{OutOfMemory}
 use Rattle.test_server.specs.Choices.{IsChosen}
 use Rattle.test_server.specs.CommandLine.{command_line}
-use Rattle.test_server.specs.Runs.{IsEnough}
+use Rattle.test_server.specs.Runs.{EndsSo}
 
 -- the exit status of each end; 2 also means a fault in the command line
 abbrev pub exit_status : ServingEnd → ℕ
@@ -21,11 +21,11 @@ exit_status OutOfMemory = 4
 
 -- ---- words
 
--- the status of what was chosen: that of an end; if it is good, enough connections were served
+-- the status of what was chosen: that of the end of a run, or of a want of memory before it
 abbrev pub IsStatusFor : Choice → ℕ → Type 0
 IsStatusFor choice status =
-    (end : ServingEnd) × ((n : ℕ) → end ≡ Served n → IsEnough choice n)
-    × (status ≡ exit_status end)
+    (end : ServingEnd) × (before : Option (List ℕ)) × (after : Option (List ℕ))
+    × EndsSo choice end before after × (status ≡ exit_status end)
 
 -- memory ran out, or the words have a fault of this kind
 abbrev pub MayRefuse : ErrorKind → Kinds → Type 0

@@ -1,11 +1,16 @@
 -- What a run writes, from its first line to its last.
-use Rattle.std.specs.Prelude.{◌≡◌, ◌≤◌, ◌⊎◌, ℕ, zero, suc, min, Bool, true, false, List, [], ◌++◌}
-use Rattle.std.specs.Prelude.{Option, None, codes}
+use Rattle.std.specs.Prelude.{◌≡◌, ◌≢◌, ◌≤◌, ◌⊎◌, ℕ, zero, suc, min, Bool, true, false, List, []}
+use Rattle.std.specs.Prelude.{◌++◌, Option, None, Some, codes, option_map}
 use Rattle.std.specs.Fmt.{decimal}
 use Rattle.std.specs.Io.KnownBytes.{Appends, Keeps}
+use Rattle.std.specs.Net.Text.{socket_text}
+use Rattle.std.specs.declared.net.socket_addr.SocketAddr.{SocketAddr}
+use Rattle.clap.specs.Words.{Text}
 use Rattle.mio.specs.declared.net.stream.TcpStream.{TcpStream}
 use Rattle.test_store.specs.{Answered, StopsAt, empty_store, store_of}
-use Rattle.test_script.specs.{IsAnswered, IsStopped, RuleView}
+use Rattle.test_script.specs.{FailsAt, IsAnswered, IsScript, IsStopped, RuleView}
+use Rattle.test_script.specs.declared.fault.Cause.TheVariants as causes
+use Rattle.test_script.specs.declared.fault.ScriptFault.{ScriptFault}
 use Rattle.test_script.specs.declared.scripted.Scripted.{Scripted}
 use Rattle.test_store.specs.declared.store.Store.{Store}
 use Rattle.wire_hall.specs.{Tells, tells}
@@ -19,8 +24,8 @@ use Rattle.test_server.specs.declared.serving.Serving.{Serving}
 use Rattle.test_server.specs.Serving.{IsServing, ServesOn}
 
 -- the first line, which says where the server listens
-abbrev pub listening_line : List ℕ → List ℕ
-listening_line local = codes "listening " ++ (local ++ codes "\n")
+abbrev pub listening_line : SocketAddr → List ℕ
+listening_line local = codes "listening " ++ (socket_text local ++ codes "\n")
 
 -- the last line, which says how many connections were served
 abbrev pub served_line : ℕ → List ℕ
@@ -98,7 +103,7 @@ pub record HasServed (choice : Choice) (rules guide : List RuleView) (count : �
   pub serving : StandsAt first guide connections ended text
   pub enough : IsEnough choice ended
   pub counted : count ≡ min ended choice.connections
-  pub local : List ℕ
+  pub local : SocketAddr
   pub written : Appends before after (listening_line local ++ shown choice.quiet text)
 
 -- what comes before the last line: nothing if no connection is asked for
@@ -114,4 +119,39 @@ abbrev pub IsRun : Choice → (rules guide : List RuleView) → ServingEnd → O
 IsRun choice rules guide (runs.Served n) before after =
     (mid : Option (List ℕ)) × IsBegun choice rules guide choice.connections n before mid
     × Appends mid after (served_line n)
+IsRun choice rules guide (runs.Script fault) before after = ⊥
 IsRun choice rules guide why before after = Unit {0}
+
+-- ---- the script
+
+-- The rules that answers follow, and those that say what becomes of replies: none if no file of a
+-- script is named, and else both are those of one text.
+abbrev pub AreRead : (file : Option Text) → (rules guide : List RuleView) → Type 0
+AreRead None rules guide = (rules ≡ []) × (guide ≡ [])
+AreRead (Some file) rules guide = (text : List ℕ) × IsScript text rules × IsScript text guide
+
+-- a file of a script is named, and a text fails so, but not for want of memory
+abbrev pub IsMisread : (file : Option Text) → ScriptFault → Type 0
+IsMisread None fault = ⊥
+IsMisread (Some file) fault =
+    ((text : List ℕ) × FailsAt text fault) × (fault.cause ≢ causes.OutOfMemory)
+
+-- reading the script ends a run so
+abbrev pub IsRefused : (file : Option Text) → ServingEnd → Type 0
+IsRefused file (runs.Served n) = ⊥
+IsRefused file (runs.Script fault) = IsMisread file fault
+IsRefused file why = Unit {0}
+
+-- the file of a script that the words name
+abbrev pub script_file : Choice → Option Text
+script_file choice = option_map (λ file. file.now) choice.script
+
+-- A whole run, with its script: this many connections were served by the rules that were read, or
+-- the script is at fault, and nothing was written.
+abbrev pub EndsSo : Choice → ServingEnd → Option (List ℕ) → Option (List ℕ) → Type 0
+EndsSo choice (runs.Served n) before after =
+    (rules : List RuleView) × (guide : List RuleView) × AreRead (script_file choice) rules guide
+    × IsRun choice rules guide (runs.Served n) before after
+EndsSo choice (runs.Script fault) before after =
+    IsMisread (script_file choice) fault × Keeps before after
+EndsSo choice why before after = Unit {0}

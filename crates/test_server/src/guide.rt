@@ -1,6 +1,6 @@
 //! Follows a script by the log alone: which rule each request met, and what becomes of its reply.
 
-ghost use Rattle.std.specs.Prelude.{◌≡◌, ◌↔◌, [], IsTrue, OnOk, Some};
+ghost use Rattle.std.specs.Prelude.{◌≡◌, ◌↔◌, [], IsTrue, None, OnOk, Some};
 ghost use Rattle.wire_peer.specs.{entry_of, log_of};
 ghost use Rattle.test_script.specs.{after, flow_by, met};
 ghost use Rattle.test_server.specs.Guides.{Follows, gate_for};
@@ -33,7 +33,8 @@ pub fn gate_for(flow: Flow) -> Gate
 impl Guide {
     /// Makes a guide by this script, to which no request was told.
     pub fn new(alloc: Global, script: Script) -> Guide
-        ensures { result.script ≡ script }
+        ensures script { result.script ≡ script }
+        ensures flow { result.flow ≡ None }
     {
         Guide {
             alloc,

@@ -34,6 +34,7 @@ use choice::{Choice, choose};
 use command_words::{IN_OUT, MEMORY, Program, USAGE, texts};
 use run::{ServingEnd, run};
 use std::io;
+use std::io::BufWriter;
 use std::process::ExitCode;
 
 /// This program.
@@ -72,7 +73,10 @@ fn status_of_words(rt: &HostRuntime, words: &[&str]) -> u8
 fn run_choice(rt: &HostRuntime, choice: Choice<'_>) -> u8
     ensures { IsStatusFor choice.entry result }
 {
-    let end = run(rt, rt.alloc(), choice, io::writer(rt));
+    let end = match BufWriter::new(rt.alloc(), io::writer(rt)) {
+        Ok(mut out) => run(rt, rt.alloc(), choice, &mut out),
+        Err(_) => ServingEnd::OutOfMemory,
+    };
     tell(rt, end, choice.address)
 }
 

@@ -1,10 +1,12 @@
 //! Runs the server, from its first line to its last.
 
-ghost use Rattle.std.specs.Prelude.{◌≡◌, ◌<◌, IfErr, IfOk, List, OnOk, Option, min, true, ℕ};
+ghost use Rattle.std.specs.Prelude.{◌≡◌, ◌<◌, IfErr, IfOk, List, OnOk, Option, min, option_map};
+ghost use Rattle.std.specs.Prelude.{true, ℕ};
+ghost use Rattle.std.specs.declared.net.socket_addr.SocketAddr.{SocketAddr};
 ghost use Rattle.test_script.specs.{FailsAt, IsScript};
 ghost use Rattle.text_writer.specs.{WritesOut};
-ghost use Rattle.test_server.specs.Runs.{GoesOnServing, HasBegun, HasServed, IsEnough, IsRun};
-ghost use Rattle.test_server.specs.Runs.{ShowsServing};
+ghost use Rattle.test_server.specs.Runs.{AreRead, EndsSo, GoesOnServing, HasBegun, HasServed};
+ghost use Rattle.test_server.specs.Runs.{IsEnough, IsRefused, IsRun, ShowsServing};
 ghost use Rattle.test_server.specs.Runs.{listening_line, port_text, served_line};
 
 use crate::choice::Choice;
@@ -18,7 +20,7 @@ use std::alloc::Global;
 use std::collections::VecDeque;
 use std::fs::File;
 use std::io;
-use std::io::{BufRead, BufWriter, ErrorKind, Input, Read, Write};
+use std::io::{BufRead, ErrorKind, Input, Read, Write};
 use std::net::{Net, SocketAddr, ToSocketAddrs};
 use std::rt::Files;
 use std::time::Clock;
@@ -74,8 +76,7 @@ fn tell_port<R: Files>(rt: &R, file: Option<&str>, port: u16) -> io::Result<()> 
 
 /// Writes and flushes the first line.
 fn write_first<W: Write>(local: SocketAddr, out: &mut W) -> io::Result<()>
-    ensures { OnOk result ((text : List ℕ)
-        × WritesOut W.contents out.old out.new (listening_line text)) }
+    ensures { OnOk result (WritesOut W.contents out.old out.new (listening_line local)) }
 {
     writeln!(out, "listening {local}")?;
     out.flush()
@@ -113,7 +114,9 @@ fn read_file<R: Files>(rt: &R, alloc: Global, file: &str) -> io::Result<Vec<u8>>
 
 /// Reads the script, if a file of one is given, and else makes the one without rules.
 fn read_scripts<R: Files>(rt: &R, alloc: Global, file: Option<&str>) -> Result<Scripts, ServingEnd>
-    ensures { IfErr result (λ end. (n : ℕ) → end ≡ ServingEnd.Served n → ⊥) }
+    ensures read { IfOk result (λ s. AreRead (option_map (λ f. f.now) file.entry)
+        s.script.rules.items s.guide.rules.items) }
+    ensures refused { IfErr result (λ end. IsRefused (option_map (λ f. f.now) file.entry) end) }
 {
     let Some(file) = file else {
         return Ok(Scripts {
@@ -144,7 +147,7 @@ fn listen<R: Net + Files + Input, W: Write>(
     scripts: Scripts,
     out: &mut W,
 ) -> io::Result<Connections<R::Reader>>
-    ensures told { OnOk result ((local : List ℕ)
+    ensures told { OnOk result ((local : SocketAddr)
         × WritesOut W.contents out.old out.new (listening_line local)) }
     ensures begun { IfOk result (λ c. HasBegun scripts.script.rules.items
         scripts.guide.rules.items c.serving) }
@@ -296,21 +299,18 @@ fn serve_at<R: Net + Files + Input + Clock, W: Output>(
     }
 }
 
-/// Serves what the words ask for, and writes its transcript through a buffer.
-pub fn run<R: Net + Files + Input + Clock, W: Write + Drop>(
+/// Reads the script, if the words name one, and serves what they ask for. Writes to `out` what was
+/// asked and answered, unless they ask for quiet, between a first line and a last one.
+pub fn run<R: Net + Files + Input + Clock, W: Output>(
     rt: &R,
     alloc: Global,
     choice: Choice<'_>,
-    out: W,
+    out: &mut W,
 ) -> ServingEnd
-    ensures { (n : ℕ) → result ≡ ServingEnd.Served n → IsEnough choice.entry n }
+    ensures { EndsSo choice.entry result (W.contents out.old) (W.contents out.new) }
 {
-    let scripts = match read_scripts(rt, alloc, choice.script) {
-        Ok(scripts) => scripts,
-        Err(end) => return end,
-    };
-    match BufWriter::new(alloc, out) {
-        Ok(mut out) => serve_at(rt, alloc, choice, scripts, &mut out),
-        Err(_) => ServingEnd::OutOfMemory,
+    match read_scripts(rt, alloc, choice.script) {
+        Ok(scripts) => serve_at(rt, alloc, choice, scripts, out),
+        Err(end) => end,
     }
 }

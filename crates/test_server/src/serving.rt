@@ -2,7 +2,8 @@
 
 ghost use Rattle.std.specs.Prelude.{◌≡◌, ◌↔◌, ◌+◌, [], IfOk, IfSome, IsTrue, None, Ok, OnOk, Some};
 ghost use Rattle.std.specs.Prelude.{flat_map, min};
-ghost use Rattle.slab.specs.Slab.{Updates, get};
+ghost use Rattle.slab.specs.Slab.{Updates, get, slab_len};
+ghost use Rattle.std.specs.Io.KnownBytes.{Keeps};
 ghost use Rattle.text_writer.specs.{WritesOut};
 ghost use Rattle.wire_hall.specs.{SeatSeen, tells};
 ghost use Rattle.wire_peer.specs.{log_of};
@@ -104,7 +105,9 @@ impl<L: Gated + Drop, H: Handler + Drop> Serving<L, H> {
     }
 
     /// Returns how many connections are open.
-    pub fn len(&self) -> usize {
+    pub fn len(&self) -> usize
+        ensures { result ≡ slab_len self.now.hall.seats }
+    {
         self.hall.len()
     }
 
@@ -226,7 +229,10 @@ impl<L: Gated + Drop, H: Handler + Drop> Serving<L, H> {
         most: u32,
         out: &mut W,
     ) -> Result<Option<Turned>, Stop>
-        ensures none { result ≡ Ok None → get self.old.hall.seats key ≡ None }
+        ensures none { result ≡ Ok None → (get self.old.hall.seats key ≡ None)
+            × (self.new.hall.seats ≡ self.old.hall.seats)
+            × (self.new.hall.logged ≡ self.old.hall.logged) × (self.new.ended ≡ self.old.ended)
+            × Keeps (W.contents out.old) (W.contents out.new) }
         ensures turned { IfOk result (λ o. IfSome o (λ how. TakesTurn H.does H.stops
             (tells L.received L.sent L.ends L.waits L.failures) L.gate key how
             self.old self.new (W.contents out.old) (W.contents out.new))) }
