@@ -807,6 +807,31 @@ document 104
 """,
     ),
     (
+        command("find", PATHS, inner("filter", inner("a.b", field("$exists", 0))), inner("projection", field("a", 0))),
+        (),
+        """\
+request "find"
+document 91
+  "find" string "q"
+  "filter" document 28
+    "a.b" document 18
+      "$exists" int32 0
+  "projection" document 12
+    "a" int32 0
+  "$db" string "test"
+answer
+document 98
+  "cursor" document 73
+    "firstBatch" array 29
+      "0" document 21
+        "_id" int32 3
+        "n" int32 3
+    "id" int64 0
+    "ns" string "test.q"
+  "ok" double 000000000000f03f
+""",
+    ),
+    (
         command("find", PATHS, element(DOCUMENT, "filter", document([element(DOCUMENT, "a.b", document([element(ARRAY, "$in", document([field("0", 1), field("1", 7)]))]))]))),
         (),
         """\
@@ -1183,6 +1208,26 @@ document 104
 """,
     ),
     (
+        command("insert", (STRING, string("none"))),
+        [sequence("documents", ID_DOCUMENTS[2:])],
+        """\
+request "insert"
+document 36
+  "insert" string "none"
+  "$db" string "test"
+sequence "documents" 1
+answer
+document 110
+  "n" int32 0
+  "writeErrors" array 73
+    "0" document 65
+      "index" int32 0
+      "code" int32 2
+      "errmsg" string "can't use an array for _id"
+  "ok" double 000000000000f03f
+""",
+    ),
+    (
         command("listCollections", ONE),
         (),
         """\
@@ -1382,6 +1427,27 @@ answer
 document 49
   "nIndexesWas" int32 1
   "ns" string "test.d"
+  "ok" double 000000000000f03f
+""",
+    ),
+    (
+        command("createIndexes", COLLECTION, array("indexes", lambda at: inner(at, inner("key", field("_id", 1)), text("name", "_id_1")))),
+        (),
+        """\
+request "createIndexes"
+document 97
+  "createIndexes" string "c"
+  "indexes" array 48
+    "0" document 40
+      "key" document 14
+        "_id" int32 1
+      "name" string "_id_1"
+  "$db" string "test"
+answer
+document 93
+  "numIndexesBefore" int32 1
+  "numIndexesAfter" int32 1
+  "createdCollectionAutomatically" boolean false
   "ok" double 000000000000f03f
 """,
     ),
