@@ -28,5 +28,7 @@ pub use Rattle.bson_doc.specs.Codes.{coded_value}
 pub use Rattle.bson_doc.specs.Document.{put, tree_of}
 pub use Rattle.bson_doc.specs.Plain.{canonical_len, plain}
 pub use Rattle.bson_doc.specs.Repeats.{repeat_depth}
+pub use Rattle.bson_doc.specs.Room.{IsLengthWithin}
 pub use Rattle.bson_doc.specs.Same.{same}
 pub use Rattle.bson_doc.specs.Unwritable.{IsUnwritable}
+pub use Rattle.bson_doc.specs.Values.{value_len}

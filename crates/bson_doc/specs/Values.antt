@@ -1,5 +1,5 @@
 -- The values of a tree in canonical form, and the bytes of a value.
-use Rattle.std.specs.Prelude.{ℕ, List, ◌∷◌, ◌++◌}
+use Rattle.std.specs.Prelude.{ℕ, List, ◌∷◌, ◌++◌, length}
 use Rattle.bson_elem.specs.declared.kinds.Kind.{Kind}
 use Rattle.bson_elem.specs.{byte_of, cstring, elements, form_of, inner_bytes, leaf_bytes}
 use Rattle.bson_raw.specs.{TreeValue, document_value, is_array_kind, leaf_value}
@@ -14,6 +14,10 @@ plain_value (document_value k b inner) = document_value k b (plain_from (is_arra
 abbrev pub value_bytes : TreeValue → List ℕ
 value_bytes (leaf_value k v) = leaf_bytes (form_of k) v
 value_bytes (document_value k b inner) = inner_bytes b (elements inner)
+
+-- their number
+abbrev pub value_len : TreeValue → ℕ
+value_len v = length (value_bytes v)
 
 -- the kind of a value
 abbrev pub value_kind : TreeValue → Kind

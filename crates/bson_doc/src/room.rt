@@ -9,8 +9,8 @@ ghost use Rattle.bson_doc.specs.Array.{array_tree};
 ghost use Rattle.bson_doc.specs.Bson.{value_of};
 ghost use Rattle.bson_doc.specs.Document.{tree_of};
 ghost use Rattle.bson_doc.specs.Refusals.{IsLengthRefusal};
-ghost use Rattle.bson_doc.specs.Room.{IsRoomLeft};
-ghost use Rattle.bson_doc.specs.Values.{value_bytes, element_bytes};
+ghost use Rattle.bson_doc.specs.Room.{IsLengthWithin, IsRoomLeft};
+ghost use Rattle.bson_doc.specs.Values.{value_bytes, value_len, element_bytes};
 
 use crate::arrays::Array;
 use crate::bson_values::Bson;
@@ -118,4 +118,16 @@ pub(crate) fn room_after_document(document: &Document, room: usize) -> Option<us
         left = room_after_pair(name, false, 0, value, left)?;
     }
     Some(left)
+}
+
+impl Bson {
+    /// Returns the length in bytes of the value as it is written behind its name (bsonspec.org,
+    /// element), or `None` where that is above `limit`. It stops at the first part that is behind
+    /// the limit, and takes no memory.
+    pub fn encoded_len(&self, limit: usize) -> Option<usize>
+        ensures { IsLengthWithin limit (value_len (value_of self.now)) result }
+    {
+        let left = room_after_value(self, limit)?;
+        Some(limit - left)
+    }
 }

@@ -11,3 +11,4 @@ pub mod StableSorts
 pub mod SortOrders
 pub mod Owning
 pub mod Lemmas
+mod Fitting

@@ -12,6 +12,7 @@ pub mod Filters
 pub mod Sorting
 pub mod Pipelines
 pub mod Projection
+pub mod Batches
 -- the words that clauses of other crates cite
 pub use Rattle.doc_query.specs.Errors.{IsFailure, and_then, code_name_of, code_of, or_error}
 pub use Rattle.doc_query.specs.Errors.{words_of}
@@ -25,3 +26,4 @@ pub use Rattle.doc_query.specs.Filters.{filter_value, found, found_in, is_operat
 pub use Rattle.doc_query.specs.Sorting.{are_keys, sort_field, sorted_in}
 pub use Rattle.doc_query.specs.Pipelines.{after_stages}
 pub use Rattle.doc_query.specs.Projection.{is_plain_name, projected, projection_field}
+pub use Rattle.doc_query.specs.Batches.{after_batch, next_batch}

@@ -28,7 +28,7 @@ mod pipeline;
 mod projection;
 mod sorting;
 
-pub use batches::{copies, take_batch};
+pub use batches::{copies, next_batch, take_batch};
 pub use equality::is_equal;
 pub use failure::{CommandError, Failure};
 pub use filters::{

@@ -1,5 +1,5 @@
 -- The replies of commands, put together of what the calls gave.
-use Rattle.std.proofs.Common.{◌≡◌, ℕ, ℤ, Bool, true, false, List, Result, Ok, Err, drop, map, take, refl, sym, ap, subst, ◌∙◌}
+use Rattle.std.proofs.Common.{◌≡◌, ℕ, ℤ, Bool, true, false, List, Result, Ok, Err, map, take, refl, sym, ap, subst, ◌∙◌}
 use Rattle.std.specs.Prelude.{IfOk, if◌then◌else◌, ◌==◌}
 use Rattle.std.proofs.lemmas.List.{take-map}
 use Rattle.bson_raw.specs.{TreeValue}
@@ -7,6 +7,7 @@ use Rattle.test_store.specs.declared.answer.Batch.TheVariants.{First}
 use Rattle.doc_query.specs.declared.failure.CommandError.{CommandError}
 use Rattle.doc_query.specs.declared.failure.Failure.{Failure}
 use Rattle.doc_query.specs.declared.failure.Failure.TheVariants.{Refused}
+use Rattle.doc_query.specs.{after_batch, next_batch}
 use Rattle.test_store.specs.Answers.{cursor_answer, refusal_pairs}
 use Rattle.test_store.specs.Commands.{IsCarriedOut, Reply, found_reply, left_of, settled}
 use Rattle.test_store.specs.Held.{NamespaceView, StoreView, namespace_text, opened, opened_id}
@@ -24,16 +25,16 @@ left_of-map f true vs = refl
 left_of-map f false vs = refl
 
 pub found_answered : {E : Type 0} (s s' : StoreView) (n : NamespaceView) (all : List TreeValue) (count : ℕ) (single : Bool) (batch left : List TreeValue) (id : ℤ) (ns : List ℕ) (r : Result (List (List ℕ × TreeValue)) E)
-    → batch ≡ take count all → left ≡ left_of single (drop count all)
+    → batch ≡ next_batch count all → left ≡ left_of single (after_batch count all)
     → id ≡ opened_id left s.cursors → ns ≡ namespace_text n
     → s'.cursors ≡ opened n left s.cursors → s'.collections ≡ s.collections
     → IfOk r (λ d. d ≡ cursor_answer First batch id ns)
     → IfOk r (λ d. found_reply s n all count single ≡ record { answer = d; held = s' })
 found_answered s s' n all count single batch left id ns (Err e) b l i t o k is = tt
 found_answered s s' n all count single batch left id ns (Ok d) b l i t o k is =
-    let others : List TreeValue = left_of single (drop count all) in
+    let others : List TreeValue = left_of single (after_batch count all) in
     let number : id ≡ opened_id others s.cursors = i ∙ ap (λ (vs : List TreeValue). opened_id vs s.cursors) l in
-    let answer : d ≡ cursor_answer First (take count all) (opened_id others s.cursors) (namespace_text n) =
+    let answer : d ≡ cursor_answer First (next_batch count all) (opened_id others s.cursors) (namespace_text n) =
     is ∙ (λ j. cursor_answer First (b j) (number j) (t j)) in
     let cursors : s'.cursors ≡ opened n others s.cursors = o ∙ ap (λ (vs : List TreeValue). opened n vs s.cursors) l in
     λ j. record { answer = sym answer j; held = record { collections = sym k j; cursors = sym cursors j } }

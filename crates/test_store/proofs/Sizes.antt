@@ -13,14 +13,14 @@ le_test m n h = grind (arith, nat_tests)
 lt_test : (m n : ℕ) → n < m → nat_le m n ≡ false
 lt_test m n h = grind (arith, nat_tests)
 
-pub sized : (least count : ℕ) (e : CommandError) (found : Option TreeValue) (v : TreeValue) → found ≡ Some v → count_of v ≡ Some count → least ≤ count → Ok count ≡ asked_size least e found
-sized least count e found v is has enough = rw (is, has, le_test least count enough) refl
+pub sized : (otherwise least count : ℕ) (e : CommandError) (found : Option TreeValue) (v : TreeValue) → found ≡ Some v → count_of v ≡ Some count → least ≤ count → Ok count ≡ asked_size otherwise least e found
+sized otherwise least count e found v is has enough = rw (is, has, le_test least count enough) refl
 
-pub too_small : (least count : ℕ) (e : CommandError) (found : Option TreeValue) (v : TreeValue) → found ≡ Some v → count_of v ≡ Some count → count < least → Err e ≡ asked_size least e found
-too_small least count e found v is has few = rw (is, has, lt_test least count few) refl
+pub too_small : (otherwise least count : ℕ) (e : CommandError) (found : Option TreeValue) (v : TreeValue) → found ≡ Some v → count_of v ≡ Some count → count < least → Err e ≡ asked_size otherwise least e found
+too_small otherwise least count e found v is has few = rw (is, has, lt_test least count few) refl
 
-pub no_size : (least : ℕ) (e : CommandError) (found : Option TreeValue) (v : TreeValue) → found ≡ Some v → count_of v ≡ None → Err e ≡ asked_size least e found
-no_size least e found v is has = rw (is, has) refl
+pub no_size : (otherwise least : ℕ) (e : CommandError) (found : Option TreeValue) (v : TreeValue) → found ≡ Some v → count_of v ≡ None → Err e ≡ asked_size otherwise least e found
+no_size otherwise least e found v is has = rw (is, has) refl
 
 pub on_ok : {A E P : Type 0} (r : Result A E) → (is_ok r ≡ true → P) → OnOk r P
 on_ok (Ok a) f = f refl

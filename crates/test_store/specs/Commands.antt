@@ -1,12 +1,11 @@
 -- What each command does: its answer, and what is held after it.
 use Rattle.std.specs.Prelude.{◌≡◌, ℕ, ℤ, pos, List, [], ◌∷◌, ◌++◌, Bool, true, false, is_some, not}
 use Rattle.std.specs.Prelude.{Result, Ok, Err}
-use Rattle.std.specs.Prelude.{Option, Some, None, codes, drop, length, map, take, ◌-◌}
+use Rattle.std.specs.Prelude.{Option, Some, None, codes, length, map, ◌-◌}
 use Rattle.std.specs.Prelude.{if◌then◌else◌, nat_eq}
 use Rattle.std.specs.Str.{bytes_eq}
-use Rattle.bson_elem.specs.declared.kinds.Kind.TheVariants as kinds
 use Rattle.bson_elem.specs.{Tree, inner_pair, leaf_pair, no_pairs}
-use Rattle.bson_raw.specs.{TreeValue, document_value, first_named}
+use Rattle.bson_raw.specs.{TreeValue, first_named}
 use Rattle.wire_msg.specs.{Content}
 use Rattle.test_store.specs.declared.answer.Batch.TheVariants.{First, Next}
 use Rattle.test_store.specs.declared.commands.Command.{Command}
@@ -15,8 +14,8 @@ use Rattle.doc_query.specs.declared.failure.CommandError.{CommandError}
 use Rattle.doc_query.specs.declared.failure.CommandError.TheVariants as errors
 use Rattle.doc_query.specs.declared.failure.Failure.{Failure}
 use Rattle.doc_query.specs.declared.failure.Failure.TheVariants.{OutOfMemory, Refused}
-use Rattle.doc_query.specs.{after_stages, and_then, array_in, body_of, filter_field, found}
-use Rattle.doc_query.specs.{or_error, projected, projection_field}
+use Rattle.doc_query.specs.{after_batch, after_stages, and_then, array_in, body_of, filter_field}
+use Rattle.doc_query.specs.{found, next_batch, or_error, projected, projection_field}
 use Rattle.doc_update.specs.{UpdatesView, after_deletes, after_updates}
 use Rattle.test_store.specs.Adding.{AddingView, gathered}
 use Rattle.test_store.specs.Answers.{build_pairs, counted_pairs, cursor_answer, dropped_pairs}
@@ -24,8 +23,8 @@ use Rattle.test_store.specs.Answers.{created_pairs, database_listing, databases_
 use Rattle.test_store.specs.Answers.{dropped_database_pairs, error_pairs, hello_pairs}
 use Rattle.test_store.specs.Answers.{killed_pairs}
 use Rattle.test_store.specs.Answers.{listing, ok_alone, refusal_pairs, updated_pairs, written_pairs}
-use Rattle.test_store.specs.Fields.{batch_size, first_size, flag_field, id_field, list_size}
-use Rattle.test_store.specs.Fields.{namespace_at, text_field}
+use Rattle.test_store.specs.Fields.{first_batch_size, first_size, flag_field, id_field, list_size}
+use Rattle.test_store.specs.Fields.{namespace_at, next_batch_size, text_field}
 use Rattle.test_store.specs.Held.{CollectionView, CursorView, NamespaceView, StoreView, closed_at}
 use Rattle.test_store.specs.Held.{cursor_index, documents_in, id_if_left, index_of_value, is_open}
 use Rattle.test_store.specs.Held.{held_indexes, indexes_in, with_indexes_of}
@@ -75,7 +74,7 @@ pub record QueryView : Type 0 where
 abbrev pub query_in : Tree → Result QueryView CommandError
 query_in t =
     and_then (selection_in (codes "find") errors.Find (codes "filter") t) (λ q.
-    and_then (batch_size 0 errors.FirstBatchSize t) (λ count.
+    and_then (first_batch_size t) (λ count.
     and_then (flag_field (codes "singleBatch") false errors.SingleBatch t) (λ single.
     and_then (projection_field t) (λ p.
     Ok (record { selection = q; count = count; is_single = single; projection = p })))))
@@ -92,10 +91,10 @@ find_reply s n batch left = record {
   held = record { collections = s.collections; cursors = opened n left s.cursors };
 }
 
--- the first ones of these documents, at most this many, and a cursor over the others
+-- the first batch of these documents, of at most this many, and a cursor over the others
 abbrev pub found_reply : StoreView → NamespaceView → List TreeValue → ℕ → Bool → Reply
 found_reply s n vs count single =
-    find_reply s n (take count vs) (left_of single (drop count vs))
+    find_reply s n (next_batch count vs) (left_of single (after_batch count vs))
 
 abbrev pub find_reply_to : StoreView → QueryView → Result Reply CommandError
 find_reply_to s q =
@@ -112,11 +111,12 @@ find s t = and_then (query_in t) (λ q. find_reply_to s q)
 abbrev pub more_reply : StoreView → ℤ → NamespaceView → ℕ → CursorView → Reply
 more_reply s id n count c = record {
   answer =
-      cursor_answer Next (take count c.left) (id_if_left id (drop count c.left)) (namespace_text n);
+      cursor_answer Next (next_batch count c.left) (id_if_left id (after_batch count c.left))
+      (namespace_text n);
   held =
       record {
         collections = s.collections;
-        cursors = with_left (cursor_index id) (drop count c.left) s.cursors;
+        cursors = with_left (cursor_index id) (after_batch count c.left) s.cursors;
       };
 }
 
@@ -130,7 +130,7 @@ abbrev pub get_more : StoreView → Tree → Result Reply CommandError
 get_more s t =
     and_then (id_field t) (λ id.
     and_then (namespace_at (codes "collection") errors.Collection t) (λ n.
-    and_then (batch_size 1 errors.NextBatchSize t) (λ count. next_answer s id n count)))
+    and_then (next_batch_size t) (λ count. next_answer s id n count)))
 
 -- ---- count
 

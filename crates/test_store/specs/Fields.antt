@@ -1,5 +1,5 @@
 -- The fields of a command.
-use Rattle.std.specs.Prelude.{ℕ, ℤ, List, Option, Some, None, Result, Ok, Err, codes}
+use Rattle.std.specs.Prelude.{ℕ, ℤ, ◌-◌, ◌^◌, List, Option, Some, None, Result, Ok, Err, codes}
 use Rattle.std.specs.Prelude.{Bool}
 use Rattle.bson_elem.specs.declared.kinds.Kind.TheVariants as kinds
 use Rattle.bson_elem.specs.{Tree, number_value}
@@ -40,18 +40,23 @@ number_field name error t = asked_number error (first_named name t)
 abbrev pub flag_field : List ℕ → Bool → CommandError → Tree → Result Bool CommandError
 flag_field name otherwise error t = asked_flag otherwise error (first_named name t)
 
--- the batch size that a field asks for, or 101 if there is no such field
-abbrev pub asked_size : ℕ → CommandError → Option TreeValue → Result ℕ CommandError
-asked_size least error None = Ok 101
-asked_size least error (Some v) = at_least least error (count_of v)
+-- the batch size that a field asks for, or this one if there is no such field
+abbrev pub asked_size : ℕ → ℕ → CommandError → Option TreeValue → Result ℕ CommandError
+asked_size otherwise least error None = Ok otherwise
+asked_size otherwise least error (Some v) = at_least least error (count_of v)
 
--- the batch size that a command asks for, which must be at least this, or 101 if it asks for none
-abbrev pub batch_size : ℕ → CommandError → Tree → Result ℕ CommandError
-batch_size least error t = asked_size least error (first_named (codes "batchSize") t)
+-- the size of the first batch that a command asks for, or 101 if it asks for none
+abbrev pub first_batch_size : Tree → Result ℕ CommandError
+first_batch_size t = asked_size 101 0 errors.FirstBatchSize (first_named (codes "batchSize") t)
+
+-- the size of a later batch, which must be at least 1; the greatest if none is asked for
+abbrev pub next_batch_size : Tree → Result ℕ CommandError
+next_batch_size t =
+    asked_size (2 ^ 63 - 1) 1 errors.NextBatchSize (first_named (codes "batchSize") t)
 
 -- the size of the first batch, in the field `cursor`
 abbrev pub first_size : Option TreeValue → Result ℕ CommandError
-first_size (Some (document_value kinds.Document b t)) = batch_size 0 errors.FirstBatchSize t
+first_size (Some (document_value kinds.Document b t)) = first_batch_size t
 first_size _ = Err errors.Cursor
 
 abbrev pub asked_list_size : Option TreeValue → Result ℕ CommandError

@@ -1,10 +1,12 @@
 //! Reads the fields of a command out of its body.
 
 ghost use Rattle.std.specs.Prelude.{◌≡◌, Err, MatchOption, MatchResult, None, Ok, Option, Some};
+ghost use Rattle.std.specs.Prelude.{codes};
 ghost use Rattle.bson_elem.specs.{Spells, Tree};
 ghost use Rattle.bson_raw.specs.{Shows, ShowsFound, TreeValue, document_bytes, first_named};
 ghost use Rattle.doc_query.specs.{count_of, text_of};
-ghost use Rattle.test_store.specs.Fields.{batch_size, flag_field, id_field, id_of, list_size};
+ghost use Rattle.test_store.specs.Fields.{asked_size, first_batch_size, flag_field, id_field};
+ghost use Rattle.test_store.specs.Fields.{id_of, list_size, next_batch_size};
 ghost use Rattle.test_store.specs.Fields.{namespace_at, number_field, text_field};
 ghost use Rattle.test_store.specs.Held.{namespace_of};
 
@@ -12,8 +14,11 @@ use crate::namespace::Namespace;
 use bson_raw::{RawBson, RawDocument};
 use doc_query::CommandError;
 
-/// The most documents in a batch, if the command doesn't say.
+/// The most documents in the first batch, if the command doesn't say.
 pub const DEFAULT_BATCH_SIZE: usize = 101;
+
+/// The greatest number that a field can ask for.
+const MAX_BATCH_SIZE: usize = 9_223_372_036_854_775_807;
 
 /// Returns the text of a value, if it is a string.
 fn text_of(value: Option<RawBson<'_>>) -> Option<&str>
@@ -151,27 +156,52 @@ pub fn flag_field(
     }
 }
 
-/// Returns the most documents that a batch may have: the field `batchSize`, or 101 if there is
-/// none.
+/// Returns the most documents that a batch may have: the field `batchSize`, or `otherwise` if there
+/// is none.
 ///
 /// # Errors
 ///
 /// Returns `error` if it isn't a whole number of at least `least`.
-pub fn batch_size(
+fn asked_size(
     body: RawDocument<'_>,
+    otherwise: usize,
     least: usize,
     error: CommandError,
 ) -> Result<usize, CommandError>
     ensures { (t : Tree) → Spells t (document_bytes body.entry)
-        → result ≡ batch_size least error t }
+        → result ≡ asked_size otherwise least error (first_named (codes "batchSize") t) }
 {
     let Some(value) = body.get("batchSize") else {
-        return Ok(DEFAULT_BATCH_SIZE);
+        return Ok(otherwise);
     };
     match count_of(value) {
         Some(count) if count >= least => Ok(count),
         _ => Err(error),
     }
+}
+
+/// Returns the most documents that the first batch may have: the field `batchSize`, or 101 if there
+/// is none.
+///
+/// # Errors
+///
+/// Returns `FirstBatchSize` if it isn't a whole number.
+pub fn first_batch_size(body: RawDocument<'_>) -> Result<usize, CommandError>
+    ensures { (t : Tree) → Spells t (document_bytes body.entry) → result ≡ first_batch_size t }
+{
+    asked_size(body, DEFAULT_BATCH_SIZE, 0, CommandError::FirstBatchSize)
+}
+
+/// Returns the most documents that a later batch may have: the field `batchSize`, or the greatest
+/// number that one can ask for if there is none.
+///
+/// # Errors
+///
+/// Returns `NextBatchSize` if it isn't a whole number of at least 1.
+pub fn next_batch_size(body: RawDocument<'_>) -> Result<usize, CommandError>
+    ensures { (t : Tree) → Spells t (document_bytes body.entry) → result ≡ next_batch_size t }
+{
+    asked_size(body, MAX_BATCH_SIZE, 1, CommandError::NextBatchSize)
 }
 
 /// Returns the most listings that the first batch may have: the field `batchSize` of the field
@@ -186,7 +216,7 @@ pub fn list_size(body: RawDocument<'_>) -> Result<usize, CommandError>
 {
     match body.get("cursor") {
         None => Ok(DEFAULT_BATCH_SIZE),
-        Some(RawBson::Document(cursor)) => batch_size(cursor, 0, CommandError::FirstBatchSize),
+        Some(RawBson::Document(cursor)) => first_batch_size(cursor),
         Some(_) => Err(CommandError::Cursor),
     }
 }

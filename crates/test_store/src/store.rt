@@ -15,7 +15,7 @@ ghost use Rattle.test_store.specs.Taking.{IsNextBatch, IsOpenAt};
 use crate::indexes::{Index, first_indexes};
 use crate::namespace::{Namespace, NamespaceBuf};
 use bson_doc::Bson;
-use doc_query::{CommandError, Failure, take_batch};
+use doc_query::{CommandError, Failure, next_batch};
 use std::alloc::{AllocError, Global};
 
 /// What is held of a namespace.
@@ -350,7 +350,7 @@ fn id_if_left(id: i64, left: &[Bson]) -> i64
 }
 
 impl Store {
-    /// Removes the next documents, at most `count`, from the cursor with this id and this
+    /// Removes the next batch of documents, at most `count`, from the cursor with this id and this
     /// namespace. Returns them, and the id of the cursor, or 0 if it has no more.
     ///
     /// # Errors
@@ -371,7 +371,7 @@ impl Store {
         let Some(index) = self.open_cursor_index(id, namespace) else {
             return Err(Failure::Refused(CommandError::CursorNotFound));
         };
-        let Ok(batch) = take_batch(&mut self.cursors[index].left, count) else {
+        let Ok(batch) = next_batch(&mut self.cursors[index].left, count) else {
             return Err(Failure::OutOfMemory);
         };
         let id = id_if_left(id, &self.cursors[index].left);

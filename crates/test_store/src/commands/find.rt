@@ -11,13 +11,13 @@ ghost use Rattle.test_store.specs.Held.{namespace_of, store_of};
 ghost use Rattle.test_store.specs.Queries.{query_of};
 
 use crate::answer::{Batch, cursor_answer};
-use crate::fields::{batch_size, flag_field};
+use crate::fields::{first_batch_size, flag_field};
 use crate::namespace::Namespace;
 use crate::selection::{Selection, selected, selection_in};
 use crate::store::Store;
 use bson_doc::{Bson, Document};
 use bson_raw::RawDocument;
-use doc_query::{CommandError, Failure, projected, projection_field, take_batch};
+use doc_query::{CommandError, Failure, next_batch, projected, projection_field};
 use std::alloc::{AllocError, Global};
 
 /// What find asks for.
@@ -41,7 +41,7 @@ fn query_in(alloc: Global, body: RawDocument<'_>) -> Result<Query<'_>, Failure>
         → IfErr result (λ e. IsFailure (query_in t) e) }
 {
     let selection = selection_in(alloc, body, "find", CommandError::Find, "filter")?;
-    let count = batch_size(body, 0, CommandError::FirstBatchSize)?;
+    let count = first_batch_size(body)?;
     let is_single = flag_field(body, "singleBatch", false, CommandError::SingleBatch)?;
     let projection = projection_field(alloc, body)?;
     Ok(Query {
@@ -61,7 +61,8 @@ fn keep_for_cursor(left: &mut Vec<Bson>, is_single: bool)
     }
 }
 
-/// Answers with the first of the documents that were found, and opens a cursor over the others.
+/// Answers with the first batch of the documents that were found, at most `count`, and opens a
+/// cursor over the others.
 pub fn answer_found(
     alloc: Global,
     store: &mut Store,
@@ -75,7 +76,7 @@ pub fn answer_found(
         ≡ record { answer = d; held = store_of store.new }) }
     ensures steady { (store_of store.new).collections ≡ (store_of store.old).collections }
 {
-    let batch = take_batch(&mut found, count)?;
+    let batch = next_batch(&mut found, count)?;
     keep_for_cursor(&mut found, is_single);
     let id = store.open_cursor(namespace, found)?;
     let text = namespace.to_text(alloc)?;

@@ -7,7 +7,7 @@ ghost use Rattle.test_store.specs.Commands.{IsCarriedOut, get_more, next_answer}
 ghost use Rattle.test_store.specs.Held.{namespace_of, store_of};
 
 use crate::answer::{Batch, cursor_answer};
-use crate::fields::{batch_size, id_field, namespace_field};
+use crate::fields::{id_field, namespace_field, next_batch_size};
 use crate::namespace::Namespace;
 use crate::store::Store;
 use bson_doc::Document;
@@ -47,6 +47,6 @@ pub fn get_more(
 {
     let id = id_field(body)?;
     let namespace = namespace_field(body, "collection", CommandError::Collection)?;
-    let count = batch_size(body, 1, CommandError::NextBatchSize)?;
+    let count = next_batch_size(body)?;
     answer_next(alloc, store, id, namespace, count)
 }
