@@ -39,10 +39,19 @@ begins_with_operator no_pairs = false
 begins_with_operator (leaf_pair n k v ps) = is_operator n
 begins_with_operator (inner_pair n k b inner ps) = is_operator n
 
+-- a database reference, which is a value (MongoDB manual, Database References)
+abbrev pub is_reference : Tree → Bool
+is_reference t =
+    is_some (text_of (first_named (codes "$ref") t)) && is_some (first_named (codes "$id") t)
+
+-- a document asks for operators: its first name is that of one, and it is no reference
+abbrev pub has_operators : Tree → Bool
+has_operators t = begins_with_operator t && not (is_reference t)
+
 -- a field may be asked for this: a value that it equals, or operators that are carried out
 abbrev pub is_asked : TreeValue → Bool
 is_asked (document_value kinds.Document b t) =
-    if begins_with_operator t then are_conditions t
+    if has_operators t then are_conditions t
     else is_equated (document_value kinds.Document b t)
 is_asked v = is_equated v
 
@@ -50,14 +59,9 @@ is_asked v = is_equated v
 abbrev pub is_refused_field : List ℕ → TreeValue → Bool
 is_refused_field n v = is_operator n || not (is_asked v)
 
--- a database reference, which is a value (MongoDB manual, Database References)
-abbrev pub is_reference : Tree → Bool
-is_reference t =
-    is_some (text_of (first_named (codes "$ref") t)) && is_some (first_named (codes "$id") t)
-
 -- a value in a list is a document of operators
 abbrev pub is_nested : TreeValue → Bool
-is_nested (document_value kinds.Document b t) = begins_with_operator t && not (is_reference t)
+is_nested (document_value kinds.Document b t) = has_operators t
 is_nested v = false
 
 abbrev pub lists_operator : Option TreeValue → Bool
@@ -67,7 +71,7 @@ lists_operator (Some list) = list_any is_nested (elements list)
 -- a field is asked for $in or $nin with a list that has an operator
 abbrev pub nests_operator : TreeValue → Bool
 nests_operator (document_value kinds.Document b t) =
-    begins_with_operator t
+    has_operators t
     && (lists_operator (first_named (codes "$in") t)
     || lists_operator (first_named (codes "$nin") t))
 nests_operator v = false
@@ -178,7 +182,7 @@ filter_field name t = filter_of (first_named name t)
 -- the values of a field are as all operators ask, or one equals the value in the filter
 abbrev pub has_value : Reached → TreeValue → Bool
 has_value owns (document_value kinds.Document b t) =
-    if begins_with_operator t then meets_all t owns
+    if has_operators t then meets_all t owns
     else finds operators.Eq owns (document_value kinds.Document b t)
 has_value owns v = finds operators.Eq owns v
 

@@ -22,7 +22,8 @@ pub use Rattle.doc_query.specs.Owned.{array_in, body_of, owned, values_in}
 pub use Rattle.doc_query.specs.Equality.{equal}
 pub use Rattle.doc_query.specs.Paths.{left_len, steps, steps_left}
 pub use Rattle.doc_query.specs.Filters.{begins_with_operator, compared, filter_field, filter_in}
-pub use Rattle.doc_query.specs.Filters.{filter_value, found, found_in, is_operator, matches}
+pub use Rattle.doc_query.specs.Filters.{filter_value, found, found_in, has_operators, is_operator}
+pub use Rattle.doc_query.specs.Filters.{matches}
 pub use Rattle.doc_query.specs.Sorting.{are_keys, sort_field, sorted_in}
 pub use Rattle.doc_query.specs.Pipelines.{after_stages}
 pub use Rattle.doc_query.specs.Projection.{is_plain_name, projected, projection_field}

@@ -13,7 +13,8 @@ ghost use Rattle.doc_query.specs.Filters.{compared, compares, compares_all, fiel
 ghost use Rattle.doc_query.specs.Filters.{filter_fault, filter_field, filter_in, filter_of, found};
 ghost use Rattle.doc_query.specs.Filters.{found_in, has_clause, has_clauses, has_field, has_fields};
 ghost use Rattle.doc_query.specs.Filters.{has_pair, has_value, is_asked, is_operator, is_path};
-ghost use Rattle.doc_query.specs.Filters.{is_nested, is_reference, is_refused_field};
+ghost use Rattle.doc_query.specs.Filters.{has_operators, is_nested, is_reference};
+ghost use Rattle.doc_query.specs.Filters.{is_refused_field};
 ghost use Rattle.doc_query.specs.Filters.{is_uncompared, lists_operator, matches, nests_operator};
 ghost use Rattle.doc_query.specs.Filters.{read_filter, value_fault};
 ghost use Rattle.doc_query.specs.Paths.{own_values};
@@ -54,13 +55,31 @@ pub fn begins_with_operator(document: &Document) -> bool
     }
 }
 
+/// Returns true if a document is a database reference, which is a value.
+fn is_reference(document: &Document) -> bool
+    ensures { result ≡ is_reference (tree_of document.now) }
+{
+    match field(document, "$ref") {
+        Some(Bson::String(_)) => field(document, "$id").is_some(),
+        _ => false,
+    }
+}
+
+/// Returns true if a document asks for operators: its first name is that of one, and it is no
+/// database reference.
+pub fn has_operators(document: &Document) -> bool
+    ensures { result ≡ has_operators (tree_of document.now) }
+{
+    begins_with_operator(document) && !is_reference(document)
+}
+
 /// Returns true if a field may be asked for this: a value that it equals, or operators that are
 /// carried out.
 fn is_asked(value: &Bson) -> bool
     ensures { result ≡ is_asked (value_of value.now) }
 {
     match value {
-        Bson::Document(document) if begins_with_operator(document) => are_conditions(document),
+        Bson::Document(document) if has_operators(document) => are_conditions(document),
         _ => is_equated(value),
     }
 }
@@ -72,22 +91,12 @@ fn is_refused_field(name: &str, value: &Bson) -> bool
     is_operator(name) || !is_asked(value)
 }
 
-/// Returns true if a document is a database reference, which is a value.
-fn is_reference(document: &Document) -> bool
-    ensures { result ≡ is_reference (tree_of document.now) }
-{
-    match field(document, "$ref") {
-        Some(Bson::String(_)) => field(document, "$id").is_some(),
-        _ => false,
-    }
-}
-
 /// Returns true if a value in a list is a document of operators.
 fn is_nested(value: &Bson) -> bool
     ensures { result ≡ is_nested (value_of value.now) }
 {
     match value {
-        Bson::Document(document) => begins_with_operator(document) && !is_reference(document),
+        Bson::Document(document) => has_operators(document),
         _ => false,
     }
 }
@@ -120,7 +129,7 @@ fn nests_operator(value: &Bson) -> bool
 {
     match value {
         Bson::Document(conditions) => {
-            begins_with_operator(conditions)
+            has_operators(conditions)
                 && (lists_operator(conditions, "$in") || lists_operator(conditions, "$nin"))
         }
         _ => false,
@@ -267,7 +276,7 @@ fn has_value(own: OwnValues<'_>, value: &Bson) -> bool
 {
     match value {
         Bson::Document(conditions) => {
-            if begins_with_operator(conditions) {
+            if has_operators(conditions) {
                 meets_all(conditions, own)
             } else {
                 finds(Operator::Eq, own, value)

@@ -32,8 +32,8 @@ pub use batches::{copies, next_batch, take_batch};
 pub use equality::is_equal;
 pub use failure::{CommandError, Failure};
 pub use filters::{
-    applicable, begins_with_operator, compared, filter_field, found_in, is_match, is_operator,
-    matching,
+    applicable, begins_with_operator, compared, filter_field, found_in, has_operators, is_match,
+    is_operator, matching,
 };
 pub use making::{count_value, set};
 pub use owned::{array_field, field, is_same, owned_body, whole_of};

@@ -8,7 +8,7 @@ use Rattle.bson_doc.specs.Document.{put, value_named}
 use Rattle.doc_query.specs.declared.failure.CommandError.{CommandError}
 use Rattle.doc_query.specs.declared.failure.CommandError.TheVariants as errors
 use Rattle.doc_update.specs.declared.operators.Change.{Change}
-use Rattle.doc_query.specs.{and_then, begins_with_operator, is_plain_name}
+use Rattle.doc_query.specs.{and_then, has_operators, is_plain_name}
 use Rattle.doc_update.specs.Pairs.{Pairs}
 use Rattle.doc_update.specs.Changing.{changed_fields, still_has}
 
@@ -17,13 +17,13 @@ use Rattle.doc_update.specs.Changing.{changed_fields, still_has}
 -- the value that a filter asks a field to equal: it stands there itself, or is the operand of $eq
 abbrev pub equality : TreeValue → Option TreeValue
 equality (document_value kinds.Document b t) =
-    if begins_with_operator t then first_named (codes "$eq") t
+    if has_operators t then first_named (codes "$eq") t
     else Some (document_value kinds.Document b t)
 equality v = Some v
 
 abbrev pub asks_in : TreeValue → Bool
 asks_in (document_value kinds.Document b t) =
-    begins_with_operator t && is_some (first_named (codes "$in") t)
+    has_operators t && is_some (first_named (codes "$in") t)
 asks_in v = false
 
 -- An upsert carries out a field that has a name and doesn't ask for $in, which a server takes as

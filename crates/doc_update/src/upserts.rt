@@ -10,7 +10,7 @@ ghost use Rattle.doc_update.specs.Upserts.{made_of, new_fields, with_equalities,
 use crate::changing::{changed_fields, still_has};
 use crate::operators::Change;
 use bson_doc::{Bson, Document};
-use doc_query::{CommandError, Failure, begins_with_operator, field, is_plain_name, set};
+use doc_query::{CommandError, Failure, field, has_operators, is_plain_name, set};
 use std::alloc::{AllocError, Global};
 
 // ---- the fields that the filter gives
@@ -21,7 +21,7 @@ fn equality(value: &Bson) -> Option<&Bson>
 {
     match value {
         Bson::Document(conditions) => {
-            if begins_with_operator(conditions) {
+            if has_operators(conditions) {
                 field(conditions, "$eq")
             } else {
                 Some(value)
@@ -37,7 +37,7 @@ fn asks_in(value: &Bson) -> bool
 {
     match value {
         Bson::Document(conditions) => {
-            begins_with_operator(conditions) && field(conditions, "$in").is_some()
+            has_operators(conditions) && field(conditions, "$in").is_some()
         }
         _ => false,
     }
