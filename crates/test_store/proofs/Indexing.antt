@@ -8,9 +8,9 @@ use Rattle.bson_doc.specs.Document.{tree_of}
 use Rattle.doc_query.specs.declared.failure.CommandError.{CommandError}
 use Rattle.doc_query.specs.declared.failure.CommandError.TheVariants as errors
 use Rattle.doc_query.specs.{are_keys, or_error}
-use Rattle.test_store.specs.Indexes.{IndexView, has_index_fields, index_in, is_index_field, is_key_document, with_index, with_indexes}
+use Rattle.test_store.specs.Indexes.{IndexView, has_index_fields, index_in, is_key_document, may_have, with_index, with_indexes}
 
-pub fields_with_first : (name : List ℕ) (v : TreeValue) (others : Tree) → has_index_fields (with_first name v others) ≡ (is_index_field name && has_index_fields others)
+pub fields_with_first : (name : List ℕ) (v : TreeValue) (others : Tree) → has_index_fields (with_first name v others) ≡ (may_have name v && has_index_fields others)
 fields_with_first name (leaf_value k v) others = refl
 fields_with_first name (document_value k b t) others = refl
 

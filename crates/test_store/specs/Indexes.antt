@@ -14,6 +14,7 @@ use Rattle.doc_query.specs.declared.failure.CommandError.TheVariants as errors
 use Rattle.doc_query.specs.{and_then, are_keys, equal, inner, int32, or_error, text, text_of}
 use Rattle.doc_update.specs.{is_one_of}
 use Rattle.test_store.specs.declared.indexes.Index.{Index}
+use Rattle.test_store.specs.Options.{asks}
 
 -- an index: its name, and the document of the fields that it is by, each with a direction
 pub record IndexView : Type 0 where
@@ -33,11 +34,14 @@ abbrev pub is_index_field : List ℕ → Bool
 is_index_field name =
     is_one_of name (codes "key" ∷ codes "name" ∷ codes "v" ∷ codes "background" ∷ [])
 
--- an index has no other options: they would change what is answered
+-- an option that would change what is answered may stand there where it is false
+abbrev pub may_have : List ℕ → TreeValue → Bool
+may_have name v = is_index_field name || not (asks v)
+
 abbrev pub has_index_fields : Tree → Bool
 has_index_fields no_pairs = true
-has_index_fields (leaf_pair n k v ps) = is_index_field n && has_index_fields ps
-has_index_fields (inner_pair n k b t ps) = is_index_field n && has_index_fields ps
+has_index_fields (leaf_pair n k v ps) = may_have n (leaf_value k v) && has_index_fields ps
+has_index_fields (inner_pair n k b t ps) = may_have n (document_value k b t) && has_index_fields ps
 
 -- an index is by at least one field, each up or down
 abbrev pub is_key_document : TreeValue → Bool

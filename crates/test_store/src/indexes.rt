@@ -1,15 +1,16 @@
 //! The indexes of a collection. They are listed, and change no answer.
 
 ghost use Rattle.std.specs.Prelude.{◌≡◌, ◌∷◌, [], IfErr, IfOk, MatchOption, None, Ok, OnOk, Some};
-ghost use Rattle.std.specs.Prelude.{map};
+ghost use Rattle.std.specs.Prelude.{map, not};
 ghost use Rattle.std.specs.List.{list_any};
 ghost use Rattle.bson_doc.specs.{tree_of, value_of};
 ghost use Rattle.doc_query.specs.{IsFailure, inner, or_error};
 ghost use Rattle.test_store.specs.Indexes.{has_index_fields, has_key, has_name};
 ghost use Rattle.test_store.specs.Indexes.{id_index, index_in, index_listing, index_view, is_index};
-ghost use Rattle.test_store.specs.Indexes.{is_index_field, is_key_document};
+ghost use Rattle.test_store.specs.Indexes.{is_index_field, is_key_document, may_have};
 ghost use Rattle.test_store.specs.Indexes.{with_index};
 ghost use Rattle.test_store.specs.Indexes.{with_indexes};
+ghost use Rattle.test_store.specs.Options.{asks};
 
 use crate::answer::set_text;
 use bson_doc::{Bson, Document};
@@ -62,12 +63,29 @@ fn is_index_field(name: &str) -> bool
     }
 }
 
+/// Returns true if a value is false.
+fn is_off(value: &Bson) -> bool
+    ensures { result ≡ not (asks (value_of value.now)) }
+{
+    match value {
+        Bson::Boolean(truth) => !truth,
+        _ => false,
+    }
+}
+
+/// Returns true if an index that can be made may have this field.
+fn may_have(name: &str, value: &Bson) -> bool
+    ensures { result ≡ may_have name.now (value_of value.now) }
+{
+    is_index_field(name) || is_off(value)
+}
+
 /// Returns true if an index that is asked for has no other fields.
 fn has_index_fields(index: &Document) -> bool
     ensures { result ≡ has_index_fields (tree_of index.now) }
 {
-    for (name, _) in index {
-        if !is_index_field(name) {
+    for (name, value) in index {
+        if !may_have(name, value) {
             return false;
         }
     }
