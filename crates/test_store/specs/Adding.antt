@@ -4,6 +4,7 @@ use Rattle.std.specs.Prelude.{Option, Some, None, codes, map, option_map, if◌t
 use Rattle.std.specs.Option.{option_or}
 use Rattle.bson_raw.specs.{TreeValue}
 use Rattle.bson_doc.specs.{value_of}
+use Rattle.doc_query.specs.{count_value, inner, int32, text}
 use Rattle.test_store.specs.declared.adding.Adding.{Adding}
 use Rattle.doc_update.specs.{free_number, has_error, id_fault, id_in, identified, is_taken}
 use Rattle.doc_update.specs.{write_error}
@@ -18,11 +19,22 @@ abbrev pub adding_of : Adding → AddingView
 adding_of a =
     record { added = map value_of a.added.items; errors = map value_of a.errors.items }
 
--- the error of the document at this index
-abbrev pub duplicate_error : ℕ → NamespaceView → TreeValue
-duplicate_error i n =
-    write_error i (pos 11000)
-    (codes "E11000 duplicate key error collection: " ++ namespace_text n ++ codes " index: _id_")
+-- the words of the error of a document whose `_id` is taken
+abbrev pub duplicate_words : NamespaceView → List ℕ
+duplicate_words n =
+    codes "E11000 duplicate key error collection: " ++ namespace_text n ++ codes " index: _id_"
+
+-- the field `_id` of this value
+abbrev pub key_of : Option TreeValue → TreeValue
+key_of None = inner []
+key_of (Some id) = inner ((codes "_id", id) ∷ [])
+
+-- the error of the document at this index, whose `_id` is taken
+abbrev pub duplicate_error : ℕ → NamespaceView → Option TreeValue → TreeValue
+duplicate_error i n id =
+    inner ((codes "index", count_value i) ∷ (codes "code", int32 (pos 11000))
+    ∷ (codes "keyPattern", key_of (Some (int32 (pos 1)))) ∷ (codes "keyValue", key_of id)
+    ∷ (codes "errmsg", text (duplicate_words n)) ∷ [])
 
 abbrev pub if_taken : Bool → TreeValue → Option TreeValue
 if_taken true error = Some error
@@ -34,7 +46,7 @@ abbrev pub error_of : NamespaceView → List TreeValue → List TreeValue → �
     → Option TreeValue
 error_of n held added i id =
     option_or (option_map (λ words. write_error i (pos 2) words) (id_fault id))
-    (if_taken (is_taken id held || is_taken id added) (duplicate_error i n))
+    (if_taken (is_taken id held || is_taken id added) (duplicate_error i n id))
 
 -- a document is added, unless it has this error
 abbrev pub add_unless : Option TreeValue → TreeValue → AddingView → AddingView

@@ -1,16 +1,18 @@
 //! Collects the documents that may be added to those of a namespace, in which no two have one
 //! `_id`, and none has an array, a regex or undefined there.
 
-ghost use Rattle.std.specs.Prelude.{◌≡◌, ◌<◌, ◌≤◌, ◌^◌, ◌++◌, IfOk, OnOk, codes, length, map};
+ghost use Rattle.std.specs.Prelude.{◌≡◌, ◌<◌, ◌≤◌, ◌^◌, IfOk, OnOk, length, map};
 ghost use Rattle.std.specs.Prelude.{option_map, string_bytes};
 ghost use Rattle.bson_doc.specs.{value_of};
 ghost use Rattle.doc_query.specs.{inner};
 ghost use Rattle.doc_update.specs.{has_error};
-ghost use Rattle.test_store.specs.Adding.{add, adding_of, duplicate_error, error_of, gathered};
-ghost use Rattle.test_store.specs.Held.{namespace_of, namespace_text};
+ghost use Rattle.test_store.specs.Adding.{add, adding_of, duplicate_error, duplicate_words};
+ghost use Rattle.test_store.specs.Adding.{error_of, gathered, key_of};
+ghost use Rattle.test_store.specs.Held.{namespace_of};
 
 use crate::namespace::Namespace;
 use bson_doc::{Bson, Document};
+use doc_query::{count_value, set};
 use doc_update::{id_fault, id_in, identified, is_taken, write_error};
 use std::alloc::{AllocError, Global};
 
@@ -34,8 +36,7 @@ impl Adding {
 
 /// Makes the words of the error of a document whose `_id` is taken.
 fn duplicate_words(alloc: Global, namespace: Namespace<'_>) -> Result<String, AllocError>
-    ensures { IfOk result (λ s. string_bytes s ≡ codes "E11000 duplicate key error collection: "
-        ++ namespace_text (namespace_of namespace.entry) ++ codes " index: _id_") }
+    ensures { IfOk result (λ s. string_bytes s ≡ duplicate_words (namespace_of namespace.entry)) }
 {
     let text = namespace.to_text(alloc)?;
     let mut words = String::from_str(alloc, "E11000 duplicate key error collection: ")?;
@@ -44,17 +45,38 @@ fn duplicate_words(alloc: Global, namespace: Namespace<'_>) -> Result<String, Al
     Ok(words)
 }
 
-/// Makes the error of the document at `index`, whose `_id` is taken.
+/// Makes the document with the field `_id` of this value.
+fn key_of(alloc: Global, id: Option<&Bson>) -> Result<Document, AllocError>
+    ensures { IfOk result (λ d. inner d ≡ key_of (option_map (λ v. value_of v.now) id.entry)) }
+{
+    let mut key = Document::new(alloc);
+    if let Some(id) = id {
+        set(alloc, &mut key, "_id", id.try_clone()?)?;
+    }
+    Ok(key)
+}
+
+/// Makes the error of the document at `index`, whose `_id`, which this is, is taken.
 fn duplicate_error(
     alloc: Global,
     index: usize,
     namespace: Namespace<'_>,
+    id: Option<&Bson>,
 ) -> Result<Document, AllocError>
     requires { index < 2 ^ 63 }
-    ensures { IfOk result (λ d. inner d ≡ duplicate_error index (namespace_of namespace.entry)) }
+    ensures { IfOk result (λ d. inner d ≡ duplicate_error index (namespace_of namespace.entry)
+        (option_map (λ v. value_of v.now) id.entry)) }
 {
+    let pattern = key_of(alloc, Some(&Bson::Int32(1)))?;
+    let key = key_of(alloc, id)?;
     let words = duplicate_words(alloc, namespace)?;
-    write_error(alloc, index, 11000, words)
+    let mut error = Document::new(alloc);
+    set(alloc, &mut error, "index", count_value(index))?;
+    set(alloc, &mut error, "code", Bson::Int32(11000))?;
+    set(alloc, &mut error, "keyPattern", Bson::Document(pattern))?;
+    set(alloc, &mut error, "keyValue", Bson::Document(key))?;
+    set(alloc, &mut error, "errmsg", Bson::String(words))?;
+    Ok(error)
 }
 
 /// Makes the error of the document at `index` whose `_id` this is, if the `_id` can't be one, or is
@@ -78,7 +100,7 @@ fn error_of(
         return Ok(Some(error));
     }
     if is_taken(id, held) || is_taken(id, added) {
-        let error = duplicate_error(alloc, index, namespace)?;
+        let error = duplicate_error(alloc, index, namespace, id)?;
         return Ok(Some(error));
     }
     Ok(None)
