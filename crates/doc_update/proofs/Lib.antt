@@ -5,3 +5,4 @@ pub mod PathCounts
 pub mod Overlaps
 pub mod ElementLaws
 pub mod Placings
+pub mod Lemmas

@@ -12,6 +12,7 @@ pub mod Upserts
 pub mod Deleting
 pub mod Updating
 -- the words that clauses of other crates cite
+pub use Rattle.doc_update.specs.Pairs.{pairs_of}
 pub use Rattle.doc_update.specs.WriteErrors.{has_error, write_error}
 pub use Rattle.doc_update.specs.Identity.{free_number, id_fault, id_in, identified, is_taken}
 pub use Rattle.doc_update.specs.Operators.{is_one_of}

@@ -1,4 +1,4 @@
-pub mod Asked
+pub mod WholeBody
 pub mod Failing
 pub mod Handled
 pub mod Meets

@@ -1,3 +1,4 @@
+pub mod Asked
 pub mod Rules
 pub mod Codes
 pub mod Meeting

@@ -7,18 +7,19 @@ use Rattle.test_store.specs.{first_name}
 use Rattle.test_script.specs.declared.action.Action.{Action}
 use Rattle.test_script.specs.declared.action.Flow.{Flow}
 use Rattle.test_script.specs.declared.action.Flow.TheVariants as flows
-use Rattle.test_script.specs.Rules.{RuleView, body_value, flow_of, meets, meets_as, used}
+use Rattle.test_script.specs.Asked.{asked_value}
+use Rattle.test_script.specs.Rules.{RuleView, flow_of, meets, meets_as, used}
 
--- the index of the first rule that a request for a command of this name, with this body, meets
+-- the index of the first rule that a request for a command of this name meets, which asks for this
 abbrev pub first_met_as : List ℕ → Option TreeValue → List RuleView → Option ℕ
-first_met_as name body [] = None
-first_met_as name body (r ∷ rs) =
-    if meets_as name body r then Some 0
-    else option_map (λ i. suc i) (first_met_as name body rs)
+first_met_as name asked [] = None
+first_met_as name asked (r ∷ rs) =
+    if meets_as name asked r then Some 0
+    else option_map (λ i. suc i) (first_met_as name asked rs)
 
 -- the index of the first rule that the request meets
 abbrev pub first_met : Content → List RuleView → Option ℕ
-first_met c rs = first_met_as (first_name c.body) (body_value c.body) rs
+first_met c rs = first_met_as (first_name c.body) (asked_value c) rs
 
 -- what that rule does
 abbrev pub met : Content → List RuleView → Option Action

@@ -2,13 +2,12 @@
 use Rattle.std.specs.Prelude.{ℕ, ◌-◌, List, [], ◌∷◌, Bool, true, false, ◌&&◌, Option, Some, None}
 use Rattle.std.specs.Prelude.{nat_lt, option_map}
 use Rattle.std.specs.Str.{bytes_eq}
-use Rattle.bson_elem.specs.declared.kinds.Kind.TheVariants as kinds
-use Rattle.bson_elem.specs.{Tree, no_code}
-use Rattle.bson_raw.specs.{TreeValue, document_value}
+use Rattle.bson_raw.specs.{TreeValue}
 use Rattle.bson_doc.specs.{tree_of}
-use Rattle.doc_query.specs.{matches, owned}
+use Rattle.doc_query.specs.{matches}
 use Rattle.wire_msg.specs.{Content}
 use Rattle.test_store.specs.{first_name}
+use Rattle.test_script.specs.Asked.{asked_value}
 use Rattle.test_script.specs.declared.action.Action.{Action}
 use Rattle.test_script.specs.declared.action.Action.TheVariants as actions
 use Rattle.test_script.specs.declared.action.Flow.{Flow}
@@ -44,23 +43,19 @@ abbrev pub names : Option (List ℕ) → List ℕ → Bool
 names None name = true
 names (Some own) name = bytes_eq own name
 
--- the body of a request as filters see it, if no name is repeated in it
-abbrev pub body_value : Tree → Option TreeValue
-body_value t = option_map (λ u. document_value kinds.Document no_code u) (owned t)
-
--- the filter asks for nothing, or it matches the body
+-- the filter asks for nothing, or it matches what is asked
 abbrev pub suits : List (List ℕ × TreeValue) → Option TreeValue → Bool
-suits [] body = true
+suits [] asked = true
 suits (p ∷ ps) None = false
-suits (p ∷ ps) (Some body) = matches (tree_of (p ∷ ps)) body
+suits (p ∷ ps) (Some v) = matches (tree_of (p ∷ ps)) v
 
--- a request for a command of this name, with this body, meets the rule
+-- a request for a command of this name, which asks for this, meets the rule
 abbrev pub meets_as : List ℕ → Option TreeValue → RuleView → Bool
-meets_as name body r = is_live r && names r.command name && suits r.filter body
+meets_as name asked r = is_live r && names r.command name && suits r.filter asked
 
 -- the request meets the rule: the rule may still be used, and is for it
 abbrev pub meets : Content → RuleView → Bool
-meets c r = meets_as (first_name c.body) (body_value c.body) r
+meets c r = meets_as (first_name c.body) (asked_value c) r
 
 -- the rule after it was used once more
 abbrev pub used : RuleView → RuleView

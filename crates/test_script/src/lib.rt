@@ -10,6 +10,7 @@
 #![tactic(auto)]
 
 mod action;
+mod asked;
 mod delays;
 mod fault;
 mod keyword;

@@ -82,13 +82,13 @@ impl Rule {
         }
     }
 
-    /// Returns true if a request for a command of this name, with this body, meets the rule: if the
-    /// rule may still be used, and is for it.
-    pub(crate) fn meets(&self, name: &str, body: Option<&Bson>) -> bool
+    /// Returns true if a request for a command of this name, which asks for this, meets the rule: if
+    /// the rule may still be used, and is for it.
+    pub(crate) fn meets(&self, name: &str, asked: Option<&Bson>) -> bool
         ensures { result
-            ≡ meets_as name.now (option_map (λ v. value_of v.now) body.entry) self.now }
+            ≡ meets_as name.now (option_map (λ v. value_of v.now) asked.entry) self.now }
     {
-        self.is_live() && self.names(name) && self.suits(body)
+        self.is_live() && self.names(name) && self.suits(asked)
     }
 
     /// Notes that the rule was used.

@@ -5,46 +5,21 @@ ghost use Rattle.std.specs.Prelude.{List, option_copied, option_map};
 ghost use Rattle.bson_doc.specs.{value_of};
 ghost use Rattle.wire_msg.specs.{Content};
 ghost use Rattle.wire_peer.specs.{content_of};
-ghost use Rattle.test_store.specs.{first_name};
 ghost use Rattle.test_script.specs.Meeting.{action_at, after, first_met, first_met_as, flow_by};
 ghost use Rattle.test_script.specs.Meeting.{met};
-ghost use Rattle.test_script.specs.Rules.{RuleView, body_value};
+ghost use Rattle.test_script.specs.Rules.{RuleView};
 ghost use Rattle.test_script.specs.Lines.{FailsBy, IsRule};
 ghost use Rattle.test_script.specs.Scripts.{FailsAt, IsScript};
 
 use crate::action::{Action, Flow};
+use crate::asked::{asked_name, asked_value};
 use crate::fault::{Cause, ScriptFault};
 use crate::parse::parse_rule;
 use crate::rule::Rule;
 use bson_doc::Bson;
-use doc_query::{Failure, owned_body};
 use std::alloc::{AllocError, Global};
-use test_store::name_of;
 use wire_msg::Payload;
 use wire_script::{Lines, NumberedLine};
-
-/// Returns the name of the command that a request asks for.
-fn asked_name(payload: Payload<'_>) -> &str
-    ensures { result.now ≡ first_name (content_of payload.entry).body }
-{
-    name_of(payload.body())
-}
-
-/// Returns the body of a request as filters see it, if no name is repeated in it.
-///
-/// # Errors
-///
-/// Returns `AllocError` if memory runs out.
-fn asked_body(alloc: Global, payload: Payload<'_>) -> Result<Option<Bson>, AllocError>
-    ensures { IfOk result (λ v. option_map value_of v
-        ≡ body_value (content_of payload.entry).body) }
-{
-    match owned_body(alloc, payload.body()) {
-        Ok(body) => Ok(Some(Bson::Document(body))),
-        Err(Failure::Refused(_)) => Ok(None),
-        Err(Failure::OutOfMemory) => Err(AllocError),
-    }
-}
 
 /// Returns the fault of a line.
 fn fault_of(line: NumberedLine<'_>, cause: Cause) -> ScriptFault
@@ -144,14 +119,14 @@ impl Script {
         }
     }
 
-    /// Returns the index of the first rule that a request for a command of this name, with this
-    /// body, meets.
-    fn find(&self, name: &str, body: Option<&Bson>) -> Option<usize>
-        ensures { result ≡ first_met_as name.now (option_map (λ v. value_of v.now) body.entry)
+    /// Returns the index of the first rule that a request for a command of this name meets, which
+    /// asks for this.
+    fn find(&self, name: &str, asked: Option<&Bson>) -> Option<usize>
+        ensures { result ≡ first_met_as name.now (option_map (λ v. value_of v.now) asked.entry)
             self.now.rules.items }
     {
         for (i, rule) in self.rules.iter().enumerate() {
-            if rule.meets(name, body) {
+            if rule.meets(name, asked) {
                 return Some(i);
             }
         }
@@ -166,8 +141,8 @@ impl Script {
         if self.is_empty() {
             return Ok(None);
         }
-        let body = asked_body(alloc, request)?;
-        Ok(self.find(asked_name(request), body.as_ref()))
+        let asked = asked_value(alloc, request)?;
+        Ok(self.find(asked_name(request), asked.as_ref()))
     }
 
     /// Returns the index of the first live rule that the request meets, if it meets one, and notes

@@ -15,3 +15,4 @@ pub use Rattle.test_store.specs.Commands.{first_name}
 pub use Rattle.test_store.specs.Answers.{error_pairs}
 pub use Rattle.test_store.specs.Handling.{Answered, IsUnanswerable, StopsAt}
 pub use Rattle.test_store.specs.Held.{empty_store, store_of}
+pub use Rattle.test_store.specs.Inserted.{Appended, in_sequence}

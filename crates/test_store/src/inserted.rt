@@ -64,8 +64,12 @@ fn push_array(alloc: Global, array: RawArray<'_>, documents: &mut Vec<Bson>) -> 
     Ok(())
 }
 
-/// Appends the documents of a sequence.
-fn push_sequence(
+/// Appends the documents of a sequence, in their canonical form.
+///
+/// # Errors
+///
+/// Returns `Documents` if a name is repeated in one of them. Some may have been appended then.
+pub fn push_sequence(
     alloc: Global,
     sequence: Documents<'_>,
     documents: &mut Vec<Bson>,

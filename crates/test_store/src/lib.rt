@@ -23,4 +23,5 @@ mod store;
 pub use answer::error_answer;
 pub use commands::name_of;
 pub use handling::put_answer;
+pub use inserted::push_sequence;
 pub use store::Store;

@@ -7,5 +7,5 @@ use Rattle.test_script.proofs.script.Script.find.Given as goal
 -- the index is that in the rules that are left, counted from here
 abbrev pub invariant-loop-i : goal.invariant-loop-i
 invariant-loop-i l =
-    first_met_as l.name (option_map (λ v. value_of v.now) l.body) l.self.rules.items
-    ≡ counted_from l.i (first_met_as l.name (option_map (λ v. value_of v.now) l.body) (drop l.i l.self.rules.items))
+    first_met_as l.name (option_map (λ v. value_of v.now) l.asked) l.self.rules.items
+    ≡ counted_from l.i (first_met_as l.name (option_map (λ v. value_of v.now) l.asked) (drop l.i l.self.rules.items))

@@ -3,7 +3,7 @@ use base.Stored.{Coded-set}
 use Rattle.bson_elem.specs.{coded_text}
 use Rattle.wire_peer.proofs.Lemmas.{of_content}
 use Rattle.test_store.specs.{first_name}
-use Rattle.test_script.proofs.script.asked_name.Goals as goal
+use Rattle.test_script.proofs.asked.asked_name.Goals as goal
 
 pub returns : goal.returns
 returns c =
