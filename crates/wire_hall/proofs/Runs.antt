@@ -1,11 +1,11 @@
 -- Acts at a seat, one after another.
-use Rattle.std.proofs.Common.{◌≡◌, ℕ, ◌+◌, ◌<◌, ◌≤◌, List, [], ◌∷◌, ◌++◌, length, ap, arith, refl, sym, subst, ◌∙◌, append_assoc, length-append}
+use Rattle.std.proofs.Common.{◌≡◌, ℕ, ◌+◌, ◌<◌, ◌≤◌, List, [], ◌∷◌, ◌++◌, Err, inl, inr, length, ap, arith, refl, sym, subst, ◌∙◌, append_assoc, length-append}
 use Rattle.wire_peer.specs.{Does, Stops}
+use Rattle.wire_peer.specs.declared.server_state.AnswerRefusal.TheVariants as refusals
 use Rattle.wire_peer.specs.declared.log.Logged.{Logged}
 use Rattle.wire_hall.specs.declared.turned.Leave.TheVariants as leaves
 use Rattle.wire_hall.specs.declared.turned.Turned.{Turned}
 use Rattle.wire_hall.specs.declared.turned.Turned.TheVariants as turns
-use Rattle.wire_front.specs.{FrontView}
 use Rattle.wire_hall.specs.Seats.{AllProceed, MovesAs, SeatAct, SeatDoes, SeatMoves, SeatRun, SeatSeen, Tells, TurnedAs, Turns}
 use Rattle.wire_hall.specs.Seats.{Answers, Ends, Fails, Receives, Sends, SetsGate, Takes, Waits}
 
@@ -50,8 +50,8 @@ module _ {H L : Type 0} (does : Does H) (stops : Stops H) (t : Tells L) where
       record { acts = Fails ∷ []; run = moves_run Fails old new from m; few = omega arith; comes_to = ([], refl, tt) }
   moves_turn (turns.Over (leaves.Closed cause)) old new from (act, m, proceeds, closed) =
       record { acts = act ∷ []; run = moves_run act old new from m; few = omega arith; comes_to = (closed, (proceeds, tt)) }
-  moves_turn (turns.Over leaves.OutOfMemory) old new from m =
-      record { acts = []; run = (m, refl); few = omega arith; comes_to = tt }
+  moves_turn (turns.Over leaves.OutOfMemory) old new from (ready, some, same) =
+      record { acts = []; run = (same, refl); few = omega arith; comes_to = inl (tt, omega arith, rw same ready, rw same some) }
 
   all_on : (acts more : List SeatAct) → AllProceed acts → AllProceed more → AllProceed (acts ++ more)
   all_on [] more none each = each
@@ -77,15 +77,23 @@ module _ {H L : Type 0} (does : Does H) (stops : Stops H) (t : Tells L) where
   }
 
   -- the last step of a turn
-  comes_to : (turned : Turned) (i steps : ℕ) (before acts : List SeatAct) (f : FrontView) → (turned ≡ turns.Again → ⊥)
-      → AllProceed before → TurnedAs turned 1 acts f → TurnedAs turned steps (before ++ acts) f
-  comes_to turns.Again i steps before acts f differs all c = absurd (differs refl)
-  comes_to turns.Waits i steps before acts f differs all (first, is, each) =
+  comes_to : (turned : Turned) (i steps : ℕ) (before acts : List SeatAct) (s : SeatSeen L) → (turned ≡ turns.Again → ⊥)
+      → length before ≡ i → i < steps → AllProceed before → TurnedAs turned 1 acts s → TurnedAs turned steps (before ++ acts) s
+  comes_to turns.Again i steps before acts s differs long lt all c = absurd (differs refl)
+  comes_to turns.Waits i steps before acts s differs long lt all (first, is, each) =
       (before ++ first, ap (λ (x : List SeatAct). before ++ x) is ∙ sym (append_assoc before first (Waits ∷ [])), all_on before first all each)
-  comes_to (turns.Over (leaves.Link fault)) i steps before acts f differs all (first, is, each) =
+  comes_to (turns.Over (leaves.Link fault)) i steps before acts s differs long lt all (first, is, each) =
       (before ++ first, ap (λ (x : List SeatAct). before ++ x) is ∙ sym (append_assoc before first (Fails ∷ [])), all_on before first all each)
-  comes_to (turns.Over (leaves.Closed cause)) i steps before acts f differs all (c, each) = (c, all_on before acts all each)
-  comes_to (turns.Over leaves.OutOfMemory) i steps before acts f differs all c = tt
+  comes_to (turns.Over (leaves.Closed cause)) i steps before acts s differs long lt all (c, each) = (c, all_on before acts all each)
+  comes_to (turns.Over leaves.OutOfMemory) i steps before acts s differs long lt all (inl (each, none, ready, some)) =
+      inl (all_on before acts all each, omega (arith, length-append before acts, long, lt, none), ready, some)
+  comes_to (turns.Over leaves.OutOfMemory) i steps before acts s differs long lt all (inr (first, made, is, each)) =
+      inr (
+        before ++ first,
+        made,
+        ap (λ (x : List SeatAct). before ++ x) is ∙ sym (append_assoc before first (Answers (Err refusals.OutOfMemory) made ∷ [])),
+        all_on before first all each,
+      )
 
   pub last_step : (turned : Turned) (i steps : ℕ) (old mid new : SeatSeen L) (from then to : Logged H) → SoFar i old from mid then
       → i < steps → (turned ≡ turns.Again → ⊥) → Turns does stops t 1 turned mid then new to
@@ -94,7 +102,7 @@ module _ {H L : Type 0} (does : Does H) (stops : Stops H) (t : Tells L) where
     acts = s.acts ++ one.acts;
     run = run_on s.acts one.acts old mid new from then to s.run one.run;
     few = omega (arith, length-append s.acts one.acts, s.all, one.few, lt);
-    comes_to = comes_to turned i steps s.acts one.acts new.front differs s.each one.comes_to;
+    comes_to = comes_to turned i steps s.acts one.acts new differs s.all lt s.each one.comes_to;
   }
 
   pub all_steps : (i steps : ℕ) (old new : SeatSeen L) (from to : Logged H) → SoFar i old from new to → i ≤ steps → steps ≤ i

@@ -1,5 +1,5 @@
 -- What the steps of a seat are.
-use Rattle.std.proofs.Common.{◌≡◌, ◌≢◌, ℕ, zero, suc, ◌<◌, ◌≤◌, List, [], ◌∷◌, ◌++◌, length, take, drop, Option, Some, None, Result, Ok, Err, Bool, true, ap, arith, refl, sym, subst, ◌∙◌, append-nil, take-append-drop}
+use Rattle.std.proofs.Common.{◌≡◌, ◌≢◌, ℕ, zero, suc, ◌<◌, ◌≤◌, List, [], ◌∷◌, ◌++◌, length, take, drop, Option, Some, None, Result, Ok, Err, inr, Bool, true, ap, arith, refl, sym, subst, ◌∙◌, append-nil, take-append-drop}
 use Rattle.std.proofs.lemmas.Map.Views.{exact_unsigned_eq}
 use Rattle.std.specs.Bool.{◌==◌}
 use Rattle.std.specs.Io.KnownBytes.{Appends, Keeps}
@@ -54,12 +54,12 @@ empty_by b xs ys is holds same =
     sym same ∙ nil_by ys (omega (arith, exact_unsigned_eq (length ys) 0 (sym is ∙ holds)))
 
 -- what a front came to that stands like this
-pub stands_turned : (turned : Turned) (act : SeatAct) (f : FrontView) → StandsAs turned f → Proceeds act → TurnedAs turned 1 (act ∷ []) f
-stands_turned turns.Again act f s proceeds = (refl, (proceeds, tt))
-stands_turned turns.Waits act f s proceeds = absurd s
-stands_turned (turns.Over (leaves.Closed cause)) act f s proceeds = (s, (proceeds, tt))
-stands_turned (turns.Over (leaves.Link fault)) act f s proceeds = absurd s
-stands_turned (turns.Over leaves.OutOfMemory) act f s proceeds = absurd s
+pub stands_turned : {L : Type 0} (turned : Turned) (act : SeatAct) (s : SeatSeen L) → StandsAs turned s.front → Proceeds act → TurnedAs turned 1 (act ∷ []) s
+stands_turned turns.Again act s stands proceeds = (refl, (proceeds, tt))
+stands_turned turns.Waits act s stands proceeds = absurd stands
+stands_turned (turns.Over (leaves.Closed cause)) act s stands proceeds = (stands, (proceeds, tt))
+stands_turned (turns.Over (leaves.Link fault)) act s stands proceeds = absurd stands
+stands_turned (turns.Over leaves.OutOfMemory) act s stands proceeds = absurd stands
 
 module _ {L : Type 0} (t : Tells L) where
   stands_moves : (turned : Turned) (act : SeatAct) (old new : SeatSeen L) → SeatMoves t act old new → Proceeds act
@@ -154,17 +154,18 @@ module _ {L : Type 0} (t : Tells L) where
     made_of (Err refusals.OutOfMemory) s s' h h' log log' (is_open, few, s_is, h_is, log_is) = ([], log_is ∙ sym (append-nil log))
 
     -- what an answer came to at an open server of which a request waits
-    turned_by : (turned : Turned) (result : Result ℕ AnswerRefusal) (made : List LogEntry) (f' : FrontView) (s s' : ServerView) (h h' : H) (log log' : List LogEntry)
+    turned_by : (turned : Turned) (result : Result ℕ AnswerRefusal) (made : List LogEntry) (seat' : SeatSeen L) (s s' : ServerView) (h h' : H) (log log' : List LogEntry)
         → s.state ≡ servers.Open → s.waiting ≢ [] → (result ≡ Err refusals.OutOfMemory → turned ≡ turns.Over leaves.OutOfMemory)
-        → (result ≢ Err refusals.OutOfMemory → StandsAs turned f') → AnswerStep does stops 0 result s h log s' h' log'
-        → TurnedAs turned 1 (Answers result made ∷ []) f'
-    turned_by turned (Ok n) made f' s s' h h' log log' is_open some memory other step =
-        stands_turned turned (Answers (Ok n) made) f' (other (λ e. absurd (cc e))) tt
-    turned_by turned (Err (refusals.NowClosed cause)) made f' s s' h h' log log' is_open some memory other step =
-        stands_turned turned (Answers (Err (refusals.NowClosed cause)) made) f' (other (λ e. absurd (cc e))) tt
-    turned_by turned (Err refusals.Closed) made f' s s' h h' log log' is_open some memory other (shut, s_is, h_is, log_is) = absurd (shut is_open)
-    turned_by turned (Err refusals.NoSuchRequest) made f' s s' h h' log log' is_open some memory other (is, few, s_is, h_is, log_is) = absurd (some (nil_by s.waiting few))
-    turned_by turned (Err refusals.OutOfMemory) made f' s s' h h' log log' is_open some memory other step = rw (memory refl) tt
+        → (result ≢ Err refusals.OutOfMemory → StandsAs turned seat'.front) → AnswerStep does stops 0 result s h log s' h' log'
+        → TurnedAs turned 1 (Answers result made ∷ []) seat'
+    turned_by turned (Ok n) made seat' s s' h h' log log' is_open some memory other step =
+        stands_turned turned (Answers (Ok n) made) seat' (other (λ e. absurd (cc e))) tt
+    turned_by turned (Err (refusals.NowClosed cause)) made seat' s s' h h' log log' is_open some memory other step =
+        stands_turned turned (Answers (Err (refusals.NowClosed cause)) made) seat' (other (λ e. absurd (cc e))) tt
+    turned_by turned (Err refusals.Closed) made seat' s s' h h' log log' is_open some memory other (shut, s_is, h_is, log_is) = absurd (shut is_open)
+    turned_by turned (Err refusals.NoSuchRequest) made seat' s s' h h' log log' is_open some memory other (is, few, s_is, h_is, log_is) = absurd (some (nil_by s.waiting few))
+    turned_by turned (Err refusals.OutOfMemory) made seat' s s' h h' log log' is_open some memory other step =
+        rw (memory refl) (inr ([], made, refl, tt))
 
     pub answers : (turned : Turned) (result : Result ℕ AnswerRefusal) (f f' : FrontView) (link : L) (inlet : List ℕ) (from to : Logged H)
         → f.output ≡ [] → state_of f ≡ fronts.Open → f.server.waiting ≢ []
@@ -177,6 +178,6 @@ module _ {L : Type 0} (t : Tells L) where
           run = one_act does stops t (Answers result made.0) (seat f link inlet) (seat f' link inlet) from to
               (record { all_sent = sent; answers = a; logged = made.1; link = refl; inlet = refl });
           few = omega arith;
-          comes_to = turned_by turned result made.0 f' f.server a.server from.handler to.handler (log_of from.entries.items) (log_of to.entries.items)
+          comes_to = turned_by turned result made.0 (seat f' link inlet) f.server a.server from.handler to.handler (log_of from.entries.items) (log_of to.entries.items)
               (opens f.cause f.server.state is_open).1 some memory other a.step;
         }

@@ -1,6 +1,6 @@
 -- A connection that is served in turns, and what is done with it.
-use Rattle.std.specs.Prelude.{◌≡◌, ◌≢◌, ℕ, ◌≤◌, Option, List, [], ◌∷◌, ◌++◌, length, Result, Ok}
-use Rattle.std.specs.Prelude.{Err}
+use Rattle.std.specs.Prelude.{◌≡◌, ◌≢◌, ℕ, ◌≤◌, ◌<◌, ◌⊎◌, Option, List, [], ◌∷◌, ◌++◌, length}
+use Rattle.std.specs.Prelude.{Result, Ok, Err}
 use Rattle.std.specs.Io.KnownBytes.{Appends}
 use Rattle.wire_stream.specs.{Rose}
 use Rattle.wire_peer.specs.{Does, LogEntry, Stops, log_of}
@@ -176,8 +176,8 @@ StandsAs (turns.Over (leaves.Closed cause)) f = state_of f ≡ fronts.Closed cau
 StandsAs turned f = ⊥
 
 -- A step that asks nothing came to this: something was done; or the link can move no byte now, or
--- it failed; or something was done, and the front closed, for this cause; or memory ran out, and
--- nothing was done.
+-- it failed; or something was done, and the front closed, for this cause; or nothing was done,
+-- since memory ran out for taking some of the bytes that came.
 abbrev pub MovesAs : {L : Type 0} → Tells L → Turned → SeatSeen L → SeatSeen L → Type 0
 MovesAs t turns.Again old new = (act : SeatAct) × SeatMoves t act old new × Proceeds act
 MovesAs t turns.Waits old new = SeatMoves t Waits old new
@@ -185,20 +185,26 @@ MovesAs t (turns.Over (leaves.Link fault)) old new = SeatMoves t Fails old new
 MovesAs t (turns.Over (leaves.Closed cause)) old new =
     (act : SeatAct) × SeatMoves t act old new × Proceeds act
     × (state_of new.front ≡ fronts.Closed cause)
-MovesAs t (turns.Over leaves.OutOfMemory) old new = new ≡ old
+MovesAs t (turns.Over leaves.OutOfMemory) old new =
+    IsReady old.front × (old.inlet ≢ []) × (new ≡ old)
 
--- A turn of at most so many steps came to this, by its acts and the front after them: something was
+-- A turn of at most so many steps came to this, by its acts and the seat after them: something was
 -- done in each of all steps; or the link can move no byte now, or it failed, behind acts in which
--- something was done; or the front closed, for this cause; or memory ran out.
-abbrev pub TurnedAs : Turned → ℕ → List SeatAct → FrontView → Type 0
-TurnedAs turns.Again steps acts f = (length acts ≡ steps) × AllProceed acts
-TurnedAs turns.Waits steps acts f =
+-- something was done; or the front closed, for this cause; or, behind acts in which something was
+-- done, memory ran out: in a step without an act, for taking some of the bytes that came, or in the
+-- last act, for an answer.
+abbrev pub TurnedAs : {L : Type 0} → Turned → ℕ → List SeatAct → SeatSeen L → Type 0
+TurnedAs turns.Again steps acts s = (length acts ≡ steps) × AllProceed acts
+TurnedAs turns.Waits steps acts s =
     (before : List SeatAct) × (acts ≡ before ++ Waits ∷ []) × AllProceed before
-TurnedAs (turns.Over (leaves.Link fault)) steps acts f =
+TurnedAs (turns.Over (leaves.Link fault)) steps acts s =
     (before : List SeatAct) × (acts ≡ before ++ Fails ∷ []) × AllProceed before
-TurnedAs (turns.Over (leaves.Closed cause)) steps acts f =
-    (state_of f ≡ fronts.Closed cause) × AllProceed acts
-TurnedAs (turns.Over leaves.OutOfMemory) steps acts f = Unit {0}
+TurnedAs (turns.Over (leaves.Closed cause)) steps acts s =
+    (state_of s.front ≡ fronts.Closed cause) × AllProceed acts
+TurnedAs (turns.Over leaves.OutOfMemory) steps acts s =
+    (AllProceed acts × (length acts < steps) × IsReady s.front × (s.inlet ≢ []))
+    ⊎ ((before : List SeatAct) × (made : List LogEntry)
+    × (acts ≡ before ++ Answers (Err refusals.OutOfMemory) made ∷ []) × AllProceed before)
 
 -- Acts were done, at most so many, and it came to this.
 pub record Turns {H L : Type 0} (does : Does H) (stops : Stops H) (t : Tells L) (steps : ℕ)
@@ -207,4 +213,4 @@ pub record Turns {H L : Type 0} (does : Does H) (stops : Stops H) (t : Tells L) 
   pub acts : List SeatAct
   pub run : SeatRun does stops t old from acts new to
   pub few : length acts ≤ steps
-  pub comes_to : TurnedAs turned steps acts new.front
+  pub comes_to : TurnedAs turned steps acts new
