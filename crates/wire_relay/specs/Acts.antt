@@ -171,6 +171,17 @@ back_went [] = []
 back_went (There act ∷ acts) = back_went acts
 back_went (Back act ∷ acts) = went act ++ back_went acts
 
+-- how many of these acts are on the way to the far link, and how many on the way back
+abbrev pub count_there : List RelayAct → ℕ
+count_there [] = 0
+count_there (There act ∷ acts) = 1 + count_there acts
+count_there (Back act ∷ acts) = count_there acts
+
+abbrev pub count_back : List RelayAct → ℕ
+count_back [] = 0
+count_back (There act ∷ acts) = count_back acts
+count_back (Back act ∷ acts) = 1 + count_back acts
+
 -- how many of these acts did something
 abbrev pub all_done : List RelayAct → ℕ
 all_done [] = 0
@@ -198,13 +209,20 @@ pub data IsWaiting {N F : Type 0} (acts : List RelayAct) (r : RelayView N F) : T
   back : (before : List RelayAct) → acts ≡ before ++ Back Waits ∷ [] → r.there.stage ≡ Ended
       → IsWaiting acts r
 
+-- as many acts as steps were done on a way, or it is over
+abbrev pub IsServed : (steps count : ℕ) → WayView → Type 0
+IsServed steps count way = (count ≡ steps) ⊎ (way.stage ≡ Ended)
+
 -- A turn of at most so many steps came to this: both ways are over; or no byte can be moved now; or
--- all steps were taken, and as many acts did something, or more; or a link failed in the last act.
+-- all steps were taken on each way that isn't over, and as many acts did something, or more; or a
+-- link failed in the last act.
 abbrev pub TurnedAs : {N F : Type 0} → ℕ → Result Turned RelayFault → List RelayAct
     → RelayView N F → Type 0
 TurnedAs steps (Ok turns.Over) acts r = IsOver r
 TurnedAs steps (Ok turns.Waits) acts r = IsWaiting acts r
-TurnedAs steps (Ok turns.Again) acts r = steps ≤ all_done acts
+TurnedAs steps (Ok turns.Again) acts r =
+    (steps ≤ all_done acts) × IsServed steps (count_there acts) r.there
+    × IsServed steps (count_back acts) r.back
 TurnedAs steps (Err fault) acts r =
     (before : List RelayAct) × ((acts ≡ before ++ There (Fails fault) ∷ [])
     ⊎ (acts ≡ before ++ Back (Fails fault) ∷ []))
@@ -214,13 +232,15 @@ abbrev pub told : Result Turned RelayFault → List RelayFault
 told (Ok turned) = []
 told (Err fault) = fault ∷ []
 
--- Acts were done, and it came to this after at most so many steps. No act failed but the one that
+-- Acts were done, at most so many on each way, and it came to this. No act failed but the one that
 -- it tells. What came on each way was seen.
 pub record Turns {N F : Type 0} (n : Tells N) (f : Tells F) (steps : ℕ)
     (result : Result Turned RelayFault) (old new : RelayView N F)
     (there there' back back' : Option (List ℕ)) : Type 0 where
   pub acts : List RelayAct
   pub run : RelayRun n f old acts new
+  pub few_there : count_there acts ≤ steps
+  pub few_back : count_back acts ≤ steps
   pub comes_to : TurnedAs steps result acts new
   pub failed : faults acts ≡ told result
   pub there_seen : Appends there there' (there_came acts)
