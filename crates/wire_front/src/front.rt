@@ -1,9 +1,10 @@
 //! A front of one connection: a server, before which queries and their replies are respelled.
 
-ghost use Rattle.std.specs.Prelude.{◌≡◌, ◌≢◌, ◌≤◌, ◌<◌, ◌↔◌, [], Ok, IfOk, IfSome, IsSome, OnErr};
-ghost use Rattle.std.specs.Prelude.{drop, false, length, take, true};
+ghost use Rattle.std.specs.Prelude.{◌≡◌, ◌≢◌, ◌≤◌, ◌<◌, ◌↔◌, ◌⊎◌, [], Ok, IfOk, IfSome, IsSome};
+ghost use Rattle.std.specs.Prelude.{OnErr, drop, false, length, take, true};
 ghost use Rattle.wire_msg.specs.{IsOpen, Message};
 ghost use Rattle.wire_peer.specs.{WaitsAt, asked, asked_by, log_of};
+ghost use Rattle.wire_stream.specs.{CompletesHeader};
 ghost use Rattle.wire_front.specs.Fronts.{FrontAnswers, FrontTakes, HasLeft, IsReady};
 ghost use Rattle.wire_front.specs.Fronts.{RespellsReply, ended_front, new_front, state_of};
 
@@ -134,13 +135,16 @@ impl Front {
     ///
     /// # Errors
     ///
-    /// Returns `OutOfMemory` if memory runs out for a message or a query. Nothing is taken then.
+    /// Returns `OutOfMemory` if memory runs out for a message or a query, which it doesn't inside a
+    /// message whose header was taken before. Nothing is taken then.
     pub fn feed(&mut self, piece: &[u8]) -> Result<usize, ReadRefusal>
         ensures busy { (IsReady self.old → ⊥) → (result ≡ Ok 0) × (self.new ≡ self.old) }
         ensures within { IfOk result (λ n. n ≤ length piece.now) }
         ensures taken { IsReady self.old
             → IfOk result (λ n. FrontTakes self.old (take n piece.now) self.new) }
         ensures some { IsReady self.old → 0 < length piece.now → IfOk result (λ n. 0 < n) }
+        ensures refused { OnErr result ((self.old.server.held ≡ [])
+            ⊎ CompletesHeader self.old.server.limit self.old.server.held piece.now) }
         ensures unchanged { OnErr result (self.new ≡ self.old) }
     {
         if !self.is_ready() {

@@ -1,4 +1,5 @@
-use Rattle.std.proofs.Common.{ap, arith, length, refl, take}
+use Rattle.std.proofs.Common.{ap, arith, inl, length, refl, take}
+use Rattle.std.proofs.lemmas.Result.{err_from_is_err_and}
 use Rattle.wire_front.specs.declared.passing.Passed.TheVariants as passed
 use Rattle.wire_front.proofs.Feeding.{takes_some}
 use Rattle.wire_front.proofs.Taking.{next_of, not_inside, took_as, took_inside}
@@ -49,3 +50,9 @@ returns-in-Refused-clause-taken c = λ ready.
     let f = c.self.inside in
     rw (← c.self.view_is) (took_as (passed.Refused c.in-Refused.fault) f.server c.gather.new.server f.part.items (take c.in_ok-n-2.n c.args.piece.now) c.gather.new.part.items
     f.reply.items f.queried f.gone f.cause (not_inside f.server.held c.if-is_inside.ensures.1) (rw c.in-Refused.is at c.in_ok-n-2.ensures.passed) c.in_ok-n-2.ensures.gathered)
+
+pub returns-in_err-n-2-clause-refused : goal.returns-in_err-n-2-clause-refused
+returns-in_err-n-2-clause-refused c =
+    let f = c.self.inside in
+    let told = err_from_is_err_and c.from_residual-in_err-n-2.result c.from_residual-in_err-n-2.ensures.1 in
+    rw (← c.self.view_is, told.1) (inl (not_inside f.server.held c.if-is_inside.ensures.1))
