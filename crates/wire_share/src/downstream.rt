@@ -1,11 +1,13 @@
 //! The connection of a client, whose requests are passed on.
 
-ghost use Rattle.std.specs.Prelude.{◌≡◌, ◌≢◌, ◌≤◌, ◌<◌, ◌↔◌, [], Ok, IfErr, IfOk, IfSome, IsNone};
-ghost use Rattle.std.specs.Prelude.{IsSome, OnErr, OnOk, Some, drop, false, length, take, true};
+ghost use Rattle.std.specs.Prelude.{◌≡◌, ◌≢◌, ◌≤◌, ◌<◌, ◌↔◌, ◌⊎◌, [], Ok, IfErr, IfOk, IfSome};
+ghost use Rattle.std.specs.Prelude.{IsNone, IsSome, OnErr, OnOk, Some, drop, false, length};
+ghost use Rattle.std.specs.Prelude.{take, true};
 ghost use Rattle.wire_msg.specs.{Message};
 ghost use Rattle.wire_peer.specs.{WaitsAt, asked, asked_by, content_of, ready_of};
 ghost use Rattle.wire_peer.specs.declared.call_table.ReadyReply.{ReadyReply};
 ghost use Rattle.wire_peer.specs.declared.echoing.Echo.{Echo};
+ghost use Rattle.wire_stream.specs.{CompletesHeader};
 ghost use Rattle.wire_front.specs.{FrontTakes, HasLeft, IsReady, ended_front, state_of};
 ghost use Rattle.wire_share.specs.Sharing.{Awaits, GiveStep, IsGiven, Leaves, PassStep, Waits};
 ghost use Rattle.wire_share.specs.Sharing.{echoes, new_downstream};
@@ -156,7 +158,8 @@ impl Downstream {
     ///
     /// # Errors
     ///
-    /// Returns `OutOfMemory` if memory runs out for a message or a query. Nothing is taken then.
+    /// Returns `OutOfMemory` if memory runs out for a message or a query, which it doesn't inside a
+    /// message whose header was taken before. Nothing is taken then.
     pub fn feed(&mut self, piece: &[u8]) -> Result<usize, ReadRefusal>
         ensures busy { (IsReady self.old.front → ⊥) → (result ≡ Ok 0) × (self.new ≡ self.old) }
         ensures within { IfOk result (λ n. n ≤ length piece.now) }
@@ -165,6 +168,8 @@ impl Downstream {
         ensures some { IsReady self.old.front → 0 < length piece.now
             → IfOk result (λ n. 0 < n) }
         ensures awaited { self.new.awaited ≡ self.old.awaited }
+        ensures refused { OnErr result ((self.old.front.server.held ≡ []) ⊎ CompletesHeader
+            self.old.front.server.limit self.old.front.server.held piece.now) }
         ensures unchanged { OnErr result (self.new ≡ self.old) }
     {
         self.front.feed(piece)
