@@ -46,9 +46,13 @@ class Int64(int):
 
 @dataclass(frozen=True, order=True, slots=True)
 class ObjectId:
-    """Holds the 12 bytes of an ObjectId."""
+    """Holds the 12 bytes of an ObjectId; anything else raises TypeError."""
 
     data: bytes
+
+    def __post_init__(self) -> None:
+        if not isinstance(self.data, bytes) or len(self.data) != 12:
+            raise TypeError(f"{self.data!r} isn't 12 bytes; ObjectId(bytes.fromhex(digits)) is the ObjectId of 24 digits")
 
     def __str__(self) -> str:
         """Returns the 24 digits, as "0102030405060708090a0b0c"."""
@@ -111,9 +115,13 @@ class Symbol:
 
 @dataclass(frozen=True, slots=True)
 class Decimal128:
-    """Holds the 16 bytes of a decimal number. Two are equal if their bytes are, so 1.0 isn't 1.00."""
+    """Holds the 16 bytes of a decimal number; anything else raises TypeError. Two are equal if their bytes are, so 1.0 isn't 1.00."""
 
     data: bytes
+
+    def __post_init__(self) -> None:
+        if not isinstance(self.data, bytes) or len(self.data) != 16:
+            raise TypeError(f"{self.data!r} isn't 16 bytes; Decimal128(bytes.fromhex(digits)) is the number of 32 hexadecimal digits")
 
     def __str__(self) -> str:
         """Returns the number as Extended JSON has it, as "1.50E+3", "Infinity" or "NaN"."""

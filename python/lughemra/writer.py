@@ -4,6 +4,7 @@ from __future__ import annotations
 
 import ctypes
 import datetime
+import operator
 import struct
 from collections.abc import Iterable, Iterator, Mapping, Sequence
 from typing import Any, Callable, Optional
@@ -41,16 +42,25 @@ MILLISECOND = datetime.timedelta(milliseconds=1)
 
 def _bits(value: int, least: int, width: int) -> int:
     """Returns the bits of a number, and raises OverflowError where it is less than `least` or has no room in so many bits."""
-    if not 0 <= value - least < 1 << width:
-        raise OverflowError(f"{value} has no room in {width} bits")
-    return value & MASK
+    number = operator.index(value)
+    if not 0 <= number - least < 1 << width:
+        raise OverflowError(f"{number} has no room in {width} bits")
+    return number & MASK
+
+
+def _text(what: str, value: Any) -> bytes:
+    """Returns the bytes of a text. Raises TypeError where it is none, in which `what` says whose text it is."""
+    if not isinstance(value, str):
+        raise TypeError(f"{value!r} as the {what} is no str")
+    return value.encode()
 
 
 def _binary(value: Binary) -> Given:
     """Returns binary data."""
-    if not 0 <= value.subtype < 256:
-        raise EncodeError(EncodeError.VALUE, f"{value.subtype} is no subtype")
-    return Kind.BINARY, value.subtype, 0, b"", value.data
+    subtype = operator.index(value.subtype)
+    if not 0 <= subtype < 256:
+        raise EncodeError(EncodeError.VALUE, f"{subtype} is no subtype")
+    return Kind.BINARY, subtype, 0, b"", value.data
 
 
 def _integer(value: int) -> Given:
@@ -77,7 +87,19 @@ def _code(value: Code) -> Given:
     """Returns a code without a scope."""
     if value.scope is not None:
         raise EncodeError(EncodeError.VALUE, "a code with scope isn't written")
-    return Kind.CODE, 0, 0, value.text.encode(), b""
+    return Kind.CODE, 0, 0, _text("text of a Code", value.text), b""
+
+
+def _regex(value: Regex) -> Given:
+    """Returns a regular expression."""
+    return Kind.REGEX, 0, 0, _text("pattern of a Regex", value.pattern), _text("options of a Regex", value.options)
+
+
+def _pointer(value: DBPointer) -> Given:
+    """Returns a namespace and an ObjectId."""
+    if not isinstance(value.id, ObjectId):
+        raise TypeError(f"{value.id!r} as the id of a DBPointer is no ObjectId")
+    return Kind.DB_POINTER, 0, 0, _text("namespace of a DBPointer", value.namespace), value.id.data
 
 
 GIVEN: dict[type, Callable[[Any], Given]] = {
@@ -93,10 +115,10 @@ GIVEN: dict[type, Callable[[Any], Given]] = {
     datetime.datetime: _date,
     DatetimeMS: lambda it: (Kind.DATETIME, 0, _bits(it.milliseconds, -(1 << 63), 64), b"", b""),
     type(None): lambda it: (Kind.NULL, 0, 0, b"", b""),
-    Regex: lambda it: (Kind.REGEX, 0, 0, it.pattern.encode(), it.options.encode()),
-    DBPointer: lambda it: (Kind.DB_POINTER, 0, 0, it.namespace.encode(), it.id.data),
+    Regex: _regex,
+    DBPointer: _pointer,
     Code: _code,
-    Symbol: lambda it: (Kind.SYMBOL, 0, 0, it.text.encode(), b""),
+    Symbol: lambda it: (Kind.SYMBOL, 0, 0, _text("text of a Symbol", it.text), b""),
     int: _integer,
     Int64: _long,
     Timestamp: lambda it: (Kind.TIMESTAMP, 0, _bits(it.seconds, 0, 32) << 32 | _bits(it.increment, 0, 32), b"", b""),
@@ -232,7 +254,7 @@ def sequence_bytes(given: Iterable[tuple[str, Iterable[Any]]]) -> bytes:
     """Returns the sections of document sequences, one behind the other."""
     room, end = _Room(), ctypes.c_size_t(0)
     for identifier, documents in given:
-        name, joined = identifier.encode(), b"".join(documents_bytes(documents))
+        name, joined = _text("identifier of a sequence", identifier), b"".join(documents_bytes(documents))
         sizes = lib.size(len(name)), lib.size(len(joined))
         room.build(lib.short.append_sequence, ctypes.byref(end), name, sizes[0], joined, sizes[1])
     return bytes(room.held[: end.value])

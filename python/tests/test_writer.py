@@ -5,6 +5,7 @@ import array
 import collections
 import datetime
 import enum
+import re
 
 import pytest
 from rows import KINDS, document, document_of, element, scope, string
@@ -139,7 +140,6 @@ REFUSED = [
     ({"a\0b": 1}, "BadName"),
     ({"a": {"\0": 1}}, "BadName"),
     ({"r": lughemra.Regex("a\0b")}, "BadValue"),
-    ({"o": lughemra.ObjectId(b"short")}, "BadValue"),
     ({"b": lughemra.Binary(256, b"")}, "BadValue"),
     ({"b": lughemra.Binary(2**32, b"")}, "BadValue"),
     ({"c": lughemra.Code("f", {})}, "BadValue"),
@@ -172,13 +172,48 @@ def test_a_number_that_has_no_room_is_refused(value):
         encode({"n": value})
 
 
-NO_VALUES = [{1, 2}, lughemra.Binary(5, "text"), lughemra.ObjectId("abcdefghijkl"), array.array("i", [1]), object(), int]
+NO_VALUES = [
+    {1, 2},
+    array.array("i", [1]),
+    object(),
+    int,
+    lughemra.Binary(5, "text"),
+    lughemra.Binary("5", b""),
+    lughemra.Binary(5.0, b""),
+    lughemra.Regex("a", re.IGNORECASE),
+    lughemra.Regex(b"a"),
+    lughemra.Code(b"f"),
+    lughemra.Symbol(1),
+    lughemra.DBPointer("ns", bytes(12)),
+    lughemra.DBPointer(b"ns", lughemra.ObjectId(bytes(12))),
+    lughemra.Timestamp("5", 0),
+    lughemra.Timestamp(5, 0.0),
+    lughemra.DatetimeMS("5"),
+]
 
 
 @pytest.mark.parametrize("value", NO_VALUES)
 def test_what_is_no_value_is_refused(value):
     with pytest.raises(TypeError):
         encode({"v": value})
+
+
+@pytest.mark.parametrize("data", ["0102030405060708090a0b0c", "abcdefghijkl", b"short", bytes(13), bytearray(12), 5, None])
+def test_an_object_id_is_of_12_bytes(data):
+    with pytest.raises(TypeError, match="fromhex"):
+        lughemra.ObjectId(data)
+
+
+@pytest.mark.parametrize("data", ["1.5", "abcdefghijklmnop", b"short", bytes(17), bytearray(16), 5, None])
+def test_a_decimal_is_of_16_bytes(data):
+    with pytest.raises(TypeError, match="fromhex"):
+        lughemra.Decimal128(data)
+
+
+@pytest.mark.parametrize("identifier", [b"docs", None, 5])
+def test_an_identifier_is_a_text(identifier):
+    with pytest.raises(TypeError):
+        encode_message({}, [(identifier, [])])
 
 
 def test_data_may_be_any_bytes():
