@@ -9,8 +9,8 @@ use wire_stream::LinkFault;
 pub enum Next {
     /// A reply came, and stands in the record of its call as the last part.
     Reply(ReadyReply),
-    /// No whole reply has come yet, and the link has no more bytes now. A link that waits never
-    /// returns it.
+    /// No whole reply has come yet, and the link has no more bytes now. A link that waits returns
+    /// it where its time is limited.
     Later,
 }
 
@@ -34,8 +34,8 @@ pub enum EndFault {
 pub enum NextRequest {
     /// One more request waits, behind the others.
     Waits,
-    /// No whole request has come yet, and the link has no more bytes now. A link that waits never
-    /// returns it.
+    /// No whole request has come yet, and the link has no more bytes now. A link that waits returns
+    /// it where its time is limited.
     Later,
     /// As many requests wait as may, and nothing was received.
     Full,

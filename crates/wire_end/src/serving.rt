@@ -29,7 +29,7 @@ pub enum ServeEnd {
     Fault(MsgFault),
     /// The link failed.
     Link,
-    /// The link can move no byte now. A link that waits never returns this.
+    /// The link can move no byte now. A link that waits returns this where its time is limited.
     Later,
     /// As many messages as the budget were answered, and all their replies sent.
     Budget,
@@ -121,7 +121,7 @@ impl<L: Link + Drop> ServerEnd<L> {
 
     /// Serves the connection: receives requests and answers them in order, at most `budget` of
     /// them. All replies to one are sent before the next one is received. Returns why it ended.
-    /// The server is still open where the link or the budget is why.
+    /// The server is still open after `Link`, `Later` and `Budget`, and may be after `OutOfMemory`.
     pub fn serve<H: Handler>(&mut self, logged: &mut Logged<H>, budget: u64) -> ServeEnd
         requires { IsUnused self.old }
         ensures served { Served H.does H.stops self.old.server.connection self.old.server.limit
