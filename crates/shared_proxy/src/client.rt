@@ -1,5 +1,7 @@
 //! The connection of a client, and its steps.
 
+ghost use Rattle.std.specs.Prelude.{◌≡◌, IsSome, true};
+
 use crate::leave::Leave;
 use crate::line::{Line, Step};
 use proxy::{Sink, Watches};
@@ -46,6 +48,8 @@ pub struct Client {
     /// The number of the connection to the server that it alone uses, if there is one.
     pub kept: Option<u64>,
     pub steering: Steering,
+    /// It is closed once what is to be sent was.
+    leaving: bool,
     watches: Option<Watches>,
 }
 
@@ -76,6 +80,7 @@ impl Client {
             line,
             kept: None,
             steering: Steering::new(alloc),
+            leaving: false,
             watches: watched.then_some(Watches::new(alloc, number)),
         })
     }
@@ -83,6 +88,14 @@ impl Client {
     /// Returns true if its reply is awaited of the connection to the server of this number.
     pub fn awaits(&self, upstream: u64) -> bool {
         matches!(self.downstream.awaited(), Some(awaited) if awaited.upstream == upstream)
+    }
+
+    /// Has the connection closed behind what waits to be sent, since the one to the server that it
+    /// alone uses is lost.
+    pub fn finish(&mut self)
+        ensures { self.new.leaving ≡ true }
+    {
+        self.leaving = true;
     }
 
     /// Notes the bytes that came and weren't taken yet, if messages are shown or recorded.
@@ -167,9 +180,14 @@ impl Client {
     }
 
     /// Returns what a step comes to where nothing is to be sent, and `None` if it is to receive.
-    fn standing(&self) -> Option<Step> {
+    fn standing(&self) -> Option<Step>
+        ensures { self.now.leaving ≡ true → IsSome result }
+    {
         if let Some(leave) = Leave::of_front(self.downstream.state()) {
             return Some(Step::Over(leave));
+        }
+        if self.leaving {
+            return Some(Step::Over(Leave::Ended));
         }
         if self.downstream.awaited().is_some() {
             return Some(Step::Waits);

@@ -80,14 +80,17 @@ impl Sharing {
         Ok(())
     }
 
-    /// Closes the client of this number, if it awaits a reply of a connection that was lost, or uses
-    /// it alone.
+    /// Closes the client of this number, if it awaits a reply of a connection that was lost; or, if
+    /// it uses that alone, behind what waits to be sent to it.
     fn lose_call<W: Write>(&mut self, number: u64, upstream: u64, out: &mut W) -> io::Result<()> {
         match self.clients.get_mut(number) {
             Some(client) if client.awaits(upstream) => {
                 self.close(number, Leave::Lost(upstream), out)
             }
-            Some(client) if client.kept == Some(upstream) => self.close(number, Leave::Ended, out),
+            Some(client) if client.kept == Some(upstream) => {
+                client.finish();
+                Ok(self.due.push(Side::Client(number))?)
+            }
             _ => Ok(()),
         }
     }
