@@ -6,6 +6,9 @@ use indexmap::IndexMap;
 use std::alloc::{AllocError, Global};
 use wire_share::{Need, Routes};
 
+/// A full connection is busier than any number of calls makes one.
+const FULL: usize = 1 << 16;
+
 /// Over which connection a request goes.
 #[derive(Clone, Copy, Debug, PartialEq, Eq)]
 pub enum Place {
@@ -57,35 +60,38 @@ impl Servers {
         self.servers.get_mut(&number)
     }
 
-    /// Returns how many calls await a reply over a connection.
-    fn outstanding(&self, number: u64) -> usize {
+    /// Returns how busy a connection is: how many calls await a reply over it; or, if it is full, more
+    /// than that, and how many requests wait.
+    fn load(&self, number: u64) -> usize {
         match self.servers.get(&number) {
+            Some(server) if server.is_full() => FULL.saturating_add(server.blocked.len()),
             Some(server) => server.upstream.outstanding(),
             None => usize::MAX,
         }
     }
 
-    /// Returns the shared connection over which the fewest calls await a reply, if there is one.
+    /// Returns the shared connection that is the least busy, if there is one.
     pub fn least_busy(&self) -> Option<u64> {
         let mut found = None;
         let mut least = usize::MAX;
         for number in self.shared.numbers.iter() {
-            let outstanding = self.outstanding(*number);
-            if outstanding < least {
-                least = outstanding;
+            let load = self.load(*number);
+            if load < least {
+                least = load;
                 found = Some(*number);
             }
         }
         found
     }
 
-    /// Returns over which shared connection a request goes: one without calls, else a new one if
-    /// there may be one more, and else the one with the fewest calls.
+    /// Returns over which shared connection a request goes: one without calls that isn't full, else a
+    /// new one if there may be one more, and else the least busy one.
     fn place_shared(&self) -> Place {
         match self.least_busy() {
             Some(number)
-                if self.outstanding(number) == 0 || self.shared.numbers.len() >= self.shared.most =>
-                { Place::At(number) }
+                if self.load(number) == 0 || self.shared.numbers.len() >= self.shared.most => {
+                Place::At(number)
+            }
             _ => Place::New(Use::Shared),
         }
     }
