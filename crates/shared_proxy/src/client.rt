@@ -47,6 +47,9 @@ pub struct Client {
     pub line: Line,
     /// The number of the connection to the server that it alone uses, if there is one.
     pub kept: Option<u64>,
+    /// The number of the connection to the server over which its request waits to be passed on, if it
+    /// does.
+    pub waits_at: Option<u64>,
     pub steering: Steering,
     /// It is closed once what is to be sent was.
     leaving: bool,
@@ -79,6 +82,7 @@ impl Client {
             downstream: Downstream::new(alloc, number)?,
             line,
             kept: None,
+            waits_at: None,
             steering: Steering::new(alloc),
             leaving: false,
             watches: watched.then_some(Watches::new(alloc, number)),

@@ -49,7 +49,7 @@ pub struct Server {
     used: Use,
     /// The clients that await replies, by the numbers of their calls.
     pub callers: IndexMap<u64, u64>,
-    /// The clients whose requests wait until more was sent, in the order in which they came.
+    /// The clients whose requests wait to be passed on, each once, in the order in which they came.
     pub blocked: VecDeque<u64>,
 }
 
@@ -108,7 +108,19 @@ impl Server {
         self.upstream.output().len() >= OUTPUT
     }
 
-    /// Notes that the request of a client waits until more was sent.
+    /// Returns true if requests wait: so many bytes are to be sent that no other one is passed on, or
+    /// some wait already.
+    pub fn is_busy(&self) -> bool {
+        self.is_full() || !self.blocked.is_empty()
+    }
+
+    /// Returns true if the request of this client waits: so many bytes are to be sent that no other
+    /// one is passed on, or the first one that waits is another client's.
+    pub fn has_to_wait(&self, client: u64) -> bool {
+        self.is_full() || matches!(self.blocked.front(), Some(first) if *first != client)
+    }
+
+    /// Notes that the request of a client waits.
     ///
     /// # Errors
     ///
@@ -122,14 +134,19 @@ impl Server {
         Ok(())
     }
 
-    /// Returns the first client whose request may be passed on again, and forgets it.
-    pub fn pop_blocked(&mut self) -> Option<u64>
+    /// Notes that the request of a client waits no more.
+    pub fn unblock(&mut self, client: u64)
         ensures { self.new.used ≡ self.old.used }
     {
+        self.blocked.retain(|other| *other != client);
+    }
+
+    /// Returns the client whose request is the first one that waits, if it may be passed on now.
+    pub fn first_blocked(&self) -> Option<u64> {
         if self.is_full() {
             return None;
         }
-        self.blocked.pop_front()
+        self.blocked.front().copied()
     }
 
     /// Has the connection closed behind what waits to be sent, since its client is gone.

@@ -6,7 +6,7 @@ use indexmap::IndexMap;
 use std::alloc::{AllocError, Global};
 use wire_share::{Need, Routes};
 
-/// A full connection is busier than any number of calls makes one.
+/// A connection for which requests wait is busier than any number of calls makes one.
 const FULL: usize = 1 << 16;
 
 /// Over which connection a request goes.
@@ -60,11 +60,11 @@ impl Servers {
         self.servers.get_mut(&number)
     }
 
-    /// Returns how busy a connection is: how many calls await a reply over it; or, if it is full, more
-    /// than that, and how many requests wait.
+    /// Returns how busy a connection is: how many calls await a reply over it; or, if it is full or
+    /// requests wait for it, more than that, and how many do.
     fn load(&self, number: u64) -> usize {
         match self.servers.get(&number) {
-            Some(server) if server.is_full() => FULL.saturating_add(server.blocked.len()),
+            Some(server) if server.is_busy() => FULL.saturating_add(server.blocked.len()),
             Some(server) => server.upstream.outstanding(),
             None => usize::MAX,
         }
@@ -84,8 +84,8 @@ impl Servers {
         found
     }
 
-    /// Returns over which shared connection a request goes: one without calls that isn't full, else a
-    /// new one if there may be one more, and else the least busy one.
+    /// Returns over which shared connection a request goes: one without calls for which no request
+    /// has to wait, else a new one if there may be one more, and else the least busy one.
     fn place_shared(&self) -> Place {
         match self.least_busy() {
             Some(number)

@@ -1,6 +1,6 @@
 //! Passes requests on to the server, and gives replies to their clients.
 
-use crate::clients::{Clients, ROOM};
+use crate::clients::Clients;
 use crate::connector::Connector;
 use crate::due::{Due, Side};
 use crate::exchange::{answer, need, pass_on};
@@ -64,6 +64,14 @@ impl Sharing {
         self.due.push(Side::Server(upstream))
     }
 
+    /// Lets the requests that wait for a connection go on without that of a client, which is gone.
+    fn leave_queue(&mut self, number: u64, upstream: u64) -> Result<(), AllocError> {
+        if let Some(server) = self.servers.get_mut(upstream) {
+            server.unblock(number);
+        }
+        self.unblock(upstream)
+    }
+
     /// Closes a client, for this reason, and the connection to the server that it alone uses.
     ///
     /// # Errors
@@ -72,9 +80,13 @@ impl Sharing {
     pub fn close<W: Write>(&mut self, number: u64, leave: Leave, out: &mut W) -> io::Result<()> {
         self.connector.resume();
         self.delays.forget(number as usize);
-        if let Some(client) = self.clients.close(number, leave, out)?
-            && let Some(kept) = client.kept
-        {
+        let Some(client) = self.clients.close(number, leave, out)? else {
+            return Ok(());
+        };
+        if let Some(upstream) = client.waits_at {
+            self.leave_queue(number, upstream)?;
+        }
+        if let Some(kept) = client.kept {
             self.leave_server(kept)?;
         }
         Ok(())
@@ -119,8 +131,8 @@ impl Sharing {
         Ok(())
     }
 
-    /// Has the clients take a turn whose requests waited until more was sent over a connection, if
-    /// enough was.
+    /// Has the client take a turn whose request is the first one that waits for a connection, if it may
+    /// be passed on now.
     ///
     /// # Errors
     ///
@@ -129,16 +141,14 @@ impl Sharing {
         let Some(server) = self.servers.get_mut(upstream) else {
             return Ok(());
         };
-        for _ in 0..ROOM {
-            let Some(number) = server.pop_blocked() else {
-                break;
-            };
-            self.due.push(Side::Client(number))?;
+        match server.first_blocked() {
+            Some(number) => self.due.push(Side::Client(number)),
+            None => Ok(()),
         }
-        Ok(())
     }
 
-    /// Returns over which connection the request of a client goes, a new one if it has to be.
+    /// Returns over which connection the request of a client goes: the one for which it waits, if that
+    /// is still there, and a new one if it has to be.
     fn place(&mut self, net: &impl Net, number: u64) -> Result<Result<u64, Leave>, AllocError> {
         let Some(client) = self.clients.get_mut(number) else {
             return Ok(Err(Leave::Ended));
@@ -147,6 +157,11 @@ impl Sharing {
             return Ok(Ok(kept));
         }
         let need = need(&client.downstream);
+        if let Some(upstream) = client.waits_at
+            && self.servers.get_mut(upstream).is_some()
+        {
+            return Ok(Ok(upstream));
+        }
         match self.servers.place(&self.routes, number, need) {
             Place::At(upstream) => Ok(Ok(upstream)),
             Place::New(used) => self.connector.open(net, &mut self.servers, used),
@@ -154,7 +169,7 @@ impl Sharing {
     }
 
     /// Passes the request of a client on over this connection, which may be lost or another one's by
-    /// now. Returns false if it waits until more was sent.
+    /// now, and has the next one that waits for it follow. Returns false if it waits.
     fn pass_over<W: Write>(&mut self, number: u64, upstream: u64, out: &mut W) -> io::Result<bool> {
         let Some(client) = self.clients.get_mut(number) else {
             return Ok(false);
@@ -163,8 +178,9 @@ impl Sharing {
             self.close(number, Leave::Lost(upstream), out)?;
             return Ok(false);
         };
-        if server.is_full() {
+        if server.has_to_wait(number) {
             server.block(number)?;
+            client.waits_at = Some(upstream);
             return Ok(false);
         }
         let connection = client.downstream.connection();
@@ -172,6 +188,8 @@ impl Sharing {
             self.close(number, Leave::Lost(upstream), out)?;
             return Ok(false);
         }
+        server.unblock(number);
+        client.waits_at = None;
         if server.used() == Use::Kept(number) {
             client.kept = Some(upstream);
         }
@@ -179,10 +197,11 @@ impl Sharing {
             Some(leave) => self.close(number, leave, out)?,
             None => self.due.push(Side::Server(upstream))?,
         }
+        self.unblock(upstream)?;
         Ok(true)
     }
 
-    /// Passes the request of a client on. Returns false if it waits until more was sent.
+    /// Passes the request of a client on. Returns false if it waits.
     ///
     /// # Errors
     ///
