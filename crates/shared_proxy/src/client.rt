@@ -1,6 +1,7 @@
 //! The connection of a client, and its steps.
 
-ghost use Rattle.std.specs.Prelude.{◌≡◌, IsSome, true};
+ghost use Rattle.std.specs.Prelude.{◌≡◌, IfOk, IsSome, true};
+ghost use Rattle.wire_share.specs.{new_downstream};
 
 use crate::leave::Leave;
 use crate::line::{Line, Step};
@@ -72,12 +73,9 @@ impl Client {
     /// # Errors
     ///
     /// Returns `AllocError` if memory runs out. The connection is closed then.
-    pub fn new(
-        alloc: Global,
-        number: u64,
-        line: Line,
-        watched: bool,
-    ) -> Result<Client, AllocError> {
+    pub fn new(alloc: Global, number: u64, line: Line, watched: bool) -> Result<Client, AllocError>
+        ensures { IfOk result (λ c. c.downstream ≡ new_downstream number) }
+    {
         Ok(Client {
             downstream: Downstream::new(alloc, number)?,
             line,

@@ -1,5 +1,10 @@
 //! The connections of clients, by their numbers.
 
+ghost use Rattle.std.specs.Prelude.{◌≡◌, IsSomeAnd, OnOk, nat_eq};
+ghost use Rattle.indexmap.specs.IndexMap.{get};
+ghost use Rattle.wire_stream.specs.{Rose};
+ghost use Rattle.wire_share.specs.{new_downstream};
+
 use crate::client::Client;
 use crate::leave::Leave;
 use crate::line::Line;
@@ -53,7 +58,9 @@ impl Clients {
     }
 
     /// Returns the number that the next one has.
-    pub fn next(&self) -> u64 {
+    pub fn next(&self) -> u64
+        ensures { Rose self.now.counts.opened result }
+    {
         self.counts.opened.saturating_add(1)
     }
 
@@ -67,12 +74,16 @@ impl Clients {
         self.clients.get_mut(&number)
     }
 
-    /// Adds a client, and writes that it is new, if that is told.
+    /// Adds a client, under the next number, and writes that it is new, if that is told.
     ///
     /// # Errors
     ///
     /// Returns an error if memory runs out or writing fails.
-    pub fn open<W: Write>(&mut self, line: Line, out: &mut W) -> io::Result<()> {
+    pub fn open<W: Write>(&mut self, line: Line, out: &mut W) -> io::Result<()>
+        ensures rose { OnOk result (Rose self.old.counts.opened self.new.counts.opened) }
+        ensures opened { OnOk result (IsSomeAnd (get nat_eq self.new.clients self.new.counts.opened)
+            (λ c. c.downstream ≡ new_downstream self.new.counts.opened)) }
+    {
         let number = self.next();
         let client = Client::new(self.alloc, number, line, self.watching.watched)?;
         self.counts.opened = number;
@@ -88,7 +99,9 @@ impl Clients {
     /// # Errors
     ///
     /// Returns an error if writing fails.
-    pub fn refuse<W: Write>(&mut self, leave: Leave, out: &mut W) -> io::Result<()> {
+    pub fn refuse<W: Write>(&mut self, leave: Leave, out: &mut W) -> io::Result<()>
+        ensures rose { Rose self.old.counts.opened self.new.counts.opened }
+    {
         let number = self.next();
         self.counts.opened = number;
         self.counts.ended = self.counts.ended.saturating_add(1);
@@ -116,7 +129,9 @@ impl Clients {
         number: u64,
         leave: Leave,
         out: &mut W,
-    ) -> io::Result<Option<Client>> {
+    ) -> io::Result<Option<Client>>
+        ensures { self.new.counts.opened ≡ self.old.counts.opened }
+    {
         let client = self.clients.swap_remove(&number);
         if client.is_some() {
             self.counts.ended = self.counts.ended.saturating_add(1);

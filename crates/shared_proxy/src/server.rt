@@ -1,6 +1,7 @@
 //! A connection to the server, and its turns.
 
 ghost use Rattle.std.specs.Prelude.{◌≡◌, true};
+ghost use Rattle.wire_share.specs.{new_upstream};
 ghost use Rattle.shared_proxy.specs.Uses.{MayServe, used_up};
 
 use crate::leave::Leave;
@@ -56,7 +57,8 @@ pub struct Server {
 impl Server {
     /// Makes the connection of this number, which no other one has. It takes no memory.
     pub fn new(alloc: Global, number: u64, line: Line, used: Use) -> Server
-        ensures { result.used ≡ used }
+        ensures used { result.used ≡ used }
+        ensures upstream { result.upstream ≡ new_upstream number }
     {
         Server {
             upstream: Upstream::new(alloc, number),

@@ -1,5 +1,10 @@
 //! The connections to the server, by their numbers.
 
+ghost use Rattle.std.specs.Prelude.{◌≡◌, IfOk, IsSomeAnd, nat_eq};
+ghost use Rattle.indexmap.specs.IndexMap.{get};
+ghost use Rattle.wire_stream.specs.{Rose};
+ghost use Rattle.wire_share.specs.{new_upstream};
+
 use crate::line::Line;
 use crate::server::{Server, Use};
 use indexmap::IndexMap;
@@ -51,7 +56,9 @@ impl Servers {
     }
 
     /// Returns the number that the next one has.
-    pub fn next(&self) -> u64 {
+    pub fn next(&self) -> u64
+        ensures { Rose self.now.opened result }
+    {
         self.opened.saturating_add(1)
     }
 
@@ -125,12 +132,17 @@ impl Servers {
         }
     }
 
-    /// Adds a connection.
+    /// Adds a connection, under the next number.
     ///
     /// # Errors
     ///
     /// Returns `AllocError` if memory runs out.
-    pub fn open(&mut self, line: Line, used: Use) -> Result<u64, AllocError> {
+    pub fn open(&mut self, line: Line, used: Use) -> Result<u64, AllocError>
+        ensures rose { Rose self.old.opened self.new.opened }
+        ensures number { IfOk result (λ n. n ≡ self.new.opened) }
+        ensures opened { IfOk result (λ n. IsSomeAnd (get nat_eq self.new.servers n)
+            (λ s. (s.upstream ≡ new_upstream n) × (s.used ≡ used))) }
+    {
         let number = self.next();
         let server = Server::new(self.alloc, number, line, used);
         self.opened = number;
@@ -142,7 +154,9 @@ impl Servers {
     }
 
     /// Closes a connection, and returns it.
-    pub fn close(&mut self, number: u64) -> Option<Server> {
+    pub fn close(&mut self, number: u64) -> Option<Server>
+        ensures { self.new.opened ≡ self.old.opened }
+    {
         let server = self.servers.swap_remove(&number);
         self.shared.numbers.retain(|other| *other != number);
         server
