@@ -482,12 +482,16 @@ document 108
   "ordered" boolean false
   "$db" string "test"
 answer
-document 141
+document 191
   "n" int32 2
-  "writeErrors" array 104
-    "0" document 96
+  "writeErrors" array 154
+    "0" document 146
       "index" int32 0
       "code" int32 11000
+      "keyPattern" document 14
+        "_id" int32 1
+      "keyValue" document 14
+        "_id" int32 2
       "errmsg" string "E11000 duplicate key error collection: test.c index: _id_"
   "ok" double 000000000000f03f
 """,
@@ -1612,12 +1616,16 @@ document 45
   "$db" string "test"
 sequence "documents" 3
 answer
-document 211
+document 265
   "n" int32 1
-  "writeErrors" array 174
-    "0" document 98
+  "writeErrors" array 228
+    "0" document 152
       "index" int32 1
       "code" int32 11000
+      "keyPattern" document 14
+        "_id" int32 1
+      "keyValue" document 18
+        "_id" double 000000000000f03f
       "errmsg" string "E11000 duplicate key error collection: test.ids index: _id_"
     "1" document 65
       "index" int32 2
@@ -1672,6 +1680,27 @@ document 86
 """,
     ),
     (
+        command("find", IDS, inner("filter", inner("d", text("$ref", "c"), field("$id", 1)))),
+        (),
+        """\
+request "find"
+document 75
+  "find" string "ids"
+  "filter" document 34
+    "d" document 26
+      "$ref" string "c"
+      "$id" int32 1
+  "$db" string "test"
+answer
+document 76
+  "cursor" document 51
+    "firstBatch" array 5
+    "id" int64 0
+    "ns" string "test.ids"
+  "ok" double 000000000000f03f
+""",
+    ),
+    (
         command("createIndexes", IDS, SAME_KEYS),
         (),
         """\
@@ -1697,6 +1726,28 @@ document 101
 """,
     ),
     (
+        command("createIndexes", IDS, array("indexes", lambda at: inner(at, inner("key", field("a", 1)), text("name", "a_1"), element(BOOLEAN, "unique", b"\0")))),
+        (),
+        """\
+request "createIndexes"
+document 104
+  "createIndexes" string "ids"
+  "indexes" array 53
+    "0" document 45
+      "key" document 12
+        "a" int32 1
+      "name" string "a_1"
+      "unique" boolean false
+  "$db" string "test"
+answer
+document 93
+  "numIndexesBefore" int32 1
+  "numIndexesAfter" int32 2
+  "createdCollectionAutomatically" boolean false
+  "ok" double 000000000000f03f
+""",
+    ),
+    (
         command("drop", IDS),
         (),
         """\
@@ -1706,7 +1757,7 @@ document 33
   "$db" string "test"
 answer
 document 51
-  "nIndexesWas" int32 1
+  "nIndexesWas" int32 2
   "ns" string "test.ids"
   "ok" double 000000000000f03f
 """,
