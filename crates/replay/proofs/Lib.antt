@@ -1,1 +1,2 @@
 pub mod Stripping
+pub mod Comparing

@@ -1,1 +1,3 @@
 pub mod Stripped
+pub mod Same
+pub mod Held

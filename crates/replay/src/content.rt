@@ -1,5 +1,12 @@
 //! What an answer holds: what is compared of it, and shown.
 
+ghost use Rattle.std.specs.Prelude.{◌≡◌, ◌↔◌, ◌≤◌, IfOk, IsTrue, List, drop, false, length, map};
+ghost use Rattle.bson_elem.specs.{Tree};
+ghost use Rattle.wire_msg.specs.{Carries, DocumentsAre, IsMessage, Message, Sequence, SpellsMsg};
+ghost use Rattle.wire_msg.specs.{Content as Carried, msg_bytes};
+ghost use Rattle.replay.specs.Held.{IsMessageOf, IsNoMessage, IsOtherOf, IsReply};
+ghost use Rattle.replay.specs.Same.{AreSameDocuments, AreSameMessages, IsSameSequence, OneByOne};
+
 use crate::flags::{CHECKSUM_PRESENT, FLAGS, has_flag};
 use crate::ignored::{are_same, without_ignored};
 use bson_json::{Mode, write_json, write_json_string};
@@ -61,7 +68,13 @@ enum Content<'a> {
 
 impl<'a> Content<'a> {
     /// Reads what an answer holds out of its bytes.
-    fn of(alloc: Global, bytes: &'a [u8]) -> Content<'a> {
+    fn of(alloc: Global, bytes: &'a [u8]) -> Content<'a>
+        ensures message { (m : Message) → SpellsMsg m bytes.now → length bytes.now ≤ MAX_MESSAGE_LEN
+            → IsMessageOf bytes.now result }
+        ensures none { ¬ IsMessage MAX_MESSAGE_LEN bytes.now → IsNoMessage result }
+        ensures other { ¬ IsMessage MAX_MESSAGE_LEN bytes.now → ¬ IsReply bytes.now
+            → IsOtherOf bytes.now result }
+    {
         if let Ok(message) = RawMsg::parse_with(alloc, bytes, MAX_MESSAGE_LEN) {
             return Content::Message(message);
         }
@@ -105,7 +118,11 @@ fn are_same_lists(
     names: &[&str],
     recorded: Documents<'_>,
     received: Documents<'_>,
-) -> Result<bool, AllocError> {
+) -> Result<bool, AllocError>
+    ensures { (ts us : List Tree) → DocumentsAre recorded.entry ts → DocumentsAre received.entry us
+        → IfOk result (λ same.
+        IsTrue same ↔ AreSameDocuments (map (λ n. n.now) names.now) ts us) }
+{
     let mut others = received.iter();
     for document in recorded.iter() {
         let Some(other) = others.next() else {
@@ -118,6 +135,27 @@ fn are_same_lists(
     Ok(others.next().is_none())
 }
 
+/// Returns true if two sequences have the same identifier, and the same documents but for the
+/// fields of these names.
+fn is_same_sequence(
+    alloc: Global,
+    names: &[&str],
+    recorded: (&str, Documents<'_>),
+    received: (&str, Documents<'_>),
+) -> Result<bool, AllocError>
+    ensures { (q r : Sequence) → recorded.entry.0.now ≡ q.identifier
+        → DocumentsAre recorded.entry.1 q.documents → received.entry.0.now ≡ r.identifier
+        → DocumentsAre received.entry.1 r.documents
+        → IfOk result (λ same. IsTrue same ↔ IsSameSequence (map (λ n. n.now) names.now) q r) }
+{
+    let (identifier, documents) = recorded;
+    let (other, theirs) = received;
+    if identifier != other {
+        return Ok(false);
+    }
+    are_same_lists(alloc, names, documents, theirs)
+}
+
 /// Returns true if the document sequences of two payloads are the same but for the fields of these
 /// names.
 fn are_same_sequences(
@@ -125,13 +163,17 @@ fn are_same_sequences(
     names: &[&str],
     recorded: Payload<'_>,
     received: Payload<'_>,
-) -> Result<bool, AllocError> {
+) -> Result<bool, AllocError>
+    ensures { (c d : Carried) → Carries recorded.entry c → Carries received.entry d
+        → IfOk result (λ same. IsTrue same
+        ↔ OneByOne (IsSameSequence (map (λ n. n.now) names.now)) c.sequences d.sequences) }
+{
     let mut others = received.sequences();
-    for (identifier, documents) in recorded.sequences() {
-        let Some((other, theirs)) = others.next() else {
+    for sequence in recorded.sequences() {
+        let Some(other) = others.next() else {
             return Ok(false);
         };
-        if identifier != other || !are_same_lists(alloc, names, documents, theirs)? {
+        if !is_same_sequence(alloc, names, sequence, other)? {
             return Ok(false);
         }
     }
@@ -144,7 +186,11 @@ fn are_same_messages(
     names: &[&str],
     recorded: RawMsg<'_>,
     received: RawMsg<'_>,
-) -> Result<bool, AllocError> {
+) -> Result<bool, AllocError>
+    ensures { (m n : Message) → SpellsMsg m (msg_bytes recorded.entry)
+        → SpellsMsg n (msg_bytes received.entry)
+        → IfOk result (λ same. IsTrue same ↔ AreSameMessages (map (λ n. n.now) names.now) m n) }
+{
     let (a, b) = (recorded.payload(), received.payload());
     if recorded.more_to_come() != received.more_to_come() {
         return Ok(false);
@@ -166,7 +212,20 @@ pub fn are_same_answers(
     names: &[&str],
     recorded: &[u8],
     received: &[u8],
-) -> Result<bool, AllocError> {
+) -> Result<bool, AllocError>
+    ensures messages { (m n : Message) → SpellsMsg m recorded.now → SpellsMsg n received.now
+        → length recorded.now ≤ MAX_MESSAGE_LEN → length received.now ≤ MAX_MESSAGE_LEN
+        → IfOk result (λ same. IsTrue same ↔ AreSameMessages (map (λ n. n.now) names.now) m n) }
+    ensures other { ¬ IsMessage MAX_MESSAGE_LEN recorded.now
+        → ¬ IsMessage MAX_MESSAGE_LEN received.now → ¬ IsReply recorded.now → ¬ IsReply received.now
+        → IfOk result (λ same. IsTrue same ↔ (drop 12 recorded.now ≡ drop 12 received.now)) }
+    ensures recorded_alone { (m : Message) → SpellsMsg m recorded.now
+        → length recorded.now ≤ MAX_MESSAGE_LEN → ¬ IsMessage MAX_MESSAGE_LEN received.now
+        → IfOk result (λ same. same ≡ false) }
+    ensures received_alone { (n : Message) → ¬ IsMessage MAX_MESSAGE_LEN recorded.now
+        → SpellsMsg n received.now → length received.now ≤ MAX_MESSAGE_LEN
+        → IfOk result (λ same. same ≡ false) }
+{
     match (Content::of(alloc, recorded), Content::of(alloc, received)) {
         (Content::Message(a), Content::Message(b)) => are_same_messages(alloc, names, a, b),
         (Content::Reply(a), Content::Reply(b)) => are_same_replies(alloc, names, a, b),

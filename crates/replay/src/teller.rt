@@ -1,5 +1,9 @@
 //! Tells which answers differ.
 
+ghost use Rattle.std.specs.Prelude.{◌≡◌, ◌+◌, ◌≤◌, OnOk, length, map, min};
+ghost use Rattle.wire_msg.specs.{Message, SpellsMsg};
+ghost use Rattle.replay.specs.Same.{AreSameMessages};
+
 use crate::channel::Broken;
 use crate::content::{are_same_answers, write_answer};
 use crate::input_fault::InputFault;
@@ -7,6 +11,7 @@ use crate::tally::Tally;
 use std::alloc::Global;
 use std::io;
 use std::io::Write;
+use wire_msg::MAX_MESSAGE_LEN;
 
 /// Compares answers, and writes which ones differ.
 #[derive(Drop)]
@@ -44,7 +49,9 @@ impl<'a, W: Write + Drop> Teller<'a, W> {
     }
 
     /// Writes the line of an answer behind its sign.
-    fn write_line(&mut self, sign: char, bytes: &[u8]) -> io::Result<()> {
+    fn write_line(&mut self, sign: char, bytes: &[u8]) -> io::Result<()>
+        ensures { self.new.tally ≡ self.old.tally }
+    {
         write!(self.out, "{sign} ")?;
         write_answer(self.alloc, self.names, bytes, &mut self.out)?;
         writeln!(self.out)
@@ -62,7 +69,18 @@ impl<'a, W: Write + Drop> Teller<'a, W> {
         request: i32,
         recorded: &[u8],
         received: &[u8],
-    ) -> io::Result<()> {
+    ) -> io::Result<()>
+        ensures same { (m n : Message) → SpellsMsg m recorded.now → SpellsMsg n received.now
+            → length recorded.now ≤ MAX_MESSAGE_LEN → length received.now ≤ MAX_MESSAGE_LEN
+            → AreSameMessages (map (λ n. n.now) self.old.names.now) m n
+            → OnOk result (self.new.tally
+            ≡ record self.old.tally { same = min (self.old.tally.same + 1) u64.MAX }) }
+        ensures different { (m n : Message) → SpellsMsg m recorded.now → SpellsMsg n received.now
+            → length recorded.now ≤ MAX_MESSAGE_LEN → length received.now ≤ MAX_MESSAGE_LEN
+            → ¬ AreSameMessages (map (λ n. n.now) self.old.names.now) m n
+            → OnOk result (self.new.tally
+            ≡ record self.old.tally { different = min (self.old.tally.different + 1) u64.MAX }) }
+    {
         if are_same_answers(self.alloc, self.names, recorded, received)? {
             self.tally.same = self.tally.same.saturating_add(1);
             return Ok(());
