@@ -4,6 +4,7 @@ from __future__ import annotations
 
 import datetime
 import functools
+import struct
 from collections.abc import Iterator, ItemsView, Mapping, Sequence, ValuesView
 from typing import Any, NamedTuple, Self, Union, overload
 
@@ -52,6 +53,16 @@ def _encoded(name: str) -> tuple[bytes, Any]:
     return encoded, lib.size(len(encoded))
 
 
+# Reads the length that a document begins with.
+_length_of = struct.Struct("<i").unpack_from
+
+
+@functools.lru_cache(1024)
+def _whole(length: int) -> tuple[Any, lib.Iter]:
+    """Returns the length of a document as an argument, and where the walk over such a one begins."""
+    return lib.size(length), lib.Iter(0, 4, length - 1, 1)
+
+
 class _Container:
     """Holds what a document and an array have in common: the bytes that were handed in, and where a walk begins in them."""
 
@@ -65,7 +76,11 @@ class _Container:
     def __init__(self, data: Any) -> None:
         if type(data) is bytes:
             self._data = self._pointer = data
-            self._size = size = _size(len(data))
+            length = len(data)
+            if 4 < length == _length_of(data)[0] and not data[-1]:
+                self._size, self._begin = _whole(length)
+                return
+            self._size = size = _size(length)
         else:
             self._data, self._pointer, self._size = data, _, size = lib.lent(data)
         first = _first(self._pointer, size)
