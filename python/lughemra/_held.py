@@ -78,7 +78,7 @@ class End(Held):
         self._at = 0
 
     def close(self) -> None:
-        """Gives the memory back. Nothing can be asked then."""
+        """Gives the memory back. Calls of the library are refused then; `closed` stays what it was."""
         self._finalizer()
 
     def _tell(self, name: str, *arguments: Any) -> Any:

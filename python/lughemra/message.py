@@ -140,8 +140,8 @@ class Reader:
     """Reads messages of at most `limit` bytes out of bytes that come in pieces.
 
     `feed` takes a piece, and to iterate gives the messages that are whole by then. A fault is raised by that, and closes
-    the reader for good: it gives up its bytes, and raises the same fault whatever is asked of it. The offset of a fault is
-    counted from the first byte that was ever fed.
+    the reader for good: it gives up its bytes, and raises the same fault at `feed`, `end` and the next message. The offset of
+    a fault is counted from the first byte that was ever fed.
     """
 
     def __init__(self, limit: int = MAX_LIMIT) -> None:

@@ -273,7 +273,8 @@ def encode_message(
 
     The body, and each document of a sequence, is a mapping, as for `encode`, or the bytes of a document. A sequence is its
     identifier and its documents, as a `DocumentSequence` is. Raises MessageError for the first fault that the message would
-    have, DocumentError where a document of a sequence isn't one, and EncodeError for what can't be spelled: BadName for an
+    have, but as Flags for any flag bit other than the two, and as Document for a body that isn't exactly one document;
+    DocumentError where a document of a sequence isn't one; and EncodeError for what can't be spelled: BadName for an
     identifier, TooLarge where the message has more bytes than the limit.
     """
     if not 0 <= limit <= MAX_LIMIT:

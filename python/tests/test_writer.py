@@ -109,6 +109,13 @@ def test_pymongos_own_types_are_refused():
             encode({"v": value})
 
 
+def test_pymongos_mappings_are_documents():
+    bson = pytest.importorskip("bson")
+    raw_bson = pytest.importorskip("bson.raw_bson")
+    for value in (bson.SON(a=1), raw_bson.RawBSONDocument(bson.encode({"a": 1}))):
+        assert encode({"v": value}) == encode({"v": {"a": 1}})
+
+
 @pytest.mark.parametrize("meant", [{1: 2}, {b"a": 1}, {None: 1}, {"a": {1: 2}}, None, [("a", 1)], 5, b"\5\0\0\0\0"])
 def test_what_is_no_mapping_or_no_name_is_refused(meant):
     with pytest.raises(TypeError):

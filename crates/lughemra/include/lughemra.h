@@ -7,7 +7,8 @@
  *
  *   - `length` bytes can be read at `bytes`, at any alignment, and `length` is at most PTRDIFF_MAX; where it is 0, any pointer
  *     will do; a null pointer is an empty input, whatever the length, and an empty room;
- *   - no one writes to them during the call, and what a function writes to doesn't overlap them;
+ *   - no one else writes to them, or to a struct that is handed in, during the call;
+ *   - a room, a struct, an element or a number that a function writes to overlaps nothing else that is handed in;
  *   - a pointer to a struct is null, or points to one, aligned as C has it.
  *
  * Nothing else is owed, but of a handle, which has a section of its own below: any content, any `limit` and any number in a struct
@@ -57,7 +58,8 @@ struct lughemra_fault {
 
 /* The numbers of a document's faults.
  *
- * The checks are made in this order. First the length of the document: four bytes of it (TRUNCATED), at least 5
+ * The checks are made in this order. First, where the bytes are to be one document and are four or more, whether its
+ * length is that of all of them (LENGTH). Then the length of the document: four bytes of it (TRUNCATED), at least 5
  * (LENGTH), and no more than the bytes that are left (TRUNCATED); then its last byte (END); then its elements, one
  * after another. Of an element first the type byte (END for 00, KIND), then the name (TRUNCATED, NAME), then the value:
  * its own length before its content, a string's text before its last byte (TEXT, TEXT_END), a binary's length before
@@ -464,7 +466,8 @@ struct lughemra_call_made {
     int32_t id;
     /* The call's number among those of its client, counted from 0, if the call was made, else 0. */
     uint64_t number;
-    /* If it is BAD_CONTENT, the first fault that a message with it would have, by an enum lughemra_message_fault. */
+    /* If it is BAD_CONTENT, by an enum lughemra_message_fault: DOCUMENT at 21 where the body isn't one document, or else the
+     * first fault that a message with it would have. */
     struct lughemra_fault fault;
     /* The document's own fault, as in struct lughemra_message_check. */
     struct lughemra_fault document_fault;
@@ -770,8 +773,8 @@ static inline bool lughemra_next_document(const uint8_t *bytes, size_t length, s
 }
 
 /* ---- walks: each element is checked as it is read, so that the bytes needn't be checked before. But the text of a string
- * isn't tested for UTF-8, and its view has its bytes, whatever they are: who wants UTF-8 of bytes that weren't checked checks
- * the document first. */
+ * needn't be tested for UTF-8, and then its view has its bytes, whatever they are: who wants UTF-8 of bytes that weren't
+ * checked checks the document first. */
 
 /* Begins a walk over the document that the bytes are. Checks its length and its last byte, but none of its elements. */
 static inline struct lughemra_first lughemra_first(const uint8_t *bytes, size_t length)
