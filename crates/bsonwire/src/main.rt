@@ -2,9 +2,10 @@
 //! passes messages between clients and a server.
 //!
 //! The first word is the subcommand, and `bsonwire --help` lists them. What a subcommand finds out
-//! about its input goes to standard output, and so does a fault in the input, unless documents are
-//! written there: that of `bson` goes to standard error, and `canon --salvage` tells none. What kept
-//! it from reading or writing goes to standard error, in one line.
+//! about its input goes to standard output, and so does the line of a fault in the input, which of
+//! `canon` stands behind the documents; but that of `bson` goes to standard error, and
+//! `canon --salvage` tells none. That it could not read or write goes to standard error, in one
+//! line.
 //!
 //! The exit status is 0 if the input is good, 1 if it is at fault or a replayed answer differs, 2 if
 //! the command line or a proxy's script is at fault, 3 if reading or writing failed, and 4 if memory

@@ -64,7 +64,8 @@ impl EachDocument for Dump {
 }
 
 /// Writes the text of each document in the input. If `offsets` is true, the offset in the input of
-/// what a line shows stands before it. If `hex` is true, the input is hexadecimal text.
+/// what a line shows stands before it. If `hex` is true, the input is hexadecimal text, and offsets
+/// count the bytes that it spells.
 pub fn run_dump<R: Read, W: Write>(
     alloc: Global,
     offsets: bool,

@@ -11,10 +11,11 @@ use std::io::Write;
 use wire_msg::MsgFault;
 use wire_record::RecordFault;
 
-/// A fault of an input. An `offset` counts from the input's first byte.
+/// A fault of an input. An `offset` counts from the input's first byte, or from the first of those
+/// that hexadecimal text spells.
 #[derive(Clone, Copy, Debug, PartialEq, Eq)]
 pub enum InputFault {
-    /// The input isn't hexadecimal text. White space isn't counted in `offset`.
+    /// The input isn't hexadecimal text. `offset` counts its digits, and no white space.
     Hex { offset: usize },
     /// No document begins where one should.
     Bson(BsonFault),
