@@ -86,9 +86,10 @@ IsEntered s e inner =
     (CanEnter s e → inner ≡ inner_iter s.depth e.bytes)
     × ((CanEnter s e → ⊥) → inner ≡ wrong_iter)
 
--- The view of the innermost element that has the byte at this offset. The walk passes the elements
--- that end before it, and enters the one that has it, if it holds a document in which an element
--- has it. It stops there, or at an element that can't be read.
+-- The view of the innermost element that has the byte at this offset, or of the first on the way
+-- there that can't be read. The walk passes the elements that end before it, and enters the one
+-- that has it, if it holds a document in which an element has it. It stops there, or at an element
+-- that can't be read.
 pub data IsElementSpan (bytes : List ℕ) (offset : ℕ) : ElementIter → View → Type 0 where
   passes : {s : ElementIter} {v : View} (e : Element) (next : ℕ) → IsStep bytes s e next
       → e.kind ≢ 0 → next ≤ offset → IsElementSpan bytes offset (moved s next) v
@@ -112,7 +113,8 @@ abbrev pub front_iter : ℕ → ElementIter
 front_iter n = record { start = 0; at = 4; end = n + 4; depth = 1 }
 
 -- The view of the innermost element of the document in front of the bytes that has the byte at this
--- offset; or of the document, if none has it, or if its length or its last byte is at fault.
+-- offset, or of the first on the way there that can't be read; or of the document, if there is
+-- neither, or if its length or its last byte is at fault.
 pub data IsDocumentSpan (bytes : List ℕ) (offset : ℕ) (v : View) : Type 0 where
   in_elements : (body rest : List ℕ) → document_at 0 0 bytes ≡ Ok (body, rest) → 4 ≤ offset
       → offset < length body + 4 → IsElementSpan bytes offset (front_iter (length body)) v

@@ -109,7 +109,8 @@ fn holds(outer: ElementIter, inner: ElementIter, offset: usize) -> bool
     outer.at < inner.at && inner.at <= offset && offset < inner.end
 }
 
-/// Returns the view of the innermost element that has the byte at `offset`, from the iterator on.
+/// Returns the view of the innermost element that has the byte at `offset`, from the iterator on;
+/// or of the first element on the way there that can't be read, whether it has the byte or not.
 fn element_span(bytes: &[u8], offset: usize, iter: ElementIter) -> View
     ensures { IsElementSpan bytes.now offset iter result }
 {
@@ -136,8 +137,10 @@ fn element_span(bytes: &[u8], offset: usize, iter: ElementIter) -> View
 }
 
 /// Returns the view of the innermost element that has the byte at `offset` of the document in front
-/// of `bytes`; or of the document, if none has it. An element that can't be read ends where its own
-/// lengths tell, or with what holds it, and so does the document.
+/// of `bytes`, or of the first element on the way there that can't be read, whether it has the byte
+/// or not; or of the document, if there is neither, or if its length or its last byte is at fault.
+/// An element that can't be read ends where its own lengths tell, or with what holds it, and so
+/// does the document.
 pub fn span_at(bytes: &[u8], offset: usize) -> View
     ensures { IsDocumentSpan bytes.now offset result }
 {

@@ -53,7 +53,8 @@ pub extern "C" fn page_value(bytes: &[u8], iter: &ElementIter, room: &mut [u8]) 
 }
 
 /// Returns the view of the innermost element that has the byte at `offset` of the document in front
-/// of `bytes`, as `byte_views::span_at` does.
+/// of `bytes`, or of the first one on the way there that can't be read, or else of the document, as
+/// `byte_views::span_at` does.
 #[unsafe(no_mangle)]
 pub extern "C" fn page_span(bytes: &[u8], offset: usize) -> View
     ensures { IsDocumentSpan bytes.now offset result }
