@@ -1,28 +1,25 @@
-//! Dates, by their text in ISO-8601.
+//! Dates, by RFC 3339, section 5.6, of at most milliseconds.
 
-ghost use Rattle.std.specs.Prelude.{◌≡◌, ◌+◌, ◌<◌, ◌≤◌, IfSome, IsTrue, length};
+ghost use Rattle.std.specs.Prelude.{◌≡◌, ◌+◌, ◌<◌, ◌≤◌, nat_abs, IfSome, IsTrue, length};
 ghost use Rattle.bson_json.specs.Dates as dates;
 ghost use Rattle.bson_json_read.specs.Iso as spec;
-ghost use Rattle.bson_json_read.specs.Iso.{digit_at, iso_of, like, two_at};
+ghost use Rattle.bson_json_read.specs.Iso.{digit_at, iso_of, two_at};
 
 use bson_json::{days_before_year, days_in_month, is_leap};
 
-/// A date, with a 0 for each digit.
-const WHOLE: &[u8] = b"0000-00-00T00:00:00Z";
-
-/// The same with milliseconds.
-const WITH_FRACTION: &[u8] = b"0000-00-00T00:00:00.000Z";
+/// A full-date and a partial-time, RFC 3339, section 5.6, with a 0 for each digit.
+const LOCAL: &[u8] = b"0000-00-00T00:00:00";
 
 /// The milliseconds from the beginning of year 1 to that of 1970.
 const BEFORE_1970: i64 = 719_162 * 86_400_000;
 
-/// Returns true if a digit stands for each 0 of the pattern, and the other bytes are the same.
-#[tactic(auto, using(crate::proofs::Alike::unlike))]
-fn is_like(pattern: &[u8], bytes: &[u8]) -> bool
-    ensures value { result ≡ like pattern.now bytes.now }
-    ensures long { IsTrue result → length bytes.now ≡ length pattern.now }
+/// Returns true if the bytes begin with a digit for each 0 of the pattern, and else with its bytes.
+#[tactic(auto, using(crate::proofs::Alike::shorter))]
+fn begins(pattern: &[u8], bytes: &[u8]) -> bool
+    ensures value { result ≡ spec.begins pattern.now bytes.now }
+    ensures long { IsTrue result → length pattern.now ≤ length bytes.now }
 {
-    if pattern.len() != bytes.len() {
+    if bytes.len() < pattern.len() {
         return false;
     }
     for i in 0..pattern.len() {
@@ -36,6 +33,14 @@ fn is_like(pattern: &[u8], bytes: &[u8]) -> bool
         }
     }
     true
+}
+
+/// Returns true if the bytes are as the pattern from the first to the last.
+fn is_like(pattern: &[u8], bytes: &[u8]) -> bool
+    ensures value { result ≡ spec.like pattern.now bytes.now }
+    ensures long { IsTrue result → length bytes.now ≡ length pattern.now }
+{
+    bytes.len() == pattern.len() && begins(pattern, bytes)
 }
 
 /// Returns the number of the digit at `i`.
@@ -87,9 +92,9 @@ fn day_number(year: u32, month: u32, day: u32) -> Option<u32>
     Some(days_before_year(year) + days_before_month(leap, month) + (day - 1))
 }
 
-/// Returns the days from 0001-01-01 to the day of a date.
+/// Returns the days from 0001-01-01 to a full-date, if it is a day.
 fn day_of(bytes: &[u8]) -> Option<u32>
-    requires { 20 ≤ length bytes.now }
+    requires { 19 ≤ length bytes.now }
     ensures value { result ≡ spec.day_of bytes.now }
     ensures small { IfSome result (λ days. days < 4000000) }
 {
@@ -97,67 +102,131 @@ fn day_of(bytes: &[u8]) -> Option<u32>
     day_number(year, two(bytes, 5), two(bytes, 8))
 }
 
-/// Returns the milliseconds of a time of day, if it is one.
-fn time_number(hour: u32, minute: u32, second: u32, ms: u32) -> Option<u32>
-    requires { ms < 100000 }
-    ensures value { result ≡ spec.time_if hour minute second ms }
-    ensures small { IfSome result (λ time. time < 100000000) }
+/// Returns the minutes of time-hour and time-minute, RFC 3339, section 5.6, if they are in range.
+fn minutes_if(hour: u32, minute: u32) -> Option<u32>
+    ensures value { result ≡ spec.minutes_if hour minute }
+    ensures small { IfSome result (λ minutes. minutes < 1440) }
 {
-    if hour < 24 && minute < 60 && second < 60 {
-        Some(((hour * 60 + minute) * 60 + second) * 1000 + ms)
+    if hour < 24 && minute < 60 {
+        Some(hour * 60 + minute)
     } else {
         None
     }
 }
 
-/// Returns the milliseconds of the time of a date.
-fn time_of(bytes: &[u8], fraction: bool) -> Option<u32>
-    requires long { 20 ≤ length bytes.now }
-    requires fraction { fraction ≡ spec.has_fraction bytes.now }
-    requires longer { IsTrue fraction → 24 ≤ length bytes.now }
-    ensures value { result ≡ spec.time_of bytes.now }
-    ensures small { IfSome result (λ time. time < 100000000) }
+/// Returns the minutes of the hour and the minute that stand at `i`, with a byte between them.
+fn minutes_at(bytes: &[u8], i: usize) -> Option<u32>
+    requires { i + 4 < length bytes.now }
+    ensures value { result ≡ spec.minutes_at bytes.now i }
+    ensures small { IfSome result (λ minutes. minutes < 1440) }
 {
-    let ms = if fraction {
-        digit(bytes, 20) * 100 + two(bytes, 21)
+    minutes_if(two(bytes, i), two(bytes, i + 3))
+}
+
+/// Returns the seconds of these minutes and of time-second, if that is in range.
+fn seconds_if(second: u32, minutes: u32) -> Option<u32>
+    requires { minutes < 1440 }
+    ensures value { result ≡ spec.seconds_if second minutes }
+    ensures small { IfSome result (λ seconds. seconds < 86400) }
+{
+    if second < 60 {
+        Some(minutes * 60 + second)
     } else {
-        0
-    };
-    time_number(two(bytes, 11), two(bytes, 14), two(bytes, 17), ms)
+        None
+    }
 }
 
-/// Returns the milliseconds since 1970 of a time of this day, counted from 0001-01-01.
-fn since_1970(days: u32, ms: u32) -> i64
-    requires { (days < 4000000) × (ms < 100000000) }
-    ensures { result ≡ spec.since_1970 days ms }
+/// Returns the seconds of a partial-time without its fraction, RFC 3339, section 5.6, if it is one.
+fn time_of(bytes: &[u8]) -> Option<u32>
+    requires { 19 ≤ length bytes.now }
+    ensures value { result ≡ spec.time_of bytes.now }
+    ensures small { IfSome result (λ seconds. seconds < 86400) }
 {
-    let from_year_1 = days as u64 * 86_400_000 + ms as u64;
-    from_year_1 as i64 - BEFORE_1970
+    seconds_if(two(bytes, 17), minutes_at(bytes, 11)?)
 }
 
-/// Returns the milliseconds since 1970 of a date whose digits stand where they should.
-fn date_of(bytes: &[u8], fraction: bool) -> Option<i64>
-    requires long { 20 ≤ length bytes.now }
-    requires fraction { fraction ≡ spec.has_fraction bytes.now }
-    requires longer { IsTrue fraction → 24 ≤ length bytes.now }
-    ensures { result ≡ spec.date_of bytes.now }
+/// Returns the seconds from 0001-01-01 to a full-date and its time without a fraction.
+fn seconds_of(bytes: &[u8]) -> Option<u64>
+    requires { 19 ≤ length bytes.now }
+    ensures value { result ≡ spec.seconds_of bytes.now }
+    ensures small { IfSome result (λ seconds. seconds < 400000000000) }
 {
     let days = day_of(bytes)?;
-    let ms = time_of(bytes, fraction)?;
-    Some(since_1970(days, ms))
+    let seconds = time_of(bytes)?;
+    Some(u64::from(days) * 86_400 + u64::from(seconds))
 }
 
-/// Returns the milliseconds since 1970 of a date, as `0000-00-00T00:00:00Z` or with milliseconds
-/// as `0000-00-00T00:00:00.000Z`.
+/// Returns the milliseconds of time-secfrac, RFC 3339, section 5.6, and how many bytes it has; both
+/// are 0 where it is left out.
+fn fraction_of(rest: &[u8]) -> (u32, usize)
+    ensures value { result ≡ spec.fraction_of rest.now }
+    ensures small { (result.0 < 100000) × (result.1 ≤ length rest.now) }
+{
+    if begins(b".000", rest) {
+        (digit(rest, 1) * 100 + two(rest, 2), 4)
+    } else if begins(b".00", rest) {
+        (two(rest, 1) * 10, 3)
+    } else if begins(b".0", rest) {
+        (digit(rest, 1) * 100, 2)
+    } else {
+        (0, 0)
+    }
+}
+
+/// Returns how many minutes local time is ahead of UTC by time-offset, RFC 3339, section 5.6.
+fn offset_of(zone: &[u8]) -> Option<i32>
+    ensures value { result ≡ spec.offset_of zone.now }
+    ensures small { IfSome result (λ minutes. nat_abs minutes < 1440) }
+{
+    if is_like(b"Z", zone) {
+        Some(0)
+    } else if is_like(b"+00:00", zone) {
+        Some(minutes_at(zone, 1)? as i32)
+    } else if is_like(b"-00:00", zone) {
+        Some(-(minutes_at(zone, 1)? as i32))
+    } else {
+        None
+    }
+}
+
+/// Returns the milliseconds since 1970 of a local time, counted from 0001-01-01, so many minutes
+/// ahead of UTC.
+fn since_1970(seconds: u64, ms: u32, offset: i32) -> i64
+    requires local { (seconds < 400000000000) × (ms < 100000) }
+    requires offset { nat_abs offset < 1440 }
+    ensures { result ≡ spec.since_1970 seconds ms offset }
+{
+    let local = (seconds * 1_000 + u64::from(ms)) as i64;
+    local - BEFORE_1970 - i64::from(offset) * 60_000
+}
+
+/// Returns the milliseconds since 1970 of a local time, counted from 0001-01-01, if `zone` is a
+/// time-offset, RFC 3339, section 5.6.
+fn with_offset(seconds: u64, ms: u32, zone: &[u8]) -> Option<i64>
+    requires { (seconds < 400000000000) × (ms < 100000) }
+    ensures { result ≡ spec.with_offset seconds ms zone.now }
+{
+    Some(since_1970(seconds, ms, offset_of(zone)?))
+}
+
+/// Returns the milliseconds since 1970 of these seconds and of what stands behind them.
+fn with_rest(rest: &[u8], seconds: u64) -> Option<i64>
+    requires { seconds < 400000000000 }
+    ensures { result ≡ spec.with_rest rest.now seconds }
+{
+    let (ms, len) = fraction_of(rest);
+    with_offset(seconds, ms, &rest[len..])
+}
+
+/// Returns the milliseconds since 1970 of a date-time, RFC 3339, section 5.6, if the text is one with
+/// at most three digits of a fraction.
 pub(crate) fn read_iso(text: &str) -> Option<i64>
     ensures { result ≡ iso_of text.now }
 {
     let bytes = text.as_bytes();
-    if is_like(WITH_FRACTION, bytes) {
-        return date_of(bytes, true);
+    if !begins(LOCAL, bytes) {
+        return None;
     }
-    if is_like(WHOLE, bytes) {
-        return date_of(bytes, false);
-    }
-    None
+    let seconds = seconds_of(bytes)?;
+    with_rest(&bytes[19..], seconds)
 }

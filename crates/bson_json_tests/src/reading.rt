@@ -83,7 +83,7 @@ fn examples_are_read_back(rt: HostRuntime) {
 }
 
 /// Texts of other forms, and the digits of their documents.
-const FORMS: [(&str, &str); 17] = [
+const FORMS: [(&str, &str); 23] = [
     (" { \"i\" : 1 } ", "0c000000 10 6900 01000000 00"),
     ("{\"i\":2147483648}", "10000000 12 6900 0000008000000000 00"),
     (
@@ -116,6 +116,30 @@ const FORMS: [(&str, &str); 17] = [
     (
         "{\"a\":{\"$date\":\"2012-12-24T12:15:30.501Z\"}}",
         "10000000 09 6100 c5d8d6cc3b010000 00",
+    ),
+    (
+        "{\"a\":{\"$date\":\"2012-12-24T12:15:30.5Z\"}}",
+        "10000000 09 6100 c4d8d6cc3b010000 00",
+    ),
+    (
+        "{\"a\":{\"$date\":\"2012-12-24T12:15:30.05Z\"}}",
+        "10000000 09 6100 02d7d6cc3b010000 00",
+    ),
+    (
+        "{\"a\":{\"$date\":\"2012-12-24T13:15:30+01:00\"}}",
+        "10000000 09 6100 d0d6d6cc3b010000 00",
+    ),
+    (
+        "{\"a\":{\"$date\":\"2012-12-31T23:45:00.5-00:30\"}}",
+        "10000000 09 6100 941576f33b010000 00",
+    ),
+    (
+        "{\"a\":{\"$date\":\"0001-01-01T00:00:00+23:59\"}}",
+        "10000000 09 6100 60b6ade87cc7ffff 00",
+    ),
+    (
+        "{\"a\":{\"$date\":\"9999-12-31T23:59:59.999-23:59\"}}",
+        "10000000 09 6100 9f4d45d777e60000 00",
     ),
     (
         "{\"$oid\":\"b\"}",
@@ -196,7 +220,7 @@ fn names_are_refused_where_they_stand(rt: HostRuntime) {
 }
 
 /// Objects that have the name of a form and aren't of it.
-const WRONG: [(&str, Form); 39] = [
+const WRONG: [(&str, Form); 47] = [
     ("{\"$oid\":5}", Form::ObjectId),
     ("{\"$oid\":\"56e1fc72e0c917e9c471416\"}", Form::ObjectId),
     ("{\"$oid\":\"56e1fc72e0c917e9c471416g\"}", Form::ObjectId),
@@ -262,7 +286,15 @@ const WRONG: [(&str, Form); 39] = [
     ("{\"$date\":\"2001-02-29T00:00:00Z\"}", Form::DateTime),
     ("{\"$date\":\"10000-01-01T00:00:00Z\"}", Form::DateTime),
     ("{\"$date\":\"2001-02-28T24:00:00Z\"}", Form::DateTime),
-    ("{\"$date\":\"2001-02-28T00:00:00.1Z\"}", Form::DateTime),
+    ("{\"$date\":\"2001-02-28T00:00:00.1234Z\"}", Form::DateTime),
+    ("{\"$date\":\"2001-02-28T00:00:00.Z\"}", Form::DateTime),
+    ("{\"$date\":\"2001-02-28T00:00:00+24:00\"}", Form::DateTime),
+    ("{\"$date\":\"2001-02-28T00:00:00-00:60\"}", Form::DateTime),
+    ("{\"$date\":\"2001-02-28T00:00:00\"}", Form::DateTime),
+    ("{\"$date\":\"2001-02-28T00:00:00z\"}", Form::DateTime),
+    ("{\"$date\":\"2001-02-28T00:00:60Z\"}", Form::DateTime),
+    ("{\"$date\":\"2001-02-28T00:00:00+01:00Z\"}", Form::DateTime),
+    ("{\"$date\":\"2001-02-28T00:00:00+0100\"}", Form::DateTime),
     ("{\"$minKey\":true}", Form::MinKey),
     ("{\"$maxKey\":2}", Form::MaxKey),
     ("{\"$undefined\":false}", Form::Undefined),
