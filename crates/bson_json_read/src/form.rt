@@ -95,39 +95,23 @@ fn begins_with_dollar(name: &[u8]) -> bool
 fn form_in_table(name: &str) -> Option<Form>
     ensures { result ≡ form_named name.now }
 {
-    if name == "$oid" {
-        Some(Form::ObjectId)
-    } else if name == "$symbol" {
-        Some(Form::Symbol)
-    } else if name == "$numberInt" {
-        Some(Form::Int32)
-    } else if name == "$numberLong" {
-        Some(Form::Int64)
-    } else if name == "$numberDouble" {
-        Some(Form::Double)
-    } else if name == "$numberDecimal" {
-        Some(Form::Decimal128)
-    } else if name == "$binary" {
-        Some(Form::Binary)
-    } else if name == "$uuid" {
-        Some(Form::Uuid)
-    } else if name == "$code" {
-        Some(Form::Code)
-    } else if name == "$timestamp" {
-        Some(Form::Timestamp)
-    } else if name == "$regularExpression" {
-        Some(Form::Regex)
-    } else if name == "$dbPointer" {
-        Some(Form::DbPointer)
-    } else if name == "$date" {
-        Some(Form::DateTime)
-    } else if name == "$minKey" {
-        Some(Form::MinKey)
-    } else if name == "$maxKey" {
-        Some(Form::MaxKey)
-    } else if name == "$undefined" {
-        Some(Form::Undefined)
-    } else {
-        None
+    match name {
+        "$oid" => Some(Form::ObjectId),
+        "$symbol" => Some(Form::Symbol),
+        "$numberInt" => Some(Form::Int32),
+        "$numberLong" => Some(Form::Int64),
+        "$numberDouble" => Some(Form::Double),
+        "$numberDecimal" => Some(Form::Decimal128),
+        "$binary" => Some(Form::Binary),
+        "$uuid" => Some(Form::Uuid),
+        "$code" => Some(Form::Code),
+        "$timestamp" => Some(Form::Timestamp),
+        "$regularExpression" => Some(Form::Regex),
+        "$dbPointer" => Some(Form::DbPointer),
+        "$date" => Some(Form::DateTime),
+        "$minKey" => Some(Form::MinKey),
+        "$maxKey" => Some(Form::MaxKey),
+        "$undefined" => Some(Form::Undefined),
+        _ => None,
     }
 }
