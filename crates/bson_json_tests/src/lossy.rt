@@ -1,8 +1,8 @@
 //! Documents of which canonical JSON loses something, and of which it loses nothing though they
 //! have names of forms. The bytes and the JSON are laid out by hand from the standards.
 
-use crate::examples::{BINARIES, CONTAINERS, DATES, DECIMALS, DOUBLES, INTEGERS, OTHERS, TEXTS};
-use bson_json::{Mode, write_json};
+use crate::examples::{DELETE, EXAMPLES, is_written, parts};
+use bson_json::Mode;
 use bson_json_read::laws::round_trip;
 use bson_raw::RawDocument;
 use bson_raw_tests::hex_bytes::read_digits;
@@ -53,25 +53,11 @@ const LOSSY: [(&str, &str); 9] = [
     ),
 ];
 
-/// Documents that have names of forms where those may stand: outermost, in a scope and in an array
-/// of a document with another `$`-name.
-const LOSSLESS: [(&str, &str, &str); 3] = [
-    (
-        "11000000 02 246f696400 02000000 6200 00",
-        "{\"$oid\":\"b\"}",
-        "{\"$oid\":\"b\"}",
-    ),
-    (
-        "22000000 0f 6100 1a000000 01000000 00 11000000 02 246f696400 02000000 6200 00 00",
-        "{\"a\":{\"$code\":\"\",\"$scope\":{\"$oid\":\"b\"}}}",
-        "{\"a\":{\"$code\":\"\",\"$scope\":{\"$oid\":\"b\"}}}",
-    ),
-    (
-        "16000000 03 6100 0e000000 08 2473636f706500 01 00 00",
-        "{\"a\":{\"$scope\":true}}",
-        "{\"a\":{\"$scope\":true}}",
-    ),
-];
+/// Rows of documents that have names of forms where those may stand: outermost, in a scope and in an
+/// array of a document with another `$`-name.
+const LOSSLESS: &str = r#"11000000 02 246f696400 02000000 6200 00 | {"$oid":"b"} | {"$oid":"b"}
+22000000 0f 6100 1a000000 01000000 00 11000000 02 246f696400 02000000 6200 00 00 | {"a":{"$code":"","$scope":{"$oid":"b"}}} | {"a":{"$code":"","$scope":{"$oid":"b"}}}
+16000000 03 6100 0e000000 08 2473636f706500 01 00 00 | {"a":{"$scope":true}} | {"a":{"$scope":true}}"#;
 
 /// Returns true if the document of these digits is read of its canonical JSON as the same one.
 fn is_kept(alloc: Global, digits: &str) -> bool {
@@ -90,47 +76,30 @@ fn is_kept(alloc: Global, digits: &str) -> bool {
     }
 }
 
-/// Returns true if the document of these digits has this canonical JSON.
-fn is_written(alloc: Global, digits: &str, json: &str) -> bool {
-    let Ok(bytes) = read_digits(alloc, digits) else {
-        return false;
-    };
-    let Ok(document) = RawDocument::from_bytes(&bytes) else {
-        return false;
-    };
-    let mut out = Vec::new(alloc);
-    write_json(document, Mode::Canonical, &mut out).is_ok() && out.as_slice() == json.as_bytes()
-}
-
 #[test]
 fn what_is_lossy_is_not_read_back(rt: HostRuntime) {
     for (digits, json) in LOSSY {
-        assert!(rt; is_written(rt.alloc(), digits, json), "{digits}");
+        assert!(rt;
+            is_written(rt.alloc(), digits, Mode::Canonical, json),
+            "{digits}"
+        );
         assert!(rt; !is_kept(rt.alloc(), digits), "{digits}");
     }
 }
 
-/// Returns how many of the documents are read back.
-fn count_kept(alloc: Global, rows: &[(&str, &str, &str)]) -> usize {
-    let mut count: usize = 0;
-    for row in rows {
-        if is_kept(alloc, row.0) {
-            count = count.saturating_add(1);
-        }
+/// Returns true if the document of a row is read of its canonical JSON as the same one.
+fn is_row_kept(alloc: Global, row: &str) -> bool {
+    match parts(row) {
+        Some((digits, _, _)) => is_kept(alloc, digits),
+        None => row.starts_with('#'),
     }
-    count
 }
 
 #[test]
 fn what_is_lossless_is_read_back(rt: HostRuntime) {
-    let alloc = rt.alloc();
-    assert!(rt; count_kept(alloc, &DOUBLES) == DOUBLES.len() - 1);
-    assert!(rt; count_kept(alloc, &INTEGERS) == INTEGERS.len());
-    assert!(rt; count_kept(alloc, &DECIMALS) == DECIMALS.len() - 4);
-    assert!(rt; count_kept(alloc, &DATES) == DATES.len());
-    assert!(rt; count_kept(alloc, &TEXTS) == TEXTS.len());
-    assert!(rt; count_kept(alloc, &BINARIES) == BINARIES.len());
-    assert!(rt; count_kept(alloc, &OTHERS) == OTHERS.len());
-    assert!(rt; count_kept(alloc, &CONTAINERS) == CONTAINERS.len() - 1);
-    assert!(rt; count_kept(alloc, &LOSSLESS) == LOSSLESS.len());
+    for rows in [EXAMPLES, DELETE, LOSSLESS] {
+        for row in rows.split('\n') {
+            assert!(rt; is_row_kept(rt.alloc(), row), "{row}");
+        }
+    }
 }

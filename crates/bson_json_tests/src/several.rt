@@ -1,6 +1,7 @@
 //! Inputs of several texts: how the documents stand in them, and the first fault of each. The bytes
 //! are those of the BSON specification.
 
+use bson_doc::Document;
 use bson_json_read::{Cause, JsonTexts, NextBytes, TextFault};
 use bson_raw_tests::hex_bytes::read_digits;
 use std::alloc::Global;
@@ -129,21 +130,26 @@ const BAD: [(&[u8], &str, &str); 18] = [
     ),
 ];
 
+/// Appends the bytes of a document.
+fn append(document: &Document, bytes: &mut Vec<u8>) -> Result<(), Cause> {
+    let Ok(raw) = document.to_raw() else {
+        return Err(Cause::OutOfMemory);
+    };
+    match bytes.extend_from_slice(raw.as_raw().as_bytes()) {
+        Ok(()) => Ok(()),
+        Err(_) => Err(Cause::OutOfMemory),
+    }
+}
+
 /// Appends the bytes of the documents. Returns the first fault, if there is one.
 fn read_all(alloc: Global, input: &[u8], bytes: &mut Vec<u8>) -> Result<Option<TextFault>, Cause> {
     let mut texts = JsonTexts::new(alloc, input);
     for _ in 0..100 {
-        let document = match texts.next(alloc) {
-            Ok(Some(document)) => document,
+        match texts.next(alloc) {
+            Ok(Some(document)) => append(&document, bytes)?,
             Ok(None) => return Ok(None),
             Err(fault) => return Ok(Some(fault)),
-        };
-        let Ok(raw) = document.to_raw() else {
-            return Err(Cause::OutOfMemory);
-        };
-        let Ok(()) = bytes.extend_from_slice(raw.as_raw().as_bytes()) else {
-            return Err(Cause::OutOfMemory);
-        };
+        }
     }
     Err(Cause::NotJson)
 }
