@@ -158,12 +158,13 @@ module _ {L : Type 0} (sent received : L → Option (List ℕ)) where
   server_goes_on old mid new a b c (acts, r) (more, s) = (acts ++ more, end_runs_on sent received echo_does echo_stops old mid new a b c acts more r s)
 
   -- what was made before a run ended
-  pub made_so_far : (k calls : ℕ) (client then_client : EndSeen L) (server then_server : ServerEndSeen L) (logged then_logged : Logged Echo) (old new : Option (List ℕ)) → AreComplete k then_client
+  pub made_so_far : (k calls : ℕ) (client then_client : EndSeen L) (server then_server : ServerEndSeen L) (logged then_logged : Logged Echo) (old new : Option (List ℕ)) → k ≤ calls → AreComplete k then_client
       → ((acts : List ClientAct) × EndRuns sent received client acts then_client)
       → ((served : List ServerAct) × ServerEndRuns echo_does echo_stops sent received server logged served then_server then_logged)
       → (k ≡ calls) ⊎ ((left : List ℕ) × AppendsUpTo left (call_lines 0 k) old new) → HaveMade sent received calls client server logged old new
-  made_so_far k calls client then_client server then_server logged then_logged old new complete (acts, asks) (served, serves) lines = record {
+  made_so_far k calls client then_client server then_server logged then_logged old new bound complete (acts, asks) (served, serves) lines = record {
     k = k;
+    bound = bound;
     then_client = then_client;
     then_server = then_server;
     then_logged = then_logged;
@@ -214,6 +215,7 @@ pub told_of : {L : Type 0} (sent received : L → Option (List ℕ)) (near far :
 told_of sent received near far client server logged calls old new are_new m =
     record {
       k = m.k;
+      bound = m.bound;
       run = have_run sent received near far client m.then_client server m.then_server logged m.then_logged m.k m.acts m.served are_new m.asks m.serves m.complete;
       lines = m.lines;
     }
@@ -231,6 +233,7 @@ nothing_told calls old =
     let echo : Echo = record {} in
     record {
       k = 0;
+      bound = omega arith;
       run = record {
         acts = [];
         client = first_end message_limit (λ _. made_least) 1;

@@ -1,7 +1,7 @@
 -- What the calls of `loop` send and receive, what was done at both ends, and what is written: a
 -- line for each call, and a last one.
-use Rattle.std.specs.Prelude.{◌≡◌, ◌⊎◌, ℕ, ◌+◌, zero, suc, pos, List, [], ◌∷◌, ◌++◌, codes}
-use Rattle.std.specs.Prelude.{Option, Some}
+use Rattle.std.specs.Prelude.{◌≡◌, ◌⊎◌, ℕ, ◌+◌, ◌≤◌, zero, suc, pos, List, [], ◌∷◌, ◌++◌}
+use Rattle.std.specs.Prelude.{Option, Some, codes}
 use Rattle.std.specs.Fmt.{decimal}
 use Rattle.std.specs.Io.KnownBytes.{Appends}
 use Rattle.bson_elem.specs.{Tree}
@@ -116,6 +116,7 @@ AppendsUpTo left text old new = (gone : List ℕ) × (text ≡ gone ++ left) × 
 -- unless that is all of them, known bytes grew by a beginning of the lines of these k.
 pub record HaveTold (calls : ℕ) (old new : Option (List ℕ)) : Type 0 where
   pub k : ℕ
+  pub bound : k ≤ calls
   pub run : HaveRun k
   pub lines : (k ≡ calls) ⊎ ((left : List ℕ) × AppendsUpTo left (call_lines 0 k) old new)
 
@@ -124,6 +125,7 @@ pub record HaveMade {L : Type 0} (sent received : L → Option (List ℕ)) (call
     (client : EndSeen L) (server : ServerEndSeen L) (logged : Logged Echo)
     (old new : Option (List ℕ)) : Type 0 where
   pub k : ℕ
+  pub bound : k ≤ calls
   pub then_client : EndSeen L
   pub then_server : ServerEndSeen L
   pub then_logged : Logged Echo

@@ -57,7 +57,7 @@ returns-in_err-call-clause-told g c =
     let L = g.L.Link in
     let k = c.loop-k.k in
     let before = c.loop-k.invariant in
-    made_so_far L.sent L.received k c.args.calls _ _ _ _ _ _ _ _ before.complete before.client before.server
+    made_so_far L.sent L.received k c.args.calls _ _ _ _ _ _ _ _ (omega (arith, c.loop-k-test.true)) before.complete before.client before.server
     (inr ([], all_lines k _ _ before.lines))
 
 pub returns-in_err-write_call-clause-told : goal.returns-in_err-write_call-clause-told
@@ -67,7 +67,7 @@ returns-in_err-write_call-clause-told g c =
     let before = c.loop-k.invariant in
     let call = c.in_ok-call.ensures in
     let line = c.write_call.ensures.written k call.number.0 call.number.1 in
-    made_so_far L.sent L.received (k + 1) c.args.calls _ _ _ _ _ _ _ _ call.complete
+    made_so_far L.sent L.received (k + 1) c.args.calls _ _ _ _ _ _ _ _ (omega (arith, c.loop-k-test.true)) call.complete
     (client_goes_on L.sent L.received _ _ _ before.client call.client)
     (server_goes_on L.sent L.received _ _ _ _ _ _ before.server call.server)
     (inr (line.0, lines_written k line.0 _ _ _ before.lines line.1))
@@ -77,5 +77,5 @@ returns-clause-told g c =
     let L = g.L.Link in
     let k = c.loop-k.k in
     let before = c.loop-k.invariant in
-    made_so_far L.sent L.received k c.args.calls _ _ _ _ _ _ _ _ before.complete before.client before.server
+    made_so_far L.sent L.received k c.args.calls _ _ _ _ _ _ _ _ (omega (arith, c.loop-k-test.false)) before.complete before.client before.server
     (inl (omega (arith, c.loop-k-test.false)))
