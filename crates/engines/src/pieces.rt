@@ -53,6 +53,20 @@ struct Job<'a, E, S> {
     piece: &'a [u8],
 }
 
+/// Passes on the text that waits, unless writing failed before. Errs then, and if the writer does.
+fn flush_behind<W: Write>(
+    stop: io::Result<Option<Stop>>,
+    out: &mut Buffered<W>,
+) -> io::Result<Option<Stop>>
+    ensures bytes { Keeps (buffered_contents W.contents out.old)
+        (buffered_contents W.contents out.new) }
+    ensures same { IfOk result (λ s. stop ≡ Ok s) }
+{
+    let stop = stop?;
+    out.flush()?;
+    Ok(stop)
+}
+
 /// Like `pass_piece`, but takes the writer by value and returns it.
 fn pass_through<E: Walk, W: Write>(
     writer: W,
@@ -74,7 +88,11 @@ fn pass_through<E: Walk, W: Write>(
     } = job;
     let Between { mut reader, text } = before;
     let mut out = Buffered::new(writer, text);
-    let stop = each.write_piece(&mut reader, piece, &mut out);
+    let mut stop = each.write_piece(&mut reader, piece, &mut out);
+    if piece.len() < PIECE {
+        // There may be no more for a while, so the text doesn't wait.
+        stop = flush_behind(stop, &mut out);
+    }
     let (writer, text) = out.into_parts();
     (writer, (Between { reader, text }, stop))
 }
