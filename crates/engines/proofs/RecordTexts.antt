@@ -26,9 +26,9 @@ pub two_written : {E : Type 0} (r : Result (Unit {0}) E) (a b c : Option (List �
 two_written (Err e) a b c first last p q = tt
 two_written (Ok x) a b c first last p q = Appends-trans a b c first last p q
 
--- a header's object, of numbers that are those of the header
+-- a header's numbers
 abbrev header_of_numbers : ℕ → ℤ → ℤ → ℤ → List ℕ
-header_of_numbers size id to opcode = (codes "{\"messageLength\":" ++ decimal size) ++ (named (codes ",\"requestID\":") id ++ (named (codes ",\"responseTo\":") to ++ (named (codes ",\"opCode\":") opcode ++ codes "}")))
+header_of_numbers size id to opcode = (codes "{\"messageLength\":" ++ decimal size) ++ (named (codes ",\"requestID\":") id ++ (named (codes ",\"responseTo\":") to ++ named (codes ",\"opCode\":") opcode))
 
 pub header_written : {E : Type 0} (r : Result (Unit {0}) E) (a b : Option (List ℕ)) (size : ℕ) (id i to t opcode o : ℤ) → id ≡ i → to ≡ t → opcode ≡ o
     → OnOk r (Appends a b (header_of_numbers size id to opcode)) → OnOk r (Appends a b (header_of_numbers size i t o))
@@ -39,16 +39,16 @@ header_written r a b size id i to t opcode o same so also written =
     is same so also = rw (same, so, also) refl
 
 -- a message that is no OP_MSG is told by its header
-pub other_json : (kind : Opcode) (mode : Mode) (bytes text : List ℕ) → kind ≢ Msg → text ≡ header_json (header_of bytes) → IsKindJson kind mode bytes text
-other_json Reply mode bytes text ne is = is
-other_json Query mode bytes text ne is = is
-other_json Compressed mode bytes text ne is = is
-other_json Msg mode bytes text ne is = absurd (ne refl)
-other_json (Other number) mode bytes text ne is = is
+pub other_json : (kind : Opcode) (mode : Mode) (start : ℕ) (bytes text : List ℕ) → kind ≢ Msg → text ≡ header_json (header_of bytes) → IsKindJson kind mode start bytes text
+other_json Reply mode start bytes text ne is = is
+other_json Query mode start bytes text ne is = is
+other_json Compressed mode start bytes text ne is = is
+other_json Msg mode start bytes text ne is = absurd (ne refl)
+other_json (Other number) mode start bytes text ne is = is
 
 -- the parts of a record's object
 pub object_written : {E : Type 0} (r : Result (Unit {0}) E) (a b c d e f : Option (List ℕ)) (mode : Mode) (layout : Layout) (start : ℕ) (bytes frame front end : List ℕ) (h : RecordHead)
-    → HasHead (head_of bytes) h → frame ≡ message_of bytes → Appends a b front → front ≡ record_front layout start → Appends b c (head_json h) → Wrote c d (IsFrameJson mode frame)
+    → HasHead (head_of bytes) h → frame ≡ message_of bytes → Appends a b front → front ≡ record_front layout start → Appends b c (head_json h) → Wrote c d (IsFrameJson mode (start + 20) frame)
     → Appends d e (codes "}") → end ≡ end_of_value layout → OnOk r (Appends e f end) → OnOk r (Wrote a f (IsRecordText (Json mode layout) start bytes))
 object_written (Err x) a b c d e f mode layout start bytes frame front end h head message p is q w s at last = tt
 object_written (Ok x) a b c d e f mode layout start bytes frame front end h head message p is q (text, text_is, t) s at last = (
@@ -57,7 +57,7 @@ object_written (Ok x) a b c d e f mode layout start bytes frame front end h head
     h,
     text,
     head,
-    subst (λ (y : List ℕ). IsFrameJson mode y text) message text_is,
+    subst (λ (y : List ℕ). IsFrameJson mode (start + 20) y text) message text_is,
     ap (λ (y : List ℕ). y ++ (head_json h ++ (text ++ (codes "}" ++ end)))) is ∙ ap (λ (y : List ℕ). record_front layout start ++ (head_json h ++ (text ++ (codes "}" ++ y)))) at,
   ),
   Appends-trans a b f front _ p (Appends-trans b c f (head_json h) _ q (Appends-trans c d f text _ t (Appends-trans d e f (codes "}") end s last))),

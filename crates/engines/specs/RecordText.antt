@@ -3,9 +3,10 @@ use Rattle.std.specs.Prelude.{◌≡◌, ◌⊎◌, ℕ, ℤ, ◌+◌, ◌==◌,
 use Rattle.std.specs.Prelude.{if◌then◌else◌}
 use Rattle.std.specs.Fmt.{decimal, signed_decimal}
 use Rattle.bson_json.specs.declared.mode.Mode.{Mode}
+use Rattle.wire_msg.specs.declared.fault.MsgCause.{MsgCause}
 use Rattle.wire_msg.specs.declared.fault.MsgFault.{MsgFault}
 use Rattle.wire_msg.specs.declared.header.MsgHeader.{MsgHeader}
-use Rattle.wire_msg.specs.{FaultMsg, Message, SpellsMsg, header_of}
+use Rattle.wire_msg.specs.{FaultMsg, Message, SpellsMsg, fault_text, header_of}
 use Rattle.wire_text.specs.{IsMessageJson}
 use Rattle.wire_frame.specs.declared.opcode.Opcode.{Opcode}
 use Rattle.wire_frame.specs.declared.opcode.Opcode.TheVariants.{Msg}
@@ -47,30 +48,41 @@ head_json h =
 abbrev pub named : List ℕ → ℤ → List ℕ
 named name number = name ++ signed_decimal number
 
--- a header: an object of its four numbers
-abbrev pub header_json : MsgHeader → List ℕ
-header_json h =
+-- a header: the four numbers of an object
+abbrev pub header_front : MsgHeader → List ℕ
+header_front h =
     (codes "{\"messageLength\":" ++ decimal h.length)
     ++ (named (codes ",\"requestID\":") h.id ++ (named (codes ",\"responseTo\":") h.response_to
-    ++ (named (codes ",\"opCode\":") h.opcode ++ codes "}")))
+    ++ named (codes ",\"opCode\":") h.opcode))
 
--- an OP_MSG: the object of the message, if it is one, and else that of its header
-abbrev pub IsMsgJson : Mode → List ℕ → List ℕ → Type 0
-IsMsgJson mode bytes text =
+-- an object of them
+abbrev pub header_json : MsgHeader → List ℕ
+header_json h = header_front h ++ codes "}"
+
+-- an object of them and of a message's fault at this offset
+abbrev pub faulty_json : MsgHeader → ℕ → MsgCause → List ℕ
+faulty_json h offset c =
+    header_front h ++ (codes ",\"fault\":\"" ++ (fault_text offset c ++ codes "\"}"))
+
+-- an OP_MSG that begins at this offset: the object of the message, if it is one, and else that of
+-- its header and its fault, whose offset counts in the input
+abbrev pub IsMsgJson : Mode → ℕ → List ℕ → List ℕ → Type 0
+IsMsgJson mode start bytes text =
     ((m : Message) × SpellsMsg m bytes × IsMessageJson mode m text)
-    ⊎ ((f : MsgFault) × FaultMsg bytes 48000000 f × (text ≡ header_json (header_of bytes)))
+    ⊎ ((f : MsgFault) × FaultMsg bytes 48000000 f
+    × (text ≡ faulty_json (header_of bytes) (start + f.at) f.cause))
 
 -- a message of this kind: of another kind than OP_MSG the object of its header
-abbrev pub IsKindJson : Opcode → Mode → List ℕ → List ℕ → Type 0
-IsKindJson Msg mode bytes text = IsMsgJson mode bytes text
-IsKindJson kind mode bytes text = text ≡ header_json (header_of bytes)
+abbrev pub IsKindJson : Opcode → Mode → ℕ → List ℕ → List ℕ → Type 0
+IsKindJson Msg mode start bytes text = IsMsgJson mode start bytes text
+IsKindJson kind mode start bytes text = text ≡ header_json (header_of bytes)
 
--- a message of any opCode
-pub record IsFrameJson (mode : Mode) (bytes text : List ℕ) : Type 0 where
+-- a message of any opCode that begins at this offset
+pub record IsFrameJson (mode : Mode) (start : ℕ) (bytes text : List ℕ) : Type 0 where
   pub kind : Opcode
   pub own : IsOwnKind kind
   pub number : opcode_number kind ≡ (header_of bytes).opcode
-  pub is : IsKindJson kind mode bytes text
+  pub is : IsKindJson kind mode start bytes text
 
 -- what stands in front of the object of a record that begins at this offset; the first one begins
 -- behind the eight bytes of the file's signature
@@ -88,7 +100,7 @@ IsRecordText Text start bytes text =
     × IsFrameText (start + 20) (message_of bytes) message × (text ≡ head_line h ++ message)
 IsRecordText (Json mode layout) start bytes text =
     (h : RecordHead) × (message : List ℕ) × HasHead (head_of bytes) h
-    × IsFrameJson mode (message_of bytes) message
+    × IsFrameJson mode (start + 20) (message_of bytes) message
     × (text ≡ record_front layout start
     ++ (head_json h ++ (message ++ (codes "}" ++ end_of_value layout))))
 

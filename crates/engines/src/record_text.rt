@@ -6,8 +6,8 @@ ghost use Rattle.bson_json.specs.{WritesOne};
 ghost use Rattle.wire_frame.specs.{frame_bytes};
 ghost use Rattle.wire_record.specs.{record_bytes};
 ghost use Rattle.engines.specs.RecordText.{IsFrameJson, IsMsgJson, IsRecordText, direction_sign};
-ghost use Rattle.engines.specs.RecordText.{head_json, head_line, header_json, named};
-ghost use Rattle.engines.specs.RecordText.{record_closing, record_front};
+ghost use Rattle.engines.specs.RecordText.{faulty_json, head_json, head_line, header_front};
+ghost use Rattle.engines.specs.RecordText.{header_json, named, record_closing, record_front};
 
 use crate::frame_text::write_frame;
 use crate::json::{Layout, closing_text, end_text};
@@ -16,7 +16,7 @@ use std::alloc::Global;
 use std::io;
 use std::io::Write;
 use wire_frame::{Opcode, RawFrame};
-use wire_msg::{MAX_MESSAGE_LEN, MsgHeader, RawMsg};
+use wire_msg::{MAX_MESSAGE_LEN, MsgFault, MsgHeader, RawMsg};
 use wire_record::{Direction, HEAD_LEN, RawRecord, RecordHead};
 use wire_text::write_message_json;
 
@@ -73,47 +73,74 @@ fn write_named<W: Write>(name: &str, number: i32, out: &mut W) -> io::Result<()>
     write!(out, "{name}{number}")
 }
 
-/// Writes a header as a JSON object.
-fn write_header_json<W: Write>(header: MsgHeader, out: &mut W) -> io::Result<()>
+/// Writes the numbers of a header as the front of a JSON object.
+fn write_header_front<W: Write>(header: MsgHeader, out: &mut W) -> io::Result<()>
     ensures { OnOk result (Appends (W.contents out.old) (W.contents out.new)
-        (header_json header)) }
+        (header_front header)) }
 {
     let size = header.length;
     write!(out, "{{\"messageLength\":{size}")?;
     write_named(",\"requestID\":", header.id, out)?;
     write_named(",\"responseTo\":", header.response_to, out)?;
-    write_named(",\"opCode\":", header.opcode, out)?;
+    write_named(",\"opCode\":", header.opcode, out)
+}
+
+/// Writes a header as a JSON object.
+fn write_header_json<W: Write>(header: MsgHeader, out: &mut W) -> io::Result<()>
+    ensures { OnOk result (Appends (W.contents out.old) (W.contents out.new)
+        (header_json header)) }
+{
+    write_header_front(header, out)?;
     out.write_all(b"}")
 }
 
-/// Writes an OP_MSG as a JSON object; or, if it isn't a message, its header.
+/// Writes a header and a fault as a JSON object.
+fn write_faulty_json<W: Write>(header: MsgHeader, fault: MsgFault, out: &mut W) -> io::Result<()>
+    ensures { OnOk result (Appends (W.contents out.old) (W.contents out.new)
+        (faulty_json header fault.at fault.cause)) }
+{
+    write_header_front(header, out)?;
+    write!(out, ",\"fault\":\"{fault}\"}}")
+}
+
+/// Writes an OP_MSG that begins at offset `start` of the input as a JSON object; or, if it isn't a
+/// message, its header and its fault.
 fn write_op_msg_json<W: Write>(
     alloc: Global,
     mode: Mode,
     frame: RawFrame<'_>,
+    start: usize,
     out: &mut W,
 ) -> io::Result<()>
+    requires { start + length (frame_bytes frame) < 2 ^ 64 }
     ensures { OnOk result (WritesOne W.contents out.old out.new
-        (IsMsgJson mode (frame_bytes frame.entry))) }
+        (IsMsgJson mode start (frame_bytes frame.entry))) }
 {
     match RawMsg::parse_with(alloc, frame.as_bytes(), MAX_MESSAGE_LEN) {
         Ok(message) => write_message_json(message, mode, out),
-        Err(_) => write_header_json(frame.header(), out),
+        Err(fault) => {
+            let at = start + fault.at;
+            let cause = fault.cause;
+            write_faulty_json(frame.header(), MsgFault { at, cause }, out)
+        }
     }
 }
 
-/// Writes a message of any opCode as a JSON object: all of an OP_MSG, or else its header.
+/// Writes a message of any opCode that begins at offset `start` of the input as a JSON object: all
+/// of an OP_MSG, or else its header.
 fn write_frame_json<W: Write>(
     alloc: Global,
     mode: Mode,
     frame: RawFrame<'_>,
+    start: usize,
     out: &mut W,
 ) -> io::Result<()>
+    requires { start + length (frame_bytes frame) < 2 ^ 64 }
     ensures { OnOk result (WritesOne W.contents out.old out.new
-        (IsFrameJson mode (frame_bytes frame.entry))) }
+        (IsFrameJson mode start (frame_bytes frame.entry))) }
 {
     match frame.opcode() {
-        Opcode::Msg => write_op_msg_json(alloc, mode, frame, out),
+        Opcode::Msg => write_op_msg_json(alloc, mode, frame, start, out),
         _ => write_header_json(frame.header(), out),
     }
 }
@@ -138,12 +165,14 @@ fn write_record_json<W: Write>(
     start: usize,
     out: &mut W,
 ) -> io::Result<()>
+    requires long { 20 ≤ length (record_bytes one) }
+    requires offset { start + length (record_bytes one) < 2 ^ 64 }
     ensures { OnOk result (WritesOne W.contents out.old out.new
         (IsRecordText (RecordForm.Json mode layout) start (record_bytes one.entry))) }
 {
     out.write_all(front_text(layout, start).as_bytes())?;
     write_head_json(one.head(), out)?;
-    write_frame_json(alloc, mode, one.frame(), out)?;
+    write_frame_json(alloc, mode, one.frame(), start + HEAD_LEN, out)?;
     out.write_all(b"}")?;
     out.write_all(end_text(layout).as_bytes())
 }

@@ -1,7 +1,10 @@
-use Rattle.std.proofs.Common.{◌∙◌}
+use Rattle.std.proofs.Common.{◌∙◌, ap, arith, length, length-drop}
 use Rattle.wire_record.specs.{record_bytes}
 use Rattle.engines.proofs.RecordTexts.{object_written}
 use Rattle.engines.proofs.record_text.write_record_json.Goals as goal
+
+pub write_frame_json-requires : goal.write_frame_json-requires
+write_frame_json-requires g c = omega (arith, c.requires.long, c.requires.offset, ap length c.frame.ensures, length-drop 20 (record_bytes c.args.one))
 
 pub returns : goal.returns
 returns g c =
