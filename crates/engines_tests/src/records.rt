@@ -155,7 +155,7 @@ const FAULTY: &str = "4c55474852454331 0000000000000000 0100000000000000 0000000
      33000000 01000000 00000000 dd070000 04000000 00 1e0000001070696e67000100000002246462000600000061646d696e0000";
 
 const FAULTY_OBJECT: &str =
-    "{\"time\":0,\"connection\":1,\"direction\":\">\",\"message\":{\"messageLength\":51,\"requestID\":1,\"responseTo\":0,\"opCode\":2013}}\n";
+    "{\"time\":0,\"connection\":1,\"direction\":\">\",\"message\":{\"messageLength\":51,\"requestID\":1,\"responseTo\":0,\"opCode\":2013,\"fault\":\"fault 3 Flags at 44\"}}\n";
 
 /// A mode, a layout, the input as hexadecimal text, what `json` writes for it, and how the run ends.
 const OBJECTS: [(Mode, Layout, &str, &str, RunEnd); 9] = [
