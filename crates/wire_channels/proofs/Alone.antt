@@ -1,5 +1,5 @@
 -- What holds of a client, whoever answers it: act after act.
-use Rattle.std.proofs.Common.{Contains, ◌≡◌, ℕ, ◌≤◌, ℤ, List, [], ◌∷◌, ◌++◌, length, map, suc, ◌<◌, take, refl, sym, ◌∙◌, ap, subst, append_assoc, arith, Option, Some, None, inl, inr, Result, Ok, Err}
+use Rattle.std.proofs.Common.{Contains, ◌≡◌, ◌≢◌, ℕ, ◌≤◌, ℤ, List, [], ◌∷◌, ◌++◌, length, map, suc, ◌<◌, take, refl, sym, ◌∙◌, ap, subst, append_assoc, arith, Option, Some, None, inl, inr, Result, Ok, Err}
 use Rattle.std.proofs.Math.Seq.{drop-append_seam, take-length}
 use Rattle.std.proofs.lemmas.List.{append-nil}
 use Rattle.std.proofs.lemmas.Option.{none-some, same_Some}
@@ -25,7 +25,7 @@ use Rattle.wire_channels.proofs.Fits.{get_within}
 use Rattle.wire_channels.proofs.Numbers.{Each, Tidy, after_is, tidy_got, tidy_made, tidy_start}
 use Rattle.wire_channels.proofs.Records.{put_is}
 use Rattle.wire_channels.proofs.Tells.{Tells, low_front, new_not_done, ready_low, tells_given, tells_lost, tells_made}
-use Rattle.wire_channels.specs.Alone.{ClosesBy, Got, Heard, Hearing, Hears, HoldsAlone, IsMessageOf, IsReadyWith, Made, NoneBehind, got, handed, hear, hear_all, replied, silence}
+use Rattle.wire_channels.specs.Alone.{ClosesBy, Got, Heard, Hearing, Hears, HoldsAlone, IsMessageOf, IsLastHeard, IsReadyWith, Made, NoneBehind, got, handed, hear, hear_all, replied, silence}
 
 -- how a client fits what it heard, if these replies were handed out
 record Past (limit : ℕ) (records : List Record) (k : ClientSeen) (h : Hearing)
@@ -202,6 +202,20 @@ past_released limit records records' k h out reply m p many told is spells =
     r : (n : Message) × SpellsMsg n k.held × (p.ready ≡ (reply, n) ∷ [])
     r = subst (λ o. IsReadyWith o k.held p.ready) is p.ready_is
 
+-- ---- nothing is heard after a message that belongs to no call
+
+nothing_last : (h : Hearing) → IsLastHeard h []
+nothing_last h [] after e some = sym e
+nothing_last h (x ∷ before) after e some = absurd (let no_ : [] ≡ x ∷ (before ++ after) = e in cc)
+
+last_on : (x : Heard) (xs : List Heard) (h : Hearing) → h.cause ≡ None → IsLastHeard (hear h x) xs
+    → IsLastHeard h (x ∷ xs)
+last_on x xs h none on [] after e some = absurd (some none)
+last_on x xs h none on (y ∷ before) after e some =
+    let head : x ≡ y = cc in
+    let tail : xs ≡ before ++ after = cc in
+    on before after tail (subst (λ z. (hear_all (hear h z) before).cause ≢ None) (sym head) some)
+
 -- ---- act after act
 
 module _ (limit c : ℕ) where
@@ -210,6 +224,7 @@ module _ (limit c : ℕ) where
       (acts : List ClientAct) (new : ClientEnd) : Type 0 where
     heard : List Heard
     hears : Hears limit rest acts heard
+    last : IsLastHeard h heard
     past : Past limit new.records new.client (hear_all h heard) all
     joined : List ℕ
     spelled : AreSpelled limit (got heard) joined
@@ -247,6 +262,7 @@ module _ (limit c : ℕ) where
       (sym (append-nil out)) (record {
         heard = [];
         hears = refl;
+        last = nothing_last h;
         past = p;
         joined = [];
         spelled = refl;
@@ -284,6 +300,8 @@ module _ (limit c : ℕ) where
       record {
         heard = Made kind number ∷ r.heard;
         hears = (r.heard, refl, r.hears);
+        last = last_on (Made kind number) r.heard h
+            (no_cause limit p.rest h.cause old.client.state is.0 p.closes) r.last;
         past = r.past;
         joined = r.joined;
         spelled = r.spelled;
@@ -308,6 +326,7 @@ module _ (limit c : ℕ) where
       record {
         heard = r.heard;
         hears = r.hears;
+        last = r.last;
         past = r.past;
         joined = r.joined;
         spelled = r.spelled;
@@ -334,6 +353,7 @@ module _ (limit c : ℕ) where
       record {
         heard = r.heard;
         hears = r.hears;
+        last = r.last;
         past = r.past;
         joined = r.joined;
         spelled = r.spelled;
@@ -365,6 +385,7 @@ module _ (limit c : ℕ) where
       record {
         heard = r.heard;
         hears = r.hears;
+        last = r.last;
         past = r.past;
         joined = r.joined;
         spelled = r.spelled;
@@ -409,6 +430,7 @@ module _ (limit c : ℕ) where
               subst
                   (λ z. Hears limit z acts r.heard) (is ∙ b_is) r.hears,
             );
+            last = r.last;
             past = r.past;
             joined = r.joined;
             spelled = r.spelled;
@@ -431,6 +453,8 @@ module _ (limit c : ℕ) where
               refl,
               subst (λ z. Hears limit z acts r.heard) none r.hears,
             );
+            last = last_on (Got m) r.heard h
+                (no_cause limit p.rest h.cause k.state takes.may.1 p.closes) r.last;
             past = r.past;
             joined = b ++ r.joined;
             spelled = (b, r.joined, spells, within, r.spelled, refl);
@@ -496,6 +520,7 @@ module _ (limit c : ℕ) where
     done = λ n x at. (r.past.kept.done n x at, r.past.kept.last n x at);
     table = r.past.table;
     closes = r.past.closes;
+    last = r.last;
   }
     where
       start : (q : Past limit [] (new_client first_id window limit) silence []) × (q.rest ≡ [])

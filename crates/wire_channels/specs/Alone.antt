@@ -1,5 +1,5 @@
 -- What holds of a client alone, whoever answers it: for any calls, and any pieces of any bytes.
-use Rattle.std.specs.Prelude.{◌≡◌, ℕ, ◌≤◌, ℤ, ◌⊎◌, true, ◌==◌, if◌then◌else◌, slice_get, Option}
+use Rattle.std.specs.Prelude.{◌≡◌, ◌≢◌, ℕ, ◌≤◌, ℤ, ◌⊎◌, true, ◌==◌, if◌then◌else◌, slice_get, Option}
 use Rattle.std.specs.Prelude.{None, Some, List, [], ◌∷◌, ◌++◌, length, Result, Ok, Err}
 use Rattle.wire_msg.specs.{Content, IsBad, IsOpen, Message, SpellsMsg, Split}
 use Rattle.wire_peer.specs.{Table, after_reply, allowed, awaiting, owner, reply_to}
@@ -81,6 +81,12 @@ abbrev pub hear_all : Hearing → List Heard → Hearing
 hear_all h [] = h
 hear_all h (x ∷ xs) = hear_all (hear h x) xs
 
+-- nothing is heard after a message that belongs to no call
+abbrev pub IsLastHeard : Hearing → List Heard → Type 0
+IsLastHeard h heard =
+    (before after : List Heard) → heard ≡ before ++ after → (hear_all h before).cause ≢ None
+    → after ≡ []
+
 -- ---- what the owner of the client sees
 
 -- the replies that were handed out in these acts, each with its message
@@ -119,8 +125,8 @@ NoneBehind [] = Unit {0}
 NoneBehind (r ∷ rs) = (r.0.last ≡ true → NoneTo r.0.call rs) × NoneBehind rs
 
 -- The state of a client after what it took. If no message closed it, it is open or was told the
--- end, and the rest may still become a message; or the rest is bad, and closed it. If a message
--- that belongs to no call closed it, that was the last one that it took.
+-- end, and the rest may still become a message; or the rest is bad, and closed it; or a message that
+-- belongs to no call closed it.
 abbrev pub ClosesBy : ℕ → List ℕ → Option ClientCause → ClientState → Type 0
 ClosesBy limit rest None Open = IsOpen limit rest
 ClosesBy limit rest None (Closed causes.Ended) = IsOpen limit rest
@@ -135,7 +141,7 @@ ClosesBy limit rest (Some cause) state = (state ≡ Closed cause) × (rest ≡ [
 -- handed out, and then the one that is ready, are these messages in order, each once, each to the
 -- call that owns it, and none after a call's last one. The record of a call has the contents of the
 -- replies that were handed out to it, and is done exactly if the last one was. The first message
--- that is bad or belongs to no call closes the client, with that cause.
+-- that is bad or belongs to no call closes the client, with that cause, and is the last one.
 pub record HoldsAlone (limit : ℕ) (acts : List ClientAct) (new : ClientEnd) : Type 0 where
   pub heard : List Heard
   pub hears : Hears limit [] acts heard
@@ -153,3 +159,4 @@ pub record HoldsAlone (limit : ℕ) (acts : List ClientAct) (new : ClientEnd) : 
       → (x.state ≡ Done → HasLast n (handed acts)) × (HasLast n (handed acts) → x.state ≡ Done)
   pub table : (hear_all silence heard).table ≡ new.client.requests.outstanding
   pub closes : ClosesBy limit rest (hear_all silence heard).cause new.client.state
+  pub last : IsLastHeard silence heard

@@ -143,7 +143,7 @@ pub fn servers_may_come<H: Handler>()
 /// out are these messages in order, each once, each to the call that owns it, and none after a
 /// call's last one. The record of a call has the contents of the replies to it, and is done exactly
 /// if it got the last one. The first message that is bad or belongs to no call closes the client,
-/// with that cause.
+/// with that cause, and is the last one.
 pub fn a_client_holds_alone()
     ensures { (c limit window : ℕ) (first_id : ℤ) (acts : List ClientAct) (new : ClientEnd)
         → IsBytes (bytes_taken acts)
