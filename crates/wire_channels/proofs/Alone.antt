@@ -22,6 +22,7 @@ use Rattle.wire_model.specs.{Record, asked_as, lost_record, new_record, put_at}
 use Rattle.wire_model.proofs.Lemmas.{length-push, length-slice_set, same_request}
 use Rattle.wire_channels.specs.Owners.{Calls, ClientAct, ClientEnd, ClientRun, Collects, EndsDown, SendsUp, TakesDown, bytes_taken}
 use Rattle.wire_channels.proofs.Fits.{get_within}
+use Rattle.wire_channels.proofs.Over.{was_told}
 use Rattle.wire_channels.proofs.Numbers.{Each, Tidy, after_is, tidy_got, tidy_made, tidy_start}
 use Rattle.wire_channels.proofs.Records.{put_is}
 use Rattle.wire_channels.proofs.Tells.{Tells, low_front, new_not_done, ready_low, tells_given, tells_lost, tells_made}
@@ -49,15 +50,17 @@ nil_open limit = in_header {bytes = []} (omega arith)
 -- ---- who is told the end
 
 ended_closes : (limit : ℕ) (rest : List ℕ) (o : Option ReadyReply) (held : List ℕ)
-    (cause : Option ClientCause) (s : ClientState) → ClosesBy limit rest cause s
+    (cause : Option ClientCause) (s : ClientState) → (o ≡ None → cause ≡ None → held ≡ rest)
+    → ((reply : ReadyReply) → o ≡ Some reply → rest ≡ []) → ClosesBy limit rest cause s
     → ClosesBy limit rest cause (state_after s (end_cause o held))
-ended_closes limit rest None [] None Open c = c
-ended_closes limit rest None (b ∷ held) None Open c = c
-ended_closes limit rest (Some reply) held None Open c = c
-ended_closes limit rest o held None (Closed first) c = c
-ended_closes limit rest o held (Some cause) Open c = absurd (let no_ : Open ≡ Closed cause = c.0 in
-    cc)
-ended_closes limit rest o held (Some cause) (Closed first) c = c
+ended_closes limit rest None [] None Open holds emptied c = sym (holds refl refl)
+ended_closes limit rest None (b ∷ held) None Open holds emptied c =
+    (λ none. absurd (let no_ : b ∷ held ≡ [] = holds refl refl ∙ none in cc), c)
+ended_closes limit rest (Some reply) held None Open holds emptied c = emptied reply refl
+ended_closes limit rest o held None (Closed first) holds emptied c = c
+ended_closes limit rest o held (Some cause) Open holds emptied c =
+    absurd (let no_ : Open ≡ Closed cause = c.0 in cc)
+ended_closes limit rest o held (Some cause) (Closed first) holds emptied c = c
 
 -- ---- an open client has no such cause
 
@@ -347,7 +350,7 @@ module _ (limit c : ℕ) where
         emptied = p.emptied;
         closes =
             ended_closes limit p.rest old.client.reply old.client.held h.cause old.client.state
-            p.closes;
+            p.holds p.emptied p.closes;
       } in
       let r = comes acts _ new h out q are all (subst (λ z. ClientRun c z acts new) e run) in
       record {
@@ -492,8 +495,9 @@ module _ (limit c : ℕ) where
       (s : ClientState) → IsBytes rest → AreSpelled limit messages joined
       → ClosesBy limit rest cause s → Split limit (joined ++ rest) messages rest
   splits rest ms j None Open are sp c = open_ends limit ms j rest sp c
-  splits rest ms j None (Closed causes.Ended) are sp c = open_ends limit ms j rest sp c
-  splits rest ms j None (Closed causes.EndedInside) are sp c = open_ends limit ms j rest sp c
+  splits rest ms j None (Closed causes.Ended) are sp c =
+      open_ends limit ms j rest sp (subst (IsOpen limit) (sym c) (nil_open limit))
+  splits rest ms j None (Closed causes.EndedInside) are sp c = open_ends limit ms j rest sp c.1
   splits rest ms j None (Closed (causes.Message f)) are sp c = bad_ends limit ms j rest f are sp c
   splits rest ms j None (Closed (causes.UnknownReply to)) are sp c = absurd c
   splits rest ms j None (Closed causes.MoreNotAllowed) are sp c = absurd c
@@ -521,6 +525,7 @@ module _ (limit c : ℕ) where
     table = r.past.table;
     closes = r.past.closes;
     last = r.last;
+    told = λ over. was_told c acts _ new run refl over;
   }
     where
       start : (q : Past limit [] (new_client first_id window limit) silence []) × (q.rest ≡ [])

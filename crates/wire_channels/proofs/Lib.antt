@@ -16,6 +16,7 @@ pub mod GoingOn
 pub mod OneServer
 pub mod Numbers
 pub mod Tells
+pub mod Over
 pub mod Alone
 pub mod Grows
 pub mod Witness

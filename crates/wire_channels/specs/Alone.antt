@@ -1,5 +1,6 @@
 -- What holds of a client alone, whoever answers it: for any calls, and any pieces of any bytes.
 use Rattle.std.specs.Prelude.{◌≡◌, ◌≢◌, ℕ, ◌≤◌, ℤ, ◌⊎◌, true, ◌==◌, if◌then◌else◌, slice_get, Option}
+use Rattle.std.specs.List.{Contains}
 use Rattle.std.specs.Prelude.{None, Some, List, [], ◌∷◌, ◌++◌, length, Result, Ok, Err}
 use Rattle.wire_msg.specs.{Content, IsBad, IsOpen, Message, SpellsMsg, Split}
 use Rattle.wire_peer.specs.{Table, after_reply, allowed, awaiting, owner, reply_to}
@@ -124,18 +125,23 @@ abbrev pub NoneBehind : List (ReadyReply × Message) → Type 0
 NoneBehind [] = Unit {0}
 NoneBehind (r ∷ rs) = (r.0.last ≡ true → NoneTo r.0.call rs) × NoneBehind rs
 
--- The state of a client after what it took. If no message closed it, it is open or was told the
--- end, and the rest may still become a message; or the rest is bad, and closed it; or a message that
--- belongs to no call closed it.
+-- The state of a client after what it took. If no message closed it, it is open, and the rest may
+-- still become a message; or it was told the end, between two messages or inside one, by whether
+-- there is a rest; or the rest is bad, and closed it. Or a message that belongs to no call closed
+-- it.
 abbrev pub ClosesBy : ℕ → List ℕ → Option ClientCause → ClientState → Type 0
 ClosesBy limit rest None Open = IsOpen limit rest
-ClosesBy limit rest None (Closed causes.Ended) = IsOpen limit rest
-ClosesBy limit rest None (Closed causes.EndedInside) = IsOpen limit rest
+ClosesBy limit rest None (Closed causes.Ended) = rest ≡ []
+ClosesBy limit rest None (Closed causes.EndedInside) = (rest ≢ []) × IsOpen limit rest
 ClosesBy limit rest None (Closed (causes.Message f)) = IsBad limit rest f
 ClosesBy limit rest None (Closed (causes.UnknownReply to)) = ⊥
 ClosesBy limit rest None (Closed causes.MoreNotAllowed) = ⊥
 ClosesBy limit rest None (Closed causes.StreamBroken) = ⊥
 ClosesBy limit rest (Some cause) state = (state ≡ Closed cause) × (rest ≡ [])
+
+-- the client is closed since no more bytes come
+abbrev pub IsOver : ClientState → Type 0
+IsOver state = (state ≡ Closed causes.Ended) ⊎ (state ≡ Closed causes.EndedInside)
 
 -- What a client received splits into messages and a rest, in exactly one way. The replies that it
 -- handed out, and then the one that is ready, are these messages in order, each once, each to the
@@ -160,3 +166,4 @@ pub record HoldsAlone (limit : ℕ) (acts : List ClientAct) (new : ClientEnd) : 
   pub table : (hear_all silence heard).table ≡ new.client.requests.outstanding
   pub closes : ClosesBy limit rest (hear_all silence heard).cause new.client.state
   pub last : IsLastHeard silence heard
+  pub told : IsOver new.client.state → Contains acts EndsDown
