@@ -66,8 +66,8 @@ abbrev pub IsPairCall : (ℕ → Bool) → ℕ → (ℕ → ClientEnd) → ℕ �
 IsPairCall strange k ends (c, n) x = (strange c ≡ false) × IsCallOf k ends (c, n) x
 
 -- After these deeds the headline holds of the records that the owners of the pairs' clients have,
--- with the log without the strangers' entries. It is what `OwnersKnow` says where there are no
--- strangers.
+-- with the log without the strangers' entries. `OwnersKnow` says more where there are no strangers:
+-- that nothing but the pairs' requests changes the handler's state.
 pub record PairsKnow {H : Type 0} (does : Does H) (stops : Stops H) (strange : ℕ → Bool) (k : ℕ)
     (first : H) (deeds : List Deed) (ends : ℕ → ClientEnd) (servers : ServerEnds H) : Type 0 where
   pub m : Machine H

@@ -25,8 +25,9 @@ ghost use Rattle.wire_channels.specs.Work.{CanGoOn, Falls, IsLive, IsWork};
 
 use wire_peer::Handler;
 
-/// Proves that the other laws speak of something: for any payload there is a run in which a plain
-/// call and an exhaust call with two replies get done, and an unacknowledged call is sent.
+/// Proves that the other laws speak of something: for any payload whose message is within the limit
+/// there is a run in which a plain call and an exhaust call with two replies get done, and an
+/// unacknowledged call is sent.
 pub fn calls_get_done()
     ensures { (limit : ℕ) (payload : Carried) → IsLimit limit
         → message_len (content_of payload) ≤ limit → ∥ GetDone limit payload ∥₁ }

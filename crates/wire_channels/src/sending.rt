@@ -22,7 +22,8 @@ pub fn send_some<L: Link>(link: &mut L, client: &mut Client) -> Result<Moved, Li
         × ((c : ℕ) (records : List Record) → ClientDoes c (SendsUp bytes)
         (record { client = client.old; records = records })
         (record { client = client.new; records = records })) }
-    ensures some { 0 < length client.old.requests.output → IfOk result (λ moved. moved ≢ Moved.Bytes 0) }
+    ensures some { 0 < length client.old.requests.output
+        → IfOk result (λ moved. moved ≢ Moved.Bytes 0) }
     ensures later { TellsLater result (L.waits link.old) (L.waits link.new) }
     ensures fails { OnErr result (Rose (L.failures link.old) (L.failures link.new)) }
     ensures unchanged { OnErr result (client.new ≡ client.old) }

@@ -31,7 +31,8 @@ IsEntryWith connection m answer made =
     (made ≡ entered connection (asked_by m) (Some (answer ∷ [])) ∷ [])
     ⊎ (made ≡ entered connection (asked_by m) None ∷ [])
 
--- each act makes the entry of its request alone, with the answer that it gives
+-- Each act makes the entry of its request alone, with the answer that it gives. Where a request
+-- that wants no reply is passed on, that is its own payload.
 abbrev pub MakesOwn : (connection : ℕ) → DownAct → Type 0
 MakesOwn connection (Moves move) = Unit {0}
 MakesOwn connection (PassesOn m call made) =
@@ -43,7 +44,8 @@ EachMakesOwn connection [] = Unit {0}
 EachMakesOwn connection (act ∷ acts) = MakesOwn connection act × EachMakesOwn connection acts
 
 -- The connection was served with what was taken and sent, as `IsServed` says by the entries that
--- were made, and these have the answers that were given.
+-- were made, and these have the answers that were given. A request that wants no reply is given no
+-- answer, and its entry has its own payload in the place of one.
 pub record IsAnswered (connection : ℕ) (acts : List DownAct) (d : DownSeen) : Type 0 where
   pub served : IsServed connection (of_acts taken_by acts) (of_acts made_by acts)
       (of_acts sent_by acts) d.front

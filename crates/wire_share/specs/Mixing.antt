@@ -27,8 +27,8 @@ pub record IsReplyTo (u : ℕ) (m answer : Message) (call : ℕ) (end : ClientEn
   pub parts : record_.parts ≡ answer.content ∷ []
   pub done : record_.state ≡ Done
 
--- Each request gets the reply to a call of its own payload, and no later request gets that of the
--- same call.
+-- Each request that is answered gets the reply to a call of its own payload, and no later request
+-- gets that of the same call.
 pub record NeverMixed (acts : List ShareAct) (ends : ℕ → ClientEnd) : Type 0 where
   pub own : (d u : ℕ) (m answer : Message) (reply : ReadyReply)
       (made : List LogEntry) → IsAmong (Gives d u m reply answer made) acts
@@ -51,7 +51,7 @@ pub record IsEntryOf (u : ℕ) (m answer : Message) (log : List LogEntry) (e : �
   pub payload : entry.payload ≡ m.content
   pub answers : entry.answers ≡ Some (answer.content ∷ [])
 
--- Each request that is passed to a server over a connection from 1 to k gets the answer that an
+-- Each request that is answered by a server over a connection from 1 to k gets the answer that an
 -- entry of its log has for the request's own payload, and no later request gets that of the same
 -- entry.
 pub record AnswersAreTheServers (acts : List ShareAct) (k : ℕ) (log : List LogEntry)

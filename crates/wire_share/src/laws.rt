@@ -15,8 +15,8 @@ use wire_channels::laws::{a_client_holds_alone, limits_may_differ};
 use wire_peer::Handler;
 
 /// Proves that answers are never mixed, whatever is done with any downstreams and upstreams, and
-/// whatever bytes come: each request gets the reply to a call of its own payload, and no other
-/// request gets the reply to that call. Each upstream has a number of its own.
+/// whatever bytes come: each request that is answered gets the reply to a call of its own payload,
+/// and no other request gets the reply to that call. Each upstream has a number of its own.
 pub fn answers_are_never_mixed()
     ensures { (acts : List ShareAct) (downs : ℕ → DownSeen) (made : ℕ → Made)
         (ends : ℕ → ClientEnd)
@@ -53,7 +53,8 @@ pub fn each_answer_is_the_servers<H: Handler>()
 /// Proves that the requests of a connection are answered in order, each once, whatever others do
 /// in between: what it took is requests one after another, as messages or as queries, and a rest;
 /// each but maybe the last has one entry, with the answer that it was given; and what was put out
-/// are the replies with these answers, under the ids that the requests have.
+/// are the replies with these answers, under the ids that the requests have. A request that wants no
+/// reply is given no answer, and its entry has its own payload in the place of one.
 pub fn connections_are_answered_in_order()
     ensures { (connection : ℕ) (acts : List DownAct) (now : DownSeen)
         → DownRun (new_downstream connection) acts now → IsAnswered connection acts now }

@@ -6,7 +6,8 @@ use wire_peer::CallRefusal;
 /// Why a request isn't passed on.
 #[derive(Clone, Copy, Debug, PartialEq, Eq, Error)]
 pub enum PassRefusal {
-    /// No request waits, or the one that does was passed on before.
+    /// No request waits, the one that does was passed on before, bytes are yet to be sent, or the
+    /// downstream is closed.
     #[error("no request waits")]
     NothingWaits,
     /// The upstream refuses the call.
