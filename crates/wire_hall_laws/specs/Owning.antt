@@ -1,11 +1,13 @@
 -- That a hall is an owner of servers: what the server of each connection was fed, and what it gave.
-use Rattle.std.specs.Prelude.{◌≡◌, ◌≢◌, ℕ, zero, suc, Option, None, Some, List, [], ◌∷◌, ◌++◌}
+use Rattle.std.specs.Prelude.{◌≡◌, ℕ, zero, suc, Option, None, Some, List, [], ◌∷◌, ◌++◌}
 use Rattle.std.specs.Prelude.{length, slice_get}
 use Rattle.slab.specs.Slab.{get}
-use Rattle.wire_msg.specs.{Message, SpellsMsg, canonical}
+use Rattle.wire_msg.specs.{Content, Message, SpellsMsg, canonical}
 use Rattle.wire_query.specs.{Query, SpellsQuery, message_of}
-use Rattle.wire_peer.specs.{Asked, Does, LogEntry, RunOf, ServerView, Stops, log_of}
-use Rattle.wire_front.specs.{FrontView, Respells}
+use Rattle.wire_peer.specs.{Asked, Does, LogEntry, RunOf, ServerView, Stops, asked_by, log_of}
+use Rattle.wire_peer.specs.{replies, written}
+use Rattle.wire_front.specs.{FrontView, NoRespelling, Respells}
+use Rattle.wire_front.specs.declared.cause.FrontCause.{FrontCause}
 use Rattle.wire_hall.specs.{HallAct, HallSeen, SeatAct, SeatSeen, SeatServed, Tells, of_turns}
 use Rattle.wire_hall.specs.{received_by, sent_by, taken_by, told_in, turns_of}
 use Rattle.wire_hall.specs.Halls.{Acts, Closes, Forgets, Opens, Stays}
@@ -43,12 +45,19 @@ pub data GivenAs : (given out : List ℕ) → Type 0 where
   and_respelled : {given out : List ℕ} (bytes reply : List ℕ) → GivenAs given out
       → Respells bytes reply → GivenAs (given ++ bytes) (out ++ reply)
 
+-- these are the bytes of what one answer gave: the replies to one request
+abbrev pub IsOneAnswer : List ℕ → Type 0
+IsOneAnswer bytes =
+    (id : ℕ) × (m : Message) × (answers : List Content)
+    × (bytes ≡ written (replies id m.id (asked_by m) answers))
+
 -- The front put out all that its server gave; or all but what the last answer gave, and then the
 -- front closed, since that has no OP_REPLY.
 pub data IsGiven (given out : List ℕ) (f : FrontView) : Type 0 where
   all_put_out : GivenAs given out → IsGiven given out f
-  last_lost : {before : List ℕ} (lost : List ℕ) → GivenAs before out → given ≡ before ++ lost
-      → f.cause ≢ None → f.server.waiting ≡ [] → IsGiven given out f
+  last_lost : {before : List ℕ} (lost : List ℕ) (cause : FrontCause) → GivenAs before out
+      → given ≡ before ++ lost → IsOneAnswer lost → NoRespelling lost cause
+      → f.cause ≡ Some cause → f.server.waiting ≡ [] → IsGiven given out f
 
 -- Connection c was served over this link by these turns, and has these entries in the log. This is
 -- its seat, as it is or was when it was closed, and its server, with which these acts were done.
