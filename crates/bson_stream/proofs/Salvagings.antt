@@ -1,6 +1,6 @@
 -- What a salvager has found so far, one step after another.
 use Rattle.std.proofs.Common.{◌≡◌, ◌≢◌, ◌⊎◌, inl, inr, ℕ, ◌+◌, ◌*◌, ◌-◌, ◌<◌, ◌≤◌, Bool, true, false, true≢false, List, [], ◌∷◌, ◌++◌, Option, None, Some, length, take, drop, refl, sym, ap, subst, ◌∙◌, arith, append_assoc, append-nil, length-append, length-drop, length-take, take-add, take-append-drop}
-use Rattle.std.proofs.lemmas.List.{drop-append-le, drop-drop}
+use Rattle.std.proofs.lemmas.List.{drop-drop}
 use Rattle.bson_elem.specs.{Spells, Tree}
 use Rattle.bson_stream.specs.declared.gap.Find.{Find}
 use Rattle.bson_stream.specs.declared.gap.Find.TheVariants as find
@@ -222,10 +222,7 @@ abbrev pub seen : ℕ → ℕ → List ℕ → Option GapStart → ℕ → Salva
 seen limit start held gap room = record { limit = limit; start = start; held = held; gap = gap; room = room }
 
 module _ (limit start room at : ℕ) (bytes : List ℕ) (ended : Bool) (before after : Option GapStart) (x : Sought) (f : Find)
-    (is : IsSought limit ended start (take (length bytes - at) (drop at bytes)) before x) (o : IsOutcome ended (start + x.passed) x after f) where
-  sought_held : IsSought limit ended start (drop at bytes) before x
-  sought_held = subst (λ (b : List ℕ). IsSought limit ended start b before x) (tail_is at bytes) is
-
+    (is : IsSought limit ended start (drop at bytes) before x) (o : IsOutcome ended (start + x.passed) x after f) where
   -- what is held then
   held_then : drop x.passed (drop at bytes) ≡ drop (at + x.passed) bytes
   held_then = drop-drop x.passed at bytes
@@ -234,20 +231,20 @@ module _ (limit start room at : ℕ) (bytes : List ℕ) (ended : Bool) (before a
       → IsFound ended fed told (seen limit (start + x.passed) (drop (at + x.passed) bytes) after room) f
   found_then fed told so =
       subst (λ (b : List ℕ). IsFound ended fed told (seen limit (start + x.passed) b after room) f) held_then
-      (found ended fed told (seen limit start (drop at bytes) before room) x after f so sought_held o)
+      (found ended fed told (seen limit start (drop at bytes) before room) x after f so is o)
 
   pub front_then : (len : ℕ) (canonical : Bool) → f ≡ find.Document len canonical → IsDocumentOf limit (drop (at + x.passed) bytes) len canonical
   front_then len canonical same =
       subst (λ (b : List ℕ). IsDocumentOf limit b len canonical) held_then
-      (front_found ended (seen limit start (drop at bytes) before room) x after f len canonical sought_held o same)
+      (front_found ended (seen limit start (drop at bytes) before room) x after f len canonical is o same)
 
   pub less_then : LeavesLess (seen limit start (drop at bytes) before room) (seen limit (start + x.passed) (drop (at + x.passed) bytes) after room) f
   less_then =
       subst (λ (b : List ℕ). LeavesLess (seen limit start (drop at bytes) before room) (seen limit (start + x.passed) b after room) f) held_then
-      (leaves_less ended (seen limit start (drop at bytes) before room) x after f sought_held o)
+      (leaves_less ended (seen limit start (drop at bytes) before room) x after f is o)
 
   pub within_then : x.passed ≤ length bytes - at
-  within_then = omega (arith, sought_held.within, length-drop at bytes)
+  within_then = omega (arith, is.within, length-drop at bytes)
 
 -- ---- the parts of all bytes
 
@@ -346,28 +343,6 @@ released_then limit start room at len bytes gap within ended fed told t so none 
     subst (λ (b : List ℕ). SoFar ended fed (told ++ a_document start t ∷ []) (seen limit (start + len) b gap room)) (drop-drop len at bytes)
     (released ended fed told (seen limit start (drop at bytes) gap room) t len within so none le spelled)
 
-in_gap_room : (ended : Bool) (s : Salvaging) (room : ℕ) (skipped : List ℕ) (gap : Option GapStart) → IsInGap ended s skipped gap → IsInGap ended (record s { room = room }) skipped gap
-in_gap_room ended s room skipped None is = is
-in_gap_room ended s room skipped (Some g) is = is
-
--- the memory doesn't matter
-pub any_room : (ended : Bool) (fed : List ℕ) (told : List Part) (s mid : Salvaging) → mid ≡ record s { room = mid.room } → SoFar ended fed told s → SoFar ended fed told mid
-any_room ended fed told s mid same so = subst (SoFar ended fed told) (sym same) (record {
-  skipped = so.skipped;
-  parts = so.parts;
-  none = so.none;
-  in_gap = in_gap_room ended s mid.room so.skipped s.gap so.in_gap;
-  size = so.size;
-})
-
-pub fed_then : (limit start room after at : ℕ) (bytes new piece : List ℕ) (gap : Option GapStart) → new ≡ bytes ++ piece → at ≤ length bytes → (fed : List ℕ) (told : List Part)
-    → SoFar false fed told (seen limit start (drop at bytes) gap room) → SoFar false (fed ++ piece) told (seen limit start (drop at new) gap after)
-fed_then limit start room after at bytes new piece gap is le fed told so =
-    let held : drop at bytes ++ piece ≡ drop at new = sym (drop-append-le at bytes piece le) ∙ ap (drop at) (sym is) in
-    subst (λ (b : List ℕ). SoFar false (fed ++ piece) told (seen limit start b gap after)) held (fed_on fed piece told (seen limit start (drop at bytes) gap room) after so)
-
--- what is lent of longer memory
-pub lent_is : (at len : ℕ) (items bytes : List ℕ) → items ≡ bytes → take (at + len - at) (drop at items) ≡ take len (drop at bytes)
-lent_is at len items bytes same =
-    let size : at + len - at ≡ len = omega arith in
-    ap (λ (n : ℕ). take n (drop at items)) size ∙ ap (λ (x : List ℕ). take len (drop at x)) same
+pub fed_then : (piece : List ℕ) (s new : Salvaging) → new ≡ record s { held = s.held ++ piece; room = new.room } → (fed : List ℕ) (told : List Part) → SoFar false fed told s
+    → SoFar false (fed ++ piece) told new
+fed_then piece s new same fed told so = subst (SoFar false (fed ++ piece) told) (sym same) (fed_on fed piece told s new.room so)

@@ -144,7 +144,7 @@ LeavesLess old new _ = left_of new ≤ left_of old
 
 -- why a salvager took nothing of the piece
 abbrev pub IsNotFed : Salvaging → List ℕ → ReadRefusal → Type 0
-IsNotFed s piece OutOfMemory = Unit {0}
+IsNotFed s piece OutOfMemory = s.room < length s.held + length piece
 IsNotFed s piece TooLong = ⊥
 IsNotFed s piece TooFar = 2 ^ 64 ≤ s.start + length s.held + length piece
 

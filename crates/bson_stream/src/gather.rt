@@ -19,7 +19,7 @@ pub(crate) fn is_length(n: u32) -> bool
 }
 
 /// Copies `piece` into `bytes`, from offset `len` on.
-fn put(bytes: &mut [u8], len: usize, piece: &[u8])
+pub(crate) fn put(bytes: &mut [u8], len: usize, piece: &[u8])
     requires { len + length piece.now ≤ length bytes.old }
     ensures whole { length bytes.new ≡ length bytes.old }
     ensures filled { take (len + length piece.now) bytes.new ≡ take len bytes.old ++ piece.now }
@@ -69,6 +69,31 @@ pub(crate) fn wanted(held: &[u8], piece: &[u8], limit: u32) -> Result<usize, Rea
     Ok(announced as usize)
 }
 
+/// Makes `bytes` `size` long, unless it is longer.
+///
+/// # Errors
+///
+/// Returns `OutOfMemory` if memory runs out. `bytes` is unchanged then.
+pub(crate) fn grow(bytes: &mut Vec<u8>, size: usize) -> Result<(), ReadRefusal>
+    ensures kept { take (length bytes.old.items) bytes.new.items ≡ bytes.old.items }
+    ensures grown { OnOk result (length bytes.new.items ≡ max (length bytes.old.items) size) }
+    ensures unchanged { OnErr result (bytes.new.items ≡ bytes.old.items) }
+    ensures refused { IfErr result
+        (λ e. (e ≡ ReadRefusal.OutOfMemory) × (length bytes.old.items < size)) }
+{
+    let len = bytes.len();
+    if size <= len {
+        return Ok(());
+    }
+    let Ok(()) = bytes.reserve_exact(size - len) else {
+        return Err(ReadRefusal::OutOfMemory);
+    };
+    let Ok(()) = bytes.resize(size, 0) else {
+        unreachable!()
+    };
+    Ok(())
+}
+
 /// Makes `bytes` at least `least` long, and at most twice that or `most`, unless it is longer.
 ///
 /// # Errors
@@ -85,18 +110,10 @@ fn make_room(bytes: &mut Vec<u8>, least: usize, most: usize) -> Result<(), ReadR
     ensures refused { IfErr result
         (λ e. (e ≡ ReadRefusal.OutOfMemory) × (length bytes.old.items < least)) }
 {
-    let len = bytes.len();
-    if least <= len {
+    if least <= bytes.len() {
         return Ok(());
     }
-    let size = (2 * least).min(most);
-    let Ok(()) = bytes.reserve_exact(size - len) else {
-        return Err(ReadRefusal::OutOfMemory);
-    };
-    let Ok(()) = bytes.resize(size, 0) else {
-        unreachable!()
-    };
-    Ok(())
+    grow(bytes, (2 * least).min(most))
 }
 
 /// Puts `piece` behind the first `len` of `bytes`. Makes `bytes` longer where it is too short for

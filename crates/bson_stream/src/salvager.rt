@@ -1,8 +1,8 @@
 //! Finds the documents in a stream of which some bytes are damaged.
 
-ghost use Rattle.std.specs.Prelude.{◌≡◌, ◌<◌, ◌≤◌, ◌+◌, ◌*◌, ◌^◌, ◌++◌, [], IfErr, List, OnErr};
-ghost use Rattle.std.specs.Prelude.{OnOk, ℕ};
-ghost use Rattle.std.specs.Prelude.{◌∷◌, Bool, None, drop, false, length, max, take, vec_capacity};
+ghost use Rattle.std.specs.Prelude.{◌≡◌, ◌<◌, ◌≤◌, ◌+◌, ◌-◌, ◌*◌, ◌^◌, ◌++◌, ◌∷◌, [], Bool};
+ghost use Rattle.std.specs.Prelude.{IfErr, IfOk, List, None, OnErr, OnOk, drop, false, length, max};
+ghost use Rattle.std.specs.Prelude.{take, ℕ};
 ghost use Rattle.bson_elem.specs.{Spells, Tree};
 ghost use Rattle.bson_raw.specs.{IsSpelled, document_bytes};
 ghost use Rattle.bson_stream.specs.Salvage.{Part, a_document};
@@ -10,6 +10,7 @@ ghost use Rattle.bson_stream.specs.Salvagers.{IsDocumentOf, IsFound, IsNotFed, I
 ghost use Rattle.bson_stream.specs.Salvagers.{IsSettled, LeavesLess, SoFar};
 
 use crate::gap::{Find, Gap, GapStart};
+use crate::gather::{grow, put};
 use crate::reader_state::ReadRefusal;
 use crate::seek::{Sought, Stand, seek};
 use bson_raw::RawDocument;
@@ -27,16 +28,18 @@ pub struct Salvager {
     limit: u32,
     /// The offset of the first held byte.
     start: usize,
-    /// Some bytes that are behind, and the held ones.
+    /// Some bytes that are behind, the held ones, and room for more.
     bytes: Vec<u8>,
     /// The number of those that are behind.
     at: usize,
+    /// The end of the held ones.
+    len: usize,
     /// The gap in which the held bytes begin, if they do.
     gap: Option<GapStart>,
 }
 
 impl Model for Salvager {
-    ghost use Rattle.std.specs.Prelude.{◌+◌, ◌-◌, ◌<◌, ◌≤◌, ◌^◌, drop, length, vec_capacity};
+    ghost use Rattle.std.specs.Prelude.{◌+◌, ◌-◌, ◌<◌, ◌≤◌, ◌^◌, drop, length, take};
     ghost use Rattle.bson_stream.specs.Salvagers.{Salvaging};
 
     ghost Value = { Salvaging };
@@ -44,15 +47,16 @@ impl Model for Salvager {
     ghost view = { λ s. record {
       limit = s.limit;
       start = s.start;
-      held = drop s.at s.bytes.items;
+      held = drop s.at (take s.len s.bytes.items);
       gap = s.gap;
-      room = vec_capacity s.bytes;
+      room = length s.bytes.items;
     } };
 
     ghost invariant = { λ s. record {
       limit : s.limit < 2 ^ 31;
-      within : s.at ≤ length s.bytes.items;
-      offset : s.start + (length s.bytes.items - s.at) < 2 ^ 64;
+      behind : s.at ≤ s.len;
+      within : s.len ≤ length s.bytes.items;
+      offset : s.start + (s.len - s.at) < 2 ^ 64;
     } };
 }
 
@@ -71,55 +75,47 @@ impl Salvager {
             start: 0,
             bytes: Vec::new(alloc),
             at: 0,
+            len: 0,
             gap: None,
         }
     }
 
-    /// Lets go of the bytes that are behind, where the piece has no room behind what is held, and
-    /// makes room for it: as much as is held and the piece, twice.
-    fn make_room(&mut self, more: usize) -> Result<(), ReadRefusal>
-        ensures kept { self.new ≡ record self.old { room = self.new.room } }
-        ensures room { self.new.room ≤ max self.old.room (2 * (length self.old.held + more)) }
-        ensures refused { IfErr result (λ e. e ≡ ReadRefusal.OutOfMemory) }
-    {
-        if more <= self.bytes.capacity() - self.bytes.len() {
-            return Ok(());
-        }
-        remove_front(&mut self.bytes, self.at);
-        self.at = 0;
-        let len = self.bytes.len();
-        let room = len.saturating_add(more).saturating_mul(2);
-        match self.bytes.reserve_exact(room - len) {
-            Ok(()) => Ok(()),
-            Err(_) => Err(ReadRefusal::OutOfMemory),
-        }
-    }
-
-    /// Takes all of `piece`, behind what is held. Where there is no room for it, there is room then
-    /// for twice what is held.
+    /// Takes all of `piece`, behind what is held.
+    ///
+    /// Memory is taken where there is too little behind what is held: at most for twice as many
+    /// bytes as are held then. What was taken is kept.
     ///
     /// # Errors
     ///
-    /// Nothing is taken then, and what is held stays.
+    /// Nothing is taken then, and nothing changes.
     ///
-    /// - `OutOfMemory` if memory runs out.
+    /// - `OutOfMemory` if memory runs out, and there is too little for what is held and the piece.
     /// - `TooFar` if the piece would end more than 2 ^ 64 - 1 bytes from the start of the stream.
     pub fn feed(&mut self, piece: &[u8]) -> Result<(), ReadRefusal>
         ensures held { OnOk result (self.new
             ≡ record self.old { held = self.old.held ++ piece.now; room = self.new.room }) }
         ensures fed { OnOk result ((fed : List ℕ) (told : List Part)
             → SoFar false fed told self.old → SoFar false (fed ++ piece.now) told self.new) }
-        ensures kept { OnErr result (self.new ≡ record self.old { room = self.new.room }) }
+        ensures kept { OnErr result (self.new ≡ self.old) }
+        ensures room { self.new.room
+            ≤ max self.old.room (2 * (length self.old.held + length piece.now)) }
         ensures refused { IfErr result (λ e. IsNotFed self.old piece.now e) }
     {
-        if piece.len() > usize::MAX - (self.start + (self.bytes.len() - self.at)) {
+        let held = self.len - self.at;
+        if piece.len() > usize::MAX - (self.start + held) {
             return Err(ReadRefusal::TooFar);
         }
-        self.make_room(piece.len())?;
-        let Ok(()) = self.bytes.extend_from_slice(piece) else {
-            return Err(ReadRefusal::OutOfMemory);
-        };
+        self.at = make_way(&mut self.bytes, self.at, self.len, piece.len())?;
+        put(&mut self.bytes, self.at + held, piece);
+        self.len = self.at + held + piece.len();
         Ok(())
+    }
+
+    /// Returns the held bytes.
+    fn held(&self) -> &[u8]
+        ensures { result.now ≡ self.now.held }
+    {
+        &self.bytes[self.at..self.len]
     }
 
     /// Looks for what comes next. If `ended` is true, no more bytes come.
@@ -134,13 +130,7 @@ impl Salvager {
         ensures limit { self.new.limit ≡ self.old.limit }
         ensures room { self.new.room ≡ self.old.room }
     {
-        let sought = seek(
-            &self.bytes[self.at..],
-            self.start,
-            self.limit,
-            ended,
-            self.gap,
-        );
+        let sought = seek(self.held(), self.start, self.limit, ended, self.gap);
         self.at += sought.passed;
         self.start += sought.passed;
         let (gap, find) = outcome(sought, self.start, ended);
@@ -154,7 +144,7 @@ impl Salvager {
         requires spelled { IsSpelled (take len self.now.held) }
         ensures { document_bytes result ≡ take len self.now.held }
     {
-        RawDocument::from_spelled(&self.bytes[self.at..self.at + len])
+        RawDocument::from_spelled(&self.held()[..len])
     }
 
     /// Lets go of the first `len` bytes, of which the document in front has as many.
@@ -181,11 +171,12 @@ impl Salvager {
         self.start
     }
 
-    /// Returns the number of bytes that there is memory for.
+    /// Returns the number of bytes that there is memory for. Each call of `feed` leaves it at most
+    /// twice what is held, or as it was.
     pub fn room(&self) -> usize
         ensures { result ≡ self.now.room }
     {
-        self.bytes.capacity()
+        self.bytes.len()
     }
 }
 
@@ -211,13 +202,43 @@ fn outcome(sought: Sought, to: usize, ended: bool) -> (Option<GapStart>, Find)
     }
 }
 
-/// Removes the first `count` bytes.
-fn remove_front(bytes: &mut Vec<u8>, count: usize)
-    requires { count ≤ length bytes.old.items }
-    ensures items { bytes.new.items ≡ drop count bytes.old.items }
-    ensures room { vec_capacity bytes.new ≡ vec_capacity bytes.old }
+/// Moves the bytes from `at` to `len` to the front.
+fn move_to_front(bytes: &mut [u8], at: usize, len: usize)
+    requires behind { at ≤ len }
+    requires within { len ≤ length bytes.old }
+    ensures whole { length bytes.new ≡ length bytes.old }
+    ensures moved { take (len - at) bytes.new ≡ drop at (take len bytes.old) }
 {
-    let len = bytes.len();
-    bytes.as_mut_slice().copy_within(count..len, 0);
-    bytes.truncate(len - count);
+    bytes.copy_within(at..len, 0);
+}
+
+/// Makes room for `more` bytes behind those from `at` to `len`, and returns where these begin then:
+/// at the front where there was no room behind them. There is room for twice as many then, unless
+/// memory runs out, so that bytes are seldom moved.
+///
+/// # Errors
+///
+/// Returns `OutOfMemory` if memory runs out. `bytes` is unchanged then.
+fn make_way(bytes: &mut Vec<u8>, at: usize, len: usize, more: usize) -> Result<usize, ReadRefusal>
+    requires behind { at ≤ len }
+    requires within { len ≤ length bytes.old.items }
+    requires small { len - at + more < 2 ^ 64 }
+    ensures there { IfOk result (λ to. to + (len - at) + more ≤ length bytes.new.items) }
+    ensures kept { IfOk result (λ to. drop to (take (to + (len - at)) bytes.new.items)
+        ≡ drop at (take len bytes.old.items)) }
+    ensures most { length bytes.new.items
+        ≤ max (length bytes.old.items) (2 * (len - at + more)) }
+    ensures unchanged { OnErr result (bytes.new.items ≡ bytes.old.items) }
+    ensures refused { IfErr result (λ e. (e ≡ ReadRefusal.OutOfMemory)
+        × (length bytes.old.items < len - at + more)) }
+{
+    if more <= bytes.len() - len {
+        return Ok(at);
+    }
+    let least = len - at + more;
+    if grow(bytes, least.saturating_mul(2)).is_err() && bytes.len() < least {
+        return Err(ReadRefusal::OutOfMemory);
+    }
+    move_to_front(bytes, at, len);
+    Ok(0)
 }
