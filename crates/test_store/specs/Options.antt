@@ -31,7 +31,7 @@ is_find_field name =
     is_one_of name
     (codes "find" ∷ codes "filter" ∷ codes "sort" ∷ codes "skip" ∷ codes "limit"
     ∷ codes "batchSize" ∷ codes "singleBatch" ∷ codes "projection" ∷ codes "allowDiskUse"
-    ∷ codes "noCursorTimeout" ∷ [])
+    ∷ codes "noCursorTimeout" ∷ codes "allowPartialResults" ∷ [])
 
 abbrev pub is_delete_field : List ℕ → Bool
 is_delete_field name =
@@ -49,7 +49,8 @@ is_count_field name =
 abbrev pub is_aggregate_field : List ℕ → Bool
 is_aggregate_field name =
     is_one_of name
-    (codes "aggregate" ∷ codes "pipeline" ∷ codes "cursor" ∷ codes "allowDiskUse" ∷ [])
+    (codes "aggregate" ∷ codes "pipeline" ∷ codes "cursor" ∷ codes "allowDiskUse"
+    ∷ codes "bypassDocumentValidation" ∷ [])
 
 abbrev pub is_more_field : List ℕ → Bool
 is_more_field name = is_one_of name (codes "getMore" ∷ codes "collection" ∷ codes "batchSize" ∷ [])

@@ -54,7 +54,7 @@ fn is_find_field(name: &str) -> bool
 {
     match name {
         "find" | "filter" | "sort" | "skip" | "limit" | "batchSize" | "singleBatch" => true,
-        "projection" | "allowDiskUse" | "noCursorTimeout" => true,
+        "projection" | "allowDiskUse" | "noCursorTimeout" | "allowPartialResults" => true,
         _ => false,
     }
 }
@@ -95,6 +95,7 @@ fn is_aggregate_field(name: &str) -> bool
 {
     match name {
         "aggregate" | "pipeline" | "cursor" | "allowDiskUse" => true,
+        "bypassDocumentValidation" => true,
         _ => false,
     }
 }
