@@ -8,8 +8,8 @@ pub enum Cause {
     /// The line doesn't begin with `on` and the name of a command.
     #[error("a rule begins with 'on' and the name of a command, or '*'")]
     Start,
-    /// The filter is no document.
-    #[error("the filter is no document, as Extended JSON or as hexadecimal text")]
+    /// What follows the command is neither an action nor `times`, and no document.
+    #[error("what follows the command is no action, no 'times' and no filter, which is a document as Extended JSON or as hexadecimal text")]
     Filter,
     /// The filter asks for what isn't carried out.
     #[error("the filter asks for what is not carried out")]
@@ -18,7 +18,7 @@ pub enum Cause {
     #[error("a whole number follows 'times'")]
     Times,
     /// The rest of the line is no action.
-    #[error("a rule ends with reply, error, delay, hangup, cut, cutup, drop or pass and its operands")]
+    #[error("a rule ends with reply DOCUMENT, error CODE \"NAME\", delay MS, hangup, cut BYTES, cutup BYTES, drop or pass")]
     Action,
     /// The allocator refused memory.
     #[error("out of memory")]
