@@ -124,7 +124,7 @@ read_as_other bytes (contents.Message m) is isnt = is
 read_as_other bytes (contents.Reply documents) is isnt = is
 read_as_other bytes (contents.Other rest) is isnt = isnt rest refl
 
-to_end : (n : ℕ) (xs : List ℕ) → n ≤ length xs → slice_range xs n (length xs) ≡ drop n xs
+pub to_end : (n : ℕ) (xs : List ℕ) → n ≤ length xs → slice_range xs n (length xs) ≡ drop n xs
 to_end n xs inside = grind (arith, common_steps)
 
 -- the bytes from an offset on, or none

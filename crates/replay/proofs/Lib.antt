@@ -1,2 +1,3 @@
 pub mod Stripping
 pub mod Comparing
+pub mod Replies

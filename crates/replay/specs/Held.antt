@@ -25,3 +25,15 @@ abbrev pub IsOtherOf : List ℕ → Content → Type 0
 IsOtherOf bytes (Message m) = ⊥
 IsOtherOf bytes (Reply documents) = ⊥
 IsOtherOf bytes (Other rest) = rest.now ≡ drop 12 bytes
+
+-- It is read as an OP_REPLY with these bytes from its documents on.
+abbrev pub IsReplyOf : List ℕ → Content → Type 0
+IsReplyOf bytes (Message m) = ⊥
+IsReplyOf bytes (Reply documents) = documents.now ≡ drop 36 bytes
+IsReplyOf bytes (Other rest) = ⊥
+
+-- It isn't read as an OP_REPLY.
+abbrev pub IsNoReply : Content → Type 0
+IsNoReply (Message m) = Unit {0}
+IsNoReply (Reply documents) = ⊥
+IsNoReply (Other rest) = Unit {0}

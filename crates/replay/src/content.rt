@@ -1,10 +1,12 @@
 //! What an answer holds: what is compared of it, and shown.
 
-ghost use Rattle.std.specs.Prelude.{◌≡◌, ◌↔◌, ◌≤◌, IfOk, IsTrue, List, drop, false, length, map};
+ghost use Rattle.std.specs.Prelude.{◌≡◌, ◌↔◌, ◌≤◌, IfOk, IsTrue, List, ℕ, drop, false, length, map};
 ghost use Rattle.bson_elem.specs.{Tree};
+ghost use Rattle.bson_raw.specs.{DocumentSplit};
 ghost use Rattle.wire_msg.specs.{Carries, DocumentsAre, IsMessage, Message, Sequence, SpellsMsg};
 ghost use Rattle.wire_msg.specs.{Content as Carried, msg_bytes};
-ghost use Rattle.replay.specs.Held.{IsMessageOf, IsNoMessage, IsOtherOf, IsReply};
+ghost use Rattle.replay.specs.Held.{IsMessageOf, IsNoMessage, IsNoReply, IsOtherOf, IsReply};
+ghost use Rattle.replay.specs.Held.{IsReplyOf};
 ghost use Rattle.replay.specs.Same.{AreSameDocuments, AreSameMessages, IsSameSequence, OneByOne};
 
 use crate::flags::{CHECKSUM_PRESENT, FLAGS, has_flag};
@@ -74,6 +76,8 @@ impl<'a> Content<'a> {
         ensures none { ¬ IsMessage MAX_MESSAGE_LEN bytes.now → IsNoMessage result }
         ensures other { ¬ IsMessage MAX_MESSAGE_LEN bytes.now → ¬ IsReply bytes.now
             → IsOtherOf bytes.now result }
+        ensures reply { IsReply bytes.now → IsReplyOf bytes.now result }
+        ensures no_reply { ¬ IsReply bytes.now → IsNoReply result }
     {
         if let Ok(message) = RawMsg::parse_with(alloc, bytes, MAX_MESSAGE_LEN) {
             return Content::Message(message);
@@ -86,30 +90,31 @@ impl<'a> Content<'a> {
     }
 }
 
-/// Returns true if documents that stand one after another are the same but for the fields of these
-/// names. What is no document is compared by its bytes.
+/// Returns true if the documents at the front, one after another, are the same but for the fields of
+/// these names, and what is behind them has the same bytes.
 fn are_same_replies(
     alloc: Global,
     names: &[&str],
     recorded: &[u8],
     received: &[u8],
-) -> Result<bool, AllocError> {
-    let mut recorded = recorded;
-    let mut received = received;
-    for _ in 0..u64::MAX {
-        let (Ok((a, a_rest)), Ok((b, b_rest))) = (
-            RawDocument::front(recorded),
-            RawDocument::front(received),
-        ) else {
-            break;
+) -> Result<bool, AllocError>
+    ensures { (ts us : List Tree) (rest other : List ℕ) → DocumentSplit recorded.now ts rest
+        → DocumentSplit received.now us other → IfOk result (λ same. IsTrue same
+        ↔ (AreSameDocuments (map (λ n. n.now) names.now) ts us × (rest ≡ other))) }
+{
+    let mut left = recorded;
+    let mut other = received;
+    while let Ok((a, behind)) = RawDocument::front(left) {
+        let Ok((b, others)) = RawDocument::front(other) else {
+            return Ok(false);
         };
         if !are_same(alloc, names, a, b)? {
             return Ok(false);
         }
-        recorded = a_rest;
-        received = b_rest;
+        left = behind;
+        other = others;
     }
-    Ok(recorded == received)
+    Ok(left == other)
 }
 
 /// Returns true if the documents of two sequences are the same but for the fields of these names.
@@ -224,6 +229,14 @@ pub fn are_same_answers(
         → IfOk result (λ same. same ≡ false) }
     ensures received_alone { (n : Message) → ¬ IsMessage MAX_MESSAGE_LEN recorded.now
         → SpellsMsg n received.now → length received.now ≤ MAX_MESSAGE_LEN
+        → IfOk result (λ same. same ≡ false) }
+    ensures replies { (ts us : List Tree) (rest other : List ℕ) → IsReply recorded.now
+        → IsReply received.now → DocumentSplit (drop 36 recorded.now) ts rest
+        → DocumentSplit (drop 36 received.now) us other → IfOk result (λ same. IsTrue same
+        ↔ (AreSameDocuments (map (λ n. n.now) names.now) ts us × (rest ≡ other))) }
+    ensures recorded_reply_alone { IsReply recorded.now → ¬ IsReply received.now
+        → IfOk result (λ same. same ≡ false) }
+    ensures received_reply_alone { ¬ IsReply recorded.now → IsReply received.now
         → IfOk result (λ same. same ≡ false) }
 {
     match (Content::of(alloc, recorded), Content::of(alloc, received)) {

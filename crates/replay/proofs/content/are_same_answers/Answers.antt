@@ -1,6 +1,8 @@
 use Rattle.std.proofs.Common.{List, ℕ, drop, refl, sym, subst}
+use Rattle.bson_raw.specs.{DocumentSplit}
 use Rattle.wire_msg.specs.{SpellsMsg}
 use Rattle.replay.proofs.Comparing.{read_as_message, read_as_other, told_by_bytes}
+use Rattle.replay.proofs.Replies.{read_as_reply}
 use Rattle.replay.proofs.content.are_same_answers.Goals as goal
 
 pub returns-in-Message-Message : goal.returns-in-Message-Message
@@ -12,6 +14,9 @@ returns-in-Message-Message c = record {
   other = λ no nor isnt neither. absurd (c.in-Message-Message.ensures.none no);
   recorded_alone = λ m spelled short no. absurd (c.in-Message-Message.ensures'.none no);
   received_alone = λ n no spells within. absurd (c.in-Message-Message.ensures.none no);
+  replies = λ ts us rest other is are split splits. absurd (c.in-Message-Message.ensures.reply is);
+  recorded_reply_alone = λ is isnt. absurd (c.in-Message-Message.ensures.reply is);
+  received_reply_alone = λ isnt is. absurd (c.in-Message-Message.ensures'.reply is);
 }
 
 pub returns-in-Reply-Reply : goal.returns-in-Reply-Reply
@@ -20,6 +25,12 @@ returns-in-Reply-Reply c = record {
   other = λ no nor isnt neither. absurd (c.in-Reply-Reply.ensures.other no isnt);
   recorded_alone = λ m spelled short no. absurd (c.in-Reply-Reply.ensures.message m spelled short);
   received_alone = λ n no spells within. absurd (c.in-Reply-Reply.ensures'.message n spells within);
+  replies = λ ts us rest other is are split splits.
+      c.are_same_replies.ensures ts us rest other
+      (subst (λ (b : List ℕ). DocumentSplit b ts rest) (sym (c.in-Reply-Reply.ensures.reply is)) split)
+      (subst (λ (b : List ℕ). DocumentSplit b us other) (sym (c.in-Reply-Reply.ensures'.reply are)) splits);
+  recorded_reply_alone = λ is isnt. absurd (c.in-Reply-Reply.ensures'.no_reply isnt);
+  received_reply_alone = λ isnt is. absurd (c.in-Reply-Reply.ensures.no_reply isnt);
 }
 
 pub returns-in-Other-Other : goal.returns-in-Other-Other
@@ -30,6 +41,9 @@ returns-in-Other-Other c = record {
       (c.in-Other-Other.ensures.other no isnt) (c.in-Other-Other.ensures'.other nor neither) c.eq.ensures;
   recorded_alone = λ m spelled short no. absurd (c.in-Other-Other.ensures.message m spelled short);
   received_alone = λ n no spells within. absurd (c.in-Other-Other.ensures'.message n spells within);
+  replies = λ ts us rest other is are split splits. absurd (c.in-Other-Other.ensures.reply is);
+  recorded_reply_alone = λ is isnt. absurd (c.in-Other-Other.ensures.reply is);
+  received_reply_alone = λ isnt is. absurd (c.in-Other-Other.ensures'.reply is);
 }
 
 pub returns-in_default : goal.returns-in_default
@@ -39,6 +53,9 @@ returns-in_default c = record {
   other = λ no nor isnt neither. absurd (c.in_default.ensures.none no);
   recorded_alone = λ m spelled short no. refl;
   received_alone = λ n no spells within. refl;
+  replies = λ ts us rest other is are split splits. absurd (c.in_default.ensures.reply is);
+  recorded_reply_alone = λ is isnt. refl;
+  received_reply_alone = λ isnt is. refl;
 }
 
 pub returns-in_default-2 : goal.returns-in_default-2
@@ -47,6 +64,10 @@ returns-in_default-2 c = record {
   other = λ no nor isnt neither. absurd (c.in_default.ensures.other no isnt);
   recorded_alone = λ m spelled short no. refl;
   received_alone = λ n no spells within. refl;
+  replies = λ ts us rest other is are split splits.
+      absurd (read_as_reply c.args.received.now c.of-2.result (c.of-2.ensures.reply are) c.in_default.not-Reply-1);
+  recorded_reply_alone = λ is isnt. refl;
+  received_reply_alone = λ isnt is. refl;
 }
 
 pub returns-in_default-3 : goal.returns-in_default-3
@@ -56,4 +77,7 @@ returns-in_default-3 c = record {
       absurd (read_as_other c.args.received.now c.of-2.result (c.of-2.ensures.other nor neither) c.in_default.not-Other-1);
   recorded_alone = λ m spelled short no. refl;
   received_alone = λ n no spells within. refl;
+  replies = λ ts us rest other is are split splits. absurd (c.in_default.ensures.reply is);
+  recorded_reply_alone = λ is isnt. refl;
+  received_reply_alone = λ isnt is. refl;
 }
