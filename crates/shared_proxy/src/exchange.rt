@@ -52,10 +52,9 @@ pub fn pass_on(
     requires { MayServe server.old.used client.old.downstream.front.server.connection }
     ensures { server.new.used ≡ used_up server.old.used }
 {
-    server.use_up();
     let begun = begun(&client.downstream);
-    let before = server.upstream.output().len();
-    match client.downstream.pass_on(&mut server.upstream) {
+    let before = server.waiting();
+    match server.pass_on(&mut client.downstream) {
         Ok(()) | Err(PassRefusal::NothingWaits) => {}
         Err(PassRefusal::OutOfMemory | PassRefusal::Call(CallRefusal::OutOfMemory)) => {
             return Err(AllocError);
@@ -67,7 +66,7 @@ pub fn pass_on(
         server.cut_behind(before, count);
     }
     if let Some(session) = begun {
-        routes.begin(session, server.upstream.number())?;
+        routes.begin(session, server.number())?;
     }
     if let Some(awaited) = client.downstream.awaited() {
         server.note(awaited.call, client.downstream.connection())?;
@@ -80,10 +79,10 @@ fn follow(client: &Client, server: &Server, routes: &mut Routes) -> Result<(), A
     let Some(asked) = asked(&client.downstream) else {
         return Ok(());
     };
-    let Some(reply) = server.upstream.reply() else {
+    let Some(reply) = server.reply() else {
         return Ok(());
     };
-    routes.answered(asked, reply.payload.body(), server.upstream.number())
+    routes.answered(asked, reply.payload.body(), server.number())
 }
 
 /// Answers a client with the reply that is ready, if it is the one that the client awaits, and lets
@@ -97,16 +96,16 @@ pub fn answer(
     server: &mut Server,
     routes: &mut Routes,
 ) -> Result<bool, AllocError> {
-    if client.awaits(server.upstream.number()) {
+    if client.awaits(server.number()) {
         follow(client, server, routes)?;
     }
-    match client.downstream.answer(&mut server.upstream) {
+    match server.answer(&mut client.downstream) {
         Ok(()) => match Leave::of_front(client.downstream.state()) {
             Some(leave) if leave.wants_memory() => Err(AllocError),
             closed => Ok(closed.is_none()),
         },
         Err(GiveRefusal::NotAwaited | GiveRefusal::Closed) => {
-            server.upstream.release();
+            server.release();
             Ok(false)
         }
         Err(GiveRefusal::OutOfMemory) => Err(AllocError),

@@ -1,7 +1,7 @@
 //! A connection to the server, and its turns.
 
 ghost use Rattle.std.specs.Prelude.{◌≡◌, true};
-ghost use Rattle.wire_share.specs.{new_upstream};
+ghost use Rattle.wire_share.specs.{GiveStep, PassStep, new_upstream};
 ghost use Rattle.shared_proxy.specs.Uses.{MayServe, used_up};
 
 use crate::leave::Leave;
@@ -9,7 +9,8 @@ use crate::line::{Line, Step};
 use indexmap::IndexMap;
 use std::alloc::{AllocError, Global};
 use std::collections::VecDeque;
-use wire_share::Upstream;
+use wire_peer::Reply;
+use wire_share::{Downstream, GiveRefusal, PassRefusal, Upstream};
 use wire_stream::{Moved, Pulled};
 
 /// Who uses a connection to the server.
@@ -45,7 +46,7 @@ const OUTPUT: usize = 1 << 20;
 /// A connection to the server.
 #[derive(Drop)]
 pub struct Server {
-    pub upstream: Upstream,
+    upstream: Upstream,
     line: Line,
     used: Use,
     /// The clients that await replies, by the numbers of their calls.
@@ -76,13 +77,60 @@ impl Server {
         self.used
     }
 
+    /// Returns its number.
+    pub fn number(&self) -> u64 {
+        self.upstream.number()
+    }
+
+    /// Returns the number of calls that await a reply over it.
+    pub fn outstanding(&self) -> usize {
+        self.upstream.outstanding()
+    }
+
+    /// Returns the number of bytes that wait to be sent over it.
+    pub fn waiting(&self) -> usize {
+        self.upstream.output().len()
+    }
+
+    /// Returns the reply that is ready, if one is.
+    pub fn reply(&self) -> Option<Reply<'_>> {
+        self.upstream.reply()
+    }
+
+    /// Lets go of the reply that is ready, if one is.
+    pub fn release(&mut self)
+        ensures { self.new.used ≡ self.old.used }
+    {
+        self.upstream.release();
+    }
+
     /// Notes that a request goes over it.
-    pub fn use_up(&mut self)
-        ensures { self.new.used ≡ used_up self.old.used }
+    fn use_up(&mut self)
+        ensures { self.new ≡ record self.old { used = used_up self.old.used } }
     {
         if self.used == Use::Once {
             self.used = Use::Over;
         }
+    }
+
+    /// Passes on the request that waits at a downstream, as `Downstream::pass_on` does.
+    pub fn pass_on(&mut self, downstream: &mut Downstream) -> Result<(), PassRefusal>
+        requires { MayServe self.old.used downstream.old.front.server.connection }
+        ensures used { self.new.used ≡ used_up self.old.used }
+        ensures passed { PassStep result downstream.old self.old.upstream
+            downstream.new self.new.upstream }
+    {
+        self.use_up();
+        downstream.pass_on(&mut self.upstream)
+    }
+
+    /// Answers a downstream with the reply that is ready, as `Downstream::answer` does.
+    pub fn answer(&mut self, downstream: &mut Downstream) -> Result<(), GiveRefusal>
+        ensures used { self.new.used ≡ self.old.used }
+        ensures given { GiveStep result downstream.old self.old.upstream
+            downstream.new self.new.upstream }
+    {
+        downstream.answer(&mut self.upstream)
     }
 
     /// Notes that a client awaits the reply to this call.

@@ -72,7 +72,7 @@ impl Servers {
     fn load(&self, number: u64) -> usize {
         match self.servers.get(&number) {
             Some(server) if server.is_busy() => FULL.saturating_add(server.blocked.len()),
-            Some(server) => server.upstream.outstanding(),
+            Some(server) => server.outstanding(),
             None => usize::MAX,
         }
     }
@@ -114,9 +114,7 @@ impl Servers {
 
     /// Returns true if bytes wait to be sent over a connection.
     pub fn has_output(&self) -> bool {
-        self.servers
-            .values()
-            .any(|server| !server.upstream.output().is_empty())
+        self.servers.values().any(|server| server.waiting() != 0)
     }
 
     /// Returns over which connection a request of a client goes that needs this, where `routes` says

@@ -56,7 +56,7 @@ impl Sharing {
         let Some(server) = self.servers.get_mut(upstream) else {
             return Ok(());
         };
-        if server.upstream.output().is_empty() {
+        if server.waiting() == 0 {
             let _ = self.drop_server(upstream);
             return Ok(());
         }
@@ -231,11 +231,11 @@ impl Sharing {
             return Ok(());
         };
         let Some(number) = server.take_caller() else {
-            server.upstream.release();
+            server.release();
             return Ok(());
         };
         let Some(client) = self.clients.get_mut(number) else {
-            server.upstream.release();
+            server.release();
             return Ok(());
         };
         if answer(client, server, &mut self.routes)? {
