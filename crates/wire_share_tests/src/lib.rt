@@ -2,7 +2,7 @@
 //! where memory is there, byte for byte as the Wire Protocol manual has it. They stand in a crate of
 //! their own, since a crate is proved once more with its tests.
 //!
-//! Uses wire_share. Read first: `sharing`.
+//! Uses wire_share. Read first: `steps`, and then `sharing`.
 #![tactic(auto)]
 
 #[cfg(test)]
@@ -15,3 +15,5 @@ mod routes;
 mod share_refusals;
 #[cfg(test)]
 mod sharing;
+#[cfg(test)]
+mod steps;

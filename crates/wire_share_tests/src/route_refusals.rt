@@ -25,18 +25,21 @@ fn opens(routes: &mut Routes, asked: &RawDocumentBuf, told: &RawDocumentBuf) -> 
         && routes.answered(asked.as_raw(), told.as_raw(), 4).is_ok()
 }
 
+/// Returns true if a transaction and a cursor are noted, and then known.
+fn follows(routes: &mut Routes, asked: &RawDocumentBuf, told: &RawDocumentBuf) -> bool {
+    begins(routes).is_ok()
+        && opens(routes, asked, told)
+        && routes.find(Need::Transaction(SESSION)) == Some(4)
+        && routes.find(Need::Cursor(7)) == Some(4)
+}
+
 /// Returns true if a cursor and a transaction are followed behind a refused allocation. `None` if
 /// memory for the documents is refused.
 fn are_followed(alloc: Global) -> Option<bool> {
     let asked = document(alloc, "{\"find\": \"c\"}")?;
     let told = document(alloc, "{\"cursor\": {\"id\": {\"$numberLong\": \"7\"}}}")?;
     let mut routes = Routes::new(alloc);
-    let noted = begins(&mut routes).is_ok() && opens(&mut routes, &asked, &told);
-    let found = (
-        routes.find(Need::Transaction(SESSION)),
-        routes.find(Need::Cursor(7)),
-    );
-    Some(noted && found == (Some(4), Some(4)))
+    Some(follows(&mut routes, &asked, &told))
 }
 
 /// Returns true if they are followed, at the second try at last.

@@ -100,12 +100,25 @@ fn in_session(alloc: Global, before: &str, behind: &str) -> Option<RawDocumentBu
     document(alloc, text.as_str())
 }
 
+/// Returns true if a request of this body needs this, and begins a transaction if `begins`.
+fn needs(body: &RawDocumentBuf, need: Need, begins: bool) -> bool {
+    let begun = if begins { Some(SESSION) } else { None };
+    need_of(body.as_raw()) == need && begun_by(body.as_raw()) == begun
+}
+
+/// Returns true if there is a body of which `needs` is true.
+fn body_needs(body: Option<RawDocumentBuf>, need: Need, begins: bool) -> bool {
+    match body {
+        Some(body) => needs(&body, need, begins),
+        None => false,
+    }
+}
+
 /// Returns true if each request needs what its row says.
 fn all_need(alloc: Global, rows: &[(&str, Need)]) -> bool {
     for (text, need) in rows {
-        match document(alloc, text) {
-            Some(body) if need_of(body.as_raw()) == *need && begun_by(body.as_raw()).is_none() => {}
-            _ => return false,
+        if !body_needs(document(alloc, text), *need, false) {
+            return false;
         }
     }
     true
@@ -114,10 +127,8 @@ fn all_need(alloc: Global, rows: &[(&str, Need)]) -> bool {
 /// Returns true if each request in a session needs what its row says.
 fn sessions_need(alloc: Global, rows: &[(&str, &str, Need, bool)]) -> bool {
     for (before, behind, need, begins) in rows {
-        let begun = if *begins { Some(SESSION) } else { None };
-        match in_session(alloc, before, behind) {
-            Some(body) if need_of(body.as_raw()) == *need && begun_by(body.as_raw()) == begun => {}
-            _ => return false,
+        if !body_needs(in_session(alloc, before, behind), *need, *begins) {
+            return false;
         }
     }
     true
@@ -131,9 +142,12 @@ fn note(alloc: Global, routes: &mut Routes, asked: &str, told: &str, upstream: u
         .ok()
 }
 
-/// The replies, one after another, that find cursors 7, 8 and 9 and ask for more of them; which
-/// upstream each came over; and on which the three are known to be then.
-const REPLIES: [(&str, &str, u64, [Option<u64>; 3]); 8] = [
+/// A request, its reply, the upstream that it came over, and those on which cursors 7, 8 and 9 are
+/// known to be then.
+type Row<'a> = (&'a str, &'a str, u64, [Option<u64>; 3]);
+
+/// The replies, one after another, that find cursors 7, 8 and 9, and ask for more of them.
+const REPLIES: [Row<'static>; 8] = [
     (
         "{\"find\": \"c\"}",
         "{\"cursor\": {\"id\": {\"$numberLong\": \"7\"}}}",
@@ -191,17 +205,32 @@ fn are_known(routes: &Routes, known: &[Option<u64>; 3]) -> bool {
         && routes.find(Need::Cursor(9)) == known[2]
 }
 
-/// Returns true if cursors are known where the replies say, and not once their upstream was lost.
-fn are_followed(alloc: Global, rows: &[(&str, &str, u64, [Option<u64>; 3])]) -> Option<bool> {
-    let mut routes = Routes::new(alloc);
+/// Returns true if cursors are known where these replies say.
+fn all_are_known(alloc: Global, routes: &mut Routes, rows: &[Row<'_>]) -> bool {
     for (asked, told, upstream, known) in rows {
-        note(alloc, &mut routes, asked, told, *upstream)?;
-        if !are_known(&routes, known) {
-            return Some(false);
+        if note(alloc, routes, asked, told, *upstream).is_none() || !are_known(routes, known) {
+            return false;
         }
     }
+    true
+}
+
+/// Returns true if no cursor is known once its upstream was lost.
+fn is_lost(routes: &mut Routes) -> bool {
     routes.lose(1);
-    Some(routes.find(Need::Cursor(7)).is_none() && routes.find(Need::Any).is_none())
+    routes.find(Need::Cursor(7)).is_none() && routes.find(Need::Any).is_none()
+}
+
+/// Has replies noted, and then an upstream lost. Returns true if cursors are known as they say, and
+/// then no more.
+fn follows(alloc: Global, routes: &mut Routes, rows: &[Row<'_>]) -> bool {
+    all_are_known(alloc, routes, rows) && is_lost(routes)
+}
+
+/// Returns true if cursors are known where these replies say, and not once their upstream was lost.
+fn are_followed(alloc: Global, rows: &[Row<'_>]) -> bool {
+    let mut routes = Routes::new(alloc);
+    follows(alloc, &mut routes, rows)
 }
 
 /// Notes the reply to a commit in the session. `None` if one of these can't be made.
@@ -215,13 +244,23 @@ fn commit(alloc: Global, routes: &mut Routes) -> Option<()> {
     routes.answered(asked.as_raw(), told.as_raw(), 4).ok()
 }
 
+/// Returns true if the transaction of the session is known to be on this upstream.
+fn is_on(routes: &Routes, upstream: Option<u64>) -> bool {
+    routes.find(Need::Transaction(SESSION)) == upstream
+}
+
+/// Has a transaction begin and be committed. Returns true if it is known in between alone.
+fn transacts(alloc: Global, routes: &mut Routes) -> bool {
+    routes.begin(SESSION, 4).is_ok()
+        && is_on(routes, Some(4))
+        && commit(alloc, routes).is_some()
+        && is_on(routes, None)
+}
+
 /// Returns true if a transaction is known from its begin to its commit.
-fn is_transacted(alloc: Global) -> Option<bool> {
+fn is_transacted(alloc: Global) -> bool {
     let mut routes = Routes::new(alloc);
-    routes.begin(SESSION, 4).ok()?;
-    let begun = routes.find(Need::Transaction(SESSION)) == Some(4);
-    commit(alloc, &mut routes)?;
-    Some(begun && routes.find(Need::Transaction(SESSION)).is_none())
+    transacts(alloc, &mut routes)
 }
 
 #[test]
@@ -232,6 +271,6 @@ fn requests_need_what_their_bodies_say(rt: HostRuntime) {
 
 #[test]
 fn cursors_and_transactions_are_followed(rt: HostRuntime) {
-    assert!(rt; are_followed(rt.alloc(), &REPLIES) == Some(true));
-    assert!(rt; is_transacted(rt.alloc()) == Some(true));
+    assert!(rt; are_followed(rt.alloc(), &REPLIES));
+    assert!(rt; is_transacted(rt.alloc()));
 }

@@ -2,7 +2,7 @@
 
 ghost use Rattle.std.specs.Prelude.{◌≤◌};
 
-use crate::sharing::{ASKED, GIVEN, PASSED, REPLIES};
+use crate::sharing::{ASKED_1, GIVEN_1, PASSED_1, REPLY_1};
 use std::alloc::Global;
 use wire_front::{FrontCause, FrontState};
 use wire_peer::{CallRefusal, ServerCause};
@@ -12,7 +12,7 @@ use wire_share::{Downstream, GiveRefusal, PassRefusal, Upstream};
 fn comes(downstream: &mut Downstream) -> bool {
     let mut taken = 0;
     for _ in 0..4 {
-        if let Some(rest) = ASKED[0].get(taken..) {
+        if let Some(rest) = ASKED_1.get(taken..) {
             taken += downstream.feed(rest).unwrap_or(0);
         }
     }
@@ -21,10 +21,10 @@ fn comes(downstream: &mut Downstream) -> bool {
 
 /// Feeds the reply, and feeds it again where memory was refused, which has to take nothing.
 fn replies(upstream: &mut Upstream) -> bool {
-    if upstream.feed(REPLIES[0]).is_ok() {
+    if upstream.feed(REPLY_1).is_ok() {
         return upstream.reply().is_some();
     }
-    upstream.feed(REPLIES[0]) == Ok(33)
+    upstream.feed(REPLY_1) == Ok(33)
 }
 
 /// Passes the request on, once more where memory was refused, which has to put nothing out.
@@ -49,20 +49,31 @@ fn answers(downstream: &mut Downstream, upstream: &mut Upstream) -> bool {
     }
 }
 
+/// Has the request come, be passed on and be answered.
+fn goes_through(downstream: &mut Downstream, upstream: &mut Upstream) -> bool {
+    comes(downstream)
+        && passes(downstream, upstream)
+        && upstream.output() == PASSED_1
+        && replies(upstream)
+        && answers(downstream, upstream)
+}
+
+/// Returns whether the request is answered; none if memory for its reply was refused.
+fn has_answered(downstream: &mut Downstream, upstream: &mut Upstream) -> Option<bool> {
+    let given = goes_through(downstream, upstream);
+    match downstream.state() {
+        FrontState::Closed(FrontCause::Server(ServerCause::NoMemory)) => None,
+        FrontState::Open => Some(given && downstream.output() == GIVEN_1),
+        FrontState::Closed(_) => Some(false),
+    }
+}
+
 /// Returns whether a request is answered; none if memory for a downstream or for its reply is
 /// refused. Where nothing changed by a refusal the same is done again.
 fn is_answered(alloc: Global) -> Option<bool> {
-    let mut upstream = Upstream::new(alloc, 5);
     let mut downstream = Downstream::new(alloc, 1).ok()?;
-    let given = comes(&mut downstream)
-        && passes(&mut downstream, &mut upstream)
-        && upstream.output() == PASSED[0]
-        && replies(&mut upstream)
-        && answers(&mut downstream, &mut upstream);
-    match downstream.state() {
-        FrontState::Closed(FrontCause::Server(ServerCause::NoMemory)) => None,
-        state => Some(given && state == FrontState::Open && downstream.output() == GIVEN[0]),
-    }
+    let mut upstream = Upstream::new(alloc, 5);
+    has_answered(&mut downstream, &mut upstream)
 }
 
 /// Returns true if the request is answered behind a refused allocation, at the second try at last.
