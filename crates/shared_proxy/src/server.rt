@@ -1,6 +1,8 @@
 //! A connection to the server, and its turns.
 
-ghost use Rattle.std.specs.Prelude.{◌≡◌, true};
+ghost use Rattle.std.specs.Prelude.{◌≡◌, IfSome, length, option_map, true};
+ghost use Rattle.wire_msg.specs.{Carries, Message, SpellsMsg};
+ghost use Rattle.wire_peer.specs.{ready_of, released};
 ghost use Rattle.wire_share.specs.{GiveStep, PassStep, new_upstream};
 ghost use Rattle.shared_proxy.specs.Uses.{MayServe, used_up};
 
@@ -78,28 +80,41 @@ impl Server {
     }
 
     /// Returns its number.
-    pub fn number(&self) -> u64 {
+    pub fn number(&self) -> u64
+        ensures { result ≡ self.now.upstream.number }
+    {
         self.upstream.number()
     }
 
     /// Returns the number of calls that await a reply over it.
-    pub fn outstanding(&self) -> usize {
+    pub fn outstanding(&self) -> usize
+        ensures { result ≡ length self.now.upstream.client.requests.outstanding }
+    {
         self.upstream.outstanding()
     }
 
     /// Returns the number of bytes that wait to be sent over it.
-    pub fn waiting(&self) -> usize {
+    pub fn waiting(&self) -> usize
+        ensures { result ≡ length self.now.upstream.client.requests.output }
+    {
         self.upstream.output().len()
     }
 
     /// Returns the reply that is ready, if one is.
-    pub fn reply(&self) -> Option<Reply<'_>> {
+    pub fn reply(&self) -> Option<Reply<'_>>
+        ensures ready { option_map ready_of result ≡ self.now.upstream.client.reply }
+        ensures payload { IfSome result (λ r. (m : Message)
+            → SpellsMsg m self.now.upstream.client.held → Carries r.payload m.content) }
+    {
         self.upstream.reply()
     }
 
     /// Lets go of the reply that is ready, if one is.
     pub fn release(&mut self)
-        ensures { self.new.used ≡ self.old.used }
+        ensures { self.new ≡ record self.old {
+          upstream = record (self.old.upstream)
+              { client = released self.old.upstream.client };
+        } }
     {
         self.upstream.release();
     }
@@ -116,7 +131,8 @@ impl Server {
     /// Passes on the request that waits at a downstream, as `Downstream::pass_on` does.
     pub fn pass_on(&mut self, downstream: &mut Downstream) -> Result<(), PassRefusal>
         requires { MayServe self.old.used downstream.old.front.server.connection }
-        ensures used { self.new.used ≡ used_up self.old.used }
+        ensures kept { self.new
+            ≡ record self.old { upstream = self.new.upstream; used = used_up self.old.used } }
         ensures passed { PassStep result downstream.old self.old.upstream
             downstream.new self.new.upstream }
     {
@@ -126,7 +142,7 @@ impl Server {
 
     /// Answers a downstream with the reply that is ready, as `Downstream::answer` does.
     pub fn answer(&mut self, downstream: &mut Downstream) -> Result<(), GiveRefusal>
-        ensures used { self.new.used ≡ self.old.used }
+        ensures kept { self.new ≡ record self.old { upstream = self.new.upstream } }
         ensures given { GiveStep result downstream.old self.old.upstream
             downstream.new self.new.upstream }
     {
