@@ -87,6 +87,12 @@ def pointer_json(value):
     return '{"$dbPointer":{"$ref":%s,"$id":{"$oid":"%s"}}}' % (string(value[0]), value[1].hex())
 
 
+def regex_json(value):
+    """Options are in alphabetical order; a text of them that isn't ASCII stays."""
+    options = bytes(sorted(value[1])) if value[1].isascii() else value[1]
+    return '{"$regularExpression":{"pattern":%s,"options":%s}}' % (string(value[0]), string(options))
+
+
 def binary_json(value):
     return '{"$binary":{"base64":"%s","subType":"%02x"}}' % (base64.b64encode(value[1]).decode(), value[0])
 
@@ -103,7 +109,7 @@ VALUES = {
     0x08: lambda v, relaxed: "true" if v else "false",
     0x09: date_json,
     0x0A: lambda v, relaxed: "null",
-    0x0B: lambda v, relaxed: '{"$regularExpression":{"pattern":%s,"options":%s}}' % (string(v[0]), string(v[1])),
+    0x0B: lambda v, relaxed: regex_json(v),
     0x0C: lambda v, relaxed: pointer_json(v),
     0x0D: lambda v, relaxed: '{"$code":%s}' % string(v),
     0x0E: lambda v, relaxed: '{"$symbol":%s}' % string(v),

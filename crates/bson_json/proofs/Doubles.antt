@@ -1,5 +1,5 @@
 -- Numbers of doubles, by whether they are finite.
-use Rattle.std.proofs.Common.{◌≡◌, ℕ, List, Bool, true, false, Some, IsTrue, IsFalse, refl, codes}
+use Rattle.std.proofs.Common.{◌≡◌, ℕ, List, true, false, Some, refl, codes}
 use lib.Ieee.{is_nan}
 use Rattle.std.specs.Float.{Float, binary64, float_is_finite}
 use Rattle.std.specs.Float as floats

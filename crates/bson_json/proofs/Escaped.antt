@@ -1,5 +1,5 @@
 -- Bytes as they appear in JSON strings.
-use Rattle.std.proofs.Common.{◌≡◌, ◌≤◌, Option, Result, Ok, Err, OnOk, ◌∷◌, ◌/◌, ◌%◌, ◌<◌, [], ℕ, List, Bool, true, false, cond, refl, arith, eqb, eqb-true, ne_eqb, get_or, suc, zero, sym, ap, ◌∙◌}
+use Rattle.std.proofs.Common.{◌≡◌, ◌≤◌, Option, Result, Ok, Err, OnOk, ◌∷◌, ◌/◌, ◌%◌, ◌<◌, [], ℕ, List, true, refl, arith, eqb, eqb-true, ne_eqb, get_or}
 use Rattle.std.specs.Char.{digit_char}
 use Rattle.std.proofs.lemmas.Bool.{agree_below_at, le-ltb, lt-ltb}
 use Rattle.hex.specs.Hex.{encode_lower, encode_with, lower_digits}
@@ -7,7 +7,6 @@ use Rattle.std.specs.List.{flat_map}
 use Rattle.std.specs.Io.KnownBytes.{Appends}
 use Rattle.std.proofs.KnownBytes.{Appends-trans}
 use Rattle.json.specs.Print.{escape_byte, escape_letter, quoted}
-use Rattle.text_writer.specs.{needs_escape}
 use Rattle.text_writer.proofs.Lemmas.{KeepsPlain}
 
 -- a byte that needs no escape is written as it is

@@ -1,6 +1,7 @@
 mod Doubles
 mod Escaped
 mod Base64
+mod Ordered
 mod Zeros
 pub mod Choices
 mod Walking

@@ -1,16 +1,14 @@
 -- The JSON of pairs, one after another.
-use Rattle.std.proofs.Common.{◌≡◌, ◌++◌, [], ℕ, List, Bool, true, false, Option, Result, Ok, Err, OnOk, refl, sym, ap, subst, ◌∙◌, append_assoc, append-nil}
-use Rattle.std.specs.Io.KnownBytes.{Appends}
-use Rattle.std.proofs.KnownBytes.{Appends-trans}
+use Rattle.std.proofs.Common.{◌≡◌, ◌++◌, [], ℕ, List, Bool, true, false, refl, sym, ap, subst, ◌∙◌, append_assoc}
 use Rattle.bson_elem.specs.declared.kinds.Kind.{Kind}
-use Rattle.bson_elem.specs.Trees.{Tree, no_pairs, leaf_pair, inner_pair}
+use Rattle.bson_elem.specs.Trees.{Tree, no_pairs}
 use Rattle.bson_elem.specs.Spelling.{Spells}
 use Rattle.bson_raw.specs.RawDocument.{document_bytes}
 use Rattle.bson_raw.specs.Pairs.{TreeValue, leaf_value, document_value, with_first}
 use Rattle.bson_json.specs.declared.mode.Mode.{Mode}
 use Rattle.bson_json.specs.declared.held.Held.{Held}
 use Rattle.bson_json.specs.Json.{IsPairsJson, closing, comma, label, opening}
-use Rattle.bson_json.specs.Walks.{HoldsNone, IsFrontJson, IsHeld, IsPairFront, pair_front}
+use Rattle.bson_json.specs.Walks.{HoldsNone, IsHeld, IsPairFront}
 
 -- four parts, which are joined in one way or in another
 joined : (a b c d : List ℕ) → ((a ++ b) ++ c) ++ d ≡ a ++ (b ++ (c ++ d))

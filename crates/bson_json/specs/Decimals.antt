@@ -1,6 +1,6 @@
 -- The numbers of decimal128 (IEEE 754-2008, in its binary encoding), and their text (BSON
 -- Decimal128 specification: "To String Representation").
-use Rattle.std.specs.Prelude.{ℕ, zero, suc, ◌+◌, ◌-◌, ◌*◌, ◌/◌, ◌%◌, ◌^◌, nat_le, nat_lt, ◌==◌}
+use Rattle.std.specs.Prelude.{ℕ, zero, suc, ◌+◌, ◌-◌, ◌/◌, ◌%◌, ◌^◌, nat_le, nat_lt, ◌==◌}
 use Rattle.std.specs.Prelude.{◌&&◌, if◌then◌else◌, List, ◌++◌, length, take, drop, replicate}
 use Rattle.std.specs.Prelude.{Bool, codes, decimal}
 use Rattle.std.specs.Int.{w128, from_le_bytes}

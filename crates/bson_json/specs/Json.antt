@@ -25,6 +25,7 @@ use Rattle.bson_json.specs.declared.mode.Mode.{Mode}
 use Rattle.bson_json.specs.declared.mode.Mode.TheVariants.{Canonical, Relaxed}
 use Rattle.bson_json.specs.Dates.{IsIsoText}
 use Rattle.bson_json.specs.Decimals.{decimal128_text}
+use Rattle.bson_json.specs.Options.{alphabetical}
 
 -- ---- numbers
 
@@ -87,7 +88,7 @@ boolean_json false = codes "false"
 abbrev pub regex_json : List ℕ → List ℕ → List ℕ
 regex_json pattern options =
     codes "{\"$regularExpression\":{\"pattern\":" ++ (quoted pattern
-    ++ (codes ",\"options\":" ++ (quoted options ++ codes "}}")))
+    ++ (codes ",\"options\":" ++ (quoted (alphabetical options) ++ codes "}}")))
 
 abbrev pub db_pointer_json : List ℕ → List ℕ → List ℕ
 db_pointer_json namespace id =

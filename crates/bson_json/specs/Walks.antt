@@ -1,7 +1,7 @@
 -- What writing some of the pairs of a tree leaves to be written.
-use Rattle.std.specs.Prelude.{◌≡◌, ℕ, Bool, true, false, List, ◌++◌, Option, Some, None}
+use Rattle.std.specs.Prelude.{◌≡◌, ℕ, Bool, true, false, List, ◌++◌, Option}
 use Rattle.bson_elem.specs.declared.kinds.Kind.{Kind}
-use Rattle.bson_elem.specs.{Beside, Spells, Tree}
+use Rattle.bson_elem.specs.{Spells, Tree}
 use Rattle.bson_raw.specs.{TreeValue, document_bytes, document_value, leaf_value}
 use Rattle.text_writer.specs.{WritesOut}
 use Rattle.bson_json.specs.declared.mode.Mode.{Mode}

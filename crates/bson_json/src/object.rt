@@ -43,8 +43,7 @@ fn json_through<W: Write>(out: W, what: (RawDocument<'_>, Mode)) -> (W, io::Resu
 
 /// Writes a document as one JSON object in the form `mode`, without white space and with no line
 /// feed behind it (MongoDB Extended JSON v2: "Conversion table"). The options of a regular
-/// expression are written in the order of the document, and a name that is there twice is written
-/// twice.
+/// expression are written in alphabetical order, and a name that is there twice is written twice.
 ///
 /// # Errors
 ///

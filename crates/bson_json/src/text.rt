@@ -28,7 +28,7 @@ fn write_unnamed<W: Write>(b: u8, out: &mut TextWriter<W>) -> Result<(), Failed>
 }
 
 /// Writes one byte as it appears in a JSON string.
-fn write_escaped<W: Write>(b: u8, out: &mut TextWriter<W>) -> Result<(), Failed>
+pub(crate) fn write_escaped<W: Write>(b: u8, out: &mut TextWriter<W>) -> Result<(), Failed>
     ensures { OnOk result (WritesOut (text_contents W.contents) out.old out.new (escape_byte b)) }
 {
     match b {

@@ -12,6 +12,7 @@ use crate::date::write_date;
 use crate::decimal128::write_decimal128;
 use crate::double::{write_double, write_named_integer};
 use crate::mode::Mode;
+use crate::options::write_options;
 use crate::text::{write_base64, write_quoted};
 use bson_raw::RawBson;
 use std::io::Write;
@@ -70,7 +71,7 @@ fn write_object_id<W: Write>(id: &[u8; 12], out: &mut TextWriter<W>) -> Result<(
     out.write_all(b"\"}")
 }
 
-/// Writes a regular expression: the pattern and the options, as they are in the document.
+/// Writes a regular expression: the pattern, and the options in alphabetical order.
 fn write_regex<W: Write>(
     pattern: &str,
     options: &str,
@@ -81,7 +82,9 @@ fn write_regex<W: Write>(
 {
     out.write_all(b"{\"$regularExpression\":{\"pattern\":")?;
     write_quoted(pattern, out)?;
-    write_worded(b",\"options\":", options, b"}}", out)
+    out.write_all(b",\"options\":")?;
+    write_options(options, out)?;
+    out.write_all(b"}}")
 }
 
 /// Writes a DBPointer: the namespace and the ObjectId.

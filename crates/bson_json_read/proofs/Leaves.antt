@@ -213,13 +213,14 @@ leaf_told kinds.DateTime (number_value z) text f t h =
 leaf_told kinds.Null (raw_value bytes) text f t h =
     record { value = json.null; printed = sym h; numbers = tt; shallow = omega arith; read = λ room. rw (no_bytes bytes f.count_is) (value_at room json.null); utf8 = subst IsUtf8 (sym h) (IsUtf8-are_ascii (codes "null") refl) }
 leaf_told kinds.Regex (regex_value pattern options) text f t h =
+    let in_document = h ∙ ap (λ o. codes "{\"$regularExpression\":{\"pattern\":" ++ (quoted pattern ++ (codes ",\"options\":" ++ (quoted o ++ codes "}}")))) t in
     record {
       value = form_json forms.Regex (pair_json (codes "pattern") (json.string pattern) (codes "options") (json.string options));
-      printed = ap (λ l. codes "{\"$regularExpression\":{\"pattern\":" ++ l) (both_closed (quoted pattern) (codes ",\"options\":") (quoted options)) ∙ sym h;
+      printed = ap (λ l. codes "{\"$regularExpression\":{\"pattern\":" ++ l) (both_closed (quoted pattern) (codes ",\"options\":") (quoted options)) ∙ sym in_document;
       numbers = ((tt, (tt, tt)), tt);
       shallow = omega arith;
-      read = λ room. value_at room (form_json forms.Regex (pair_json (codes "pattern") (json.string pattern) (codes "options") (json.string options))) ∙ rw (no_zero pattern f.0.no_zero, no_zero options f.1.no_zero) refl;
-      utf8 = subst IsUtf8 (sym h) (parts (codes "{\"$regularExpression\":{\"pattern\":") (quoted pattern) (codes ",\"options\":" ++ (quoted options ++ codes "}}")) refl (IsUtf8-quoted pattern f.0.is_text) (parts (codes ",\"options\":") (quoted options) (codes "}}") refl (IsUtf8-quoted options f.1.is_text) (IsUtf8-are_ascii (codes "}}") refl)));
+      read = λ room. value_at room (form_json forms.Regex (pair_json (codes "pattern") (json.string pattern) (codes "options") (json.string options))) ∙ rw (no_zero pattern f.0.no_zero, no_zero options f.1.no_zero, t) refl;
+      utf8 = subst IsUtf8 (sym in_document) (parts (codes "{\"$regularExpression\":{\"pattern\":") (quoted pattern) (codes ",\"options\":" ++ (quoted options ++ codes "}}")) refl (IsUtf8-quoted pattern f.0.is_text) (parts (codes ",\"options\":") (quoted options) (codes "}}") refl (IsUtf8-quoted options f.1.is_text) (IsUtf8-are_ascii (codes "}}") refl)));
     }
 leaf_told kinds.DbPointer (pointer_value namespace id) text f t h =
     let digits = encode_lower id in

@@ -11,6 +11,7 @@ use Rattle.bson_elem.specs.{binary_value, number_value, pointer_value, raw_value
 use Rattle.bson_elem.specs.{text_value, timestamp_value}
 use Rattle.bson_raw.specs.{TreeValue, double_bytes, leaf_value}
 use Rattle.bson_doc.specs.Unwritable.{has_zero}
+use Rattle.bson_json.specs.{alphabetical}
 use Rattle.bson_json_read.specs.declared.form.Form.{Form}
 use Rattle.bson_json_read.specs.declared.form.Form.TheVariants as forms
 use Rattle.bson_json_read.specs.Bytes.{base64_of, hex_of, subtype_of, uuid_of}
@@ -97,11 +98,11 @@ timestamp_parts p =
 abbrev pub timestamp_of : json.Members → Option TreeValue
 timestamp_of ms = option_and_then timestamp_parts (both (codes "t") (codes "i") ms)
 
--- `pattern` and `options`, which have no 00
+-- `pattern` and `options`, which have no 00; the options are read in alphabetical order
 abbrev pub regex_texts : List ℕ × List ℕ → Option TreeValue
 regex_texts p =
     if (has_zero p.0 || has_zero p.1) then None
-    else Some (leaf_value kinds.Regex (regex_value p.0 p.1))
+    else Some (leaf_value kinds.Regex (regex_value p.0 (alphabetical p.1)))
 
 abbrev pub regex_of : json.Members → Option TreeValue
 regex_of ms = option_and_then regex_texts (both_texts (codes "pattern") (codes "options") ms)

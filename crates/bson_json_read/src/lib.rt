@@ -24,6 +24,7 @@ mod members;
 mod misfit;
 mod nodes;
 mod number;
+mod options;
 mod owned;
 mod place;
 mod run;

@@ -10,6 +10,7 @@ ghost use Rattle.bson_json_read.specs.declared.form.Form.TheVariants as forms;
 use crate::bytes::{read_base64, read_subtype, read_uuid};
 use crate::form::Form;
 use crate::members::{as_members, both_values};
+use crate::options::read_options;
 use crate::wrapped;
 use crate::wrapped::{id_of, object_alone, text_alone};
 use crate::zero::has_zero;
@@ -105,7 +106,7 @@ fn regex_of(alloc: Global, pattern: &str, options: &str) -> Result<Option<Bson>,
     }
     Ok(Some(Bson::Regex {
         pattern: String::from_str(alloc, pattern)?,
-        options: String::from_str(alloc, options)?,
+        options: read_options(alloc, options)?,
     }))
 }
 

@@ -9,7 +9,7 @@ use bson_raw_tests::hex_bytes::read_digits;
 use std::alloc::Global;
 
 /// Documents, and their canonical JSON, of which another document is read, or none.
-const LOSSY: [(&str, &str); 9] = [
+const LOSSY: [(&str, &str); 10] = [
     // a NaN with a payload, and one with a sign
     (
         "10000000 01 6400 120000000000f87f 00",
@@ -31,6 +31,11 @@ const LOSSY: [(&str, &str); 9] = [
     (
         "18000000 13 6400 00000000648e8d37c087adbe09ed4130 00",
         "{\"d\":{\"$numberDecimal\":\"0\"}}",
+    ),
+    // options that aren't sorted
+    (
+        "10000000 0b 6100 61626300 6d697800 00",
+        "{\"a\":{\"$regularExpression\":{\"pattern\":\"abc\",\"options\":\"imx\"}}}",
     ),
     // an array whose name isn't its index
     (
@@ -54,10 +59,11 @@ const LOSSY: [(&str, &str); 9] = [
 ];
 
 /// Rows of documents that have names of forms where those may stand: outermost, in a scope and in an
-/// array of a document with another `$`-name.
+/// array of a document with another `$`-name; and of options that aren't ASCII.
 const LOSSLESS: &str = r#"11000000 02 246f696400 02000000 6200 00 | {"$oid":"b"} | {"$oid":"b"}
 22000000 0f 6100 1a000000 01000000 00 11000000 02 246f696400 02000000 6200 00 00 | {"a":{"$code":"","$scope":{"$oid":"b"}}} | {"a":{"$code":"","$scope":{"$oid":"b"}}}
-16000000 03 6100 0e000000 08 2473636f706500 01 00 00 | {"a":{"$scope":true}} | {"a":{"$scope":true}}"#;
+16000000 03 6100 0e000000 08 2473636f706500 01 00 00 | {"a":{"$scope":true}} | {"a":{"$scope":true}}
+0e000000 0b 6100 00 7ac3a96100 00 | {"a":{"$regularExpression":{"pattern":"","options":"zéa"}}} | {"a":{"$regularExpression":{"pattern":"","options":"zéa"}}}"#;
 
 /// Returns true if the document of these digits is read of its canonical JSON as the same one.
 fn is_kept(alloc: Global, digits: &str) -> bool {

@@ -101,7 +101,8 @@ const FORMS: &str = r#" { "i" : 1 }  | 0c000000 10 6900 01000000 00
 {"a":{"$scope":true}} | 16000000 03 6100 0e000000 08 2473636f706500 01 00 00
 {"a":{"$id":"b"}} | 18000000 03 6100 10000000 02 24696400 02000000 6200 00 00
 {"a":{"$x":null}} | 11000000 03 6100 09000000 0a 247800 00 00
-{"\u0061":"\u0000\ud83d\ude00"} | 12000000 02 6100 06000000 00f09f9880 00 00"#;
+{"\u0061":"\u0000\ud83d\ude00"} | 12000000 02 6100 06000000 00f09f9880 00 00
+{"a":{"$regularExpression":{"pattern":"abc","options":"mix"}}} | 10000000 0b 6100 61626300 696d7800 00"#;
 
 /// Returns true if the text of a row is read as its document.
 fn is_form_read(alloc: Global, row: &str) -> bool {

@@ -1,4 +1,4 @@
-use Rattle.std.proofs.Common.{◌≡◌, ◌++◌, ◌∙◌, List, ℕ, sym, subst, true}
+use Rattle.std.proofs.Common.{◌++◌, ◌∙◌, List, ℕ, sym, subst, true}
 use Rattle.std.proofs.KnownBytes.{Appends-trans}
 use Rattle.bson_json.specs.Json.{IsPairsJson, closing}
 use Rattle.bson_json.proofs.Walking.{regrouped}

@@ -1,5 +1,4 @@
 use Rattle.std.proofs.Common.{refl}
-use Rattle.text_writer.proofs.Lemmas.{word_first}
 use Rattle.bson_json.proofs.Choices.{word_then_one}
 use Rattle.bson_json.proofs.pairs.write_pair.Goals as goal
 

@@ -1,6 +1,5 @@
-use Rattle.std.proofs.Common.{rules, ◌≡◌, ◌≤◌, ◌++◌, ◌∙◌, [], List, ℕ, ap, sym, subst, append_assoc, append-nil}
+use Rattle.std.proofs.Common.{rules, ◌≤◌, ◌++◌, ◌∙◌, [], List, ℕ, sym, subst, append_assoc, append-nil}
 use Rattle.std.proofs.KnownBytes.{Appends-trans}
-use Rattle.bson_elem.specs.Trees.{Tree}
 use Rattle.bson_raw.specs.RawIter.{pairs_bound}
 use Rattle.bson_json.specs.Json.{IsPairsJson, closing}
 use Rattle.bson_json.proofs.Walking.{held_spelled, pairs-held, pairs-leaf, pairs-none}

@@ -1,4 +1,4 @@
-use Rattle.std.proofs.Common.{◌≤◌, arith}
+use Rattle.std.proofs.Common.{arith}
 use Rattle.text_writer.proofs.Lemmas.{word_first}
 use Rattle.bson_json.proofs.Escaped.{control_escaped, high_kept}
 use Rattle.bson_json.proofs.text.write_unnamed.Goals as goal
