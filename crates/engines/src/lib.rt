@@ -6,10 +6,11 @@
 //! and `run_any` know a file of records by its first bytes, and write its records. `run_bson` and
 //! `run_play` read all that the reader has before they write. Each writes one text for its input,
 //! through a buffer of 64 KiB, which the writer gets when it is full, when a read gave less than a
-//! piece, and at the end, and tells how that ended. Documents, messages or records stand back to back in the input, as bytes or as
-//! hexadecimal text; the input of `run_bson` is Extended JSON, and that of `run_play` a script of
-//! events. A fault in the input is told by the last line of the text, and by `run_bson` in what it
-//! returns. `run_loop` reads nothing: it makes calls over a connection of the program with itself.
+//! piece, and at the end, and tells how that ended. Documents, messages or records stand back to
+//! back in the input, as bytes or as hexadecimal text; the input of `run_bson` is Extended JSON,
+//! and that of `run_play` a script of events. A fault in the input is told by the last line of the
+//! text, and by `run_bson` in what it returns. `run_loop` reads nothing: it makes calls over a
+//! connection of the program with itself.
 //!
 //! Stands on bson_json_read, bson_stream, wire_frame, wire_record, wire_stream, wire_end and
 //! wire_play. bsonwire stands on it. Read first: `walk`, `pieces`, `documents`, and then `dump`.
