@@ -1,5 +1,5 @@
 -- A message that is joined of a body and document sequences.
-use Rattle.std.proofs.Common.{◌≡◌, ℕ, ◌+◌, ◌<◌, ◌^◌, pos, List, [], ◌∷◌, ◌++◌, length, drop, refl, sym, ap, subst, ◌∙◌, arith, append_assoc, length-append, get_or}
+use Rattle.std.proofs.Common.{◌≡◌, ℕ, ◌+◌, pos, List, [], ◌∷◌, ◌++◌, length, drop, refl, sym, ap, subst, ◌∙◌, arith, append_assoc, length-append, get_or}
 use Rattle.bson_elem.specs.Spelling.{Spells, document, elements, little}
 use Rattle.bson_elem.specs.Trees.{Tree}
 use Rattle.bson_elem.proofs.Lemmas.{same_front}

@@ -1,7 +1,6 @@
 -- A message that is written with the content of another one.
-use Rattle.std.proofs.Common.{◌≡◌, ◌≤◌, ℕ, List, [], ◌++◌, refl, sym, ap, subst, ◌∙◌}
-use Rattle.std.specs.Prelude.{Option, Some, None}
-use Rattle.bson_raw.specs.Spelled.{IsSpelled}
+use Rattle.std.proofs.Common.{◌≡◌, ◌≤◌, ℕ, List, [], subst, ◌∙◌}
+use Rattle.std.specs.Prelude.{Some}
 use Rattle.wire_msg.specs.Messages.{Message}
 use Rattle.wire_msg.specs.Payload.{AreParts}
 use Rattle.wire_msg.specs.Spelling.{IsMessage, SpellsMsg, canonical, message_len}

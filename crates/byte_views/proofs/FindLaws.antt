@@ -53,7 +53,7 @@ kind_some bytes s e (document_value k b inner) shown none = byte_some k (sym sho
 -- the pairs that are left, where others were passed
 pub passed_left : (bytes name : List ℕ) (s : ElementIter) (at : ℕ) → length bytes < 2 ^ 64 → Passes bytes name s at → (t : Tree) → PairsFrom bytes s t → (rest : Tree) × PairsFrom bytes (moved s at) rest × (first_named name t ≡ first_named name rest) × (pairs_behind name t ≡ pairs_behind name rest)
 passed_left bytes name s at short (no_step is) t from = (t, subst (λ (n : ℕ). PairsFrom bytes (moved s n) t) (sym is) from, refl, refl)
-passed_left bytes name s at short (one_more before e passed step some other) t from =
+passed_left bytes name s at short (one_more before passed (e, step, some, other)) t from =
     let i = passed_left bytes name s before short passed t from in
     elim (step_gives bytes (moved s before) e at short step i.0 i.1) [
       | no_more none is stays ↦ absurd (some (ap (λ (x : Element). x.kind) is))

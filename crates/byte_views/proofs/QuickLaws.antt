@@ -20,7 +20,7 @@ use Rattle.byte_views.specs.Quick.{IsQuick, bad_text, is_value}
 use Rattle.bson_elem.specs.Documents.{IsFramed, elements_of}
 use Rattle.bson_elem.proofs.Lemmas.{IsBytes-drop, IsBytes-take, cstring_takes, kind_is, length-document, made, part_after, past_one, rest_in}
 use Rattle.byte_views.specs.declared.iter.ElementIter.{ElementIter}
-use Rattle.byte_views.specs.Elements.{bare, element_place, value_place}
+use Rattle.byte_views.specs.Elements.{bare, element_place, raw_bits, value_place}
 use Rattle.byte_views.specs.Iters.{IsInside, IsStep, not_text, reads}
 use Rattle.byte_views.proofs.Places.{slice_size}
 use Rattle.byte_views.specs.declared.view.View.{View}
@@ -116,6 +116,12 @@ pub with_double : (bare : Element) (from : ℕ) (rest : List ℕ) (bits : ℕ) (
 with_double bare from rest bits place long is place_is =
     let n : 8 ≡ length (take 8 rest) = omega (arith, length-take 8 rest, long) in
     ap (λ (k : ℕ). let x : Element = record bare { bits = k; bytes = place } in x) is ∙ ap (λ (v : View). let x : Element = record bare { bits = from_le_bytes w64 (take 8 rest); bytes = v } in x) (place_is ∙ ap (view from) n)
+
+pub with_raw : (bare : Element) (k : Kind) (from size : ℕ) (bytes : List ℕ) (place : View) → bare.bits ≡ 0 → raw_bits k bytes ≡ 0 → length bytes ≡ size → place ≡ view from size
+    → ◌≡◌ {A = Element} (record bare { bytes = place }) (record bare { bits = raw_bits k bytes; bytes = view from (length bytes) })
+with_raw bare k from size bytes place no_bits none long is =
+    ap (λ (b : ℕ). let x : Element = record bare { bits = b; bytes = place } in x) (no_bits ∙ sym none)
+    ∙ ap (λ (v : View). let x : Element = record bare { bits = raw_bits k bytes; bytes = v } in x) (is ∙ ap (view from) (sym long))
 
 pub with_document : (bare : Element) (from : ℕ) (whole : List ℕ) (place : View) → bare.text ≡ no_view → IsFramed whole → place ≡ view from (length whole) → ◌≡◌ {A = Element} (record bare { bytes = place }) (record bare { text = no_view; bytes = view from (length (elements_of whole) + 5) })
 with_document bare from whole place no_text framed is =

@@ -12,12 +12,16 @@ use Rattle.byte_views.specs.Iters.{IsFirst, IsStep, moved}
 use Rattle.byte_views.specs.Pairs.{PairsFrom, ShowsValue}
 use Rattle.byte_views.specs.Views.{IsView}
 
+-- The walk stands at an element with another name; what is behind it begins at this offset.
+abbrev pub IsPassed : List ℕ → List ℕ → ElementIter → ℕ → Type 0
+IsPassed bytes name s next =
+    (e : Element) × IsStep bytes s e next × (e.kind ≢ 0) × (IsView bytes e.name name → ⊥)
+
 -- The walk passes elements with other names, up to this offset.
 pub data Passes (bytes name : List ℕ) (s : ElementIter) : ℕ → Type 0 where
   no_step : {at : ℕ} → at ≡ s.at → Passes bytes name s at
-  one_more : {at : ℕ} (before : ℕ) (e : Element) → Passes bytes name s before
-      → IsStep bytes (moved s before) e at → e.kind ≢ 0 → (IsView bytes e.name name → ⊥)
-      → Passes bytes name s at
+  one_more : {at : ℕ} (before : ℕ) → Passes bytes name s before
+      → IsPassed bytes name (moved s before) at → Passes bytes name s at
 
 -- The walk passes elements with other names, and then reads this one, which has the name, or reads
 -- that there is none.

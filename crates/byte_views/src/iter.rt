@@ -5,7 +5,7 @@ ghost use Rattle.bson_elem.specs.{Spells, Tree};
 ghost use Rattle.bson_raw.specs.Spelled.{IsLengthOf};
 ghost use Rattle.byte_views.specs.Iters.{CanEnter, IsFirst, IsInside, IsStep, first_begins};
 ghost use Rattle.byte_views.specs.Iters.{first_fails, inner_iter, moved, wrong_iter};
-ghost use Rattle.byte_views.specs.Finding.{Finds, Gets, GivesNamed};
+ghost use Rattle.byte_views.specs.Finding.{Finds, Gets, GivesNamed, IsPassed};
 ghost use Rattle.byte_views.specs.Filling.{Fills};
 ghost use Rattle.byte_views.specs.Pairs.{GivesNext, PairsFrom};
 ghost use Rattle.byte_views.specs.Views.{IsView};
@@ -133,13 +133,10 @@ fn quick_step(bytes: &[u8], iter: ElementIter) -> Option<(Element, usize)>
     }
 }
 
-/// Reads the element at the iterator into `element`. Returns the offset after it, or the iterator's
-/// own where there is none.
-// Not inlined, so that there is one copy of the code that tells the kinds apart, into which all
-// that it calls is inlined.
+/// Reads the element at the iterator into `element`, like `step`, whatever its kind is.
 #[inline(never)]
-pub(crate) fn step(bytes: &[u8], iter: ElementIter, element: &mut Element) -> usize
-    ensures { IsStep bytes.now iter element.new result }
+fn step_in_full(bytes: &[u8], iter: &ElementIter, element: &mut Element) -> usize
+    ensures { IsStep bytes.now iter.now element.new result }
 {
     if !iter.is_inside(bytes) {
         *element = Element::wrong();
@@ -148,10 +145,6 @@ pub(crate) fn step(bytes: &[u8], iter: ElementIter, element: &mut Element) -> us
     if iter.at == iter.end {
         *element = Element::none();
         return iter.at;
-    }
-    if let Some((found, next)) = quick_step(bytes, iter) {
-        *element = found;
-        return next;
     }
     match read_element(bytes, iter.start, iter.at, iter.end, iter.depth) {
         Ok(found) => {
@@ -168,6 +161,23 @@ pub(crate) fn step(bytes: &[u8], iter: ElementIter, element: &mut Element) -> us
     }
 }
 
+/// Reads the element at the iterator into `element`. Returns the offset after it, or the iterator's
+/// own where there is none.
+// Not inlined, so that there is one copy of the code that tells the common kinds apart. The other
+// kinds are read by a call, so that this one has few values to keep.
+#[inline(never)]
+pub(crate) fn step(bytes: &[u8], iter: &ElementIter, element: &mut Element) -> usize
+    ensures { IsStep bytes.now iter.now element.new result }
+{
+    if iter.is_inside(bytes) && iter.at != iter.end {
+        if let Some((found, next)) = quick_step(bytes, *iter) {
+            *element = found;
+            return next;
+        }
+    }
+    step_in_full(bytes, iter, element)
+}
+
 /// Reads the element at the iterator, and moves the iterator behind it. After the last element, and
 /// at a fault, it stays where it is.
 pub fn walk_next(bytes: &[u8], iter: &mut ElementIter, element: &mut Element)
@@ -176,7 +186,7 @@ pub fn walk_next(bytes: &[u8], iter: &mut ElementIter, element: &mut Element)
     ensures pairs { (t : Tree) → PairsFrom bytes.now iter.old t
         → GivesNext bytes.now iter.old element.new iter.new t }
 {
-    iter.at = step(bytes, *iter, element);
+    iter.at = step(bytes, iter, element);
 }
 
 /// Reads elements from the iterator on into `room`, until it is full, and moves the iterator behind
@@ -188,7 +198,7 @@ pub fn walk_next_elements(bytes: &[u8], iter: &mut ElementIter, room: &mut [Elem
 {
     let mut count = 0;
     while count < room.len() {
-        iter.at = step(bytes, *iter, &mut room[count]);
+        iter.at = step(bytes, iter, &mut room[count]);
         if room[count].kind == 0 {
             return count;
         }
@@ -208,6 +218,23 @@ fn is_named(bytes: &[u8], view: View, name: &[u8]) -> bool
         && &bytes[offset..offset + length] == name
 }
 
+/// Returns the offset after the element at the iterator, if it has another name, and its value is of
+/// a common kind and nothing is wrong with it.
+// What isn't asked of the element isn't read, since all of this is inlined.
+#[inline(always)]
+fn pass(bytes: &[u8], name: &[u8], iter: ElementIter) -> Option<usize>
+    ensures { IfSome result (λ next. IsPassed bytes.now name.now iter next) }
+{
+    if !iter.is_inside(bytes) || iter.at == iter.end {
+        return None;
+    }
+    let (element, next) = quick_step(bytes, iter)?;
+    if element.kind == 0 || is_named(bytes, element.name, name) {
+        return None;
+    }
+    Some(next)
+}
+
 /// Reads elements from the iterator on, up to the first with this `name`, into `element`. Returns
 /// the offset after that one, or where the walk ended if there is none.
 fn find(bytes: &[u8], name: &[u8], iter: ElementIter, element: &mut Element) -> usize
@@ -215,7 +242,11 @@ fn find(bytes: &[u8], name: &[u8], iter: ElementIter, element: &mut Element) -> 
 {
     let mut at = iter.at;
     loop {
-        let next = step(bytes, ElementIter { at, ..iter }, element);
+        if let Some(next) = pass(bytes, name, ElementIter { at, ..iter }) {
+            at = next;
+            continue;
+        }
+        let next = step(bytes, &ElementIter { at, ..iter }, element);
         if element.kind == 0 || is_named(bytes, element.name, name) {
             return next;
         }

@@ -3,8 +3,10 @@
 //! What isn't read here is read by bson_elem, which tells each fault. A string's text isn't tested
 //! for UTF-8 here.
 
-ghost use Rattle.std.specs.Prelude.{◌≡◌, ◌+◌, ◌<◌, ◌≤◌, ◌^◌, ℕ, IfSome, length, take};
+ghost use Rattle.std.specs.Prelude.{◌≡◌, ◌+◌, ◌<◌, ◌≤◌, ◌^◌, ℕ, IfSome, List, length, take};
 ghost use Rattle.std.specs.Int.{w32, w64, cast_signed, cast_unsigned};
+ghost use Rattle.bson_elem.specs.{form_of, raw_form};
+ghost use Rattle.byte_views.specs.Elements.{raw_bits};
 ghost use Rattle.byte_views.specs.Quick.{IsQuick, IsQuickly, IsValueAt};
 ghost use Rattle.byte_views.specs.Views.{no_view};
 
@@ -18,6 +20,35 @@ fn extended(bits: u32) -> u64
     ensures { result ≡ cast_unsigned w64 (cast_signed w32 bits) }
 {
     i64::from(bits.cast_signed()).cast_unsigned()
+}
+
+/// Reads a boolean into `bare`.
+#[inline(always)]
+fn boolean(rest: &[u8], bare: Element) -> Option<(Element, usize)>
+    ensures { (depth at from : ℕ)
+        → IfSome result (λ x. IsValueAt depth at from Kind.Boolean rest.now bare x.0 x.1) }
+{
+    if rest.len() < 1 || rest[0] > 1 {
+        return None;
+    }
+    let bits = u64::from(rest[0]);
+    Some((Element { bits, ..bare }, 1))
+}
+
+/// Reads a value of `size` bytes, which begins at offset `from`, into `bare`. Its kind is none of
+/// those whose bytes are a number.
+#[inline(always)]
+fn raw(rest: &[u8], size: usize, from: usize, bare: Element) -> Option<(Element, usize)>
+    requires { bare.bits ≡ 0 }
+    ensures { (depth at : ℕ) (k : Kind) → form_of k ≡ raw_form size
+        → ((bytes : List ℕ) → raw_bits k bytes ≡ 0)
+        → IfSome result (λ x. IsValueAt depth at from k rest.now bare x.0 x.1) }
+{
+    if rest.len() < size {
+        return None;
+    }
+    let bytes = View::new(from, size);
+    Some((Element { bytes, ..bare }, size))
 }
 
 /// Reads an int32 into `bare`.
@@ -138,6 +169,7 @@ pub(crate) fn value(
 ) -> Option<(Element, usize)>
     requires room { from + length rest.now < 2 ^ 63 }
     requires no_text { bare.text ≡ no_view }
+    requires no_bits { bare.bits ≡ 0 }
     ensures { IfSome result (λ x. IsQuickly depth at from byte rest.now bare x.0 x.1) }
 {
     match byte {
@@ -145,9 +177,13 @@ pub(crate) fn value(
         0x02 => string(rest, from, bare),
         0x03 => document(rest, depth, at, from, bare),
         0x04 => document(rest, depth, at, from, bare),
+        0x07 => raw(rest, 12, from, bare),
+        0x08 => boolean(rest, bare),
         0x09 => int64(rest, bare),
+        0x0a => raw(rest, 0, from, bare),
         0x10 => int32(rest, bare),
         0x12 => int64(rest, bare),
+        0x13 => raw(rest, 16, from, bare),
         _ => None,
     }
 }

@@ -120,7 +120,7 @@ fn element_span(bytes: &[u8], offset: usize, iter: ElementIter) -> View
         if !place.is_inside(bytes) {
             return View::NONE;
         }
-        let next = step(bytes, place, &mut element);
+        let next = step(bytes, &place, &mut element);
         if element.kind == 0 {
             return fault_span(bytes, place);
         }

@@ -1,11 +1,9 @@
-use Rattle.std.proofs.Common.{◌≡◌, ◌≤◌, ◌<◌, ◌+◌, ◌∙◌, ◌^◌, ℕ, Option, Some, true, length, refl, sym, ap, arith}
-use Rattle.std.specs.Prelude.{IfSome}
+use Rattle.std.proofs.Common.{◌≡◌, ◌≤◌, ◌<◌, ◌+◌, ◌∙◌, ◌^◌, Some, true, length, sym, ap, arith}
 use Rattle.bson_elem.specs.Spelling.{elements}
 use Rattle.bson_elem.proofs.Lemmas.{length-document}
 use Rattle.bson_raw.specs.Naming.{is_named}
-use Rattle.bson_raw.specs.Pairs.{with_first}
-use Rattle.byte_views.specs.Forms.{bytes_from, misnamed, misnamed_in}
-use Rattle.byte_views.proofs.FormLaws.{misnamed_le, named_first, told_within}
+use Rattle.byte_views.specs.Forms.{bytes_from, misnamed_in}
+use Rattle.byte_views.proofs.FormLaws.{misnamed_le, told_within}
 use Rattle.byte_views.proofs.form.+misnamed.Goals as goal
 
 pub misnamed-returns-in-Some-misnamed_in : goal.misnamed-returns-in-Some-misnamed_in

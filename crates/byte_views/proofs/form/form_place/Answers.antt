@@ -1,6 +1,5 @@
-use Rattle.std.proofs.Common.{◌≡◌, ◌≤◌, ◌+◌, ◌∙◌, ◌-◌, ℕ, Bool, Option, Some, None, true, false, length, refl, sym, subst, ap, arith}
+use Rattle.std.proofs.Common.{◌≡◌, ◌∙◌, ℕ, Bool, Some, None, true, false, length, refl, sym, subst, ap}
 use Rattle.bson_elem.specs.Spelling.{Spells}
-use Rattle.bson_raw.specs.RawDocument.{document_bytes}
 use Rattle.byte_views.specs.Forms.{is_document, has_fault, misnamed, told_form}
 use Rattle.byte_views.specs.declared.form.FormPlace.{FormPlace}
 use Rattle.byte_views.specs.declared.fault.FirstFault.{FirstFault}

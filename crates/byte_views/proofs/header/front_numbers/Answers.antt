@@ -2,7 +2,6 @@ use Rattle.std.proofs.Common.{◌≡◌, ◌≤◌, ◌+◌, ◌∙◌, ℕ, Lis
 use Rattle.std.proofs.lemmas.Bool.{le-ltb}
 use Rattle.wire_msg.specs.{header_of, number_at}
 use Rattle.byte_views.specs.Headers.{front_numbers, header_shown, number_or_0}
-use Rattle.byte_views.specs.declared.header.FrontNumbers.{FrontNumbers}
 use Rattle.byte_views.proofs.header.front_numbers.Goals as goal
 
 -- a number that the bytes have

@@ -1,7 +1,6 @@
-use Rattle.std.proofs.Common.{◌≡◌, ◌<◌, ◌∙◌, ℕ, List, refl, sym, subst, arith, ap}
+use Rattle.std.proofs.Common.{◌<◌, ◌∙◌, ℕ, List, refl, subst, arith, ap}
 use Rattle.bson_elem.specs.Items.{element_view}
 use Rattle.byte_views.specs.declared.element.Element.{Element}
-use Rattle.byte_views.specs.declared.text.TextWritten.{TextWritten}
 use Rattle.byte_views.specs.Shown.{is_put, no_memory, has_fault, none_there}
 use Rattle.byte_views.specs.Texts.{IsPut, no_text}
 use Rattle.byte_views.proofs.Told.{counted_from_0}
