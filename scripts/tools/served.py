@@ -1,6 +1,7 @@
 """A test server or a proxy that a check runs, and asks over raw sockets."""
 
 import _thread
+import atexit
 import os
 import socket
 import subprocess
@@ -76,6 +77,19 @@ def ask(link, body, number=1):
     return reply(link)
 
 
+def start(room, words):
+    """Starts a program that says where it listens, and ends with the script. Returns it, and its address."""
+    path = os.path.join(room, f"output-{time.monotonic_ns()}")
+    with open(path, "wb") as output:
+        program = subprocess.Popen(words, stdout=output)
+    atexit.register(program.kill)
+    while b"\n" not in open(path, "rb").read(4096):
+        check("the program listens", program.poll() is None, words[0], program.returncode)
+        time.sleep(0.01)
+    host, port = open(path, "rb").readline().decode().split()[1].rsplit(":", 1)
+    return program, (host, int(port))
+
+
 class Server:
     """The server, with standard input that is held open, as a context. Its port is read from the file of --port-file."""
 
@@ -103,9 +117,13 @@ class Server:
 
     def end(self):
         """Closes standard input. Returns the status and the lines of the output."""
-        self.process.stdin.close()
-        self.output = self.process.stdout.read().decode()
-        return self.process.wait(20), self.output.splitlines()
+        try:
+            self.output = self.process.communicate(timeout=20)[0].decode()
+        except subprocess.TimeoutExpired:
+            self.process.kill()
+            self.output = self.process.communicate()[0].decode()
+            check("the server ends within 20 seconds", False, self.output)
+        return self.process.returncode, self.output.splitlines()
 
     def __enter__(self):
         return self
