@@ -3,8 +3,8 @@
  *     allocated FILE WHAT NUMBER TIMES
  *
  * does it so many times with the first message of the file, and prints the most bytes that were held at once, and how often
- * memory was taken. The bytes are those that were asked for, and those of malloc's own, 8 each. It is linked with
- * --wrap=malloc, --wrap=realloc and --wrap=free.
+ * memory was taken. The bytes are those that malloc gave, which may be more than were asked for, and 8 of its own each. It is linked
+ * with --wrap=malloc, --wrap=realloc and --wrap=free.
  */
 #define _POSIX_C_SOURCE 199309L
 #include "peers.h"

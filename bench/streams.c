@@ -24,7 +24,7 @@ size_t stream_bench_send(const uint8_t *bytes, size_t length);
 bool stream_bench_compare_pairs(const uint8_t *bytes, size_t length);
 bool stream_bench_own(const uint8_t *bytes, size_t length);
 
-/* Copies the bytes into memory of their own. Returns their sum's lowest bits, so that no compiler leaves the copy out. */
+/* Copies the bytes into memory of their own. Returns the byte in their middle, so that no compiler leaves the copy out. */
 static unsigned copy(const uint8_t *bytes, size_t size)
 {
     uint8_t *taken = malloc(size);

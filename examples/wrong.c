@@ -141,7 +141,6 @@ static void try_rooms(void)
     expect(lughemra_canonical(document, sizeof document, NULL, 100).length == sizeof document, "a form with no room");
 }
 
-/* Walks over a copy of the document at each alignment, which ends where its block does. */
 /* Appends an int32 in a room of this length, at its end, with the builder's numbers. */
 static struct lughemra_built built_in(size_t room_length, struct lughemra_builder builder, uint32_t kind)
 {
@@ -228,6 +227,7 @@ static void try_builders(void)
     expect(lughemra_finish(room, 16, NULL).refusal == LUGHEMRA_OUT_OF_RANGE, "nothing is finished");
 }
 
+/* Walks over a copy of the document at each alignment, which ends where its block does. */
 static void try_alignments(void)
 {
     for (size_t shift = 0; shift < 16; shift++) {

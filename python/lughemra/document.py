@@ -261,7 +261,9 @@ class Document(_Container, Mapping[str, Value]):
         function = getattr(lib.functions_for(data), name)
         room = lib.room_of(3 * len(data) + 256)
         told = function(pointer, size, *form, room.pointer, room.size)
-        if not told.written and not told.number:
+        # Once more, and again where another thread made the bytes longer meanwhile.
+        while not told.written and not told.number:
+            lib.give_back(room)
             room = lib.room_of(told.length)
             told = function(pointer, size, *form, room.pointer, room.size)
         if told.number == lib.NO_MEMORY:
@@ -304,6 +306,9 @@ class _Values(ValuesView[Value]):
     def __iter__(self) -> Iterator[Value]:
         document = self._document
         return (document._value(step) for _, step in document._firsts())
+
+    def __contains__(self, value: object) -> bool:
+        return any(it is value or it == value for it in self)
 
 
 class Array(_Container, Sequence[Value]):

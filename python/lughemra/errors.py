@@ -40,7 +40,7 @@ MESSAGE_FAULTS = {
 
 
 class LibraryNotFound(ImportError):
-    """Tells that the shared object isn't there, or that it isn't of this version."""
+    """Tells that the shared object isn't there, or that it lacks a function of this version."""
 
 
 class Fault(ValueError):

@@ -42,7 +42,8 @@ class Server(End):
         """Takes a piece of the bytes that came, which is copied. The requests that are whole by then wait.
 
         What comes while as many wait as the window allows is kept until one is answered. Raises ServerClosed where what came
-        closes the server, and each time from then on.
+        closes the server, and each time from then on. Where it raises MemoryError the piece is kept: it isn't fed again, and
+        `feed(b"")` goes on.
         """
         self._raise_if_closed()
         if self._ended:
@@ -99,8 +100,10 @@ class Server(End):
         Each document is a mapping, as for `encode`, or the bytes of one, and is the body of a reply. A request gets one, or any
         number of them if it takes more. One that wants no reply, whose flags have MORE_TO_COME, is answered so, too, and
         nothing is sent. Raises IndexError where no such request waits, CallRefused where it may not get as many answers,
-        MessageError where one of them is no body, as one with a name that stands twice, and ServerClosed where the server is
-        closed: by the answer too, if a reply would have more bytes than the limit.
+        DocumentError where one of them isn't a document, EncodeError for what can't be spelled, MessageError where one of them
+        is no body, as one with a name that stands twice, and ServerClosed where the server is closed: by the answer too, if a
+        reply would have more bytes than the limit. MemoryError may come of what was kept behind a full window, once the request
+        was answered: `pending` tells, and `feed(b"")` goes on.
         """
         self._raise_if_closed()
         content = b"".join(documents_bytes(documents))

@@ -39,7 +39,7 @@ def dict_of(document: Document) -> dict[str, Any]:
         except OtherForm:
             pass
     try:
-        return first_of(pairs_of(document._data, document._pointer, document._size, document._begin))
+        return first_of(pairs_of(document._data, document._pointer, document._size, alone(document._begin)))
     except DocumentError:
         document.check()
         raise
@@ -48,10 +48,15 @@ def dict_of(document: Document) -> dict[str, Any]:
 def list_of(array: Array) -> list[Any]:
     """Returns an array as list. Raises the first fault that a check finds."""
     try:
-        return [value for _, value in pairs_of(array._data, array._pointer, array._size, array._begin)]
+        return [value for _, value in pairs_of(array._data, array._pointer, array._size, alone(array._begin))]
     except DocumentError:
         array.check()
         raise
+
+
+def alone(begin: lib.Iter) -> lib.Iter:
+    """Returns where a walk begins that takes a document or an array as the outermost one, as a check does."""
+    return lib.Iter(begin.start, begin.at, begin.end, 1)
 
 
 def first_of(pairs: Pairs) -> dict[str, Any]:

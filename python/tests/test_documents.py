@@ -243,5 +243,19 @@ def test_depths_up_to_200():
         Document(deeper).to_dict()
 
 
+def test_what_stands_deep_is_read_alone():
+    data = document(element(0x11, "t", bytes(8)), element(0x04, "l", document(element(0x11, "0", bytes(8)))))
+    for _ in range(259):
+        data = document(element(0x03, "a", data))
+    inner = Document(data)
+    for _ in range(150):
+        inner = inner["a"]
+    inner.check()
+    told = inner.to_dict()
+    for _ in range(109):
+        told = told["a"]
+    assert told["l"] == [told["t"]]
+
+
 def test_the_module_tells_the_version_of_the_repository():
     assert f"\n## {lughemra.__version__}\n" in (ROOT / "CHANGELOG.md").read_text(encoding="utf-8")

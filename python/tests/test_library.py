@@ -1,5 +1,6 @@
 """Compares the structures and functions with lughemra.h, and looks for the shared object in each place."""
 
+import concurrent.futures
 import ctypes
 import os
 import pathlib
@@ -7,7 +8,6 @@ import re
 import shutil
 import subprocess
 import sys
-import threading
 
 import pytest
 from rows import ROOT, document, element
@@ -134,7 +134,7 @@ def test_the_variable_names_the_shared_object(tmp_path):
 def test_the_shared_object_may_stand_beside_the_module_or_where_the_loader_looks(tmp_path):
     found = pathlib.Path(lughemra.LIBRARY_PATH).resolve()
     ran = run("import lughemra; print(lughemra.LIBRARY_PATH)", LD_LIBRARY_PATH=str(found.parent))
-    assert ran.returncode == 0 and ran.stdout == "liblughemra.so.0\n" or (PACKAGE / _library.SONAME).exists()
+    assert ran.returncode == 0 and (ran.stdout == "liblughemra.so.0\n" or (PACKAGE / _library.SONAME).exists())
     shutil.copytree(PACKAGE, tmp_path / "lughemra")
     shutil.copy(found, tmp_path / "lughemra" / _library.SONAME)
     ran = run("import lughemra; print(lughemra.LIBRARY_PATH)", PYTHONPATH=str(tmp_path))
@@ -180,11 +180,9 @@ def test_threads_read_one_document():
     interval = sys.getswitchinterval()
     sys.setswitchinterval(1e-6)
     try:
-        threads = [threading.Thread(target=look) for _ in range(4)]
-        for thread in threads:
-            thread.start()
-        for thread in threads:
-            thread.join()
+        with concurrent.futures.ThreadPoolExecutor(4) as pool:
+            for ended in [pool.submit(look) for _ in range(4)]:
+                ended.result()
     finally:
         sys.setswitchinterval(interval)
     assert not wrong

@@ -29,6 +29,7 @@
 #include <stdbool.h>
 #include <stddef.h>
 #include <stdint.h>
+#include <string.h>
 
 #if SIZE_MAX != UINT64_MAX
 #error "lughemra is built for a size_t of 64 bits"
@@ -915,12 +916,7 @@ static inline struct lughemra_built lughemra_append_double(uint8_t *room, size_t
                                                            size_t name_length, double real)
 {
     struct lughemra_value value = {LUGHEMRA_DOUBLE, 0, 0};
-    union {
-        double real;
-        uint64_t bits;
-    } number;
-    number.real = real;
-    value.bits = number.bits;
+    memcpy(&value.bits, &real, sizeof value.bits);
     return lughemra_append(room, room_length, builder, name, name_length, value, NULL, 0, NULL, 0);
 }
 
