@@ -2,7 +2,7 @@
  *
  *     message FILE [LIMIT]    writes the message's numbers, and the size of each document in it
  *
- * The status is 1 if the file isn't exactly one message. LIMIT is 48000000 if it is left out. */
+ * The status is 1 if the file isn't exactly one message, and 2 if it can't be read. LIMIT is 48000000 if it is left out. */
 #include <inttypes.h>
 #include <stdio.h>
 #include <stdlib.h>
@@ -44,8 +44,11 @@ int main(int count, char **words)
     size_t length = 0;
     uint8_t *bytes = count > 1 ? read_file(words[1], &length) : NULL;
     uint32_t limit = count > 2 ? (uint32_t)strtoul(words[2], NULL, 10) : LUGHEMRA_MAX_LIMIT;
-    struct lughemra_message_parts parts = lughemra_message_parts(bytes, length, limit);
+    struct lughemra_message_parts parts;
 
+    if (bytes == NULL)
+        return 2;
+    parts = lughemra_message_parts(bytes, length, limit);
     if (parts.fault.number != 0) {
         printf("fault %" PRIu32 " %s at %zu", parts.fault.number, lughemra_message_fault_name(parts.fault.number),
                parts.fault.offset);

@@ -89,20 +89,22 @@ int main(int count, char **words)
     struct reader reader = {NULL, 0, 0, LUGHEMRA_MAX_LIMIT, {0, 0, {0, 0}, {0, 0}}};
     FILE *file = count > 1 ? fopen(words[1], "rb") : NULL;
     uint8_t *piece = malloc(size);
-    int status = file && piece ? 0 : 2;
+    int status = file && piece && size > 0 ? 0 : 2;
 
     if (count > 3)
         reader.limit = (uint32_t)strtoul(words[3], NULL, 10);
     begin(&reader);
     while (status == 0 && (length = fread(piece, 1, size, file)) > 0)
         status = feed_all(&reader, piece, length, &start);
+    if (status == 0 && ferror(file))
+        status = 2;
     if (status == 0 && reader.length > 0) {
         struct lughemra_fault end = {LUGHEMRA_MSG_ENDED_INSIDE, 0};
         write_fault(start, end, end);
         status = 1;
     }
     if (status == 2)
-        fprintf(stderr, "pieces: the file can't be read, or memory ran out\n");
+        fprintf(stderr, "pieces: PIECE is 0, the file can't be read, or memory ran out\n");
     if (file)
         fclose(file);
     free(piece);

@@ -13,16 +13,20 @@ function showTab(wanted) {
 // Opens what the fragment of the address shares: bytes, or a step of a run.
 function openFragment(inspector, player) {
   const asked = new URLSearchParams(location.hash.slice(1));
-  if (asked.has("bytes")) inspector.openShared(asked.get("bytes"));
+  if (asked.has("bytes")) {
+    inspector.openShared(asked.get("bytes"));
+    showTab("inspector");
+  }
   const run = player.runs.findIndex(({ name }) => name === asked.get("run"));
   if (run >= 0) {
-    player.open(run, Number(asked.get("step")) || 0);
+    player.open(run, Math.trunc(Number(asked.get("step"))) || 0);
     showTab("player");
   }
 }
 
 function takeDrops(inspector) {
   const over = (event, dropping) => {
+    if (!event.dataTransfer.types.includes("Files")) return;
     event.preventDefault();
     document.body.classList.toggle("dropping", dropping);
   };
@@ -30,6 +34,7 @@ function takeDrops(inspector) {
   document.addEventListener("dragleave", (event) => over(event, false));
   document.addEventListener("drop", (event) => {
     over(event, false);
+    if (event.dataTransfer.files.length === 0) return;
     showTab("inspector");
     inspector.readFile(event.dataTransfer.files[0]);
   });

@@ -23,7 +23,10 @@ class Inspector {
 
   listen() {
     byId("source").addEventListener("input", () => this.readTyped());
-    byId("file").addEventListener("change", (event) => this.readFile(event.target.files[0]));
+    byId("file").addEventListener("change", ({ target }) => {
+      this.readFile(target.files[0]);
+      target.value = ""; // so that the same file can be opened again
+    });
     byId("example").addEventListener("change", (event) => this.typeExample(event.target.value));
     byId("share").addEventListener("click", () => this.share());
     byId("reading").addEventListener("change", (event) => {
@@ -65,19 +68,25 @@ class Inspector {
 
   async readFile(file) {
     if (!file) return;
-    const bytes = new Uint8Array(await file.arrayBuffer());
-    byId("source").value = bytes.length <= MOST_TYPED ? hexOf(bytes) : "";
-    byId("source").placeholder = `${file.name}, ${inWords(bytes.length, "byte")}`;
-    this.open(bytes);
+    try {
+      const bytes = new Uint8Array(await file.arrayBuffer());
+      byId("source").value = bytes.length <= MOST_TYPED ? hexOf(bytes) : "";
+      byId("source").placeholder = `${file.name}, ${inWords(bytes.length, "byte")}`;
+      this.open(bytes);
+    } catch (problem) {
+      this.tellProblem(`${file.name} can't be read: ${problem.message}`);
+    }
   }
 
-  share() {
-    const { hash } = location;
-    if (this.bytes.length <= MOST_SHARED) history.replaceState(null, "", `#bytes=${asFragment(this.bytes)}`);
-    navigator.clipboard?.writeText(location.href).catch(() => {});
-    byId("shared").textContent = this.bytes.length > MOST_SHARED
-      ? `Only ${inWords(MOST_SHARED, "byte")} go into an address.`
-      : hash === location.hash ? "The address has these bytes." : "The address has these bytes now, and is copied.";
+  async share() {
+    if (this.bytes.length > MOST_SHARED) {
+      byId("shared").textContent = `Only ${inWords(MOST_SHARED, "byte")} go into an address.`;
+      return;
+    }
+    history.replaceState(null, "", `#bytes=${asFragment(this.bytes)}`);
+    byId("shared").textContent = "The address has these bytes.";
+    const isCopied = await navigator.clipboard?.writeText(location.href).then(() => true, () => false);
+    if (isCopied) byId("shared").textContent = "The address has these bytes, and is copied.";
   }
 
   tellProblem(problem) {

@@ -121,7 +121,8 @@ class Player {
   showLine({ row }) {
     this.lines.forEach((line, index) => {
       line.classList.toggle("reached", index <= row);
-      line.toggleAttribute("aria-current", index === row);
+      if (index === row) line.setAttribute("aria-current", "step");
+      else line.removeAttribute("aria-current");
     });
     const { text, written } = this.run.rows[row];
     const comment = this.run.rows[row - 1]?.written === null ? this.run.rows[row - 1].text.replace(/^#\s*/, "") : "";

@@ -100,20 +100,22 @@ class TreePane {
     if (key === "ArrowRight" && chosen?.isContainer && !chosen.open) this.turn(chosen, true);
     else if (key === "ArrowLeft" && chosen?.isContainer && chosen.open) this.turn(chosen, false);
     else if (key === "ArrowLeft") this.chooseRow(this.rows.findIndex(({ node }) => node && node === chosen?.parent));
-    else if (key === "ArrowDown" || key === "ArrowRight") this.chooseRow(index + 1);
-    else if (key === "ArrowUp") this.chooseRow(index - 1);
+    else if (key === "ArrowDown" || key === "ArrowRight") this.chooseRow(index + 1, 1);
+    else if (key === "ArrowUp") this.chooseRow(index - 1, -1);
     else if (key === "Home") this.chooseRow(0);
     else if (key === "End") this.chooseRow(this.rows.findLastIndex(({ node }) => node));
     else return false;
     return true;
   }
 
-  chooseRow(index) {
+  // Chooses the node of a line, or reads more there. A key passes over the line of the fault, the way it goes.
+  chooseRow(index, way = 0) {
     const row = this.rows[index];
     if (row?.more) {
       this.readMore(row.more);
       this.chooseRow(index);
-    } else if (row?.node) this.onChoose(row.node);
+    } else if (row?.fault && way !== 0) this.chooseRow(index + way, way);
+    else if (row?.node) this.onChoose(row.node);
   }
 
   drawLine(index) {

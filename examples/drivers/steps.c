@@ -95,6 +95,17 @@ static bool find(mongoc_collection_t *items, bson_error_t *error)
     return well;
 }
 
+/* Tells whether a call went well, and this field of its answer is 1. */
+static bool is_one(bool well, bson_t *answer, const char *name, bson_error_t *error)
+{
+    bson_iter_t field;
+    bool one = bson_iter_init_find(&field, answer, name) && BSON_ITER_HOLDS_INT(&field) && bson_iter_as_int64(&field) == 1;
+    bson_destroy(answer);
+    if (well && !one)
+        bson_set_error(error, 0, 0, "%s isn't 1", name);
+    return well && one;
+}
+
 int main(int argc, char **argv)
 {
     if (argc != 4)
@@ -119,8 +130,11 @@ int main(int argc, char **argv)
     step("ping", mongoc_client_command_simple(client, "admin", ping, NULL, NULL, &error), &error);
     step("insert", insert(items, &error), &error);
     step("find", find(items, &error), &error);
-    step("update", mongoc_collection_update_one(items, two, set, NULL, NULL, &error), &error);
-    step("delete", mongoc_collection_delete_one(items, three, NULL, NULL, &error), &error);
+    bson_t answer;
+    bool well = mongoc_collection_update_one(items, two, set, NULL, &answer, &error);
+    step("update", is_one(well, &answer, "modifiedCount", &error), &error);
+    well = mongoc_collection_delete_one(items, three, NULL, &answer, &error);
+    step("delete", is_one(well, &answer, "deletedCount", &error), &error);
     step("count", mongoc_collection_count_documents(items, &all, NULL, NULL, NULL, &error) == 999, &error);
     step("drop", mongoc_collection_drop(items, &error), &error);
     sleep(11);

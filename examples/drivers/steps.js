@@ -23,7 +23,7 @@ const { MongoClient } = require("mongodb");
   client.on("connectionCreated", () => seen.connections++);
   client.on("serverHeartbeatSucceeded", () => seen.heartbeats++);
   client.on("connectionClosed", (event) => closing || faults.push(`connection closed: ${event.reason}`));
-  for (const name of ["connectionPoolCleared", "connectionCheckOutFailed", "serverHeartbeatFailed", "commandFailed"]) {
+  for (const name of ["connectionPoolCleared", "connectionCheckOutFailed", "serverHeartbeatFailed"]) {
     client.on(name, (event) => faults.push(`${name} ${event.failure || event.reason || ""}`));
   }
   for (const name of ["connectionPoolClosed", "serverClosed", "close", "timeout"]) {
