@@ -2,7 +2,7 @@
 
 from play_model import FORMS
 from records import HEAD, SIGNATURE
-from text_model import SIZES, STRINGS
+from text_model import SIZES, STRINGS, crc32c
 from world_ends import Content, Message, count, echo, little, spelled
 from world_model import RANGES, Limits, World
 from world_schedule import BODIES, WORDS, Schedule
@@ -167,7 +167,14 @@ class Messages(Documents):
             return self.damaged(b)
         if how < 0.6:
             return self.changed(bytearray(b))
+        if how < 0.65:
+            return self.with_checksum(b)
         return self.of_sections() if how < 0.8 else b
+
+    def with_checksum(self, b):
+        """Returns a message with the bit of flags that a CRC-32C follows, and with that, which is wrong now and then."""
+        b = little(len(b) + 4) + b[4:16] + bytes([b[16] | 1]) + b[17:]
+        return b + little(crc32c(b) ^ self.chance.choice([0, 0, 1]))
 
     def records(self, many):
         """Returns a file of records, whose heads and messages are damaged now and then; or a beginning that is damaged itself."""

@@ -3,8 +3,8 @@
 It is written from the form of the file, which docs/DEFINITIONS.md tells, and not from the code.
 """
 
-import collections
 import struct
+from typing import NamedTuple
 
 SIGNATURE = b"LUGHREC1"
 HEAD = struct.Struct("<qqi")  # the time in microseconds since 1970 in UTC, the number of the connection, and the direction
@@ -12,7 +12,18 @@ SIGNS = (">", "<")  # to the server, and from it
 MAX_MESSAGE = 48_000_000
 CAUSES = {1: "Length", 17: "Connection", 18: "Direction"}
 
-Record = collections.namedtuple("Record", "micros connection sign message")
+
+class Record(NamedTuple):
+    """A message, when it passed, over which connection, and whether to the server (0) or from it (1)."""
+
+    micros: int
+    connection: int
+    direction: int
+    message: bytes
+
+    @property
+    def sign(self):
+        return SIGNS[self.direction]
 
 
 class BadRecord(Exception):
@@ -41,19 +52,21 @@ def record_front(b):
     length = int.from_bytes(message[:4], "little")
     if not 16 <= length <= MAX_MESSAGE:
         raise BadRecord(1, HEAD.size)
-    return Record(micros, connection, SIGNS[direction], message[:length]) if len(message) >= length else None
+    return Record(micros, connection, direction, message[:length]) if len(message) >= length else None
 
 
-def records_of(b):
-    """Returns the records of a file, up to the first one that is at fault or isn't whole."""
+def read(b):
+    """Returns the records of a file, up to the first one that is at fault or isn't whole, and how many bytes stand behind them."""
+    if not b.startswith(SIGNATURE):
+        return [], len(b)
     found, at = [], len(SIGNATURE)
     while at < len(b):
         try:
             record = record_front(b[at:])
         except BadRecord:
-            record = None
+            break
         if not record:
             break
         found.append(record)
         at += HEAD.size + len(record.message)
-    return found
+    return found, len(b) - at

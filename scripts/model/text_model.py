@@ -37,7 +37,7 @@ class Bad(Exception):
 
 
 class BadMessage(Exception):
-    """A fault of a message, as it is told behind its number of bytes before."""
+    """A fault of a message: its cause, its place, and its document's own fault, or its opcode."""
 
     def __init__(self, cause, at, inner=None):
         super().__init__(cause, at)
@@ -66,7 +66,7 @@ def is_text(b):
     return True
 
 
-# ---- documents: from bytes to a list of (kind, name, value, what follows the place), with the first fault
+# ---- documents: from bytes to a list of (kind, name, value), or the first fault
 
 
 def front(b):

@@ -263,6 +263,7 @@ TEXTS = [
     ("flags have 4 bytes", "refuse(13, 16, len(b) < 20)", "refuse(1, 0, len(b) < 20)"),
     ("unknown flags are told before the checksum", "    refuse(3, 16, flags & 0xFFFC)\n    refuse(4, 16, flags & 1)", "    refuse(4, 16, flags & 1)\n    refuse(3, 16, flags & 0xFFFC)"),
     ("a checksum is refused", "    refuse(4, 16, flags & 1)\n", ""),
+    ("a right checksum is told", 'b"ok" if right else b"bad"', 'b"bad"'),
     ("bit 15 of the flags is unknown", "flags & 0xFFFC", "flags & 0x7FFC"),
     ("bit 17 of the flags is passed over", "flags & 0xFFFC", "flags & 0x2FFFC"),
     ("a kind of section is told at its byte", "refuse(5, p, b[p] > 1)", "refuse(5, p + 1, b[p] > 1)"),
