@@ -29,6 +29,7 @@ all_kept (Some x) = refl
 pub refused_ends : (choice : Choice) (end : ServingEnd) (a : Option (List ℕ)) → IsRefused (script_file choice) end → EndsSo choice end a a
 refused_ends choice (runs.Served n) a refused = absurd refused
 refused_ends choice (runs.Script fault) a refused = (refused, all_kept a)
+refused_ends choice runs.Unread a refused = tt
 refused_ends choice runs.InOut a refused = tt
 refused_ends choice runs.OutOfMemory a refused = tt
 
@@ -37,6 +38,7 @@ pub run_ends : (choice : Choice) (rules guide : List RuleView) (end : ServingEnd
     → EndsSo choice end a b
 run_ends choice rules guide (runs.Served n) a b read ran = (rules, guide, read, ran)
 run_ends choice rules guide (runs.Script fault) a b read ran = absurd ran
+run_ends choice rules guide runs.Unread a b read ran = tt
 run_ends choice rules guide runs.InOut a b read ran = tt
 run_ends choice rules guide runs.OutOfMemory a b read ran = tt
 

@@ -6,7 +6,7 @@ use Rattle.clap.specs.declared.error.kind.ErrorKind.TheVariants as kind
 use Rattle.command_words.specs.{words_status}
 use Rattle.test_server.specs.declared.choice.Choice.{Choice}
 use Rattle.test_server.specs.declared.run.ServingEnd.{ServingEnd}
-use Rattle.test_server.specs.declared.run.ServingEnd.TheVariants.{Served, Script, InOut}
+use Rattle.test_server.specs.declared.run.ServingEnd.TheVariants.{Served, Script, Unread, InOut}
 use Rattle.test_server.specs.declared.run.ServingEnd.TheVariants.{OutOfMemory}
 use Rattle.test_server.specs.Choices.{IsChosen}
 use Rattle.test_server.specs.CommandLine.{command_line}
@@ -16,6 +16,7 @@ use Rattle.test_server.specs.Runs.{EndsSo}
 abbrev pub exit_status : ServingEnd → ℕ
 exit_status (Served n) = 0
 exit_status (Script fault) = 2
+exit_status Unread = 3
 exit_status InOut = 3
 exit_status OutOfMemory = 4
 

@@ -87,6 +87,7 @@ fn tell(rt: &impl Eprint, end: ServingEnd, address: &str) -> u8
     // If standard error takes no line, there is only the status.
     let _ = match end {
         ServingEnd::Script(fault) => eprintln!(rt; "test_server: the script is at fault: {fault}"),
+        ServingEnd::Unread => eprintln!(rt; "test_server: the script can't be read"),
         ServingEnd::InOut => eprintln!(rt; "test_server: could not serve at {address:?}"),
         ServingEnd::OutOfMemory => eprintln!(rt; "test_server: out of memory"),
         ServingEnd::Served(_) => Ok(()),
@@ -101,7 +102,7 @@ fn status_of(end: ServingEnd) -> u8
     match end {
         ServingEnd::Served(_) => 0,
         ServingEnd::Script(_) => USAGE,
-        ServingEnd::InOut => IN_OUT,
+        ServingEnd::Unread | ServingEnd::InOut => IN_OUT,
         ServingEnd::OutOfMemory => MEMORY,
     }
 }

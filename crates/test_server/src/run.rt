@@ -33,6 +33,8 @@ pub enum ServingEnd {
     Served(u64),
     /// The script is at fault.
     Script(ScriptFault),
+    /// The script can't be read.
+    Unread,
     /// Listening, accepting a connection or writing the output failed.
     InOut,
     /// Memory ran out.
@@ -129,7 +131,7 @@ fn read_scripts<R: Files>(rt: &R, alloc: Global, file: Option<&str>) -> Result<S
         Err(error) if error.kind() == ErrorKind::OutOfMemory => {
             return Err(ServingEnd::OutOfMemory);
         }
-        Err(_) => return Err(ServingEnd::InOut),
+        Err(_) => return Err(ServingEnd::Unread),
     };
     match parse_scripts(alloc, text.as_slice()) {
         Ok(scripts) => Ok(scripts),
