@@ -3,7 +3,7 @@ use Rattle.std.proofs.Common.{◌≡◌, ℕ, zero, suc, ◌<◌, ◌≤◌, Lis
 use Rattle.std.specs.Char.{is_ascii}
 use Rattle.std.specs.List.{filter, list_all}
 use Rattle.std.specs.Str.{IsAscii, IsNotAscii}
-use Rattle.std.proofs.lemmas.Bool.{and_from, and_left, and_parts, and_right, eq-eqb, eqb-false, ltb-true, le-ltb}
+use Rattle.std.proofs.lemmas.Bool.{and_from, and_left, and_parts, and_right, eq-eqb, eqb-false, ltb-true, le-ltb, false≢true}
 use Rattle.std.proofs.Math.Seq.{take-suc}
 use Rattle.std.proofs.lemmas.List.{append-nil, take_all}
 use Rattle.std.proofs.lemmas.List.Elements.{filter-append}
@@ -108,3 +108,9 @@ pub ascii_or_kept : (b : Bool) (options : List ℕ) → MatchBool b (IsAscii opt
     → MatchBool b (list_all is_ascii options ≡ true) (alphabetical options ≡ options)
 ascii_or_kept true options h = all_ascii options h
 ascii_or_kept false options h = rw (not_ascii options h.0 h.1) refl
+
+-- options that are out of order, as they are written
+pub in_order_written : (b : Bool) (bytes options : List ℕ) → b ≡ true → bytes ≡ options
+    → MatchBool b (list_all is_ascii bytes ≡ true) (alphabetical bytes ≡ bytes) → in_order 128 bytes ≡ alphabetical options
+in_order_written true bytes options is same ascii = rw (sym same, ascii) refl
+in_order_written false bytes options is same kept = absurd (false≢true is)

@@ -8,7 +8,7 @@ abbrev pub in_order : ℕ → List ℕ → List ℕ
 in_order zero options = []
 in_order (suc code) options = in_order code options ++ filter (λ c. c == code) options
 
--- Each character stands as often as it did. Options are letters: a text with a character outside
--- ASCII stays as it is.
+-- The options in alphabetical order, each character as often as it stood. Options are letters: a
+-- text with a character outside ASCII stays as it is.
 abbrev pub alphabetical : List ℕ → List ℕ
 alphabetical options = if list_all is_ascii options then in_order 128 options else options

@@ -1,6 +1,7 @@
 //! Writes the options of a regular expression, in alphabetical order.
 
-ghost use Rattle.std.specs.Prelude.{◌≡◌, ◌==◌, true, MatchBool, OnOk, filter, flat_map};
+ghost use Rattle.std.specs.Prelude.{◌≡◌, ◌≢◌, ◌==◌, true, IsTrue, MatchBool, OnOk, filter};
+ghost use Rattle.std.specs.Prelude.{flat_map};
 ghost use Rattle.std.specs.Char.{is_ascii};
 ghost use Rattle.std.specs.List.{list_all};
 ghost use Rattle.json.specs.Print.{escape_byte, quoted};
@@ -14,8 +15,9 @@ use text_writer::{Failed, TextWriter};
 /// Returns true if these options are characters of ASCII, but not in alphabetical order. All others
 /// stay as they are.
 pub fn is_out_of_order(options: &[u8]) -> bool
-    ensures { MatchBool result (list_all is_ascii options.now ≡ true)
+    ensures cases { MatchBool result (list_all is_ascii options.now ≡ true)
         (alphabetical options.now ≡ options.now) }
+    ensures moved { IsTrue result → alphabetical options.now ≢ options.now }
 {
     let mut last = 0;
     for c in options {
