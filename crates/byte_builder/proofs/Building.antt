@@ -1,10 +1,9 @@
 -- What a call makes of what is built.
 use Rattle.std.proofs.Common.{◌≡◌, ℕ, ◌+◌, ◌-◌, ◌≤◌, ◌<◌, ◌^◌, List, [], ◌∷◌, ◌++◌, length, take, drop, refl, sym, ap, ◌∙◌, subst, arith, append_assoc, length-append}
 use Rattle.std.proofs.lemmas.List.{take-append-drop, length-take-le, length-drop}
-use Rattle.std.specs.Prelude.{Bool, true, false, Option, Some, None}
 use Rattle.bson_elem.specs.declared.kinds.Kind.{Kind}
-use Rattle.bson_elem.specs.Kinds.{byte_of, form_of, kind_of}
-use Rattle.bson_elem.specs.Spelling.{cstring, elements, leaf_bytes, Fits, IsName, IsOfForm}
+use Rattle.bson_elem.specs.Kinds.{form_of}
+use Rattle.bson_elem.specs.Spelling.{cstring, elements, leaf_bytes, Fits}
 use Rattle.bson_elem.specs.Trees.{Tree, no_pairs}
 use Rattle.bson_raw.specs.Pairs.{TreeValue, leaf_value, with_first}
 use Rattle.bson_doc.specs.Appended.{with_pair_appended}
@@ -13,7 +12,7 @@ use Rattle.byte_builder.specs.declared.builder.Builder.{Builder}
 use Rattle.byte_builder.specs.declared.built.Built.{Built}
 use Rattle.byte_builder.specs.declared.given.ValueNumbers.{ValueNumbers}
 use Rattle.byte_builder.specs.Appends.{AppendsLeaf, IsAppended, IsPushed, IsPushedNamed, done, is_named, is_put, is_pushed, no_kind, no_name, no_room, no_value, out_of_range, refused, too_large, too_short, wanted_for}
-use Rattle.byte_builder.specs.Builders.{Builds, in_array, longer, next_name, pair_bytes}
+use Rattle.byte_builder.specs.Builders.{Builds, longer, next_name, pair_bytes}
 use Rattle.byte_builder.specs.Numbers.{given_leaf}
 use Rattle.byte_builder.specs.Placing.{placed}
 use Rattle.byte_builder.proofs.Places.{placed_seam}

@@ -1,5 +1,5 @@
 -- A tree with one more pair.
-use Rattle.std.proofs.Common.{◌≡◌, ℕ, ◌+◌, List, [], ◌∷◌, ◌++◌, length, refl, sym, ap, ◌∙◌, arith, append_assoc}
+use Rattle.std.proofs.Common.{◌≡◌, ℕ, ◌+◌, List, ◌∷◌, ◌++◌, length, refl, sym, ap, ◌∙◌, arith, append_assoc}
 use Rattle.std.proofs.lemmas.List.{append-nil}
 use Rattle.bson_elem.specs.Kinds.{byte_of, form_of}
 use Rattle.bson_elem.specs.Spelling.{cstring, elements, leaf_bytes, inner_bytes, Fits}

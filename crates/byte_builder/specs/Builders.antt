@@ -1,5 +1,5 @@
 -- A document or an array that is built in the room of a caller.
-use Rattle.std.specs.Prelude.{◌≡◌, ◌≤◌, ◌<◌, ℕ, ◌+◌, ◌^◌, List, ◌∷◌, ◌++◌, length, take}
+use Rattle.std.specs.Prelude.{◌≡◌, ◌≤◌, ◌<◌, ℕ, ◌+◌, ◌^◌, List, ◌∷◌, ◌++◌, length}
 use Rattle.std.specs.Prelude.{Bool, nat_eq}
 use Rattle.bson_elem.specs.declared.kinds.Kind.{Kind}
 use Rattle.bson_elem.specs.{Fits, Tree, byte_of, cstring, elements}

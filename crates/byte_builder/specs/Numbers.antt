@@ -1,6 +1,6 @@
 -- The value that a caller gives by numbers, a text and data.
 use Rattle.std.specs.Prelude.{ℕ, ◌/◌, ◌%◌, ◌^◌, List, [], nat_eq, not}
-use Rattle.std.specs.Int.{w32, w64, cast_signed, to_le_bytes}
+use Rattle.std.specs.Int.{w64, cast_signed, to_le_bytes}
 use Rattle.bson_elem.specs.declared.kinds.Kind.{Kind}
 use Rattle.bson_elem.specs.declared.kinds.Kind.TheVariants as kinds
 use Rattle.bson_elem.specs.{Leaf, binary_value, boolean_value, number_value, pointer_value}

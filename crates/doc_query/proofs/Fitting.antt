@@ -1,5 +1,5 @@
 -- How many documents fit is no more than there are, and a batch is of those that come first.
-use Rattle.std.proofs.Common.{◌≡◌, ◌≤◌, ◌+◌, ◌-◌, ◌<◌, ℕ, Bool, true, false, List, [], ◌∷◌, Result, Ok, Err, length, take, drop, map, min, sym, ap, ◌∙◌}
+use Rattle.std.proofs.Common.{◌≡◌, ◌≤◌, ◌+◌, ◌-◌, ℕ, Bool, true, false, List, [], ◌∷◌, Result, Ok, Err, length, take, drop, map, min, sym, ap, ◌∙◌}
 use Rattle.std.proofs.Common.{arith}
 use Rattle.std.specs.Prelude.{IfOk, OnOk, nat_le, if◌then◌else◌}
 use Rattle.std.specs.declared.alloc.Global.{Global}

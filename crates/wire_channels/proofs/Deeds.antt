@@ -12,7 +12,7 @@ use Rattle.wire_peer.specs.declared.calls.CallKind.{CallKind}
 use Rattle.wire_peer.specs.declared.calls.CallNo.{CallNo}
 use Rattle.wire_model.specs.{ClientTakes, Record, ServerTakes, asked_as, ended_server, given_record, lost_record, lost_state, new_record, put_at, put_part, with_client_output, with_server_output}
 use Rattle.wire_model.proofs.Lemmas.{get-map, get-push_cases, get-push_new, get-push_old, get-set_other, get-set_same, is_elsewhere, is_here, length-push, length-slice_set, same_or_not}
-use Rattle.wire_channels.specs.Channels.{Comes, Pair, Step, Steps, System, Way, client_ended, client_sent, collected, fewer, given_up, issued, lost_at, new_pair, no_pairs, pair_at, pair_set, paired, server_ended, server_sent, with_pair}
+use Rattle.wire_channels.specs.Channels.{Comes, Pair, Step, System, Way, client_ended, client_sent, collected, fewer, given_up, issued, lost_at, pair_at, pair_set, server_ended, server_sent, with_pair}
 use Rattle.wire_channels.specs.Channels as channels
 use Rattle.wire_channels.specs.Owners.{Answers, Calls, Collects, EndsDown, EndsUp, SendsDown, SendsUp, TakesDown, TakesUp, ClientAct, ClientDoes, ClientEnd, ServerEnds, ServersDo, server_at, server_set}
 use Rattle.wire_channels.specs.Deeds.{at_one}

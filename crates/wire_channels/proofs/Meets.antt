@@ -5,7 +5,7 @@ use Rattle.std.proofs.lemmas.List.{append-nil}
 use Rattle.std.proofs.lemmas.Option.{none-some}
 use Rattle.wire_peer.specs.{Does, Stops}
 use Rattle.wire_model.proofs.Lemmas.{is_elsewhere, is_here, same_or_not}
-use Rattle.wire_channels.specs.Channels.{Comes, Pair, Step, Steps, System, Way, client_ended, client_sent, collected, fewer, given_up, issued, lost_at, new_pair, no_pairs, pair_at, pair_set, paired, server_ended, server_sent, with_pair}
+use Rattle.wire_channels.specs.Channels.{Pair, Steps, System, no_pairs, pair_at}
 use Rattle.wire_channels.specs.Channels as channels
 use Rattle.wire_channels.specs.Owners.{Answers, Calls, Collects, EndsDown, EndsUp, SendsDown, SendsUp, TakesDown, TakesUp, ClientAct, ClientDoes, ClientEnd, ClientRun, ServerEnds}
 use Rattle.wire_channels.specs.Deeds.{Arrive, AtClient, AtServer, Deed, ServersRun, acts_at, at_one}

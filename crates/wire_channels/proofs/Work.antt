@@ -18,7 +18,7 @@ use Rattle.wire_peer.specs.declared.server_state.AnswerRefusal.TheVariants as re
 use Rattle.wire_peer.specs.declared.server_state.ServerState.TheVariants as servers
 use Rattle.wire_model.specs.{Record}
 use Rattle.wire_model.proofs.Lemmas.{released_none}
-use Rattle.wire_channels.specs.Channels.{Comes, Pair, Step, Steps, System, Taken, Trace, Way, client_sent, fewer, no_pairs, pair_at, pair_set, server_sent, with_pair}
+use Rattle.wire_channels.specs.Channels.{Comes, Pair, Step, System, Taken, Trace, Way, client_sent, fewer, no_pairs, pair_at, pair_set, server_sent}
 use Rattle.wire_channels.specs.Channels as channels
 use Rattle.wire_channels.specs.Seen.{Agree, IsQuietPair, seen_as}
 use Rattle.wire_channels.specs.Work.{CanGoOn, Falls, IsAnswered, IsLess, IsLive, IsWork, MayAnswer, ready_work}

@@ -1,7 +1,7 @@
 -- The request that waits, as a message.
 use Rattle.std.proofs.Common.{◌≡◌, ℕ, refl, ap, sym, ◌∙◌, List, [], ◌∷◌, length, All, arith}
 use Rattle.std.specs.Prelude.{Option, None, Some, IfSome, slice_get}
-use Rattle.wire_msg.specs.{IsMessage, Message, SpellsMsg}
+use Rattle.wire_msg.specs.{IsMessage, Message}
 use Rattle.wire_peer.specs.{ServerView, WaitsAt, asked, asked_by}
 use Rattle.wire_peer.specs.declared.requests.Request.{Request}
 

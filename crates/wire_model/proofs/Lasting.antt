@@ -7,7 +7,7 @@ use Rattle.wire_msg.specs.{Content}
 use Rattle.wire_peer.specs.{Does, LogEntry, Stops, are_left}
 use Rattle.wire_model.specs.Conns.{Record}
 use Rattle.wire_model.specs.Lasting.{CallsAreKept, DoneIsEarlier, IsKept, LogGrows}
-use Rattle.wire_model.specs.Machines.{Answered, Call, CallIs, Done, EntryOf, Foreign, IsDue, Lost, Machine, Mute, Never, OnWay, Pending, Place, Sent, State, Waiting, asked_as, empty, entry_for, is_ours, logged, logged_place, lost, lost_state, never, new_call, placed, server_gone, stranger, with_call, with_new, with_part}
+use Rattle.wire_model.specs.Machines.{Answered, Call, CallIs, Done, EntryOf, Foreign, IsDue, Lost, Machine, Mute, Pending, Place, Sent, State, Waiting, asked_as, empty, entry_for, is_ours, logged, logged_place, lost, lost_state, never, new_call, placed, server_gone, stranger, with_call, with_new, with_part}
 use Rattle.wire_model.specs.Machines as machine
 use Rattle.wire_model.specs.Shown.{shown, shown_calls}
 use Rattle.wire_model.proofs.Entries.{undone}

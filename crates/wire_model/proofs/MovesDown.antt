@@ -19,7 +19,7 @@ use Rattle.wire_model.proofs.Promises.{Ok, ok_steps, ours_here, still_pending, u
 use Rattle.wire_model.proofs.Ranks.{ours, rank, shows-get, shows-set}
 use Rattle.wire_model.proofs.Reaches.{Reaches, reaches_then, still}
 use Rattle.wire_model.proofs.Return
-use Rattle.wire_model.proofs.Return.{Begins, client_with, conn_down, due_of, ready, released_none}
+use Rattle.wire_model.proofs.Return.{Begins, conn_down, due_of, ready, released_none}
 use Rattle.wire_model.proofs.Routes.{Due, DueAt, DueIs, DownFits, Fits, Route, Tag, due_calls, lives, spelled}
 use Rattle.wire_model.proofs.Wires.{same_request}
 

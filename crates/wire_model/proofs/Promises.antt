@@ -4,7 +4,7 @@ use Rattle.std.specs.Prelude.{slice_get, if◌then◌else◌}
 use Rattle.std.proofs.lemmas.Option.{none-some, same_Some}
 use Rattle.wire_peer.specs.{Does, LogEntry, Stops, are_left}
 use Rattle.wire_model.specs.Facts.{DoneIsWhole, EntryHasOneCall, HoldsBeginning, MuteIsNeverDone, PendingHoldsBeginning, SilentHoldsNone}
-use Rattle.wire_model.specs.Machines.{Call, CallIs, Place, OnWay, Waiting, Answered, Mute, Never, State, Pending, Done, Sent, Lost, Foreign, EntryOf, Machine, asked_as, new_call, stranger, placed, with_part, with_call, with_new, logged, logged_place, entry_for, Owes, IsDue, empty}
+use Rattle.wire_model.specs.Machines.{Place, OnWay, Waiting, Answered, Mute, Never, Pending, Done, Lost, Machine, asked_as, new_call, stranger, with_part, with_new, Owes, empty}
 use Rattle.wire_model.specs.Machines as machine
 use Rattle.wire_model.proofs.Machines.{ok_new, ok_written}
 use Rattle.wire_model.proofs.Entries.{new_ok, stranger_ok, ok_arrived, given_ok, ok_answered}

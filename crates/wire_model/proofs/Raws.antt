@@ -8,7 +8,6 @@ use Rattle.wire_model.specs.Machines.{Call, CallIs, Machine}
 use Rattle.wire_model.proofs.Promises.{Ok}
 use Rattle.wire_model.proofs.ConnCalls.{calls_none, entries_none}
 use Rattle.wire_model.proofs.RawFits.{RawFits, raw_opened}
-use Rattle.wire_model.proofs.RawChanges.{raw_ended, raw_kept, raw_lost}
 pub use Rattle.wire_model.proofs.RawFits.{IsLeft, RawFits, StandsFor, raw_apart, raw_opened, raw_split}
 pub use Rattle.wire_model.proofs.RawChanges.{raw_bad, raw_ended, raw_gone, raw_kept, raw_lost, raw_need, raw_same, raw_server, raw_still, raw_taken, raw_whole}
 pub use Rattle.wire_model.proofs.RawAnswers.{raw_gives, raw_silent, raw_stops, raw_entry_fits}

@@ -6,7 +6,7 @@ use Rattle.wire_msg.specs.{Content}
 use Rattle.wire_peer.specs.{Asked, Does, LogEntry, LogStep, RunOf, Stops, are_left}
 use Rattle.wire_peer.proofs.Lemmas.{run_push}
 use Rattle.wire_model.specs.Facts.{LogIsRun}
-use Rattle.wire_model.specs.Machines.{Call, CallIs, Place, OnWay, Waiting, Answered, Mute, EntryOf, Machine, asked_as, lost, never, new_call, stranger, placed, with_part, logged, logged_place, entry_for, empty}
+use Rattle.wire_model.specs.Machines.{Call, CallIs, Place, Waiting, Answered, Mute, EntryOf, Machine, asked_as, lost, never, new_call, stranger, placed, with_part, logged, logged_place, entry_for, empty}
 use Rattle.wire_model.specs.Machines as machine
 use Rattle.wire_model.proofs.Lists.{get-push_old, get-push_new, get-push_cases, get-set_same, get-set_other, same_or_not, get-map_back}
 use Rattle.wire_model.proofs.Promises.{not_waiting, not_onway, never_entry_from}

@@ -5,7 +5,7 @@ use Rattle.std.specs.Fmt.{decimal}
 use Rattle.hex.specs.Hex.{encode_lower}
 use Rattle.bson_elem.specs.{document, elements}
 use Rattle.wire_msg.specs.{Content}
-use Rattle.wire_peer.specs.{Asked, LogEntry}
+use Rattle.wire_peer.specs.{LogEntry}
 use Rattle.wire_model.specs.{Done, Foreign, Lost, Pending, Record, Sent, State, World}
 
 -- the body of a payload, in hexadecimal

@@ -8,7 +8,7 @@ use Rattle.wire_record.specs.declared.fault.RecordFault.{RecordFault}
 use Rattle.wire_record.specs.declared.front.RecordFront.{RecordFront}
 use Rattle.wire_record.specs.declared.front.RecordFront.TheVariants.{Whole, Open, Bad}
 use Rattle.wire_record.specs.Heads as heads
-use Rattle.wire_record.specs.Heads.{HeadFault, IsConnection, IsGoodHead, connection_at, direction_at}
+use Rattle.wire_record.specs.Heads.{HeadFault, IsConnection, IsGoodHead, connection_at}
 use Rattle.wire_record.specs.Records.{IsAtFault, IsWholeRecord, StandsAs, WantsMore, bad_record, head_of, message_of, of_head, of_message, open_bytes, whole_record}
 use Rattle.wire_record.specs.Fronts.{IsFrontRecord, IsRecordAnd}
 

@@ -1,7 +1,6 @@
-use Rattle.std.proofs.Common.{◌≡◌, ◌∷◌, ◌++◌, [], ap, map, Some, slice_get, arith}
+use Rattle.std.proofs.Common.{◌≡◌, ◌∷◌, [], Some, slice_get, arith}
 use Rattle.bson_text.specs.{document_text}
 use Rattle.text_writer.specs.{WritesOut}
-use Rattle.wire_msg.specs.{Content}
 use Rattle.wire_model.specs.{Record}
 use Rattle.wire_model.proofs.Lemmas.{get-map}
 use Rattle.wire_peer.specs.{buf_content}

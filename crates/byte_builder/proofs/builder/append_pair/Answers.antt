@@ -1,4 +1,4 @@
-use Rattle.std.proofs.Common.{◌≡◌, refl, sym, ◌∙◌}
+use Rattle.std.proofs.Common.{refl, sym, ◌∙◌}
 use Rattle.byte_builder.specs.Appends.{is_named, no_kind, no_value, out_of_range}
 use Rattle.byte_builder.specs.Pieces.{pieces_bytes}
 use Rattle.byte_builder.proofs.Building.{named_as}

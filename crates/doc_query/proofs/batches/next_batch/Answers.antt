@@ -1,4 +1,4 @@
-use Rattle.std.proofs.Common.{◌≡◌, ℕ, map, take, min, length, ap, sym, ◌∙◌}
+use Rattle.std.proofs.Common.{◌≡◌, map, take, min, length, ap, sym, ◌∙◌}
 use Rattle.bson_doc.specs.{value_of}
 use Rattle.doc_query.specs.Batches.{batch_len}
 use Rattle.doc_query.proofs.Fitting.{batch_left, batch_taken}

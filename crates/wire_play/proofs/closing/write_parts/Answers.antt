@@ -1,7 +1,5 @@
-use Rattle.std.proofs.Common.{refl}
-use Rattle.std.proofs.KnownBytes.{Appends-nil}
 use Rattle.std.proofs.lemmas.List.{at_drop_all}
-use Rattle.std.proofs.Common.{List, ◌+◌, drop, map}
+use Rattle.std.proofs.Common.{List, map}
 use Rattle.std.specs.Prelude.{flat_map}
 use Rattle.wire_msg.specs.declared.payload_buf.PayloadBuf.{PayloadBuf}
 use Rattle.wire_peer.specs.{buf_content}

@@ -1,5 +1,5 @@
-use Rattle.std.proofs.Common.{◌++◌, [], List, ℕ, refl, sym, ◌∙◌}
-use Rattle.std.proofs.KnownBytes.{Appends-nil, Appends-trans}
+use Rattle.std.proofs.Common.{refl}
+use Rattle.std.proofs.KnownBytes.{Appends-trans}
 use Rattle.bson_json.specs.{IsJson}
 use Rattle.wire_text.proofs.MessageJsons.{item_more, none_left}
 use Rattle.wire_text.proofs.message_json.write_documents.Goals as goal

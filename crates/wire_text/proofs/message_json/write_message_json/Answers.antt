@@ -1,4 +1,4 @@
-use Rattle.std.proofs.Common.{◌++◌, codes, refl}
+use Rattle.std.proofs.Common.{refl}
 use Rattle.text_writer.proofs.Lemmas.{word_first}
 use Rattle.bson_json.proofs.Lemmas.{exact_one}
 use Rattle.wire_text.proofs.message_json.write_message_json.Goals as goal

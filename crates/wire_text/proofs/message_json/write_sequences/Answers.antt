@@ -1,4 +1,4 @@
-use Rattle.std.proofs.Common.{◌++◌, [], List, ℕ, refl, sym, ◌∙◌}
+use Rattle.std.proofs.Common.{[], refl}
 use Rattle.std.proofs.KnownBytes.{Appends-nil, Appends-trans}
 use Rattle.wire_text.specs.MessageJson.{IsSequenceJson}
 use Rattle.wire_text.proofs.MessageJsons.{item_more, none_left}
