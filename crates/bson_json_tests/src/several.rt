@@ -6,51 +6,44 @@ use bson_json_read::{Cause, JsonTexts, NextBytes, TextFault};
 use bson_raw_tests::hex_bytes::read_digits;
 use std::alloc::Global;
 
-/// `{}`
-const EMPTY: &str = "0500000000";
+/// A row for each input: it, with `~` for each line feed, the digits of its documents' bytes, and what the
+/// first fault displays as. `-` stands for no documents and for no fault.
+const GOOD: &str = r#" | - | -
+{} | 0500000000 | -
+{}{} | 0500000000 0500000000 | -
+{"a":1}~{"a":2}~ | 0c0000001061000100000000 0c0000001061000200000000 | -
+[] | - | -
+ [ ]  | - | -
+[{}]~ | 0500000000 | -
+[{"a":1},~{ } , {}] | 0c0000001061000100000000 0500000000 0500000000 | -
+{"a":"}"}{"a":"\"}"} | 0e00000002610002000000 7d00 00 0f00000002610003000000 227d00 00 | -
+{"a":{}}{"\\":{}} | 0d000000036100050000000000 0d000000035c00050000000000 | -"#;
 
-/// An input, the digits of its documents' bytes, and what the first fault displays as.
-const GOOD: [(&[u8], &str); 12] = [
-    (b"", ""),
-    (b" \t\r\n", ""),
-    (b"{}", EMPTY),
-    (b"{}{}", "0500000000 0500000000"),
-    (
-        b"{\"a\":1}\n{\"a\":2}\n",
-        "0c0000001061000100000000 0c0000001061000200000000",
-    ),
+/// The same of inputs at fault.
+const BAD: &str = r#"1 | - | fault 2 at line 1, column 1: the text is no object
+"{}" | - | fault 2 at line 1, column 1: the text is no object
+{} x | 0500000000 | fault 2 at line 1, column 4: the text is no object
+{},{} | 0500000000 | fault 2 at line 1, column 3: the text is no object
+{}~[] | 0500000000 | fault 2 at line 2, column 1: the text is no object
+[1] | - | fault 2 at line 1, column 2: the text is no object
+[,{}] | - | fault 2 at line 1, column 2: the text is no object
+[{},] | 0500000000 | fault 2 at line 1, column 5: the text is no object
+[{} {}] | 0500000000 | fault 1 at line 1, column 5: the text is no JSON
+[{} | 0500000000 | fault 1 at line 1, column 4: the text is no JSON
+[{}, | 0500000000 | fault 1 at line 1, column 5: the text is no JSON
+[ | - | fault 1 at line 1, column 2: the text is no JSON
+[{}] {} | 0500000000 | fault 1 at line 1, column 6: the text is no JSON
+{}~{"a":1 | 0500000000 | fault 1 at line 2, column 7: the text is no JSON
+{}~~{"é":1, "a":{},~  "a":2} | 0500000000 | fault 3 at line 4, column 3: a name is repeated
+{}{"a":{"$oid":"x"}} | 0500000000 | fault 7 at line 1, column 8: an object is not of the form $oid"#;
+
+/// Inputs that a row can't have, the digits of their documents, and what their faults display as.
+const OTHERS: [(&[u8], &str, &str); 4] = [
+    (b" \t\r\n", "", ""),
     (
         b" { \"a\" :\r\n1 }\t{}\r\n",
         "0c0000001061000100000000 0500000000",
-    ),
-    (b"[]", ""),
-    (b" [ ] ", ""),
-    (b"[{}]\n", EMPTY),
-    (
-        b"[{\"a\":1},\n{ } , {}]",
-        "0c0000001061000100000000 0500000000 0500000000",
-    ),
-    // Braces and quotes in strings, and an object in a document.
-    (
-        b"{\"a\":\"}\"}{\"a\":\"\\\"}\"}",
-        "0e00000002610002000000 7d00 00 0f00000002610003000000 227d00 00",
-    ),
-    (
-        b"{\"a\":{}}{\"\\\\\":{}}",
-        "0d000000036100050000000000 0d000000035c00050000000000",
-    ),
-];
-
-const BAD: [(&[u8], &str, &str); 18] = [
-    (
-        b"1",
         "",
-        "fault 2 at line 1, column 1: the text is no object",
-    ),
-    (
-        b"\"{}\"",
-        "",
-        "fault 2 at line 1, column 1: the text is no object",
     ),
     (
         b"\xef\xbb\xbf{}",
@@ -58,75 +51,9 @@ const BAD: [(&[u8], &str, &str); 18] = [
         "fault 2 at line 1, column 1: the text is no object",
     ),
     (
-        b"{} x",
-        EMPTY,
-        "fault 2 at line 1, column 4: the text is no object",
-    ),
-    (
-        b"{},{}",
-        EMPTY,
-        "fault 2 at line 1, column 3: the text is no object",
-    ),
-    (
-        b"{}\n[]",
-        EMPTY,
-        "fault 2 at line 2, column 1: the text is no object",
-    ),
-    (
-        b"[1]",
-        "",
-        "fault 2 at line 1, column 2: the text is no object",
-    ),
-    (
-        b"[,{}]",
-        "",
-        "fault 2 at line 1, column 2: the text is no object",
-    ),
-    (
-        b"[{},]",
-        EMPTY,
-        "fault 2 at line 1, column 5: the text is no object",
-    ),
-    (
-        b"[{} {}]",
-        EMPTY,
-        "fault 1 at line 1, column 5: the text is no JSON",
-    ),
-    (
-        b"[{}",
-        EMPTY,
-        "fault 1 at line 1, column 4: the text is no JSON",
-    ),
-    (
-        b"[{},",
-        EMPTY,
-        "fault 1 at line 1, column 5: the text is no JSON",
-    ),
-    (b"[", "", "fault 1 at line 1, column 2: the text is no JSON"),
-    (
-        b"[{}] {}",
-        EMPTY,
-        "fault 1 at line 1, column 6: the text is no JSON",
-    ),
-    (
-        b"{}\n{\"a\":1",
-        EMPTY,
-        "fault 1 at line 2, column 7: the text is no JSON",
-    ),
-    (
         b"{}\n{\"a\":\"\xff\"}",
-        EMPTY,
+        "0500000000",
         "fault 1 at line 2, column 7: the text is no JSON",
-    ),
-    (
-        b"{}\n\n{\"\xc3\xa9\":1, \"a\":{},\n  \"a\":2}",
-        EMPTY,
-        "fault 3 at line 4, column 3: a name is repeated",
-    ),
-    (
-        b"{}{\"a\":{\"$oid\":\"x\"}}",
-        EMPTY,
-        "fault 7 at line 1, column 8: an object is not of the form $oid",
     ),
 ];
 
@@ -204,16 +131,39 @@ fn is_read(alloc: Global, input: &[u8], digits: &str, words: &str) -> bool {
         && is_told(alloc, same, words)
 }
 
+/// Returns nothing for `-`, and any other part of a row as it is.
+fn part(part: &str) -> &str {
+    if part == "-" { "" } else { part }
+}
+
+/// Returns true if the input of a row is read as it says.
+fn is_row(alloc: Global, row: &str) -> bool {
+    let Some((input, rest)) = row.split_once(" | ") else {
+        return false;
+    };
+    let Some((digits, words)) = rest.split_once(" | ") else {
+        return false;
+    };
+    input.replace(alloc, '~', "\n").is_ok_and(|input| is_read(
+        alloc,
+        input.as_bytes(),
+        part(digits),
+        part(words),
+    ))
+}
+
 #[test]
 fn texts_one_after_another_and_in_an_array(rt: HostRuntime) {
-    for (input, digits) in &GOOD {
-        assert!(rt; is_read(rt.alloc(), input, digits, ""), "at {input:?}");
+    for rows in [GOOD, BAD] {
+        for row in rows.split('\n') {
+            assert!(rt; is_row(rt.alloc(), row), "{row}");
+        }
     }
 }
 
 #[test]
-fn faults(rt: HostRuntime) {
-    for (input, digits, words) in &BAD {
+fn bytes_that_a_row_cannot_have(rt: HostRuntime) {
+    for (input, digits, words) in &OTHERS {
         assert!(rt; is_read(rt.alloc(), input, digits, words), "at {words}");
     }
 }
