@@ -1,8 +1,8 @@
 """Finds and loads the shared object, and declares what lughemra.h does.
 
-Each function of the library takes the address of some bytes and their number. No argument is converted in a call: `size` and
-`pointer` make arguments beforehand, which halves the price of a call. What a function gives back is written to a structure
-whose address it takes, or is such a structure.
+Each function of the library takes the address of some bytes and their number. No argument is converted in a call: `size`,
+`limit_of`, `address_of` and `lent` make arguments beforehand, which halves the price of a call. What a function gives back is
+written to a structure whose address it takes, or is such a structure.
 
 The functions of `short` hold the interpreter's lock while they run, so that no other thread can write to the bytes. Those of
 `long` let go of it, and are called for bytes that no one can write to.

@@ -131,7 +131,10 @@ class Client(End):
             self._closed = ClientClosed(state.cause, told, fault_of(state))
 
     def end(self) -> None:
-        """Tells that no more bytes come, which closes the client. Iterating gives the replies that came before, and then why."""
+        """Tells that no more bytes come, which closes the client.
+
+        Iterating gives the replies that came before, and then raises why, unless the bytes ended between two messages.
+        """
         while (reply := self._next_reply()) is not None:
             self._replies.append(reply)
         refuse(lib.short.client_end(self._core))

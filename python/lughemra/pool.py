@@ -46,7 +46,10 @@ class Pool(Held):
         return kept
 
     def clear(self) -> None:
-        """Drops the idle connections, and each that is lent when it comes back, as after a server was lost."""
+        """Drops the idle connections, and each that is lent when it comes back, as after a server was lost.
+
+        The program closes the idle ones, whose ids aren't told.
+        """
         refuse(lib.short.pool_clear(self._core))
 
     def close(self) -> None:

@@ -97,13 +97,14 @@ class Server(End):
     def answer(self, k: int, documents: Iterable[Any]) -> None:
         """Answers the request of index `k` among those that wait. Its replies wait to be sent then, and it waits no longer.
 
-        Each document is a mapping, as for `encode`, or the bytes of one, and is the body of a reply. A request gets one, or any
-        number of them if it takes more. One that wants no reply, whose flags have MORE_TO_COME, is answered so, too, and
+        Each document is a mapping, as for `encode`, or the bytes of one, and is the body of a reply. A request gets one, or, if
+        it takes more, one or more. One that wants no reply, whose flags have MORE_TO_COME, is answered so, too, and
         nothing is sent. Raises IndexError where no such request waits, CallRefused where it may not get as many answers,
         DocumentError where one of them isn't a document, EncodeError for what can't be spelled, MessageError where one of them
         is no body, as one with a name that stands twice, and ServerClosed where the server is closed: by the answer too, if a
-        reply would have more bytes than the limit. MemoryError may come of what was kept behind a full window, once the request
-        was answered: `pending` tells, and `feed(b"")` goes on.
+        reply would have more bytes than the limit, or there was no memory for the replies. MemoryError comes where there was no
+        memory and the request still waits, or, once it was answered, of what was kept behind a full window: `pending` tells, and
+        `feed(b"")` goes on.
         """
         self._raise_if_closed()
         content = b"".join(documents_bytes(documents))

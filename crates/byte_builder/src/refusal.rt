@@ -6,11 +6,12 @@ ghost use Rattle.byte_builder.specs.Refusals.{refusal_number};
 /// Why nothing is written.
 #[derive(Clone, Copy, Debug, PartialEq, Eq)]
 pub enum BuildRefusal {
-    /// No kind has this type byte, or values of this kind aren't given so.
+    /// No kind has this type byte, or a container is to begin of a kind that is neither a document
+    /// nor an array.
     Kind,
     /// A name isn't UTF-8, or has a 00.
     Name,
-    /// What is given is no value of this kind.
+    /// What is given is no value of this kind, or the kind holds a document.
     Value,
     /// A container would be deeper than 200.
     Depth,
@@ -18,7 +19,9 @@ pub enum BuildRefusal {
     Room,
     /// More than 2,147,483,647 bytes.
     TooLarge,
-    /// The numbers of a builder are out of range of the room.
+    /// The numbers of a builder are out of range, the inner one of two doesn't stand behind the outer
+    /// one or isn't one deeper, the ends of what is open would stand behind 2,147,483,647 bytes where
+    /// a container is ended, or a sequence is to be put behind more bytes than the room has.
     OutOfRange,
 }
 

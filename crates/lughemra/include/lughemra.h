@@ -291,7 +291,7 @@ struct lughemra_first {
     struct lughemra_iter iter;
 };
 
-/* An element: its name and its value, whose parts are views of the bytes. What a kind doesn't have is 0. */
+/* An element: its name and its value, whose parts are views of the bytes. What a kind doesn't have is 0, or a view of length 0. */
 struct lughemra_element {
     /* The element's first fault, by an enum lughemra_document_fault, or LUGHEMRA_OUT_OF_RANGE. */
     struct lughemra_fault fault;
@@ -506,7 +506,8 @@ struct lughemra_client {
     int32_t id;
     /* A reply is ready. */
     bool ready;
-    /* If it is CLOSED_BY_MESSAGE, the first fault, by an enum lughemra_message_fault. */
+    /* If it is CLOSED_BY_MESSAGE, the first fault, by an enum lughemra_message_fault. Its offset is counted from the first byte
+     * of that message, whichever pieces it came in. */
     struct lughemra_fault fault;
     /* The document's own fault, as in struct lughemra_message_check. */
     struct lughemra_fault document_fault;
@@ -539,7 +540,8 @@ struct lughemra_server {
     bool full;
     /* How many requests wait. */
     size_t waiting;
-    /* If it is CLOSED_BY_MESSAGE, the first fault, by an enum lughemra_message_fault. */
+    /* If it is CLOSED_BY_MESSAGE, the first fault, by an enum lughemra_message_fault. Its offset is counted from the first byte
+     * of that message, whichever pieces it came in. */
     struct lughemra_fault fault;
     /* The document's own fault, as in struct lughemra_message_check. */
     struct lughemra_fault document_fault;
@@ -852,8 +854,8 @@ static inline struct lughemra_text lughemra_dump(const uint8_t *bytes, size_t le
                                  lughemra_length(room, room_length));
 }
 
-/* The same, as MongoDB Extended JSON v2: one object, with no white space. It is canonical, or relaxed: then finite numbers
- * are JSON numbers, and dates from 1970 to 9999 are ISO-8601. */
+/* The same, as MongoDB Extended JSON v2: one object, with no white space. It is canonical, or relaxed: then an INT32, an INT64
+ * and a finite DOUBLE are JSON numbers, a DECIMAL128 isn't, and dates from 1970 to 9999 are ISO-8601. */
 static inline struct lughemra_text lughemra_json(const uint8_t *bytes, size_t length, bool relaxed, uint8_t *room,
                                                  size_t room_length)
 {
@@ -901,7 +903,8 @@ static inline struct lughemra_built lughemra_append(uint8_t *room, size_t room_l
                                    lughemra_length(bytes, length));
 }
 
-/* Appends a value that is a number alone: of BOOL, DATETIME, INT32, INT64, NULL, UNDEFINED, MIN_KEY or MAX_KEY. */
+/* Appends a value that is a number alone: of BOOL, DATETIME, INT32, INT64, NULL, UNDEFINED, MIN_KEY or MAX_KEY. That the kind
+ * is one of these isn't checked: of a DOUBLE the number would be the bits, and a STRING would be empty. */
 static inline struct lughemra_built lughemra_append_integer(uint8_t *room, size_t room_length,
                                                             struct lughemra_builder *builder, const char *name,
                                                             size_t name_length, uint32_t kind, int64_t integer)
@@ -920,7 +923,8 @@ static inline struct lughemra_built lughemra_append_double(uint8_t *room, size_t
     return lughemra_append(room, room_length, builder, name, name_length, value, NULL, 0, NULL, 0);
 }
 
-/* Appends a text: a STRING, a CODE or a SYMBOL. */
+/* Appends a text: a STRING, a CODE or a SYMBOL. That the kind is one of these isn't checked: of another one what isn't given
+ * here would be 0 or empty. */
 static inline struct lughemra_built lughemra_append_text(uint8_t *room, size_t room_length,
                                                          struct lughemra_builder *builder, const char *name,
                                                          size_t name_length, uint32_t kind, const char *text,
@@ -930,7 +934,8 @@ static inline struct lughemra_built lughemra_append_text(uint8_t *room, size_t r
     return lughemra_append(room, room_length, builder, name, name_length, value, text, text_length, NULL, 0);
 }
 
-/* Appends a BINARY of this subtype, an OBJECT_ID or a DECIMAL128. */
+/* Appends a BINARY of this subtype, an OBJECT_ID or a DECIMAL128. That the kind is one of these isn't checked: of another one
+ * what isn't given here would be 0 or empty. */
 static inline struct lughemra_built lughemra_append_bytes(uint8_t *room, size_t room_length,
                                                           struct lughemra_builder *builder, const char *name,
                                                           size_t name_length, uint32_t kind, uint32_t subtype,
@@ -940,8 +945,8 @@ static inline struct lughemra_built lughemra_append_bytes(uint8_t *room, size_t 
     return lughemra_append(room, room_length, builder, name, name_length, value, NULL, 0, bytes, length);
 }
 
-/* Appends an element that was read from these bytes, but for one that holds a document: that is opened by lughemra_begin,
- * and its elements are appended. */
+/* Appends an element that was read from these bytes, but for one that holds a document: a document or an array is opened by
+ * lughemra_begin, and its elements are appended; a CODE_WITH_SCOPE can't be built. */
 static inline struct lughemra_built lughemra_append_element(uint8_t *room, size_t room_length,
                                                             struct lughemra_builder *builder, const uint8_t *bytes,
                                                             size_t length, const struct lughemra_element *element)
@@ -1043,7 +1048,9 @@ static inline uint32_t lughemra_free(struct lughemra_core *core)
     return core != NULL ? lughemra_free_nonnull(core) : LUGHEMRA_NO_CORE;
 }
 
-/* Returns the name of an enum lughemra_core_refusal, as "WindowFull", or "" if there is none of this number. */
+/* Returns the name of an enum lughemra_core_refusal, as "WindowFull", or "" if there is none of this number. The numbers that
+ * only lughemra_client_new, lughemra_server_new and lughemra_pool_new return, and those of an enum lughemra_refusal, have no
+ * names here. */
 static inline const char *lughemra_core_refusal_name(uint32_t number)
 {
     static const char *const words[] = {"",       "Closed",       "WindowFull", "TooLarge", "BadContent",
@@ -1060,7 +1067,8 @@ static inline const char *lughemra_core_refusal_name(uint32_t number)
 
 /* Puts a client into a handle of no core. Its requests have ids from `first_id` on; at most `window` calls await a reply, and
  * messages both ways have at most `limit` bytes. Returns 0, or why not: an enum lughemra_client_refusal, LUGHEMRA_IN_USE,
- * LUGHEMRA_NO_MEMORY or LUGHEMRA_NO_CORE. */
+ * LUGHEMRA_NO_MEMORY or LUGHEMRA_NO_CORE. Once the 16 bytes of a good header are fed, memory is taken for all bytes that it
+ * announces, so `limit` is also what a peer can have taken by 16 bytes. */
 static inline uint32_t lughemra_client_new(struct lughemra_core *core, int32_t first_id, size_t window, uint32_t limit)
 {
     return core != NULL ? lughemra_client_new_nonnull(core, first_id, window, limit) : LUGHEMRA_NO_CORE;
@@ -1143,8 +1151,8 @@ static inline struct lughemra_fed lughemra_client_feed(struct lughemra_core *cor
 }
 
 /* Copies the reply that is ready to the front of the room, of `room_length` bytes, as a message with no ids and no flags, for
- * lughemra_message_parts, and tells the call that it belongs to. If it has no room, nothing is written, and its length is
- * told. It stays ready until lughemra_client_release. */
+ * lughemra_message_parts, whose first section is the body, and tells the call that it belongs to. If it has no room, nothing is
+ * written, and its length is told. It stays ready until lughemra_client_release. */
 static inline struct lughemra_reply lughemra_client_reply(struct lughemra_core *core, uint8_t *room, size_t room_length)
 {
     static const struct lughemra_reply none = {LUGHEMRA_NO_CORE, false, 0, 0};
@@ -1191,7 +1199,8 @@ static inline const char *lughemra_client_cause_name(uint32_t number)
 
 /* Puts a server into a handle of no core. At most `window` requests wait in it, and messages both ways have at most `limit`
  * bytes. Returns 0, or why not: LUGHEMRA_BAD_WINDOW, LUGHEMRA_BAD_LIMIT, LUGHEMRA_IN_USE, LUGHEMRA_NO_MEMORY or
- * LUGHEMRA_NO_CORE. */
+ * LUGHEMRA_NO_CORE. Once the 16 bytes of a good header are fed, memory is taken for all bytes that it announces, so `limit` is
+ * also what a peer can have taken by 16 bytes. */
 static inline uint32_t lughemra_server_new(struct lughemra_core *core, size_t window, uint32_t limit)
 {
     return core != NULL ? lughemra_server_new_nonnull(core, window, limit) : LUGHEMRA_NO_CORE;
@@ -1199,7 +1208,8 @@ static inline uint32_t lughemra_server_new(struct lughemra_core *core, size_t wi
 
 /* Feeds the server the first bytes of a piece that came, up to the end of the current message, and tells how many it took. It
  * takes none while as many requests wait as the window allows, or once it is closed. A message that becomes whole waits behind
- * the others. Bad bytes close the server. */
+ * the others. Bad bytes close the server. The requests that wait then can still be copied, but not answered: a program that
+ * wants each good request answered does so before it feeds more. */
 static inline struct lughemra_server_fed lughemra_server_feed(struct lughemra_core *core, const uint8_t *piece, size_t length)
 {
     static const struct lughemra_server_fed none = {
@@ -1210,8 +1220,8 @@ static inline struct lughemra_server_fed lughemra_server_feed(struct lughemra_co
 }
 
 /* Copies the request of index `k` among those that wait, in the order in which they came, to the front of the room, of
- * `room_length` bytes, as a message with no ids and with its flags, for lughemra_message_parts. If it has no room, nothing is
- * written, and its length is told. It waits until it is answered. A request whose flags say that more will come wants no reply:
+ * `room_length` bytes, as a message with no ids and with its flags, for lughemra_message_parts, whose first section is the body.
+ * If it has no room, nothing is written, and its length is told. It waits until it is answered. A request whose flags say that more will come wants no reply:
  * it is answered like any other, with one document, and nothing is sent. */
 static inline struct lughemra_request lughemra_server_request(struct lughemra_core *core, size_t k, uint8_t *room,
                                                               size_t room_length)
@@ -1251,7 +1261,8 @@ static inline uint32_t lughemra_server_sent(struct lughemra_core *core, size_t n
     return core != NULL ? lughemra_server_sent_nonnull(core, n) : LUGHEMRA_NO_CORE;
 }
 
-/* Tells the server that no more bytes come, which closes it, if it is open. Returns 0 or LUGHEMRA_NO_CORE. */
+/* Tells the server that no more bytes come, which closes it, if it is open. The requests that wait can't be answered then, so
+ * answer them before. Returns 0 or LUGHEMRA_NO_CORE. */
 static inline uint32_t lughemra_server_end(struct lughemra_core *core)
 {
     return core != NULL ? lughemra_server_end_nonnull(core) : LUGHEMRA_NO_CORE;
@@ -1298,8 +1309,8 @@ static inline struct lughemra_checked_in lughemra_pool_check_in(struct lughemra_
     return core != NULL ? lughemra_pool_check_in_nonnull(core, id, healthy) : none;
 }
 
-/* Drops the idle connections, and each that is lent when it is returned, as after a server was lost. Returns 0 or
- * LUGHEMRA_NO_CORE. */
+/* Drops the idle connections, and each that is lent when it is returned, as after a server was lost. The pool doesn't tell the
+ * ids of the idle ones: the program closes each that it keeps and hasn't lent. Returns 0 or LUGHEMRA_NO_CORE. */
 static inline uint32_t lughemra_pool_clear(struct lughemra_core *core)
 {
     return core != NULL ? lughemra_pool_clear_nonnull(core) : LUGHEMRA_NO_CORE;
