@@ -1,5 +1,5 @@
 -- What is shown of what a server did, and how much of it is counted.
-use Rattle.std.proofs.Common.{◌≡◌, ◌∙◌, ◌≤◌, ◌<◌, ◌+◌, ◌-◌, ℕ, true, List, [], Option, Some, None, Result, Ok, Err, refl, sym, subst, append-nil, inl, inr, arith}
+use Rattle.std.proofs.Common.{◌≡◌, ◌≤◌, ◌<◌, ◌+◌, ◌-◌, ℕ, true, List, [], Option, Some, None, Result, Ok, Err, refl, sym, subst, append-nil, inl, inr, arith}
 use Rattle.std.specs.Prelude.{OnOk, min}
 use Rattle.std.specs.Io.KnownBytes.{Appends, Keeps}
 use Rattle.test_script.specs.{RuleView}
@@ -29,18 +29,16 @@ all_kept (Some x) = refl
 pub refused_ends : (choice : Choice) (end : ServingEnd) (a : Option (List ℕ)) → IsRefused (script_file choice) end → EndsSo choice end a a
 refused_ends choice (runs.Served n) a refused = absurd refused
 refused_ends choice (runs.Script fault) a refused = (refused, all_kept a)
-refused_ends choice runs.Unread a refused = tt
-refused_ends choice runs.InOut a refused = tt
-refused_ends choice runs.OutOfMemory a refused = tt
+refused_ends choice (runs.ScriptFile error) a refused = (refused, all_kept a)
+refused_ends choice (runs.Stopped why) a refused = tt
 
 -- a run by the rules that were read ends so
 pub run_ends : (choice : Choice) (rules guide : List RuleView) (end : ServingEnd) (a b : Option (List ℕ)) → AreRead (script_file choice) rules guide → IsRun choice rules guide end a b
     → EndsSo choice end a b
 run_ends choice rules guide (runs.Served n) a b read ran = (rules, guide, read, ran)
 run_ends choice rules guide (runs.Script fault) a b read ran = absurd ran
-run_ends choice rules guide runs.Unread a b read ran = tt
-run_ends choice rules guide runs.InOut a b read ran = tt
-run_ends choice rules guide runs.OutOfMemory a b read ran = tt
+run_ends choice rules guide (runs.ScriptFile error) a b read ran = absurd ran
+run_ends choice rules guide (runs.Stopped why) a b read ran = tt
 
 -- ---- counts
 

@@ -6,8 +6,9 @@ use Rattle.clap.specs.declared.error.kind.ErrorKind.TheVariants as kind
 use Rattle.command_words.specs.{words_status}
 use Rattle.test_server.specs.declared.choice.Choice.{Choice}
 use Rattle.test_server.specs.declared.run.ServingEnd.{ServingEnd}
-use Rattle.test_server.specs.declared.run.ServingEnd.TheVariants.{Served, Script, Unread, InOut}
-use Rattle.test_server.specs.declared.run.ServingEnd.TheVariants.{OutOfMemory}
+use Rattle.test_server.specs.declared.run.ServingEnd.TheVariants.{Served, Script, ScriptFile}
+use Rattle.test_server.specs.declared.run.ServingEnd.TheVariants.{Stopped}
+use Rattle.test_server.specs.declared.stop.Stop.TheVariants.{OutOfMemory}
 use Rattle.test_server.specs.Choices.{IsChosen}
 use Rattle.test_server.specs.CommandLine.{command_line}
 use Rattle.test_server.specs.Runs.{EndsSo}
@@ -16,9 +17,9 @@ use Rattle.test_server.specs.Runs.{EndsSo}
 abbrev pub exit_status : ServingEnd → ℕ
 exit_status (Served n) = 0
 exit_status (Script fault) = 2
-exit_status Unread = 3
-exit_status InOut = 3
-exit_status OutOfMemory = 4
+exit_status (ScriptFile error) = 3
+exit_status (Stopped OutOfMemory) = 4
+exit_status (Stopped why) = 3
 
 -- ---- words
 

@@ -1,6 +1,6 @@
 -- What a run writes, from its first line to its last.
 use Rattle.std.specs.Prelude.{◌≡◌, ◌≢◌, ◌≤◌, ◌⊎◌, ℕ, zero, suc, min, Bool, true, false, List, []}
-use Rattle.std.specs.Prelude.{◌++◌, Option, None, Some, codes, option_map}
+use Rattle.std.specs.Prelude.{◌++◌, Option, None, Some, codes, is_some, option_map}
 use Rattle.std.specs.Fmt.{decimal}
 use Rattle.std.specs.Io.KnownBytes.{Appends, Keeps}
 use Rattle.std.specs.Net.Text.{socket_text}
@@ -21,6 +21,7 @@ use Rattle.test_server.specs.declared.drained.Drained.{Drained}
 use Rattle.test_server.specs.declared.run.ServingEnd.{ServingEnd}
 use Rattle.test_server.specs.declared.run.ServingEnd.TheVariants as runs
 use Rattle.test_server.specs.declared.serving.Serving.{Serving}
+use Rattle.test_server.specs.declared.stop.Stop.TheVariants as stops
 use Rattle.test_server.specs.Serving.{IsServing, ServesOn}
 
 -- the first line, which says where the server listens
@@ -120,7 +121,8 @@ IsRun choice rules guide (runs.Served n) before after =
     (mid : Option (List ℕ)) × IsBegun choice rules guide choice.connections n before mid
     × Appends mid after (served_line n)
 IsRun choice rules guide (runs.Script fault) before after = ⊥
-IsRun choice rules guide why before after = Unit {0}
+IsRun choice rules guide (runs.ScriptFile error) before after = ⊥
+IsRun choice rules guide (runs.Stopped why) before after = Unit {0}
 
 -- ---- the script
 
@@ -136,22 +138,26 @@ IsMisread None fault = ⊥
 IsMisread (Some file) fault =
     ((text : List ℕ) × FailsAt text fault) × (fault.cause ≢ causes.OutOfMemory)
 
--- reading the script ends a run so
+-- reading the script ends a run so: a file that is named can't be read or is at fault, or memory
+-- ran out
 abbrev pub IsRefused : (file : Option Text) → ServingEnd → Type 0
 IsRefused file (runs.Served n) = ⊥
 IsRefused file (runs.Script fault) = IsMisread file fault
-IsRefused file why = Unit {0}
+IsRefused file (runs.ScriptFile error) = is_some file ≡ true
+IsRefused file (runs.Stopped why) = why ≡ stops.OutOfMemory
 
 -- the file of a script that the words name
 abbrev pub script_file : Choice → Option Text
 script_file choice = option_map (λ file. file.now) choice.script
 
 -- A whole run, with its script: this many connections were served by the rules that were read, or
--- the script is at fault, and nothing was written.
+-- the script is at fault or can't be read, and nothing was written.
 abbrev pub EndsSo : Choice → ServingEnd → Option (List ℕ) → Option (List ℕ) → Type 0
 EndsSo choice (runs.Served n) before after =
     (rules : List RuleView) × (guide : List RuleView) × AreRead (script_file choice) rules guide
     × IsRun choice rules guide (runs.Served n) before after
 EndsSo choice (runs.Script fault) before after =
     IsMisread (script_file choice) fault × Keeps before after
-EndsSo choice why before after = Unit {0}
+EndsSo choice (runs.ScriptFile error) before after =
+    (is_some (script_file choice) ≡ true) × Keeps before after
+EndsSo choice (runs.Stopped why) before after = Unit {0}

@@ -17,8 +17,8 @@ use Rattle.wire_peer.specs.{Does, Stops, log_of}
 use Rattle.wire_peer.specs.declared.log.Logged.{Logged}
 use Rattle.wire_peer.specs.declared.server_state.ServerCause.TheVariants as causes
 use Rattle.test_server.specs.declared.serving.Serving.{Serving}
-use Rattle.test_server.specs.declared.serving.Stop.{Stop}
-use Rattle.test_server.specs.declared.serving.Stop.TheVariants as stopped
+use Rattle.test_server.specs.declared.stop.Stop.{Stop}
+use Rattle.test_server.specs.declared.stop.Stop.TheVariants as stopped
 use Rattle.test_server.specs.Guides.{gate_for, last_flow, rules_after}
 use Rattle.test_server.specs.Transcript.{end_text, new_text, told_text}
 

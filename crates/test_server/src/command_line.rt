@@ -62,7 +62,7 @@ fn top<'a>(alloc: Global) -> Command<'a>
     ensures { app_of result ≡ top_app }
 {
     Command::new(alloc, "test_server")
-        .about("Answers drivers out of memory, and shows what they sent")
+        .about("Answers drivers from documents in memory, and shows what they sent")
         .version(VERSION)
 }
 

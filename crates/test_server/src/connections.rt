@@ -9,7 +9,8 @@ use crate::drained::{Drained, Turns};
 use crate::guide::Guide;
 use crate::input::Watched;
 use crate::output::Output;
-use crate::serving::{ANSWER_STEPS, STEPS, Serving, Stop, settle};
+use crate::serving::{ANSWER_STEPS, STEPS, Serving, settle};
+use crate::stop::Stop;
 use mio::net::{TcpListener, TcpStream};
 use mio::{Events, Interest, Poll, Token};
 use std::alloc::Global;
@@ -73,15 +74,6 @@ fn begin(
     let handler = Scripted::new(alloc, script, store);
     let guide = Guide::new(alloc, guide);
     Serving::new(alloc, handler, guide)
-}
-
-/// Returns what was done of delays, or why the server stops where that failed.
-fn or_stop<T>(done: io::Result<T>) -> Result<T, Stop> {
-    match done {
-        Ok(done) => Ok(done),
-        Err(error) if error.kind() == ErrorKind::OutOfMemory => Err(Stop::OutOfMemory),
-        Err(_) => Err(Stop::InOut),
-    }
 }
 
 /// Returns what a turn came to, if the connection is over.
@@ -227,12 +219,13 @@ impl<I: BufRead + Drop> Connections<I> {
     fn hold(&mut self, clock: &impl Clock, key: usize, turned: Option<Turned>) -> Result<(), Stop>
         ensures { self.new.serving ≡ self.old.serving }
     {
-        match (turned, self.serving.flow(key)) {
-            (Some(Turned::Again | Turned::Waits), Some(Flow::Held(millis))) => {
-                or_stop(self.delays.hold(clock, key, millis))
-            }
-            _ => Ok(()),
+        if let (Some(Turned::Again | Turned::Waits), Some(Flow::Held(millis))) = (
+            turned,
+            self.serving.flow(key),
+        ) {
+            self.delays.hold(clock, key, millis)?;
         }
+        Ok(())
     }
 
     /// Has a connection take a turn, in one step after another. While its reply is held, it takes
@@ -281,7 +274,7 @@ impl<I: BufRead + Drop> Connections<I> {
         ensures { self.new.serving ≡ self.old.serving }
     {
         for _ in 0..ROOM {
-            let Some(key) = or_stop(self.delays.take_due(clock))? else {
+            let Some(key) = self.delays.take_due(clock)? else {
                 break;
             };
             self.take_up(key)?;
@@ -396,7 +389,7 @@ impl<I: BufRead + Drop> Connections<I> {
         if !self.again.is_empty() || self.ready {
             return Ok(Some(Duration::from_millis(0)));
         }
-        let held = or_stop(self.delays.least(clock))?;
+        let held = self.delays.least(clock)?;
         if self.pausing {
             let pause = Duration::from_millis(PAUSE);
             return Ok(Some(held.map_or(pause, |held| held.min(pause))));
@@ -411,9 +404,8 @@ impl<I: BufRead + Drop> Connections<I> {
     {
         let timeout = self.timeout(clock)?;
         match self.poll.poll(events, timeout) {
-            Ok(()) => {}
-            Err(error) if error.kind() == ErrorKind::Interrupted => {}
-            Err(_) => return Err(Stop::InOut),
+            Err(error) if error.kind() != ErrorKind::Interrupted => return Err(Stop::from(error)),
+            Ok(()) | Err(_) => {}
         }
         if self.pausing {
             self.pausing = false;
@@ -432,9 +424,7 @@ impl<I: BufRead + Drop> Connections<I> {
         ensures { OnOk result (GoesOnServing self.old.serving self.new.serving
             (W.contents out.old) (W.contents out.new)) }
     {
-        let Ok(()) = out.flush() else {
-            return Err(Stop::InOut);
-        };
+        out.flush().map_err(Stop::Output)?;
         self.wait(clock, events)?;
         self.take_up_turns(clock, out)?;
         self.take_turns(clock, events, out)?;

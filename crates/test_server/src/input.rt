@@ -2,10 +2,16 @@
 
 use mio::unix::SourceFd;
 use mio::{Interest, Registry, Token};
-use std::io::BufRead;
+use std::io::{BufRead, ErrorKind};
 
 /// The descriptor of standard input.
 const STDIN: i32 = 0;
+
+/// Returns true if more may come after an error of this kind, as where another program took what came
+/// over a pipe that both have.
+fn may_go_on(kind: ErrorKind) -> bool {
+    matches!(kind, ErrorKind::WouldBlock | ErrorKind::Interrupted)
+}
 
 /// Standard input, which is read and let go until it ends.
 #[derive(Drop)]
@@ -32,12 +38,12 @@ impl<I: BufRead + Drop> Watched<I> {
 
     /// Lets go of what came, after an event, and has the next event told.
     pub fn take(&mut self, registry: &Registry, token: Token) {
-        let came = match self.reader.fill_buf() {
-            Ok(bytes) => bytes.len(),
-            Err(_) => 0,
+        let (came, ended) = match self.reader.fill_buf() {
+            Ok(bytes) => (bytes.len(), bytes.is_empty()),
+            Err(error) => (0, !may_go_on(error.kind())),
         };
         self.reader.consume(came);
         let watched = registry.reregister(&mut SourceFd(&STDIN), token, Interest::READABLE);
-        self.ended = came == 0 || watched.is_err();
+        self.ended = ended || watched.is_err();
     }
 }

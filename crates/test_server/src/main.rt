@@ -10,8 +10,9 @@
 //!
 //! The exit status is 0 if as many connections were served as the command line says, or if it says
 //! to end with standard input, and that ended. It is 2 if the command line or the script is at
-//! fault, 3 if reading the script, listening, accepting a connection or writing the output failed,
-//! and 4 if memory ran out.
+//! fault, 3 if reading the script, listening, waiting or writing the output or the file of the port
+//! failed, and 4 if memory ran out. Where no connection can be accepted, as where no open file is
+//! left, it tries again until one can.
 //!
 //! Uses test_store, wire_hall and wire_text. Read first: `serving`, `connections` and then `run`.
 #![tactic(auto)]
@@ -25,6 +26,7 @@ mod input;
 mod output;
 mod run;
 mod serving;
+mod stop;
 mod transcript;
 
 ghost use Rattle.std.specs.Prelude.{◌≡◌, map};
@@ -36,6 +38,7 @@ use run::{ServingEnd, run};
 use std::io;
 use std::io::BufWriter;
 use std::process::ExitCode;
+use stop::Stop;
 
 /// This program.
 const PROGRAM: Program<'static> = Program {
@@ -75,34 +78,54 @@ fn run_choice(rt: &HostRuntime, choice: Choice<'_>) -> u8
 {
     let end = match BufWriter::new(rt.alloc(), io::writer(rt)) {
         Ok(mut out) => run(rt, rt.alloc(), choice, &mut out),
-        Err(_) => ServingEnd::OutOfMemory,
+        Err(_) => ServingEnd::Stopped(Stop::OutOfMemory),
     };
-    tell(rt, end, choice.address)
+    tell(rt, &end, choice)
 }
 
 /// Says on standard error why serving stopped early, if it did. Returns the exit status.
-fn tell(rt: &impl Eprint, end: ServingEnd, address: &str) -> u8
-    ensures { result ≡ exit_status end }
+fn tell(rt: &impl Eprint, end: &ServingEnd, choice: Choice<'_>) -> u8
+    ensures { result ≡ exit_status end.now }
 {
+    let script = choice.script.unwrap_or("");
     // If standard error takes no line, there is only the status.
     let _ = match end {
-        ServingEnd::Script(fault) => eprintln!(rt; "test_server: the script is at fault: {fault}"),
-        ServingEnd::Unread => eprintln!(rt; "test_server: the script can't be read"),
-        ServingEnd::InOut => eprintln!(rt; "test_server: could not serve at {address:?}"),
-        ServingEnd::OutOfMemory => eprintln!(rt; "test_server: out of memory"),
         ServingEnd::Served(_) => Ok(()),
+        ServingEnd::Script(fault) => {
+            eprintln!(rt; "test_server: the script {script:?} is at fault: {fault}")
+        }
+        ServingEnd::ScriptFile(error) => {
+            eprintln!(rt; "test_server: the script {script:?} can't be read: {error}")
+        }
+        ServingEnd::Stopped(stop) => tell_stop(rt, stop, choice),
     };
     status_of(end)
 }
 
+/// Says on standard error why the server stopped.
+fn tell_stop(rt: &impl Eprint, stop: &Stop, choice: Choice<'_>) -> io::Result<()> {
+    let address = choice.address;
+    let file = choice.port_file.unwrap_or("");
+    match stop {
+        Stop::InOut(error) => eprintln!(rt; "test_server: could not serve at {address:?}: {error}"),
+        Stop::Output(error) => {
+            eprintln!(rt; "test_server: could not write standard output: {error}")
+        }
+        Stop::PortFile(error) => {
+            eprintln!(rt; "test_server: the file of the port {file:?} can't be written: {error}")
+        }
+        Stop::OutOfMemory => eprintln!(rt; "test_server: out of memory"),
+    }
+}
+
 /// Returns the exit status of an end.
-fn status_of(end: ServingEnd) -> u8
-    ensures { result ≡ exit_status end }
+fn status_of(end: &ServingEnd) -> u8
+    ensures { result ≡ exit_status end.now }
 {
     match end {
         ServingEnd::Served(_) => 0,
         ServingEnd::Script(_) => USAGE,
-        ServingEnd::Unread | ServingEnd::InOut => IN_OUT,
-        ServingEnd::OutOfMemory => MEMORY,
+        ServingEnd::Stopped(Stop::OutOfMemory) => MEMORY,
+        ServingEnd::ScriptFile(_) | ServingEnd::Stopped(_) => IN_OUT,
     }
 }

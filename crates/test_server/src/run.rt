@@ -13,7 +13,7 @@ use crate::choice::Choice;
 use crate::connections::{Connections, ROOM};
 use crate::drained::Turns;
 use crate::output::Output;
-use crate::serving::Stop;
+use crate::stop::{Stop, wants_memory};
 use mio::Events;
 use mio::net::TcpListener;
 use std::alloc::Global;
@@ -27,18 +27,16 @@ use std::time::Clock;
 use test_script::{Cause, Script, ScriptFault};
 
 /// Why the server ends.
-#[derive(Clone, Copy, Debug, PartialEq, Eq)]
+#[derive(Debug, Drop)]
 pub enum ServingEnd {
     /// This many connections were served.
     Served(u64),
     /// The script is at fault.
     Script(ScriptFault),
     /// The script can't be read.
-    Unread,
-    /// Listening, accepting a connection or writing the output failed.
-    InOut,
-    /// Memory ran out.
-    OutOfMemory,
+    ScriptFile(io::Error),
+    /// The server stopped early.
+    Stopped(Stop),
 }
 
 /// The most events that one wait tells.
@@ -128,14 +126,16 @@ fn read_scripts<R: Files>(rt: &R, alloc: Global, file: Option<&str>) -> Result<S
     };
     let text = match read_file(rt, alloc, file) {
         Ok(text) => text,
-        Err(error) if error.kind() == ErrorKind::OutOfMemory => {
-            return Err(ServingEnd::OutOfMemory);
+        Err(error) if wants_memory(&error) => {
+            return Err(ServingEnd::Stopped(Stop::OutOfMemory));
         }
-        Err(_) => return Err(ServingEnd::Unread),
+        Err(error) => return Err(ServingEnd::ScriptFile(error)),
     };
     match parse_scripts(alloc, text.as_slice()) {
         Ok(scripts) => Ok(scripts),
-        Err(fault) if fault.cause == Cause::OutOfMemory => Err(ServingEnd::OutOfMemory),
+        Err(fault) if fault.cause == Cause::OutOfMemory => {
+            Err(ServingEnd::Stopped(Stop::OutOfMemory))
+        }
         Err(fault) => Err(ServingEnd::Script(fault)),
     }
 }
@@ -148,7 +148,7 @@ fn listen<R: Net + Files + Input, W: Write>(
     again: VecDeque<usize>,
     scripts: Scripts,
     out: &mut W,
-) -> io::Result<Connections<R::Reader>>
+) -> Result<Connections<R::Reader>, Stop>
     ensures told { OnOk result ((local : SocketAddr)
         × WritesOut W.contents out.old out.new (listening_line local)) }
     ensures begun { IfOk result (λ c. HasBegun scripts.script.rules.items
@@ -157,8 +157,8 @@ fn listen<R: Net + Files + Input, W: Write>(
     let turns = Turns::new(alloc)?;
     let listener = TcpListener::bind(rt, address_of(rt, choice.address)?)?;
     let local = listener.local_addr()?;
-    write_first(local, out)?;
-    tell_port(rt, choice.port_file, local.port())?;
+    write_first(local, out).map_err(Stop::Output)?;
+    tell_port(rt, choice.port_file, local.port()).map_err(Stop::PortFile)?;
     let input = if choice.until_stdin_closes {
         Some(rt.reader())
     } else {
@@ -166,9 +166,10 @@ fn listen<R: Net + Files + Input, W: Write>(
     };
     let Scripts { script, guide } = scripts;
     let count = choice.connections;
-    Connections::new(
+    let connections = Connections::new(
         rt, alloc, listener, input, count, again, turns, script, guide,
-    )
+    )?;
+    Ok(connections)
 }
 
 /// Serves connections until as many of them ended as the words ask for, or until standard input
@@ -194,7 +195,7 @@ fn serve_until<C: Clock, I: BufRead + Drop, W: Output>(
         connections.serve_some(clock, events, out)?;
     }
     // No server serves some that often.
-    Err(Stop::InOut)
+    Err(Stop::InOut(io::Error::from(ErrorKind::Other)))
 }
 
 /// Serves connections, and writes nothing.
@@ -243,17 +244,9 @@ fn serve_all<R: Net + Files + Input + Clock, W: Output>(
     ensures { IfOk result (λ n. HasServed choice.entry scripts.script.rules.items
         scripts.guide.rules.items n (W.contents out.old) (W.contents out.new)) }
 {
-    let Ok(mut events) = Events::with_capacity(alloc, EVENTS) else {
-        return Err(Stop::OutOfMemory);
-    };
-    let Ok(again) = VecDeque::with_capacity(alloc, ROOM) else {
-        return Err(Stop::OutOfMemory);
-    };
-    let mut connections = match listen(rt, alloc, choice, again, scripts, out) {
-        Ok(connections) => connections,
-        Err(error) if error.kind() == ErrorKind::OutOfMemory => return Err(Stop::OutOfMemory),
-        Err(_) => return Err(Stop::InOut),
-    };
+    let mut events = Events::with_capacity(alloc, EVENTS)?;
+    let again = VecDeque::with_capacity(alloc, ROOM)?;
+    let mut connections = listen(rt, alloc, choice, again, scripts, out)?;
     serve_shown(rt, &mut connections, &mut events, choice, out)?;
     Ok(told_count(connections.serving.ended(), choice.connections))
 }
@@ -291,13 +284,12 @@ fn serve_at<R: Net + Files + Input + Clock, W: Output>(
     if choice.connections > 0 {
         match serve_all(rt, alloc, choice, scripts, out) {
             Ok(served) => count = served,
-            Err(Stop::InOut) => return ServingEnd::InOut,
-            Err(Stop::OutOfMemory) => return ServingEnd::OutOfMemory,
+            Err(stop) => return ServingEnd::Stopped(stop),
         }
     }
     match write_last(count, out) {
         Ok(()) => ServingEnd::Served(count),
-        Err(_) => ServingEnd::InOut,
+        Err(error) => ServingEnd::Stopped(Stop::Output(error)),
     }
 }
 

@@ -13,24 +13,15 @@ ghost use Rattle.test_server.specs.Transcript.{end_text, told_text};
 
 use crate::guide::{Guide, gate_for};
 use crate::output::Output;
+use crate::stop::Stop;
 use crate::transcript::{write_end, write_entries, write_new};
 use std::alloc::Global;
-use std::io;
 use std::io::Write;
 use test_script::Flow;
 use wire_front::FrontCause;
 use wire_hall::{Gate, Gated, Hall, Leave, Turned};
 use wire_peer::{Handler, ServerCause};
 use wire_stream::Link;
-
-/// Why the server stops early.
-#[derive(Clone, Copy, Debug, PartialEq, Eq)]
-pub enum Stop {
-    /// Listening, accepting a connection or writing the output failed.
-    InOut,
-    /// Memory ran out.
-    OutOfMemory,
-}
 
 /// The most steps of a turn.
 pub const STEPS: u32 = 32;
@@ -43,7 +34,7 @@ pub const ANSWER_STEPS: u32 = 4;
 fn tell<L: Link + Drop, H: Handler + Drop, W: Output>(
     hall: &mut Hall<L, H>,
     out: &mut W,
-) -> io::Result<()>
+) -> Result<(), Stop>
     ensures told { OnOk result (WritesOut W.contents out.old out.new
         (flat_map told_text (log_of hall.old.logged.entries.items))) }
     ensures forgotten { OnOk result (log_of hall.new.logged.entries.items ≡ []) }
@@ -52,7 +43,7 @@ fn tell<L: Link + Drop, H: Handler + Drop, W: Output>(
     ensures next { hall.new.next ≡ hall.old.next }
 {
     if !out.is_sink() {
-        write_entries(hall.entries(), out)?;
+        write_entries(hall.entries(), out).map_err(Stop::Output)?;
     }
     let told = hall.entries().len();
     hall.forget(told);
@@ -154,7 +145,7 @@ impl<L: Gated + Drop, H: Handler + Drop> Serving<L, H> {
     ///
     /// # Errors
     ///
-    /// Returns `OutOfMemory` if there is no memory or no number for it, and `InOut` if writing
+    /// Returns `OutOfMemory` if there is no memory or no number for it, and `Output` if writing
     /// fails.
     pub fn open<W: Write>(&mut self, link: L, out: &mut W) -> Result<(), Stop>
         requires { L.gate link ≡ Gate.Open }
@@ -169,12 +160,12 @@ impl<L: Gated + Drop, H: Handler + Drop> Serving<L, H> {
         };
         match write_new(number, out) {
             Ok(()) => Ok(()),
-            Err(_) => Err(Stop::InOut),
+            Err(error) => Err(Stop::Output(error)),
         }
     }
 
     /// Forgets the connection of this key, which is over, and writes its last line.
-    fn close<W: Write>(&mut self, key: usize, leave: Leave, out: &mut W) -> io::Result<()>
+    fn close<W: Write>(&mut self, key: usize, leave: Leave, out: &mut W) -> Result<(), Stop>
         ensures told { (seat : SeatSeen L) → get self.old.hall.seats key ≡ Some seat
             → OnOk result (WritesOut W.contents out.old out.new
             (end_text seat.front.server.connection leave)) }
@@ -191,7 +182,10 @@ impl<L: Gated + Drop, H: Handler + Drop> Serving<L, H> {
         };
         self.hall.close(key);
         self.ended = self.ended.saturating_add(1);
-        write_end(number, leave, out)
+        match write_end(number, leave, out) {
+            Ok(()) => Ok(()),
+            Err(error) => Err(Stop::Output(error)),
+        }
     }
 
     /// Says what becomes of the reply that the connection of this key put out in its turn, if it put
@@ -222,7 +216,7 @@ impl<L: Gated + Drop, H: Handler + Drop> Serving<L, H> {
     ///
     /// # Errors
     ///
-    /// Returns `InOut` if writing fails, and `OutOfMemory` if memory runs out.
+    /// Returns `Output` if writing fails, and `OutOfMemory` if memory runs out.
     pub fn turn<W: Output>(
         &mut self,
         key: usize,
@@ -247,14 +241,12 @@ impl<L: Gated + Drop, H: Handler + Drop> Serving<L, H> {
         let Ok(()) = self.guide.follow(self.hall.entries()) else {
             return Err(Stop::OutOfMemory);
         };
-        let Ok(()) = tell(&mut self.hall, out) else {
-            return Err(Stop::InOut);
-        };
+        tell(&mut self.hall, out)?;
         match turned {
-            Turned::Over(leave) => match self.close(key, leave, out) {
-                Ok(()) => Ok(Some(turned)),
-                Err(_) => Err(Stop::InOut),
-            },
+            Turned::Over(leave) => {
+                self.close(key, leave, out)?;
+                Ok(Some(turned))
+            }
             Turned::Again | Turned::Waits => {
                 self.steer(key);
                 Ok(Some(turned))

@@ -6,8 +6,8 @@ use Rattle.test_server.proofs.run.serve_all.Goals as goal
 
 pub returns : goal.returns
 returns g c =
-    let begun = c.in-Ok-listen.ensures.begun in
-    let told = c.in-Ok-listen.ensures.told in
+    let begun = c.in_ok-connections.ensures.begun in
+    let told = c.in_ok-connections.ensures.told in
     let went = c.in_ok-serve_shown.ensures.served begun.first c.args.scripts.guide.rules.items 0 [] begun.serving in
     record {
       first = begun.first;

@@ -9,8 +9,8 @@ use Rattle.test_server.specs.Serving.{IsForgotten, IsSteered, TakesTurn, reply_f
 use Rattle.test_server.proofs.Steps.{serves_turn, turns_on, turns_over}
 use Rattle.test_server.proofs.serving.Serving.turn.Goals as goal
 
-pub returns-in-Ok-close-clause-turned : goal.returns-in-Ok-close-clause-turned
-returns-in-Ok-close-clause-turned g c =
+pub returns-in_ok-close-in-Over-clause-turned : goal.returns-in_ok-close-in-Over-clause-turned
+returns-in_ok-close-in-Over-clause-turned g c =
     let t = tells g.L.Link.received g.L.Link.sent g.L.Link.ends g.L.Link.waits g.L.Link.failures in
     let old = c.args.self.now in
     let made = c.turn.new.self.logged in
@@ -23,16 +23,16 @@ returns-in-Ok-close-clause-turned g c =
     subst (λ (how : Turned). TakesTurn g.H.Handler.does g.H.Handler.stops t g.L.Gated.gate c.args.key how old c.close.new.self before after) c.in-Over.is
     (turns_over g.H.Handler.does g.H.Handler.stops t g.L.Gated.gate old c.close.new.self c.turn.new.self.seats made c.args.key _ c.in-Some.turned c.in-Over.leave seat _ (g.W.Write.contents c.tell.new.out) _
     c.steps-steps.ensures c.in-Over.is c.in-Some.ensures.turned
-    (subst (λ l. IsForgotten made l) (sym c.close.ensures.logged) (c.in-Ok-tell.ensures.forgotten, c.tell.ensures.handler)) there
-    (subst (λ s. Updates s c.close.new.self.hall.seats c.args.key None) c.tell.ensures.seats c.in-Ok-close.ensures.seats)
+    (subst (λ l. IsForgotten made l) (sym c.close.ensures.logged) (c.in_ok-tell.ensures.forgotten, c.tell.ensures.handler)) there
+    (subst (λ s. Updates s c.close.new.self.hall.seats c.args.key None) c.tell.ensures.seats c.in_ok-close-in-Over.ensures.seats)
     (ap (λ (u : Guide). u.script.rules.items) c.close.ensures.guide ∙ follows.0)
     (c.close.ensures.next ∙ c.tell.ensures.next ∙ c.turn.ensures.next) (c.close.ensures.ended seat stays)
-    c.in-Ok-tell.ensures.told (c.in-Ok-close.ensures.told seat stays))
+    c.in_ok-tell.ensures.told (c.in_ok-close-in-Over.ensures.told seat stays))
 
-pub returns-in-Ok-close-clause-served : goal.returns-in-Ok-close-clause-served
-returns-in-Ok-close-clause-served g c =
+pub returns-in_ok-close-in-Over-clause-served : goal.returns-in_ok-close-in-Over-clause-served
+returns-in_ok-close-in-Over-clause-served g c =
     serves_turn g.H.Handler.does g.H.Handler.stops (tells g.L.Link.received g.L.Link.sent g.L.Link.ends g.L.Link.waits g.L.Link.failures) g.L.Gated.gate
-    c.args.self.now c.close.new.self c.args.key _ _ _ (returns-in-Ok-close-clause-turned g c)
+    c.args.self.now c.close.new.self c.args.key _ _ _ (returns-in_ok-close-in-Over-clause-turned g c)
 
 pub returns-in-Again-clause-turned : goal.returns-in-Again-clause-turned
 returns-in-Again-clause-turned g c =
@@ -44,11 +44,11 @@ returns-in-Again-clause-turned g c =
     let steered = subst (λ s. IsSteered t g.L.Gated.gate (reply_flow (get s key) c.follow.new.self.flow) key s c.steer.new.self.hall.seats) c.tell.ensures.seats c.steer.ensures.steered in
     turns_on g.H.Handler.does g.H.Handler.stops t g.L.Gated.gate old c.steer.new.self c.turn.new.self.seats made key _ c.in-Some.turned _ _
     c.in-Again.is c.steps-steps.ensures c.in-Some.ensures.turned
-    (subst (λ l. IsForgotten made l) (sym c.steer.ensures.logged) (c.in-Ok-tell.ensures.forgotten, c.tell.ensures.handler))
+    (subst (λ l. IsForgotten made l) (sym c.steer.ensures.logged) (c.in_ok-tell.ensures.forgotten, c.tell.ensures.handler))
     (subst (λ f. IsSteered t g.L.Gated.gate (reply_flow (get c.turn.new.self.seats key) f) key c.turn.new.self.seats c.steer.new.self.hall.seats) follows.1 steered)
     (ap (λ (u : Guide). u.script.rules.items) c.steer.ensures.guide ∙ follows.0)
     (c.steer.ensures.next ∙ c.tell.ensures.next ∙ c.turn.ensures.next) c.steer.ensures.ended
-    c.in-Ok-tell.ensures.told
+    c.in_ok-tell.ensures.told
 
 pub returns-in-Again-clause-served : goal.returns-in-Again-clause-served
 returns-in-Again-clause-served g c =
