@@ -1048,9 +1048,9 @@ static inline uint32_t lughemra_free(struct lughemra_core *core)
     return core != NULL ? lughemra_free_nonnull(core) : LUGHEMRA_NO_CORE;
 }
 
-/* Returns the name of an enum lughemra_core_refusal, as "WindowFull", or "" if there is none of this number. The numbers that
- * only lughemra_client_new, lughemra_server_new and lughemra_pool_new return, and those of an enum lughemra_refusal, have no
- * names here. */
+/* Returns the name of an enum lughemra_core_refusal, as "WindowFull", or "" if there is none of this number. The
+ * numbers of an enum lughemra_client_refusal, lughemra_pool_refusal or lughemra_refusal mean other things, and would be named as
+ * those of this one. */
 static inline const char *lughemra_core_refusal_name(uint32_t number)
 {
     static const char *const words[] = {"",       "Closed",       "WindowFull", "TooLarge", "BadContent",
@@ -1221,8 +1221,8 @@ static inline struct lughemra_server_fed lughemra_server_feed(struct lughemra_co
 
 /* Copies the request of index `k` among those that wait, in the order in which they came, to the front of the room, of
  * `room_length` bytes, as a message with no ids and with its flags, for lughemra_message_parts, whose first section is the body.
- * If it has no room, nothing is written, and its length is told. It waits until it is answered. A request whose flags say that more will come wants no reply:
- * it is answered like any other, with one document, and nothing is sent. */
+ * If it has no room, nothing is written, and its length is told. It waits until it is answered. A request whose flags say that
+ * more will come wants no reply: it is answered like any other, with one document, and nothing is sent. */
 static inline struct lughemra_request lughemra_server_request(struct lughemra_core *core, size_t k, uint8_t *room,
                                                               size_t room_length)
 {
