@@ -146,20 +146,3 @@ fn a_failed_write_ends_the_run(rt: HostRuntime) {
     );
     assert!(rt; end == RunEnd::InOut);
 }
-
-/// Returns true if the run writes its text, or nothing where an allocation was refused. The document is not canonical, so
-/// that its canonical form takes memory.
-fn is_whole_or_refused(alloc: Global) -> bool {
-    let mut input = b"140000000461000c000000107800010000000000".as_slice();
-    let mut writer = Vec::new(alloc);
-    match run_canon(alloc, true, &mut input, &mut writer) {
-        RunEnd::OutOfMemory => writer.is_empty(),
-        end => end == RunEnd::Good && writer.len() == 41,
-    }
-}
-
-/// With `rt try --test --fail-alloc N` the Nth allocation of the run is refused.
-#[test]
-fn a_refused_allocation_writes_nothing(rt: HostRuntime) {
-    assert!(rt; is_whole_or_refused(rt.alloc()));
-}

@@ -312,19 +312,3 @@ fn a_failed_write_ends_the_run(rt: HostRuntime) -> Result<(), AllocError> {
     assert!(rt; is_flushed(rt.alloc(), &input));
     Ok(())
 }
-
-/// Returns true if the run writes its text, or nothing where an allocation was refused.
-fn is_whole_or_refused(alloc: Global) -> bool {
-    let mut reader = b"0500000000".as_slice();
-    let mut writer = Counter::failing_at(0);
-    match run_dump(alloc, false, true, &mut reader, &mut writer) {
-        RunEnd::OutOfMemory => writer.calls == 0,
-        end => end == RunEnd::Good && writer.taken == 11,
-    }
-}
-
-/// With `rt try --test --fail-alloc N` the Nth allocation of the run is refused: nothing else here allocates.
-#[test]
-fn a_refused_allocation_writes_nothing(rt: HostRuntime) {
-    assert!(rt; is_whole_or_refused(rt.alloc()));
-}

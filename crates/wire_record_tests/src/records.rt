@@ -75,10 +75,7 @@ const FAULTS: [(&[u8; 20], usize, RecordCause); 7] = [
     ),
 ];
 
-/// A message of the opCode 2010, of which nothing but a header is there.
-const COMMAND: &[u8; 16] = b"\x10\0\0\0\x08\0\0\0\xff\xff\xff\xff\xda\x07\0\0";
-
-/// The first of `HEADS` and that message.
+/// The first of `HEADS`, and a message of the opCode 2010, of which nothing but a header is there.
 pub(crate) const RECORD: &[u8; 36] = b"\x40\x9e\x75\xce\x8e\x44\x06\x00\x01\0\0\0\0\0\0\0\0\0\0\0\
     \x10\0\0\0\x08\0\0\0\xff\xff\xff\xff\xda\x07\0\0";
 
