@@ -12,6 +12,7 @@ ghost use Rattle.engines.specs.{AppendsOne, AppendsText, AppendsUpTo, WritesRead
 ghost use Rattle.engines.specs.{is_done, is_fault, loop_text};
 
 use crate::choice::{Choice, Command, Reading};
+use crate::noted::{Because, Noted};
 use crate::progress::Progress;
 use command_words::{IN_OUT, MEMORY, USAGE};
 use engines::{
@@ -104,7 +105,7 @@ pub fn run<R: Files + Input + Print + Eprint + Clock + Net + AllocGlobal>(
             file,
             quiet,
         } => run_file(rt, command, file, shown && !quiet),
-        Choice::Loop { calls } => loop_status(rt, calls, &mut io::writer(rt)),
+        Choice::Loop { calls } => loop_status(rt, calls, &mut Noted::new(io::writer(rt))),
         Choice::Proxy(options) => proxy_status(rt, options),
         Choice::Replay(options) => replay_status(rt, options),
     }
@@ -121,28 +122,15 @@ fn run_file<R: Files + Input + Print + Eprint + Clock + AllocGlobal>(
     ensures { (end : RunEnd) × (result ≡ exit_status end) }
 {
     let input = InputName::of(file);
+    let mut writer = Noted::new(io::writer(rt));
     if file == "-" {
-        let mut reader = Progress::new(rt.reader(), None, drawn, rt);
-        return status_over(
-            rt,
-            rt.alloc(),
-            command,
-            input,
-            &mut reader,
-            &mut io::writer(rt),
-        );
+        let mut reader = Progress::new(Noted::new(rt.reader()), None, drawn, rt);
+        return status_over(rt, rt.alloc(), command, input, &mut reader, &mut writer);
     }
     match open(rt, file) {
         Ok((opened, size)) => {
-            let mut reader = Progress::new(opened, size, drawn, rt);
-            status_over(
-                rt,
-                rt.alloc(),
-                command,
-                input,
-                &mut reader,
-                &mut io::writer(rt),
-            )
+            let mut reader = Progress::new(Noted::new(opened), size, drawn, rt);
+            status_over(rt, rt.alloc(), command, input, &mut reader, &mut writer)
         }
         Err(error) => tell_unopened(rt, error, input),
     }
@@ -167,23 +155,23 @@ fn status_over<E: Eprint + Clock, R: Read, W: Write>(
     alloc: Global,
     command: Command,
     input: InputName<'_>,
-    reader: &mut Progress<'_, R, E>,
-    writer: &mut W,
+    reader: &mut Progress<'_, Noted<R>, E>,
+    writer: &mut Noted<W>,
 ) -> u8
     ensures ends { (end : RunEnd) × (result ≡ exit_status end) }
-    ensures read { tells_done result ≡ true → IsAtEnd (R.remaining reader.new.inner) }
-    ensures written { IfSome (R.remaining reader.old.inner) (λ input. tells_done result ≡ true →
-        AppendsText (CommandText command input) (tells_fault result)
-        (W.contents writer.old) (W.contents writer.new)) }
-    ensures late { reads_first command ≡ true → (IsAtEnd (R.remaining reader.new.inner)) ⊎
-        Keeps (W.contents writer.old) (W.contents writer.new) }
-    ensures first { result ≡ 4 → reads_first command ≡ false → IfSome (R.remaining reader.old.inner)
-        (λ input. AppendsOne (FirstOf command input)
-        (W.contents writer.old) (W.contents writer.new)) }
+    ensures read { tells_done result ≡ true → IsAtEnd (R.remaining reader.new.inner.inner) }
+    ensures written { IfSome (R.remaining reader.old.inner.inner) (λ input.
+        tells_done result ≡ true → AppendsText (CommandText command input) (tells_fault result)
+        (W.contents writer.old.inner) (W.contents writer.new.inner)) }
+    ensures late { reads_first command ≡ true → (IsAtEnd (R.remaining reader.new.inner.inner)) ⊎
+        Keeps (W.contents writer.old.inner) (W.contents writer.new.inner) }
+    ensures first { result ≡ 4 → reads_first command ≡ false →
+        IfSome (R.remaining reader.old.inner.inner) (λ input. AppendsOne (FirstOf command input)
+        (W.contents writer.old.inner) (W.contents writer.new.inner)) }
 {
     let end = run_over(rt, alloc, command, input, reader, writer);
     reader.wipe();
-    tell(rt, end, input)
+    tell(rt, end, input, reader.inner.because(), writer.because())
 }
 
 /// Says on standard error why `bson` wrote no more documents, if it stopped before the end of its
@@ -247,21 +235,29 @@ fn run_over<E: Eprint, R: Read, W: Write>(
 
 /// Makes `calls` calls over a connection of the program with itself, and returns the exit status.
 /// If they were cut short, standard error says why.
-fn loop_status<R: Net + Eprint + AllocGlobal, W: Write>(rt: &R, calls: u8, writer: &mut W) -> u8
+fn loop_status<R: Net + Eprint + AllocGlobal, W: Write>(
+    rt: &R,
+    calls: u8,
+    writer: &mut Noted<W>,
+) -> u8
     ensures ends { (end : RunEnd) × (end ≢ RunEnd.Fault) × (result ≡ exit_status end) }
     ensures written { (left : List ℕ) × AppendsUpTo left (loop_text calls)
-        (W.contents writer.old) (W.contents writer.new) × (result ≡ 0 → left ≡ []) }
+        (W.contents writer.old.inner) (W.contents writer.new.inner) × (result ≡ 0 → left ≡ []) }
 {
     let end = run_loop(rt, calls, writer);
-    tell_loop(rt, end)
+    tell_loop(rt, end, writer.because())
 }
 
-/// Says on standard error why the calls were cut short, if they were. Returns the exit status.
-fn tell_loop(rt: &impl Eprint, end: RunEnd) -> u8
+/// Says on standard error why the calls were cut short, if they were: writing failed for this
+/// reason, or else the connection did. Returns the exit status.
+fn tell_loop(rt: &impl Eprint, end: RunEnd, unwritten: Because) -> u8
     ensures { result ≡ exit_status end }
 {
     let _ = match end {
-        RunEnd::InOut => { eprintln!(rt; "bsonwire: the connection or standard output failed") }
+        RunEnd::InOut if unwritten.is_known() => {
+            eprintln!(rt; "bsonwire: could not write standard output{unwritten}")
+        }
+        RunEnd::InOut => eprintln!(rt; "bsonwire: the connection failed"),
         RunEnd::OutOfMemory => eprintln!(rt; "bsonwire: out of memory"),
         RunEnd::Good | RunEnd::Fault | RunEnd::Unread => Ok(()),
     };
@@ -335,14 +331,21 @@ fn replay_status<R: Files + Input + Net + Clock + Print + Eprint + AllocGlobal>(
     }
 }
 
-/// Says on standard error why a run stopped early, if it did. Returns its exit status.
-fn tell(rt: &impl Eprint, end: RunEnd, input: InputName<'_>) -> u8
+/// Says on standard error why a run stopped early, if it did: reading failed for the first of these
+/// reasons, or writing for the second. Returns its exit status.
+fn tell(
+    rt: &impl Eprint,
+    end: RunEnd,
+    input: InputName<'_>,
+    unread: Because,
+    unwritten: Because,
+) -> u8
     ensures { result ≡ exit_status end }
 {
     // If standard error takes no line, there is only the status.
     let _ = match end {
-        RunEnd::Unread => eprintln!(rt; "bsonwire: could not read {input}"),
-        RunEnd::InOut => eprintln!(rt; "bsonwire: could not write standard output"),
+        RunEnd::Unread => eprintln!(rt; "bsonwire: could not read {input}{unread}"),
+        RunEnd::InOut => eprintln!(rt; "bsonwire: could not write standard output{unwritten}"),
         RunEnd::OutOfMemory => eprintln!(rt; "bsonwire: {input}: out of memory"),
         RunEnd::Good | RunEnd::Fault => Ok(()),
     };

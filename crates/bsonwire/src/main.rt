@@ -7,9 +7,9 @@
 //! `canon --salvage` tells none. That it could not read or write goes to standard error, in one
 //! line.
 //!
-//! The exit status is 0 if the input is good, 1 if it is at fault or a replayed answer differs, 2 if
-//! the command line or a proxy's script is at fault, 3 if reading or writing failed, and 4 if memory
-//! ran out.
+//! The exit status is 0 if the input is good; 1 if it is at fault, or a replayed answer differs, is
+//! missing or is one too many, or a connection of a replay failed; 2 if the command line or a proxy's
+//! script is at fault; 3 if reading, writing or the network failed; and 4 if memory ran out.
 //!
 //! Uses engines, proxy, shared_proxy and replay. Read first: `commands`, and then `choice`.
 #![tactic(auto)]
@@ -17,6 +17,7 @@
 mod choice;
 mod command_line;
 mod commands;
+mod noted;
 mod progress;
 
 ghost use Rattle.std.specs.Prelude.{map};

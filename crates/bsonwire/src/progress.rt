@@ -17,7 +17,7 @@ const BETWEEN: u64 = 250;
 /// fails, it wipes the line out.
 #[derive(Drop)]
 pub struct Progress<'a, R, E> {
-    inner: R,
+    pub inner: R,
     rt: &'a E,
     line: Option<Line>,
 }
