@@ -283,6 +283,7 @@ fn fault_status(fault: &ProxyFault) -> u8
     match fault {
         ProxyFault::Script(_) | ProxyFault::Itself => USAGE,
         ProxyFault::ScriptFile(error)
+        | ProxyFault::Upstream(error)
         | ProxyFault::PortFile(error)
         | ProxyFault::RecordFile(error)
         | ProxyFault::Io(error) => status_of(end_of(error)),

@@ -4,13 +4,30 @@ use crate::direction::Direction;
 use std::fmt;
 use wire_relay::RelayFault;
 
+/// Who is at one end of a connection.
+#[derive(Clone, Copy, Debug, PartialEq, Eq)]
+pub enum Side {
+    Client,
+    Server,
+}
+
+impl Side {
+    /// Returns its name.
+    fn name(self) -> &'static str {
+        match self {
+            Side::Client => "client",
+            Side::Server => "server",
+        }
+    }
+}
+
 /// How a connection ended.
 #[derive(Clone, Copy, Debug, PartialEq, Eq)]
 pub enum Ending {
     /// Both sides ended.
     Ended,
-    /// One side failed.
-    Failed(RelayFault),
+    /// The link to this side failed.
+    Failed(Side, RelayFault),
     /// The script hung up at the request with this id, of which no byte went on.
     HungUp(i32),
     /// It was cut once so many bytes went this way.
@@ -28,7 +45,7 @@ impl fmt::Display for Ending {
     fn fmt<W: fmt::Write>(&self, f: &mut fmt::Formatter<W>) -> fmt::Result {
         match *self {
             Ending::Ended => f.write_str("ended"),
-            Ending::Failed(fault) => write!(f, "failed: {fault}"),
+            Ending::Failed(side, fault) => write!(f, "failed: {}: {fault}", side.name()),
             Ending::HungUp(id) => write!(f, "hangup id {id}"),
             Ending::Cut(direction, count) => write!(f, "cut {} {count}", direction.word()),
         }

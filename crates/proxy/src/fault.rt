@@ -11,6 +11,9 @@ pub enum ProxyFault {
     /// The script is at fault.
     #[error("the script is at fault: {0}")]
     Script(ScriptFault),
+    /// The server's address can't be found.
+    #[error("the server's address: {0}")]
+    Upstream(io::Error),
     /// The server's address is where the proxy listens.
     #[error("the server's address is the proxy's own")]
     Itself,

@@ -5,6 +5,7 @@ ghost use Rattle.wire_stream.specs.{bytes_moved};
 
 use std::alloc::{AllocError, Global};
 use std::io::ErrorKind;
+use std::mem::replace;
 use wire_frame::{FrameFront, RawFrame};
 use wire_msg::MAX_MESSAGE_LEN;
 use wire_relay::EndSending;
@@ -271,6 +272,16 @@ impl<L: Link + Drop> HeldLink<L> {
         self.held.again
     }
 
+    /// Returns the same, and false from then on, until there is more again.
+    pub fn take_more(&mut self) -> bool {
+        replace(&mut self.held.again, false)
+    }
+
+    /// Returns true if bytes that may be given weren't yet.
+    pub fn owes(&self) -> bool {
+        self.held.start < self.held.may
+    }
+
     /// Returns how many bytes were given, if no more are because of a cut.
     pub fn cut_at(&self) -> Option<u64> {
         if self.held.left == 0 {
@@ -278,6 +289,16 @@ impl<L: Link + Drop> HeldLink<L> {
         } else {
             None
         }
+    }
+
+    /// Returns true if it told its end, so that it gives no more.
+    pub fn has_told_end(&self) -> bool {
+        self.ends > 0
+    }
+
+    /// Returns true if a call of it failed.
+    pub fn has_failed(&self) -> bool {
+        self.failures > 0
     }
 
     /// Returns true if its sending was ended.

@@ -1,7 +1,7 @@
 //! A pair of connections, and its turns.
 
 use crate::direction::Direction;
-use crate::ending::Ending;
+use crate::ending::{Ending, Side};
 use crate::fate::{Fate, fate_of};
 use crate::held_link::HeldLink;
 use crate::sink::Sink;
@@ -116,6 +116,15 @@ impl Pair {
         None
     }
 
+    /// Returns whose link failed, once one did.
+    fn failed_side(&self) -> Side {
+        if self.relay.near().has_failed() {
+            Side::Client
+        } else {
+            Side::Server
+        }
+    }
+
     /// Returns what steps came to.
     fn outcome(&self, turned: Result<Turned, RelayFault>) -> Outcome {
         if let Some(ending) = self.cut() {
@@ -125,7 +134,7 @@ impl Pair {
             Ok(Turned::Again) => Outcome::Again,
             Ok(Turned::Waits) => Outcome::Waits,
             Ok(Turned::Over) => Outcome::Over(Ending::Ended),
-            Err(fault) => Outcome::Over(Ending::Failed(fault)),
+            Err(fault) => Outcome::Over(Ending::Failed(self.failed_side(), fault)),
         }
     }
 
@@ -223,17 +232,28 @@ impl Pair {
             }
             Fate::Reply(bytes) => {
                 self.show(self.relay.near(), Direction::There, 0, sink, out)?;
-                writeln!(out, "{number} reply to {id}")?;
                 self.relay.near_mut().skip();
-                self.relay.far_mut().put(&bytes)?;
+                // Behind the server's end nothing is given to the client any more.
+                if !self.relay.far().has_told_end() {
+                    writeln!(out, "{number} reply to {id}")?;
+                    self.relay.far_mut().put(&bytes)?;
+                }
                 Ok(None)
             }
         }
     }
 
-    /// Returns true if more may be done at once, though no byte could be passed.
-    fn has_more(&self) -> bool {
-        self.relay.near().has_more() || self.relay.far().has_more()
+    /// Returns true if more may be done at once, though no byte could be passed. It is told once: a
+    /// way that can't send yet takes no more, and goes on by the event that it can.
+    fn take_more(&mut self) -> bool {
+        let near = self.relay.near_mut().take_more();
+        self.relay.far_mut().take_more() || near
+    }
+
+    /// Returns true if a request may be answered or go on: none is delayed, and what was to be given
+    /// to the client before was given, so that no more than one reply waits for it.
+    fn may_steer(&self) -> bool {
+        !self.delayed && (!self.relay.far().owes() || self.relay.far().has_told_end())
     }
 
     /// Takes a turn in single steps, and does with each message that is whole then what the script
@@ -251,12 +271,12 @@ impl Pair {
                 return Ok(outcome);
             }
             self.steer_reply(sink, out)?;
-            if !self.delayed
+            if self.may_steer()
                 && let Some(outcome) = self.steer_request(script, sink, out)?
             {
                 return Ok(outcome);
             }
-            if outcome == Outcome::Waits && !self.has_more() {
+            if !self.take_more() && outcome == Outcome::Waits {
                 return Ok(Outcome::Waits);
             }
         }
@@ -300,7 +320,7 @@ impl Pair {
             }
         };
         match outcome {
-            Outcome::Over(Ending::Failed(fault)) if wants_memory(fault) => {
+            Outcome::Over(Ending::Failed(_, fault)) if wants_memory(fault) => {
                 Err(io::Error::from(ErrorKind::OutOfMemory))
             }
             outcome => Ok(outcome),

@@ -41,6 +41,8 @@ pub struct Recorder<'r, R: Files + Clock> {
     file: R::File,
     /// The records that weren't written to the file yet.
     waiting: RecordBuf,
+    /// The file couldn't be written.
+    failed: bool,
 }
 
 impl<'r, R: Files + Clock> Recorder<'r, R> {
@@ -52,7 +54,12 @@ impl<'r, R: Files + Clock> Recorder<'r, R> {
     pub fn create(rt: &'r R, alloc: Global, path: &str, limit: u64) -> io::Result<Recorder<'r, R>> {
         let file = File::create(rt, path)?;
         let waiting = RecordBuf::begin(alloc, limit)?;
-        Ok(Recorder { rt, file, waiting })
+        Ok(Recorder {
+            rt,
+            file,
+            waiting,
+            failed: false,
+        })
     }
 
     /// Returns true if a record didn't fit, so that none is appended any more.
@@ -99,6 +106,12 @@ impl<'r, R: Files + Clock> Recorder<'r, R> {
         }
         let written = self.file.write_all(&self.waiting.bytes);
         self.waiting.bytes.clear();
+        self.failed = written.is_err();
         written
+    }
+
+    /// Returns true if the file couldn't be written the last time.
+    pub(crate) fn has_failed(&self) -> bool {
+        self.failed
     }
 }

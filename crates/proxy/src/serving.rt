@@ -44,12 +44,17 @@ fn reached(address: IpAddr) -> IpAddr {
     }
 }
 
+/// Returns true if this machine has the address, so that a listener can be bound at it.
+fn is_own<R: Net>(rt: &R, address: IpAddr) -> bool {
+    address.is_loopback() || TcpListener::bind(rt, SocketAddr::new(address, 0)).is_ok()
+}
+
 /// Returns true if who connects to `address` comes to the listener at `local`. One that listens at
-/// all addresses, and those of IPv4 too if it is at one of IPv6, is met at the loopback ones.
-fn meets(address: SocketAddr, local: SocketAddr) -> bool {
+/// all addresses, and those of IPv4 too if it is at one of IPv6, is met at this machine's own.
+fn meets<R: Net>(rt: &R, address: SocketAddr, local: SocketAddr) -> bool {
     let (far, near) = (reached(address.ip()), local.ip());
     let is_all = near.is_unspecified() && (near.is_ipv6() || far.is_ipv4());
-    address.port() == local.port() && (far == near || far.is_loopback() && is_all)
+    address.port() == local.port() && (far == near || is_all && is_own(rt, far))
 }
 
 /// Writes the port to a file.
@@ -76,8 +81,8 @@ fn read_file<R: Files>(rt: &R, alloc: Global, file: &str) -> io::Result<Vec<u8>>
 ///
 /// # Errors
 ///
-/// Returns `Script` if the script is at fault, `ScriptFile` if it can't be read, and `Io` if memory
-/// runs out.
+/// Returns `Script` if the script is at fault, `ScriptFile` if it can't be read or memory runs out
+/// meanwhile, and `Io` if memory runs out for its rules.
 pub fn read_script<R: Files>(
     rt: &R,
     alloc: Global,
@@ -102,8 +107,8 @@ pub fn read_script<R: Files>(
 ///
 /// # Errors
 ///
-/// Returns `Itself` if the proxy would be its own server, `RecordFile` or `PortFile` if a file can't
-/// be written, and `Io` if listening or writing fails.
+/// Returns `Upstream` if the server has no address, `Itself` if the proxy would be its own server,
+/// `RecordFile` or `PortFile` if a file can't be written, and `Io` if listening or writing fails.
 pub fn listen<'r, R: Net + Files + Clock, W: Write>(
     rt: &'r R,
     alloc: Global,
@@ -111,9 +116,9 @@ pub fn listen<'r, R: Net + Files + Clock, W: Write>(
     out: &mut W,
 ) -> Result<(TcpListener, SocketAddr, Sink<'r, R>), ProxyFault> {
     let listener = TcpListener::bind(rt, address_of(rt, options.listen)?)?;
-    let upstream = address_of(rt, options.upstream)?;
+    let upstream = address_of(rt, options.upstream).map_err(ProxyFault::Upstream)?;
     let local = listener.local_addr()?;
-    if meets(upstream, local) {
+    if meets(rt, upstream, local) {
         return Err(ProxyFault::Itself);
     }
     let sink = Sink::new(rt, alloc, options).map_err(ProxyFault::RecordFile)?;
@@ -148,8 +153,9 @@ fn serve<R: Net + Files + Clock, W: Write>(
 /// # Errors
 ///
 /// Returns `Script` or `ScriptFile` if the script is at fault or can't be read, which is told before
-/// it listens; the errors of `listen`; and `Io` if writing or waiting fails later, or memory runs
-/// out. A connection that fails ends alone. What was recorded by then is written to the file.
+/// it listens; the errors of `listen`; `RecordFile` if the file of records can't be written; and `Io`
+/// if writing or waiting fails later, or memory runs out. A connection that fails ends alone. What
+/// was recorded by then is written to the file.
 pub fn run<R: Net + Files + Clock, W: Write + Drop>(
     rt: &R,
     alloc: Global,
@@ -168,8 +174,11 @@ pub fn run<R: Net + Files + Clock, W: Write + Drop>(
     let (listener, upstream, mut sink) = listen(rt, alloc, options, &mut out)?;
     let mut proxy = Proxy::new(rt, alloc, listener, upstream, options, faults)?;
     let wanted = options.connections;
-    let served = serve(rt, &mut proxy, wanted, &mut events, &mut sink, &mut out);
-    let recorded = sink.flush();
+    let served = match serve(rt, &mut proxy, wanted, &mut events, &mut sink, &mut out) {
+        Ok(()) => Ok(()),
+        Err(error) => Err(sink.fault_of(error)),
+    };
+    let recorded = sink.flush().map_err(ProxyFault::RecordFile);
     served?;
-    Ok(recorded?)
+    recorded
 }

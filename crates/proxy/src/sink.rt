@@ -1,6 +1,7 @@
 //! What the messages that pass are given to: some show them, and some record them.
 
 use crate::direction::Direction;
+use crate::fault::ProxyFault;
 use crate::message::{write_json_line, write_message};
 use crate::options::{Options, Show};
 use crate::recorder::Recorder;
@@ -98,6 +99,14 @@ impl<'r, R: Files + Clock> Sink<'r, R> {
         match self.show {
             Show::Nothing => Ok(()),
             Show::Text | Show::Json => writeln!(out, "{number} {} {fault}", direction.sign()),
+        }
+    }
+
+    /// Returns why a proxy ends that met this error: the file of records, if that couldn't be written.
+    pub fn fault_of(&self, error: io::Error) -> ProxyFault {
+        match &self.recorder {
+            Some(recorder) if recorder.has_failed() => ProxyFault::RecordFile(error),
+            _ => ProxyFault::Io(error),
         }
     }
 

@@ -39,9 +39,9 @@ fn serve<R: Net + Files + Clock, W: Write>(
 /// # Errors
 ///
 /// Returns `Script` or `ScriptFile` if the script is at fault or can't be read, which is told before
-/// it listens; the errors of `listen`; and `Io` if writing or waiting fails later, or memory runs
-/// out. A connection that fails ends alone, with the calls that went over it. What was recorded by
-/// then is written to the file.
+/// it listens; the errors of `listen`; `RecordFile` if the file of records can't be written; and `Io`
+/// if writing or waiting fails later, or memory runs out. A connection that fails ends alone, with
+/// the calls that went over it. What was recorded by then is written to the file.
 pub fn run<R: Net + Files + Clock, W: Write + Drop>(
     rt: &R,
     alloc: Global,
@@ -62,8 +62,11 @@ pub fn run<R: Net + Files + Clock, W: Write + Drop>(
     let sharing = Sharing::new(alloc, connector, most, options.watching());
     let mut turns = Turns::new(alloc, sharing, script);
     let wanted = options.connections;
-    let served = serve(rt, &mut turns, wanted, &mut events, &mut sink, &mut out);
-    let recorded = sink.flush();
+    let served = match serve(rt, &mut turns, wanted, &mut events, &mut sink, &mut out) {
+        Ok(()) => Ok(()),
+        Err(error) => Err(sink.fault_of(error)),
+    };
+    let recorded = sink.flush().map_err(ProxyFault::RecordFile);
     served?;
-    Ok(recorded?)
+    recorded
 }
