@@ -6,7 +6,8 @@ use thiserror::Error;
 /// The state of a reader.
 #[derive(Clone, Copy, Debug, PartialEq, Eq)]
 pub enum ReaderState {
-    /// The held bytes are the beginning of a document, and more of it is needed.
+    /// More bytes are needed: the held ones end inside a length, or before the end that a good
+    /// length announces.
     Need,
     /// The held bytes are a document. `canonical` says whether it is in canonical form.
     Ready { canonical: bool },

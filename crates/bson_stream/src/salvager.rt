@@ -20,8 +20,8 @@ use std::marker::Model;
 /// Finds documents of at most `limit` bytes, and the gaps between them, in bytes that come in
 /// pieces.
 ///
-/// It holds the bytes of the document, or of what may be one, that isn't whole yet, and those of
-/// the last piece. Contracts see the limit, the offset of the first held byte in the stream, the
+/// It holds the bytes that were fed, and neither passed over by `find` nor let go of by `release`.
+/// Contracts see the limit, the offset of the first held byte in the stream, the
 /// held bytes, the gap in which they begin, and how many bytes there is memory for.
 #[derive(Drop)]
 pub struct Salvager {

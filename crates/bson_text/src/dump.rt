@@ -185,7 +185,7 @@ fn lines_through<W: Write>(out: W, what: (RawDocument<'_>, u32)) -> (W, io::Resu
 }
 
 /// Writes the lines of a document's elements, and of those inside them. The outer lines begin with
-/// two spaces `deep` times, and those one level further in with two more.
+/// two spaces `deep` times, and those one level further in with two more. `deep` is 1 or 2.
 ///
 /// # Errors
 ///

@@ -259,7 +259,7 @@ fn filter_of(alloc: Global, value: Option<RawBson<'_>>) -> Result<Document, Fail
 /// # Errors
 ///
 /// Returns `Filter` if it isn't a document or a name is repeated in it, and otherwise the fault of
-/// the first field that isn't carried out.
+/// the first field that isn't carried out. Returns `OutOfMemory` if memory runs out.
 pub fn filter_field(alloc: Global, body: RawDocument<'_>, name: &str) -> Result<Document, Failure>
     ensures ok { (t : Tree) → Spells t (document_bytes body.entry)
         → IfOk result (λ d. filter_field name.now t ≡ Ok (tree_of d)) }
@@ -422,7 +422,8 @@ fn compares_all(filter: &Document, documents: &[Bson]) -> bool
 ///
 /// # Errors
 ///
-/// Returns `Decimal` if a document has a value that the filter doesn't compare.
+/// Returns `Decimal` if a document has a value that the filter doesn't compare. A filter that isn't
+/// carried out may be refused so too.
 pub fn compared(filter: &Document, documents: &[Bson]) -> Result<(), CommandError>
     ensures ok { OnOk result (compared (tree_of filter.now) (map value_of documents.now)
         ≡ Ok (map value_of documents.now)) }

@@ -17,8 +17,8 @@ use std::alloc::Global;
 ///
 /// # Errors
 ///
-/// Returns `Repeated` if a name is repeated in it or in a document inside, and otherwise
-/// `OutOfMemory` if memory runs out.
+/// Returns `Repeated` if a name is repeated in it or in a document inside, and `OutOfMemory` if
+/// memory runs out before one is found.
 pub fn owned_body(alloc: Global, body: RawDocument<'_>) -> Result<Document, Failure>
     ensures ok { (t : Tree) → Spells t (document_bytes body.entry)
         → IfOk result (λ d. body_of t ≡ Ok (tree_of d)) }

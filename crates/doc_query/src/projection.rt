@@ -147,7 +147,7 @@ fn projection_of(alloc: Global, value: Option<RawBson<'_>>) -> Result<Document, 
 ///
 /// Returns `Projection` if it isn't a document or a name is repeated in it, and otherwise the fault
 /// of the first field that isn't carried out: `Projected`, or where fields are included and others
-/// excluded, `Inclusion` or `Exclusion`.
+/// excluded, `Inclusion` or `Exclusion`. Returns `OutOfMemory` if memory runs out.
 pub fn projection_field(alloc: Global, body: RawDocument<'_>) -> Result<Document, Failure>
     ensures ok { (t : Tree) → Spells t (document_bytes body.entry)
         → IfOk result (λ d. projection_field t ≡ Ok (tree_of d)) }

@@ -98,7 +98,7 @@ fn keys_of(alloc: Global, value: Option<RawBson<'_>>) -> Result<Document, Failur
 /// # Errors
 ///
 /// Returns `Sort` if it isn't a document or a name is repeated in it, and otherwise `Direction` if
-/// a field of it isn't a key with a direction.
+/// a field of it isn't a key with a direction. Returns `OutOfMemory` if memory runs out.
 pub fn sort_field(alloc: Global, body: RawDocument<'_>) -> Result<Document, Failure>
     ensures ok { (t : Tree) → Spells t (document_bytes body.entry)
         → IfOk result (λ d. sort_field t ≡ Ok (tree_of d)) }

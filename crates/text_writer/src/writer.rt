@@ -103,8 +103,9 @@ impl<W: Write> TextWriter<W> {
         }
     }
 
-    /// Writes the waiting bytes, if all writes before succeeded. Returns the writer, and its error
-    /// if it failed.
+    /// Writes the waiting bytes if `written`, which says whether all parts were written, is Ok.
+    /// Returns the writer, and Ok or the error of this write; or where `written` is an error, the
+    /// kept one, or one of the kind `Other` if none is kept.
     pub fn finish(mut self, written: Result<(), Failed>) -> (W, io::Result<()>)
         ensures whole { OnOk result.1 (written ≡ Ok tt) }
         ensures bytes { OnOk result.1

@@ -52,7 +52,7 @@ Hears limit held (EndsDown ∷ acts) hs = Hears limit held acts hs
 -- ---- what comes of it
 
 -- What follows from what a client heard: the outstanding calls; the replies so far, each with its
--- message; and, if a message belonged to no call, the cause for which that closes the client.
+-- message; and, if a message closes the client, the cause.
 pub record Hearing : Type 0 where
   pub table : Table
   pub replies : List (ReadyReply × Message)
@@ -62,7 +62,7 @@ pub record Hearing : Type 0 where
 abbrev pub silence : Hearing
 silence = record { table = []; replies = []; cause = None }
 
--- what follows after a message that is a reply to this call, or that belongs to none
+-- what follows after a message that is a reply to this call, or that closes the client
 abbrev pub replied : Hearing → Message → Result (ℤ × Outstanding) ClientCause → Hearing
 replied h m (Ok o) = record {
   table = after_reply h.table o m.id m.flags.more_to_come;
@@ -83,7 +83,7 @@ abbrev pub hear_all : Hearing → List Heard → Hearing
 hear_all h [] = h
 hear_all h (x ∷ xs) = hear_all (hear h x) xs
 
--- nothing is heard after a message that belongs to no call
+-- nothing is heard after a message that closes the client
 abbrev pub IsLastHeard : Hearing → List Heard → Type 0
 IsLastHeard h heard =
     (before after : List Heard) → heard ≡ before ++ after → (hear_all h before).cause ≢ None
@@ -128,8 +128,8 @@ NoneBehind (r ∷ rs) = (r.0.last ≡ true → NoneTo r.0.call rs) × NoneBehind
 
 -- The state of a client after what it took. If no message closed it, it is open, and the rest may
 -- still become a message; or it was told the end, between two messages or inside one, by whether
--- there is a rest; or the rest is bad, and closed it. Or a message that belongs to no call closed
--- it.
+-- there is a rest; or the rest is bad, and closed it. Or a message closed it that belongs to no
+-- call, or announces more replies than its call allows.
 abbrev pub ClosesBy : ℕ → List ℕ → Option ClientCause → ClientState → Type 0
 ClosesBy limit rest None Open = IsOpen limit rest
 ClosesBy limit rest None (Closed causes.Ended) = rest ≡ []
@@ -146,9 +146,11 @@ IsOver state = (state ≡ Closed causes.Ended) ⊎ (state ≡ Closed causes.Ende
 
 -- What a client received splits into messages and a rest, in exactly one way. The replies that it
 -- handed out, and then the one that is ready, are these messages in order, each once, each to the
--- call that owns it, and none after a call's last one. The record of a call has the contents of the
--- replies that were handed out to it, and is done exactly if the last one was. The first message
--- that is bad or belongs to no call closes the client, with that cause, and is the last one.
+-- call that owns it, and none after a call's last one; only a message that closes the client is no
+-- reply. The record of a call has the contents of the replies that were handed out to it, and is
+-- done exactly if the last one was. The first message that is bad, that belongs to no call, or that
+-- announces more replies than its call allows closes the client, with that cause, and is the last
+-- one.
 pub record HoldsAlone (limit : ℕ) (acts : List ClientAct) (new : ClientEnd) : Type 0 where
   pub heard : List Heard
   pub hears : Hears limit [] acts heard

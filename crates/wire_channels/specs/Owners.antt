@@ -128,6 +128,7 @@ abbrev pub server_at : List ServerView → ℕ → Option ServerView
 server_at ss zero = None
 server_at ss (suc i) = slice_get ss i
 
+-- the servers, with this one for the connection of this number
 abbrev pub server_set : List ServerView → ℕ → ServerView → List ServerView
 server_set ss zero s = ss
 server_set ss (suc i) s = slice_set ss i s

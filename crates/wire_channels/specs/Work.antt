@@ -90,7 +90,7 @@ module _ (H : Type 0) (does : Does H) (stops : Stops H) (limit : ℕ) where
       ∥ ((s' : System H) × (step : Step H does stops limit s s') × IsWork c s s' step) ∥₁
       ⊎ MayAnswer s p
 
--- both ends are open, neither way is cut, and the server has room for a request
+-- both ends are open, neither way is cut, and the server's window is at least 1
 pub record IsLive (p : Pair) : Type 0 where
   pub client_open : p.client.state ≡ clients.Open
   pub server_open : p.server.state ≡ servers.Open

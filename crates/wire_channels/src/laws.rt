@@ -141,10 +141,12 @@ pub fn servers_may_come<H: Handler>()
 /// bytes.
 ///
 /// What it received splits into messages and a rest, in exactly one way. The replies that it handed
-/// out are these messages in order, each once, each to the call that owns it, and none after a
-/// call's last one. The record of a call has the contents of the replies to it, and is done exactly
-/// if it got the last one. The first message that is bad or belongs to no call closes the client,
-/// with that cause, and is the last one.
+/// out, and the one that is ready, are these messages in order, each once, each to the call that
+/// owns it, and none after a call's last one; only a message that closes the client is no reply.
+/// The record of a call has the contents of the replies that were handed out to it, and is done
+/// exactly if the last one was. The first message that is bad, that belongs to no call, or that
+/// announces more replies than its call allows closes the client, with that cause, and is the last
+/// one.
 pub fn a_client_holds_alone()
     ensures { (c limit window : ℕ) (first_id : ℤ) (acts : List ClientAct) (new : ClientEnd)
         → IsBytes (bytes_taken acts)
@@ -152,8 +154,8 @@ pub fn a_client_holds_alone()
         → HoldsAlone limit acts new }
 {}
 
-/// Proves that if both ends of a pair are open and neither way is cut, there is something to do
-/// until the pair is quiet: a step that sends bytes, feeds an end or collects a reply, or a request
+/// Proves that if both ends of a pair are open, neither way is cut and the server's window is at
+/// least 1, there is something to do until the pair is quiet: a step that sends bytes, feeds an end or collects a reply, or a request
 /// to answer.
 pub fn pairs_go_on<H: Handler>()
     ensures { (limit : ℕ) (first : H) (s : System H) (c : ℕ) (p : Pair)

@@ -10,9 +10,9 @@
 //! and of pairs beside strangers, and `specs/Work.antt` what there is to do at a pair until it is
 //! quiet.
 //!
-//! Uses wire_model, and the code of wire_peer and wire_stream. Used by wire_end. Read first:
-//! `specs/Channels.antt` and `specs/Seen.antt`, then `specs/Owners.antt`, `specs/Deeds.antt` and
-//! `specs/Knowing.antt`, and then `laws`.
+//! Uses wire_model, and the code of wire_peer and wire_stream. Used by wire_end,
+//! wire_hall_laws, wire_share and pair. Read first: `specs/Channels.antt` and `specs/Seen.antt`, then
+//! `specs/Owners.antt`, `specs/Deeds.antt` and `specs/Knowing.antt`, and then `laws`.
 #![tactic(auto)]
 
 pub mod laws;

@@ -70,8 +70,8 @@ RequestComes ends (Err (faults.Closed cause)) bytes old new =
 
 -- ---- while it is waited for
 
--- At each of these calls of `recv` nothing had been sent since then, and the bytes that were held,
--- with those that had been received since then, were open.
+-- At each of these calls of `recv` nothing had been sent since the wait began, and the bytes that
+-- were held then, with those that had been received since, were open.
 abbrev pub AreBetween : ℕ → (received sent : Option (List ℕ)) → (held : List ℕ) → List Turn → Type 0
 AreBetween limit received sent held [] = Unit {0}
 AreBetween limit received sent held (t ∷ ts) =

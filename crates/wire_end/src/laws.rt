@@ -26,8 +26,9 @@ pub fn ends_go_on<L: Link>()
 /// Proves what holds of a client that is kept at an end, whoever answers it, with any bytes.
 ///
 /// What it took of those that came over its link splits into messages and a rest, in exactly one
-/// way. The replies that the end handed out are these messages in order, each once, each to the
-/// call that owns it, and none after a call's last one; and the records have their contents.
+/// way. The replies that the end handed out, and the one that is ready, are these messages in order,
+/// each once, each to the call that owns it, and none after a call's last one; only a message that
+/// closes the client is no reply. The records have the contents of those that were handed out.
 pub fn an_end_holds_alone<L: Link>()
     ensures { (connection limit window : ℕ) (first_id : ℤ) (link : L) (acts : List ClientAct)
         (new : EndSeen L)
@@ -89,8 +90,9 @@ pub fn programs_know<L: Link, H: Handler>()
 {}
 
 /// Proves the headline of one client and one server, each kept at an end over a link of its own.
-/// Where the acts of both can be put into one order in which bytes arrive in order, the records of
-/// the client's end keep the headline, over the log of the server's handler. So each call that is
+/// Where the log is empty at first, and the acts of both can be put into one order in which bytes
+/// arrive in order, the records of the client's end keep the headline, over the log of the server's
+/// handler. So each call that is
 /// done has an entry of its own, with its payload, and holds exactly the answers of that.
 pub fn one_pair_knows<L: Link, H: Handler>()
     ensures { (limit : ℕ) (made : Made) (near far : L) (acts : List ClientAct)

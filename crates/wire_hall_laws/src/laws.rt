@@ -26,8 +26,8 @@ pub fn halls_own_servers<L: Link, H: Handler>()
 ///
 /// Strangers are connections whose client ends may be anything. Where the acts of the other clients
 /// can be put among what the hall did with its servers, in one order in which bytes arrive in
-/// order, the records of these clients keep the headline, over the hall's log without the entries
-/// of strangers.
+/// order, the records of these clients keep the headline, over the entries that the hall forgot and
+/// then those that it has, without those of strangers.
 pub fn clients_know<L: Link, H: Handler>()
     ensures { (made : ℕ → Made) (first : H) (acts : List (HallAct L)) (hall : HallSeen H L)
         (owned : OwnsServers H.does H.stops (tells L.received L.sent L.ends L.waits L.failures)

@@ -92,7 +92,7 @@ checked_in p id healthy = take_back p id healthy (loan_of id p.lent)
 abbrev pub cleared_pool : PoolSeen → PoolSeen
 cleared_pool p = record p { idle = []; lent = map cleared p.lent }
 
--- the idle connections are dropped, and none is lent any more
+-- the idle connections are dropped, and none is lent from now on; those that are lent stay lent
 abbrev pub closed_pool : PoolSeen → PoolSeen
 closed_pool p = record p { idle = []; closed = true }
 

@@ -15,6 +15,7 @@ use Rattle.wire_record.specs.Causes.{record_fault}
 abbrev pub signature : List ℕ
 signature = codes "LUGHREC1"
 
+-- the number by which a record has its direction
 abbrev pub direction_number : Direction → ℕ
 direction_number ToServer = 0
 direction_number FromServer = 1

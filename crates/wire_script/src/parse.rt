@@ -82,9 +82,9 @@ fn script_event(
 ///
 /// # Errors
 ///
-/// Returns `Malformed` if the line names nothing, and `OutOfMemory` if memory runs out. Only a
-/// line with a document or bytes takes memory; if there is none for it, the line may still be one
-/// that names nothing.
+/// Returns `Malformed` if the line names nothing, and `OutOfMemory` if memory runs out. Only a line
+/// that has the keyword of a call or of raw bytes, a number and one more word takes memory; if there
+/// is none for it, the line may still be one that names nothing.
 pub fn parse_line(alloc: Global, line: &[u8]) -> Result<Line, LineError>
     ensures named { IfOk result (λ read. IsLine line.now read) }
     ensures nothing { result ≡ Err LineError.Malformed → (named : Named) → Names line.now named

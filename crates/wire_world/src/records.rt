@@ -18,7 +18,7 @@ pub enum CallState {
     Pending,
     /// It has all its parts.
     Done,
-    /// It is unacknowledged, and was sent.
+    /// It is unacknowledged, and its request was put out. It may not have been sent yet.
     Sent,
     /// Its client was closed while it was pending.
     Lost,
