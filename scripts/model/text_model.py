@@ -433,14 +433,15 @@ def bool_json(flag):
     return "true" if flag else "false"
 
 
-def message_json(b, relaxed):
-    """Returns the object of an OP_MSG, or else that of the header's four numbers."""
+def message_json(b, relaxed, start=0):
+    """Returns the object of an OP_MSG, or else that of the header's four numbers, with the fault of an OP_MSG at its offset in the input."""
     front_part = f'{{"messageLength":{len(b)},"requestID":{number(b, 4)},"responseTo":{number(b, 8)}'
-    try:
-        refuse(2, 12, number(b, 12) != 2013)
-        flags, body, sequences = message(b)
-    except BadMessage:
+    if number(b, 12) != 2013:
         return f'{front_part},"opCode":{number(b, 12)}}}'.encode()
+    try:
+        flags, body, sequences = message(b)
+    except BadMessage as fault:
+        return f'{front_part},"opCode":2013,"fault":"fault {fault.line(start)}"}}'.encode()
     front_part += f',"moreToCome":{bool_json(flags & 1 << 1)},"exhaustAllowed":{bool_json(flags & 1 << 16)},"body":'
     lists = [b'{"identifier":%s,"documents":[%s]}' % (json_string(name).encode(), b",".join(document_json(found, relaxed) for _, found in documents))
              for name, documents in sequences]
@@ -455,7 +456,7 @@ def one_record(command, b, flags=(), start=0):
     length = HEAD.size + len(record.message)
     if command == "json":
         head = f'{{"time":{record.micros},"connection":{record.connection},"direction":"{record.sign}","message":'
-        return length, head.encode() + message_json(record.message, "--relaxed" in flags) + b"}"
+        return length, head.encode() + message_json(record.message, "--relaxed" in flags, start + HEAD.size) + b"}"
     head = f"record {record.micros} {record.connection} {record.sign}\n"
     return length, head.encode() + one_frame(command, record.message, flags, start + HEAD.size)[1]
 

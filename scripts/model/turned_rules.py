@@ -300,8 +300,10 @@ TEXTS = [
     ("the last gap ends with the input", "if found_at(b, to)[0]), len(b))", "if found_at(b, to)[0]), len(b) + 1)"),
     ("a length above the limit is no document's", "number(b, at) > SALVAGED", "number(b, at) > 2**31"),
     ("canon writes no gaps", 'if command == "check" else b""', 'if command else b""'),
-    ("a fault in a record's message counts from the file's start", "flags, start + HEAD.size)", "flags, HEAD.size)"),
-    ("an object of no OP_MSG has its opcode", "refuse(2, 12, number(b, 12) != 2013)\n        flags", "flags"),
+    ("a fault in a record's message counts from the file's start", "record.message, flags, start + HEAD.size)", "record.message, flags, HEAD.size)"),
+    ("one in the object of a record's message counts so, too", '"--relaxed" in flags, start + HEAD.size)', '"--relaxed" in flags, HEAD.size)'),
+    ("an object of no OP_MSG has its opcode", "if number(b, 12) != 2013:\n        return", "if False:\n        return"),
+    ("an object of an OP_MSG at fault has its fault", ',"fault":"fault {fault.line(start)}"', ""),
     ("items of an array of records begin with a comma but the first", 'b",\\n" if text else', 'b",\\n" if at else'),
     ("a gap has status 1", "at, status = to, 1", "at, status = to, 0"),
 ]
