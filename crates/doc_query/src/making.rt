@@ -1,15 +1,17 @@
 //! Makes values, and sets the fields of documents.
 
-ghost use Rattle.std.specs.Prelude.{◌≡◌, ◌<◌, ◌^◌, OnOk, OnSome, string_bytes};
+ghost use Rattle.std.specs.Prelude.{◌≡◌, ◌<◌, ◌^◌, IfNone, OnErr, OnOk, OnSome, string_bytes};
 ghost use Rattle.bson_doc.specs.{put, value_of};
 ghost use Rattle.doc_query.specs.Values.{count_value};
 
 use bson_doc::{Bson, Document};
 use std::alloc::{AllocError, Global};
 
-/// Sets the field with this name of a document.
+/// Sets the field with this name of a document. `None` if memory runs out.
 fn put_field(document: &mut Document, name: String, value: Bson) -> Option<()>
-    ensures { OnSome result (document.new ≡ put (string_bytes name) (value_of value) document.old) }
+    ensures put { OnSome result
+        (document.new ≡ put (string_bytes name) (value_of value) document.old) }
+    ensures unchanged { IfNone result (document.new ≡ document.old) }
 {
     document.insert(name, value).ok()?;
     Some(())
@@ -19,14 +21,15 @@ fn put_field(document: &mut Document, name: String, value: Bson) -> Option<()>
 ///
 /// # Errors
 ///
-/// Returns `AllocError` if memory runs out.
+/// Returns `AllocError` if memory runs out. Nothing changes then.
 pub fn set(
     alloc: Global,
     document: &mut Document,
     name: &str,
     value: Bson,
 ) -> Result<(), AllocError>
-    ensures { OnOk result (document.new ≡ put name.now (value_of value) document.old) }
+    ensures put { OnOk result (document.new ≡ put name.now (value_of value) document.old) }
+    ensures unchanged { OnErr result (document.new ≡ document.old) }
 {
     let name = String::from_str(alloc, name)?;
     put_field(document, name, value).ok_or(AllocError)

@@ -68,7 +68,8 @@ fn push_array(alloc: Global, array: RawArray<'_>, documents: &mut Vec<Bson>) -> 
 ///
 /// # Errors
 ///
-/// Returns `Documents` if a name is repeated in one of them. Some may have been appended then.
+/// Returns `Documents` if a name is repeated in one of them, and `OutOfMemory` if memory runs out.
+/// Some may have been appended then.
 pub fn push_sequence(
     alloc: Global,
     sequence: Documents<'_>,

@@ -12,7 +12,7 @@ use Rattle.wire_model.specs.Machines.{empty}
 use Rattle.wire_model.specs.Machines as machine
 use Rattle.wire_model.specs.Shown.{is_raw, raws}
 use Rattle.wire_model.proofs.Lemmas.{Agrees, agrees_opening, headline_of, ok_empty, ok_steps, quiet_of, raw_steps, steps_then}
-use Rattle.wire_channels.specs.Channels.{Pair, Step, Steps, System, Trace, Way, client_sent, collected, given_up, issued, no_pairs, pair_at, paired, new_pair, server_ended, server_sent, with_pair}
+use Rattle.wire_channels.specs.Channels.{Pair, System, Trace, Way, client_sent, collected, given_up, issued, no_pairs, pair_at, paired, new_pair, server_ended, server_sent, with_pair}
 use Rattle.wire_channels.specs.Channels as channels
 use Rattle.wire_channels.specs.Knowing.{Owned}
 use Rattle.wire_channels.specs.Seen.{Agree, Channelled, IsQuietPair, seen_as, world_of}

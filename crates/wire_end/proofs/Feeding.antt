@@ -64,6 +64,18 @@ holds_more old new piece n live some t may = by t.settles
         let is_open' : new.state ≡ Open = may.1 in
         absurd cc
 
+-- a client that still takes bytes holds those that it took behind what it held
+holds_them : (old new : ClientSeen) (piece : List ℕ) (n : ℕ) → old.state ≡ Open → Takes old piece n new → MayTake new
+    → new.held ≡ old.held ++ take n piece
+holds_them old new piece n live t may = by t.settles
+  where
+    by : Settles (holding old (old.held ++ take n piece)) new → new.held ≡ old.held ++ take n piece
+    by (is_open o e) = ap (λ (k : ClientSeen). k.held) e
+    by (is_message m s w e) =
+        absurd (taken_up (holding old (old.held ++ take n piece)) m
+        (allowed m.flags.more_to_come (owner old.requests.outstanding m.response_to)) (subst MayTake e may) live)
+    by (is_bad f b e) = ap (λ (k : ClientSeen). k.held) e
+
 -- the bytes that it took are a piece of their own
 pub fed_of : (old new : ClientSeen) (piece : List ℕ) (n : ℕ) → MayTake old → piece ≢ [] → IsBytes piece
     → Takes old piece n new → IsFed old piece new (drop n piece)
@@ -73,6 +85,7 @@ fed_of old new piece n may some are t = record {
   parts = sym (take-append-drop n piece);
   are_bytes = IsBytes-take n piece are;
   more = holds_more old new piece n may.1 some t;
+  held = holds_them old new piece n may.1 t;
 }
 
 -- ---- how much of a message may still come

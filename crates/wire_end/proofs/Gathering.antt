@@ -25,7 +25,8 @@ use Rattle.wire_end.specs.declared.next.NextRequest.{NextRequest}
 use Rattle.wire_end.specs.declared.next.NextRequest.TheVariants.{Waits}
 use Rattle.wire_end.specs.declared.next.RequestFault.{RequestFault}
 use Rattle.wire_end.specs.declared.next.RequestFault.TheVariants as faults
-use Rattle.wire_end.specs.NextRequests.{AreBetween, Closes, HasGoodHeader, RequestComes, StillHolds, TakesMore}
+use Rattle.wire_end.specs.NextRequests.{Closes, HasGoodHeader, RequestComes, StillHolds, TakesMore}
+use Rattle.wire_end.specs.Turns.{AreBetween}
 use Rattle.wire_end.specs.ServerEnds.{ServerEndMoves, ServerEndSeen, parts}
 use Rattle.wire_end.specs.ServerFeeds.{IsFedAs}
 use Rattle.wire_end.proofs.ServerFeeds.{holding_on}

@@ -6,7 +6,7 @@ use Rattle.wire_msg.specs.{AreSpelled, Message}
 use Rattle.wire_msg.proofs.Lemmas.{open_ends}
 use Rattle.wire_peer.specs.{LogEntry}
 use Rattle.wire_stream.specs.{Turn}
-use Rattle.wire_end.specs.NextRequests.{AreBetween}
+use Rattle.wire_end.specs.Turns.{AreBetween}
 use Rattle.wire_end.specs.Serving.{AllSent, AreInTurn}
 
 -- those before a point, and those behind it

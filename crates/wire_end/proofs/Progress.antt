@@ -9,7 +9,8 @@ use Rattle.wire_stream.proofs.Lemmas.{AddsTurns-nil, AddsTurns-trans}
 use Rattle.wire_peer.specs.{Does, LogEntry, LogStep, RunOf, Stops, asked_by, written}
 use Rattle.wire_peer.proofs.Lemmas.{run_push}
 use Rattle.wire_end.specs.Answering.{AnswersAs, CountsLater, GotEntry}
-use Rattle.wire_end.specs.NextRequests.{AreBetween, HasGoodHeader}
+use Rattle.wire_end.specs.NextRequests.{HasGoodHeader}
+use Rattle.wire_end.specs.Turns.{AreBetween}
 use Rattle.wire_end.specs.Serving.{AllSent, AreAnswered, AreInTurn, AreOf, EndsAs, LastSent, Seen, Served, WantedMemory, id_behind, last_id, replies_to, requests_of, serve_out}
 use Rattle.wire_end.specs.declared.serving.ServeEnd.{ServeEnd}
 use Rattle.wire_end.specs.declared.serving.ServeEnd.TheVariants as end

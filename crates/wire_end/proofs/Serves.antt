@@ -13,7 +13,8 @@ use Rattle.wire_peer.specs.declared.server_state.ServerCause.TheVariants as caus
 use Rattle.wire_peer.specs.declared.server_state.ServerState.TheVariants.{Closed, Open}
 use Rattle.wire_channels.specs.{ServerAct, bytes_taken_up}
 use Rattle.wire_end.specs.Answering.{AnswersAs, CountsLater, StandsAfter, WaitsAlone, end_by, end_with}
-use Rattle.wire_end.specs.NextRequests.{AreBetween, Closes, HasGoodHeader, RequestComes, RequestFails, RequestLater}
+use Rattle.wire_end.specs.NextRequests.{Closes, HasGoodHeader, RequestComes, RequestFails, RequestLater}
+use Rattle.wire_end.specs.Turns.{AreBetween}
 use Rattle.wire_end.specs.ServerEnds.{ServerEndMoves, ServerEndRuns, ServerEndSeen}
 use Rattle.wire_end.specs.Serving.{AllSent, EndsAs, IsUnused, Seen, Served, seen}
 use Rattle.wire_end.specs.declared.next.NextRequest.TheVariants.{Full, Later, Waits}

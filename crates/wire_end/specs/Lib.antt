@@ -4,6 +4,7 @@ pub mod Steps
 pub mod ServerEnds
 pub mod ServerFeeds
 pub mod NextRequests
+pub mod Turns
 pub mod OnePair
 pub mod Serving
 pub mod Answering

@@ -1,14 +1,13 @@
 -- The next request of a server's end.
-use Rattle.std.specs.Prelude.{◌≡◌, ℕ, ◌<◌, ◌≤◌, ◌⊎◌, Option, List, [], ◌∷◌, ◌++◌, length, Result}
+use Rattle.std.specs.Prelude.{◌≡◌, ℕ, ◌<◌, ◌≤◌, ◌⊎◌, List, [], ◌∷◌, ◌++◌, length, Result}
 use Rattle.std.specs.Prelude.{Ok, Err}
-use Rattle.std.specs.Io.KnownBytes.{Appends, Keeps}
 use Rattle.bson_elem.specs.{IsBytes}
 use Rattle.wire_msg.specs.{IsBad, IsGoodHeader, IsMessage, IsOpen, header_of}
 use Rattle.wire_peer.specs.{ServerView, end_cause}
 use Rattle.wire_peer.specs.declared.server_state.ServerCause.{ServerCause}
 use Rattle.wire_peer.specs.declared.server_state.ServerCause.TheVariants.{Message}
 use Rattle.wire_peer.specs.declared.server_state.ServerState.TheVariants.{Closed, Open}
-use Rattle.wire_stream.specs.{Rose, Turn}
+use Rattle.wire_stream.specs.{Rose}
 use Rattle.wire_end.specs.declared.next.NextRequest.{NextRequest}
 use Rattle.wire_end.specs.declared.next.NextRequest.TheVariants.{Full, Later, Waits}
 use Rattle.wire_end.specs.declared.next.RequestFault.{RequestFault}
@@ -67,17 +66,6 @@ RequestComes ends (Err faults.OutOfMemory) bytes old new =
 RequestComes ends (Err (faults.Closed cause)) bytes old new =
     ((old.server.state ≡ Closed cause) × (new ≡ old))
     ⊎ (TakesMore old.server × Closes ends cause bytes old new)
-
--- ---- while it is waited for
-
--- At each of these calls of `recv` nothing had been sent since the wait began, and the bytes that
--- were held then, with those that had been received since, were open.
-abbrev pub AreBetween : ℕ → (received sent : Option (List ℕ)) → (held : List ℕ) → List Turn → Type 0
-AreBetween limit received sent held [] = Unit {0}
-AreBetween limit received sent held (t ∷ ts) =
-    Keeps sent t.sent
-    × ((more : List ℕ) × Appends received t.received more × IsOpen limit (held ++ more))
-    × AreBetween limit received sent held ts
 
 -- the count of waits rose if no more bytes come now, and otherwise stayed the same
 abbrev pub RequestLater : Result NextRequest RequestFault → ℕ → ℕ → Type 0

@@ -1,6 +1,7 @@
 -- The steps that an end is made of.
 use Rattle.std.specs.Prelude.{◌≡◌, ℕ, ◌+◌, ◌<◌, Option, None, Some, List, []}
 use Rattle.std.specs.Prelude.{◌∷◌, ◌++◌, length, map, Result, Ok, Err}
+use Rattle.std.specs.Io.KnownBytes.{Appends}
 use Rattle.bson_elem.specs.{IsBytes}
 use Rattle.wire_msg.specs.{Message}
 use Rattle.wire_model.specs.{ClientTakes}
@@ -26,6 +27,13 @@ abbrev pub HoldsMore : ClientSeen → ClientSeen → Type 0
 HoldsMore old new = MayTake new → (length old.held < length new.held)
     × (length new.held < 16 + new.requests.limit) × (new.requests.limit ≡ old.requests.limit)
 
+-- The bytes that the end holds, of a message and behind it, are those that it held, and what came.
+pub record Grows {L : Type 0} (received : L → Option (List ℕ)) (old new : EndSeen L) : Type 0 where
+  pub came : List ℕ
+  pub receives : Appends (received old.link) (received new.link) came
+  pub held : new.own.client.held ++ new.inlet ≡ (old.own.client.held ++ old.inlet) ++ came
+  pub limit : new.own.client.requests.limit ≡ old.own.client.requests.limit
+
 -- the client took the first of the bytes that were there
 pub record IsFed (old : ClientSeen) (there : List ℕ) (new : ClientSeen) (left : List ℕ) :
     Type 0 where
@@ -34,6 +42,7 @@ pub record IsFed (old : ClientSeen) (there : List ℕ) (new : ClientSeen) (left 
   pub parts : there ≡ bytes ++ left
   pub are_bytes : IsBytes bytes
   pub more : HoldsMore old new
+  pub held : MayTake new → new.held ≡ old.held ++ bytes
 
 -- the reply that was ready is handed out, or none was
 abbrev pub CollectsAs : {L : Type 0} → (sent received : L → Option (List ℕ)) → Option ReadyReply

@@ -1,19 +1,21 @@
 //! A client's end: a client, its link, and the records of its calls.
 
-ghost use Rattle.std.specs.Prelude.{◌≡◌, ◌≢◌, ◌∷◌, [], ℕ, List, Ok, IfErr, IfOk, OnErr, OnOk};
+ghost use Rattle.std.specs.Prelude.{◌≡◌, ◌≢◌, ◌∷◌, ◌++◌, [], ℕ, List, Ok, IfErr, IfOk, OnErr, OnOk};
 ghost use Rattle.std.specs.Prelude.{Some, false, length, option_map, slice_get, true};
 ghost use Rattle.std.specs.Io.KnownBytes.{Keeps};
 ghost use Rattle.wire_channels.specs.Owners.{Calls, ClientAct, EndsDown, SendsUp};
 ghost use Rattle.wire_end.specs.Ends.{EndRuns, FailsAs, HandsOut, IsWaiting, NextEnds, NextLater};
 ghost use Rattle.wire_end.specs.Ends.{StandsAs, new_end};
 ghost use Rattle.wire_end.specs.Records.{record_of};
-ghost use Rattle.wire_end.specs.Steps.{ClosesNothing, CollectsAs, Hears, HoldsMore, StepEnds};
-ghost use Rattle.wire_end.specs.Steps.{StepLater};
+ghost use Rattle.wire_end.specs.Steps.{ClosesNothing, CollectsAs, Grows, Hears, HoldsMore};
+ghost use Rattle.wire_end.specs.Steps.{StepEnds, StepLater};
+ghost use Rattle.wire_end.specs.Turns.{AreBetween};
+ghost use Rattle.wire_msg.specs.{IsOpen};
 ghost use Rattle.wire_peer.specs.{IsCallRefusal, MayTake, content_of};
 ghost use Rattle.wire_peer.specs.declared.calls.CallKind.TheVariants.{Exhaust, Plain};
 ghost use Rattle.wire_peer.specs.declared.calls.CallKind.TheVariants.{Unacknowledged};
 ghost use Rattle.wire_peer.specs.declared.client_state.ClientState.TheVariants.{Closed};
-ghost use Rattle.wire_stream.specs.{AddsTurns, FlushesLater, Rose};
+ghost use Rattle.wire_stream.specs.{AddsTurns, FlushesLater, Rose, Turn};
 
 use crate::call_record::CallRecord;
 use crate::next::{EndFault, Next};
@@ -191,6 +193,10 @@ impl<L: Link + Drop> ClientEnd<L> {
         ensures handed { (acts : List ClientAct)
             × EndRuns L.sent L.received self.old acts self.new × HandsOut result acts }
         ensures stands { StandsAs result self.new }
+        ensures turns { (ts : List Turn)
+            × AddsTurns (L.turns self.old.link) (L.turns self.new.link) ts
+            × AreBetween self.old.own.client.requests.limit (L.received self.old.link)
+            (L.sent self.old.link) (self.old.own.client.held ++ self.old.inlet) ts }
         ensures ends { NextEnds L.ends result self.old self.new }
         ensures later { NextLater result (L.waits self.old.link) (L.waits self.new.link) }
         ensures fails { FailsAs result (L.failures self.old.link) (L.failures self.new.link) }
@@ -215,6 +221,10 @@ impl<L: Link + Drop> ClientEnd<L> {
         ensures ended { result ≡ Ok Pulled.End → IsWaiting self.new }
         ensures waits { result ≡ Ok Pulled.Later → IsWaiting self.new }
         ensures closes { IfErr result (λ e. ClosesNothing e) }
+        ensures turns { (ts : List Turn)
+            × AddsTurns (L.turns self.old.link) (L.turns self.new.link) ts
+            × AreBetween self.old.own.client.requests.limit (L.received self.old.link)
+            (L.sent self.old.link) (self.old.own.client.held ++ self.old.inlet) ts }
         ensures ends { StepEnds result (L.ends self.old.link) (L.ends self.new.link) }
         ensures later { StepLater result (L.waits self.old.link) (L.waits self.new.link) }
         ensures fails { FailsAs result (L.failures self.old.link) (L.failures self.new.link) }
@@ -233,6 +243,8 @@ impl<L: Link + Drop> ClientEnd<L> {
     fn is_receiving(&self) -> bool
         ensures takes { result ≡ true → MayTake self.now.own.client }
         ensures not { result ≡ false → MayTake self.now.own.client → ⊥ }
+        ensures open { result ≡ true
+            → IsOpen self.now.own.client.requests.limit self.now.own.client.held }
     {
         self.client.reply().is_none() && self.client.state() == ClientState::Open
     }
@@ -246,6 +258,14 @@ impl<L: Link + Drop> ClientEnd<L> {
         ensures closes { IfErr result (λ e. ClosesNothing e) }
         ensures more { result ≡ Ok Pulled.Bytes
             → HoldsMore self.old.own.client self.new.own.client }
+        ensures grows { result ≡ Ok Pulled.Bytes → MayTake self.new.own.client
+            → Grows L.received self.old self.new }
+        ensures sent { Keeps (L.sent self.old.link) (L.sent self.new.link) }
+        ensures stays { self.old.inlet ≢ []
+            → L.turns self.new.link ≡ L.turns self.old.link }
+        ensures turn { self.old.inlet ≡ []
+            → AddsTurns (L.turns self.old.link) (L.turns self.new.link)
+            (record { received = L.received self.old.link; sent = L.sent self.old.link } ∷ []) }
         ensures ends { StepEnds result (L.ends self.old.link) (L.ends self.new.link) }
         ensures later { StepLater result (L.waits self.old.link) (L.waits self.new.link) }
         ensures fails { FailsAs result (L.failures self.old.link) (L.failures self.new.link) }
@@ -256,10 +276,10 @@ impl<L: Link + Drop> ClientEnd<L> {
             Ok(Pulled::Later) => return Ok(Pulled::Later),
             Err(fault) => return Err(EndFault::Link(fault)),
         }
-        match feed(&mut self.client, &mut self.inlet) {
-            Ok(()) => Ok(Pulled::Bytes),
-            Err(_) => Err(EndFault::OutOfMemory),
-        }
+        let Ok(()) = feed(&mut self.client, &mut self.inlet) else {
+            return Err(EndFault::OutOfMemory);
+        };
+        Ok(Pulled::Bytes)
     }
 
     /// Adds a copy of the reply that is ready to the record of its call, and lets go of it. `None`

@@ -8,10 +8,11 @@ ghost use Rattle.wire_model.specs.{ended_server};
 ghost use Rattle.wire_peer.specs.declared.server_state.ServerState.TheVariants.{Closed};
 ghost use Rattle.wire_channels.specs.{ServerAct, bytes_taken_up};
 ghost use Rattle.wire_stream.specs.{AddsTurns, CompletesHeader, Turn};
-ghost use Rattle.wire_end.specs.NextRequests.{AreBetween, RequestComes, RequestFails, RequestLater};
+ghost use Rattle.wire_end.specs.NextRequests.{RequestComes, RequestFails, RequestLater};
 ghost use Rattle.wire_end.specs.NextRequests.{TakesMore};
 ghost use Rattle.wire_end.specs.ServerEnds.{ServerEndMoves, parts};
 ghost use Rattle.wire_end.specs.ServerFeeds.{IsFedAs, standing};
+ghost use Rattle.wire_end.specs.Turns.{AreBetween};
 
 use crate::next::{NextRequest, RequestFault};
 use wire_peer::{Server, ServerCause, ServerState};

@@ -9,8 +9,9 @@ ghost use Rattle.wire_peer.specs.declared.server_state.ServerState.TheVariants.{
 ghost use Rattle.wire_channels.specs.{ServerAct, bytes_taken_up};
 ghost use Rattle.wire_channels.specs.Owners.{Answers, EndsUp, SendsDown};
 ghost use Rattle.wire_stream.specs.{AddsTurns, FlushesLater, Rose, Turn};
-ghost use Rattle.wire_end.specs.NextRequests.{AreBetween, RequestComes, RequestFails, RequestLater};
+ghost use Rattle.wire_end.specs.NextRequests.{RequestComes, RequestFails, RequestLater};
 ghost use Rattle.wire_end.specs.ServerEnds.{ServerEndMoves, ServerEndRuns, new_server_end};
+ghost use Rattle.wire_end.specs.Turns.{AreBetween};
 
 use crate::next::{NextRequest, RequestFault};
 use crate::requesting::{end, receive_request};

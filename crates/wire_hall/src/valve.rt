@@ -1,9 +1,9 @@
 //! A link whose sending is cut short or swallowed.
 
 ghost use Rattle.std.specs.Prelude.{◌≡◌, ◌≢◌, ◌≤◌, ◌<◌, ◌-◌, ◌⊎◌, None, IfErr, IfOk, OnErr, OnOk};
-ghost use Rattle.std.specs.Prelude.{length, min};
-ghost use Rattle.std.specs.Io.KnownBytes.{Keeps};
-ghost use Rattle.wire_stream.specs.{Rose, TellsLater, bytes_moved};
+ghost use Rattle.std.specs.Prelude.{length, min, take};
+ghost use Rattle.std.specs.Io.KnownBytes.{Appends, Keeps};
+ghost use Rattle.wire_stream.specs.{Rose, TellsEnd, TellsLater, bytes_moved};
 ghost use Rattle.wire_hall.specs.Valves.{GoOver, Passes, count_moved};
 
 use std::io::ErrorKind;
@@ -36,7 +36,10 @@ pub trait Gated: Link {
     fn set_gate(&mut self, to: Gate)
         ensures gate { gate self.new ≡ to }
         ensures received { Keeps (Self.received self.old) (Self.received self.new) }
-        ensures sent { Keeps (Self.sent self.old) (Self.sent self.new) };
+        ensures sent { Keeps (Self.sent self.old) (Self.sent self.new) }
+        ensures ends { Self.ends self.new ≡ Self.ends self.old }
+        ensures waits { Self.waits self.new ≡ Self.waits self.old }
+        ensures works { Self.failures self.new ≡ Self.failures self.old };
 }
 
 /// A gate before a link. As a `Link` it shows the bytes that came over the link inside, and none
@@ -54,6 +57,7 @@ impl<L: Link + Drop> Valve<L> {
     pub fn new(link: L) -> Valve<L>
         ensures link { result.link ≡ link }
         ensures gate { result.gate ≡ Gate.Open }
+        ensures failures { result.failures ≡ 0 }
     {
         Valve {
             link,
@@ -176,7 +180,21 @@ impl<L: Link + Drop> Link for Valve<L> {
 
     ghost waits = { λ v. L.waits v.link };
 
-    fn recv(&mut self, buffer: &mut [u8]) -> Result<Moved, LinkFault> {
+    fn recv(&mut self, buffer: &mut [u8]) -> Result<Moved, LinkFault>
+        ensures within { IfOk result (λ moved. bytes_moved moved ≤ length buffer.old) }
+        ensures received { IfOk result (λ moved. Appends (L.received self.old.link)
+            (L.received self.new.link) (take (bytes_moved moved) buffer.new)) }
+        ensures none_received { OnErr result
+            (Keeps (L.received self.old.link) (L.received self.new.link)) }
+        ensures inside { Keeps (L.sent self.old.link) (L.sent self.new.link) }
+        ensures gate { self.new.gate ≡ self.old.gate }
+        ensures end { TellsEnd (length buffer.old) result
+            (L.ends self.old.link) (L.ends self.new.link) }
+        ensures later { TellsLater result (L.waits self.old.link) (L.waits self.new.link) }
+        ensures never { IfErr result (λ fault. fault.kind ≢ ErrorKind.WouldBlock) }
+        ensures works { OnOk result (self.new.failures ≡ self.old.failures) }
+        ensures fails { OnErr result (Rose self.old.failures self.new.failures) }
+    {
         if let Gate::Cut(_) = self.gate {
             return Err(self.fault());
         }
@@ -197,7 +215,11 @@ impl<L: Link + Drop> Gated for Valve<L> {
         self.gate
     }
 
-    fn set_gate(&mut self, to: Gate) {
+    fn set_gate(&mut self, to: Gate)
+        ensures gate { self.new.gate ≡ to }
+        ensures link { self.new.link ≡ self.old.link }
+        ensures works { self.new.failures ≡ self.old.failures }
+    {
         self.gate = to;
     }
 }

@@ -18,7 +18,7 @@ pub enum ClientCause {
     /// A call has had a part, and a message answers neither its request nor that part.
     #[error("a message breaks a stream of replies")]
     StreamBroken,
-    /// No more bytes come, and the last ones ended a message.
+    /// No more bytes come, and they ended between messages.
     #[error("the bytes ended")]
     Ended,
     /// No more bytes come, and the last ones ended inside a message.

@@ -78,6 +78,7 @@ impl<H> Logged<H> {
     pub fn new(alloc: Global, handler: H) -> Logged<H>
         ensures handler { result.handler ≡ handler }
         ensures empty { log_of result.entries.items ≡ [] }
+        ensures room { vec_capacity result.entries ≡ 0 }
     {
         Logged {
             handler,

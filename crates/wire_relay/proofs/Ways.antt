@@ -44,12 +44,12 @@ module _ {F T : Type 0} (f : Tells F) (t : Tells T) where
 -- The link took the first n of the bytes that are held.
 pub has_sent : {T : Type 0} (t : Tells T) (piece : List ℕ) (start end n : ℕ) (stage : Stage) (to to' : T) (bytes : List ℕ) → bytes ≡ take (end - start) (drop start piece)
     → bytes ≢ [] → n ≤ length bytes → (0 < length bytes → Bytes n ≢ Bytes 0) → Keeps (t.received to) (t.received to') → Appends (t.sent to) (t.sent to') (take n bytes)
-    → t.failures to' ≡ t.failures to
+    → t.ends to' ≡ t.ends to → t.waits to' ≡ t.waits to → t.failures to' ≡ t.failures to
     → Sends t (Ok Again) (view_of piece start end stage) (view_of piece (start + n) end stage) to to'
-has_sent t piece start end n stage to to' bytes is held within some keeps sent works = (
+has_sent t piece start end n stage to to' bytes is held within some keeps sent ends waits works = (
   take n bytes,
   some_first n bytes within (λ there none. some there (ap Bytes none)) held,
   rw is (sent_part piece start end n (rw is at within)),
   refl,
-  record { received = Appends-kept (t.received to) (t.received to) (t.received to') [] (Appends-nil (t.received to)) keeps; sent = sent; works = works },
+  record { received = Appends-kept (t.received to) (t.received to) (t.received to') [] (Appends-nil (t.received to)) keeps; sent = sent; ends = ends; waits = waits; works = works },
 )

@@ -49,6 +49,14 @@ pub record GoesOver {L : Type 0} (t : Tells L) (came went : List ℕ) (old new :
   pub sent : Appends (t.sent old) (t.sent new) went
   pub works : t.failures new ≡ t.failures old
 
+-- these bytes came over the link, or went: it told no end, and each of its calls moved some
+pub record MovesOver {L : Type 0} (t : Tells L) (came went : List ℕ) (old new : L) : Type 0 where
+  pub received : Appends (t.received old) (t.received new) came
+  pub sent : Appends (t.sent old) (t.sent new) went
+  pub ends : t.ends new ≡ t.ends old
+  pub waits : t.waits new ≡ t.waits old
+  pub works : t.failures new ≡ t.failures old
+
 -- no byte came over the link or went, and this count rose
 abbrev pub IsCounted : {L : Type 0} → Tells L → (L → ℕ) → (old new : L) → Type 0
 IsCounted t count old new = Rose (count old) (count new) × GoesOver t [] [] old new
@@ -98,10 +106,10 @@ abbrev pub WayMoves : {F T : Type 0} → Tells F → Tells T → WayAct → (old
     → (from from' : F) → (to to' : T) → Type 0
 WayMoves f t (Comes bytes) old new from from' to to' =
     (old.stage ≡ Open) × (old.held ≡ []) × (bytes ≢ []) × (new ≡ record old { held = bytes })
-    × GoesOver f bytes [] from from' × (to' ≡ to)
+    × MovesOver f bytes [] from from' × (to' ≡ to)
 WayMoves f t (Goes bytes) old new from from' to to' =
     (bytes ≢ []) × (old.held ≡ bytes ++ new.held) × (new.stage ≡ old.stage)
-    × GoesOver t [] bytes to to' × (from' ≡ from)
+    × MovesOver t [] bytes to to' × (from' ≡ from)
 WayMoves f t Ends old new from from' to to' =
     (old.stage ≡ Open) × (old.held ≡ []) × (new ≡ record old { stage = Ending })
     × IsCounted f f.ends from from' × (to' ≡ to)

@@ -6,7 +6,7 @@ use Rattle.wire_relay.specs.declared.turned.RelayFault.TheVariants.{Receiving, S
 use Rattle.wire_relay.specs.declared.turned.Turned.{Turned}
 use Rattle.wire_relay.specs.declared.turned.Turned.TheVariants as turns
 use Rattle.wire_relay.specs.declared.way.Stage.TheVariants.{Ending, Ended}
-use Rattle.wire_relay.specs.Acts.{Fails, GoesOver, HasFailed, IsCounted, Tells, Waits, WayAct}
+use Rattle.wire_relay.specs.Acts.{Fails, HasFailed, IsCounted, MovesOver, Tells, Waits, WayAct}
 use Rattle.wire_relay.specs.Acts.{WayMoves, WayView, came, done}
 
 -- Some of what is held goes over the link, or it can move no byte now, or it fails.
@@ -14,7 +14,7 @@ abbrev pub Sends : {T : Type 0} → Tells T → Result Turned RelayFault → (ol
     → (to to' : T) → Type 0
 Sends t (Ok turns.Again) old new to to' =
     (bytes : List ℕ) × (bytes ≢ []) × (old.held ≡ bytes ++ new.held) × (new.stage ≡ old.stage)
-    × GoesOver t [] bytes to to'
+    × MovesOver t [] bytes to to'
 Sends t (Ok turns.Waits) old new to to' = (new ≡ old) × IsCounted t t.waits to to'
 Sends t (Err (Sending fault)) old new to to' = (new ≡ old) × HasFailed t to to'
 Sends t result old new to to' = ⊥
@@ -24,7 +24,7 @@ Sends t result old new to to' = ⊥
 abbrev pub Receives : {F : Type 0} → Tells F → Result Turned RelayFault → (old new : WayView)
     → (from from' : F) → (seen seen' : Option (List ℕ)) → Type 0
 Receives f (Ok turns.Again) old new from from' seen seen' =
-    ((new.held ≢ []) × (new ≡ record old { held = new.held }) × GoesOver f new.held [] from from'
+    ((new.held ≢ []) × (new ≡ record old { held = new.held }) × MovesOver f new.held [] from from'
     × Appends seen seen' new.held)
     ⊎ ((new ≡ record old { stage = Ending }) × IsCounted f f.ends from from' × (seen' ≡ seen))
 Receives f (Ok turns.Waits) old new from from' seen seen' =

@@ -3,7 +3,7 @@
 ghost use Rattle.std.specs.Prelude.{List, None, Option, ℕ};
 ghost use Rattle.std.specs.Io.KnownBytes.{Appends};
 
-/// Sees the bytes that come on one way of a relay, in order, before they are sent on.
+/// Sees the bytes that come on one way of a relay, in order.
 pub trait Tap {
     // The bytes that it saw, if it tells them.
     ghost seen: { Self → Option (List ℕ) };

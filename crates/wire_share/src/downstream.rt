@@ -198,14 +198,15 @@ impl Downstream {
     }
 
     /// Passes the request that waits on as a call of `upstream`, whose reply is awaited from now
-    /// on. A request that wants no reply goes as an unacknowledged call, and waits no more.
+    /// on. A request that wants no reply goes as an unacknowledged call, and waits no more; where
+    /// memory runs out for its answer, which isn't sent, the downstream is closed.
     ///
     /// # Errors
     ///
     /// Returns `NothingWaits` if no request waits, the one that does was passed on, bytes are yet to
     /// be sent or the downstream is closed, and else `Call` if the upstream refuses the call.
     /// Nothing changes then. Returns `OutOfMemory` if a request that wants no reply was passed on,
-    /// and memory ran out for letting go of it.
+    /// and still waits, since memory ran out before it was let go of.
     pub fn pass_on(&mut self, upstream: &mut Upstream) -> Result<(), PassRefusal>
         ensures { PassStep result self.old upstream.old self.new upstream.new }
     {

@@ -1,7 +1,8 @@
 //! On which connections to the server the cursors and transactions of clients live.
 
 ghost use Rattle.std.specs.Ordering.{int_eq};
-ghost use Rattle.std.specs.Prelude.{◌≡◌, ℤ, [], MatchOption, None, OnErr, OnOk, Option, Some};
+ghost use Rattle.std.specs.Prelude.{◌≡◌, ◌≢◌, ℤ, [], MatchOption, None, OnErr, OnOk, Option, Some};
+ghost use Rattle.std.specs.Prelude.{pos};
 ghost use Rattle.bson_elem.specs.{Spells, Tree};
 ghost use Rattle.bson_raw.specs.{ShowsFound, TreeValue, array_bytes, document_bytes};
 ghost use Rattle.wire_share.specs.Needs.{command_name, ended_by, id_of, more_of, opened_by};
@@ -19,8 +20,8 @@ use std::alloc::{AllocError, Global};
 use std::marker::Model;
 
 /// The cursors that are open, by their ids, and the transactions that began, by their sessions,
-/// each with the number of its upstream. At most 65,536 of each are kept, the newest ones.
-/// Contracts see the record `RoutesSeen`.
+/// each with the number of its upstream. At most 65,536 of each are kept: where one more is noted,
+/// the one that was noted first is forgotten. Contracts see the record `RoutesSeen`.
 #[derive(Drop)]
 pub struct Routes {
     cursors: RouteTable<i64>,
@@ -147,7 +148,7 @@ impl Routes {
         ensures noted { (t : Tree) → Spells t (document_bytes request.entry)
             → OnOk result (self.new ≡ with_cursors self.old
             (after_cursor told t upstream self.old.cursors)) }
-        ensures room { OnErr result ((id : ℤ) × (told ≡ Some id)
+        ensures room { OnErr result ((id : ℤ) × (told ≡ Some id) × (id ≢ pos 0)
             × (self.new ≡ with_cursors self.old (made_room int_eq id self.old.cursors))) }
     {
         match told {
@@ -178,7 +179,7 @@ impl Routes {
             → OnOk result (self.new ≡ after_reply asked told upstream self.old) }
         ensures room { (asked told : Tree) → Spells asked (document_bytes request.entry)
             → Spells told (document_bytes reply.entry)
-            → OnErr result ((id : ℤ) × (opened_by told ≡ Some id)
+            → OnErr result ((id : ℤ) × (opened_by told ≡ Some id) × (id ≢ pos 0)
             × (self.new ≡ without_cursor asked id self.old)) }
     {
         self.forget_cursors(request);

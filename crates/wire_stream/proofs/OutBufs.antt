@@ -6,10 +6,10 @@ use Rattle.wire_msg.specs.Messages.{Content}
 use Rattle.wire_msg.specs.Spelling.{canonical}
 
 -- bytes that grew or stayed the same are at least as long as they were
-pub start_stays : {A E : Type 0} (r : Result A E) (old new added : List ℕ) (start : ℕ)
-    → start ≤ length old → OnOk r (new ≡ old ++ added) → OnErr r (new ≡ old) → start ≤ length new
-start_stays (Ok x) old new added start le grown kept = omega (arith, ap length grown, length-append old added)
-start_stays (Err e) old new added start le grown kept = omega (arith, ap length kept)
+pub length_stays : {A E : Type 0} (r : Result A E) (old new added : List ℕ) → OnOk r (new ≡ old ++ added) → OnErr r (new ≡ old)
+    → length old ≤ length new
+length_stays (Ok x) old new added grown kept = omega (arith, ap length grown, length-append old added)
+length_stays (Err e) old new added grown kept = omega (arith, ap length kept)
 
 -- what is appended to all the bytes is appended to those that weren't sent
 pub added_behind : {A E : Type 0} (r : Result A E) (old new added same : List ℕ) (start : ℕ)

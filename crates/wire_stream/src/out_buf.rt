@@ -1,7 +1,7 @@
 //! Holds messages until they are sent.
 
 ghost use Rattle.std.specs.Prelude.{◌≡◌, ◌≤◌, ◌++◌, [], IfErr, List, OnErr, OnOk, drop, length};
-ghost use Rattle.std.specs.Prelude.{refl, take, ℕ};
+ghost use Rattle.std.specs.Prelude.{refl, take, vec_capacity, vec_len, ℕ};
 ghost use Rattle.wire_msg.specs.{Carries, Content, IsWriteRefusal, Message, canonical, message_len};
 
 use crate::outlet::Outlet;
@@ -24,13 +24,17 @@ pub struct OutBuf {
 }
 
 impl Model for OutBuf {
-    ghost use Rattle.std.specs.Prelude.{List, ℕ, ◌≤◌, drop, length};
+    ghost use Rattle.std.specs.Prelude.{List, ℕ, ◌≤◌, ◌+◌, ◌-◌, drop, length};
 
     ghost Value = { List ℕ };
 
     ghost view = { λ s. drop s.start s.bytes.items };
 
-    ghost invariant = { λ s. s.start ≤ length s.bytes.items };
+    // At most 4,096 more bytes that were sent are kept than wait.
+    ghost invariant = { λ s. record {
+      within : s.start ≤ length s.bytes.items;
+      kept : s.start ≤ 4096 + (length s.bytes.items - s.start);
+    } };
 }
 
 impl OutBuf {
@@ -89,11 +93,16 @@ impl OutBuf {
         requires { n ≤ length self.old }
         ensures { self.new ≡ drop n self.old }
     {
-        self.start += n;
-        if self.start == self.bytes.len() {
-            self.empty();
-        } else if self.start >= KEPT && self.start >= self.bytes.len() - self.start {
-            self.close_up();
+        let start = self.start + n;
+        let len = self.bytes.len();
+        if start == len {
+            empty(&mut self.bytes);
+            self.start = 0;
+        } else if start >= KEPT && start >= len - start {
+            remove_front(&mut self.bytes, start);
+            self.start = 0;
+        } else {
+            self.start = start;
         }
     }
 
@@ -103,31 +112,34 @@ impl OutBuf {
         ensures { self.new ≡ take n self.old }
     {
         self.bytes.truncate(self.start + n);
-    }
-
-    /// Drops the bytes, all of which were sent, and gives the room back if there is much.
-    fn empty(&mut self)
-        requires { self.old ≡ [] }
-        ensures { self.new ≡ [] }
-    {
-        if self.bytes.capacity() > ROOM {
-            let alloc = *self.bytes.allocator();
-            self.bytes = Vec::new(alloc);
-        } else {
-            self.bytes.clear();
+        if self.start >= KEPT && self.start >= n {
+            remove_front(&mut self.bytes, self.start);
+            self.start = 0;
         }
-        self.start = 0;
     }
+}
 
-    /// Moves the waiting bytes to the front.
-    fn close_up(&mut self)
-        ensures { self.new ≡ self.old }
-    {
-        let left = self.bytes.len() - self.start;
-        self.bytes.as_mut_slice().copy_within(self.start.., 0);
-        self.bytes.truncate(left);
-        self.start = 0;
+/// Drops the bytes, and gives the room back if there is much.
+fn empty(bytes: &mut Vec<u8>)
+    ensures empty { bytes.new.items ≡ [] }
+    ensures room { vec_capacity bytes.new ≤ 65536 }
+{
+    if bytes.capacity() > ROOM {
+        let alloc = *bytes.allocator();
+        *bytes = Vec::new(alloc);
+    } else {
+        bytes.clear();
     }
+}
+
+/// Drops the first `count` bytes, and moves the others to the front.
+fn remove_front(bytes: &mut Vec<u8>, count: usize)
+    requires { count ≤ vec_len bytes.old }
+    ensures { bytes.new.items ≡ drop count bytes.old.items }
+{
+    let len = bytes.len();
+    bytes.as_mut_slice().copy_within(count..len, 0);
+    bytes.truncate(len - count);
 }
 
 impl Outlet for OutBuf {

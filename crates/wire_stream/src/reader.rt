@@ -17,8 +17,9 @@ use wire_msg::{HEADER_LEN, MsgHeader, RawMsg};
 /// Reads messages of at most `limit` bytes, one at a time, from bytes that come in pieces.
 ///
 /// The bytes of a header are held without taking memory. Once a good header is there, memory is
-/// taken for all bytes that it announces, one time for each message. Contracts see the limit, and
-/// the bytes of the current message so far.
+/// taken for all bytes that it announces, one time for each message, and once these are there for a
+/// list of the names in the body, while they are checked. Contracts see the limit, and the bytes of
+/// the current message so far.
 #[derive(Drop)]
 pub struct MsgReader {
     alloc: Global,
@@ -186,7 +187,8 @@ impl MsgReader {
         Some(MsgBuf::from_spelled(message))
     }
 
-    /// Returns whether the bytes, if no more come, end between messages or inside one.
+    /// Returns whether the bytes, if no more come, end inside a message. Behind one that is ready, or
+    /// at fault, they don't.
     pub fn end(&self) -> ReadEnd
         ensures inside { IsOpen self.now.limit self.now.held → self.now.held ≢ []
             → result ≡ ReadEnd.EndedInside }

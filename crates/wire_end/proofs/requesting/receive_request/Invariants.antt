@@ -1,7 +1,7 @@
 use Rattle.std.proofs.Common.{◌≡◌, ◌++◌, ◌+◌, ◌-◌, List, length}
 use Rattle.std.specs.Io.KnownBytes.{Keeps}
 use Rattle.wire_stream.specs.{AddsTurns, Turn}
-use Rattle.wire_end.specs.NextRequests.{AreBetween}
+use Rattle.wire_end.specs.Turns.{AreBetween}
 use Rattle.wire_end.specs.ServerEnds.{parts}
 use Rattle.wire_end.proofs.Gathering.{Gathers}
 use Rattle.wire_end.proofs.requesting.receive_request.Given as goal
