@@ -1,4 +1,4 @@
-//! What is wrong with an input. It is told by the last line of the text.
+//! What is wrong with an input, and the line that tells it.
 
 ghost use Rattle.std.specs.Prelude.{OnOk};
 ghost use Rattle.std.specs.Io.KnownBytes.{Appends};

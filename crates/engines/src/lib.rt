@@ -9,11 +9,12 @@
 //! piece, and at the end, and tells how that ended. Documents, messages or records stand back to
 //! back in the input, as bytes or as hexadecimal text; the input of `run_bson` is Extended JSON,
 //! and that of `run_play` a script of events. A fault in the input is told by the last line of the
-//! text, and by `run_bson` in what it returns. `run_loop` reads nothing: it makes calls over a
-//! connection of the program with itself.
+//! text, and by `run_bson` in what it returns. `salvage_check` and `salvage_canon` go on behind a
+//! fault; the one tells each, at its gap, and the other none. `run_loop` reads nothing: it makes
+//! calls over a connection of the program with itself.
 //!
 //! Stands on bson_json_read, bson_stream, wire_frame, wire_record, wire_stream, wire_end and
-//! wire_play. bsonwire stands on it. Read first: `walk`, `pieces`, `documents`, and then `dump`.
+//! wire_play. bsonwire and proxy stand on it. Read first: `walk`, `pieces`, `documents`, and then `dump`.
 #![tactic(auto)]
 
 mod any;

@@ -55,7 +55,8 @@ impl Engine for Play {
 /// Plays the script in the input: writes what each of its events comes to, and then the calls and
 /// the log, or up to a line at fault, which is told by the last line.
 ///
-/// Where memory runs out in an event, the line of that refusal is the last one written.
+/// Where memory runs out in an event, the line of that refusal is the last one written, and where it
+/// runs out for a line of the script, that of the event before.
 pub fn run_play<R: Read, W: Write>(alloc: Global, reader: &mut R, writer: &mut W) -> RunEnd
     ensures read { is_done result ≡ true → IsAtEnd (R.remaining reader.new) }
     ensures written { IfSome (R.remaining reader.old) (λ script. is_done result ≡ true →

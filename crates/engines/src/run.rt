@@ -138,8 +138,8 @@ fn write_through<E: Engine, W: Write>(writer: W, job: Job<'_, E>) -> (W, RunEnd)
     finish(out, written)
 }
 
-/// Passes on what is left in the buffer. Returns the inner writer, and how a run ended of which the
-/// writing ended as `written`.
+/// Passes on what is left in the buffer, unless the writer failed. Returns the inner writer, and how
+/// a run ended of which the writing ended as `written`.
 fn finish<W: Write>(mut out: Buffered<W>, written: Result<bool, RunEnd>) -> (W, RunEnd)
     requires cut { IfErr written (λ end. is_done end ≡ false) }
     requires read { written ≢ Err RunEnd.Unread }
@@ -150,7 +150,13 @@ fn finish<W: Write>(mut out: Buffered<W>, written: Result<bool, RunEnd>) -> (W, 
     ensures unread { result.1 ≢ RunEnd.Unread }
 {
     let end = match written {
-        Err(end) => end,
+        Err(end) => {
+            if end == RunEnd::OutOfMemory {
+                // What was written before stays.
+                out.flush().ok();
+            }
+            end
+        }
         Ok(is_fault) => match out.flush() {
             Err(_) => RunEnd::InOut,
             Ok(()) if is_fault => RunEnd::Fault,

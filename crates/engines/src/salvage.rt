@@ -205,24 +205,16 @@ fn pass_through<E: EachDocument, W: Write>(
     let mut out = Buffered::new(writer, text);
     let written = feed_parts(salvage, &mut salvager, piece, ended, fault, &mut out);
     let (writer, text) = out.into_parts();
-    match written {
-        Ok(PartsWritten { fault, whole }) => {
-            let after = Between {
-                salvager,
-                fault,
-                text,
-            };
-            (writer, (after, Ok(whole)))
-        }
-        Err(error) => {
-            let after = Between {
-                salvager,
-                fault,
-                text,
-            };
-            (writer, (after, Err(error)))
-        }
-    }
+    let (fault, whole) = match written {
+        Ok(PartsWritten { fault, whole }) => (fault, Ok(whole)),
+        Err(error) => (fault, Err(error)),
+    };
+    let after = Between {
+        salvager,
+        fault,
+        text,
+    };
+    (writer, (after, whole))
 }
 
 /// Writes the texts of the parts that `piece` decides, behind the text that waits for the writer.

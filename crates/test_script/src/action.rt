@@ -10,7 +10,7 @@ use bson_doc::Document;
 pub enum Action {
     /// The answer is this document.
     Reply(Document),
-    /// The answer is held for this many milliseconds.
+    /// A server holds the reply for this many milliseconds, and a proxy the request.
     Delay(u64),
     /// The connection is closed without an answer.
     HangUp,

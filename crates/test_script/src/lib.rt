@@ -1,4 +1,5 @@
-//! Scripts of a test server: rules that say what is done with requests that they are for.
+//! Scripts of a test server and of a proxy: rules that say what is done with requests that they are
+//! for.
 //!
 //! A script is text, one rule a line. `Script::parse` reads one, or tells the line at fault and
 //! why. Each request meets the first live rule that it is for, and that rule has one use fewer

@@ -6,11 +6,11 @@ ghost use Rattle.test_script.specs.Lines.{IsCoded, IsError, IsOneNumber, IsReply
 ghost use Rattle.test_script.specs.Written.{AreTwoWords, IsNothing, IsOneWord};
 
 use crate::token::cut_word;
-use crate::written::{Unread, quoted, read_document};
+use crate::written::{quoted, read_document};
 use bson_doc::Document;
 use std::alloc::Global;
 use test_store::error_answer;
-use wire_script::{number, number_i32};
+use wire_script::{LineError, number, number_i32};
 
 /// Returns true if nothing but spaces is left.
 pub(crate) fn is_nothing(text: &[u8]) -> bool
@@ -47,14 +47,14 @@ pub(crate) fn one_number(operands: &[u8]) -> Option<u64>
 }
 
 /// Returns the document that is left.
-pub(crate) fn reply(alloc: Global, operands: &[u8]) -> Result<Document, Unread>
+pub(crate) fn reply(alloc: Global, operands: &[u8]) -> Result<Document, LineError>
     ensures is { IfOk result (λ d. IsReply operands.now d) }
-    ensures none { result ≡ Err Unread.NoDocument → (d : List (List ℕ × TreeValue))
+    ensures none { result ≡ Err LineError.Malformed → (d : List (List ℕ × TreeValue))
         → IsReply operands.now d → ⊥ }
 {
     match one_word(operands) {
         Some(word) => read_document(alloc, word),
-        None => Err(Unread::NoDocument),
+        None => Err(LineError::Malformed),
     }
 }
 
@@ -70,16 +70,16 @@ fn code_and_name(operands: &[u8]) -> Option<(i32, &str)>
 }
 
 /// Returns the answer of an error whose number and name are left.
-pub(crate) fn error(alloc: Global, operands: &[u8]) -> Result<Document, Unread>
+pub(crate) fn error(alloc: Global, operands: &[u8]) -> Result<Document, LineError>
     ensures is { IfOk result (λ d. IsError operands.now d) }
-    ensures none { result ≡ Err Unread.NoDocument → (d : List (List ℕ × TreeValue))
+    ensures none { result ≡ Err LineError.Malformed → (d : List (List ℕ × TreeValue))
         → IsError operands.now d → ⊥ }
 {
     let Some((code, name)) = code_and_name(operands) else {
-        return Err(Unread::NoDocument);
+        return Err(LineError::Malformed);
     };
     match error_answer(alloc, name, code, name) {
         Ok(answer) => Ok(answer),
-        Err(_) => Err(Unread::OutOfMemory),
+        Err(_) => Err(LineError::OutOfMemory),
     }
 }

@@ -13,13 +13,13 @@ use crate::operands::{error, is_nothing, one_number, reply};
 use crate::parts::{cut_filter, cut_times, read_command, read_filter, read_times};
 use crate::rule::Rule;
 use crate::token::cut_word;
-use crate::written::Unread;
 use std::alloc::Global;
+use wire_script::LineError;
 
 /// Reads the operands of an action.
-fn action_of(alloc: Global, keyword: Keyword, operands: &[u8]) -> Result<Action, Unread>
+fn action_of(alloc: Global, keyword: Keyword, operands: &[u8]) -> Result<Action, LineError>
     ensures is { IfOk result (λ action. IsActionOf keyword operands.now action) }
-    ensures none { result ≡ Err Unread.NoDocument → (action : Done)
+    ensures none { result ≡ Err LineError.Malformed → (action : Done)
         → IsActionOf keyword operands.now action → ⊥ }
 {
     match keyword {
@@ -33,33 +33,33 @@ fn action_of(alloc: Global, keyword: Keyword, operands: &[u8]) -> Result<Action,
         },
         Keyword::Delay => match one_number(operands) {
             Some(millis) => Ok(Action::Delay(millis)),
-            None => Err(Unread::NoDocument),
+            None => Err(LineError::Malformed),
         },
         Keyword::Cut => match one_number(operands) {
             Some(count) => Ok(Action::Cut(count)),
-            None => Err(Unread::NoDocument),
+            None => Err(LineError::Malformed),
         },
         Keyword::CutUp => match one_number(operands) {
             Some(count) => Ok(Action::CutUp(count)),
-            None => Err(Unread::NoDocument),
+            None => Err(LineError::Malformed),
         },
         Keyword::HangUp if is_nothing(operands) => Ok(Action::HangUp),
         Keyword::NoReply if is_nothing(operands) => Ok(Action::NoReply),
         Keyword::Pass if is_nothing(operands) => Ok(Action::Pass),
-        _ => Err(Unread::NoDocument),
+        _ => Err(LineError::Malformed),
     }
 }
 
 /// Reads an action by its word.
-fn known_action(alloc: Global, text: &[u8]) -> Result<Action, Unread>
+fn known_action(alloc: Global, text: &[u8]) -> Result<Action, LineError>
     ensures is { IfOk result (λ action. IsAction text.now action) }
-    ensures none { result ≡ Err Unread.NoDocument → (action : Done) → IsAction text.now action
+    ensures none { result ≡ Err LineError.Malformed → (action : Done) → IsAction text.now action
         → ⊥ }
 {
     let (word, operands) = cut_word(text);
     match read_keyword(word) {
         Some(keyword) => action_of(alloc, keyword, operands),
-        None => Err(Unread::NoDocument),
+        None => Err(LineError::Malformed),
     }
 }
 
@@ -74,8 +74,8 @@ fn read_action(alloc: Global, text: &[u8]) -> Result<Action, Cause>
 {
     match known_action(alloc, text) {
         Ok(action) => Ok(action),
-        Err(Unread::NoDocument) => Err(Cause::Action),
-        Err(Unread::OutOfMemory) => Err(Cause::OutOfMemory),
+        Err(LineError::Malformed) => Err(Cause::Action),
+        Err(LineError::OutOfMemory) => Err(Cause::OutOfMemory),
     }
 }
 

@@ -8,11 +8,11 @@ ghost use Rattle.test_script.specs.Lines.{behind_filter, behind_times, filter_at
 use crate::fault::Cause;
 use crate::keyword::is_no_filter;
 use crate::token::cut_word;
-use crate::written::{Unread, read_document};
+use crate::written::read_document;
 use bson_doc::Document;
 use doc_query::applicable;
 use std::alloc::{AllocError, Global};
-use wire_script::number;
+use wire_script::{LineError, number};
 
 /// Cuts off the filter, if there is one. Returns it, and what stands behind it.
 pub(crate) fn cut_filter(text: &[u8]) -> (Option<&[u8]>, &[u8])
@@ -56,8 +56,8 @@ pub(crate) fn read_filter(alloc: Global, word: Option<&[u8]>) -> Result<Document
     };
     let filter = match read_document(alloc, word) {
         Ok(filter) => filter,
-        Err(Unread::NoDocument) => return Err(Cause::Filter),
-        Err(Unread::OutOfMemory) => return Err(Cause::OutOfMemory),
+        Err(LineError::Malformed) => return Err(Cause::Filter),
+        Err(LineError::OutOfMemory) => return Err(Cause::OutOfMemory),
     };
     match applicable(&filter) {
         Ok(()) => Ok(filter),

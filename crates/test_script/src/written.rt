@@ -3,7 +3,6 @@
 ghost use Rattle.std.specs.Prelude.{◌≡◌, ℕ, Err, IfNone, IfOk, IfSome, List, Ok, false, true};
 ghost use Rattle.bson_raw.specs.{TreeValue};
 ghost use Rattle.bson_json_read.specs.{document_in};
-ghost use Rattle.wire_script.specs.{IsHex};
 ghost use Rattle.test_script.specs.Written.{IsDocument, IsDocumentAs, IsQuoted, IsSpelledBy};
 
 use crate::token::begins_object;
@@ -11,77 +10,56 @@ use bson_doc::Document;
 use bson_json_read::from_json;
 use bson_raw::RawDocument;
 use doc_query::{Failure, owned_body};
-use hex::FromHexError;
 use std::alloc::Global;
-
-/// Why a word is no document.
-#[derive(Clone, Copy, Debug, PartialEq, Eq)]
-pub(crate) enum Unread {
-    /// It spells none.
-    NoDocument,
-    /// The allocator refused memory.
-    OutOfMemory,
-}
+use wire_script::{LineError, bytes_of};
 
 /// Returns the document that the text is as Extended JSON.
-fn read_json(alloc: Global, text: &str) -> Result<Document, Unread>
+fn read_json(alloc: Global, text: &str) -> Result<Document, LineError>
     ensures is { IfOk result (λ d. document_in text.now ≡ Ok d) }
-    ensures none { result ≡ Err Unread.NoDocument → (d : List (List ℕ × TreeValue))
+    ensures none { result ≡ Err LineError.Malformed → (d : List (List ℕ × TreeValue))
         → document_in text.now ≡ Ok d → ⊥ }
 {
     match from_json(alloc, text) {
         Ok(document) => Ok(document),
         Err(fault) => match fault.cause {
-            bson_json_read::Cause::OutOfMemory => Err(Unread::OutOfMemory),
-            _ => Err(Unread::NoDocument),
+            bson_json_read::Cause::OutOfMemory => Err(LineError::OutOfMemory),
+            _ => Err(LineError::Malformed),
         },
     }
 }
 
 /// Returns the document that the word is as Extended JSON.
-fn json_document(alloc: Global, word: &[u8]) -> Result<Document, Unread>
+fn json_document(alloc: Global, word: &[u8]) -> Result<Document, LineError>
     ensures is { IfOk result (λ d. IsDocumentAs true word.now d) }
-    ensures none { result ≡ Err Unread.NoDocument → (d : List (List ℕ × TreeValue))
+    ensures none { result ≡ Err LineError.Malformed → (d : List (List ℕ × TreeValue))
         → IsDocumentAs true word.now d → ⊥ }
 {
     match str::from_utf8(word) {
         Ok(text) => read_json(alloc, text),
-        Err(_) => Err(Unread::NoDocument),
-    }
-}
-
-/// Returns the bytes that the word spells.
-fn bytes_of(alloc: Global, word: &[u8]) -> Result<Vec<u8>, Unread>
-    ensures is { IfOk result (λ v. IsHex word.now v.items) }
-    ensures none { result ≡ Err Unread.NoDocument → (bytes : List ℕ) → IsHex word.now bytes → ⊥ }
-{
-    match hex::decode(alloc, word) {
-        Ok(bytes) => Ok(bytes),
-        Err(FromHexError::OutOfMemory) => Err(Unread::OutOfMemory),
-        Err(_) => Err(Unread::NoDocument),
+        Err(_) => Err(LineError::Malformed),
     }
 }
 
 /// Returns the document that the bytes spell, if no name is repeated in it.
-fn document_of(alloc: Global, bytes: &[u8]) -> Result<Document, Unread>
+fn document_of(alloc: Global, bytes: &[u8]) -> Result<Document, LineError>
     ensures is { IfOk result (λ d. IsSpelledBy bytes.now d) }
-    ensures none { result ≡ Err Unread.NoDocument → (d : List (List ℕ × TreeValue))
+    ensures none { result ≡ Err LineError.Malformed → (d : List (List ℕ × TreeValue))
         → IsSpelledBy bytes.now d → ⊥ }
 {
     let Ok(raw) = RawDocument::from_bytes(bytes) else {
-        return Err(Unread::NoDocument);
+        return Err(LineError::Malformed);
     };
     match owned_body(alloc, raw) {
         Ok(document) => Ok(document),
-        Err(Failure::OutOfMemory) => Err(Unread::OutOfMemory),
-        Err(Failure::Refused(_)) => Err(Unread::NoDocument),
+        Err(Failure::OutOfMemory) => Err(LineError::OutOfMemory),
+        Err(Failure::Refused(_)) => Err(LineError::Malformed),
     }
 }
 
 /// Returns the document that the word is as hexadecimal text.
-fn hex_document(alloc: Global, word: &[u8]) -> Result<Document, Unread>
+fn hex_document(alloc: Global, word: &[u8]) -> Result<Document, LineError>
     ensures is { IfOk result (λ d. IsDocumentAs false word.now d) }
-    ensures none { result ≡ Err Unread.NoDocument → (d : List (List ℕ × TreeValue))
+    ensures none { result ≡ Err LineError.Malformed → (d : List (List ℕ × TreeValue))
         → IsDocumentAs false word.now d → ⊥ }
 {
     let bytes = bytes_of(alloc, word)?;
@@ -90,9 +68,9 @@ fn hex_document(alloc: Global, word: &[u8]) -> Result<Document, Unread>
 
 /// Returns the document that the word is: as Extended JSON if it begins with a brace, and else as
 /// hexadecimal text.
-pub(crate) fn read_document(alloc: Global, word: &[u8]) -> Result<Document, Unread>
+pub(crate) fn read_document(alloc: Global, word: &[u8]) -> Result<Document, LineError>
     ensures is { IfOk result (λ d. IsDocument word.now d) }
-    ensures none { result ≡ Err Unread.NoDocument → (d : List (List ℕ × TreeValue))
+    ensures none { result ≡ Err LineError.Malformed → (d : List (List ℕ × TreeValue))
         → IsDocument word.now d → ⊥ }
 {
     if begins_object(word) {

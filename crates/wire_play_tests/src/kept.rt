@@ -100,11 +100,16 @@ pub fn is_played(text: &[u8]) -> Option<bool> {
     }
 }
 
+/// Returns true if the text is some of the first lines of the whole one, or none.
+pub fn is_begun(text: &[u8]) -> bool {
+    WHOLE.starts_with(text) && (text.is_empty() || text.ends_with(b"\n"))
+}
+
 /// Returns true if the text ends with the line that memory ran out in an event, after those of the
 /// events before it.
 pub fn ends_refused(text: &[u8]) -> bool {
     match text.strip_suffix(b"refused 7 OutOfMemory\n".as_slice()) {
-        Some(lines) => WHOLE.starts_with(lines) && lines.ends_with(b"\n"),
+        Some(lines) => is_begun(lines) && !lines.is_empty(),
         None => false,
     }
 }

@@ -13,7 +13,11 @@ use std::alloc::Global;
 use wire_msg::{MsgRefusal, PayloadBuf};
 
 /// Returns the bytes that the word spells.
-pub(crate) fn bytes_of(alloc: Global, word: &[u8]) -> Result<Vec<u8>, LineError>
+///
+/// # Errors
+///
+/// Returns `Malformed` if it spells none, and `OutOfMemory` if memory runs out.
+pub fn bytes_of(alloc: Global, word: &[u8]) -> Result<Vec<u8>, LineError>
     ensures spelled { IfOk result (λ v. IsHex word.now v.items) }
     ensures nothing { result ≡ Err LineError.Malformed → (bytes : List ℕ) → IsHex word.now bytes
         → ⊥ }

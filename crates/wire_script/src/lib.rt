@@ -17,6 +17,7 @@ mod operands;
 mod parse;
 mod script_lines;
 
+pub use body::bytes_of;
 pub use named::{HandlerName, Line, LineError, ScriptEvent, Setup};
 pub use numbers::{number, number_i32};
 pub use parse::parse_line;

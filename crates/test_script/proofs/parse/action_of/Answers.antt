@@ -1,10 +1,10 @@
 use Rattle.std.proofs.Common.{◌≡◌, Result, Err, ap, subst}
 use Rattle.test_script.specs.declared.keyword.Keyword.{Keyword}
-use Rattle.test_script.specs.declared.written.Unread.{Unread}
+use Rattle.wire_script.specs.declared.named.LineError.{LineError}
 use Rattle.test_script.specs.Lines.{IsActionOf}
 use Rattle.test_script.proofs.parse.action_of.Goals as goal
 
-one_error : {A : Type 0} (u v : Unread) → let l : Result A Unread = Err u in let r : Result A Unread = Err v in l ≡ r → u ≡ v
+one_error : {A : Type 0} (u v : LineError) → let l : Result A LineError = Err u in let r : Result A LineError = Err v in l ≡ r → u ≡ v
 one_error u v e = cc
 
 pub returns-in-Err-clause-none : goal.returns-in-Err-clause-none

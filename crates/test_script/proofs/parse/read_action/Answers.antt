@@ -1,5 +1,5 @@
 use Rattle.std.proofs.Common.{Err, ap}
 use Rattle.test_script.proofs.parse.read_action.Goals as goal
 
-pub returns-in-Err-NoDocument-clause-fault : goal.returns-in-Err-NoDocument-clause-fault
-returns-in-Err-NoDocument-clause-fault c = c.in-Err-NoDocument.ensures.none (ap Err c.in-Err-NoDocument.field-0-is)
+pub returns-in-Err-Malformed-clause-fault : goal.returns-in-Err-Malformed-clause-fault
+returns-in-Err-Malformed-clause-fault c = c.in-Err-Malformed.ensures.none (ap Err c.in-Err-Malformed.field-0-is)

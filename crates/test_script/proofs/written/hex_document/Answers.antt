@@ -8,4 +8,4 @@ one_ok x y e = cc
 
 pub returns-clause-none : goal.returns-clause-none
 returns-clause-none c = λ e d is.
-    c.document_of.ensures.none e d (subst (λ (b : List ℕ). IsSpelledBy b d) (one_ok _ _ (sym is.1 ∙ c.in_ok-bytes.ensures.is) ∙ sym c.deref.ensures.value) is.2)
+    c.document_of.ensures.none e d (subst (λ (b : List ℕ). IsSpelledBy b d) (one_ok _ _ (sym is.1 ∙ c.in_ok-bytes.ensures.spelled) ∙ sym c.deref.ensures.value) is.2)
