@@ -283,6 +283,7 @@ fn fault_status(fault: &ProxyFault) -> u8
     match fault {
         ProxyFault::Script(_) | ProxyFault::Itself => USAGE,
         ProxyFault::ScriptFile(error)
+        | ProxyFault::Listen(error)
         | ProxyFault::Upstream(error)
         | ProxyFault::PortFile(error)
         | ProxyFault::RecordFile(error)
@@ -298,19 +299,34 @@ fn proxy_status<R: Files + Net + Clock + Print + Eprint + AllocGlobal>(
     ensures { (result ≡ 2)
         ⊎ ((end : RunEnd) × (end ≢ RunEnd.Fault) × (result ≡ exit_status end)) }
 {
-    let Options {
-        listen,
-        upstream,
-        ..
-    } = options;
     let Err(fault) = run_proxy(rt, options) else {
         return status_of(RunEnd::Good);
     };
-    let _ = match fault {
-        ProxyFault::Script(_) => eprintln!(rt; "bsonwire: {fault}"),
-        _ => eprintln!(rt; "bsonwire: proxy from {listen:?} to {upstream:?}: {fault}"),
-    };
+    let _ = tell_proxy(rt, &fault, options);
     fault_status(&fault)
+}
+
+/// Says on standard error why a proxy stopped early.
+fn tell_proxy(rt: &impl Eprint, fault: &ProxyFault, options: Options<'_>) -> io::Result<()> {
+    let Options {
+        listen,
+        upstream,
+        script,
+        port_file,
+        record,
+        ..
+    } = options;
+    let file = match fault {
+        ProxyFault::Script(_) | ProxyFault::ScriptFile(_) => script,
+        ProxyFault::PortFile(_) => port_file,
+        ProxyFault::RecordFile(_) => record,
+        ProxyFault::Listen(_) | ProxyFault::Upstream(_) | ProxyFault::Itself | ProxyFault::Io(_) =>
+            { None }
+    };
+    match file {
+        Some(file) => eprintln!(rt; "bsonwire: proxy: {file:?}: {fault}"),
+        None => eprintln!(rt; "bsonwire: proxy from {listen:?} to {upstream:?}: {fault}"),
+    }
 }
 
 /// Sends what a record's clients sent to a server, and returns the exit status. If that stopped

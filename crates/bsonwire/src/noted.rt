@@ -1,13 +1,14 @@
 //! Readers and writers that keep why they failed, for the message that tells of it.
 
-use std::io::{ErrorKind, Read, Write};
+use sockets::IoFailure;
+use std::io::{Read, Write};
 use std::{fmt, io};
 
 /// A reader or a writer, with the error of its last call.
 #[derive(Drop)]
 pub struct Noted<T> {
     pub inner: T,
-    failure: Option<Failure>,
+    failure: Option<IoFailure>,
 }
 
 impl<T> Noted<T> {
@@ -34,7 +35,7 @@ impl<T> Noted<T> {
     {
         self.failure = match done {
             Ok(_) => None,
-            Err(error) => Some(Failure::of(error)),
+            Err(error) => Some(IoFailure::of(error)),
         };
     }
 }
@@ -65,36 +66,9 @@ impl<W: Write> Write for Noted<W> {
     }
 }
 
-/// What is kept of an error.
-#[derive(Clone, Copy)]
-struct Failure {
-    kind: ErrorKind,
-    /// The system's number of the error, if it is one of the system's.
-    code: Option<i32>,
-}
-
-impl Failure {
-    /// Returns what is kept of this error.
-    fn of(error: &io::Error) -> Failure {
-        Failure {
-            kind: error.kind(),
-            code: error.raw_os_error(),
-        }
-    }
-}
-
-impl fmt::Display for Failure {
-    fn fmt<W: fmt::Write>(&self, f: &mut fmt::Formatter<W>) -> fmt::Result {
-        match self.code {
-            Some(code) => write!(f, "{}", io::Error::from_raw_os_error(code)),
-            None => write!(f, "{}", self.kind),
-        }
-    }
-}
-
 /// The end of a message: a colon and why it failed, or nothing if that isn't known.
 #[derive(Clone, Copy)]
-pub struct Because(Option<Failure>);
+pub struct Because(Option<IoFailure>);
 
 impl Because {
     /// Returns true if it is known that it failed.

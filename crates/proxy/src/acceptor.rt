@@ -69,11 +69,7 @@ impl Acceptor {
     ///
     /// Returns why that failed.
     pub fn register(&self, stream: &mut TcpStream, token: usize) -> io::Result<()> {
-        stream.set_nodelay(true)?;
-        let interest = Interest::READABLE | Interest::WRITABLE;
-        self.poll
-            .registry()
-            .register(stream, Token(token), interest)
+        sockets::register(self.poll.registry(), stream, token)
     }
 
     /// Begins to connect to a server, and registers the connection under this token.
@@ -163,11 +159,7 @@ impl Acceptor {
         least: Option<Duration>,
     ) -> io::Result<()> {
         let timeout = self.timeout(has_more, least);
-        match self.poll.poll(events, timeout) {
-            Ok(()) => {}
-            Err(error) if error.kind() == ErrorKind::Interrupted => {}
-            Err(error) => return Err(error),
-        }
+        sockets::wait(&mut self.poll, events, timeout)?;
         if self.standing == Standing::Pauses {
             self.standing = Standing::Ready;
         }

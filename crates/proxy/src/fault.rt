@@ -11,6 +11,9 @@ pub enum ProxyFault {
     /// The script is at fault.
     #[error("the script is at fault: {0}")]
     Script(ScriptFault),
+    /// It can't listen.
+    #[error("can't listen: {0}")]
+    Listen(io::Error),
     /// The server's address can't be found.
     #[error("the server's address: {0}")]
     Upstream(io::Error),
@@ -26,7 +29,7 @@ pub enum ProxyFault {
     /// The file of records can't be written.
     #[error("the file of records can't be written: {0}")]
     RecordFile(io::Error),
-    /// Listening, writing or waiting failed, or memory ran out.
+    /// Writing or waiting failed, or memory ran out.
     #[error("{0}")]
     Io(io::Error),
 }

@@ -14,6 +14,17 @@ use wire_stream::{Link, LinkFault, Moved};
 /// The most bytes that are received at once where messages are held.
 const ROOM: usize = 65_536;
 
+/// How a link stands with its messages.
+#[derive(Clone, Copy, Debug, PartialEq, Eq)]
+enum Standing {
+    /// Bytes are given as they come.
+    Free,
+    /// The bytes of a message are gathered.
+    Gathers,
+    /// A message is whole, and it wasn't said yet what becomes of it.
+    Whole,
+}
+
 /// The bytes that came over a link, and how many of them may be given.
 #[derive(Drop)]
 struct Held<L> {
@@ -26,10 +37,7 @@ struct Held<L> {
     start: usize,
     /// How many of the bytes may be given: all up to the message that is held.
     may: usize,
-    /// A message is whole, and it wasn't said yet what becomes of it.
-    whole: bool,
-    /// Bytes are given as they come.
-    free: bool,
+    standing: Standing,
     /// The last call gave nothing, or more may be given since, so more may be done at once.
     again: bool,
     /// How many bytes were given in all.
@@ -81,9 +89,9 @@ impl<L: Link + Drop> Held<L> {
     fn wants_more(&mut self) -> bool {
         match RawFrame::front(self.rest(), MAX_MESSAGE_LEN) {
             FrameFront::Open { .. } => return true,
-            FrameFront::Whole { .. } => self.whole = true,
+            FrameFront::Whole { .. } => self.standing = Standing::Whole,
             FrameFront::Bad(_) => {
-                self.free = true;
+                self.standing = Standing::Free;
                 self.again = true;
             }
         }
@@ -109,7 +117,7 @@ impl<L: Link + Drop> Held<L> {
         self.forget();
         match self.link.recv(&mut self.piece)? {
             Moved::Later => return Ok(()),
-            Moved::Bytes(0) => self.free = true,
+            Moved::Bytes(0) => self.standing = Standing::Free,
             Moved::Bytes(n) => {
                 if self.bytes.extend_from_slice(&self.piece[..n]).is_err() {
                     return Err(LinkFault {
@@ -122,6 +130,11 @@ impl<L: Link + Drop> Held<L> {
         Ok(())
     }
 
+    /// Returns true if bytes are given as they come.
+    fn is_free(&self) -> bool {
+        self.standing == Standing::Free
+    }
+
     /// Gives bytes that may be given, or receives a piece and gives nothing.
     fn pull(&mut self, buffer: &mut [u8]) -> Result<Moved, LinkFault>
         ensures within { IfOk result (λ moved. bytes_moved moved ≤ length buffer.old) }
@@ -132,14 +145,14 @@ impl<L: Link + Drop> Held<L> {
         if room == 0 {
             return Ok(Moved::Bytes(0));
         }
-        let end = if self.free {
+        let end = if self.is_free() {
             self.bytes.len()
         } else {
             self.may
         };
         if self.start < end {
             Ok(self.give(end, &mut buffer[..room]))
-        } else if self.free {
+        } else if self.is_free() {
             self.receive(&mut buffer[..room])
         } else {
             self.take()?;
@@ -159,7 +172,11 @@ impl<L: Link + Drop> Held<L> {
     /// Puts bytes before the message that is held, or behind all bytes that are given as they come.
     fn put(&mut self, bytes: &[u8]) -> Result<(), AllocError> {
         let all = self.bytes.len();
-        let at = if self.free { all } else { self.may.min(all) };
+        let at = if self.is_free() {
+            all
+        } else {
+            self.may.min(all)
+        };
         let behind = self.bytes.split_off(at)?;
         self.bytes.extend_from_slice(bytes)?;
         self.may = self.bytes.len();
@@ -191,8 +208,7 @@ impl<L: Link + Drop> HeldLink<L> {
                 piece: Vec::new(alloc),
                 start: 0,
                 may: 0,
-                whole: false,
-                free: true,
+                standing: Standing::Free,
                 again: false,
                 given: 0,
                 left,
@@ -213,14 +229,14 @@ impl<L: Link + Drop> HeldLink<L> {
     /// Returns `AllocError` if memory runs out.
     pub fn hold(&mut self, alloc: Global) -> Result<(), AllocError> {
         self.held.piece = vec![in alloc; 0u8; ROOM]?;
-        self.held.free = false;
+        self.held.standing = Standing::Gathers;
         Ok(())
     }
 
     /// Returns the message that is held and whole, if it wasn't said yet what becomes of it. All
     /// bytes before it were received.
     pub fn message(&self) -> Option<RawFrame<'_>> {
-        if !self.held.whole {
+        if self.held.standing != Standing::Whole {
             return None;
         }
         match RawFrame::front(self.held.rest(), MAX_MESSAGE_LEN) {
@@ -241,7 +257,9 @@ impl<L: Link + Drop> HeldLink<L> {
     pub fn pass(&mut self) {
         let size = self.size();
         self.held.may = self.held.may.saturating_add(size);
-        self.held.whole = false;
+        if self.held.standing == Standing::Whole {
+            self.held.standing = Standing::Gathers;
+        }
         self.held.again = true;
     }
 

@@ -10,10 +10,11 @@ use crate::sink::Sink;
 use crate::socket::Socket;
 use crate::watch::Watches;
 use slab::Slab;
+use sockets::IoFailure;
 use std::alloc::{AllocError, Global};
 use std::collections::VecDeque;
 use std::io;
-use std::io::{ErrorKind, Write};
+use std::io::Write;
 use std::rt::Files;
 use std::time::{Clock, Duration};
 use test_script::{Delays, Script};
@@ -122,20 +123,19 @@ impl Pairs {
     }
 
     /// Counts a connection that is closed at once, since connecting to the server failed, and
-    /// writes that, if connections are told of.
+    /// writes that.
     ///
     /// # Errors
     ///
     /// Returns an error if writing fails.
-    pub fn refuse<W: Write>(&mut self, kind: ErrorKind, out: &mut W) -> io::Result<()> {
+    pub fn refuse<W: Write>(&mut self, failure: IoFailure, out: &mut W) -> io::Result<()> {
         let number = self.opened.saturating_add(1);
         self.opened = number;
         self.ended = self.ended.saturating_add(1);
         if self.watching.told {
             writeln!(out, "{number} new")?;
-            writeln!(out, "{number} failed: connecting: {kind}")?;
         }
-        Ok(())
+        writeln!(out, "{number} failed: connecting: {failure}")
     }
 
     /// Notes that a pair is to take another turn.

@@ -7,12 +7,19 @@ use crate::sink::Sink;
 use crate::socket::Socket;
 use mio::net::{TcpListener, TcpStream};
 use mio::{Events, Token};
+use sockets::IoFailure;
 use std::alloc::Global;
 use std::io;
-use std::io::{ErrorKind, Write};
+use std::io::Write;
 use std::net::{Net, SocketAddr};
 use std::rt::Files;
 use std::time::Clock;
+
+/// Returns true if the system tells that no open file is left: `ENFILE` or `EMFILE` (`man 3 errno`),
+/// which have no kind of their own.
+fn leaves_no_file(error: &io::Error) -> bool {
+    matches!(error.raw_os_error(), Some(23 | 24))
+}
 
 /// What accepts connections, the address of the server, and the pairs of connections. The tokens of
 /// the connections of a pair are twice its key, and one more.
@@ -64,7 +71,7 @@ impl Proxy {
     fn join<W: Write>(&mut self, near: TcpStream, far: TcpStream, out: &mut W) -> io::Result<()> {
         let (mut near, mut far) = (near, far);
         if let Err(error) = self.register(&mut near, &mut far) {
-            return self.pairs.refuse(error.kind(), out);
+            return self.pairs.refuse(IoFailure::of(&error), out);
         }
         let near = Socket::new(self.alloc, near)?;
         let far = Socket::new(self.alloc, far)?;
@@ -76,12 +83,11 @@ impl Proxy {
     fn open<W: Write>(&mut self, net: &impl Net, near: TcpStream, out: &mut W) -> io::Result<()> {
         match TcpStream::connect(net, self.upstream) {
             Ok(far) => self.join(near, far, out),
-            // The system's code that no file is left has no kind of its own.
-            Err(error) if error.kind() == ErrorKind::Uncategorized && self.pairs.len() > 0 => {
+            Err(error) if leaves_no_file(&error) && self.pairs.len() > 0 => {
                 self.acceptor.take_back(near);
                 Ok(())
             }
-            Err(error) => self.pairs.refuse(error.kind(), out),
+            Err(error) => self.pairs.refuse(IoFailure::of(&error), out),
         }
     }
 

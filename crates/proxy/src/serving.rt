@@ -8,32 +8,15 @@ use crate::proxy::Proxy;
 use crate::sink::Sink;
 use mio::Events;
 use mio::net::TcpListener;
+use sockets::address_of;
 use std::alloc::Global;
 use std::fs::File;
 use std::io;
 use std::io::{BufWriter, ErrorKind, Read, Write};
-use std::net::{IpAddr, Ipv4Addr, Ipv6Addr, Net, SocketAddr, ToSocketAddrs};
+use std::net::{IpAddr, Ipv4Addr, Ipv6Addr, Net, SocketAddr};
 use std::rt::Files;
 use std::time::Clock;
 use test_script::{Cause, Script};
-
-/// Returns the first IPv4 address that `address` names, and if it names none, the first one. Many
-/// servers listen at 127.0.0.1 alone where `localhost` is `::1` first.
-fn address_of<R: Net>(rt: &R, address: &str) -> io::Result<SocketAddr> {
-    let mut first = None;
-    for found in address.to_socket_addrs(rt)? {
-        if found.is_ipv4() {
-            return Ok(found);
-        }
-        if first.is_none() {
-            first = Some(found);
-        }
-    }
-    match first {
-        Some(first) => Ok(first),
-        None => Err(io::Error::from(ErrorKind::InvalidInput)),
-    }
-}
 
 /// Returns the address that a connection to this one comes to: of all addresses the loopback one.
 fn reached(address: IpAddr) -> IpAddr {
@@ -101,21 +84,27 @@ pub fn read_script<R: Files>(
     }
 }
 
+/// Begins to listen at the address that `address` names.
+fn bind<R: Net>(rt: &R, address: &str) -> io::Result<TcpListener> {
+    TcpListener::bind(rt, address_of(rt, address)?)
+}
+
 /// Listens where the options say, creates the file of records, and writes to `out` where it
 /// listens, and the port to its file. Returns the listener, the address of the server, and what
 /// shows and records messages.
 ///
 /// # Errors
 ///
-/// Returns `Upstream` if the server has no address, `Itself` if the proxy would be its own server,
-/// `RecordFile` or `PortFile` if a file can't be written, and `Io` if listening or writing fails.
+/// Returns `Listen` if it can't listen there, `Upstream` if the server has no address, `Itself` if the
+/// proxy would be its own server, `RecordFile` or `PortFile` if a file can't be written, and `Io` if
+/// writing fails.
 pub fn listen<'r, R: Net + Files + Clock, W: Write>(
     rt: &'r R,
     alloc: Global,
     options: Options<'_>,
     out: &mut W,
 ) -> Result<(TcpListener, SocketAddr, Sink<'r, R>), ProxyFault> {
-    let listener = TcpListener::bind(rt, address_of(rt, options.listen)?)?;
+    let listener = bind(rt, options.listen).map_err(ProxyFault::Listen)?;
     let upstream = address_of(rt, options.upstream).map_err(ProxyFault::Upstream)?;
     let local = listener.local_addr()?;
     if meets(rt, upstream, local) {

@@ -1,9 +1,9 @@
 //! A connection to the server, over which messages of any opCode go.
 
 use mio::net::TcpStream;
+use sockets::IoFailure;
 use std::alloc::{AllocError, Global};
-use std::io::ErrorKind;
-use std::{fmt, io};
+use std::fmt;
 use wire_frame::{FrameFront, FrameReader, RawFrame};
 use wire_msg::{MAX_MESSAGE_LEN, MsgFault};
 use wire_stream::{Inlet, Link, LinkFault, Moved, Pulled, TcpLink};
@@ -12,7 +12,7 @@ use wire_stream::{Inlet, Link, LinkFault, Moved, Pulled, TcpLink};
 #[derive(Clone, Copy, Debug, PartialEq, Eq)]
 pub enum Broken {
     /// Connecting to the server failed.
-    Connecting(ErrorKind),
+    Connecting(IoFailure),
     /// Sending failed.
     Sending(LinkFault),
     /// Receiving failed.
@@ -26,7 +26,7 @@ pub enum Broken {
 impl fmt::Display for Broken {
     fn fmt<W: fmt::Write>(&self, f: &mut fmt::Formatter<W>) -> fmt::Result {
         match *self {
-            Broken::Connecting(kind) => write!(f, "connecting: {kind}"),
+            Broken::Connecting(failure) => write!(f, "connecting: {failure}"),
             Broken::Sending(fault) => write!(f, "sending: {fault}"),
             Broken::Receiving(fault) => write!(f, "receiving: {fault}"),
             Broken::NoMessage(fault) => write!(f, "receiving: {fault}"),

@@ -7,10 +7,11 @@ use crate::pace::{Taken, earlier};
 use crate::tally::Tally;
 use crate::teller::Teller;
 use mio::net::TcpStream;
-use mio::{Events, Interest, Poll, Token};
+use mio::{Events, Poll, Token};
+use sockets::{IoFailure, register, wait};
 use std::alloc::{AllocError, Global};
 use std::io;
-use std::io::{ErrorKind, Write};
+use std::io::Write;
 use std::net::{Net, SocketAddr};
 use std::time::{Clock, Duration, Instant};
 use wire_record::{Direction, RawRecord};
@@ -52,11 +53,7 @@ impl<'a, W: Write + Drop> Player<'a, W> {
     /// Connects to the server, under this token.
     fn connect(&self, net: &impl Net, token: usize) -> io::Result<TcpStream> {
         let mut stream = TcpStream::connect(net, self.server)?;
-        stream.set_nodelay(true)?;
-        let interest = Interest::READABLE | Interest::WRITABLE;
-        self.poll
-            .registry()
-            .register(&mut stream, Token(token), interest)?;
+        register(self.poll.registry(), &mut stream, token)?;
         Ok(stream)
     }
 
@@ -64,7 +61,7 @@ impl<'a, W: Write + Drop> Player<'a, W> {
     fn open(&mut self, net: &impl Net, number: u64) -> Result<(), AllocError> {
         let line = match self.connect(net, self.conns.len()) {
             Ok(stream) => Line::Open(Channel::new(self.alloc, stream)?),
-            Err(error) => Line::Lost(Broken::Connecting(error.kind())),
+            Err(error) => Line::Lost(Broken::Connecting(IoFailure::of(&error))),
         };
         self.conns.push(Conn::new(self.alloc, number, line))?;
         Ok(())
@@ -159,11 +156,7 @@ impl<'a, W: Write + Drop> Player<'a, W> {
     ) -> io::Result<()> {
         self.teller.flush()?;
         let timeout = self.timeout(rt, until)?;
-        match self.poll.poll(events, timeout) {
-            Ok(()) => {}
-            Err(error) if error.kind() == ErrorKind::Interrupted => {}
-            Err(error) => return Err(error),
-        }
+        wait(&mut self.poll, events, timeout)?;
         let mut told: usize = 0;
         for event in events.iter() {
             told = told.saturating_add(1);

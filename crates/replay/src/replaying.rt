@@ -6,11 +6,12 @@ use crate::player::{EVENTS, Player};
 use crate::records::Records;
 use crate::teller::Teller;
 use mio::Events;
+use sockets::address_of;
 use std::alloc::{AllocError, Global};
 use std::fs::File;
 use std::io;
-use std::io::{BufWriter, ErrorKind, Read, Write};
-use std::net::{Net, SocketAddr, ToSocketAddrs};
+use std::io::{BufWriter, Read, Write};
+use std::net::Net;
 use std::rt::Files;
 use std::time::{Clock, Duration, Instant};
 
@@ -26,24 +27,6 @@ pub enum Outcome {
     Different,
     /// The file isn't one of records, at least from some offset on.
     Fault,
-}
-
-/// Returns the first IPv4 address that `address` names, and if it names none, the first one. Many
-/// servers listen at 127.0.0.1 alone where `localhost` is `::1` first.
-fn address_of<R: Net>(rt: &R, address: &str) -> io::Result<SocketAddr> {
-    let mut first = None;
-    for found in address.to_socket_addrs(rt)? {
-        if found.is_ipv4() {
-            return Ok(found);
-        }
-        if first.is_none() {
-            first = Some(found);
-        }
-    }
-    match first {
-        Some(first) => Ok(first),
-        None => Err(io::Error::from(ErrorKind::InvalidInput)),
-    }
 }
 
 /// Returns the names in a text that has commas between them.

@@ -9,6 +9,7 @@ use crate::servers::Servers;
 use mio::Events;
 use mio::net::TcpStream;
 use proxy::{Acceptor, Socket, drawn_cut};
+use sockets::IoFailure;
 use std::alloc::{AllocError, Global};
 use std::io;
 use std::net::{Net, SocketAddr};
@@ -101,8 +102,8 @@ impl Connector {
         Line::of_server(self.alloc, Socket::new(self.alloc, stream)?, cut)
     }
 
-    /// Opens a connection to the server that is used so. If that fails, any client's request goes
-    /// over another one, if there is one.
+    /// Opens a connection to the server that is used so. If that fails, a request that needs none of
+    /// its own, and one that begins a transaction, goes over a shared one, if there is one.
     ///
     /// # Errors
     ///
@@ -121,8 +122,8 @@ impl Connector {
                 Ok(Ok(servers.open(line, used)?))
             }
             Err(error) => match servers.least_busy() {
-                Some(other) if used == Use::Shared => Ok(Ok(other)),
-                _ => Ok(Err(Leave::Unconnected(error.kind()))),
+                Some(other) if matches!(used, Use::Shared | Use::Transaction(_)) => Ok(Ok(other)),
+                _ => Ok(Err(Leave::Unconnected(IoFailure::of(&error)))),
             },
         }
     }

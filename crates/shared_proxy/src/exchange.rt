@@ -34,8 +34,13 @@ pub fn need(downstream: &Downstream) -> Need {
 }
 
 /// Returns the session whose transaction begins with the request that waits, if one does.
-fn begun(downstream: &Downstream) -> Option<SessionId> {
+pub fn begun(downstream: &Downstream) -> Option<SessionId> {
     begun_by(asked(downstream)?)
+}
+
+/// Returns true if the downstream is closed since memory ran out.
+fn wants_memory(downstream: &Downstream) -> bool {
+    Leave::of_front(downstream.state()).is_some_and(|leave| leave.wants_memory())
 }
 
 /// Passes the request that waits on to the server, and notes who awaits the reply. Returns why the
@@ -55,6 +60,7 @@ pub fn pass_on(
     let begun = begun(&client.downstream);
     let before = server.waiting();
     match server.pass_on(&mut client.downstream) {
+        Ok(()) if wants_memory(&client.downstream) => return Err(AllocError),
         Ok(()) | Err(PassRefusal::NothingWaits) => {}
         Err(PassRefusal::OutOfMemory | PassRefusal::Call(CallRefusal::OutOfMemory)) => {
             return Err(AllocError);
@@ -100,10 +106,8 @@ pub fn answer(
         follow(client, server, routes)?;
     }
     match server.answer(&mut client.downstream) {
-        Ok(()) => match Leave::of_front(client.downstream.state()) {
-            Some(leave) if leave.wants_memory() => Err(AllocError),
-            closed => Ok(closed.is_none()),
-        },
+        Ok(()) if wants_memory(&client.downstream) => Err(AllocError),
+        Ok(()) => Ok(Leave::of_front(client.downstream.state()).is_none()),
         Err(GiveRefusal::NotAwaited | GiveRefusal::Closed) => {
             server.release();
             Ok(false)

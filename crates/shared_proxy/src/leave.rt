@@ -1,6 +1,7 @@
 //! Why a connection is over.
 
 use proxy::Direction;
+use sockets::IoFailure;
 use std::fmt;
 use std::io::ErrorKind;
 use wire_front::{FrontCause, FrontState};
@@ -22,7 +23,7 @@ pub enum Leave {
     /// The server can't be asked.
     Refused(CallRefusal),
     /// Connecting to the server failed.
-    Unconnected(ErrorKind),
+    Unconnected(IoFailure),
     /// The script hung up at the request with this id, which was not passed on.
     HungUp(i32),
     /// It was cut once so many bytes went this way.
@@ -73,10 +74,13 @@ impl Leave {
         }
     }
 
-    /// Returns true if it is told also where nothing is shown: the proxy ended the connection, or a
-    /// reply was lost.
+    /// Returns true if it is told also where nothing is shown: the proxy ended the connection,
+    /// connecting to the server failed at once, or a reply was lost.
     pub fn is_told(self) -> bool {
-        matches!(self, Leave::HungUp(_) | Leave::Cut(..) | Leave::Lost(_))
+        matches!(
+            self,
+            Leave::HungUp(_) | Leave::Cut(..) | Leave::Unconnected(_) | Leave::Lost(_)
+        )
     }
 }
 
@@ -88,7 +92,7 @@ impl fmt::Display for Leave {
             Leave::BadClient(cause) => write!(f, "closed: {cause}"),
             Leave::BadServer(cause) => write!(f, "closed: {cause}"),
             Leave::Refused(refusal) => write!(f, "closed: {refusal}"),
-            Leave::Unconnected(kind) => write!(f, "failed: connecting: {kind}"),
+            Leave::Unconnected(failure) => write!(f, "failed: connecting: {failure}"),
             Leave::HungUp(id) => write!(f, "hangup id {id}"),
             Leave::Cut(direction, count) => write!(f, "cut {} {count}", direction.word()),
             Leave::Lost(upstream) => write!(f, "lost with upstream {upstream}"),

@@ -24,6 +24,9 @@ pub enum Use {
     Once,
     /// The client of this number, with which it is closed.
     Kept(u64),
+    /// A transaction, whichever client goes on with it. It is closed with that, and with the client
+    /// of this number, which began it.
+    Transaction(u64),
     /// None any more: it is closed once the calls over it are over.
     Over,
 }
@@ -35,7 +38,7 @@ impl Use {
         ensures only { MayServe self client → result ≡ true }
     {
         match self {
-            Use::Shared | Use::Once => true,
+            Use::Shared | Use::Once | Use::Transaction(_) => true,
             Use::Kept(owner) => owner == client,
             Use::Over => false,
         }
@@ -215,7 +218,8 @@ impl Server {
         self.blocked.front().copied()
     }
 
-    /// Has the connection closed behind what waits to be sent, since its client is gone.
+    /// Has the connection closed behind what waits to be sent and the calls over it, since what used
+    /// it is over.
     pub fn finish(&mut self)
         ensures { self.new.used ≡ Use.Over }
     {

@@ -9,7 +9,7 @@ use crate::line::Line;
 use crate::server::{Server, Use};
 use indexmap::IndexMap;
 use std::alloc::{AllocError, Global};
-use wire_share::{Need, Routes};
+use wire_share::{Need, Routes, SessionId};
 
 /// A connection for which requests wait is busier than any number of calls makes one.
 const FULL: usize = 1 << 16;
@@ -105,11 +105,31 @@ impl Servers {
 
     /// Returns true if this connection is there, and a client may use it: any client does, or this
     /// one alone.
-    fn serves(&self, number: u64, client: u64) -> bool {
+    pub fn serves(&self, number: u64, client: u64) -> bool {
         match self.servers.get(&number) {
-            Some(server) => { server.used() == Use::Shared || server.used() == Use::Kept(client) }
+            Some(server) => match server.used() {
+                Use::Shared | Use::Transaction(_) => true,
+                Use::Kept(owner) => owner == client,
+                Use::Once | Use::Over => false,
+            },
             None => false,
         }
+    }
+
+    /// Returns true if this connection is there, and is for a transaction.
+    pub fn has_transaction(&self, number: u64) -> bool {
+        match self.servers.get(&number) {
+            Some(server) => matches!(server.used(), Use::Transaction(_)),
+            None => false,
+        }
+    }
+
+    /// Returns a connection for a transaction that a client began, if there is one.
+    pub fn begun_by(&self, client: u64) -> Option<u64> {
+        self.servers
+            .values()
+            .find(|server| server.used() == Use::Transaction(client))
+            .map(|server| server.number())
     }
 
     /// Returns true if bytes wait to be sent over a connection.
@@ -117,13 +137,24 @@ impl Servers {
         self.servers.values().any(|server| server.waiting() != 0)
     }
 
-    /// Returns over which connection a request of a client goes that needs this, where `routes` says
-    /// on which ones cursors and transactions live.
-    pub fn place(&self, routes: &Routes, client: u64, need: Need) -> Place {
+    /// Returns over which connection a request of a client goes that needs this, and with which the
+    /// transaction of the session `begun` begins, if there is one, where `routes` says on which ones
+    /// cursors and transactions live.
+    ///
+    /// A transaction has a connection of its own while it lasts: other requests wait for what it
+    /// locks, and it would wait behind them.
+    pub fn place(
+        &self,
+        routes: &Routes,
+        client: u64,
+        need: Need,
+        begun: Option<SessionId>,
+    ) -> Place {
         match need {
             Need::Own => Place::New(Use::Once),
             Need::Kept => Place::New(Use::Kept(client)),
             Need::Any | Need::Cursor(_) | Need::Transaction(_) => match routes.find(need) {
+                _ if begun.is_some() => Place::New(Use::Transaction(client)),
                 Some(number) if self.serves(number, client) => Place::At(number),
                 _ => self.place_shared(),
             },

@@ -3,7 +3,7 @@
 use crate::clients::Clients;
 use crate::connector::Connector;
 use crate::due::{Due, Side};
-use crate::exchange::{answer, need, pass_on};
+use crate::exchange::{answer, begun, need, pass_on};
 use crate::leave::Leave;
 use crate::server::{Server, Use};
 use crate::servers::{Place, Servers};
@@ -16,7 +16,7 @@ use std::net::Net;
 use std::rt::Files;
 use std::time::Clock;
 use test_script::Delays;
-use wire_share::Routes;
+use wire_share::{Need, Routes, SessionId};
 
 /// The clients, the connections to the server, which of both are to take a turn, and of which clients
 /// a request is held.
@@ -64,6 +64,43 @@ impl Sharing {
         self.due.push(Side::Server(upstream))
     }
 
+    /// Closes a connection to the server that was for a transaction, behind the calls over it. The
+    /// requests that wait for it go over others.
+    fn end_transaction(&mut self, upstream: u64) -> Result<(), AllocError> {
+        let Some(server) = self.servers.get_mut(upstream) else {
+            return Ok(());
+        };
+        server.finish();
+        for number in server.blocked.iter() {
+            self.due.push(Side::Client(*number))?;
+        }
+        server.blocked.clear();
+        self.due.push(Side::Server(upstream))
+    }
+
+    /// Closes the connection that was for the transaction of this session, if there is one, since
+    /// another one begins.
+    fn begin_anew(&mut self, session: SessionId) -> Result<(), AllocError> {
+        match self.routes.find(Need::Transaction(session)) {
+            Some(upstream) if self.servers.has_transaction(upstream) => {
+                self.end_transaction(upstream)
+            }
+            _ => Ok(()),
+        }
+    }
+
+    /// Closes the connections for the transactions that a client began which is gone. What still
+    /// comes of them goes over others.
+    fn leave_transactions(&mut self, number: u64) -> Result<(), AllocError> {
+        for _ in 0..u64::MAX {
+            match self.servers.begun_by(number) {
+                Some(upstream) => self.end_transaction(upstream)?,
+                None => break,
+            }
+        }
+        Ok(())
+    }
+
     /// Lets the requests that wait for a connection go on without that of a client, which is gone.
     fn leave_queue(&mut self, number: u64, upstream: u64) -> Result<(), AllocError> {
         if let Some(server) = self.servers.get_mut(upstream) {
@@ -72,7 +109,8 @@ impl Sharing {
         self.unblock(upstream)
     }
 
-    /// Closes a client, for this reason, and the connection to the server that it alone uses.
+    /// Closes a client, for this reason, and the connections to the server that it alone uses, or
+    /// that are for transactions that it began.
     ///
     /// # Errors
     ///
@@ -89,7 +127,7 @@ impl Sharing {
         if let Some(kept) = client.kept {
             self.leave_server(kept)?;
         }
-        Ok(())
+        Ok(self.leave_transactions(number)?)
     }
 
     /// Closes the client of this number, if it awaits a reply of a connection that was lost; or, if
@@ -148,7 +186,7 @@ impl Sharing {
     }
 
     /// Returns over which connection the request of a client goes: the one for which it waits, if that
-    /// is still there, and a new one if it has to be.
+    /// still serves it, and a new one if it has to be.
     fn place(&mut self, net: &impl Net, number: u64) -> Result<Result<u64, Leave>, AllocError> {
         let Some(client) = self.clients.get_mut(number) else {
             return Ok(Err(Leave::Ended));
@@ -157,12 +195,16 @@ impl Sharing {
             return Ok(Ok(kept));
         }
         let need = need(&client.downstream);
+        let begun = begun(&client.downstream);
         if let Some(upstream) = client.waits_at
-            && self.servers.get_mut(upstream).is_some()
+            && self.servers.serves(upstream, number)
         {
             return Ok(Ok(upstream));
         }
-        match self.servers.place(&self.routes, number, need) {
+        if let Some(session) = begun {
+            self.begin_anew(session)?;
+        }
+        match self.servers.place(&self.routes, number, need, begun) {
             Place::At(upstream) => Ok(Ok(upstream)),
             Place::New(used) => self.connector.open(net, &mut self.servers, used),
         }
@@ -238,8 +280,13 @@ impl Sharing {
             server.release();
             return Ok(());
         };
+        let need = need(&client.downstream);
         if answer(client, server, &mut self.routes)? {
             steer_reply(client, sink, out)?;
+        }
+        let is_over = matches!(need, Need::Transaction(_)) && self.routes.find(need).is_none();
+        if is_over && self.servers.has_transaction(upstream) {
+            self.end_transaction(upstream)?;
         }
         Ok(self.due.push(Side::Client(number))?)
     }

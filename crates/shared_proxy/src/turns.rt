@@ -7,6 +7,7 @@ use crate::sharing::Sharing;
 use crate::steering::{Steered, release, steer};
 use mio::Events;
 use proxy::{ACCEPTS, LISTENER, Sink};
+use sockets::IoFailure;
 use std::alloc::Global;
 use std::io;
 use std::io::{ErrorKind, Write};
@@ -195,7 +196,7 @@ impl Turns {
             match self.sharing.connector.accept(&self.sharing.clients)? {
                 Some(Ok(line)) => self.sharing.clients.open(line, out)?,
                 Some(Err(error)) => {
-                    let leave = Leave::Unconnected(error.kind());
+                    let leave = Leave::Unconnected(IoFailure::of(&error));
                     self.sharing.clients.refuse(leave, out)?;
                 }
                 None => break,

@@ -9,17 +9,19 @@ use crate::drained::{Drained, Turns};
 use crate::guide::Guide;
 use crate::input::Watched;
 use crate::output::Output;
+use crate::scripts::Scripts;
 use crate::serving::{ANSWER_STEPS, STEPS, Serving, settle};
 use crate::stop::Stop;
 use mio::net::{TcpListener, TcpStream};
 use mio::{Events, Interest, Poll, Token};
+use sockets::{register, wait};
 use std::alloc::Global;
 use std::collections::VecDeque;
 use std::io;
 use std::io::{BufRead, ErrorKind, Write};
 use std::net::Net;
 use std::time::{Clock, Duration};
-use test_script::{Delays, Flow, Script, Scripted};
+use test_script::{Delays, Flow, Scripted};
 use test_store::Store;
 use wire_hall::{Turned, Valve};
 use wire_stream::TcpLink;
@@ -61,15 +63,30 @@ pub struct Connections<I> {
     wanted: u64,
 }
 
-/// Begins without connections, with the rules of `script` before a store without documents. Those of
-/// `guide`, which are the same, say what becomes of replies.
+/// What a server begins to listen with.
+#[derive(Drop)]
+pub struct Setup<I> {
+    pub listener: TcpListener,
+    /// Standard input, if its end is waited for.
+    pub input: Option<I>,
+    /// How many connections are accepted.
+    pub wanted: u64,
+    /// What tells of turns, before the first one.
+    pub turns: Turns,
+    /// An empty list, which has room for the keys of all connections.
+    pub again: VecDeque<usize>,
+    pub scripts: Scripts,
+}
+
+/// Begins without connections, with the rules of the script before a store without documents. Those
+/// of the guide, which are the same, say what becomes of replies.
 fn begin(
     alloc: Global,
-    script: Script,
-    guide: Script,
+    scripts: Scripts,
 ) -> Serving<Valve<TcpLink<Drained<TcpStream>>>, Scripted<Store>>
-    ensures { HasBegun script.rules.items guide.rules.items result }
+    ensures { HasBegun scripts.script.rules.items scripts.guide.rules.items result }
 {
+    let Scripts { script, guide } = scripts;
     let store = Store::new(alloc);
     let handler = Scripted::new(alloc, script, store);
     let guide = Guide::new(alloc, guide);
@@ -85,25 +102,22 @@ fn if_over(turned: Option<Turned>) -> Option<Turned> {
 }
 
 impl<I: BufRead + Drop> Connections<I> {
-    /// Begins to listen for `count` connections, and to wait for the end of `input`, if it is
-    /// given. `again` is empty, and no turn was begun. The rules of `script` come before a store without
-    /// documents, and those of `guide`, which are the same, say what becomes of replies.
-    pub fn new(
-        net: &impl Net,
-        alloc: Global,
-        listener: TcpListener,
-        input: Option<I>,
-        count: u64,
-        again: VecDeque<usize>,
-        turns: Turns,
-        script: Script,
-        guide: Script,
-    ) -> io::Result<Connections<I>>
-        ensures { IfOk result (λ c. HasBegun script.rules.items guide.rules.items
-            c.serving) }
+    /// Begins to listen for connections, and to wait for the end of standard input, if that is given.
+    /// The rules of the script come before a store without documents, and those of the guide, which
+    /// are the same, say what becomes of replies.
+    pub fn new(net: &impl Net, alloc: Global, setup: Setup<I>) -> io::Result<Connections<I>>
+        ensures { IfOk result (λ c. HasBegun setup.scripts.script.rules.items
+            setup.scripts.guide.rules.items c.serving) }
     {
+        let Setup {
+            mut listener,
+            input,
+            wanted,
+            turns,
+            again,
+            scripts,
+        } = setup;
         let poll = Poll::new(net)?;
-        let mut listener = listener;
         poll.registry()
             .register(&mut listener, LISTENER, Interest::READABLE)?;
         let input = match input {
@@ -114,13 +128,13 @@ impl<I: BufRead + Drop> Connections<I> {
             poll,
             listener,
             input,
-            serving: begin(alloc, script, guide),
+            serving: begin(alloc, scripts),
             turns,
             delays: Delays::new(alloc),
             again,
             ready: true,
             pausing: false,
-            wanted: count,
+            wanted,
         })
     }
 
@@ -148,14 +162,10 @@ impl<I: BufRead + Drop> Connections<I> {
             (W.contents out.old) (W.contents out.new)) }
     {
         let mut stream = stream;
-        let token = Token(self.serving.next_key());
-        let interest = Interest::READABLE | Interest::WRITABLE;
-        let registry = self.poll.registry();
-        if stream.set_nodelay(true).is_err()
-            || registry.register(&mut stream, token, interest).is_err()
-        {
+        let key = self.serving.next_key();
+        let Ok(()) = register(self.poll.registry(), &mut stream, key) else {
             return Ok(());
-        }
+        };
         let Ok(stream) = self.turns.drained(stream) else {
             return Err(Stop::OutOfMemory);
         };
@@ -403,10 +413,7 @@ impl<I: BufRead + Drop> Connections<I> {
         ensures { self.new.serving ≡ self.old.serving }
     {
         let timeout = self.timeout(clock)?;
-        match self.poll.poll(events, timeout) {
-            Err(error) if error.kind() != ErrorKind::Interrupted => return Err(Stop::from(error)),
-            Ok(()) | Err(_) => {}
-        }
+        wait(&mut self.poll, events, timeout)?;
         if self.pausing {
             self.pausing = false;
             self.ready = true;

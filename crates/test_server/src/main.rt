@@ -25,6 +25,7 @@ mod guide;
 mod input;
 mod output;
 mod run;
+mod scripts;
 mod serving;
 mod stop;
 mod transcript;

@@ -1,30 +1,30 @@
 //! Runs the server, from its first line to its last.
 
-ghost use Rattle.std.specs.Prelude.{◌≡◌, ◌<◌, IfErr, IfOk, List, OnOk, Option, min, option_map};
-ghost use Rattle.std.specs.Prelude.{true, ℕ};
+ghost use Rattle.std.specs.Prelude.{◌≡◌, ◌<◌, IfOk, List, OnOk, Option, min, true, ℕ};
 ghost use Rattle.std.specs.declared.net.socket_addr.SocketAddr.{SocketAddr};
-ghost use Rattle.test_script.specs.{FailsAt, IsScript};
 ghost use Rattle.text_writer.specs.{WritesOut};
-ghost use Rattle.test_server.specs.Runs.{AreRead, EndsSo, GoesOnServing, HasBegun, HasServed};
-ghost use Rattle.test_server.specs.Runs.{IsEnough, IsRefused, IsRun, ShowsServing};
-ghost use Rattle.test_server.specs.Runs.{listening_line, port_text, served_line};
+ghost use Rattle.test_server.specs.Runs.{EndsSo, GoesOnServing, HasBegun, HasServed, IsEnough};
+ghost use Rattle.test_server.specs.Runs.{IsRun, ShowsServing, listening_line, port_text};
+ghost use Rattle.test_server.specs.Runs.{served_line};
 
 use crate::choice::Choice;
-use crate::connections::{Connections, ROOM};
+use crate::connections::{Connections, ROOM, Setup};
 use crate::drained::Turns;
 use crate::output::Output;
-use crate::stop::{Stop, wants_memory};
+use crate::scripts::{Scripts, read_scripts};
+use crate::stop::Stop;
 use mio::Events;
 use mio::net::TcpListener;
+use sockets::address_of;
 use std::alloc::Global;
 use std::collections::VecDeque;
 use std::fs::File;
 use std::io;
-use std::io::{BufRead, ErrorKind, Input, Read, Write};
-use std::net::{Net, SocketAddr, ToSocketAddrs};
+use std::io::{BufRead, ErrorKind, Input, Write};
+use std::net::{Net, SocketAddr};
 use std::rt::Files;
 use std::time::Clock;
-use test_script::{Cause, Script, ScriptFault};
+use test_script::ScriptFault;
 
 /// Why the server ends.
 #[derive(Debug, Drop)]
@@ -41,23 +41,6 @@ pub enum ServingEnd {
 
 /// The most events that one wait tells.
 const EVENTS: usize = 64;
-
-/// Returns the first IPv4 address that `address` names, and if it names none, the first one.
-fn address_of<R: Net>(rt: &R, address: &str) -> io::Result<SocketAddr> {
-    let mut first = None;
-    for found in address.to_socket_addrs(rt)? {
-        if found.is_ipv4() {
-            return Ok(found);
-        }
-        if first.is_none() {
-            first = Some(found);
-        }
-    }
-    match first {
-        Some(first) => Ok(first),
-        None => Err(io::Error::from(ErrorKind::InvalidInput)),
-    }
-}
 
 /// Writes the port.
 fn write_port<W: Write>(port: u16, out: &mut W) -> io::Result<()>
@@ -80,64 +63,6 @@ fn write_first<W: Write>(local: SocketAddr, out: &mut W) -> io::Result<()>
 {
     writeln!(out, "listening {local}")?;
     out.flush()
-}
-
-/// The rules of a script, twice: those that answers follow, and those that say what becomes of
-/// replies.
-#[derive(Drop)]
-struct Scripts {
-    script: Script,
-    guide: Script,
-}
-
-/// Reads the script out of its text.
-///
-/// # Errors
-///
-/// Returns the first line that is no rule, and why.
-fn parse_scripts(alloc: Global, text: &[u8]) -> Result<Scripts, ScriptFault>
-    ensures script { IfOk result (λ s. IsScript text.now s.script.rules.items) }
-    ensures guide { IfOk result (λ s. IsScript text.now s.guide.rules.items) }
-    ensures fault { IfErr result (λ fault. FailsAt text.now fault) }
-{
-    let script = Script::parse(alloc, text)?;
-    let guide = Script::parse(alloc, text)?;
-    Ok(Scripts { script, guide })
-}
-
-/// Returns the bytes of a file.
-fn read_file<R: Files>(rt: &R, alloc: Global, file: &str) -> io::Result<Vec<u8>> {
-    let mut bytes = Vec::new(alloc);
-    File::open(rt, file)?.read_to_end(&mut bytes)?;
-    Ok(bytes)
-}
-
-/// Reads the script, if a file of one is given, and else makes the one without rules.
-fn read_scripts<R: Files>(rt: &R, alloc: Global, file: Option<&str>) -> Result<Scripts, ServingEnd>
-    ensures read { IfOk result (λ s. AreRead (option_map (λ f. f.now) file.entry)
-        s.script.rules.items s.guide.rules.items) }
-    ensures refused { IfErr result (λ end. IsRefused (option_map (λ f. f.now) file.entry) end) }
-{
-    let Some(file) = file else {
-        return Ok(Scripts {
-            script: Script::new(alloc),
-            guide: Script::new(alloc),
-        });
-    };
-    let text = match read_file(rt, alloc, file) {
-        Ok(text) => text,
-        Err(error) if wants_memory(&error) => {
-            return Err(ServingEnd::Stopped(Stop::OutOfMemory));
-        }
-        Err(error) => return Err(ServingEnd::ScriptFile(error)),
-    };
-    match parse_scripts(alloc, text.as_slice()) {
-        Ok(scripts) => Ok(scripts),
-        Err(fault) if fault.cause == Cause::OutOfMemory => {
-            Err(ServingEnd::Stopped(Stop::OutOfMemory))
-        }
-        Err(fault) => Err(ServingEnd::Script(fault)),
-    }
 }
 
 /// Listens where the words say, and writes to `out` where that is, and the port to its file.
@@ -164,11 +89,15 @@ fn listen<R: Net + Files + Input, W: Write>(
     } else {
         None
     };
-    let Scripts { script, guide } = scripts;
-    let count = choice.connections;
-    let connections = Connections::new(
-        rt, alloc, listener, input, count, again, turns, script, guide,
-    )?;
+    let setup = Setup {
+        listener,
+        input,
+        wanted: choice.connections,
+        turns,
+        again,
+        scripts,
+    };
+    let connections = Connections::new(rt, alloc, setup)?;
     Ok(connections)
 }
 

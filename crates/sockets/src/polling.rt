@@ -1,0 +1,37 @@
+//! Waits for what happens on sockets.
+
+use mio::net::TcpStream;
+use mio::{Events, Interest, Poll, Registry, Token};
+use std::alloc::Global;
+use std::io;
+use std::io::ErrorKind;
+use std::time::Duration;
+
+/// Registers a stream, so that its events come under this token. Its bytes are sent as they are
+/// written (`TCP_NODELAY`).
+///
+/// # Errors
+///
+/// Returns why that failed.
+pub fn register(registry: &Registry, stream: &mut TcpStream, token: usize) -> io::Result<()> {
+    stream.set_nodelay(true)?;
+    let interest = Interest::READABLE | Interest::WRITABLE;
+    registry.register(stream, Token(token), interest)
+}
+
+/// Waits for events, and no longer than `timeout`, if it is given. A wait that a signal interrupts
+/// tells none.
+///
+/// # Errors
+///
+/// Returns why waiting failed.
+pub fn wait(
+    poll: &mut Poll,
+    events: &mut Events<Global>,
+    timeout: Option<Duration>,
+) -> io::Result<()> {
+    match poll.poll(events, timeout) {
+        Err(error) if error.kind() == ErrorKind::Interrupted => Ok(()),
+        waited => waited,
+    }
+}
