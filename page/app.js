@@ -14,7 +14,7 @@ function showTab(wanted) {
 function openFragment(inspector, player) {
   const asked = new URLSearchParams(location.hash.slice(1));
   if (asked.has("bytes")) {
-    inspector.openShared(asked.get("bytes"));
+    inspector?.openShared(asked.get("bytes"));
     showTab("inspector");
   }
   const run = player.runs.findIndex(({ name }) => name === asked.get("run"));
@@ -36,23 +36,31 @@ function takeDrops(inspector) {
     over(event, false);
     if (event.dataTransfer.files.length === 0) return;
     showTab("inspector");
-    inspector.readFile(event.dataTransfer.files[0]);
+    inspector?.readFile(event.dataTransfer.files[0]);
   });
+}
+
+// Returns the inspector, or nothing where this browser can't run its module: the player needs none.
+async function loadInspector() {
+  try {
+    return new Inspector(await Proved.load(byId("module").textContent.trim()));
+  } catch (problem) {
+    byId("verdict").className = "verdict faulty";
+    byId("verdict").textContent = `This browser can't run the page's module, which is WebAssembly with 64 bits of memory: ${problem.message}`;
+    return undefined;
+  }
 }
 
 async function begin() {
   const player = new Player(JSON.parse(byId("runs").textContent));
-  const inspector = new Inspector(await Proved.load(byId("module").textContent.trim()));
   for (const view of VIEWS) byId(`tab-${view}`).addEventListener("click", () => showTab(view));
   byId("theme").addEventListener("click", turnTheme);
-  takeDrops(inspector);
   document.addEventListener("keydown", (event) => byId("player").hidden || player.press(event));
+  const inspector = await loadInspector();
+  takeDrops(inspector);
   openFragment(inspector, player);
   addEventListener("hashchange", () => openFragment(inspector, player));
-  document.body.dataset.ready = "yes";
+  if (inspector) document.body.dataset.ready = "yes";
 }
 
-begin().catch((problem) => {
-  byId("verdict").className = "verdict faulty";
-  byId("verdict").textContent = `This browser can't run the page's module, which is WebAssembly with 64 bits of memory: ${problem.message}`;
-});
+begin();

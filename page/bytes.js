@@ -12,7 +12,7 @@ class BytesPane {
     scroll.addEventListener("pointerleave", () => onHover(undefined));
     scroll.addEventListener("click", ({ target }) => target.dataset.at && onChoose(Number(target.dataset.at)));
     scroll.addEventListener("keydown", (event) => {
-      const next = this.moved(event.key);
+      const next = hasModifier(event) ? undefined : this.moved(event.key);
       if (next === undefined) return;
       event.preventDefault();
       onChoose(next);
@@ -34,6 +34,7 @@ class BytesPane {
   show(bytes, { start, end }) {
     Object.assign(this, { bytes, from: start, end, cursor: start, marks: {} });
     this.scroll.scrollTop = 0;
+    this.scroll.removeAttribute("aria-activedescendant");
     this.fitWidth();
   }
 
@@ -41,7 +42,9 @@ class BytesPane {
     this.perLine = this.isNarrow ? 8 : 16;
     this.digits = Math.max(4, this.end.toString(16).length);
     this.scroll.style.setProperty("--digits", this.digits);
-    this.lines.setCount(Math.ceil((this.end - this.from) / this.perLine));
+    const count = Math.ceil((this.end - this.from) / this.perLine);
+    this.scroll.setAttribute("aria-rowcount", count);
+    this.lines.setCount(count);
   }
 
   // Marks bytes: `lit` and `value` are those of an element, `fault` is a byte, and `inFault` what is at fault with it.
@@ -93,7 +96,7 @@ class BytesPane {
       letters.append(this.marked(make("span", { "data-at": at }, this.letter(at)), at));
     }
     for (let at = end; at < start + this.perLine; at++) cells.push(make("span", { class: at - start === 7 ? "byte middle" : "byte" }));
-    return make("div", { class: "line", role: "row" }, ...cells, letters);
+    return make("div", { class: "line", role: "row", "aria-rowindex": index + 1 }, ...cells, letters);
   }
 
   marked(cell, at) {

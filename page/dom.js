@@ -15,6 +15,9 @@ function make(tag, attributes = {}, ...inside) {
   return element;
 }
 
+// Tells whether a key is pressed with another one, which is the browser's or a screen reader's then.
+const hasModifier = ({ ctrlKey, metaKey, altKey }) => ctrlKey || metaKey || altKey;
+
 // Makes the mark of a light or a dark page the other one.
 function turnTheme() {
   const root = document.documentElement;

@@ -51,7 +51,14 @@ class Inspector {
     this.type(text);
   }
 
+  // Counts what is given.
+  giveNext() {
+    this.turn = (this.turn ?? 0) + 1;
+    return this.turn;
+  }
+
   readTyped() {
+    this.giveNext();
     const read = readSource(byId("source").value);
     if (read.problem) this.tellProblem(read.problem);
     else this.open(read.bytes);
@@ -68,13 +75,16 @@ class Inspector {
 
   async readFile(file) {
     if (!file) return;
+    // What is given while the file is read comes in its place.
+    const turn = this.giveNext();
     try {
       const bytes = new Uint8Array(await file.arrayBuffer());
+      if (turn !== this.turn) return;
       byId("source").value = bytes.length <= MOST_TYPED ? hexOf(bytes) : "";
       byId("source").placeholder = `${file.name}, ${inWords(bytes.length, "byte")}`;
       this.open(bytes);
     } catch (problem) {
-      this.tellProblem(`${file.name} can't be read: ${problem.message}`);
+      if (turn === this.turn) this.tellProblem(`${file.name} can't be read: ${problem.message}`);
     }
   }
 

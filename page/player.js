@@ -92,7 +92,7 @@ class Player {
     const { key, target } = event;
     const keys = { ArrowLeft: "back", ArrowRight: "forward", Home: "first", End: "last", " ": "play" };
     const taken = target.closest("input, select, textarea") || (key === " " && target.closest("button"));
-    if (!(key in keys) || taken || event.ctrlKey || event.metaKey || event.altKey) return;
+    if (!(key in keys) || taken || hasModifier(event)) return;
     event.preventDefault();
     this.buttons[keys[key]]();
   }

@@ -1,6 +1,9 @@
 // The pane of the tree: a line for each node whose parents are open.
 "use strict";
 
+// Returns the name that a line shows: an element's own, which may be empty, and that of the whole.
+const nameOf = ({ parent, name }) => (parent ? name : name || "document");
+
 class TreePane {
   constructor(scroll, { onHover, onChoose }) {
     this.scroll = scroll;
@@ -8,10 +11,13 @@ class TreePane {
     this.onChoose = onChoose;
     this.clear();
     scroll.addEventListener("pointermove", ({ target }) => this.hover(target, onHover));
-    scroll.addEventListener("pointerleave", () => onHover(undefined));
+    scroll.addEventListener("pointerleave", () => {
+      this.hovered = undefined;
+      onHover(undefined);
+    });
     scroll.addEventListener("click", (event) => this.press(event));
     scroll.addEventListener("keydown", (event) => {
-      if (this.move(event.key)) event.preventDefault();
+      if (!hasModifier(event) && this.move(event.key)) event.preventDefault();
     });
   }
 
@@ -126,20 +132,27 @@ class TreePane {
     const twist = node.isContainer ? (node.open ? "▾" : "▸") : "";
     const indent = "  ".repeat(node.level);
     const parts = [
-      make("span", { class: "name" }, node.name || "document"),
+      make("span", { class: "name" }, nameOf(node)),
       make("span", { class: "kind" }, node.kind),
       make("span", { class: node.isContainer ? "part" : "value" }, clipped(node.value, 120)),
     ];
     return make("div", {
       class: node === this.chosen ? "line node chosen" : "line node", id: `node-${index}`, role: "treeitem", "data-row": index,
-      "aria-level": node.level + 1, "aria-expanded": node.isContainer ? String(node.open) : undefined,
-      "aria-selected": String(node === this.chosen), "aria-label": `${node.name || "document"}, ${node.kind} ${node.value}`,
+      "aria-level": node.level + 1, ...this.placeAmong(node), "aria-expanded": node.isContainer ? String(node.open) : undefined,
+      "aria-selected": String(node === this.chosen), "aria-label": `${nameOf(node)}, ${node.kind} ${node.value}`,
     }, indent, make("span", { class: "twist", "aria-hidden": "true" }, twist), ...parts);
+  }
+
+  // Says for screen readers, which line of those with the same parent this is, since only those in sight stand in the page.
+  placeAmong({ parent, start }) {
+    if (!parent) return { "aria-setsize": 1, "aria-posinset": 1 };
+    const { children } = parent;
+    return { "aria-setsize": parent.isWhole ? children.length : -1, "aria-posinset": children.findIndex((child) => child.start === start) + 1 };
   }
 
   drawMore(node, index) {
     const indent = "  ".repeat(node.level + 1);
-    return make("div", { class: "line node", "data-row": index }, indent, make("span", { class: "twist" }, "…"),
+    return make("div", { class: "line node", role: "treeitem", "data-row": index, "aria-level": node.level + 2 }, indent, make("span", { class: "twist" }, "…"),
       make("span", { class: "part" }, `read more than ${node.children.length.toLocaleString("en")} elements`));
   }
 }

@@ -6,6 +6,7 @@ import ctypes
 import datetime
 import operator
 import struct
+from collections import UserString
 from collections.abc import Iterable, Iterator, Mapping, Sequence
 from typing import Any, Callable, Optional
 
@@ -140,12 +141,15 @@ def _is_buffer(value: Any) -> bool:
 
 
 def _container_of(value: Any) -> Optional[Kind]:
-    """Returns the kind of a value that holds others: a document of a mapping, an array of a sequence that is no text and no bytes."""
+    """Returns the kind of a value that holds others: a document of a mapping, an array of a sequence that is no text and no bytes.
+
+    A text's items are texts of one character, and their items again, so a text is no array, whatever class it has.
+    """
     if isinstance(value, Mapping):
         return Kind.DOCUMENT
     if isinstance(value, (list, tuple, Array)):
         return Kind.ARRAY
-    if isinstance(value, Sequence) and not isinstance(value, str) and not _is_buffer(value):
+    if isinstance(value, Sequence) and not isinstance(value, (str, UserString)) and not _is_buffer(value):
         return Kind.ARRAY
     return None
 

@@ -184,6 +184,7 @@ NO_VALUES = [
     array.array("i", [1]),
     object(),
     int,
+    collections.UserString("text"),
     lughemra.Binary(5, "text"),
     lughemra.Binary("5", b""),
     lughemra.Binary(5.0, b""),

@@ -52,17 +52,17 @@ def record_front(b):
     length = int.from_bytes(message[:4], "little")
     if not 16 <= length <= MAX_MESSAGE:
         raise BadRecord(1, HEAD.size)
-    return Record(micros, connection, direction, message[:length]) if len(message) >= length else None
+    return Record(micros, connection, direction, bytes(message[:length])) if len(message) >= length else None
 
 
 def read(b):
     """Returns the records of a file, up to the first one that is at fault or isn't whole, and how many bytes stand behind them."""
     if not b.startswith(SIGNATURE):
         return [], len(b)
-    found, at = [], len(SIGNATURE)
+    found, at, view = [], len(SIGNATURE), memoryview(b)
     while at < len(b):
         try:
-            record = record_front(b[at:])
+            record = record_front(view[at:])
         except BadRecord:
             break
         if not record:

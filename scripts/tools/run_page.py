@@ -4,6 +4,7 @@ All of it is what `play` writes: for the script, for the lines up to each event,
 what waits. Nothing is worked out here but which entry has the connection and the payload of a call that is done.
 """
 
+import html
 import json
 import os
 import subprocess
@@ -236,5 +237,5 @@ def filled(template, **parts):
 
 def page_of(name, script, play):
     """Returns a page with one run."""
-    return filled("run.in.html", NAME=name, STYLE=page_part("page.css"), PLAYER=page_part("player.html"),
+    return filled("run.in.html", NAME=html.escape(name), STYLE=page_part("page.css"), PLAYER=page_part("player.html"),
                   SCRIPTS=page_part("dom.js") + page_part("player.js"), RUNS=as_script_data([run_of(name, script, play)]))
