@@ -1,12 +1,11 @@
 -- What a choice reads of the matches.
-use Rattle.std.proofs.Common.{◌≡◌, ◌∙◌, ◌<◌, ◌^◌, ℕ, ap, refl, subst, sym, Bool, true, false, true≢false, List, Option, Some, None, Result, Ok, Err, codes, arith}
-use Rattle.std.specs.Prelude.{IfSome}
+use Rattle.std.proofs.Common.{◌≡◌, ◌∙◌, ◌<◌, ◌^◌, ℕ, ap, subst, sym, Bool, true, false, true≢false, List, Option, Some, None, Result, Ok, Err, codes, arith}
 use Rattle.std.specs.Str.Parse.{ParsesUnsigned, digits_value, without_leading_plus}
-use Rattle.clap.specs.Words.{IsUnsignedIn, ReadsOne, Row, Text}
+use Rattle.clap.specs.Words.{ReadsOne, Row, Text}
 use Rattle.command_words.proofs.Lemmas.{reads_true}
 use Rattle.bsonwire.specs.declared.choice.Reading.{Reading}
 use Rattle.bsonwire.specs.declared.choice.Reading.TheVariants.{Bytes, Hex, Salvage}
-use Rattle.bsonwire.specs.Choices.{AsksFor, AsksForMany, HoldsFlag, HoldsHex, HoldsMessageForm, HoldsReading, IsCount, is_relaxed}
+use Rattle.bsonwire.specs.Choices.{HoldsFlag, HoldsHex, HoldsMessageForm, HoldsReading, IsCount, is_relaxed}
 use Rattle.engines.specs.declared.msg.MessageForm.{MessageForm}
 use Rattle.engines.specs.declared.msg.MessageForm.TheVariants.{Text as in_text, Json as in_json}
 
@@ -59,25 +58,3 @@ module _ {E : Type 0} (G : Text → Result ℕ E → Type 0) (parses : (t : Text
       let read = value count.0 count.1 in
       let small : digits_value 10 (without_leading_plus count.0) < 2 ^ 8 = omega (arith, count.2.1, count.4) in
       parses count.0 (Err read.0) read.1 (count.2.0, small)
-
--- ---- a number that an option gives
-
-module _ {E : Type 0} (G : Text → Result ℕ E → Type 0) (parses : (t : Text) (r : Result ℕ E) → G t r → ParsesUnsigned 64 10 t r) where
-  -- what was read is what stands there
-  pub read_number : (o : Option Text) (given : Option ℕ) → IfSome o (IsUnsignedIn 0 18446744073709551615) → (o ≡ None → given ≡ None)
-      → ((t : Text) → o ≡ Some t → ReadsOne G t given) → AsksFor given o
-  read_number None given held none value = none refl
-  read_number (Some t) (Some k) held none value = (held.0, sym (parses t (Ok k) (value t refl)).1)
-  read_number (Some t) None held none value =
-      let read = value t refl in
-      absurd (parses t (Err read.0) read.1 (held.0, held.1))
-
-pub asks_for : (o : Option Text) (k : ℕ) → AsksFor (Some k) o → AsksForMany k o
-asks_for None k asks =
-    let none : Some k ≡ None = asks in
-    cc
-asks_for (Some t) k asks = asks
-
-pub asks_for_all : (o : Option Text) → AsksFor None o → AsksForMany 18446744073709551615 o
-asks_for_all None asks = refl
-asks_for_all (Some t) asks = absurd asks

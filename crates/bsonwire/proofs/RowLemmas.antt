@@ -19,7 +19,8 @@ use Rattle.clap.specs.declared.builder.value_parser.ValueParser.TheVariants.{Sig
 use Rattle.clap.specs.declared.parser.matches.ValueSource.{ValueSource}
 use Rattle.clap.specs.declared.parser.matches.ValueSource.TheVariants.{CommandLine}
 use Rattle.clap.proofs.ValueTestLemmas.{accepts-Accepts}
-use Rattle.bsonwire.specs.CommandLine.{calls_rule, dump_flags, file_rule, flag_rule, json_flags, msg_flags, number_rule, operand_rule, proxy_rules, replay_rules, salvage_flags, share_rule, text_flags}
+use Rattle.command_words.specs.{flag_rule, number_rule, text_rule}
+use Rattle.bsonwire.specs.CommandLine.{calls_rule, dump_flags, json_flags, msg_flags, operand_rule, proxy_rules, replay_rules, salvage_flags, share_rule, text_flags}
 use Rattle.bsonwire.specs.Choices.{IsCount}
 use Rattle.bsonwire.proofs.NumberLemmas.{count_text}
 
@@ -179,8 +180,8 @@ is_other id other same differs e = true≢false (sym same ∙ (ap (bytes_eq id) 
 abbrev built_operand_rule : ℕ → Text → Rule
 built_operand_rule place name = with_index place (filled (operand_rule name))
 
-abbrev built_file_rule : Text → Rule
-built_file_rule name = filled (file_rule name)
+abbrev built_text_rule : Text → Rule
+built_text_rule name = filled (text_rule name)
 
 abbrev built_flag_rule : Text → Rule
 built_flag_rule name = filled (flag_rule name)
@@ -200,9 +201,9 @@ operand_keeps : (place : ℕ) (name : Text) → IsPlainName name → KeepsUse (b
 operand_keeps place name is again [] rows none all = absurd (no_kind _ refl none)
 operand_keeps place name is again (v ∷ vs) rows none all = plain_row name (reading_by (built_operand_rule place name)) v vs rows is all
 
-option_keeps : (name : Text) → IsPlainName name → KeepsUse (built_file_rule name)
+option_keeps : (name : Text) → IsPlainName name → KeepsUse (built_text_rule name)
 option_keeps name is again [] rows none all = absurd (no_kind _ refl none)
-option_keeps name is again (v ∷ vs) rows none all = plain_row name (reading_by (built_file_rule name)) v vs rows is all
+option_keeps name is again (v ∷ vs) rows none all = plain_row name (reading_by (built_text_rule name)) v vs rows is all
 
 plain_name : (name : Text) → is_flag name ≡ false → bytes_eq name name ≡ true → bytes_eq name (codes "calls") ≡ false → is_number name ≡ false → IsPlainName name
 plain_name name flag same calls number = (flag, is_other name (codes "calls") same calls, number)

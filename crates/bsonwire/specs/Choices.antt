@@ -1,14 +1,13 @@
 -- What a choice takes from the matches that `clap` makes of the words, and what it asks for.
 use Rattle.std.specs.Prelude.{◌≡◌, ◌⊎◌, ◌≤◌, ℕ, List, Bool, true, false, Option, Some, None}
-use Rattle.std.specs.Prelude.{[], ◌∷◌, ◌&&◌, ◌||◌, not, is_some, codes, if◌then◌else◌, IfSome}
+use Rattle.std.specs.Prelude.{[], ◌∷◌, ◌&&◌, ◌||◌, not, is_some, codes, if◌then◌else◌}
 use Rattle.std.specs.Prelude.{option_map}
 use Rattle.std.specs.Str.{bytes_eq}
-use Rattle.std.specs.Str.Parse.{IsNumeral, digits_value, without_leading_plus}
 use Rattle.clap.specs.Kinds.{or_else}
-use Rattle.clap.specs.Words.{IsUnsignedIn, Kinds, Row, Text, fault_of, first_of, one_of}
+use Rattle.clap.specs.Words.{Kinds, Row, Text, fault_of, first_of, one_of}
 use Rattle.clap.specs.Words.{subcommand_of}
 use Rattle.clap.specs.declared.error.kind.ErrorKind.TheVariants as kind
-use Rattle.command_words.specs.{was_given}
+use Rattle.command_words.specs.{AsksFor, AsksForMany, HasNumber, IsNumber, was_given}
 use Rattle.bsonwire.specs.declared.choice.Choice.{Choice}
 use Rattle.bsonwire.specs.declared.choice.Choice.TheVariants.{Loop, Over, Proxy, Replay}
 use Rattle.bsonwire.specs.declared.choice.Command.{Command}
@@ -82,11 +81,6 @@ HoldsMessageForm in_text rows =
 HoldsMessageForm (in_json mode) rows =
     HoldsFlag (codes "json") true rows × HoldsFlag (codes "relaxed") (is_relaxed mode) rows
 
--- the text is this number in decimal digits, maybe after a plus
-abbrev pub IsNumber : ℕ → Text → Type 0
-IsNumber n text =
-    IsNumeral 10 (without_leading_plus text) × (digits_value 10 (without_leading_plus text) ≡ n)
-
 -- there is a text, and it is this number from 1 to 100
 abbrev pub IsCount : ℕ → Option Text → Type 0
 IsCount n found = (text : Text) × (found ≡ Some text) × IsNumber n text × (1 ≤ n) × (n ≤ 100)
@@ -94,17 +88,6 @@ IsCount n found = (text : Text) × (found ≡ Some text) × IsNumber n text × (
 -- they hold this operand N
 abbrev pub HoldsCalls : ℕ → List Row → Type 0
 HoldsCalls n rows = IsCount n (one_of (codes "calls") rows)
-
--- there is a number where there is a text, and it is that of the text
-abbrev pub AsksFor : Option ℕ → Option Text → Type 0
-AsksFor given None = given ≡ None
-AsksFor None (Some text) = ⊥
-AsksFor (Some n) (Some text) = IsNumber n text
-
--- the number is that of the text; without a text it is the greatest number
-abbrev pub AsksForMany : ℕ → Option Text → Type 0
-AsksForMany n None = n ≡ 18446744073709551615
-AsksForMany n (Some text) = IsNumber n text
 
 -- how a proxy shows messages, by these flags
 abbrev pub shown_by : List Row → Show
@@ -237,10 +220,6 @@ NamesCommand name rows = (c : Command) × IsCommand c name rows
 -- the matches hold an operand N
 abbrev pub HasCalls : List Row → Type 0
 HasCalls rows = (n : ℕ) × HoldsCalls n rows
-
--- if they hold what the option of this name gives, it is a number of 64 bits
-abbrev pub HasNumber : Text → List Row → Type 0
-HasNumber name rows = IfSome (one_of name rows) (IsUnsignedIn 0 18446744073709551615)
 
 -- they hold the two addresses of a proxy, and numbers where options give these
 abbrev pub HasOptions : List Row → Type 0

@@ -2,8 +2,8 @@
 use Rattle.std.specs.Prelude.{[], ◌∷◌, ◌++◌, List, true, codes, fold, Some, pos}
 use Rattle.clap.specs.Words.{App, Rule, Text, new_app, new_rule, with_rule, with_subcommand}
 use Rattle.clap.specs.Simple.{on_top}
-use Rattle.clap.specs.declared.builder.action.ArgAction.TheVariants.{Set, SetTrue}
 use Rattle.clap.specs.declared.builder.value_parser.ValueParser.TheVariants.{Signed, Unsigned}
+use Rattle.command_words.specs.{flag_rule, number_rule, text_rule}
 
 -- a required operand
 abbrev pub operand_rule : Text → Rule
@@ -13,21 +13,9 @@ operand_rule id = record (new_rule id) { value_names = 1; required = true }
 abbrev pub calls_rule : Rule
 calls_rule = record (operand_rule (codes "calls")) { parser = Some (Signed (pos 1) (pos 100)) }
 
--- a flag, which is true where it is given
-abbrev pub flag_rule : Text → Rule
-flag_rule id = record (new_rule id) { long = Some id; action = Some SetTrue }
-
--- an option that gives a file
-abbrev pub file_rule : Text → Rule
-file_rule id = record (new_rule id) { long = Some id; action = Some Set; value_names = 1 }
-
--- an option that gives a number of 64 bits
-abbrev pub number_rule : Text → Rule
-number_rule id = record (file_rule id) { parser = Some (Unsigned 0 18446744073709551615) }
-
 -- the option `--share N`, a number from 1 to 1024
 abbrev pub share_rule : Rule
-share_rule = record (file_rule (codes "share")) { parser = Some (Unsigned 1 1024) }
+share_rule = record (text_rule (codes "share")) { parser = Some (Unsigned 1 1024) }
 
 -- a subcommand that reads a file, with these flags
 abbrev pub file_app : Text → List Text → App
@@ -98,17 +86,17 @@ address_rules = operand_rule (codes "listen") ∷ operand_rule (codes "upstream"
 -- what becomes of messages that pass
 abbrev pub show_rules : List Rule
 show_rules =
-    flag_rule (codes "text") ∷ flag_rule (codes "json") ∷ file_rule (codes "record")
+    flag_rule (codes "text") ∷ flag_rule (codes "json") ∷ text_rule (codes "record")
     ∷ number_rule (codes "limit") ∷ []
 
 -- its other options
 abbrev pub option_rules : List Rule
 option_rules =
-    share_rule ∷ number_rule (codes "connections") ∷ file_rule (codes "port-file") ∷ []
+    share_rule ∷ number_rule (codes "connections") ∷ text_rule (codes "port-file") ∷ []
 
 -- the faults that it makes
 abbrev pub fault_rules : List Rule
-fault_rules = file_rule (codes "script") ∷ number_rule (codes "seed") ∷ []
+fault_rules = text_rule (codes "script") ∷ number_rule (codes "seed") ∷ []
 
 -- the subcommand that passes connections to a server and back, with these arguments
 abbrev pub proxy_with : List Rule → App
@@ -123,7 +111,7 @@ proxy_app = proxy_with proxy_rules
 -- the subcommand that sends what a record's clients sent
 abbrev pub replay_rules : List Rule
 replay_rules =
-    operand_rule (codes "file") ∷ operand_rule (codes "address") ∷ file_rule (codes "ignore")
+    operand_rule (codes "file") ∷ operand_rule (codes "address") ∷ text_rule (codes "ignore")
     ∷ number_rule (codes "speed") ∷ []
 
 abbrev pub replay_app : App

@@ -1,12 +1,11 @@
 //! Finds out what the words of the command line ask for.
 
 ghost use Rattle.std.specs.Prelude.{◌≡◌, IfErr, IfOk, IsErrAnd, IsOk, Some, is_some, map};
-ghost use Rattle.std.specs.Prelude.{false, true, Bool, codes, option_map};
-ghost use Rattle.clap.specs.Words.{FailsBy, first_of, found_of, one_of, rows_of};
+ghost use Rattle.std.specs.Prelude.{false, true, Bool, codes};
+ghost use Rattle.clap.specs.Words.{FailsBy, first_of, found_of, rows_of};
 ghost use Rattle.clap.specs.Words.{subcommand_rows_of};
-ghost use Rattle.bsonwire.specs.Choices.{AsksFor, AsksForMany, HasNumber, HasOptions, HoldsOptions};
-ghost use Rattle.bsonwire.specs.Choices.{HasCalls, HasFile, HasQuiet, HoldsCalls, HoldsFlag};
-ghost use Rattle.bsonwire.specs.Choices.{HasReplay, HoldsReplay};
+ghost use Rattle.bsonwire.specs.Choices.{HasCalls, HasFile, HasOptions, HasQuiet, HasReplay};
+ghost use Rattle.bsonwire.specs.Choices.{HoldsCalls, HoldsFlag, HoldsOptions, HoldsReplay};
 ghost use Rattle.bsonwire.specs.Choices.{HoldsForm, HoldsMessageForm, HoldsReading, IsChosen};
 ghost use Rattle.bsonwire.specs.Choices.{IsCommand, IsMetSubcommand, IsSubcommand, MayChoose};
 ghost use Rattle.bsonwire.specs.Choices.{NamesChoice, NamesCommand, any_as_json};
@@ -18,7 +17,7 @@ use crate::command_line::{
     bytes_wanted, json_wanted, program, record_wanted, text_alone_wanted, text_wanted,
 };
 use clap::{ArgMatches, Error};
-use command_words::is_given;
+use command_words::{count_of, is_given, number_of, text_of};
 use engines::{Layout, MessageForm, Mode};
 use proxy::{Options, Show};
 use replay::ReplayOptions;
@@ -172,39 +171,11 @@ fn calls_of(matches: &ArgMatches<'_>) -> u8
     }
 }
 
-/// Returns the number that the option of this name gives, if it was given.
-fn number_of(matches: &ArgMatches<'_>, name: &str) -> Option<u64>
-    requires { HasNumber name.now (rows_of (found_of matches.now)) }
-    ensures { AsksFor result (one_of name.now (rows_of (found_of matches.now))) }
-{
-    matches.get_one::<u64>(name)
-}
-
-/// Returns the number that the option of this name gives, or the greatest number if it wasn't
-/// given.
-fn count_of(matches: &ArgMatches<'_>, name: &str) -> u64
-    requires { HasNumber name.now (rows_of (found_of matches.now)) }
-    ensures { AsksForMany result (one_of name.now (rows_of (found_of matches.now))) }
-{
-    match number_of(matches, name) {
-        Some(count) => count,
-        None => u64::MAX,
-    }
-}
-
-/// Returns the file, or the other text, that the option of this name gives, if it was given.
-fn file_of<'a>(matches: &ArgMatches<'a>, name: &str) -> Option<&'a str>
-    ensures { option_map (λ file. file.now) result
-        ≡ first_of name.now (rows_of (found_of matches.now)) }
-{
-    matches.get_str(name)
-}
-
 /// Returns true if the option of this name was given.
 fn has_value(matches: &ArgMatches<'_>, name: &str) -> bool
     ensures { result ≡ is_some (first_of name.now (rows_of (found_of matches.now))) }
 {
-    file_of(matches, name).is_some()
+    text_of(matches, name).is_some()
 }
 
 /// Returns how a proxy shows messages.
@@ -230,10 +201,10 @@ fn options_of<'a>(matches: &ArgMatches<'a>) -> Options<'a>
         upstream: operand_of(matches, "upstream"),
         show: show_of(matches),
         connections: count_of(matches, "connections"),
-        port_file: file_of(matches, "port-file"),
-        script: file_of(matches, "script"),
+        port_file: text_of(matches, "port-file"),
+        script: text_of(matches, "script"),
         seed: number_of(matches, "seed"),
-        record: file_of(matches, "record"),
+        record: text_of(matches, "record"),
         limit: count_of(matches, "limit"),
         share: number_of(matches, "share"),
     }
@@ -248,7 +219,7 @@ fn replay_of<'a>(matches: &ArgMatches<'a>) -> ReplayOptions<'a>
     ReplayOptions {
         file,
         address: operand_of(matches, "address"),
-        ignore: file_of(matches, "ignore"),
+        ignore: text_of(matches, "ignore"),
         speed: number_of(matches, "speed"),
     }
 }

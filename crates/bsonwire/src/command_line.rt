@@ -1,19 +1,19 @@
 //! Describes the command line to `clap`: the subcommands, their operands and their flags.
-ghost use Rattle.std.specs.Prelude.{◌≡◌, ◌++◌, IfOk, codes, false};
+ghost use Rattle.std.specs.Prelude.{◌≡◌, ◌++◌, IfOk, false};
 ghost use Rattle.clap.specs.Words.{app_of, kind_of, rule_of};
 ghost use Rattle.clap.specs.declared.builder.command.Command.TheViews.{out-Command};
 ghost use Rattle.bsonwire.specs.CommandLine.{address_rules, option_rules, proxy_with};
 ghost use Rattle.bsonwire.specs.CommandLine.{bson_app, bytes_flags, calls_rule, canon_app};
 ghost use Rattle.bsonwire.specs.CommandLine.{check_app, check_line, command_line};
 ghost use Rattle.bsonwire.specs.CommandLine.{dump_app, ending_line, file_app};
-ghost use Rattle.bsonwire.specs.CommandLine.{file_line, file_rule, flag_rule, json_app, json_line};
-ghost use Rattle.bsonwire.specs.CommandLine.{loop_app, msg_app, number_rule, operand_rule};
+ghost use Rattle.bsonwire.specs.CommandLine.{file_line, json_app, json_line};
+ghost use Rattle.bsonwire.specs.CommandLine.{loop_app, msg_app, operand_rule};
 ghost use Rattle.bsonwire.specs.CommandLine.{play_app, proxy_app, replay_app, salvage_flags};
 ghost use Rattle.bsonwire.specs.CommandLine.{share_rule, show_rules, text_flags, top_app};
 
 use clap::error::ErrorKind;
-use clap::{Arg, ArgAction, Command, Error, value_parser};
-use command_words::VERSION;
+use clap::{Arg, Command, Error, value_parser};
+use command_words::{VERSION, flag, number_option, text_option};
 use std::alloc::{AllocError, Global};
 
 /// What help says of FILE.
@@ -37,42 +37,6 @@ fn calls_operand<'a>(alloc: Global) -> Arg<'a>
 {
     let number = value_parser!(u8).range(1..=100);
     operand(alloc, "calls", "N", "How many calls to make, 1 to 100").value_parser(number)
-}
-
-/// Makes a flag.
-fn flag<'a>(alloc: Global, name: &'a str, help: &'a str) -> Arg<'a>
-    ensures rule { rule_of result ≡ flag_rule name.entry.now }
-    ensures local { result.global ≡ false }
-{
-    Arg::new(alloc, name)
-        .long(name)
-        .help(help)
-        .action(ArgAction::SetTrue)
-}
-
-/// Makes the option of this name that gives a file.
-fn file_option<'a>(alloc: Global, name: &'a str, help: &'a str) -> Arg<'a>
-    ensures rule { rule_of result ≡ file_rule name.entry.now }
-    ensures local { result.global ≡ false }
-{
-    Arg::new(alloc, name)
-        .long(name)
-        .value_name("FILE")
-        .help(help)
-        .action(ArgAction::Set)
-}
-
-/// Makes the option of this name that gives a number, which help shows as `shown`.
-fn number_option<'a>(alloc: Global, name: &'a str, shown: &'a str, help: &'a str) -> Arg<'a>
-    ensures rule { rule_of result ≡ number_rule name.entry.now }
-    ensures local { result.global ≡ false }
-{
-    Arg::new(alloc, name)
-        .long(name)
-        .value_name(shown)
-        .help(help)
-        .action(ArgAction::Set)
-        .value_parser(value_parser!(u64))
 }
 
 /// Makes the option `--share N`, a number from 1 to 1024.
@@ -278,7 +242,7 @@ fn showing_command<'a>(alloc: Global) -> Result<Command<'a>, AllocError>
     addresses_command(alloc)?
         .arg(flag(alloc, "text", "Write the text of each message"))?
         .arg(flag(alloc, "json", line))?
-        .arg(file_option(alloc, "record", record))?
+        .arg(text_option(alloc, "record", "FILE", record))?
         .arg(number_option(alloc, "limit", "N", limit))
 }
 
@@ -293,7 +257,7 @@ fn passing_command<'a>(alloc: Global) -> Result<Command<'a>, AllocError>
     showing_command(alloc)?
         .arg(share_option(alloc))?
         .arg(number_option(alloc, "connections", "N", count))?
-        .arg(file_option(alloc, "port-file", port))
+        .arg(text_option(alloc, "port-file", "FILE", port))
 }
 
 /// Makes the error of a `--text` beside `--json`, in the form of `clap`'s own.
@@ -324,21 +288,8 @@ fn proxy_command<'a>(alloc: Global) -> Result<Command<'a>, AllocError>
     let script = "Do with requests and their replies what the rules of FILE say";
     let seed = "Cut each connection behind a number of bytes that is drawn from S";
     passing_command(alloc)?
-        .arg(file_option(alloc, "script", script))?
+        .arg(text_option(alloc, "script", "FILE", script))?
         .arg(number_option(alloc, "seed", "S", seed))
-}
-
-/// Makes the option `--ignore`, which gives names.
-fn ignore_option<'a>(alloc: Global) -> Arg<'a>
-    ensures rule { rule_of result ≡ file_rule (codes "ignore") }
-    ensures local { result.global ≡ false }
-{
-    file_option(
-        alloc,
-        "ignore",
-        "Don't compare fields of these names, which have commas between",
-    )
-    .value_name("NAMES")
 }
 
 /// Makes the subcommand that sends what a record's clients sent.
@@ -348,12 +299,13 @@ fn replay_command<'a>(alloc: Global) -> Result<Command<'a>, AllocError>
 {
     let file = "The file of records to read, or - for standard input";
     let address = "The address of the server, as 127.0.0.1:27017";
+    let ignore = "Don't compare fields of these names, which have commas between";
     let speed = "Send at P percent of the recorded speed, and not as fast as answers come";
     Command::new(alloc, "replay")
         .about("Sends what clients sent in a record to a server, and tells which answers differ")
         .arg(operand(alloc, "file", "FILE", file))?
         .arg(operand(alloc, "address", "ADDRESS", address))?
-        .arg(ignore_option(alloc))?
+        .arg(text_option(alloc, "ignore", "NAMES", ignore))?
         .arg(number_option(alloc, "speed", "P", speed))
 }
 

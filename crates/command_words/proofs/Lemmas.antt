@@ -1,10 +1,12 @@
--- What a flag reads of the matches.
-use Rattle.std.proofs.Common.{◌≡◌, ap, refl, sym, Bool, true, false, Option, Some, None, codes}
-use Rattle.std.specs.Prelude.{◌≢◌, MatchBool, if◌then◌else◌}
+-- What is read of the matches.
+use Rattle.std.proofs.Common.{◌≡◌, ℕ, ap, refl, sym, Bool, true, false, Option, Some, None, Result, Ok, Err, codes}
+use Rattle.std.specs.Prelude.{◌≢◌, IfSome, MatchBool, if◌then◌else◌}
 use Rattle.std.specs.Option.{option_map_or}
 use Rattle.std.specs.Str.{bytes_eq}
+use Rattle.std.specs.Str.Parse.{ParsesUnsigned}
 use Rattle.std.proofs.lemmas.Slice.Eq.{bytes_eq-Decides}
-use Rattle.clap.specs.Words.{Text}
+use Rattle.clap.specs.Words.{IsUnsignedIn, ReadsOne, Text}
+use Rattle.command_words.specs.Values.{AsksFor, AsksForMany}
 
 -- the text of a flag that read as b
 pub flag_text : (o : Option Text) (b : Bool) → (o ≡ None → Some b ≡ None) → ((t : Text) → o ≡ Some t → MatchBool b (t ≡ codes "true") (t ≡ codes "false"))
@@ -40,3 +42,25 @@ unread_given (Some t) value = go (bytes_eq t (codes "true")) refl
     go : (b : Bool) → bytes_eq t (codes "true") ≡ b → false ≡ b
     go false is = refl
     go true is = absurd ((value t refl).1.0 ((bytes_eq-Decides t (codes "true")).0 is))
+
+-- ---- a number that an option gives
+
+module _ {E : Type 0} (G : Text → Result ℕ E → Type 0) (parses : (t : Text) (r : Result ℕ E) → G t r → ParsesUnsigned 64 10 t r) where
+  -- what was read is what stands there
+  pub read_number : (o : Option Text) (given : Option ℕ) → IfSome o (IsUnsignedIn 0 18446744073709551615) → (o ≡ None → given ≡ None)
+      → ((t : Text) → o ≡ Some t → ReadsOne G t given) → AsksFor given o
+  read_number None given held none value = none refl
+  read_number (Some t) (Some k) held none value = (held.0, sym (parses t (Ok k) (value t refl)).1)
+  read_number (Some t) None held none value =
+      let read = value t refl in
+      absurd (parses t (Err read.0) read.1 (held.0, held.1))
+
+pub asks_for : (o : Option Text) (k : ℕ) → AsksFor (Some k) o → AsksForMany k o
+asks_for None k asks =
+    let none : Some k ≡ None = asks in
+    cc
+asks_for (Some t) k asks = asks
+
+pub asks_for_all : (o : Option Text) → AsksFor None o → AsksForMany 18446744073709551615 o
+asks_for_all None asks = refl
+asks_for_all (Some t) asks = absurd asks

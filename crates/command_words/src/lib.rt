@@ -1,5 +1,5 @@
-//! Reads the words of a program's command line. If they can't be read or ask for nothing, says
-//! why, and returns the exit status for that.
+//! Reads the words of a program's command line, and what `clap` makes of them. If they can't be read
+//! or ask for nothing, says why, and returns the exit status for that.
 //!
 //! A line on standard error begins with the program's name. If standard error takes no line, there
 //! is only the exit status.
@@ -7,8 +7,10 @@
 //! Uses clap. Used by bsonwire and test_server.
 #![tactic(auto)]
 
-mod given;
+mod arguments;
 mod program;
+mod values;
 
-pub use given::is_given;
+pub use arguments::{flag, number_option, text_option};
 pub use program::{IN_OUT, MEMORY, Program, USAGE, VERSION, texts};
+pub use values::{count_of, is_given, number_of, text_of};

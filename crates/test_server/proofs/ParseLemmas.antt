@@ -25,8 +25,9 @@ use Rattle.clap.specs.declared.parser.matches.ArgMatches.{ArgMatches}
 use Rattle.clap.specs.declared.parser.matches.MatchedArg.{MatchedArg}
 use Rattle.clap.proofs.CallerLemmas.{entry_by_id, required_has_value, same_rules_by_id}
 use Rattle.clap.proofs.WalkLemmas.{both, first_value-rows, one_text-rows}
-use Rattle.test_server.specs.CommandLine.{address_rule, command_line, connections_rule}
-use Rattle.test_server.specs.Choices.{HasAddress, HasChoice, HasNumber}
+use Rattle.command_words.specs.{HasNumber, number_rule}
+use Rattle.test_server.specs.CommandLine.{address_rule, command_line}
+use Rattle.test_server.specs.Choices.{HasAddress, HasChoice}
 
 is_nil : {X : Type 0} (xs : List X) → is_empty xs ≡ true → xs ≡ []
 is_nil [] e = refl
@@ -129,7 +130,7 @@ module _ (cmd : Command) (x : Arg) (rules : map rule_of (args_of cmd) ≡ comman
   is_first : rule_of first ≡ address_rule
   is_first = at 0
 
-  is_second : rule_of second ≡ connections_rule
+  is_second : rule_of second ≡ number_rule (codes "connections")
   is_second = at 1
 
   count : 6 ≡ length (args_of cmd)
@@ -226,7 +227,7 @@ module _ (cmd : Command) (x : Arg) (rules : map rule_of (args_of cmd) ≡ comman
       ] in
       first_is_number e.1.reading e.1.vals.items how all
 
-  has_number : HasNumber (rows_of (found_of m))
+  has_number : HasNumber (codes "connections") (rows_of (found_of m))
   has_number = subst (λ (o : Option Text). IfSome o IsNumber) (one_text-rows (found_of m) (codes "connections")) (go (matched_of (found_of m) (codes "connections")) refl)
     where
       go : (o : Option MatchedArg) → matched_of (found_of m) (codes "connections") ≡ o → IfSome (option_and_then read_first o) IsNumber

@@ -1,15 +1,13 @@
 //! Finds out what the words of the command line ask for.
 
 ghost use Rattle.std.specs.Prelude.{◌≡◌, IfOk, IsErrAnd, IsOkAnd, MatchResult, Some, codes, map};
-ghost use Rattle.std.specs.Prelude.{option_map};
-ghost use Rattle.clap.specs.Words.{FailsBy, fault_of, first_of, found_of, one_of, rows_of};
-ghost use Rattle.test_server.specs.Choices.{AsksFor, HasAddress, HasChoice, HasNumber, IsChosen};
-ghost use Rattle.test_server.specs.Choices.{IsHeld};
+ghost use Rattle.clap.specs.Words.{FailsBy, fault_of, first_of, found_of, rows_of};
+ghost use Rattle.test_server.specs.Choices.{HasAddress, HasChoice, IsChosen, IsHeld};
 ghost use Rattle.test_server.specs.CommandLine.{command_line};
 
 use crate::command_line::program;
 use clap::{ArgMatches, Error};
-use command_words::is_given;
+use command_words::{count_of, is_given, text_of};
 use std::alloc::Global;
 
 /// What the command line asks for.
@@ -40,26 +38,6 @@ fn address_of<'a>(matches: &ArgMatches<'a>) -> &'a str
     }
 }
 
-/// Returns the number of connections that `--connections` asks for, or the greatest number if it
-/// wasn't given.
-fn connections_of(matches: &ArgMatches<'_>) -> u64
-    requires { HasNumber (rows_of (found_of matches.now)) }
-    ensures { AsksFor result (one_of (codes "connections") (rows_of (found_of matches.now))) }
-{
-    match matches.get_one::<u64>("connections") {
-        Some(connections) => connections,
-        None => u64::MAX,
-    }
-}
-
-/// Returns the file that the option of this name gives, if it was given.
-fn file_of<'a>(matches: &ArgMatches<'a>, name: &str) -> Option<&'a str>
-    ensures { option_map (λ file. file.now) result
-        ≡ first_of name.now (rows_of (found_of matches.now)) }
-{
-    matches.get_str(name)
-}
-
 /// Returns the choice that the matches of a parse hold, or the error of the parse.
 fn chosen(parse: Result<ArgMatches<'_>, Error>) -> Result<Choice<'_>, Error>
     requires { IfOk parse (λ m. HasChoice (rows_of (found_of m))) }
@@ -70,11 +48,11 @@ fn chosen(parse: Result<ArgMatches<'_>, Error>) -> Result<Choice<'_>, Error>
     let matches = parse?;
     Ok(Choice {
         address: address_of(&matches),
-        connections: connections_of(&matches),
+        connections: count_of(&matches, "connections"),
         quiet: is_given(&matches, "quiet"),
         until_stdin_closes: is_given(&matches, "until-stdin-closes"),
-        port_file: file_of(&matches, "port-file"),
-        script: file_of(&matches, "script"),
+        port_file: text_of(&matches, "port-file"),
+        script: text_of(&matches, "script"),
     })
 }
 

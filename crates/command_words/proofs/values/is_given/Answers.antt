@@ -4,7 +4,7 @@ use Rattle.std.specs.Str.{bytes_eq}
 use Rattle.clap.specs.Words.{found_of, one_text}
 use Rattle.clap.proofs.WalkLemmas.{one_text-rows}
 use Rattle.command_words.proofs.Lemmas.{flag_text, given_read, unread_given}
-use Rattle.command_words.proofs.given.is_given.Goals as goal
+use Rattle.command_words.proofs.values.is_given.Goals as goal
 
 pub returns-in-Some : goal.returns-in-Some
 returns-in-Some c =

@@ -1,8 +1,8 @@
 use Rattle.std.proofs.Common.{subst, Option, ℕ}
 use Rattle.clap.specs.Words.{found_of, one_of, rows_of}
-use Rattle.bsonwire.specs.Choices.{AsksFor}
-use Rattle.bsonwire.proofs.ChoiceLemmas.{asks_for, asks_for_all}
-use Rattle.bsonwire.proofs.choice.count_of.Goals as goal
+use Rattle.command_words.specs.Values.{AsksFor}
+use Rattle.command_words.proofs.Lemmas.{asks_for, asks_for_all}
+use Rattle.command_words.proofs.values.count_of.Goals as goal
 
 pub returns-in-Some : goal.returns-in-Some
 returns-in-Some c =

@@ -3,9 +3,9 @@ use Rattle.std.specs.Prelude.{IfSome}
 use Rattle.std.specs.Str.Parse.{ExplainsUnsignedError, HasUnsignedDigitsIfOk, ParsesUnsigned}
 use Rattle.clap.specs.Words.{IsUnsignedIn, Text, found_of, one_text}
 use Rattle.clap.proofs.WalkLemmas.{one_text-rows}
-use Rattle.bsonwire.specs.Choices.{AsksFor}
-use Rattle.bsonwire.proofs.ChoiceLemmas.{read_number}
-use Rattle.bsonwire.proofs.choice.number_of.Goals as goal
+use Rattle.command_words.specs.Values.{AsksFor}
+use Rattle.command_words.proofs.Lemmas.{read_number}
+use Rattle.command_words.proofs.values.number_of.Goals as goal
 
 pub returns : goal.returns
 returns c =
