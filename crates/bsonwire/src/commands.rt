@@ -20,7 +20,7 @@ use engines::{
     run_loop, run_msg, run_play, salvage_canon, salvage_check,
 };
 use proxy::{Options, ProxyFault};
-use replay::{Outcome, ReplayOptions};
+use replay::{Outcome, ReplayFault, ReplayOptions};
 use std::alloc::Global;
 use std::fs::OpenFile;
 use std::io::{ErrorKind, Read, Write};
@@ -337,13 +337,30 @@ fn replay_status<R: Files + Input + Net + Clock + Print + Eprint + AllocGlobal>(
 ) -> u8
     ensures { (end : RunEnd) × (result ≡ exit_status end) }
 {
-    let ReplayOptions { file, address, .. } = options;
     match replay::run(rt, rt.alloc(), options, io::writer(rt)) {
         Ok(Outcome::Same) => status_of(RunEnd::Good),
         Ok(Outcome::Different | Outcome::Fault) => status_of(RunEnd::Fault),
-        Err(error) => {
-            let _ = eprintln!(rt; "bsonwire: replay of {file:?} to {address:?}: {error}");
-            status_of(end_of(&error))
+        Err(fault) => {
+            let _ = tell_replay(rt, &fault, options);
+            status_of(end_of(fault.error()))
+        }
+    }
+}
+
+/// Says on standard error why a replay stopped early.
+fn tell_replay(
+    rt: &impl Eprint,
+    fault: &ReplayFault,
+    options: ReplayOptions<'_>,
+) -> io::Result<()> {
+    let ReplayOptions { file, address, .. } = options;
+    match fault {
+        ReplayFault::Records(error) => {
+            let input = InputName::of(file);
+            eprintln!(rt; "bsonwire: could not read {input}: {error}")
+        }
+        ReplayFault::Address(_) | ReplayFault::Io(_) => {
+            eprintln!(rt; "bsonwire: replay to {address:?}: {fault}")
         }
     }
 }

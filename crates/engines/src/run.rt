@@ -152,8 +152,8 @@ fn finish<W: Write>(mut out: Buffered<W>, written: Result<bool, RunEnd>) -> (W, 
     let end = match written {
         Err(end) => {
             if end == RunEnd::OutOfMemory {
-                // What was written before stays.
-                out.flush().ok();
+                // The run ends for want of memory, whatever comes of this.
+                let _ = out.flush();
             }
             end
         }

@@ -35,9 +35,13 @@ pub enum Ending {
 }
 
 impl Ending {
-    /// Returns true if the proxy ended it, and neither side.
-    pub fn is_fault(self) -> bool {
-        matches!(self, Ending::HungUp(_) | Ending::Cut(..))
+    /// Returns true if it is told also where nothing is shown: the proxy ended the connection, or the
+    /// link to the server failed.
+    pub fn is_told(self) -> bool {
+        matches!(
+            self,
+            Ending::Failed(Side::Server, _) | Ending::HungUp(_) | Ending::Cut(..)
+        )
     }
 }
 

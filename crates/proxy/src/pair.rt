@@ -335,9 +335,9 @@ impl Pair {
         }
     }
 
-    /// Writes how the connection ended, if that is told, or the proxy ended it.
+    /// Writes how the connection ended, if `told` is true or that is told where nothing is shown.
     pub fn write_end<W: Write>(&self, ending: Ending, told: bool, out: &mut W) -> io::Result<()> {
-        if told || ending.is_fault() {
+        if told || ending.is_told() {
             writeln!(out, "{} {ending}", self.number)?;
         }
         Ok(())

@@ -15,10 +15,15 @@ use std::net::{Net, SocketAddr};
 use std::rt::Files;
 use std::time::Clock;
 
-/// Returns true if the system tells that no open file is left: `ENFILE` or `EMFILE` (`man 3 errno`),
-/// which have no kind of their own.
+/// The system's numbers of the errors that no open file is left, for any process or for this one
+/// (`man 3 errno`). They have no kind of their own.
+const ENFILE: i32 = 23;
+
+const EMFILE: i32 = 24;
+
+/// Returns true if the system tells that no open file is left.
 fn leaves_no_file(error: &io::Error) -> bool {
-    matches!(error.raw_os_error(), Some(23 | 24))
+    matches!(error.raw_os_error(), Some(ENFILE | EMFILE))
 }
 
 /// What accepts connections, the address of the server, and the pairs of connections. The tokens of

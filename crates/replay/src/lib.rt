@@ -15,6 +15,7 @@ mod asked;
 mod channel;
 mod conn;
 mod content;
+mod fault;
 mod flags;
 mod ignored;
 mod input_fault;
@@ -27,5 +28,6 @@ mod replaying;
 mod tally;
 mod teller;
 
+pub use fault::ReplayFault;
 pub use options::ReplayOptions;
 pub use replaying::{Outcome, run};

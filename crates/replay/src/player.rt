@@ -8,7 +8,7 @@ use crate::tally::Tally;
 use crate::teller::Teller;
 use mio::net::TcpStream;
 use mio::{Events, Poll, Token};
-use sockets::{IoFailure, register, wait};
+use sockets::IoFailure;
 use std::alloc::{AllocError, Global};
 use std::io;
 use std::io::Write;
@@ -53,7 +53,7 @@ impl<'a, W: Write + Drop> Player<'a, W> {
     /// Connects to the server, under this token.
     fn connect(&self, net: &impl Net, token: usize) -> io::Result<TcpStream> {
         let mut stream = TcpStream::connect(net, self.server)?;
-        register(self.poll.registry(), &mut stream, token)?;
+        sockets::register(self.poll.registry(), &mut stream, token)?;
         Ok(stream)
     }
 
@@ -156,7 +156,7 @@ impl<'a, W: Write + Drop> Player<'a, W> {
     ) -> io::Result<()> {
         self.teller.flush()?;
         let timeout = self.timeout(rt, until)?;
-        wait(&mut self.poll, events, timeout)?;
+        sockets::wait(&mut self.poll, events, timeout)?;
         let mut told: usize = 0;
         for event in events.iter() {
             told = told.saturating_add(1);

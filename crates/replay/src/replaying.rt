@@ -1,5 +1,6 @@
 //! Runs a replay, from the first record to the line of its counts.
 
+use crate::fault::ReplayFault;
 use crate::options::ReplayOptions;
 use crate::pace::Pace;
 use crate::player::{EVENTS, Player};
@@ -77,12 +78,12 @@ impl<'a, F: Read + Drop, W: Write + Drop> Replay<'a, F, W> {
 
     /// Takes records, as many as may be taken now. Returns the time of the next one, if that hasn't
     /// come.
-    fn take_some<R: Net + Clock>(&mut self, rt: &R) -> io::Result<Option<Instant>> {
+    fn take_some<R: Net + Clock>(&mut self, rt: &R) -> Result<Option<Instant>, ReplayFault> {
         for _ in 0..u64::MAX {
             if !self.may_go_on() {
                 break;
             }
-            if !self.records.read_one()? {
+            if !self.records.read_one().map_err(ReplayFault::Records)? {
                 self.is_over = true;
                 break;
             }
@@ -94,7 +95,11 @@ impl<'a, F: Read + Drop, W: Write + Drop> Replay<'a, F, W> {
     }
 
     /// Takes all records, up to the last answer that is awaited.
-    fn play<R: Net + Clock>(&mut self, rt: &R, events: &mut Events<Global>) -> io::Result<()> {
+    fn play<R: Net + Clock>(
+        &mut self,
+        rt: &R,
+        events: &mut Events<Global>,
+    ) -> Result<(), ReplayFault> {
         for _ in 0..u64::MAX {
             let until = self.take_some(rt)?;
             if self.is_over && self.player.is_sent() && !self.player.awaits() {
@@ -120,7 +125,11 @@ impl<'a, F: Read + Drop, W: Write + Drop> Replay<'a, F, W> {
     }
 
     /// Plays the records, and tells what came of it.
-    fn run<R: Net + Clock>(&mut self, rt: &R, events: &mut Events<Global>) -> io::Result<Outcome> {
+    fn run<R: Net + Clock>(
+        &mut self,
+        rt: &R,
+        events: &mut Events<Global>,
+    ) -> Result<Outcome, ReplayFault> {
         self.play(rt, events)?;
         self.linger(rt, events)?;
         let fault = self.records.fault();
@@ -142,13 +151,13 @@ fn run_over<R: Net + Clock, F: Read + Drop, W: Write + Drop>(
     options: ReplayOptions<'_>,
     reader: F,
     out: W,
-) -> io::Result<Outcome> {
-    let server = address_of(rt, options.address)?;
+) -> Result<Outcome, ReplayFault> {
+    let server = address_of(rt, options.address).map_err(ReplayFault::Address)?;
     let names = names_of(alloc, options.ignore)?;
     let teller = Teller::new(alloc, names.as_slice(), BufWriter::new(alloc, out)?);
     let mut events = Events::with_capacity(alloc, EVENTS)?;
     let mut replay = Replay {
-        records: Records::new(alloc, reader)?,
+        records: Records::new(alloc, reader).map_err(ReplayFault::Records)?,
         player: Player::new(rt, alloc, server, teller)?,
         pace: Pace::new(options.speed),
         is_over: false,
@@ -161,17 +170,17 @@ fn run_over<R: Net + Clock, F: Read + Drop, W: Write + Drop>(
 ///
 /// # Errors
 ///
-/// Returns an error if the file can't be read, the server has no address, writing or waiting fails,
+/// Returns a fault if the file can't be read, the server has no address, writing or waiting fails,
 /// or memory runs out. A connection that fails is told.
 pub fn run<R: Net + Files + Input + Clock, W: Write + Drop>(
     rt: &R,
     alloc: Global,
     options: ReplayOptions<'_>,
     out: W,
-) -> io::Result<Outcome> {
+) -> Result<Outcome, ReplayFault> {
     if options.file == "-" {
-        run_over(rt, alloc, options, rt.reader(), out)
-    } else {
-        run_over(rt, alloc, options, File::open(rt, options.file)?, out)
+        return run_over(rt, alloc, options, rt.reader(), out);
     }
+    let file = File::open(rt, options.file).map_err(ReplayFault::Records)?;
+    run_over(rt, alloc, options, file, out)
 }

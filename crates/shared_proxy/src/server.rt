@@ -24,8 +24,8 @@ pub enum Use {
     Once,
     /// The client of this number, with which it is closed.
     Kept(u64),
-    /// A transaction, whichever client goes on with it. It is closed with that, and with the client
-    /// of this number, which began it.
+    /// A transaction, whichever client goes on with it. It is closed when the transaction ends, when
+    /// the next one of its session begins, or when the client of this number, which began it, leaves.
     Transaction(u64),
     /// None any more: it is closed once the calls over it are over.
     Over,

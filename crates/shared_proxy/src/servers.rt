@@ -9,7 +9,7 @@ use crate::line::Line;
 use crate::server::{Server, Use};
 use indexmap::IndexMap;
 use std::alloc::{AllocError, Global};
-use wire_share::{Need, Routes, SessionId};
+use wire_share::{Need, Routes};
 
 /// A connection for which requests wait is busier than any number of calls makes one.
 const FULL: usize = 1 << 16;
@@ -125,7 +125,7 @@ impl Servers {
     }
 
     /// Returns a connection for a transaction that a client began, if there is one.
-    pub fn begun_by(&self, client: u64) -> Option<u64> {
+    pub fn transaction_of(&self, client: u64) -> Option<u64> {
         self.servers
             .values()
             .find(|server| server.used() == Use::Transaction(client))
@@ -137,24 +137,17 @@ impl Servers {
         self.servers.values().any(|server| server.waiting() != 0)
     }
 
-    /// Returns over which connection a request of a client goes that needs this, and with which the
-    /// transaction of the session `begun` begins, if there is one, where `routes` says on which ones
-    /// cursors and transactions live.
+    /// Returns over which connection a request of a client goes that needs this, where `routes` says
+    /// on which ones cursors and transactions live. If `begins` is true, a transaction begins with it.
     ///
     /// A transaction has a connection of its own while it lasts: other requests wait for what it
-    /// locks, and it would wait behind them.
-    pub fn place(
-        &self,
-        routes: &Routes,
-        client: u64,
-        need: Need,
-        begun: Option<SessionId>,
-    ) -> Place {
+    /// locks, and behind them it would wait, too.
+    pub fn place(&self, routes: &Routes, client: u64, need: Need, begins: bool) -> Place {
         match need {
             Need::Own => Place::New(Use::Once),
             Need::Kept => Place::New(Use::Kept(client)),
+            Need::Transaction(_) if begins => Place::New(Use::Transaction(client)),
             Need::Any | Need::Cursor(_) | Need::Transaction(_) => match routes.find(need) {
-                _ if begun.is_some() => Place::New(Use::Transaction(client)),
                 Some(number) if self.serves(number, client) => Place::At(number),
                 _ => self.place_shared(),
             },

@@ -78,9 +78,9 @@ impl Sharing {
         self.due.push(Side::Server(upstream))
     }
 
-    /// Closes the connection that was for the transaction of this session, if there is one, since
-    /// another one begins.
-    fn begin_anew(&mut self, session: SessionId) -> Result<(), AllocError> {
+    /// Closes the connection of the session's earlier transaction, if it has one, since the next one
+    /// begins.
+    fn end_earlier(&mut self, session: SessionId) -> Result<(), AllocError> {
         match self.routes.find(Need::Transaction(session)) {
             Some(upstream) if self.servers.has_transaction(upstream) => {
                 self.end_transaction(upstream)
@@ -93,7 +93,7 @@ impl Sharing {
     /// comes of them goes over others.
     fn leave_transactions(&mut self, number: u64) -> Result<(), AllocError> {
         for _ in 0..u64::MAX {
-            match self.servers.begun_by(number) {
+            match self.servers.transaction_of(number) {
                 Some(upstream) => self.end_transaction(upstream)?,
                 None => break,
             }
@@ -146,6 +146,7 @@ impl Sharing {
     }
 
     /// Closes a connection to the server, for this reason, and all clients that await a reply of it.
+    /// Why is written, too, but that the server ended it only where connections are told of.
     ///
     /// # Errors
     ///
@@ -154,7 +155,7 @@ impl Sharing {
         let Some(server) = self.drop_server(upstream) else {
             return Ok(());
         };
-        if leave.is_told() || self.clients.are_told() {
+        if leave != Leave::Ended || self.clients.are_told() {
             writeln!(out, "upstream {upstream} {leave}")?;
         }
         if let Use::Kept(number) = server.used() {
@@ -191,20 +192,24 @@ impl Sharing {
         let Some(client) = self.clients.get_mut(number) else {
             return Ok(Err(Leave::Ended));
         };
-        if let Some(kept) = client.kept {
-            return Ok(Ok(kept));
-        }
         let need = need(&client.downstream);
         let begun = begun(&client.downstream);
-        if let Some(upstream) = client.waits_at
+        let (kept, waits_at) = (client.kept, client.waits_at);
+        if let Some(upstream) = waits_at
             && self.servers.serves(upstream, number)
         {
             return Ok(Ok(upstream));
         }
         if let Some(session) = begun {
-            self.begin_anew(session)?;
+            self.end_earlier(session)?;
         }
-        match self.servers.place(&self.routes, number, need, begun) {
+        if let Some(kept) = kept {
+            return Ok(Ok(kept));
+        }
+        match self
+            .servers
+            .place(&self.routes, number, need, begun.is_some())
+        {
             Place::At(upstream) => Ok(Ok(upstream)),
             Place::New(used) => self.connector.open(net, &mut self.servers, used),
         }
@@ -281,12 +286,19 @@ impl Sharing {
             return Ok(());
         };
         let need = need(&client.downstream);
+        let lives_at = match need {
+            Need::Transaction(_) => self.routes.find(need),
+            Need::Any | Need::Own | Need::Kept | Need::Cursor(_) => None,
+        };
         if answer(client, server, &mut self.routes)? {
             steer_reply(client, sink, out)?;
         }
-        let is_over = matches!(need, Need::Transaction(_)) && self.routes.find(need).is_none();
-        if is_over && self.servers.has_transaction(upstream) {
-            self.end_transaction(upstream)?;
+        // The answer ended the transaction if no route of it is left.
+        if let Some(at) = lives_at
+            && self.routes.find(need).is_none()
+            && self.servers.has_transaction(at)
+        {
+            self.end_transaction(at)?;
         }
         Ok(self.due.push(Side::Client(number))?)
     }

@@ -5,8 +5,8 @@ use Rattle.std.specs.Io.KnownBytes.{Appends, Keeps}
 use Rattle.test_script.specs.{RuleView}
 use Rattle.test_server.specs.Runs.{AreRead, Connected, EndsSo, GoesOnServing, IsEnough, IsRefused, IsRun, ShowsServing, script_file}
 use Rattle.test_server.specs.declared.choice.Choice.{Choice}
-use Rattle.test_server.specs.declared.run.ServingEnd.{ServingEnd}
-use Rattle.test_server.specs.declared.run.ServingEnd.TheVariants as runs
+use Rattle.test_server.specs.declared.stop.ServingEnd.{ServingEnd}
+use Rattle.test_server.specs.declared.stop.ServingEnd.TheVariants as runs
 
 nothing_more : (a : Option (List ℕ)) → Appends a a []
 nothing_more None = tt

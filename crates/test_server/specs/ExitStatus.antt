@@ -5,9 +5,9 @@ use Rattle.clap.specs.declared.error.kind.ErrorKind.{ErrorKind}
 use Rattle.clap.specs.declared.error.kind.ErrorKind.TheVariants as kind
 use Rattle.command_words.specs.{words_status}
 use Rattle.test_server.specs.declared.choice.Choice.{Choice}
-use Rattle.test_server.specs.declared.run.ServingEnd.{ServingEnd}
-use Rattle.test_server.specs.declared.run.ServingEnd.TheVariants.{Served, Script, ScriptFile}
-use Rattle.test_server.specs.declared.run.ServingEnd.TheVariants.{Stopped}
+use Rattle.test_server.specs.declared.stop.ServingEnd.{ServingEnd}
+use Rattle.test_server.specs.declared.stop.ServingEnd.TheVariants.{Served, Script, ScriptFile}
+use Rattle.test_server.specs.declared.stop.ServingEnd.TheVariants.{Stopped}
 use Rattle.test_server.specs.declared.stop.Stop.TheVariants.{OutOfMemory}
 use Rattle.test_server.specs.Choices.{IsChosen}
 use Rattle.test_server.specs.CommandLine.{command_line}

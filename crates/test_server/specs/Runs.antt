@@ -18,8 +18,8 @@ use Rattle.wire_hall.specs.declared.valve.Valve.{Valve}
 use Rattle.wire_stream.specs.declared.tcp_link.TcpLink.{TcpLink}
 use Rattle.test_server.specs.declared.choice.Choice.{Choice}
 use Rattle.test_server.specs.declared.drained.Drained.{Drained}
-use Rattle.test_server.specs.declared.run.ServingEnd.{ServingEnd}
-use Rattle.test_server.specs.declared.run.ServingEnd.TheVariants as runs
+use Rattle.test_server.specs.declared.stop.ServingEnd.{ServingEnd}
+use Rattle.test_server.specs.declared.stop.ServingEnd.TheVariants as runs
 use Rattle.test_server.specs.declared.serving.Serving.{Serving}
 use Rattle.test_server.specs.declared.stop.Stop.TheVariants as stops
 use Rattle.test_server.specs.Serving.{IsServing, ServesOn}

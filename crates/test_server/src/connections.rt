@@ -14,7 +14,6 @@ use crate::serving::{ANSWER_STEPS, STEPS, Serving, settle};
 use crate::stop::Stop;
 use mio::net::{TcpListener, TcpStream};
 use mio::{Events, Interest, Poll, Token};
-use sockets::{register, wait};
 use std::alloc::Global;
 use std::collections::VecDeque;
 use std::io;
@@ -163,9 +162,9 @@ impl<I: BufRead + Drop> Connections<I> {
     {
         let mut stream = stream;
         let key = self.serving.next_key();
-        let Ok(()) = register(self.poll.registry(), &mut stream, key) else {
+        if sockets::register(self.poll.registry(), &mut stream, key).is_err() {
             return Ok(());
-        };
+        }
         let Ok(stream) = self.turns.drained(stream) else {
             return Err(Stop::OutOfMemory);
         };
@@ -413,7 +412,7 @@ impl<I: BufRead + Drop> Connections<I> {
         ensures { self.new.serving ≡ self.old.serving }
     {
         let timeout = self.timeout(clock)?;
-        wait(&mut self.poll, events, timeout)?;
+        sockets::wait(&mut self.poll, events, timeout)?;
         if self.pausing {
             self.pausing = false;
             self.ready = true;

@@ -35,11 +35,11 @@ ghost use Rattle.test_server.specs.ExitStatus.{IsStatusFor, IsStatusOf, exit_sta
 
 use choice::{Choice, choose};
 use command_words::{IN_OUT, MEMORY, Program, USAGE, texts};
-use run::{ServingEnd, run};
+use run::run;
 use std::io;
 use std::io::BufWriter;
 use std::process::ExitCode;
-use stop::Stop;
+use stop::{ServingEnd, Stop};
 
 /// This program.
 const PROGRAM: Program<'static> = Program {

@@ -12,7 +12,7 @@ use crate::connections::{Connections, ROOM, Setup};
 use crate::drained::Turns;
 use crate::output::Output;
 use crate::scripts::{Scripts, read_scripts};
-use crate::stop::Stop;
+use crate::stop::{ServingEnd, Stop};
 use mio::Events;
 use mio::net::TcpListener;
 use sockets::address_of;
@@ -24,20 +24,6 @@ use std::io::{BufRead, ErrorKind, Input, Write};
 use std::net::{Net, SocketAddr};
 use std::rt::Files;
 use std::time::Clock;
-use test_script::ScriptFault;
-
-/// Why the server ends.
-#[derive(Debug, Drop)]
-pub enum ServingEnd {
-    /// This many connections were served.
-    Served(u64),
-    /// The script is at fault.
-    Script(ScriptFault),
-    /// The script can't be read.
-    ScriptFile(io::Error),
-    /// The server stopped early.
-    Stopped(Stop),
-}
 
 /// The most events that one wait tells.
 const EVENTS: usize = 64;

@@ -4,8 +4,7 @@ ghost use Rattle.std.specs.Prelude.{IfErr, IfOk, option_map};
 ghost use Rattle.test_script.specs.{FailsAt, IsScript};
 ghost use Rattle.test_server.specs.Runs.{AreRead, IsRefused};
 
-use crate::run::ServingEnd;
-use crate::stop::{Stop, wants_memory};
+use crate::stop::{ServingEnd, Stop, wants_memory};
 use std::alloc::Global;
 use std::fs::File;
 use std::io;

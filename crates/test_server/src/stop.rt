@@ -1,8 +1,22 @@
-//! Why the server stops early.
+//! Why the server ends.
 
 use std::alloc::AllocError;
 use std::io;
 use std::io::ErrorKind;
+use test_script::ScriptFault;
+
+/// Why the server ends.
+#[derive(Debug, Drop)]
+pub enum ServingEnd {
+    /// This many connections were served.
+    Served(u64),
+    /// The script is at fault.
+    Script(ScriptFault),
+    /// The script can't be read.
+    ScriptFile(io::Error),
+    /// The server stopped early.
+    Stopped(Stop),
+}
 
 /// Why the server stops early.
 #[derive(Debug, Drop)]
