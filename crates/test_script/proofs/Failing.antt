@@ -1,9 +1,11 @@
 -- A line whose action isn't read.
-use Rattle.std.proofs.Common.{◌≡◌, ◌∙◌, ℕ, List, Option, ap, subst}
+use Rattle.std.proofs.Common.{◌≡◌, ◌∙◌, ℕ, List, Option, ap, inl, inr, subst}
 use Rattle.bson_raw.specs.{TreeValue}
 use Rattle.test_script.specs.declared.fault.Cause.{Cause}
 use Rattle.test_script.specs.declared.fault.Cause.TheVariants as causes
-use Rattle.test_script.specs.Lines.{FailsBy, HasCommand, IsActionFault, IsFilter, IsTimes, after_command, after_filter, after_times, behind_filter, behind_times, filter_at, times_at}
+use Rattle.test_script.specs.declared.action.Action.{Action}
+use Rattle.test_script.specs.Lines.{FailsBy, HasCommand, IsAction, IsActionFault, IsFilter, IsNoActionFor, IsTimes, after_command, after_filter, after_times, behind_filter, behind_times, filter_at, times_at}
+use Rattle.test_script.specs.Written.{IsJsonCause}
 
 abbrev Pairs : Type 0
 Pairs = List (List ℕ × TreeValue)
@@ -14,7 +16,8 @@ by_cause line f left causes.Start has filter times fault = absurd fault
 by_cause line f left causes.Filter has filter times fault = absurd fault
 by_cause line f left causes.Operator has filter times fault = absurd fault
 by_cause line f left causes.Times has filter times fault = absurd fault
-by_cause line f left causes.Action has filter times fault = (has, (f, filter), (left, times), fault)
+by_cause line f left (causes.Json cause column) has filter times fault = (has, inr ((f, filter), (left, times), fault))
+by_cause line f left causes.Action has filter times fault = (has, ((f, filter), (left, times), fault))
 by_cause line f left causes.OutOfMemory has filter times fault = tt
 
 -- the parts before it were cut off one after another
@@ -26,3 +29,20 @@ action_fails line rest then last word count f left e has command filter_is behin
     by_cause line f left e has (subst (λ (w : Option (List ℕ)). IsFilter w f) (filter_is ∙ ap filter_at command) filter)
     (subst (λ (w : Option (List ℕ)). IsTimes w left) (count_is ∙ ap times_at past) times)
     (subst (λ (t : List ℕ). IsActionFault t e) (after ∙ ap behind_times past) fault)
+
+-- a cause that is none of Extended JSON is that of the action
+by_action : (text : List ℕ) (cause : Cause) → ((word : List ℕ) → IsJsonCause word cause → ⊥) → IsNoActionFor text cause → cause ≡ causes.Action
+by_action text cause never (inl reply) = elim reply.2 [
+  | inl json ↦ absurd (never reply.0 json.1)
+  | inr is ↦ is.1
+]
+by_action text cause never (inr other) = other.1
+
+pub action_fault : (text : List ℕ) (cause : Cause) → ((a : Action) → IsAction text a → ⊥) → IsNoActionFor text cause → IsActionFault text cause
+action_fault text causes.Start none why = let is = by_action text causes.Start (λ word json. json) why in cc
+action_fault text causes.Filter none why = let is = by_action text causes.Filter (λ word json. json) why in cc
+action_fault text (causes.Json cause column) none why = (none, why)
+action_fault text causes.Operator none why = let is = by_action text causes.Operator (λ word json. json) why in cc
+action_fault text causes.Times none why = let is = by_action text causes.Times (λ word json. json) why in cc
+action_fault text causes.Action none why = (none, why)
+action_fault text causes.OutOfMemory none why = tt

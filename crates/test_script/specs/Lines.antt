@@ -1,5 +1,5 @@
 -- What a line of a script is read as: on COMMAND [FILTER] [times N] ACTION
-use Rattle.std.specs.Prelude.{◌≡◌, ◌≢◌, ℕ, ℤ, pos, ◌^◌, List, [], Bool}
+use Rattle.std.specs.Prelude.{◌≡◌, ◌≢◌, ◌⊎◌, ℕ, ℤ, pos, ◌^◌, List, [], Bool}
 use Rattle.std.specs.Prelude.{Option, Some, None, Ok, Err, codes, if◌then◌else◌, ◌||◌, ◌==◌, length}
 use Rattle.std.specs.Str.{bytes_eq}
 use Rattle.bson_raw.specs.{TreeValue}
@@ -16,7 +16,8 @@ use Rattle.test_script.specs.declared.keyword.Keyword.{Keyword}
 use Rattle.test_script.specs.declared.keyword.Keyword.TheVariants as keywords
 use Rattle.test_script.specs.Rules.{RuleView}
 use Rattle.test_script.specs.Tokens.{behind, word_in}
-use Rattle.test_script.specs.Written.{AreTwoWords, IsDocument, IsNothing, IsOneWord, IsQuoted}
+use Rattle.test_script.specs.Written.{AreTwoWords, IsDocument, IsNoDocumentFor, IsNothing}
+use Rattle.test_script.specs.Written.{IsOneWord, IsQuoted}
 
 -- ---- the command
 
@@ -114,10 +115,12 @@ abbrev pub IsFilter : Option (List ℕ) → List (List ℕ × TreeValue) → Typ
 IsFilter None f = f ≡ []
 IsFilter (Some word) f = IsDocument word f × (filter_in (tree_of f) ≡ Ok (tree_of f))
 
--- the filter is no document
-abbrev pub IsNoDocument : Option (List ℕ) → Type 0
-IsNoDocument None = ⊥
-IsNoDocument (Some word) = (f : List (List ℕ × TreeValue)) → IsDocument word f → ⊥
+-- the filter is no document, for this cause
+abbrev pub IsNoFilter : Option (List ℕ) → Cause → Type 0
+IsNoFilter None cause = ⊥
+IsNoFilter (Some word) cause =
+    ((f : List (List ℕ × TreeValue)) → IsDocument word f → ⊥)
+    × IsNoDocumentFor causes.Filter word cause
 
 -- the filter is a document that can't be applied
 abbrev pub IsRefused : Option (List ℕ) → Type 0
@@ -126,15 +129,32 @@ IsRefused (Some word) =
     (f : List (List ℕ × TreeValue)) × IsDocument word f
     × ((e : CommandError) × (filter_in (tree_of f) ≡ Err e))
 
--- the action isn't read for this cause
+-- the text is a reply with one word, which should be its document
+abbrev pub IsReplyOf : List ℕ → (word : List ℕ) → Type 0
+IsReplyOf text word = (word_in text ≡ keyword_text keywords.Reply) × IsOneWord (behind text) word
+
+-- why the text is no action: the document of a reply, if one is there, and else `Action`
+abbrev pub IsNoActionFor : List ℕ → Cause → Type 0
+IsNoActionFor text cause =
+    ((word : List ℕ) × IsReplyOf text word × IsNoDocumentFor causes.Action word cause)
+    ⊎ (((word : List ℕ) → IsReplyOf text word → ⊥) × (cause ≡ causes.Action))
+
+-- the text is no action, for this cause
+abbrev pub IsNoAction : List ℕ → Cause → Type 0
+IsNoAction text cause =
+    ((action : Action) → IsAction text action → ⊥) × IsNoActionFor text cause
+
+-- why an action isn't read
 abbrev pub IsActionFault : List ℕ → Cause → Type 0
-IsActionFault text causes.Action = (action : Action) → IsAction text action → ⊥
+IsActionFault text causes.Action = IsNoAction text causes.Action
+IsActionFault text (causes.Json cause column) = IsNoAction text (causes.Json cause column)
 IsActionFault text causes.OutOfMemory = Unit {0}
 IsActionFault text _ = ⊥
 
 -- why a filter isn't read
 abbrev pub IsFilterFault : Option (List ℕ) → Cause → Type 0
-IsFilterFault word causes.Filter = IsNoDocument word
+IsFilterFault word causes.Filter = IsNoFilter word causes.Filter
+IsFilterFault word (causes.Json cause column) = IsNoFilter word (causes.Json cause column)
 IsFilterFault word causes.Operator = IsRefused word
 IsFilterFault word causes.OutOfMemory = Unit {0}
 IsFilterFault word _ = ⊥
@@ -177,18 +197,26 @@ pub record IsRule (line : List ℕ) (r : RuleView) : Type 0 where
   pub times : IsTimes (times_at (after_filter line)) r.left
   pub action : IsAction (after_times line) r.action
 
+-- the filter and the number of times are read, and what stands behind them is no action
+abbrev pub FailsBehind : List ℕ → Cause → Type 0
+FailsBehind line cause =
+    ((f : List (List ℕ × TreeValue)) × IsFilter (filter_at (after_command line)) f)
+    × ((left : Option ℕ) × IsTimes (times_at (after_filter line)) left)
+    × IsNoAction (after_times line) cause
+
 -- the line is no rule for this cause, the first in the order of its parts; or memory ran out
 abbrev pub FailsBy : List ℕ → Cause → Type 0
 FailsBy line causes.Start = HasCommand line → ⊥
-FailsBy line causes.Filter = HasCommand line × IsNoDocument (filter_at (after_command line))
+FailsBy line causes.Filter =
+    HasCommand line × IsNoFilter (filter_at (after_command line)) causes.Filter
+FailsBy line (causes.Json cause column) =
+    HasCommand line
+    × (IsNoFilter (filter_at (after_command line)) (causes.Json cause column)
+    ⊎ FailsBehind line (causes.Json cause column))
 FailsBy line causes.Operator = HasCommand line × IsRefused (filter_at (after_command line))
 FailsBy line causes.Times =
     HasCommand line
     × ((f : List (List ℕ × TreeValue)) × IsFilter (filter_at (after_command line)) f)
     × ((left : Option ℕ) → IsTimes (times_at (after_filter line)) left → ⊥)
-FailsBy line causes.Action =
-    HasCommand line
-    × ((f : List (List ℕ × TreeValue)) × IsFilter (filter_at (after_command line)) f)
-    × ((left : Option ℕ) × IsTimes (times_at (after_filter line)) left)
-    × ((action : Action) → IsAction (after_times line) action → ⊥)
+FailsBy line causes.Action = HasCommand line × FailsBehind line causes.Action
 FailsBy line causes.OutOfMemory = Unit {0}

@@ -1,5 +1,6 @@
 //! Why a script isn't read, and where.
 
+use bson_json_read::Cause as JsonCause;
 use thiserror::Error;
 
 /// Why a line is no rule.
@@ -11,6 +12,10 @@ pub enum Cause {
     /// What follows the command is neither an action nor `times`, and no document.
     #[error("what follows the command is no action, no 'times' and no filter, which is a document as Extended JSON or as hexadecimal text")]
     Filter,
+    /// The filter, or the document of a reply, begins as Extended JSON and isn't read as that for this
+    /// cause, at this character of it, counted from 1.
+    #[error("the document is no Extended JSON, at its character {column}: {cause}")]
+    Json { cause: JsonCause, column: usize },
     /// The filter asks for what isn't carried out.
     #[error("the filter asks for what is not carried out")]
     Operator,

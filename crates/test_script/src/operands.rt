@@ -20,7 +20,7 @@ pub(crate) fn is_nothing(text: &[u8]) -> bool
 }
 
 /// Returns the word that is left, if it is left alone.
-fn one_word(text: &[u8]) -> Option<&[u8]>
+pub(crate) fn one_word(text: &[u8]) -> Option<&[u8]>
     ensures found { IfSome result (λ word. IsOneWord text.now word.now) }
     ensures none { IfNone result ((word : List ℕ) → IsOneWord text.now word → ⊥) }
 {

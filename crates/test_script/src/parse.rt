@@ -1,18 +1,20 @@
 //! Reads a line of a script.
 
-ghost use Rattle.std.specs.Prelude.{◌≡◌, Err, IfErr, IfNone, IfOk, IfSome};
+ghost use Rattle.std.specs.Prelude.{◌≡◌, ℕ, Err, IfErr, IfNone, IfOk, IfSome, List};
 ghost use Rattle.test_script.specs.declared.action.Action.{Action as Done};
 ghost use Rattle.test_script.specs.Lines.{FailsBy, HasCommand, IsAction, IsActionFault};
-ghost use Rattle.test_script.specs.Lines.{IsActionOf, IsRule, after_command};
+ghost use Rattle.test_script.specs.Lines.{IsActionOf, IsNoActionFor, IsReplyOf, IsRule};
+ghost use Rattle.test_script.specs.Lines.{after_command};
 ghost use Rattle.test_script.specs.Tokens.{behind, word_in};
 
 use crate::action::Action;
 use crate::fault::Cause;
 use crate::keyword::{Keyword, read_keyword};
-use crate::operands::{error, is_nothing, one_number, reply};
+use crate::operands::{error, is_nothing, one_number, one_word, reply};
 use crate::parts::{cut_filter, cut_times, read_command, read_filter, read_times};
 use crate::rule::Rule;
 use crate::token::cut_word;
+use crate::written::no_document;
 use std::alloc::Global;
 use wire_script::LineError;
 
@@ -63,18 +65,43 @@ fn known_action(alloc: Global, text: &[u8]) -> Result<Action, LineError>
     }
 }
 
+/// Returns the word that should be the document of a reply, if the text is one with one word.
+fn reply_document(text: &[u8]) -> Option<&[u8]>
+    ensures found { IfSome result (λ word. IsReplyOf text.now word.now) }
+    ensures none { IfNone result ((word : List ℕ) → IsReplyOf text.now word → ⊥) }
+{
+    let (word, operands) = cut_word(text);
+    if word == b"reply".as_slice() {
+        one_word(operands)
+    } else {
+        None
+    }
+}
+
+/// Returns why the text is no action: by the document of a reply, if one is there.
+fn no_action(alloc: Global, text: &[u8]) -> Cause
+    requires { (action : Done) → IsAction text.now action → ⊥ }
+    ensures { IsNoActionFor text.now result }
+{
+    match reply_document(text) {
+        Some(document) => no_document(alloc, document, Cause::Action),
+        None => Cause::Action,
+    }
+}
+
 /// Reads an action.
 ///
 /// # Errors
 ///
-/// Returns `Action` if it is none, and `OutOfMemory` if memory runs out.
+/// Returns `Action` if it is none, or `Json` if that is for the Extended JSON of a reply; and
+/// `OutOfMemory` if memory runs out.
 fn read_action(alloc: Global, text: &[u8]) -> Result<Action, Cause>
     ensures is { IfOk result (λ action. IsAction text.now action) }
     ensures fault { IfErr result (λ e. IsActionFault text.now e) }
 {
     match known_action(alloc, text) {
         Ok(action) => Ok(action),
-        Err(LineError::Malformed) => Err(Cause::Action),
+        Err(LineError::Malformed) => Err(no_action(alloc, text)),
         Err(LineError::OutOfMemory) => Err(Cause::OutOfMemory),
     }
 }

@@ -8,7 +8,7 @@ ghost use Rattle.test_script.specs.Lines.{behind_filter, behind_times, filter_at
 use crate::fault::Cause;
 use crate::keyword::is_no_filter;
 use crate::token::cut_word;
-use crate::written::read_document;
+use crate::written::{no_document, read_document};
 use bson_doc::Document;
 use doc_query::applicable;
 use std::alloc::{AllocError, Global};
@@ -45,8 +45,8 @@ pub(crate) fn cut_times(text: &[u8]) -> (Option<&[u8]>, &[u8])
 ///
 /// # Errors
 ///
-/// Returns `Filter` if it is no document, `Operator` if it can't be applied, and `OutOfMemory` if
-/// memory runs out.
+/// Returns `Filter` if it is no document, or `Json` if it begins as Extended JSON; `Operator` if it
+/// can't be applied; and `OutOfMemory` if memory runs out.
 pub(crate) fn read_filter(alloc: Global, word: Option<&[u8]>) -> Result<Document, Cause>
     ensures is { IfOk result (λ f. IsFilter (option_map (λ word. word.now) word.entry) f) }
     ensures fault { IfErr result (λ e. IsFilterFault (option_map (λ word. word.now) word.entry) e) }
@@ -56,7 +56,7 @@ pub(crate) fn read_filter(alloc: Global, word: Option<&[u8]>) -> Result<Document
     };
     let filter = match read_document(alloc, word) {
         Ok(filter) => filter,
-        Err(LineError::Malformed) => return Err(Cause::Filter),
+        Err(LineError::Malformed) => return Err(no_document(alloc, word, Cause::Filter)),
         Err(LineError::OutOfMemory) => return Err(Cause::OutOfMemory),
     };
     match applicable(&filter) {

@@ -3,11 +3,13 @@
 ghost use Rattle.std.specs.Prelude.{◌≡◌, ℕ, Err, IfNone, IfOk, IfSome, List, Ok, false, true};
 ghost use Rattle.bson_raw.specs.{TreeValue};
 ghost use Rattle.bson_json_read.specs.{document_in};
-ghost use Rattle.test_script.specs.Written.{IsDocument, IsDocumentAs, IsQuoted, IsSpelledBy};
+ghost use Rattle.test_script.specs.Written.{IsDocument, IsDocumentAs, IsJsonCause};
+ghost use Rattle.test_script.specs.Written.{IsNoDocumentFor, IsQuoted, IsSpelledBy};
 
+use crate::fault::Cause;
 use crate::token::begins_object;
 use bson_doc::Document;
-use bson_json_read::from_json;
+use bson_json_read::{Cause as JsonCause, from_json};
 use bson_raw::RawDocument;
 use doc_query::{Failure, owned_body};
 use std::alloc::Global;
@@ -22,7 +24,7 @@ fn read_json(alloc: Global, text: &str) -> Result<Document, LineError>
     match from_json(alloc, text) {
         Ok(document) => Ok(document),
         Err(fault) => match fault.cause {
-            bson_json_read::Cause::OutOfMemory => Err(LineError::OutOfMemory),
+            JsonCause::OutOfMemory => Err(LineError::OutOfMemory),
             _ => Err(LineError::Malformed),
         },
     }
@@ -77,6 +79,38 @@ pub(crate) fn read_document(alloc: Global, word: &[u8]) -> Result<Document, Line
         json_document(alloc, word)
     } else {
         hex_document(alloc, word)
+    }
+}
+
+/// Returns why the text isn't read as Extended JSON.
+fn json_cause(alloc: Global, text: &str) -> Cause
+    requires { (d : List (List ℕ × TreeValue)) → document_in text.now ≡ Ok d → ⊥ }
+    ensures { IsJsonCause text.now result }
+{
+    let Err(fault) = from_json(alloc, text) else {
+        unreachable!();
+    };
+    match fault.place(alloc, text) {
+        Ok(place) if fault.cause != JsonCause::OutOfMemory => Cause::Json {
+            cause: fault.cause,
+            column: place.column,
+        },
+        _ => Cause::OutOfMemory,
+    }
+}
+
+/// Returns why a word is no document: by its Extended JSON, if it begins as that, and else for the
+/// cause that is named.
+pub(crate) fn no_document(alloc: Global, word: &[u8], cause: Cause) -> Cause
+    requires { (d : List (List ℕ × TreeValue)) → IsDocument word.now d → ⊥ }
+    ensures { IsNoDocumentFor cause word.now result }
+{
+    if !begins_object(word) {
+        return cause;
+    }
+    match str::from_utf8(word) {
+        Ok(text) => json_cause(alloc, text),
+        Err(_) => cause,
     }
 }
 

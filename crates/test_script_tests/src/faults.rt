@@ -1,18 +1,42 @@
 //! Tests of lines that are no rules.
 
+use bson_json_read::{Cause as JsonCause, Form};
 use std::alloc::Global;
 use test_script::{Cause, Script, ScriptFault};
 
-/// Scripts, the line at fault, and why.
-const FAULTS: [(&[u8], usize, Cause); 24] = [
+/// Scripts, the line at fault, and why. The characters of Extended JSON are counted by hand.
+const FAULTS: [(&[u8], usize, Cause); 30] = [
     (b"find pass", 1, Cause::Start),
     (b"on", 1, Cause::Start),
     (b"on ", 1, Cause::Start),
     (b" # no comment", 1, Cause::Start),
     (b"on find\n", 1, Cause::Action),
     (b"# one\n\non find pass\non find\n", 4, Cause::Action),
-    (b"on find {\"a\": 1 pass", 1, Cause::Filter),
-    (b"on find {a: 1} pass", 1, Cause::Filter),
+    (
+        b"on find {\"a\": 1 pass",
+        1,
+        Cause::Json {
+            cause: JsonCause::NotJson,
+            column: 9,
+        },
+    ),
+    (
+        b"on find {a: 1} pass",
+        1,
+        Cause::Json {
+            cause: JsonCause::NotJson,
+            column: 2,
+        },
+    ),
+    (
+        b"on find {\"a\": 1, \"a\": 2} pass",
+        1,
+        Cause::Json {
+            cause: JsonCause::RepeatedName,
+            column: 10,
+        },
+    ),
+    (b"on find {\"\xff\": 1} pass", 1, Cause::Filter),
     (b"on find 0500 pass", 1, Cause::Filter),
     (
         b"on find 16000000026100020000006200026100020000006300 pass",
@@ -32,6 +56,24 @@ const FAULTS: [(&[u8], usize, Cause); 24] = [
     (b"on find {} {} pass", 1, Cause::Action),
     (b"on find pass pass", 1, Cause::Action),
     (b"on find reply", 1, Cause::Action),
+    (b"on find reply {} {}", 1, Cause::Action),
+    (b"on find reply 05", 1, Cause::Action),
+    (
+        b"on find reply {\"ok\": }",
+        1,
+        Cause::Json {
+            cause: JsonCause::NotJson,
+            column: 8,
+        },
+    ),
+    (
+        b"on find reply {\"x\": {\"$oid\": 1}}",
+        1,
+        Cause::Json {
+            cause: JsonCause::WrongForm(Form::ObjectId),
+            column: 7,
+        },
+    ),
     (b"on find error 10107 NotWritablePrimary", 1, Cause::Action),
     (b"on find delay 1s", 1, Cause::Action),
     (b"on find cut", 1, Cause::Action),
