@@ -151,7 +151,7 @@ static void exchange(struct connection *at)
         most = outstanding > most ? outstanding : most;
         if (lughemra_client_output(&at->client, NULL, 0).waiting > 0)
             wait.events |= POLLOUT;
-        if (poll(&wait, 1, 10000) <= 0)
+        if (poll(&wait, 1, 120000) <= 0)
             stop(3, "nothing comes");
         if (wait.revents & POLLOUT)
             send_some(at);

@@ -17,6 +17,9 @@ ROOT = os.path.dirname(os.path.dirname(os.path.dirname(os.path.realpath(__file__
 sys.path.insert(0, os.path.join(ROOT, "bench"))
 from generate import document, element, string  # noqa: E402
 
+# How many seconds is waited for what has to come: a machine with other work may stall each process for some.
+DEADLINE = 120
+
 DOUBLE, STRING, DOCUMENT, ARRAY, BOOLEAN, INT32, INT64 = 0x01, 0x02, 0x03, 0x04, 0x08, 0x10, 0x12
 
 
@@ -56,18 +59,19 @@ def command(name, value, *others):
 
 def connect(address):
     host, port = address.rsplit(":", 1)
-    return socket.create_connection((host, int(port)), timeout=30)
+    return socket.create_connection((host, int(port)), timeout=DEADLINE)
 
 
 def receive(link, size):
     """Returns the next bytes, so many unless the server closes before."""
-    found = b""
-    while len(found) < size:
-        piece = link.recv(size - len(found))
+    pieces, left = [], size
+    while left > 0:
+        piece = link.recv(min(left, 1 << 18))
         if not piece:
             break
-        found += piece
-    return found
+        pieces.append(piece)
+        left -= len(piece)
+    return b"".join(pieces)
 
 
 def is_answered(link, sent):

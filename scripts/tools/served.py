@@ -10,7 +10,7 @@ import tempfile
 import threading
 import time
 
-from driver_messages import message, receive
+from driver_messages import DEADLINE, message, receive
 
 ROOT = os.path.dirname(os.path.dirname(os.path.dirname(os.path.realpath(__file__))))
 
@@ -32,6 +32,43 @@ def expect(what, holds, *told):
     print(what)
 
 
+def wait_until(holds):
+    """Waits until this holds. Returns what it was at last."""
+    until = time.monotonic() + DEADLINE
+    while not (found := holds()) and time.monotonic() < until:
+        time.sleep(0.01)
+    return found
+
+
+def is_asleep(process):
+    """Returns true if a process waits for something else than a processor."""
+    try:
+        with open(f"/proc/{process.pid}/stat", encoding="ascii", errors="replace") as file:
+            return file.read().rsplit(")", 1)[1].split()[0] == "S"
+    except OSError:
+        return False
+
+
+def comes_to_rest(process, looks=20):
+    """Waits until a process is asleep each of so many times that it is looked at: then it has done what can be done. One that goes on
+    isn't, also where it waits for a processor. Returns false if it ends, or doesn't come to rest."""
+    until, in_row = time.monotonic() + DEADLINE, 0
+    while in_row < looks and process.poll() is None and time.monotonic() < until:
+        in_row = in_row + 1 if is_asleep(process) else 0
+        time.sleep(0.01)
+    return in_row >= looks
+
+
+def at_best(measure, most, tries=20):
+    """Returns the least that is measured, up to the first time that it is below `most`: the machine may have other work meanwhile."""
+    least = measure()
+    for _ in range(tries - 1):
+        if least < most:
+            break
+        least = min(least, measure())
+    return least
+
+
 def program_words(words):
     """Returns these words, or those of the program that is built, which this builds where it isn't."""
     if words:
@@ -42,7 +79,7 @@ def program_words(words):
 
 def connect_to(port):
     """Returns a connection to this port, over which bytes go as soon as they are sent."""
-    link = socket.create_connection(("127.0.0.1", port), timeout=20)
+    link = socket.create_connection(("127.0.0.1", port), timeout=DEADLINE)
     link.setsockopt(socket.IPPROTO_TCP, socket.TCP_NODELAY, 1)
     return link
 
@@ -102,7 +139,8 @@ class Server:
         self.output = None
 
     def read_port(self, path):
-        for _ in range(1000):
+        until = time.monotonic() + DEADLINE
+        while time.monotonic() < until:
             if os.path.exists(path):
                 with open(path, encoding="ascii") as file:
                     text = file.read()
@@ -118,11 +156,11 @@ class Server:
     def end(self):
         """Closes standard input. Returns the status and the lines of the output."""
         try:
-            self.output = self.process.communicate(timeout=20)[0].decode()
+            self.output = self.process.communicate(timeout=DEADLINE)[0].decode()
         except subprocess.TimeoutExpired:
             self.process.kill()
             self.output = self.process.communicate()[0].decode()
-            check("the server ends within 20 seconds", False, self.output)
+            check(f"the server ends within {DEADLINE} seconds", False, self.output)
         return self.process.returncode, self.output.splitlines()
 
     def __enter__(self):
@@ -156,13 +194,14 @@ class Proxy:
         with open(self.path, encoding="utf-8") as file:
             return [line[:-1] for line in file if line.endswith("\n")]
 
+    def told_once(self, holds):
+        """Returns the lines behind the first one, once this holds of them."""
+        wait_until(lambda: holds(self.lines()[1:]))
+        return self.lines()[1:]
+
     def told(self, count=1):
         """Returns the lines behind the first one, once there are so many."""
-        for _ in range(1000):
-            if len(lines := self.lines()) > count:
-                break
-            time.sleep(0.01)
-        return lines[1:]
+        return self.told_once(lambda lines: len(lines) >= count)
 
     def connect(self):
         return connect_to(self.port)
