@@ -58,10 +58,10 @@ fn tells(alloc: Global) -> Result<bool, Cause> {
     Ok(fault(alloc, REPEATED)?.path.as_slice() == [1, 0, 0].as_slice())
 }
 
-/// Returns whether the text's fault is told in its second line, at this column.
-fn places(alloc: Global, text: &str, fault: &JsonFault, column: usize) -> Result<bool, Cause> {
+/// Returns whether the text's fault is told at this place.
+fn places(alloc: Global, text: &str, fault: &JsonFault, wanted: Place) -> Result<bool, Cause> {
     match fault.place(alloc, text) {
-        Ok(place) => Ok(place == Place { line: 2, column }),
+        Ok(place) => Ok(place == wanted),
         Err(_) => Err(Cause::OutOfMemory),
     }
 }
@@ -138,10 +138,26 @@ fn a_text_is_read_again(rt: HostRuntime) {
     assert!(rt; comes_right(tells(alloc), tells(alloc)));
 }
 
+/// Texts, why they aren't read, and the line and the column of their faults. Behind the first two are
+/// those that an input of several texts reads otherwise.
+const PLACES: [(&str, Cause, usize, usize); 11] = [
+    (REPEATED, Cause::RepeatedName, 2, 11),
+    (MISFIT, Cause::NotJson, 2, 13),
+    ("", Cause::NotJson, 1, 1),
+    (" \n ", Cause::NotJson, 2, 2),
+    ("]", Cause::NotJson, 1, 1),
+    ("\n[]", Cause::NotAnObject, 2, 1),
+    ("{} \n {}", Cause::NotJson, 2, 2),
+    ("{}]", Cause::NotJson, 1, 3),
+    ("{} , {}", Cause::NotJson, 1, 4),
+    ("{\"a\":1}{\"b\":2}", Cause::NotJson, 1, 8),
+    ("1 , 2", Cause::NotJson, 1, 3),
+];
+
 #[test]
 fn a_place_is_found_again(rt: HostRuntime) {
     let alloc = rt.alloc();
-    for (text, column) in [(REPEATED, 11), (MISFIT, 13)] {
+    for (text, cause, line, column) in &PLACES {
         let found = match fault(alloc, text) {
             Ok(fault) => Ok(fault),
             Err(_) => fault(alloc, text),
@@ -149,7 +165,15 @@ fn a_place_is_found_again(rt: HostRuntime) {
         let Ok(fault) = found else {
             return assert!(rt; false);
         };
-        let first = places(alloc, text, &fault, column);
-        assert!(rt; comes_right(first, places(alloc, text, &fault, column)));
+        let wanted = Place {
+            line: *line,
+            column: *column,
+        };
+        let first = places(alloc, text, &fault, wanted);
+        assert!(rt; fault.cause == *cause, "{text}");
+        assert!(rt;
+            comes_right(first, places(alloc, text, &fault, wanted)),
+            "{text}"
+        );
     }
 }

@@ -1,23 +1,12 @@
-//! Tests of what no contract of Extended JSON says: the specification's own examples, written and
-//! read, texts that aren't read, and writers that fail. They are in a crate of their own, since a
-//! crate is proved once more with its tests.
+//! Tests of what no contract of Extended JSON says: what stands after a refused allocation, and
+//! writers that fail. They are in a crate of their own, since a crate is proved once more with its
+//! tests. The specification's own examples, and texts that aren't read, are tried by the program
+//! that is built, in `scripts/checks/try-json`.
 //!
-//! Uses bson_json, bson_json_read and bson_raw_tests. Read first: `examples`.
+//! Uses bson_json and bson_json_read. Read first: `failures`.
 #![tactic(auto)]
 
-#[cfg(test)]
-mod decimal_texts;
-#[cfg(test)]
-mod examples;
 #[cfg(test)]
 mod failures;
 #[cfg(test)]
 mod json_refusals;
-#[cfg(test)]
-mod lossy;
-#[cfg(test)]
-mod places;
-#[cfg(test)]
-mod reading;
-#[cfg(test)]
-mod several;

@@ -28,8 +28,8 @@ fn canonical_forms_are_written_up_to_a_refused_one(rt: HostRuntime) {
     assert!(rt; holds);
 }
 
-/// Returns true if `run_play` writes the whole text; or none where memory runs out: where that is in an event, the line of its refusal
-/// is the last one then, and else that of the event before.
+/// Returns true if `run_play` writes the whole text, or `None` if memory runs out and what was written is right for that: if it ran out
+/// in an event, the line of its refusal is the last one, and else that of the event before.
 fn plays(alloc: Global) -> Option<bool> {
     let mut writer = empty();
     let mut script = SCRIPT;

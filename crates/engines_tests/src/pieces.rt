@@ -1,8 +1,8 @@
 //! That documents and messages come out of an input whole, however this is cut into pieces, and what is written where reading or
-//! writing fails.
+//! writing fails. Inputs longer than a piece are tried in `scripts/checks/try-tables`.
 
 use engines::{MessageForm, RunEnd, run_check, run_msg};
-use std::alloc::{AllocError, Global};
+use std::alloc::Global;
 use std::io;
 use std::io::{Read, Write};
 
@@ -193,38 +193,6 @@ fn a_failed_write_leaves_a_beginning_of_the_text(rt: HostRuntime) {
     }
 }
 
-/// Returns `count` documents, one after another.
-fn copies(alloc: Global, document: &[u8], count: usize) -> Result<Vec<u8>, AllocError> {
-    let mut input = Vec::new(alloc);
-    for _ in 0..count {
-        input.extend_from_slice(document)?;
-    }
-    Ok(input)
-}
-
-/// Returns true if `check` writes a text of `len` bytes for 20,000 documents. A piece is 65,536 bytes.
-fn are_all_told(alloc: Global, hex: bool, document: &[u8], len: usize) -> Result<bool, AllocError> {
-    let input = copies(alloc, document, 20_000)?;
-    let mut writer = Vec::new(alloc);
-    let end = run_check(alloc, hex, &mut input.as_slice(), &mut writer);
-    Ok(end == RunEnd::Good && writer.len() == len)
-}
-
-#[test]
-fn a_document_may_end_with_a_piece_or_go_on_behind_it(rt: HostRuntime) -> Result<(), AllocError> {
-    assert!(rt; are_all_told(rt.alloc(), false, b"\x05\0\0\0\0", 300_000)?);
-    assert!(rt; are_all_told(rt.alloc(), false, b"\x08\0\0\0\x0aa\0\0", 300_000)?);
-    Ok(())
-}
-
-/// Eleven bytes of text for each document: the first digit of a byte is often the last of a piece.
-#[test]
-fn a_byte_may_begin_in_one_piece_and_end_in_the_next(rt: HostRuntime) -> Result<(), AllocError> {
-    assert!(rt; are_all_told(rt.alloc(), true, b"0500000000", 300_000)?);
-    assert!(rt; are_all_told(rt.alloc(), true, b"0500000000 ", 300_000)?);
-    Ok(())
-}
-
 /// Two messages of 26 bytes, and 17 bytes of a third: its header, and one more.
 const MESSAGES: &[u8] =
     b"\x1a\0\0\0\x01\0\0\0\0\0\0\0\xdd\x07\0\0\0\0\0\0\0\x05\0\0\0\0\x1a\0\0\0\x02\0\0\0\0\0\0\0\xdd\x07\0\0\0\0\0\0\0\x05\0\0\0\0\x1a\0\0\0\x03\0\0\0\0\0\0\0\xdd\x07\0\0\0";
@@ -295,24 +263,4 @@ fn a_bad_header_is_told_however_it_comes(rt: HostRuntime) {
             );
         }
     }
-}
-
-/// Returns true if `msg` writes a text of `len` bytes for 5,000 messages.
-fn are_all_written(alloc: Global, message: &[u8], len: usize) -> Result<bool, AllocError> {
-    let input = copies(alloc, message, 5_000)?;
-    let mut writer = Vec::new(alloc);
-    let mut reader = input.as_slice();
-    let end = run_msg(alloc, MessageForm::Text, false, &mut reader, &mut writer);
-    Ok(end == RunEnd::Good && writer.len() == len)
-}
-
-/// A message of 32 bytes ends with each piece, and one of 33 doesn't.
-#[test]
-fn a_message_may_end_with_a_piece_or_go_on_behind_it(rt: HostRuntime) -> Result<(), AllocError> {
-    let ends = b"\x20\0\0\0\x01\0\0\0\0\0\0\0\xdd\x07\0\0\0\0\0\0\0\x05\0\0\0\0\x01\x05\0\0\0\0";
-    let goes_on =
-        b"\x21\0\0\0\x01\0\0\0\0\0\0\0\xdd\x07\0\0\0\0\0\0\0\x05\0\0\0\0\x01\x06\0\0\0a\0";
-    assert!(rt; are_all_written(rt.alloc(), ends, 250_000)?);
-    assert!(rt; are_all_written(rt.alloc(), goes_on, 255_000)?);
-    Ok(())
 }
