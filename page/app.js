@@ -42,13 +42,15 @@ function takeDrops(inspector) {
 
 // Returns the inspector, or nothing where this browser can't run its module: the player needs none.
 async function loadInspector() {
+  let proved;
   try {
-    return new Inspector(await Proved.load(byId("module").textContent.trim()));
+    proved = await Proved.load(byId("module").textContent.trim());
   } catch (problem) {
     byId("verdict").className = "verdict faulty";
     byId("verdict").textContent = `This browser can't run the page's module, which is WebAssembly with 64 bits of memory: ${problem.message}`;
     return undefined;
   }
+  return new Inspector(proved);
 }
 
 async function begin() {

@@ -15,7 +15,7 @@ function make(tag, attributes = {}, ...inside) {
   return element;
 }
 
-// Tells whether a key is pressed with another one, which is the browser's or a screen reader's then.
+// Returns whether a modifier is held: such a key is the browser's or a screen reader's.
 const hasModifier = ({ ctrlKey, metaKey, altKey }) => ctrlKey || metaKey || altKey;
 
 // Makes the mark of a light or a dark page the other one.

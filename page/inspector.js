@@ -17,6 +17,7 @@ class Inspector {
     this.tree = new TreePane(byId("tree"), panes);
     this.reading = "auto";
     this.view = "tree";
+    this.given = 0; // how often something was given to read
     this.listen();
     this.open(new Uint8Array());
   }
@@ -51,14 +52,8 @@ class Inspector {
     this.type(text);
   }
 
-  // Counts what is given.
-  giveNext() {
-    this.turn = (this.turn ?? 0) + 1;
-    return this.turn;
-  }
-
   readTyped() {
-    this.giveNext();
+    this.given++;
     const read = readSource(byId("source").value);
     if (read.problem) this.tellProblem(read.problem);
     else this.open(read.bytes);
@@ -69,22 +64,23 @@ class Inspector {
     try {
       this.type(hexOf(bytesOfBase64(letters)));
     } catch {
+      this.given++;
       this.tellProblem("The address shares no bytes that can be read.");
     }
   }
 
   async readFile(file) {
     if (!file) return;
-    // What is given while the file is read comes in its place.
-    const turn = this.giveNext();
+    // What is given while the file is read stays.
+    const given = ++this.given;
     try {
       const bytes = new Uint8Array(await file.arrayBuffer());
-      if (turn !== this.turn) return;
+      if (given !== this.given) return;
       byId("source").value = bytes.length <= MOST_TYPED ? hexOf(bytes) : "";
       byId("source").placeholder = `${file.name}, ${inWords(bytes.length, "byte")}`;
       this.open(bytes);
     } catch (problem) {
-      if (turn === this.turn) this.tellProblem(`${file.name} can't be read: ${problem.message}`);
+      if (given === this.given) this.tellProblem(`${file.name} can't be read: ${problem.message}`);
     }
   }
 

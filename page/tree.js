@@ -143,11 +143,11 @@ class TreePane {
     }, indent, make("span", { class: "twist", "aria-hidden": "true" }, twist), ...parts);
   }
 
-  // Says for screen readers, which line of those with the same parent this is, since only those in sight stand in the page.
-  placeAmong({ parent, start }) {
+  // Says which of its siblings this line is, for screen readers: only the lines in sight stand in the page.
+  placeAmong(node) {
+    const { parent } = node;
     if (!parent) return { "aria-setsize": 1, "aria-posinset": 1 };
-    const { children } = parent;
-    return { "aria-setsize": parent.isWhole ? children.length : -1, "aria-posinset": children.findIndex((child) => child.start === start) + 1 };
+    return { "aria-setsize": parent.isWhole ? parent.children.length : -1, "aria-posinset": parent.children.indexOf(node) + 1 };
   }
 
   drawMore(node, index) {

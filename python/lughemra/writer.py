@@ -143,7 +143,7 @@ def _is_buffer(value: Any) -> bool:
 def _container_of(value: Any) -> Optional[Kind]:
     """Returns the kind of a value that holds others: a document of a mapping, an array of a sequence that is no text and no bytes.
 
-    A text's items are texts of one character, and their items again, so a text is no array, whatever class it has.
+    A text's items are texts of one character, and their items again, so neither a str nor a UserString is an array.
     """
     if isinstance(value, Mapping):
         return Kind.DOCUMENT
