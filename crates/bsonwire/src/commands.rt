@@ -265,13 +265,14 @@ fn tell_loop(rt: &impl Eprint, end: RunEnd, unwritten: Because) -> u8
 }
 
 /// Passes connections to a server and back, or the requests of all clients over a few of them.
-fn run_proxy<R: Files + Net + Clock + Print + AllocGlobal>(
+fn run_proxy<R: Files + Net + Clock + AllocGlobal, W: Write>(
     rt: &R,
     options: Options<'_>,
+    out: &mut W,
 ) -> Result<(), ProxyFault> {
     match options.share {
-        Some(most) => shared_proxy::run(rt, rt.alloc(), options, most as usize, io::writer(rt)),
-        None => proxy::run(rt, rt.alloc(), options, io::writer(rt)),
+        Some(most) => shared_proxy::run(rt, rt.alloc(), options, most as usize, out),
+        None => proxy::run(rt, rt.alloc(), options, out),
     }
 }
 
@@ -299,15 +300,25 @@ fn proxy_status<R: Files + Net + Clock + Print + Eprint + AllocGlobal>(
     ensures { (result ≡ 2)
         ⊎ ((end : RunEnd) × (end ≢ RunEnd.Fault) × (result ≡ exit_status end)) }
 {
-    let Err(fault) = run_proxy(rt, options) else {
+    let mut writer = Noted::new(io::writer(rt));
+    let Err(fault) = run_proxy(rt, options, &mut writer) else {
         return status_of(RunEnd::Good);
     };
-    let _ = tell_proxy(rt, &fault, options);
+    let _ = tell_proxy(rt, &fault, options, writer.because());
     fault_status(&fault)
 }
 
-/// Says on standard error why a proxy stopped early.
-fn tell_proxy(rt: &impl Eprint, fault: &ProxyFault, options: Options<'_>) -> io::Result<()> {
+/// Says on standard error why a proxy stopped early: writing failed for this reason, or else by its
+/// fault.
+fn tell_proxy(
+    rt: &impl Eprint,
+    fault: &ProxyFault,
+    options: Options<'_>,
+    unwritten: Because,
+) -> io::Result<()> {
+    if unwritten.is_known() {
+        return eprintln!(rt; "bsonwire: could not write standard output{unwritten}");
+    }
     let Options {
         listen,
         upstream,
@@ -337,22 +348,28 @@ fn replay_status<R: Files + Input + Net + Clock + Print + Eprint + AllocGlobal>(
 ) -> u8
     ensures { (end : RunEnd) × (result ≡ exit_status end) }
 {
-    match replay::run(rt, rt.alloc(), options, io::writer(rt)) {
+    let mut writer = Noted::new(io::writer(rt));
+    match replay::run(rt, rt.alloc(), options, &mut writer) {
         Ok(Outcome::Same) => status_of(RunEnd::Good),
         Ok(Outcome::Different | Outcome::Fault) => status_of(RunEnd::Fault),
         Err(fault) => {
-            let _ = tell_replay(rt, &fault, options);
+            let _ = tell_replay(rt, &fault, options, writer.because());
             status_of(end_of(fault.error()))
         }
     }
 }
 
-/// Says on standard error why a replay stopped early.
+/// Says on standard error why a replay stopped early: writing failed for this reason, or else by its
+/// fault.
 fn tell_replay(
     rt: &impl Eprint,
     fault: &ReplayFault,
     options: ReplayOptions<'_>,
+    unwritten: Because,
 ) -> io::Result<()> {
+    if unwritten.is_known() {
+        return eprintln!(rt; "bsonwire: could not write standard output{unwritten}");
+    }
     let ReplayOptions { file, address, .. } = options;
     match fault {
         ReplayFault::Records(error) => {

@@ -2,6 +2,7 @@
 
 use crate::direction::Direction;
 use std::fmt;
+use std::io::ErrorKind;
 use wire_relay::RelayFault;
 
 /// Who is at one end of a connection.
@@ -17,6 +18,15 @@ impl Side {
         match self {
             Side::Client => "client",
             Side::Server => "server",
+        }
+    }
+}
+
+/// Returns true if the connection was refused, which the system mostly tells when bytes are to be moved.
+pub fn is_refused(fault: RelayFault) -> bool {
+    match fault {
+        RelayFault::Receiving(fault) | RelayFault::Sending(fault) => {
+            fault.kind == ErrorKind::ConnectionRefused
         }
     }
 }
@@ -49,6 +59,9 @@ impl fmt::Display for Ending {
     fn fmt<W: fmt::Write>(&self, f: &mut fmt::Formatter<W>) -> fmt::Result {
         match *self {
             Ending::Ended => f.write_str("ended"),
+            Ending::Failed(_, fault) if is_refused(fault) => {
+                f.write_str("failed: connecting: connection refused")
+            }
             Ending::Failed(side, fault) => write!(f, "failed: {}: {fault}", side.name()),
             Ending::HungUp(id) => write!(f, "hangup id {id}"),
             Ending::Cut(direction, count) => write!(f, "cut {} {count}", direction.word()),

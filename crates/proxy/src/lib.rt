@@ -35,6 +35,7 @@ mod watch;
 pub use acceptor::{ACCEPTS, Acceptor, EVENTS, LISTENER};
 pub use chance::{Cut, drawn_cut};
 pub use direction::Direction;
+pub use ending::is_refused;
 pub use fate::{Fate, fate_of};
 pub use fault::ProxyFault;
 pub use held_link::HeldLink;

@@ -4,6 +4,7 @@ use mio::net::TcpStream;
 use sockets::IoFailure;
 use std::alloc::{AllocError, Global};
 use std::fmt;
+use std::io::ErrorKind;
 use wire_frame::{FrameFront, FrameReader, RawFrame};
 use wire_msg::{MAX_MESSAGE_LEN, MsgFault};
 use wire_stream::{Inlet, Link, LinkFault, Moved, Pulled, TcpLink};
@@ -27,6 +28,11 @@ impl fmt::Display for Broken {
     fn fmt<W: fmt::Write>(&self, f: &mut fmt::Formatter<W>) -> fmt::Result {
         match *self {
             Broken::Connecting(failure) => write!(f, "connecting: {failure}"),
+            // The system mostly tells it when bytes are to be moved.
+            Broken::Sending(fault) | Broken::Receiving(fault)
+                if fault.kind == ErrorKind::ConnectionRefused => {
+                f.write_str("connecting: connection refused")
+            }
             Broken::Sending(fault) => write!(f, "sending: {fault}"),
             Broken::Receiving(fault) => write!(f, "receiving: {fault}"),
             Broken::NoMessage(fault) => write!(f, "receiving: {fault}"),

@@ -7,13 +7,13 @@ use thiserror::Error;
 /// Why a replay ends early.
 #[derive(Debug, Drop, Error)]
 pub enum ReplayFault {
-    /// The file of records can't be read.
+    /// The file of records can't be read, or memory ran out for it.
     #[error("the records can't be read: {0}")]
     Records(io::Error),
     /// The server's address can't be found.
     #[error("the server's address: {0}")]
     Address(io::Error),
-    /// Writing or waiting failed, or memory ran out.
+    /// Writing or waiting failed, or memory ran out for anything else.
     #[error("{0}")]
     Io(io::Error),
 }

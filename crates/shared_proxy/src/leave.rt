@@ -1,6 +1,6 @@
 //! Why a connection is over.
 
-use proxy::Direction;
+use proxy::{Direction, is_refused};
 use sockets::IoFailure;
 use std::fmt;
 use std::io::ErrorKind;
@@ -22,7 +22,7 @@ pub enum Leave {
     BadServer(ClientCause),
     /// The server can't be asked.
     Refused(CallRefusal),
-    /// Connecting to the server failed.
+    /// Connecting to the server failed, or a client couldn't be registered.
     Unconnected(IoFailure),
     /// The script hung up at the request with this id, which was not passed on.
     HungUp(i32),
@@ -88,6 +88,9 @@ impl fmt::Display for Leave {
     fn fmt<W: fmt::Write>(&self, f: &mut fmt::Formatter<W>) -> fmt::Result {
         match *self {
             Leave::Ended => f.write_str("ended"),
+            Leave::Failed(fault) if is_refused(fault) => {
+                f.write_str("failed: connecting: connection refused")
+            }
             Leave::Failed(fault) => write!(f, "failed: {fault}"),
             Leave::BadClient(cause) => write!(f, "closed: {cause}"),
             Leave::BadServer(cause) => write!(f, "closed: {cause}"),

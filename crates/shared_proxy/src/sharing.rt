@@ -216,7 +216,8 @@ impl Sharing {
     }
 
     /// Passes the request of a client on over this connection, which may be lost or another one's by
-    /// now, and has the next one that waits for it follow. Returns false if it waits.
+    /// now, and has the next one that waits for it follow. Returns false if it waits, or its client
+    /// was closed.
     fn pass_over<W: Write>(&mut self, number: u64, upstream: u64, out: &mut W) -> io::Result<bool> {
         let Some(client) = self.clients.get_mut(number) else {
             return Ok(false);
@@ -248,7 +249,7 @@ impl Sharing {
         Ok(true)
     }
 
-    /// Passes the request of a client on. Returns false if it waits.
+    /// Passes the request of a client on. Returns false if it waits, or its client was closed.
     ///
     /// # Errors
     ///

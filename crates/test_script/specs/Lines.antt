@@ -133,7 +133,8 @@ IsRefused (Some word) =
 abbrev pub IsReplyOf : List ℕ → (word : List ℕ) → Type 0
 IsReplyOf text word = (word_in text ≡ keyword_text keywords.Reply) × IsOneWord (behind text) word
 
--- why the text is no action: the document of a reply, if one is there, and else `Action`
+-- why the text is no action: where it is a reply with one word, why that is no document, and else
+-- `Action`
 abbrev pub IsNoActionFor : List ℕ → Cause → Type 0
 IsNoActionFor text cause =
     ((word : List ℕ) × IsReplyOf text word × IsNoDocumentFor causes.Action word cause)
@@ -197,9 +198,10 @@ pub record IsRule (line : List ℕ) (r : RuleView) : Type 0 where
   pub times : IsTimes (times_at (after_filter line)) r.left
   pub action : IsAction (after_times line) r.action
 
--- the filter and the number of times are read, and what stands behind them is no action
-abbrev pub FailsBehind : List ℕ → Cause → Type 0
-FailsBehind line cause =
+-- the filter and the number of times are read, and what stands behind them is no action, for this
+-- cause
+abbrev pub HasNoAction : List ℕ → Cause → Type 0
+HasNoAction line cause =
     ((f : List (List ℕ × TreeValue)) × IsFilter (filter_at (after_command line)) f)
     × ((left : Option ℕ) × IsTimes (times_at (after_filter line)) left)
     × IsNoAction (after_times line) cause
@@ -212,11 +214,11 @@ FailsBy line causes.Filter =
 FailsBy line (causes.Json cause column) =
     HasCommand line
     × (IsNoFilter (filter_at (after_command line)) (causes.Json cause column)
-    ⊎ FailsBehind line (causes.Json cause column))
+    ⊎ HasNoAction line (causes.Json cause column))
 FailsBy line causes.Operator = HasCommand line × IsRefused (filter_at (after_command line))
 FailsBy line causes.Times =
     HasCommand line
     × ((f : List (List ℕ × TreeValue)) × IsFilter (filter_at (after_command line)) f)
     × ((left : Option ℕ) → IsTimes (times_at (after_filter line)) left → ⊥)
-FailsBy line causes.Action = HasCommand line × FailsBehind line causes.Action
+FailsBy line causes.Action = HasCommand line × HasNoAction line causes.Action
 FailsBy line causes.OutOfMemory = Unit {0}

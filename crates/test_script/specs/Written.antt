@@ -24,7 +24,8 @@ IsDocumentAs false word d = (bytes : List ℕ) × IsHex word bytes × IsSpelledB
 abbrev pub IsDocument : List ℕ → List (List ℕ × TreeValue) → Type 0
 IsDocument word d = IsDocumentAs (begins_object word) word d
 
--- the text isn't read as Extended JSON for this cause, or memory ran out
+-- the text isn't read as Extended JSON for this cause, or memory ran out; of the column nothing is
+-- said
 abbrev pub IsJsonCause : List ℕ → Cause → Type 0
 IsJsonCause text (causes.Json cause column) =
     (path : List ℕ) × (document_in text ≡ Err (cause, path))
@@ -35,7 +36,8 @@ IsJsonCause text _ = ⊥
 abbrev pub MayBeJson : List ℕ → Type 0
 MayBeJson word = (begins_object word ≡ true) × IsUtf8 word
 
--- why the word is no document: its Extended JSON, if it may be that, and else the cause `other`
+-- why the word is no document: why it isn't Extended JSON, if it may be that, and else the cause
+-- `other`
 abbrev pub IsNoDocumentFor : (other : Cause) → List ℕ → Cause → Type 0
 IsNoDocumentFor other word cause =
     (MayBeJson word × IsJsonCause word cause) ⊎ ((MayBeJson word → ⊥) × (cause ≡ other))

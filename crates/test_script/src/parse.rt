@@ -27,11 +27,11 @@ fn action_of(alloc: Global, keyword: Keyword, operands: &[u8]) -> Result<Action,
     match keyword {
         Keyword::Reply => match reply(alloc, operands) {
             Ok(answer) => Ok(Action::Reply(answer)),
-            Err(unread) => Err(unread),
+            Err(error) => Err(error),
         },
         Keyword::Error => match error(alloc, operands) {
             Ok(answer) => Ok(Action::Reply(answer)),
-            Err(unread) => Err(unread),
+            Err(error) => Err(error),
         },
         Keyword::Delay => match one_number(operands) {
             Some(millis) => Ok(Action::Delay(millis)),

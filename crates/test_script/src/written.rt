@@ -99,8 +99,8 @@ fn json_cause(alloc: Global, text: &str) -> Cause
     }
 }
 
-/// Returns why a word is no document: by its Extended JSON, if it begins as that, and else for the
-/// cause that is named.
+/// Returns why a word is no document: by its Extended JSON, which is read once more for that, if it
+/// begins so, and else the cause that is named.
 pub(crate) fn no_document(alloc: Global, word: &[u8], cause: Cause) -> Cause
     requires { (d : List (List ℕ × TreeValue)) → IsDocument word.now d → ⊥ }
     ensures { IsNoDocumentFor cause word.now result }

@@ -100,5 +100,7 @@ fn lines_that_are_no_rules(rt: HostRuntime) {
 fn what_a_fault_says(rt: HostRuntime) {
     let cause = Cause::Times;
     let text = format!(in rt.alloc(); "{}", ScriptFault { line: 3, cause });
-    assert!(rt; text.is_ok_and(|text| text.as_str() == "line 3: a whole number follows 'times'"));
+    assert!(rt;
+        text.is_ok_and(|text| text.as_str() == "line 3: a whole number below 2^64 follows 'times'")
+    );
 }
