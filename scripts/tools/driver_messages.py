@@ -17,7 +17,7 @@ ROOT = os.path.dirname(os.path.dirname(os.path.dirname(os.path.realpath(__file__
 sys.path.insert(0, os.path.join(ROOT, "bench"))
 from generate import document, element, string  # noqa: E402
 
-# How many seconds is waited for what has to come: a machine with other work may stall each process for some.
+# For how many seconds a script waits for what has to come: a machine with other work may stall a process for some of them.
 DEADLINE = 120
 
 DOUBLE, STRING, DOCUMENT, ARRAY, BOOLEAN, INT32, INT64 = 0x01, 0x02, 0x03, 0x04, 0x08, 0x10, 0x12

@@ -1,4 +1,4 @@
-"""A test server or a proxy that a check runs, and asks over raw sockets."""
+"""What checks share: a server or a proxy that one runs and asks over raw sockets, the built programs, and waits that no slow machine fails."""
 
 import _thread
 import atexit
@@ -32,16 +32,16 @@ def expect(what, holds, *told):
     print(what)
 
 
-def wait_until(holds):
-    """Waits until this holds. Returns what it was at last."""
+def wait_until(holds, step=0.01):
+    """Waits until this holds, for DEADLINE seconds at most, and looks each `step` seconds. Returns what it was at last."""
     until = time.monotonic() + DEADLINE
     while not (found := holds()) and time.monotonic() < until:
-        time.sleep(0.01)
+        time.sleep(step)
     return found
 
 
 def is_asleep(process):
-    """Returns true if a process waits for something else than a processor."""
+    """Returns true if a process sleeps until something comes: one that waits for a processor doesn't."""
     try:
         with open(f"/proc/{process.pid}/stat", encoding="ascii", errors="replace") as file:
             return file.read().rsplit(")", 1)[1].split()[0] == "S"
@@ -50,8 +50,8 @@ def is_asleep(process):
 
 
 def comes_to_rest(process, looks=20):
-    """Waits until a process is asleep each of so many times that it is looked at: then it has done what can be done. One that goes on
-    isn't, also where it waits for a processor. Returns false if it ends, or doesn't come to rest."""
+    """Waits until a process is asleep at so many looks in a row: then it has done what it can. Returns false if it ends, or isn't at rest
+    within DEADLINE seconds."""
     until, in_row = time.monotonic() + DEADLINE, 0
     while in_row < looks and process.poll() is None and time.monotonic() < until:
         in_row = in_row + 1 if is_asleep(process) else 0
