@@ -139,7 +139,7 @@ fn write_to_held<'a, W: Write>(
     ensures same { walked_len pairs.new ≡ walked_len pairs.old }
 {
     let mut left = pairs.bytes_left();
-    while let Some((name, value)) = pairs.next() {
+    while let Some((name, value)) = pairs.next_inlined() {
         write_offset(before_end(end, left), out)?;
         write_line(deep, name, value, out)?;
         if let Some(held) = held_document(value) {

@@ -18,16 +18,14 @@ before_end-requires g c =
 
 pub loop-name-preserved : goal.loop-name-preserved
 loop-name-preserved g c =
-    let fewer : pairs_bound c.next.new.self ≤ pairs_bound c.args.pairs.now = search rules in
+    let fewer : pairs_bound c.next_inlined.new.self ≤ pairs_bound c.args.pairs.now = search rules in
     let less : c.loop-name.left ≤ walked_len c.args.pairs.now = omega arith in
     let room = within c.args.end c.loop-name.left (walked_len c.args.pairs.now) less c.requires in (
-      tt,
-      tt,
-      c.in-Some.ensures.steps.0 ∙ c.loop-name.invariant.2,
+      c.in-Some.ensures.steps.0 ∙ c.loop-name.invariant.0,
       fewer,
       c.bytes_left-left-in-Some.ensures.bound,
       λ whole spelled.
-          let left = c.loop-name.invariant.5 whole spelled in
+          let left = c.loop-name.invariant.3 whole spelled in
           let pair = c.in-Some.ensures.steps.1.0 left.0 left.2 in
           let v = pair.tree_value in
           let name : List ℕ = c.in-Some.name.now in
@@ -52,7 +50,7 @@ returns-in-Some-held_document-clause-lines g c =
     let less : c.loop-name.left ≤ walked_len c.args.pairs.now = omega arith in
     let room = within c.args.end c.loop-name.left (walked_len c.args.pairs.now) less c.requires in
     λ whole spelled.
-    let left = c.loop-name.invariant.5 whole spelled in
+    let left = c.loop-name.invariant.3 whole spelled in
     let pair = c.in-Some.ensures.steps.1.0 left.0 left.2 in
     let v = pair.tree_value in
     let name : List ℕ = c.in-Some.name.now in
@@ -75,7 +73,7 @@ returns-in-Some-held_document-clause-lines g c =
 pub returns-in-Some-held_document-clause-inside : goal.returns-in-Some-held_document-clause-inside
 returns-in-Some-held_document-clause-inside g c =
     let s = c.loop-name.pairs in
-    let after = c.next.new.self in
+    let after = c.next_inlined.new.self in
     let d = c.in-Some-held_document.held in
     let inside = ends_before s.bytes.now after.bytes.now (document_bytes d) s.offset after.offset s.left c.in-Some.ensures.steps.0
     (λ t left.

@@ -8,8 +8,8 @@ use Rattle.bson_raw.specs.Held.{IsItemOf}
 use Rattle.bson_raw.proofs.Items.{is_item_of, all_spelled}
 use Rattle.bson_raw.proofs.Values.{held_short_of}
 use Rattle.bson_raw.proofs.Walks.{IsRead, step, can_read, none_left}
-use Rattle.bson_raw.proofs.iter.RawIterIterator.next.Goals as goal
-use Rattle.bson_raw.proofs.iter.RawIterIterator.next.Goals.{After-reread_element-element}
+use Rattle.bson_raw.proofs.iter.RawIter.next_inlined.Goals as goal
+use Rattle.bson_raw.proofs.iter.RawIter.next_inlined.Goals.{After-reread_element-element}
 
 pub returns-then-self-end-clause-steps : goal.returns-then-self-end-clause-steps
 returns-then-self-end-clause-steps c = (refl, λ t left. none_left c.args.self.now.bytes.now c.args.self.now.offset t c.if-self-end.true left, λ none. refl)
