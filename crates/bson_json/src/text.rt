@@ -1,19 +1,22 @@
 //! Writes text as a JSON string (RFC 8259, section 7), and bytes as base64 (RFC 4648, section 4).
 
-ghost use Rattle.std.specs.Prelude.{◌≡◌, ◌++◌, ◌≤◌, OnOk, flat_map, length};
+ghost use Rattle.std.specs.Prelude.{◌≡◌, ◌++◌, ◌*◌, ◌/◌, ◌≤◌, OnOk, flat_map, length};
 ghost use Rattle.base64.specs.Engines.{standard};
-ghost use Rattle.base64.specs.GeneralPurpose.{encode_of};
+ghost use Rattle.base64.specs.GeneralPurpose.{encode_of, encoded_size_of};
 ghost use Rattle.json.specs.Print.{escape_byte, escape_letter, quoted};
 ghost use Rattle.text_writer.specs.{WritesOut, text_contents};
 
-use base64::engine::general_purpose::STANDARD;
+use base64::engine::general_purpose::{GeneralPurpose, STANDARD};
 use core::mem::replace_with;
 use std::io;
 use std::io::Write;
 use text_writer::{Failed, TextWriter, first_escaped, write_hex};
 
 /// The most bytes that are written as base64 in one call, a whole number of groups of three.
-const GROUPS: usize = 192;
+const BASE64_CHUNK: usize = 768;
+
+/// The most bytes that are written by way of a small buffer, a whole number of groups of three.
+const BASE64_FEW: usize = 48;
 
 /// Writes one byte as it appears in a JSON string, if its escape has no letter.
 fn write_unnamed<W: Write>(b: u8, out: &mut TextWriter<W>) -> Result<(), Failed>
@@ -97,14 +100,19 @@ pub fn write_json_string<W: Write>(string: &str, out: &mut W) -> io::Result<()>
     replace_with(out, string, string_through)
 }
 
-/// Writes at most 192 bytes as base64.
-fn write_base64_chunk<W: Write>(chunk: &[u8], out: &mut TextWriter<W>) -> Result<(), Failed>
-    requires { length chunk.now ≤ GROUPS }
-    ensures { OnOk result (WritesOut (text_contents W.contents) out.old out.new
-        (encode_of standard chunk.now)) }
+/// Writes bytes as base64, by way of `buffer`.
+fn write_base64_by<W: Write>(
+    engine: &GeneralPurpose,
+    bytes: &[u8],
+    buffer: &mut [u8],
+    out: &mut TextWriter<W>,
+) -> Result<(), Failed>
+    requires { encoded_size_of engine.now (length bytes.now) ≤ length buffer.old }
+    ensures written { OnOk result (WritesOut (text_contents W.contents) out.old out.new
+        (encode_of engine.now bytes.now)) }
+    ensures size { length buffer.new ≡ length buffer.old }
 {
-    let mut buffer = [0u8; GROUPS / 3 * 4];
-    let Ok(len) = STANDARD.encode_slice(chunk, &mut buffer) else {
+    let Ok(len) = engine.encode_slice(bytes, buffer) else {
         unreachable!();
     };
     out.write_all(&buffer[..len])
@@ -115,11 +123,17 @@ pub(crate) fn write_base64<W: Write>(bytes: &[u8], out: &mut TextWriter<W>) -> R
     ensures { OnOk result (WritesOut (text_contents W.contents) out.old out.new
         (encode_of standard bytes.now)) }
 {
+    // One engine for all chunks: it holds two tables, which a use of the constant writes anew.
+    let engine = &STANDARD;
+    if bytes.len() <= BASE64_FEW {
+        return write_base64_by(engine, bytes, &mut [0u8; BASE64_FEW / 3 * 4], out);
+    }
+    let mut buffer = [0u8; BASE64_CHUNK / 3 * 4];
     let mut rest = bytes;
-    while rest.len() > GROUPS {
-        let (chunk, after) = rest.split_at(GROUPS);
-        write_base64_chunk(chunk, out)?;
+    while rest.len() > BASE64_CHUNK {
+        let (chunk, after) = rest.split_at(BASE64_CHUNK);
+        write_base64_by(engine, chunk, &mut buffer, out)?;
         rest = after;
     }
-    write_base64_chunk(rest, out)
+    write_base64_by(engine, rest, &mut buffer, out)
 }
