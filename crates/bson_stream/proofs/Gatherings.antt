@@ -15,7 +15,7 @@ use Rattle.bson_stream.specs.declared.reader_state.ReadRefusal.TheVariants.{OutO
 use Rattle.bson_stream.specs.declared.reader_state.ReaderState.TheVariants.{Need, Bad}
 use Rattle.bson_stream.specs.Cutting.{Cuts, IsUnread, SpellEach}
 use Rattle.bson_stream.specs.Gathering.{Gathered, Gathers, HasRead}
-use Rattle.bson_stream.specs.Readers.{AnnouncesMore, Feeds, HoldsNoMore, IsRefused, Passes, Reading, StandsAt}
+use Rattle.bson_stream.specs.Readers.{AnnouncesMore, Feeds, HoldsNoMore, IsInFront, IsRefused, Reading, StandsAt}
 use Rattle.bson_stream.specs.Standing.{IsBad, IsLength, IsOpen, in_stream}
 use Rattle.bson_stream.proofs.Standings.{announced_front, fault_longer, four_there, open_fault, spelled_length}
 
@@ -52,11 +52,9 @@ let_go bytes ts t old new h s start none =
       start_is = omega (arith, start, h.start_is, one_longer ts t old.held s);
     }
 
--- a document was passed in a piece
-pub passed : (bytes : List ℕ) (ts : List Tree) (t : Tree) (old new : Reading) (piece b rest : List ℕ) → HasRead bytes ts old → Passes old piece b rest new → Spells t b → HasRead (bytes ++ b) (ts ++ t ∷ []) new
-passed bytes ts t old new piece b rest h p s =
-    let none : new.held ≡ [] = ap (λ (r : Reading). r.held) p.behind in
-    let start : new.start ≡ old.start + length b = ap (λ (r : Reading). r.start) p.behind in
+-- a document in front of a piece was passed
+pub passed : (bytes : List ℕ) (ts : List Tree) (t : Tree) (old new : Reading) (piece b rest : List ℕ) → HasRead bytes ts old → IsInFront old piece b rest → new.start ≡ old.start + length b → new.held ≡ [] → Spells t b → HasRead (bytes ++ b) (ts ++ t ∷ []) new
+passed bytes ts t old new piece b rest h p start none s =
     let held : Walked (bytes ++ b) ts (old.held ++ b) = record { parts = ap (λ (x : List ℕ). x ++ b) h.parts ∙ append_assoc (documents_bytes ts) old.held b; documents_fit = h.fit } in
     let w = one_more (bytes ++ b) ts (old.held ++ b) t b [] held s (ap (λ (x : List ℕ). x ++ b) p.none_held ∙ sym (append-nil b)) in
     record {

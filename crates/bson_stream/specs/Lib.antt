@@ -9,8 +9,8 @@ pub mod SalvagedParts
 -- the words that clauses of other crates cite
 pub use Rattle.bson_stream.specs.Cutting.{Cuts, HasTooLong, IsFaultOf, IsUnread, SpellEach}
 pub use Rattle.bson_stream.specs.Gathering.{HasRead}
-pub use Rattle.bson_stream.specs.Readers.{AnnouncesMore, Feeds, HoldsNoMore, IsRefused, Passes}
-pub use Rattle.bson_stream.specs.Readers.{Reading, StandsAt, TellsForm}
+pub use Rattle.bson_stream.specs.Readers.{AnnouncesMore, Feeds, HoldsNoMore, IsInFront, IsRefused}
+pub use Rattle.bson_stream.specs.Readers.{Reading, StandsAt, TellsForm, moved_behind}
 pub use Rattle.bson_stream.specs.Salvage.{AreParts, BeginsDocument, IsGapFault, NoneBegins, Part}
 pub use Rattle.bson_stream.specs.Salvage.{Salvages, a_document, a_gap}
 pub use Rattle.bson_stream.specs.Salvagers.{ArePartsSoFar, IsDocumentOf, IsFound, IsSettled}

@@ -59,15 +59,15 @@ IsRefused old piece OutOfMemory = old.room < length old.held + length piece
 IsRefused old piece TooLong = AnnouncesMore old.limit (old.held ++ piece)
 IsRefused old piece TooFar = 2 ^ 64 ≤ old.start + length old.held + length piece
 
--- A reader that held nothing passed the document in front of the piece, behind which is this rest.
-pub record Passes (old : Reading) (piece document rest : List ℕ) (new : Reading) : Type 0 where
-  pub none_held : old.held ≡ []
+-- The reader holds nothing, and the document is whole in front of the piece, within the limit, and
+-- ends where offsets reach. Behind it is this rest.
+pub record IsInFront (r : Reading) (piece document rest : List ℕ) : Type 0 where
+  pub none_held : r.held ≡ []
   pub parts : piece ≡ document ++ rest
   pub spelled : IsSpelled document
-  pub within : length document ≤ old.limit
-  pub behind : new ≡ record {
-    limit = old.limit;
-    start = old.start + length document;
-    held = [];
-    room = old.room;
-  }
+  pub within : length document ≤ r.limit
+  pub counted : r.start + length document < 2 ^ 64
+
+-- the reader that holds nothing, so many bytes further on
+abbrev pub moved_behind : Reading → ℕ → Reading
+moved_behind r n = record { limit = r.limit; start = r.start + n; held = []; room = r.room }

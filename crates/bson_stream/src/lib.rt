@@ -2,10 +2,10 @@
 //!
 //! A `DocumentReader` holds the document that isn't whole yet, and no more. It takes bytes from the
 //! front of a piece (`feed`), lends the document that became whole (`document`), and lets go of it
-//! (`release`). A document that is whole in a piece is lent from there (`pass`). Where no document
-//! begins, the reader tells the first fault at its offset in the stream, as soon as no more bytes
-//! can change it. However the bytes are cut, they give the same documents and the same fault
-//! (`read_pieces`).
+//! (`release`). A document that is whole in a piece is lent from there (`front`), and passed
+//! (`pass`). Where no document begins, the reader tells the first fault at its offset in the stream,
+//! as soon as no more bytes can change it. However the bytes are cut, they give the same documents
+//! and the same fault (`read_pieces`).
 //!
 //! A `Salvager` goes on behind a fault. In bytes of which some are damaged it finds the documents
 //! and the gaps of one definition (`specs/Salvage.antt`), however the bytes are cut

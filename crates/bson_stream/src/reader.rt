@@ -1,14 +1,14 @@
 //! Reads documents from bytes that come in pieces.
 
 ghost use Rattle.std.specs.Prelude.{◌≡◌, ◌≢◌, ◌≤◌, ◌<◌, ◌+◌, ◌^◌, ◌++◌, ◌⊎◌, [], Err, IfErr};
-ghost use Rattle.std.specs.Prelude.{IfNone, IfOk, IfSome, IsOkAnd, IsSome, List, Ok, OnErr, length};
+ghost use Rattle.std.specs.Prelude.{IfOk, IfSome, IsOkAnd, IsSome, List, Ok, OnErr, length};
 ghost use Rattle.std.specs.Prelude.{ℕ};
 ghost use Rattle.bson_elem.specs.declared.fault.BsonCause.{BsonCause};
 ghost use Rattle.bson_elem.specs.declared.fault.BsonFault.{BsonFault};
 ghost use Rattle.bson_elem.specs.{fault};
 ghost use Rattle.bson_raw.specs.{IsSpelled, document_bytes};
-ghost use Rattle.bson_stream.specs.Readers.{AnnouncesMore, Feeds, IsRefused, Passes, Reading};
-ghost use Rattle.bson_stream.specs.Readers.{StandsAt, TellsForm};
+ghost use Rattle.bson_stream.specs.Readers.{AnnouncesMore, Feeds, IsInFront, IsRefused, Reading};
+ghost use Rattle.bson_stream.specs.Readers.{StandsAt, TellsForm, moved_behind};
 ghost use Rattle.bson_stream.specs.Standing.{IsBad, IsOpen};
 
 use crate::gather::{put_behind, state_of, wanted, whole_len};
@@ -20,7 +20,7 @@ use std::marker::Model;
 
 /// Reads documents of at most `limit` bytes, one at a time, from bytes that come in pieces.
 ///
-/// Memory is taken as bytes come: at most twice what is held of a document, whatever its length
+/// Memory is taken as bytes are fed: at most twice what is held of a document, whatever its length
 /// announces. What was taken is kept for the next documents. Contracts see the limit, the offset of
 /// the current document in the stream, its bytes so far, and how many bytes there is memory for.
 #[derive(Drop)]
@@ -126,35 +126,46 @@ impl DocumentReader {
         })
     }
 
-    /// Passes the document in front of `piece`, if no bytes are held and all of it is there:
-    /// returns it as it stands in the piece, without a copy, and what follows it. Otherwise returns
-    /// `None` and changes nothing, also where the document has a fault, is longer than the limit,
-    /// or ends more than 2 ^ 64 - 1 bytes from the start of the stream; `feed` tells which.
-    pub fn pass<'p>(&mut self, piece: &'p [u8]) -> Option<Front<'p>>
+    /// Returns the document in front of `piece` as it stands there, and what follows it, if no bytes
+    /// are held and all of the document is there. Otherwise returns `None`, also where the document
+    /// has a fault, is longer than the limit, or ends more than 2 ^ 64 - 1 bytes from the start of
+    /// the stream; `feed` tells which.
+    pub fn front<'p>(&self, piece: &'p [u8]) -> Option<Front<'p>>
         ensures some { IfSome result
-            (λ x. Passes self.old piece.now (document_bytes x.document) x.rest.now self.new) }
+            (λ x. IsInFront self.now piece.now (document_bytes x.document) x.rest.now) }
         ensures canonical { IfSome result (λ x. TellsForm (document_bytes x.document) x.canonical) }
-        ensures there { (document rest : List ℕ) → self.old.held ≡ [] → IsSpelled document
-            → piece.now ≡ document ++ rest → length document ≤ self.old.limit
-            → self.old.start + length document < 2 ^ 64 → IsSome result }
-        ensures none { IfNone result (self.new ≡ self.old) }
+        ensures there { (document rest : List ℕ) → IsInFront self.now piece.now document rest
+            → IsSome result }
     {
         if self.len != 0 {
             return None;
         }
-        let Some(len) = whole_len(piece, self.limit) else {
-            return None;
-        };
+        let len = whole_len(piece, self.limit)?;
         if len > usize::MAX - self.start {
             return None;
         }
         match RawDocument::front_with_form(piece) {
-            Ok(front) => {
-                self.start += len;
-                Some(front)
-            }
+            Ok(front) => Some(front),
             Err(_) => None,
         }
+    }
+
+    /// Moves behind `document`, which counts as let go of. That `front` returned it isn't looked at.
+    /// If bytes are held, or the document would end more than 2 ^ 64 - 1 bytes from the start of the
+    /// stream, nothing changes.
+    pub fn pass(&mut self, document: RawDocument<'_>)
+        ensures passed { self.old.held ≡ []
+            → self.old.start + length (document_bytes document.entry) < 2 ^ 64
+            → self.new ≡ moved_behind self.old (length (document_bytes document.entry)) }
+        ensures held { self.old.held ≢ [] → self.new ≡ self.old }
+        ensures far { 2 ^ 64 ≤ self.old.start + length (document_bytes document.entry)
+            → self.new ≡ self.old }
+    {
+        let len = document.as_bytes().len();
+        if self.len != 0 || len > usize::MAX - self.start {
+            return;
+        }
+        self.start += len;
     }
 
     /// Borrows the document that is ready, if one is. Checks nothing again.
@@ -176,12 +187,8 @@ impl DocumentReader {
     /// Lets go of the document that is ready, and keeps its memory for the next one. If none is
     /// ready, nothing changes.
     pub fn release(&mut self)
-        ensures ready { IsSpelled self.old.held → self.new ≡ record {
-          limit = self.old.limit;
-          start = self.old.start + length self.old.held;
-          held = [];
-          room = self.old.room;
-        } }
+        ensures ready { IsSpelled self.old.held
+            → self.new ≡ moved_behind self.old (length self.old.held) }
         ensures other { (IsSpelled self.old.held → ⊥) → self.new ≡ self.old }
     {
         if self.document().is_none() {

@@ -63,19 +63,22 @@ fn the_form_of_a_document_is_told(rt: HostRuntime) {
     assert!(rt; tells_the_form(rt.alloc()));
 }
 
-/// Returns true if the first document is passed, but not one that isn't whole, nor any while bytes
-/// are held.
+/// Returns true if the first document is lent from the piece and passed, but not one that isn't whole,
+/// nor any while bytes are held.
 fn passes_one(alloc: Global) -> bool {
     let mut reader = DocumentReader::new(alloc, LIMIT);
-    let passed = match reader.pass(THREE) {
-        Some(front) => front.document.as_bytes() == EMPTY.as_slice()
-            && front.rest == OTHERS.as_slice(),
-        None => false,
+    let Some(front) = reader.front(THREE) else {
+        return false;
     };
+    let lent = front.document.as_bytes() == EMPTY.as_slice() && front.rest == OTHERS.as_slice();
+    let stayed = stands(&reader, 0, 0);
+    reader.pass(front.document);
     let moved = stands(&reader, 5, 0) && reader.room() == 0;
-    let short = reader.pass(b"\x09\0\0\0\x08a\0\x01").is_none();
+    let short = reader.front(b"\x09\0\0\0\x08a\0\x01").is_none();
     let held = takes(&mut reader, b"\x09\0\0", 3, ReaderState::Need);
-    passed && moved && short && held && reader.pass(THREE).is_none() && stands(&reader, 5, 3)
+    let none = reader.front(THREE).is_none();
+    reader.pass(front.document);
+    lent && stayed && moved && short && held && none && stands(&reader, 5, 3)
 }
 
 #[test]
@@ -91,11 +94,14 @@ fn ends_inside(alloc: Global, held: usize) -> bool {
         cause: BsonCause::Truncated,
     };
     let mut reader = DocumentReader::new(alloc, LIMIT);
-    let passed = reader.pass(THREE).is_some();
+    let Some(front) = reader.front(THREE) else {
+        return false;
+    };
+    reader.pass(front.document);
     let Some((piece, _)) = TRUTH.split_at_checked(held) else {
         return false;
     };
-    passed && takes(&mut reader, piece, held, ReaderState::Need) && reader.end() == Err(truncated)
+    takes(&mut reader, piece, held, ReaderState::Need) && reader.end() == Err(truncated)
 }
 
 #[test]

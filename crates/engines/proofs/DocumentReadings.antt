@@ -1,12 +1,18 @@
 -- Documents, as items of one kind.
-use Rattle.std.proofs.Common.{inl, inr, ◌-◌, ◌++◌, ℕ, List, Option, length, take, drop, ap, ◌∙◌, append_assoc, subst, sym}
+use Rattle.std.proofs.Common.{◌≡◌, false, true, inl, inr, ◌+◌, ◌-◌, [], ◌++◌, ℕ, List, Option, None, Some, length, take, drop, ap, ◌∙◌, append_assoc, refl, subst, sym}
+use Rattle.std.specs.Option.{is_some}
+use Rattle.bson_elem.specs.{Spells, Tree}
 use Rattle.bson_stream.specs.declared.reader_state.Fed.{Fed}
-use Rattle.bson_stream.specs.{Feeds, IsOpen, Reading}
+use Rattle.bson_stream.specs.{Feeds, IsInFront, IsOpen, Reading}
 use Rattle.bson_stream.proofs.Lemmas.{fault_longer, nothing_open, open_front, spelled_not_open}
+use Rattle.engines.specs.declared.walk.Stop.{Stop}
+use Rattle.engines.specs.declared.walk.Stop.TheVariants as stop
 use Rattle.engines.specs.Documents.{TextRule, documents_of}
+use Rattle.engines.specs.DocumentWalk.{IsWrittenOrStops}
+use Rattle.engines.specs.InputFault.{input_fault_line}
 use Rattle.engines.specs.Items.{ItemKind}
-use Rattle.engines.specs.ItemWalk.{ItemsWritten}
-use Rattle.engines.proofs.ItemReadings.{IsKind, item_fed}
+use Rattle.engines.specs.ItemWalk.{GoesOverItems, ItemReading, ItemsWritten}
+use Rattle.engines.proofs.ItemReadings.{IsKind, item_fed, item_kept, item_released}
 
 module _ (rule : TextRule) where
   open_not_bad : (start : ℕ) (bytes line : List ℕ) → IsOpen bytes → ItemKind.is_bad (documents_of rule) start bytes line → ⊥
@@ -32,3 +38,27 @@ module _ (rule : TextRule) where
   fed_on bytes base old new rest fed from to w f =
       let left = new.held ++ take (length rest - fed.taken) (drop fed.taken rest) in
       subst (λ (n : ℕ). ItemsWritten (documents_of rule) bytes base n left from to) (sym f.start) (item_fed (documents_of rule) fed.taken bytes old.held new.held rest base old.start from to w f.held)
+
+  -- nothing more is written behind a document that was met, since it has no text or memory ran out
+  pub stopped_at : (old new : ItemReading) (piece document after : List ℕ) (t : Tree) (s : Option Stop) (from mid to : Option (List ℕ)) → new.limit ≡ old.limit
+      → ItemsWritten (documents_of rule) (old.held ++ piece) old.start new.start (document ++ after) from mid → Spells t document → IsWrittenOrStops (rule new.start t) new.start s mid to → is_some s ≡ true
+      → GoesOverItems (λ (limit : ℕ). documents_of rule) old piece new s from to
+  stopped_at old new piece document after t None from mid to limit w spelled told some = cc some
+  stopped_at old new piece document after t (Some (stop.Fault f)) from mid to limit w spelled ((none, keeps), is) some = record {
+    limit = limit;
+    rest = document ++ after;
+    written = item_kept (documents_of rule) _ _ _ _ _ _ _ w keeps;
+    stopped = inl (t, document, after, spelled, refl, none, ap input_fault_line is);
+  }
+  stopped_at old new piece document after t (Some stop.OutOfMemory) from mid to limit w spelled keeps some = record { limit = limit; rest = document ++ after; written = item_kept (documents_of rule) _ _ _ _ _ _ _ w keeps; stopped = tt }
+
+  -- the text of a document was written, and the reader stands behind it
+  pub one_written : (bytes : List ℕ) (base start behind : ℕ) (document after none : List ℕ) (t : Tree) (s : Option Stop) (from mid to : Option (List ℕ)) → ItemsWritten (documents_of rule) bytes base start (document ++ after) from mid
+      → Spells t document → IsWrittenOrStops (rule start t) start s mid to → is_some s ≡ false → behind ≡ start + length document → none ≡ [] → ItemsWritten (documents_of rule) bytes base behind (none ++ after) from to
+  one_written bytes base start behind document after none t None from mid to w spelled (text, told, appends) ended next empty =
+      item_released (documents_of rule) bytes document none after text base start behind from mid to w (t, spelled) (t, spelled, told) appends next empty
+  one_written bytes base start behind document after none t (Some s) from mid to w spelled told ended next empty = cc ended
+
+-- what a reader holds, which is nothing, and a piece, are the document in front of this and what follows it
+pub in_front : (r : Reading) (piece document rest : List ℕ) → IsInFront r piece document rest → r.held ++ piece ≡ document ++ rest
+in_front r piece document rest is = ap (λ (x : List ℕ). x ++ piece) is.none_held ∙ is.parts

@@ -1,9 +1,12 @@
 -- What is written for the documents of an input, piece by piece.
-use Rattle.std.specs.Prelude.{ℕ, List, Bool, Option, None, Some}
+use Rattle.std.specs.Prelude.{◌≡◌, ℕ, List, Bool, Option, None, Some}
 use Rattle.std.specs.Io.KnownBytes.{Appends, Keeps}
 use Rattle.bson_stream.specs.{Reading}
 use Rattle.engines.specs.declared.documents.Written.{Written}
 use Rattle.engines.specs.declared.documents.Written.TheVariants.{Whole, TooLarge, OutOfMemory}
+use Rattle.engines.specs.declared.input_fault.InputFault.TheVariants as inputs
+use Rattle.engines.specs.declared.walk.Stop.{Stop}
+use Rattle.engines.specs.declared.walk.Stop.TheVariants as stop
 use Rattle.engines.specs.Documents.{TextRule, documents_of}
 use Rattle.engines.specs.ItemWalk.{ItemReading, ItemWalk, item_tells}
 use Rattle.engines.specs.Walk.{Tells}
@@ -14,6 +17,15 @@ abbrev pub IsWritten : (Option (List ℕ) → Type 0) → Written → Option (Li
 IsWritten May Whole old new = (text : List ℕ) × May (Some text) × Appends old new text
 IsWritten May TooLarge old new = May None × Keeps old new
 IsWritten May OutOfMemory old new = Keeps old new
+
+-- What was written for a document that begins at this offset, for which this may be written, and
+-- why no more documents are read: its text, and no reason; or nothing.
+abbrev pub IsWrittenOrStops : (Option (List ℕ) → Type 0) → ℕ → Option Stop → Option (List ℕ)
+    → Option (List ℕ) → Type 0
+IsWrittenOrStops May start None old new = IsWritten May Whole old new
+IsWrittenOrStops May start (Some (stop.Fault f)) old new =
+    IsWritten May TooLarge old new × (f ≡ inputs.TooLarge start)
+IsWrittenOrStops May start (Some stop.OutOfMemory) old new = IsWritten May OutOfMemory old new
 
 -- where a reader of documents stands
 abbrev pub document_reading : Reading → ItemReading

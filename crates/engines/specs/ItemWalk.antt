@@ -33,7 +33,7 @@ IsStoppedAt kind r rest (Some (stop.Fault f)) =
     (kind r.limit).is_bad r.start rest (input_fault_line f)
 IsStoppedAt kind r rest (Some stop.OutOfMemory) = Unit {0}
 
--- A reader was fed a piece, and the texts of the items that became whole were written.
+-- A reader went over a piece, and the texts of the items that became whole were written.
 pub record GoesOverItems (kind : ℕ → ItemKind) (old : ItemReading) (piece : List ℕ)
     (new : ItemReading) (stop : Option Stop) (from to : Option (List ℕ)) : Type 0 where
   pub limit : new.limit ≡ old.limit

@@ -1,12 +1,13 @@
 //! Documents out of an input, for each of which a command writes a text.
 
-ghost use Rattle.std.specs.Prelude.{◌≡◌, ◌≢◌, ◌⊎◌, ◌+◌, ◌<◌, ◌^◌, ℕ, Bool, List, Option, Err};
+ghost use Rattle.std.specs.Prelude.{◌≡◌, ◌≢◌, ◌+◌, ◌<◌, ◌^◌, ℕ, Bool, List, Option, Err};
 ghost use Rattle.std.specs.Prelude.{IfErr, IfOk, IfSome, OnOk, false, length, true};
 ghost use Rattle.std.specs.Io.KnownBytes.{Appends, IsAtEnd};
 ghost use Rattle.bson_elem.specs.{Spells, Tree};
-ghost use Rattle.bson_raw.specs.{document_bytes, is_plain};
-ghost use Rattle.bson_stream.specs.{IsOpen};
-ghost use Rattle.engines.specs.DocumentWalk.{IsWritten, document_reading, document_tells};
+ghost use Rattle.bson_raw.specs.{document_bytes};
+ghost use Rattle.bson_stream.specs.{IsOpen, TellsForm};
+ghost use Rattle.engines.specs.DocumentWalk.{IsWritten, IsWrittenOrStops, document_reading};
+ghost use Rattle.engines.specs.DocumentWalk.{document_tells};
 ghost use Rattle.engines.specs.Documents.{AppendsFirst, IsWholeText, TextRule, WritesAll};
 ghost use Rattle.engines.specs.Documents.{documents_of};
 ghost use Rattle.engines.specs.InputFault.{line_of};
@@ -53,8 +54,7 @@ pub trait EachDocument {
         canonical: bool,
         out: &mut W,
     ) -> io::Result<Written>
-        requires canonical { (t : Tree) → Spells t (document_bytes document)
-            → canonical ≡ is_plain false 0 t }
+        requires canonical { TellsForm (document_bytes document) canonical }
         requires offset { start + length (document_bytes document) < 2 ^ 64 }
         ensures { (t : Tree) → Spells t (document_bytes document.entry) → IfOk result
             (λ written. IsWritten (rule self.now start t) written
@@ -66,9 +66,31 @@ pub trait EachDocument {
             (closing self.now any)) };
 }
 
-/// Feeds `piece` to `documents`, and writes the text of each document that becomes whole. Returns
-/// why no more documents are read, if none are: then the reader stands where that is. Errs if the
-/// writer does.
+/// Writes the text of `document`, which begins at offset `start` of the input. Returns why no more
+/// documents are read, if none are. Errs if the writer does.
+fn write_one<E: EachDocument, W: Write>(
+    each: &E,
+    document: RawDocument<'_>,
+    start: usize,
+    canonical: bool,
+    out: &mut W,
+) -> io::Result<Option<Stop>>
+    requires canonical { TellsForm (document_bytes document) canonical }
+    requires offset { start + length (document_bytes document) < 2 ^ 64 }
+    ensures { (t : Tree) → Spells t (document_bytes document.entry) → IfOk result
+        (λ stop. IsWrittenOrStops (E.rule each.now start t) start stop
+        (W.contents out.old) (W.contents out.new)) }
+{
+    match each.write_document(document, start, canonical, out)? {
+        Written::Whole => Ok(None),
+        Written::TooLarge => Ok(Some(Stop::Fault(InputFault::TooLarge { offset: start }))),
+        Written::OutOfMemory => Ok(Some(Stop::OutOfMemory)),
+    }
+}
+
+/// Writes the text of each document that becomes whole by `piece`: from where it stands, if all of
+/// it is in `piece`, and else from `documents`, which gathers it. Returns why no more documents are
+/// read, if none are: then the reader stands where that is. Errs if the writer does.
 fn write_each<E: EachDocument, W: Write>(
     each: &E,
     documents: &mut DocumentReader,
@@ -83,6 +105,16 @@ fn write_each<E: EachDocument, W: Write>(
 {
     let mut rest = piece;
     loop {
+        if let Some(front) = documents.front(rest) {
+            let start = documents.start();
+            let stop = write_one(each, front.document, start, front.canonical, out)?;
+            if stop.is_some() {
+                return Ok(stop);
+            }
+            documents.pass(front.document);
+            rest = front.rest;
+            continue;
+        }
         // The limit is that of all documents, and an offset counts the bytes of the piece: a reader
         // refuses to be fed only if memory runs out.
         let Ok(fed) = documents.feed(rest) else {
@@ -94,17 +126,15 @@ fn write_each<E: EachDocument, W: Write>(
             ReaderState::Ready { canonical } => canonical,
             ReaderState::Bad(fault) => return Ok(Some(Stop::Fault(InputFault::Bson(fault)))),
         };
-        let offset = documents.start();
+        let start = documents.start();
         let Some(document) = documents.document() else {
             unreachable!()
         };
-        match each.write_document(document, offset, canonical, out)? {
-            Written::Whole => documents.release(),
-            Written::TooLarge => {
-                return Ok(Some(Stop::Fault(InputFault::TooLarge { offset })));
-            }
-            Written::OutOfMemory => return Ok(Some(Stop::OutOfMemory)),
+        let stop = write_one(each, document, start, canonical, out)?;
+        if stop.is_some() {
+            return Ok(stop);
         }
+        documents.release();
     }
 }
 

@@ -32,9 +32,9 @@ pub trait Walk {
     fn start(&self, alloc: Global) -> Self::Reader
         ensures { IsBetween (tells self.now) result [] [] };
 
-    /// Feeds `piece` to `reader`, and writes the text of each document or message that becomes
-    /// whole. Returns why no more are read, if none are: then the reader stands where that is. Errs
-    /// if the writer does.
+    /// Goes over `piece`, behind what `reader` holds, and writes the text of each document or
+    /// message that becomes whole. Returns why no more are read, if none are: then the reader stands
+    /// where that is. Errs if the writer does.
     fn write_piece<W: Write>(
         &self,
         reader: &mut Self::Reader,

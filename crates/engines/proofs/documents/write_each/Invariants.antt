@@ -5,12 +5,12 @@ use Rattle.engines.specs.ItemWalk.{ItemsWritten}
 use Rattle.engines.proofs.documents.write_each.Given as goal
 
 -- the texts of the documents so far were written, and the rest is what the reader holds and what it wasn't fed yet
-abbrev pub invariant-loop-fed : goal.invariant-loop-fed
-invariant-loop-fed g l =
+abbrev pub invariant-loop-front : goal.invariant-loop-front
+invariant-loop-front g l =
     IsOpen l.documents.held
     × (l.documents.limit ≡ l.initial.documents.limit)
     × ItemsWritten (documents_of (g.E.EachDocument.rule l.each)) (l.initial.documents.held ++ l.piece) l.initial.documents.start l.documents.start (l.documents.held ++ l.rest)
     (g.W.Write.contents l.initial.out) (g.W.Write.contents l.out)
 
-abbrev pub decreases-loop-fed : goal.decreases-loop-fed
-decreases-loop-fed g l = length l.rest + length l.documents.held
+abbrev pub decreases-loop-front : goal.decreases-loop-front
+decreases-loop-front g l = length l.rest + length l.documents.held
