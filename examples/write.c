@@ -17,15 +17,17 @@ static size_t take_apart(const uint8_t *bytes, size_t length, size_t at, uint8_t
 {
     struct lughemra_section section;
     size_t end = 0;
-    for (; (section = lughemra_section(bytes, length, at)).kind != LUGHEMRA_SECTIONS_END; at = section.next) {
+    for (;; at = section.next) {
+        section = lughemra_section(bytes, length, at);
         if (section.kind == LUGHEMRA_SECTION_BODY)
             *body = section.documents;
-        else
-            lughemra_append_sequence(room, length, &end, (const char *)bytes + section.identifier.offset,
-                                     section.identifier.length, bytes + section.documents.offset,
-                                     section.documents.length);
+        else if (section.kind != LUGHEMRA_SECTION_SEQUENCE)
+            return end;
+        else if (lughemra_append_sequence(room, length, &end, (const char *)bytes + section.identifier.offset,
+                                          section.identifier.length, bytes + section.documents.offset,
+                                          section.documents.length).refusal != LUGHEMRA_DONE)
+            exit(4);
     }
-    return end;
 }
 
 /* Writes the message anew, first in a room of a byte too few. */
@@ -37,8 +39,9 @@ static int rewrite(const uint8_t *bytes, size_t length)
     uint8_t *sequences = malloc(length), *room = malloc(length);
     struct lughemra_written written;
     size_t end;
+    int status = 4;
     if (sequences == NULL || room == NULL)
-        return 4;
+        goto freed;
     end = take_apart(bytes, length, parts.sections, sequences, &body);
     written = lughemra_write_message(&numbers, bytes + body.offset, body.length, sequences, end, LUGHEMRA_MAX_LIMIT, room,
                                      length - 1);
@@ -46,16 +49,18 @@ static int rewrite(const uint8_t *bytes, size_t length)
         written = lughemra_write_message(&numbers, bytes + body.offset, body.length, sequences, end, LUGHEMRA_MAX_LIMIT,
                                          room, written.length);
     if (written.fault.number == LUGHEMRA_NO_MEMORY)
-        return 4;
+        goto freed;
+    status = 0;
     if (written.fault.number != 0)
         printf("refused %" PRIu32 " %s at %zu\n", written.fault.number, lughemra_message_fault_name(written.fault.number),
                written.fault.offset);
     else
         printf("%zu bytes, %s\n", written.length,
                written.length == length && memcmp(room, bytes, length) == 0 ? "the same" : "others");
+freed:
     free(sequences);
     free(room);
-    return 0;
+    return status;
 }
 
 int main(int argc, char **argv)

@@ -7,6 +7,8 @@
  *
  *   - `length` bytes can be read at `bytes`, at any alignment, and `length` is at most PTRDIFF_MAX; where it is 0, any pointer
  *     will do; a null pointer is an empty input, whatever the length, and an empty room;
+ *   - so it is with each other pointer and its length; a room can be written, and as many structs as a room of them has places
+ *     take at most PTRDIFF_MAX bytes;
  *   - no one else writes to them, or to a struct that is handed in, during the call;
  *   - a room, a struct, an element or a number that a function writes to overlaps nothing else that is handed in;
  *   - a pointer to a struct is null, or points to one, aligned as C has it.
@@ -15,12 +17,13 @@
  * that is handed in have an answer. Calls may run at once in several threads, on each handle one at a time. An offset is counted
  * from `bytes`.
  *
- * The functions for documents take no memory, but for those that write texts or canonical forms. Those that check whole messages
- * take some in proportion to the number of names in a body, by malloc, realloc and free of the program, and give it back before
- * they return. If there is none, the answer is the same, but takes time in proportion to the square of the number of names.
- * Those that write texts take as much as the text, lughemra_write_message takes as much as the message twice, and each tells
- * where there is none. malloc, realloc and free must come from one allocator. Don't call what takes memory from a signal handler,
- * nor from the forked child of a process with threads.
+ * The functions for documents take no memory, but for those that write texts or canonical forms. Those that check whole
+ * messages take some in proportion to the number of names in a body, by malloc, realloc and free of the program, and give it
+ * back before they return. If there is none, the answer is the same, but takes time in proportion to the square of the number
+ * of names. Those that write texts take up to twice as much as the text, and three times for a moment as that grows;
+ * lughemra_write_message takes as much as the message twice, and each tells where there is none. malloc, realloc and free must
+ * come from one allocator. Don't call what takes memory from a signal handler, nor from the forked child of a process with
+ * threads.
  *
  * A call took less than 44 KiB of the stack wherever it was measured. Documents that nest 200 deep take the most. */
 #ifndef LUGHEMRA_H
@@ -96,7 +99,8 @@ enum lughemra_document_fault {
  * kind byte for faults of a section and of names; that of the document for one that has a fault of its own; that behind
  * the message if it has no body; and that of the message if the bytes end inside it. */
 enum lughemra_message_fault {
-    /* a messageLength below 16 or above the limit, or, in the check of one message, not that of all bytes */
+    /* a messageLength below 16 or above the limit, or, in the check of one message, not that of all bytes, or fewer bytes than
+     * the 16 of a header */
     LUGHEMRA_MSG_LENGTH = 1,
     LUGHEMRA_MSG_OPCODE = 2,            /* an opCode that isn't 2013 */
     LUGHEMRA_MSG_FLAGS = 3,             /* an unknown bit is set among the flag bits 2 to 15 */
@@ -114,7 +118,8 @@ enum lughemra_message_fault {
     LUGHEMRA_LIMIT_TOO_LARGE = 255      /* the limit is above LUGHEMRA_MAX_LIMIT: nothing was read */
 };
 
-/* Returns the name of a document's fault, as "Truncated", or "" if no such fault has this number. */
+/* Returns the name of a document's fault, as "Truncated", or "" if no such fault has this number. LUGHEMRA_TOO_LARGE,
+ * LUGHEMRA_NO_MEMORY and LUGHEMRA_OUT_OF_RANGE have none here. */
 static inline const char *lughemra_document_fault_name(uint32_t number)
 {
     static const char *const names[] = {"",     "Truncated", "Length",  "End",       "Kind",  "Name",
@@ -122,7 +127,8 @@ static inline const char *lughemra_document_fault_name(uint32_t number)
     return number < sizeof names / sizeof names[0] ? names[number] : "";
 }
 
-/* Returns the name of a message's fault, as "Opcode", or "" if no such fault has this number. */
+/* Returns the name of a message's fault, as "Opcode", or "" if no such fault has this number. LUGHEMRA_TOO_LARGE and
+ * LUGHEMRA_NO_MEMORY have none here. */
 static inline const char *lughemra_message_fault_name(uint32_t number)
 {
     static const char *const names[] = {
@@ -314,7 +320,8 @@ struct lughemra_element {
     /* The name, in UTF-8. */
     struct lughemra_view name;
     /* In UTF-8: the text of STRING, CODE, SYMBOL and CODE_WITH_SCOPE, the namespace of DB_POINTER, the pattern of REGEX.
-     * A byte 00 follows each. The text of a STRING is UTF-8 where the document was checked. */
+     * A byte 00 follows each, and a text or a namespace may have more of them inside, so it isn't a C string; a pattern has none.
+     * The text of a STRING is UTF-8 where the document was checked. */
     struct lughemra_view text;
     /* The document of DOCUMENT, ARRAY and CODE_WITH_SCOPE; the data of BINARY, of subtype 02 without its inner count; the
      * 12 bytes of OBJECT_ID and of that in DB_POINTER; the 16 bytes of DECIMAL128 and the 8 of DOUBLE; the options of
@@ -395,8 +402,11 @@ enum lughemra_refusal {
     LUGHEMRA_BAD_VALUE = 3,   /* no value of this kind, or one that holds a document */
     LUGHEMRA_TOO_DEEP = 4,    /* the container would be deeper than 200 */
     LUGHEMRA_NO_ROOM = 5      /* the room has fewer than `wanted` bytes */
-                              /* LUGHEMRA_TOO_LARGE: the document would have more than 2,147,483,647 bytes */
-                              /* LUGHEMRA_OUT_OF_RANGE: the numbers of a builder are none that the calls give */
+                              /* LUGHEMRA_TOO_LARGE: the document, or the sequences, would have more than 2,147,483,647
+                               * bytes */
+                              /* LUGHEMRA_OUT_OF_RANGE: a pointer to a struct or to a number is null, the numbers of a
+                               * builder are none that the calls give, *end is greater than the room's length, or an
+                               * element's views are past the bytes, or these are null */
 };
 
 /* What became of a call that builds. Where it isn't done, nothing changed. */
@@ -421,7 +431,8 @@ struct lughemra_core {
 enum lughemra_core_refusal {
     LUGHEMRA_CLOSED = 1,        /* the client, the server or the pool is closed */
     LUGHEMRA_WINDOW_FULL = 2,   /* as many calls await a reply as the window allows */
-    LUGHEMRA_CALL_TOO_LARGE = 3, /* the request, or a reply to it, would have more bytes than the limit */
+    /* the request, or a reply to it, would have more bytes than the limit; not LUGHEMRA_TOO_LARGE, which is 253 */
+    LUGHEMRA_CALL_TOO_LARGE = 3,
     LUGHEMRA_BAD_CONTENT = 4,   /* the body and the sequences aren't those of a message, or the answers aren't bodies of messages */
                                 /* LUGHEMRA_NO_ROOM, 5: the room is too short */
     LUGHEMRA_NUMBERS_SPENT = 6, /* the greatest call number was given */
@@ -488,9 +499,9 @@ struct lughemra_output {
 struct lughemra_reply {
     /* 0 if it was copied, else LUGHEMRA_NO_ROOM, NOT_READY, NO_MEMORY or NO_CORE. Then nothing changed. */
     uint32_t refusal;
-    /* No other reply to that call comes. */
+    /* No other reply to that call comes. False where the reply neither was copied nor has no room. */
     bool last;
-    /* The number of the call that it belongs to. */
+    /* The number of the call that it belongs to, or 0 where the reply neither was copied nor has no room. */
     uint64_t call;
     /* The number of its bytes, if it was copied or has no room, else 0. */
     size_t length;
@@ -561,7 +572,7 @@ struct lughemra_server_fed {
 struct lughemra_request {
     /* 0 if it was copied, else LUGHEMRA_NO_ROOM, NOT_READY, NO_MEMORY or NO_CORE. Then nothing changed. */
     uint32_t refusal;
-    /* More than one answer may be given. */
+    /* More than one answer may be given. False where the request neither was copied nor has no room. */
     bool takes_more;
     /* The number of its bytes, if it was copied or has no room, else 0. */
     size_t length;
@@ -757,15 +768,17 @@ static inline struct lughemra_message_parts lughemra_message_parts(const uint8_t
 
 /* Returns the section at an offset of a message: the body, or a document sequence. The first stands at `parts.sections`,
  * and the next one at `section.next`; of a message that was checked they come in order, and then LUGHEMRA_SECTIONS_END. Of
- * other bytes no document in it is checked, but for the length and the last byte of a body. */
+ * other bytes no document in it is checked, but for the length and the last byte of a body. Where no section stands, `next` is
+ * `at`: a loop goes on only while the kind is LUGHEMRA_SECTION_BODY or LUGHEMRA_SECTION_SEQUENCE. */
 static inline struct lughemra_section lughemra_section(const uint8_t *bytes, size_t length, size_t at)
 {
     return lughemra_section_nonnull(lughemra_nonnull(bytes), lughemra_length(bytes, length), at);
 }
 
 /* Moves `left` behind the document at its front, and `first` to that document. Returns false if no document's length and
- * last byte stand there; then `left` stays as it is. Of the documents of a section they come in order. All of the
- * bytes are the view {0, length}. If a pointer to a view is null, returns false and does nothing. */
+ * last byte stand there; then `left` stays as it is, and `first` is {0, 0}. At the end `left->length` is 0; where it isn't, what
+ * stands there is no document, or `left` is past the bytes. The documents of a section come in order. All of the bytes are the
+ * view {0, length}. If a pointer to a view is null, returns false and does nothing. */
 static inline bool lughemra_next_document(const uint8_t *bytes, size_t length, struct lughemra_view *left,
                                           struct lughemra_view *first)
 {
@@ -816,9 +829,11 @@ static inline struct lughemra_iter lughemra_enter(const struct lughemra_iter *it
     return iter != NULL && element != NULL ? lughemra_enter_nonnull(iter, element) : none;
 }
 
-/* Goes on to the next element with this name, of `name_length` bytes, and moves the iterator behind it. Returns false if
- * there is none, and the iterator then stands behind the last element: another name is looked for with a copy that was made
- * before. Returns false, too, where a fault comes before it; the iterator then stands at the element that has the fault. */
+/* Goes on to the next element with this name, of `name_length` bytes, without a 00 at its end, and moves the iterator behind it.
+ * Returns false if there is none, and the iterator then stands behind the last element: another name is looked for with a copy
+ * that was made before. Returns false, too, where a fault comes before it; the iterator then stands at the element that has the
+ * fault. Where it returns false, element->fault has the fault, or the number 0 if there is no such element. If a pointer to a
+ * struct is null, returns false and does nothing. A null name is the empty one. */
 static inline bool lughemra_find(const uint8_t *bytes, size_t length, const char *name, size_t name_length,
                                  struct lughemra_iter *iter, struct lughemra_element *element)
 {
@@ -830,8 +845,8 @@ static inline bool lughemra_find(const uint8_t *bytes, size_t length, const char
     return element->kind != LUGHEMRA_NO_ELEMENT;
 }
 
-/* Reads the first element with this name, of `name_length` bytes, of the document that the bytes are: what lughemra_first and
- * lughemra_find do. Returns false if there is none, or a fault comes before it. */
+/* Reads the first element with this name, of `name_length` bytes, without a 00 at its end, of the document that the bytes are:
+ * what lughemra_first and lughemra_find do. Returns false if there is none, or a fault comes before it, as lughemra_find does. */
 static inline bool lughemra_get(const uint8_t *bytes, size_t length, const char *name, size_t name_length,
                                 struct lughemra_element *element)
 {
@@ -873,7 +888,8 @@ static inline struct lughemra_text lughemra_canonical(const uint8_t *bytes, size
 
 /* ---- building: a document is put together in a room of the program's, from its front on, and takes no memory. The struct
  * says where it stands, so that a room that is too short may be moved to a longer one, and the call made again. The room
- * overlaps nothing else that is handed in. */
+ * overlaps nothing else that is handed in. A call that isn't done leaves its pair out, and lughemra_end and lughemra_finish don't
+ * tell that: look at each refusal. */
 
 /* Returns the builder of a document at the front of a room, with no pairs. */
 struct lughemra_builder lughemra_build(void);
@@ -887,8 +903,9 @@ static inline struct lughemra_built lughemra_not_built(void)
 
 /* Appends a pair of this name, of `name_length` bytes, to what the builder builds. The text is that of STRING, CODE and SYMBOL,
  * the namespace of DB_POINTER or the pattern of REGEX; the bytes are the data of BINARY, of subtype 02 without its inner
- * count, the 12 or 16 bytes of OBJECT_ID, of that in DB_POINTER and of DECIMAL128, or the options of REGEX. In an array the
- * name is the index, and the given one isn't looked at. A name may be there already. */
+ * count, the 12 or 16 bytes of OBJECT_ID, of that in DB_POINTER and of DECIMAL128, or the options of REGEX. Lengths don't count a
+ * 00 at the end: in a STRING, a CODE, a SYMBOL or a namespace it would be a part of the text. In an array the name is the index,
+ * and the given one isn't looked at. A name may be there already. */
 static inline struct lughemra_built lughemra_append(uint8_t *room, size_t room_length, struct lughemra_builder *builder,
                                                     const char *name, size_t name_length, struct lughemra_value value,
                                                     const char *text, size_t text_length, const uint8_t *bytes,
@@ -965,7 +982,8 @@ static inline struct lughemra_built lughemra_append_element(uint8_t *room, size_
 }
 
 /* Opens a document or an array, LUGHEMRA_DOCUMENT or LUGHEMRA_ARRAY, as the value of the next pair of `outer`, and makes `inner`
- * its builder. Until lughemra_end, only `inner` is appended to. */
+ * its builder. Until lughemra_end, only `inner` is appended to, and nothing else is opened in `outer`: that isn't always refused,
+ * and the bytes may be no document then. Where it isn't done, `inner` isn't set, and isn't to be used. */
 static inline struct lughemra_built lughemra_begin(uint8_t *room, size_t room_length, const struct lughemra_builder *outer,
                                                    const char *name, size_t name_length, uint32_t kind,
                                                    struct lughemra_builder *inner)
@@ -986,7 +1004,9 @@ static inline struct lughemra_built lughemra_end(uint8_t *room, size_t room_leng
     return lughemra_end_nonnull(lughemra_nonnull_room(room), lughemra_length(room, room_length), outer, inner);
 }
 
-/* Ends the outermost document: the first `wanted` bytes of the room are it. */
+/* Ends the outermost document: the first `wanted` bytes of the room are it. The builder of one inside isn't refused, and the bytes
+ * are no document then; what is still open inside is left out, and can't be ended any more. It doesn't change the builder: more
+ * may be appended, and it ended again. */
 static inline struct lughemra_built lughemra_finish(uint8_t *room, size_t room_length,
                                                     const struct lughemra_builder *builder)
 {
@@ -999,7 +1019,8 @@ static inline struct lughemra_built lughemra_finish(uint8_t *room, size_t room_l
 
 /* Appends a document sequence to those in the first `*end` bytes of the room, and moves `*end` behind it; 0 is where the first
  * one goes. The documents stand one behind the other; lughemra_write_message checks them. The identifier, of
- * `identifier_length` bytes, is UTF-8 without a 00, else LUGHEMRA_BAD_NAME. */
+ * `identifier_length` bytes, is UTF-8 without a 00, else LUGHEMRA_BAD_NAME. Where *end is greater than the room's length, as with
+ * a null room behind the first sequence, it is LUGHEMRA_OUT_OF_RANGE, and no length is told. */
 static inline struct lughemra_built lughemra_append_sequence(uint8_t *room, size_t room_length, size_t *end,
                                                              const char *identifier, size_t identifier_length,
                                                              const uint8_t *documents, size_t length)
@@ -1035,7 +1056,7 @@ static inline struct lughemra_written lughemra_write_message(const struct lughem
  *
  *   - it begins as {NULL, false}, its fields are written by these functions alone, and no one reads or writes what it points to;
  *   - it has one owner: a copy of the struct isn't used beside the original, nor after a call with that;
- *   - one call at a time, in any thread; what is handed in lies neither in the handle nor where it points to;
+ *   - one call at a time, in any thread, also of those that only tell; what is handed in lies neither in the handle nor where it points to;
  *   - malloc, realloc and free are of one allocator all the while.
  *
  * Nothing is lent: what waits to be sent, replies and requests are copied into the program's room. A call may take memory; where
@@ -1045,7 +1066,7 @@ static inline struct lughemra_written lughemra_write_message(const struct lughem
 /* Frees the core of a handle, which has none then. Returns 0, or LUGHEMRA_NO_CORE where it had none. */
 static inline uint32_t lughemra_free(struct lughemra_core *core)
 {
-    return core != NULL ? lughemra_free_nonnull(core) : LUGHEMRA_NO_CORE;
+    return core != NULL ? lughemra_free_nonnull(core) : (uint32_t)LUGHEMRA_NO_CORE;
 }
 
 /* Returns the name of an enum lughemra_core_refusal, as "WindowFull", or "" if there is none of this number. The
@@ -1065,13 +1086,14 @@ static inline const char *lughemra_core_refusal_name(uint32_t number)
 
 /* ---- the client's end of a connection */
 
-/* Puts a client into a handle of no core. Its requests have ids from `first_id` on; at most `window` calls await a reply, and
- * messages both ways have at most `limit` bytes. Returns 0, or why not: an enum lughemra_client_refusal, LUGHEMRA_IN_USE,
- * LUGHEMRA_NO_MEMORY or LUGHEMRA_NO_CORE. Once the 16 bytes of a good header are fed, memory is taken for all bytes that it
- * announces, so `limit` is also what a peer can have taken by 16 bytes. */
+/* Puts a client into a handle of no core. Its requests have ids from `first_id` on, from 1 again after 2,147,483,647, past those
+ * of calls that await a reply; at most `window` calls await a reply, and messages both ways have at most `limit` bytes. Returns
+ * 0, or why not: an enum lughemra_client_refusal, LUGHEMRA_IN_USE, LUGHEMRA_NO_MEMORY or LUGHEMRA_NO_CORE. Once the 16 bytes of
+ * a good header are fed, memory is taken for all bytes that it announces, so `limit` is also what a peer can have taken by 16
+ * bytes. */
 static inline uint32_t lughemra_client_new(struct lughemra_core *core, int32_t first_id, size_t window, uint32_t limit)
 {
-    return core != NULL ? lughemra_client_new_nonnull(core, first_id, window, limit) : LUGHEMRA_NO_CORE;
+    return core != NULL ? lughemra_client_new_nonnull(core, first_id, window, limit) : (uint32_t)LUGHEMRA_NO_CORE;
 }
 
 static inline struct lughemra_call_made lughemra_not_made(void)
@@ -1130,7 +1152,7 @@ static inline struct lughemra_output lughemra_client_output(struct lughemra_core
 /* Takes the first `n` bytes that wait off, since they were sent. Returns 0, LUGHEMRA_TOO_MANY or LUGHEMRA_NO_CORE. */
 static inline uint32_t lughemra_client_sent(struct lughemra_core *core, size_t n)
 {
-    return core != NULL ? lughemra_client_sent_nonnull(core, n) : LUGHEMRA_NO_CORE;
+    return core != NULL ? lughemra_client_sent_nonnull(core, n) : (uint32_t)LUGHEMRA_NO_CORE;
 }
 
 static inline struct lughemra_client lughemra_no_client(void)
@@ -1139,9 +1161,9 @@ static inline struct lughemra_client lughemra_no_client(void)
     return none;
 }
 
-/* Feeds the client the first bytes of a piece that came, up to the end of the current message, and tells how many it took. It
- * takes none while a reply is ready, or once it is closed. A message that becomes whole makes a reply ready, or closes the
- * client, as bad bytes do. */
+/* Feeds the client the first bytes of a piece that came, up to the end of the current message, or to the 16th byte of a bad
+ * header, and tells how many it took. It takes none while a reply is ready, or once it is closed; the refusal is 0 then, so look
+ * at the state, too. A message that becomes whole makes a reply ready, or closes the client, as bad bytes do. */
 static inline struct lughemra_fed lughemra_client_feed(struct lughemra_core *core, const uint8_t *piece, size_t length)
 {
     struct lughemra_fed none = {LUGHEMRA_NO_CORE, 0, {LUGHEMRA_NO_CORE, 0, 0, false, {0, 0}, {0, 0}}};
@@ -1165,13 +1187,15 @@ static inline struct lughemra_reply lughemra_client_reply(struct lughemra_core *
  * LUGHEMRA_NO_CORE. */
 static inline uint32_t lughemra_client_release(struct lughemra_core *core)
 {
-    return core != NULL ? lughemra_client_release_nonnull(core) : LUGHEMRA_NO_CORE;
+    return core != NULL ? lughemra_client_release_nonnull(core) : (uint32_t)LUGHEMRA_NO_CORE;
 }
 
-/* Tells the client that no more bytes come, which closes it, if it is open. Returns 0 or LUGHEMRA_NO_CORE. */
+/* Tells the client that no more bytes come, which closes it, if it is open. However a client was closed, a reply that is ready
+ * stays ready, what waits to be sent can still be copied and sent, the calls that await a reply are still counted, and the first
+ * cause stays. Returns 0 or LUGHEMRA_NO_CORE. */
 static inline uint32_t lughemra_client_end(struct lughemra_core *core)
 {
-    return core != NULL ? lughemra_client_end_nonnull(core) : LUGHEMRA_NO_CORE;
+    return core != NULL ? lughemra_client_end_nonnull(core) : (uint32_t)LUGHEMRA_NO_CORE;
 }
 
 /* Returns how the client stands. */
@@ -1203,11 +1227,12 @@ static inline const char *lughemra_client_cause_name(uint32_t number)
  * also what a peer can have taken by 16 bytes. */
 static inline uint32_t lughemra_server_new(struct lughemra_core *core, size_t window, uint32_t limit)
 {
-    return core != NULL ? lughemra_server_new_nonnull(core, window, limit) : LUGHEMRA_NO_CORE;
+    return core != NULL ? lughemra_server_new_nonnull(core, window, limit) : (uint32_t)LUGHEMRA_NO_CORE;
 }
 
-/* Feeds the server the first bytes of a piece that came, up to the end of the current message, and tells how many it took. It
- * takes none while as many requests wait as the window allows, or once it is closed. A message that becomes whole waits behind
+/* Feeds the server the first bytes of a piece that came, up to the end of the current message, or to the 16th byte of a bad
+ * header, and tells how many it took. It takes none while as many requests wait as the window allows, or once it is closed; the
+ * refusal is 0 then, so look at the state, too. A message that becomes whole waits behind
  * the others. Bad bytes close the server. The requests that wait then can still be copied, but not answered: a program that
  * wants each good request answered does so before it feeds more. */
 static inline struct lughemra_server_fed lughemra_server_feed(struct lughemra_core *core, const uint8_t *piece, size_t length)
@@ -1233,7 +1258,8 @@ static inline struct lughemra_request lughemra_server_request(struct lughemra_co
 }
 
 /* Answers the request of index `k` among those that wait, with documents that stand back to back: each is the body of an answer.
- * A request gets one, or, if it takes more, any number of them but none. Its replies wait to be sent then, and it waits no
+ * A request gets one, or, if it takes more, any number of them but none. Its replies wait to be sent then, with ids from 1 on: the
+ * first answers the request, each later one the reply before it, and all but the last say that more will come. It waits no
  * longer, so those behind it have the next lower index. Where a reply would have more bytes than the limit, or there is no memory
  * for the replies, the request has left, nothing of its replies waits, and the server is closed. */
 static inline struct lughemra_answer_given lughemra_server_answer(struct lughemra_core *core, size_t k,
@@ -1258,14 +1284,14 @@ static inline struct lughemra_output lughemra_server_output(struct lughemra_core
 /* Takes the first `n` bytes that wait off, since they were sent. Returns 0, LUGHEMRA_TOO_MANY or LUGHEMRA_NO_CORE. */
 static inline uint32_t lughemra_server_sent(struct lughemra_core *core, size_t n)
 {
-    return core != NULL ? lughemra_server_sent_nonnull(core, n) : LUGHEMRA_NO_CORE;
+    return core != NULL ? lughemra_server_sent_nonnull(core, n) : (uint32_t)LUGHEMRA_NO_CORE;
 }
 
 /* Tells the server that no more bytes come, which closes it, if it is open. The requests that wait can't be answered then, so
  * answer them before. Returns 0 or LUGHEMRA_NO_CORE. */
 static inline uint32_t lughemra_server_end(struct lughemra_core *core)
 {
-    return core != NULL ? lughemra_server_end_nonnull(core) : LUGHEMRA_NO_CORE;
+    return core != NULL ? lughemra_server_end_nonnull(core) : (uint32_t)LUGHEMRA_NO_CORE;
 }
 
 /* Returns how the server stands. */
@@ -1290,7 +1316,7 @@ static inline const char *lughemra_server_cause_name(uint32_t number)
  * LUGHEMRA_IN_USE, LUGHEMRA_NO_MEMORY or LUGHEMRA_NO_CORE. */
 static inline uint32_t lughemra_pool_new(struct lughemra_core *core, size_t max)
 {
-    return core != NULL ? lughemra_pool_new_nonnull(core, max) : LUGHEMRA_NO_CORE;
+    return core != NULL ? lughemra_pool_new_nonnull(core, max) : (uint32_t)LUGHEMRA_NO_CORE;
 }
 
 /* Lends a connection: the idle one that was returned last, else a new one, if fewer than `max` are lent. New ids go from 1
@@ -1313,13 +1339,13 @@ static inline struct lughemra_checked_in lughemra_pool_check_in(struct lughemra_
  * ids of the idle ones: the program closes each that it keeps and hasn't lent. Returns 0 or LUGHEMRA_NO_CORE. */
 static inline uint32_t lughemra_pool_clear(struct lughemra_core *core)
 {
-    return core != NULL ? lughemra_pool_clear_nonnull(core) : LUGHEMRA_NO_CORE;
+    return core != NULL ? lughemra_pool_clear_nonnull(core) : (uint32_t)LUGHEMRA_NO_CORE;
 }
 
 /* The same, and lends none from then on. Returns 0 or LUGHEMRA_NO_CORE. */
 static inline uint32_t lughemra_pool_close(struct lughemra_core *core)
 {
-    return core != NULL ? lughemra_pool_close_nonnull(core) : LUGHEMRA_NO_CORE;
+    return core != NULL ? lughemra_pool_close_nonnull(core) : (uint32_t)LUGHEMRA_NO_CORE;
 }
 
 #ifdef __cplusplus
