@@ -14,7 +14,7 @@ from ._library import PATH as LIBRARY_PATH
 from .checks import DocumentsWalk, check, check_documents, documents, is_canonical, walk_documents
 from .client import Call, Client, Reply
 from .document import Array, Document, Element, Value
-from .errors import CallRefused, ClientClosed, DocumentError, EncodeError, Fault, LibraryNotFound, MessageError, ServerClosed
+from .errors import CallRefused, ClientClosed, Closed, DocumentError, EncodeError, Fault, LibraryNotFound, MessageError, ServerClosed
 from .message import DocumentSequence, Flags, Header, Message, Reader, check_message, check_messages
 from .pool import Lent, Pool
 from .server import Request, Server
@@ -45,6 +45,7 @@ __all__ = [
     "CallRefused",
     "Client",
     "ClientClosed",
+    "Closed",
     "Code",
     "DBPointer",
     "DatetimeMS",

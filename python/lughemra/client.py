@@ -81,7 +81,10 @@ class Client(End):
         return Call(made.number, made.id)
 
     def feed(self, piece: Any) -> None:
-        """Takes a piece of the bytes that came, which is copied. Iterating gives the replies in it."""
+        """Takes a piece of the bytes that came, which is copied. Iterating gives the replies in it.
+
+        Raises ClientClosed once the client is closed, by `end` too.
+        """
         if self._closed:
             raise self._closed.with_traceback(None)
         self._keep(piece)

@@ -43,7 +43,7 @@ class Server(End):
 
         What comes while as many wait as the window allows is kept until one is answered. Raises ServerClosed where what came
         closes the server, and each time from then on. Where it raises MemoryError the piece is kept: it isn't fed again, and
-        `feed(b"")` goes on.
+        `feed(b"")` goes on. Raises ValueError behind `end`.
         """
         self._raise_if_closed()
         if self._ended:

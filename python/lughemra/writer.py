@@ -224,8 +224,9 @@ def encode(pairs: Mapping[str, Any]) -> bytes:
 
     The values are those that a `Document` gives. A list, or any sequence that lends no bytes, is an array; an `int` is an int32 if
     it is one, and else an int64; an `Int64` is an int64; a `datetime` without a time zone is in UTC. Raises EncodeError for what
-    BSON can't spell, and TypeError for what is no mapping, no name or no value. A `Document` gives its own bytes, which are
-    checked.
+    BSON can't spell, TypeError for what is no mapping, no name or no value, OverflowError for a number that has no room, and
+    UnicodeEncodeError for a lone surrogate. A `Document` gives its own bytes, which are checked: it raises DocumentError for a
+    fault.
     """
     if isinstance(pairs, Document):
         pairs.check()
