@@ -12,7 +12,8 @@ use crate::container::read_document;
 use crate::elements::{Element, read_value};
 use crate::items::Item;
 use crate::kinds::Kind;
-use crate::number::{read_bytes, read_length};
+use crate::leaf::{read_binary, read_boolean};
+use crate::number::{read_bytes, read_i32, read_i64, read_length};
 use crate::text::{known_text, zero_of};
 
 /// Reads a text of `n` bytes and the 00 after it.
@@ -113,23 +114,50 @@ fn reread_value(at: usize, from: usize, kind: Kind, bytes: &[u8]) -> (Item<'_>, 
     ensures kind { item_kind result.0 ≡ kind }
     ensures lent { LendsFramed result.0 }
 {
-    // Each kind is named, so that one jump tells the kinds apart, rather than one more in each
-    // callee.
+    // One jump tells the kinds apart, and each is read by the function for it alone, so that all of
+    // this is small enough to be inlined into each caller.
     match kind {
         Kind::String => {
             let (value, rest) = reread_string(bytes);
             (Item::String(value), rest)
         }
-        Kind::Double => read_value(1, at, from, Kind::Double, bytes).unwrap(),
-        Kind::Document => read_value(1, at, from, Kind::Document, bytes).unwrap(),
-        Kind::Array => read_value(1, at, from, Kind::Array, bytes).unwrap(),
-        Kind::Binary => read_value(1, at, from, Kind::Binary, bytes).unwrap(),
-        Kind::ObjectId => read_value(1, at, from, Kind::ObjectId, bytes).unwrap(),
-        Kind::Boolean => read_value(1, at, from, Kind::Boolean, bytes).unwrap(),
-        Kind::DateTime => read_value(1, at, from, Kind::DateTime, bytes).unwrap(),
-        Kind::Null => read_value(1, at, from, Kind::Null, bytes).unwrap(),
-        Kind::Int32 => read_value(1, at, from, Kind::Int32, bytes).unwrap(),
-        Kind::Int64 => read_value(1, at, from, Kind::Int64, bytes).unwrap(),
+        Kind::Double => {
+            let (value, rest) = read_bytes::<8>(bytes).unwrap();
+            (Item::Double(value), rest)
+        }
+        Kind::Document => {
+            let (document, rest) = read_document(at, from, bytes).unwrap();
+            (Item::Document(document), rest)
+        }
+        Kind::Array => {
+            let (array, rest) = read_document(at, from, bytes).unwrap();
+            (Item::Array(array), rest)
+        }
+        Kind::Binary => {
+            let (subtype, bytes, rest) = read_binary(bytes).unwrap();
+            (Item::Binary { subtype, bytes }, rest)
+        }
+        Kind::ObjectId => {
+            let (value, rest) = read_bytes::<12>(bytes).unwrap();
+            (Item::ObjectId(value), rest)
+        }
+        Kind::Boolean => {
+            let (value, rest) = read_boolean(bytes).unwrap();
+            (Item::Boolean(value), rest)
+        }
+        Kind::DateTime => {
+            let (value, rest) = read_i64(bytes).unwrap();
+            (Item::DateTime(value), rest)
+        }
+        Kind::Null => (Item::Null, bytes),
+        Kind::Int32 => {
+            let (value, rest) = read_i32(bytes).unwrap();
+            (Item::Int32(value), rest)
+        }
+        Kind::Int64 => {
+            let (value, rest) = read_i64(bytes).unwrap();
+            (Item::Int64(value), rest)
+        }
         _ => reread_rare(at, from, kind, bytes),
     }
 }
