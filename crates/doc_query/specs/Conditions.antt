@@ -32,10 +32,11 @@ operator_of name =
 
 -- ---- operands
 
--- A value may be equal to others. A regex asks for a match in its place, and a decimal128 isn't
--- compared, at any depth.
+-- A value may be equal to others. A regex asks for a match in its place, nothing is compared to
+-- undefined, and a decimal128 isn't compared, at any depth.
 abbrev pub is_equated : TreeValue → Bool
 is_equated (leaf_value kinds.Regex v) = false
+is_equated (leaf_value kinds.Undefined v) = false
 is_equated v = not (holds_decimal v)
 
 abbrev pub are_equated : List TreeValue → Bool
@@ -50,6 +51,7 @@ has_place (Some p) = true
 abbrev pub is_ranked : TreeValue → Bool
 is_ranked (leaf_value kinds.MinKey v) = false
 is_ranked (leaf_value kinds.MaxKey v) = false
+is_ranked (leaf_value kinds.Undefined v) = false
 is_ranked v = has_place (place v)
 
 abbrev pub is_list : TreeValue → Bool

@@ -50,7 +50,7 @@ pub fn is_equated(value: &Bson) -> bool
     ensures { result ≡ is_equated (value_of value.now) }
 {
     match value {
-        Bson::Regex { .. } => false,
+        Bson::Regex { .. } | Bson::Undefined => false,
         _ => !holds_decimal(value),
     }
 }
@@ -72,7 +72,7 @@ fn is_ranked(value: &Bson) -> bool
     ensures { result ≡ is_ranked (value_of value.now) }
 {
     match value {
-        Bson::MinKey | Bson::MaxKey => false,
+        Bson::MinKey | Bson::MaxKey | Bson::Undefined => false,
         _ => place_of(value).is_some(),
     }
 }
