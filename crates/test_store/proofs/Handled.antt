@@ -9,7 +9,7 @@ use Rattle.wire_peer.specs.declared.handlers.HandlerStop.{HandlerStop}
 use Rattle.wire_peer.specs.declared.handlers.HandlerStop.TheVariants.{Failed, OutOfMemory}
 use Rattle.test_store.specs.declared.store.Store.{Store}
 use Rattle.test_store.specs.Commands.{Reply, reply_to}
-use Rattle.test_store.specs.Handling.{Answered, IsUnanswerable, StopsAt}
+use Rattle.test_store.specs.Handling.{Answered, IsUnanswerable, StopsAt, WantsMemory}
 use Rattle.test_store.specs.Held.{store_of}
 
 pub answered : {E : Type 0} (s s' : Store) (a : Asked) (d : List (List ℕ × TreeValue)) (old new : List Content) (r : Result (Unit {0}) E)
@@ -23,8 +23,10 @@ answered s s' a d old new (Ok u) is none put = (
 
 pub stopped : (s s' : Store) (a : Asked) (d : List (List ℕ × TreeValue)) (r : Result (Unit {0}) HandlerStop)
     → reply_to (store_of s) a.payload ≡ record { answer = d; held = store_of s' }
-    → IfErr r (λ stop. stop ≡ Failed → IsUnanswerable (tree_of d)) → IfErr r (λ stop. StopsAt s a stop s')
-stopped s s' a d (Ok u) is failed = tt
-stopped s s' a d (Err Failed) is failed =
+    → IfErr r (λ stop. stop ≡ Failed → IsUnanswerable (tree_of d))
+    → IfErr r (λ stop. stop ≡ OutOfMemory → WantsMemory (tree_of d)) → IfErr r (λ stop. StopsAt s a stop s')
+stopped s s' a d (Ok u) is failed memory = tt
+stopped s s' a d (Err Failed) is failed memory =
     (rw is (failed refl), sym (ap (λ (q : Reply). q.held) is))
-stopped s s' a d (Err OutOfMemory) is failed = inl (sym (ap (λ (q : Reply). q.held) is))
+stopped s s' a d (Err OutOfMemory) is failed memory =
+    inl (rw is (memory refl), sym (ap (λ (q : Reply). q.held) is))

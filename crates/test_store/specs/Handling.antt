@@ -1,6 +1,6 @@
 -- How the server answers requests, and when it may stop.
-use Rattle.std.specs.Prelude.{◌≡◌, ◌≢◌, ◌⊎◌, List, [], ◌∷◌}
-use Rattle.bson_elem.specs.{Tree}
+use Rattle.std.specs.Prelude.{◌≡◌, ◌≢◌, ◌⊎◌, ℕ, List, [], ◌∷◌}
+use Rattle.bson_elem.specs.{Spells, Tree}
 use Rattle.bson_doc.specs.declared.refusal.DocRefusal.{DocRefusal}
 use Rattle.bson_doc.specs.declared.refusal.DocRefusal.TheVariants as written
 use Rattle.bson_doc.specs.{tree_of, IsUnwritable}
@@ -21,6 +21,12 @@ IsUnanswerable t =
     ((e : DocRefusal) × (e ≢ written.OutOfMemory) × IsUnwritable t e)
     ⊎ ((e : MsgRefusal) × (e ≢ messages.OutOfMemory) × IsBodyRefusal t e)
 
+-- memory may run out for the answer: it can be written, and goes into a message
+abbrev pub WantsMemory : Tree → Type 0
+WantsMemory t =
+    IsUnwritable t written.OutOfMemory
+    ⊎ (((bytes : List ℕ) × Spells t bytes) × IsBodyRefusal t messages.OutOfMemory)
+
 -- The request was answered out of what is held, which then changed as the request says.
 abbrev pub Answered : Store → Asked → List Content → Store → Type 0
 Answered s a answers s' =
@@ -28,11 +34,13 @@ Answered s a answers s' =
     × (store_of s' ≡ (reply_to (store_of s) a.payload).held)
 
 -- The server stops as failed only if the answer can't be written. It holds then what it held after
--- the answer. If memory runs out it stops with that, or with the documents that it held before.
+-- the answer. If memory runs out it stops with that, where the answer could be written, or with the
+-- documents that it held before.
 abbrev pub StopsAt : Store → Asked → HandlerStop → Store → Type 0
 StopsAt s a Failed s' =
     IsUnanswerable (tree_of (reply_to (store_of s) a.payload).answer)
     × (store_of s' ≡ (reply_to (store_of s) a.payload).held)
 StopsAt s a OutOfMemory s' =
-    (store_of s' ≡ (reply_to (store_of s) a.payload).held)
+    (WantsMemory (tree_of (reply_to (store_of s) a.payload).answer)
+    × (store_of s' ≡ (reply_to (store_of s) a.payload).held))
     ⊎ ((store_of s').collections ≡ (store_of s).collections)

@@ -4,7 +4,7 @@ ghost use Rattle.std.specs.Prelude.{◌≡◌, ◌++◌, ◌∷◌, [], IfErr, O
 ghost use Rattle.bson_doc.specs.{tree_of};
 ghost use Rattle.wire_msg.specs.{body_alone};
 ghost use Rattle.wire_peer.specs.{answers_of};
-ghost use Rattle.test_store.specs.Handling.{IsUnanswerable};
+ghost use Rattle.test_store.specs.Handling.{IsUnanswerable, WantsMemory};
 
 use crate::commands::answer_to;
 use crate::store::Store;
@@ -23,6 +23,8 @@ pub fn put_answer(answer: &Document, answers: &mut Answers) -> Result<(), Handle
         (answers_of answers.new ≡ answers_of answers.old ++ body_alone (tree_of answer.now) ∷ []) }
     ensures failed { IfErr result
         (λ stop. stop ≡ HandlerStop.Failed → IsUnanswerable (tree_of answer.now)) }
+    ensures memory { IfErr result
+        (λ stop. stop ≡ HandlerStop.OutOfMemory → WantsMemory (tree_of answer.now)) }
     ensures unchanged { OnErr result (answers_of answers.new ≡ answers_of answers.old) }
 {
     let body = match answer.to_raw() {
