@@ -30,7 +30,7 @@ use Rattle.bson_json.specs.Options.{alphabetical}
 -- ---- numbers
 
 -- The text of a finite double is a JSON number with a point or an exponent, which reads back as
--- that double: as the crate ryu writes it, with few digits. The others have their names.
+-- that double, laid out as the crate ryu does it. The others have their names.
 abbrev pub IsNumberText : Float → List ℕ → Type 0
 IsNumberText nan text = text ≡ codes "NaN"
 IsNumberText (inf negative) text = text ≡ sign_text negative ++ codes "Infinity"

@@ -59,6 +59,12 @@ read_again t bytes text (Err e) spelled lossless h ok (inl memory) = memory
 read_again t bytes text (Err e) spelled lossless h ok (inr fault) =
     absurd (no_value (and_map tree_of (document_in text)) (e.cause, e.path.items) t (ap (and_map tree_of) fault) (document_back t bytes text spelled lossless h))
 
+-- what was read of a text, with the text
+pub read_of : (t : Tree) (text : List ℕ) (r : Result (List Pair) JsonFault) → IsJson Canonical t text
+    → IfOk r (λ d. document_in text ≡ Ok d) → IfOk r (λ d. (x : List ℕ) × IsJson Canonical t x × (document_in x ≡ Ok d))
+read_of t text (Ok d) is ok = (text, is, ok)
+read_of t text (Err e) is ok = tt
+
 -- what was written into an empty list
 pub written : {E : Type 0} (r : Result (Unit {0}) E) (old new : List ℕ) (IsThis : List ℕ → Type 0) → is_err r ≡ false → old ≡ []
     → OnOk r ((text : List ℕ) × IsThis text × Appends (Some old) (Some new) text) → IsThis new

@@ -1,4 +1,5 @@
--- Dates by RFC 3339, section 5.6 (date-time), of at most milliseconds.
+-- Dates by RFC 3339, section 5.6 (date-time), of at most milliseconds: with capitals T and Z, no
+-- second 60, and the years 1 to 9999.
 use Rattle.std.specs.Prelude.{ℕ, ℤ, pos, neg_ℤ, ◌-ℤ◌, ◌*ℤ◌, ◌+◌, ◌-◌, ◌*◌, List, [], ◌∷◌}
 use Rattle.std.specs.Prelude.{length, drop, slice_index, codes, Bool, true, false, ◌==◌, ◌&&◌}
 use Rattle.std.specs.Prelude.{nat_le, nat_lt, if◌then◌else◌, Option, Some, None}

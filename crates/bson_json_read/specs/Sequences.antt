@@ -1,6 +1,6 @@
 -- The documents that the texts of an input give, one after another.
-use Rattle.std.specs.Prelude.{◌≡◌, ◌≢◌, ⊤, ℕ, List, [], ◌∷◌, take, drop, Option, Some, None}
-use Rattle.std.specs.Prelude.{Ok, Err, if◌then◌else◌}
+use Rattle.std.specs.Prelude.{◌≡◌, ◌≢◌, ◌<◌, ◌^◌, ⊤, ℕ, List, [], ◌∷◌, take, drop, length, Option}
+use Rattle.std.specs.Prelude.{Some, None, Ok, Err, if◌then◌else◌}
 use Rattle.std.specs.Str.{is_utf8}
 use Rattle.bson_elem.specs.{document, elements}
 use Rattle.bson_doc.specs.declared.refusal.DocRefusal.{DocRefusal}
@@ -69,7 +69,7 @@ HasNoBytes d refusal = (refusal ≢ OutOfMemory) × IsUnwritable (tree_of d) ref
 
 -- the bytes of a document, or the reason why it has none
 abbrev pub IsWritten : List Pair → Option DocRefusal → List ℕ → Type 0
-IsWritten d None bytes = bytes ≡ document (elements (tree_of d))
+IsWritten d None bytes = (bytes ≡ document (elements (tree_of d))) × (length bytes < 2 ^ 31)
 IsWritten d (Some refusal) bytes = HasNoBytes d refusal
 
 -- reading what is next gives the bytes of a document, or a document that has none, or the end

@@ -28,7 +28,8 @@ use Rattle.bson_json_read.specs.Table.{string_value}
 abbrev pub Pair : Type 0
 Pair = List ℕ × TreeValue
 
--- ---- numbers: the smallest kind that holds the number, and else the nearest double
+-- ---- numbers: without point and exponent the smallest integer that holds the number, and else the
+-- nearest double
 
 abbrev pub float_read : Option Float → Read TreeValue
 float_read x = or_refused causes.NumberTooLarge (option_map double_value x)

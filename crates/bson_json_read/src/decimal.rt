@@ -252,7 +252,8 @@ fn decimal_bits(text: &[u8]) -> Option<u128>
 
 /// Returns the 16 bytes of the decimal128 that the text writes, as the lowest first. A sign may
 /// stand first, and `NaN`, `Infinity` and `Inf` may have small letters or capitals. Returns `None`
-/// if the text writes none, or if the number would have to be rounded.
+/// if the text writes none, if the number would have to be rounded, or if the text has 2^32 bytes or
+/// more.
 pub fn decimal128_from_text(text: &str) -> Option<[u8; 16]>
     ensures { result ≡ decimal128_of text.now }
 {

@@ -6,8 +6,8 @@
 //! The tokens of a text whose strings have no escape are read where they stand, and those of
 //! another one from the kit's tape.
 
-ghost use Rattle.std.specs.Prelude.{◌≡◌, ◌<◌, ◌∷◌, ◌++◌, ◌^◌, [], ℕ, List, IfSome, None, Ok};
-ghost use Rattle.std.specs.Prelude.{OnSome, Some, false, option_map};
+ghost use Rattle.std.specs.Prelude.{◌≡◌, ◌<◌, ◌∷◌, ◌+◌, ◌++◌, ◌^◌, [], ℕ, List, IfSome, None, Ok};
+ghost use Rattle.std.specs.Prelude.{OnSome, Some, false, option_map, vec_len};
 ghost use Rattle.std.specs.Fmt.{decimal};
 ghost use Rattle.json.specs.Json.{member, no_members, string};
 ghost use Rattle.json.specs.Lex.{tokens};
@@ -198,6 +198,7 @@ fn write_member<'t, 'a>(
 fn write_empty(room: u32, out: &mut Vec<u8>) -> Option<()>
     ensures room { OnSome result (0 < room) }
     ensures bytes { OnSome result (out.new.items ≡ out.old.items ++ document []) }
+    ensures short { OnSome result (vec_len out.new < vec_len out.old + 2 ^ 31) }
 {
     if room == 0 {
         return None;
@@ -221,6 +222,7 @@ fn write_members<'t, 'a>(
     ensures reads { OnSome result (ReadsMembers room (token.key first.now ∷ left_of left.old)
         (left_of left.new) out.old.items out.new.items) }
     ensures kept { OnSome result (Keeps seen.old seen.new) }
+    ensures short { OnSome result (vec_len out.new < vec_len out.old + 2 ^ 31) }
 {
     if room == 0 {
         return None;
@@ -402,8 +404,9 @@ fn write_outermost<'t, 'a>(
     seen: &mut Seen,
     out: &mut Vec<u8>,
 ) -> Option<()>
-    ensures { OnSome result
+    ensures reads { OnSome result
         (ReadsMembers 200 (left_of left.old) (left_of left.new) out.old.items out.new.items) }
+    ensures short { OnSome result (vec_len out.new < vec_len out.old + 2 ^ 31) }
 {
     if left.end_object() {
         return write_empty(200, out);
@@ -420,8 +423,9 @@ fn write_tokens<'t, 'a>(
     seen: &mut Seen,
     out: &mut Vec<u8>,
 ) -> Option<()>
-    ensures { OnSome result ((text : List ℕ) → left_of left.old ≡ tokens text
+    ensures put { OnSome result ((text : List ℕ) → left_of left.old ≡ tokens text
         → IsDocumentPut (document_in text) out.old.items out.new.items) }
+    ensures short { OnSome result (vec_len out.new < vec_len out.old + 2 ^ 31) }
 {
     if !left.begin_object() {
         return None;
@@ -432,7 +436,8 @@ fn write_tokens<'t, 'a>(
 
 /// Appends the document of a text whose strings have no escape, like `write_text`.
 fn write_plain_text(alloc: Global, text: &str, seen: &mut Seen, out: &mut Vec<u8>) -> Option<()>
-    ensures { OnSome result (IsDocumentPut (document_in text.now) out.old.items out.new.items) }
+    ensures put { OnSome result (IsDocumentPut (document_in text.now) out.old.items out.new.items) }
+    ensures short { OnSome result (vec_len out.new < vec_len out.old + 2 ^ 31) }
 {
     // A member takes five bytes, with a comma.
     seen.begin_text(text.len() / 5)?;
@@ -447,7 +452,8 @@ fn write_tape<'a>(
     seen: &mut Seen,
     out: &mut Vec<u8>,
 ) -> Option<()>
-    ensures { OnSome result (IsDocumentPut (document_in text.now) out.old.items out.new.items) }
+    ensures put { OnSome result (IsDocumentPut (document_in text.now) out.old.items out.new.items) }
+    ensures short { OnSome result (vec_len out.new < vec_len out.old + 2 ^ 31) }
 {
     let Ok(tape) = Tape::parse(text, scratch, Vec::new(alloc)) else {
         return None;
@@ -467,7 +473,8 @@ pub(crate) fn write_text<'a>(
     seen: &mut Seen,
     out: &mut Vec<u8>,
 ) -> Option<()>
-    ensures { OnSome result (IsDocumentPut (document_in text.now) [] out.new.items) }
+    ensures put { OnSome result (IsDocumentPut (document_in text.now) [] out.new.items) }
+    ensures short { OnSome result (vec_len out.new < 2 ^ 31) }
 {
     out.clear();
     if memchr(b'\\', text.as_bytes()).is_some() {

@@ -1,7 +1,8 @@
 //! Appending elements to bytes (bsonspec.org, version 1.1: `element`). Each function appends all
 //! bytes of its part, or returns `None` if memory is refused or a count is too large.
 
-ghost use Rattle.std.specs.Prelude.{◌≡◌, ◌≤◌, ◌+◌, ◌-◌, ◌++◌, ◌∷◌, [], OnSome, drop, take, vec_len};
+ghost use Rattle.std.specs.Prelude.{◌≡◌, ◌<◌, ◌≤◌, ◌+◌, ◌-◌, ◌^◌, ◌++◌, ◌∷◌, [], OnSome, drop};
+ghost use Rattle.std.specs.Prelude.{take, vec_len};
 ghost use Rattle.bson_elem.specs.{binary, byte_of, cstring, document, little, string};
 ghost use Rattle.bson_doc.specs.{value_of};
 ghost use Rattle.bson_doc.specs.Values.{element_bytes};
@@ -145,9 +146,10 @@ pub(crate) fn begin(out: &mut Vec<u8>) -> Option<()>
 /// Overwrites the four bytes at offset `start` with the count of all bytes from there on.
 fn put_len(start: usize, out: &mut Vec<u8>) -> Option<()>
     requires { start + 4 ≤ vec_len out.old }
-    ensures { OnSome result (out.new.items
+    ensures bytes { OnSome result (out.new.items
         ≡ take start out.old.items
         ++ (little (vec_len out.old - start) ++ drop (start + 4) out.old.items)) }
+    ensures short { OnSome result (vec_len out.new < start + 2 ^ 31) }
 {
     let len = out.len() - start;
     if len > MAX_LEN {
@@ -160,8 +162,9 @@ fn put_len(start: usize, out: &mut Vec<u8>) -> Option<()>
 /// Ends the document that begins at offset `start`, and puts its length there. Returns `None` if no
 /// document can begin there.
 pub(crate) fn finish(start: usize, out: &mut Vec<u8>) -> Option<()>
-    ensures { OnSome result (out.new.items
+    ensures bytes { OnSome result (out.new.items
         ≡ take start out.old.items ++ document (drop (start + 4) out.old.items)) }
+    ensures short { OnSome result (vec_len out.new < start + 2 ^ 31) }
 {
     if out.len() < 4 || start > out.len() - 4 {
         return None;

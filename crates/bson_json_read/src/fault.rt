@@ -11,7 +11,8 @@ use std::fmt;
 pub enum Cause {
     /// The text is no JSON, or nests deeper than any document does.
     NotJson,
-    /// The text is JSON, and no object.
+    /// The text is JSON, and no object; or among several texts, what begins no object stands where one
+    /// has to begin.
     NotAnObject,
     /// A name stands a second time in an object.
     RepeatedName,

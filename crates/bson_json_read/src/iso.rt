@@ -219,7 +219,7 @@ fn with_rest(rest: &[u8], seconds: u64) -> Option<i64>
 }
 
 /// Returns the milliseconds since 1970 of a date-time, RFC 3339, section 5.6, if the text is one with
-/// at most three digits of a fraction.
+/// at most three digits of a fraction, capitals T and Z, no second 60, and a year from 1 on.
 pub(crate) fn read_iso(text: &str) -> Option<i64>
     ensures { result ≡ iso_of text.now }
 {

@@ -1,6 +1,6 @@
 //! Laws of reading what was written. The contract of each function is the law.
 
-ghost use Rattle.std.specs.Prelude.{◌≡◌, ℕ, List, MatchResult, Ok, Some};
+ghost use Rattle.std.specs.Prelude.{◌≡◌, ℕ, IfOk, List, MatchResult, Ok, Some};
 ghost use Rattle.std.specs.Float.{Float};
 ghost use Rattle.bson_elem.specs.{Spells, Tree};
 ghost use Rattle.bson_elem.specs.Spelling.{AreBytes};
@@ -31,8 +31,10 @@ use std::alloc::Global;
 /// Returns `OutOfMemory` if memory is refused, and the fault of the JSON where that loses something
 /// so that it isn't read.
 pub fn round_trip(alloc: Global, document: RawDocument<'_>) -> Result<Document, JsonFault>
-    ensures { (t : Tree) → Spells t (document_bytes document.entry) → IsLossless t
+    ensures same { (t : Tree) → Spells t (document_bytes document.entry) → IsLossless t
         → MatchResult result (λ d. tree_of d ≡ t) (λ e. e.cause ≡ Cause.OutOfMemory) }
+    ensures read { (t : Tree) → Spells t (document_bytes document.entry) → IfOk result (λ d.
+        (text : List ℕ) × IsJson Canonical t text × (document_in text ≡ Ok d)) }
 {
     let mut json = Vec::new(alloc);
     if write_json(document, Mode::Canonical, &mut json).is_err() {

@@ -140,6 +140,9 @@ fn read_bytes(alloc: Global, bytes: &[u8], scratch: &mut Scratch) -> Result<Docu
         Err(fault) => fault,
     };
     let cause = fault.cause;
+    if cause == Cause::OutOfMemory {
+        return Err(OUT_OF_MEMORY);
+    }
     match fault.offset(alloc, text) {
         Ok(offset) => Err(FaultAt { cause, offset }),
         Err(_) => Err(OUT_OF_MEMORY),

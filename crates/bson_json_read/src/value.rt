@@ -23,7 +23,8 @@ use bson_doc::{Array, Bson, Document};
 use json::Value;
 use std::alloc::Global;
 
-/// Returns the value of a number: the smallest kind that holds it, and else the nearest double.
+/// Returns the value of a number: without point and exponent the smallest integer that holds it, and
+/// else the nearest double.
 fn number_of(text: &str) -> Result<Bson, Cause>
     ensures { spec.number_read text.now ≡ spec.plain result }
 {

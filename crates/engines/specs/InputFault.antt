@@ -20,7 +20,8 @@ hex_line offset = fault_line 0 (codes "Hex") offset
 abbrev pub bson_line : ℕ → BsonFault → List ℕ
 bson_line start f = bson_fault_text (start + f.at) f.cause ++ codes "\n"
 
--- the line of a document at this offset whose canonical form is too long
+-- the line of a document at this offset whose canonical form is too long; or of the offset where no
+-- document is found, since one there would be above the limit
 abbrev pub too_large_line : ℕ → List ℕ
 too_large_line offset = fault_line 16 (codes "TooLarge") offset
 

@@ -22,6 +22,11 @@ abbrev pub end_of_error : ErrorKind → Option ℤ → RunEnd
 end_of_error OutOfMemory None = run.OutOfMemory
 end_of_error kind code = InOut
 
+-- an error of this kind ends a run so whose reader has it
+abbrev pub end_of_reading : ErrorKind → Option ℤ → RunEnd
+end_of_reading OutOfMemory None = run.OutOfMemory
+end_of_reading kind code = Unread
+
 -- the run couldn't read on
 abbrev pub IsCutShort : RunEnd → Type 0
 IsCutShort end = (end ≡ Unread) ⊎ (end ≡ run.OutOfMemory)

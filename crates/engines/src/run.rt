@@ -7,7 +7,7 @@ ghost use Rattle.std.specs.Io.KnownBytes.{IsAtEnd, Keeps};
 ghost use Rattle.std.specs.IoError.{error_kind, raw_os_error};
 ghost use Rattle.engines.specs.Buffered.{buffered_contents};
 ghost use Rattle.engines.specs.Output.{AppendsText};
-ghost use Rattle.engines.specs.Run.{IsCutShort, end_of_error, is_done, is_fault};
+ghost use Rattle.engines.specs.Run.{IsCutShort, end_of_error, end_of_reading, is_done, is_fault};
 
 use crate::buffered::Buffered;
 use core::mem::replace_with;
@@ -109,7 +109,8 @@ pub fn end_of(error: &io::Error) -> RunEnd
 
 /// Returns the end of a run whose reader fails with `error`.
 pub fn end_of_read(error: &io::Error) -> RunEnd
-    ensures { IsCutShort result }
+    ensures kind { result ≡ end_of_reading (error_kind error.now) (raw_os_error error.now) }
+    ensures cut { IsCutShort result }
 {
     match end_of(error) {
         RunEnd::OutOfMemory => RunEnd::OutOfMemory,

@@ -15,7 +15,7 @@ write_items-returns-then-end_array-clause-reads t c =
     on_some c.finish.result
     (λ e. items_end c.args.room (left_of c.args.left.now) (left_of c.loop-index.left) (left_of c.end_array.new.self) c.loop-index.index c.len-start.result c.args.out.now.items c.loop-index.out.items c.finish.new.out.items some c.loop-index.invariant.0
     c.if-end_array.ensures at e)
-    c.finish.ensures
+    c.finish.ensures.bytes
 
 pub write_items-loop-index-preserved : goal.write_items-loop-index-preserved
 write_items-loop-index-preserved t c =
@@ -44,11 +44,11 @@ write_members-returns-then-end_object-clause-reads t c =
     on_some c.finish.result
     (λ e. members_end c.args.room c.offset-offset.result tokens (left_of c.write_member.new.left) (left_of c.end_object.new.self) c.len-start.result c.write_member.new.seen c.args.out.now.items c.write_member.new.out.items
     c.finish.new.out.items some so c.if-end_object.ensures at e)
-    c.finish.ensures
+    c.finish.ensures.bytes
 
 pub write_members-returns-then-end_object-clause-kept : goal.write_members-returns-then-end_object-clause-kept
 write_members-returns-then-end_object-clause-kept t c =
-    on_some c.finish.result (λ e x some has. c.in_ok-write_member.ensures.code.kept x some (c.loop.invariant.2 x some has)) c.finish.ensures
+    on_some c.finish.result (λ e x some has. c.in_ok-write_member.ensures.code.kept x some (c.loop.invariant.2 x some has)) c.finish.ensures.bytes
 
 pub write_members-loop-preserved : goal.write_members-loop-preserved
 write_members-loop-preserved t c =

@@ -47,6 +47,6 @@ loop-bytes-preserved g c =
     let mid = g.W.Write.contents c.loop-bytes.out in
     let new = g.W.Write.contents c.write_bytes.new.out in
     let gives = subst (λ (r : NextBytes). GivesBytes (next_in left.frame left.rest) r c.next_bytes.new.out.items c.next_bytes.new.self.left) c.in-Ok-Document.field-0-is c.in-Ok-Document.ensures.ok in
-    let written = subst (Appends mid new) (c.deref.ensures.value ∙ gives.2) c.in_ok-write_bytes.ensures.written in
+    let written = subst (Appends mid new) (c.deref.ensures.value ∙ gives.2.0) c.in_ok-write_bytes.ensures.written in
     let less : length c.next_bytes.new.self.left.rest < length left.rest = search rules in
     (goes_on c.args.input.now c.loop-bytes.number left c.next_bytes.new.self.left gives.0 (g.W.Write.contents c.args.out.now) mid new c.loop-bytes.invariant.0 gives.1 written, omega (arith, c.loop-bytes.invariant.1, less), c.in-Ok-Document.ensures.input ∙ c.loop-bytes.invariant.2)
