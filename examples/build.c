@@ -1,8 +1,10 @@
 /* Builds each document of a file anew, element by element, in a room that grows as it is told, and tells whether it has the
- * same bytes: it has where the names of its arrays are "0", "1" and so on.
+ * same bytes: it has where the names of its arrays are "0", "1" and so on. Tells the first fault of the file, or a refusal.
  *
  *     build FILE
- */
+ *
+ * The status is 1 if there is a fault or a refusal. */
+#include <inttypes.h>
 #include <stdio.h>
 #include <stdlib.h>
 #include <string.h>
@@ -35,7 +37,7 @@ static int again(struct lughemra_built built)
     return 1;
 }
 
-/* Appends the elements from the iterator on. Returns the refusal, or 0. */
+/* Appends the elements from the iterator on, of a document that was checked. Returns the refusal, or 0. */
 static uint32_t copy(const uint8_t *bytes, size_t length, struct lughemra_iter iter, struct lughemra_builder *builder)
 {
     struct lughemra_element element;
@@ -65,21 +67,22 @@ static uint32_t copy(const uint8_t *bytes, size_t length, struct lughemra_iter i
     return LUGHEMRA_DONE;
 }
 
-/* Builds the document anew, and tells what came of it. */
-static void rebuild(const uint8_t *bytes, size_t length)
+/* Builds the document anew, which was checked, and tells what came of it. Returns 0, or 1 if it was refused. */
+static int rebuild(const uint8_t *bytes, size_t length)
 {
     struct lughemra_builder builder = lughemra_build();
     struct lughemra_built built;
     uint32_t refusal = copy(bytes, length, lughemra_first(bytes, length).iter, &builder);
     if (refusal != LUGHEMRA_DONE) {
-        printf("refused %u\n", (unsigned)refusal);
-        return;
+        printf("refused %" PRIu32 "\n", refusal);
+        return 1;
     }
     do
         built = lughemra_finish(room, room_length, &builder);
     while (again(built));
     printf("%zu bytes, %s\n", built.wanted,
            built.wanted == length && memcmp(room, bytes, length) == 0 ? "the same" : "others");
+    return 0;
 }
 
 int main(int argc, char **argv)
@@ -87,19 +90,28 @@ int main(int argc, char **argv)
     struct lughemra_view left = {0, 0}, document;
     uint8_t *bytes = argc == 2 ? read_file(argv[1], &left.length) : NULL;
     size_t length = left.length;
+    struct lughemra_documents_check check;
+    int status = 0;
     if (bytes == NULL)
         return 2;
+    check = lughemra_check_documents(bytes, length);
+    left.length = check.bytes_read;
     while (lughemra_next_document(bytes, length, &left, &document)) {
         uint8_t *one = malloc(document.length);
         if (one == NULL)
             return 4;
         memcpy(one, bytes + document.offset, document.length);
-        rebuild(one, document.length);
+        status |= rebuild(one, document.length);
         free(one);
         free(room);
         room = NULL;
         room_length = 0;
     }
+    if (check.fault.number != 0) {
+        printf("fault %" PRIu32 " %s at %zu\n", check.fault.number, lughemra_document_fault_name(check.fault.number),
+               check.fault.offset);
+        status = 1;
+    }
     free(bytes);
-    return 0;
+    return status;
 }

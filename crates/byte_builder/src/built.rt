@@ -13,7 +13,7 @@ pub struct Built {
     /// 0 if it is done, else the number of the `BuildRefusal`. Then nothing changed.
     pub refusal: u32,
     /// How many bytes the room has to have for what was asked, and for the ends of all containers
-    /// that are open. After a refusal other than for room, 0.
+    /// that are open; of a finished document its length. After a refusal other than for room, 0.
     pub wanted: usize,
 }
 

@@ -6,6 +6,8 @@ use Rattle.bson_elem.specs.{Spells, Tree}
 use Rattle.bson_raw.specs.{IsSpelled, WholeFault}
 use Rattle.bson_json.specs.declared.mode.Mode.{Mode}
 use Rattle.bson_json.specs.declared.mode.Mode.TheVariants.{Canonical, Relaxed}
+use Rattle.bson_doc.specs.declared.refusal.DocRefusal.{DocRefusal}
+use Rattle.bson_doc.specs.declared.refusal.DocRefusal.TheVariants.{TooLarge}
 use Rattle.bson_doc.specs.{canonical_len, plain}
 use Rattle.bson_text.specs.Dump.{document_text}
 use Rattle.byte_views.specs.declared.fault.FirstFault.{FirstFault}
@@ -58,10 +60,20 @@ json_mode relaxed = if relaxed then Relaxed else Canonical
 abbrev pub IsCanonical : Tree → List ℕ → Type 0
 IsCanonical t form = Spells (plain t) form
 
--- The canonical form is put into the room, or there is none, as of a text; or it would be longer
--- than a document may be, and the room stays as it was.
+-- there is no canonical form, since it was refused so
+abbrev pub no_form : DocRefusal → TextWritten
+no_form TooLarge = no_text too_large_fault
+no_form _ = no_text memory_fault
+
+-- The canonical form of the document that the bytes are is put into the room; or there is no memory
+-- for it, or it would be longer than a document may be, or this is the bytes' first fault; and the
+-- room stays as it was then.
 pub data IsCanonicalWritten (bytes old new : List ℕ) : TextWritten → Type 0 where
-  as_text : {w : TextWritten} → IsTextWritten bytes IsCanonical old new w
-      → IsCanonicalWritten bytes old new w
+  is_form : {w : TextWritten} (t : Tree) (form : List ℕ) → Spells t bytes → IsCanonical t form
+      → IsPut form old new w → IsCanonicalWritten bytes old new w
+  wants_memory : {w : TextWritten} (t : Tree) → Spells t bytes → canonical_len t < 2 ^ 31
+      → w ≡ no_text memory_fault → new ≡ old → IsCanonicalWritten bytes old new w
   too_large : {w : TextWritten} (t : Tree) → Spells t bytes → 2 ^ 31 ≤ canonical_len t
       → w ≡ no_text too_large_fault → new ≡ old → IsCanonicalWritten bytes old new w
+  no_document : {w : TextWritten} (f : BsonFault) → WholeFault bytes f
+      → w ≡ no_text (first_fault (Some f)) → new ≡ old → IsCanonicalWritten bytes old new w

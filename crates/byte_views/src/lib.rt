@@ -11,8 +11,8 @@
 //! for them, or is for short texts, and what writes messages takes memory. `spell_content` is for
 //! Rattle: it makes a message of the bytes of a body and of document sequences.
 //!
-//! Uses bson_raw, bson_doc, bson_text, bson_json and wire_msg. Used by lughemra, for programs in C,
-//! and by page, for a browser. Read first: `documents` and `iter`.
+//! Uses bson_raw, bson_doc, bson_text, bson_json and wire_msg. Used by core_handles and lughemra, for
+//! programs in C, and by page, for a browser. Read first: `documents` and `iter`.
 #![tactic(auto)]
 
 mod content;

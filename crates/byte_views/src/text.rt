@@ -4,8 +4,9 @@ ghost use Rattle.std.specs.Prelude.{◌≡◌, IfSome};
 ghost use Rattle.bson_elem.specs.{Spells, Tree};
 ghost use Rattle.bson_raw.specs.{document_bytes};
 ghost use Rattle.bson_json.specs.{IsJson};
-ghost use Rattle.byte_views.specs.Texts.{IsDump, IsPut, IsTextWritten, memory_fault, no_text};
-ghost use Rattle.byte_views.specs.Texts.{IsCanonicalWritten, json_mode, text_put, too_large_fault};
+ghost use Rattle.byte_views.specs.Texts.{IsDump, IsPut, IsTextWritten, memory_fault, no_form};
+ghost use Rattle.byte_views.specs.Texts.{IsCanonicalWritten, json_mode, no_text, text_put};
+ghost use Rattle.byte_views.specs.Texts.{too_large_fault};
 
 use crate::fault::FirstFault;
 use arrayvec::ArrayVec;
@@ -23,8 +24,8 @@ pub const SHORT: usize = 65536;
 #[repr(C)]
 pub struct TextWritten {
     /// The first fault of the document, by the number of its cause, from 1 to 11. The number is
-    /// 254 if there was no memory for the text, and 253 if a canonical form would have more than
-    /// 2,147,483,647 bytes.
+    /// 254 if there was no memory for the text, 253 if a canonical form would have more than
+    /// 2,147,483,647 bytes, and 255 if no element stands where the text of a value was asked.
     pub fault: FirstFault,
     /// The number of bytes of the text, whether it was written or not. If there is a fault, 0.
     pub length: usize,
@@ -62,6 +63,16 @@ impl TextWritten {
             number: 253,
             offset: 0,
         })
+    }
+
+    /// Returns that there is no canonical form, since it was refused so.
+    fn of_refusal(refusal: DocRefusal) -> TextWritten
+        ensures { result ≡ no_form refusal }
+    {
+        match refusal {
+            DocRefusal::TooLarge => TextWritten::too_large(),
+            _ => TextWritten::no_memory(),
+        }
     }
 
     /// Returns that there is a text of this `length`, and whether it was written.
@@ -179,7 +190,7 @@ pub fn put_json(alloc: Global, bytes: &[u8], relaxed: bool, room: &mut [u8]) -> 
 }
 
 /// Writes the text that `put_dump` does, but takes no memory: for one of more than 64 KiB it tells
-/// that there is none.
+/// that there is no memory.
 pub fn put_short_dump(bytes: &[u8], room: &mut [u8]) -> TextWritten
     ensures { IsTextWritten bytes.now IsDump room.old room.new result }
 {
@@ -194,7 +205,7 @@ pub fn put_short_dump(bytes: &[u8], room: &mut [u8]) -> TextWritten
 }
 
 /// Writes the text that `put_json` does, but takes no memory: for one of more than 64 KiB it tells
-/// that there is none.
+/// that there is no memory.
 pub fn put_short_json(bytes: &[u8], relaxed: bool, room: &mut [u8]) -> TextWritten
     ensures { IsTextWritten bytes.now (IsJson (json_mode relaxed)) room.old room.new result }
 {
@@ -220,7 +231,6 @@ pub fn put_canonical(alloc: Global, bytes: &[u8], room: &mut [u8]) -> TextWritte
     };
     match to_canonical(alloc, document) {
         Ok(form) => put(form.as_raw().as_bytes(), room),
-        Err(DocRefusal::TooLarge) => TextWritten::too_large(),
-        Err(_) => TextWritten::no_memory(),
+        Err(refusal) => TextWritten::of_refusal(refusal),
     }
 }

@@ -30,7 +30,7 @@ fn value_text(item: Item<'_>) -> Option<ArrayVec<u8, SHORT>>
 /// Writes the value of the element at the iterator to the front of `room`, as the text of a
 /// document has it behind the name: a space, the word of its kind, and the value. What follows the
 /// element may have a fault, and so may a document in it. For a text of more than 64 KiB it tells
-/// that there is none.
+/// that there is no memory, and where no element stands it has the number 255.
 pub fn put_value(bytes: &[u8], iter: &ElementIter, room: &mut [u8]) -> TextWritten
     ensures { IsValueWritten bytes.now iter.now room.old room.new result }
 {

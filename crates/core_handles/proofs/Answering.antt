@@ -1,8 +1,10 @@
 -- What a call does with the core of a handle, from what its code found.
-use Rattle.std.proofs.Common.{◌≡◌, ◌≢◌, ◌⊎◌, ℕ, ℤ, List, true, false, subst, ap, ◌∙◌, refl, inl, inr, [], ◌∷◌, ◌≤◌, length, arith}
+use Rattle.std.proofs.Common.{◌≡◌, ◌≢◌, ◌⊎◌, ℕ, ℤ, List, true, false, subst, ap, ◌∙◌, refl, inl, inr, [], ◌∷◌, ◌≤◌, length, length-append, arith}
 use Rattle.std.specs.Prelude.{Option, None, Some}
 use Rattle.std.specs.Option.{is_some}
-use Rattle.wire_msg.specs.{Content}
+use Rattle.bson_elem.specs.{Spells, Tree}
+use Rattle.wire_msg.specs.{Content, body_alone, message_len}
+use Rattle.wire_msg.specs.Spelling.{body_section}
 use Rattle.wire_peer.specs.{ClientSeen, IsCallRefusal, IsCalled, IsSetupRefusal, called, new_client}
 use Rattle.wire_peer.specs.declared.calls.CallKind.{CallKind}
 use Rattle.wire_peer.specs.declared.calls.CallNo.{CallNo}
@@ -65,3 +67,8 @@ call_is_refused k kind after found c e n w same refused then number told =
 pub reply_refused : (k : ClientSeen) (room : List ℕ) (n : ℕ) (w : ReplyCopied) → w ≡ no_reply n → ((n ≡ 7) × (k.reply ≡ None)) ⊎ ((n ≡ 254) × (k.reply ≢ None)) → IsReplyCopied k room room w
 reply_refused k room n w told (inl x) = none_ready x.1 (told ∙ ap no_reply x.0) refl
 reply_refused k room n w told (inr x) = no_memory x.1 (told ∙ ap no_reply x.0) refl
+
+-- a message has room for 21 bytes and its body
+pub alone_fits : (t : Tree) (d : List ℕ) → Spells t d → length d ≤ 47_999_979 → message_len (body_alone t) ≤ 48_000_000
+unfolding body_section
+alone_fits t d s short = omega (arith, short, ap length s.parts, length-append (body_section t) [])

@@ -1,6 +1,6 @@
 -- A call of a client, by the bytes of its body and of its document sequences.
-use Rattle.std.specs.Prelude.{◌≡◌, ℕ, pos, List, [], None, Some}
-use Rattle.wire_msg.specs.{Content, msg_fault}
+use Rattle.std.specs.Prelude.{◌≡◌, ◌≤◌, ℕ, pos, List, [], None, Some}
+use Rattle.wire_msg.specs.{Content, message_len, msg_fault}
 use Rattle.wire_msg.specs.Payload.{AreParts}
 use Rattle.wire_msg.specs.declared.fault.MsgCause.TheVariants as causes
 use Rattle.wire_peer.specs.declared.calls.CallKind.{CallKind}
@@ -49,11 +49,12 @@ pub data CallsWith (k : ClientSeen) (kind : CallKind) (c : Content) (after : Cli
       → CallsWith k kind c after w
 
 -- A call is made with the content that the body and the sequences give, or it is refused; or they
--- give none, and nothing changes.
+-- give none that goes into a message, and nothing changes.
 pub data IsCallMade (k : ClientSeen) (kind : CallKind) (body sequences : List ℕ)
     (after : ClientSeen) : CallMade → Type 0 where
   has_content : {w : CallMade} (c : Content) → AreParts [] body sequences c
-      → CallsWith k kind c after w → IsCallMade k kind body sequences after w
+      → message_len c ≤ 48_000_000 → CallsWith k kind c after w
+      → IsCallMade k kind body sequences after w
   no_content : {w : CallMade} (e : ContentRefusal)
       → IsContentRefusal 48_000_000 body sequences e → after ≡ k → w ≡ content_refused e
       → IsCallMade k kind body sequences after w

@@ -1,7 +1,7 @@
 //! Makes a call of a client, of bytes that its caller has.
 
-ghost use Rattle.std.specs.Prelude.{◌≡◌, [], IfSome, MatchResult, None};
-ghost use Rattle.wire_msg.specs.{BufCarries, Carries, Content, Message, SpellsMsg};
+ghost use Rattle.std.specs.Prelude.{◌≡◌, ◌≤◌, [], IfSome, MatchResult, None};
+ghost use Rattle.wire_msg.specs.{BufCarries, Carries, Content, Message, SpellsMsg, message_len};
 ghost use Rattle.wire_msg.specs.Payload.{AreParts};
 ghost use Rattle.wire_peer.specs.{IsCallRefusal, IsCalled, called, content_of};
 ghost use Rattle.byte_views.specs.Fault.{first_fault};
@@ -14,6 +14,10 @@ use byte_views::{ContentRefusal, FirstFault, spell_content};
 use std::alloc::Global;
 use wire_msg::{MAX_MESSAGE_LEN, Payload, PayloadBuf, RawMsg};
 use wire_peer::{CallKind, CallNo, CallRefusal, Client};
+
+/// The greatest length of a body alone: what a message has room for beside its header, its flags
+/// and the kind of its section.
+const MAX_BODY_LEN: usize = MAX_MESSAGE_LEN as usize - 21;
 
 /// What became of a call.
 #[derive(Clone, Copy)]
@@ -140,10 +144,14 @@ fn call_with(client: &mut Client, kind: CallKind, message: &[u8]) -> CallMade
 }
 
 /// Returns the payload of the document that `body` is and no document sequence; or `None` if it is
-/// none, or if there is no memory for it.
+/// none, or too large for a message, or if there is no memory for it.
 fn payload_alone(alloc: Global, body: &[u8]) -> Option<PayloadBuf>
-    ensures { IfSome result (λ b. (c : Content) × BufCarries b c × AreParts [] body.now [] c) }
+    ensures { IfSome result (λ b. (c : Content) × BufCarries b c × AreParts [] body.now [] c
+        × (message_len c ≤ MAX_MESSAGE_LEN)) }
 {
+    if body.len() > MAX_BODY_LEN {
+        return None;
+    }
     let Ok(document) = RawDocument::from_bytes(body) else {
         return None;
     };

@@ -21,7 +21,8 @@
  * messages take some in proportion to the number of names in a body, by malloc, realloc and free of the program, and give it
  * back before they return. If there is none, the answer is the same, but takes time in proportion to the square of the number
  * of names. Those that write texts take up to twice as much as the text, and three times for a moment as that grows;
- * lughemra_write_message takes as much as the message twice, and each tells where there is none. malloc, realloc and free must
+ * lughemra_write_message takes as much as the message twice, and while it is checked what a check takes; each tells where
+ * there is none. malloc, realloc and free must
  * come from one allocator. Don't call what takes memory from a signal handler, nor from the forked child of a process with
  * threads.
  *
@@ -68,8 +69,8 @@ struct lughemra_fault {
  * after another. Of an element first the type byte (END for 00, KIND), then the name (TRUNCATED, NAME), then the value:
  * its own length before its content, a string's text before its last byte (TEXT, TEXT_END), a binary's length before
  * the inner count of subtype 02 (OLD_BINARY), a pattern before its options, the code before its scope (SCOPE where they
- * don't fill its length). A document, an array or a scope inside is checked whole, beginning with its depth (DEPTH),
- * before the next element.
+ * don't fill its length). A document, an array or a scope inside is checked whole, beginning with its depth (DEPTH), which
+ * for a code with scope comes before its length, before the next element.
  *
  * The offset is that of the type byte of the innermost element at fault. But for the last byte of a document, an array or
  * a scope (END), and for the length of a document or an array that is below 5 (LENGTH), it is that of its first byte; and
@@ -405,8 +406,9 @@ enum lughemra_refusal {
                               /* LUGHEMRA_TOO_LARGE: the document, or the sequences, would have more than 2,147,483,647
                                * bytes */
                               /* LUGHEMRA_OUT_OF_RANGE: a pointer to a struct or to a number is null, the numbers of a
-                               * builder are none that the calls give, *end is greater than the room's length, or an
-                               * element's views are past the bytes, or these are null */
+                               * builder are out of range, `inner` doesn't stand behind `outer` or isn't one deeper, as
+                               * where it was ended before, *end is greater than the room's length, or an element's views
+                               * are past the bytes, or these are null */
 };
 
 /* What became of a call that builds. Where it isn't done, nothing changed. */
@@ -1005,8 +1007,8 @@ static inline struct lughemra_built lughemra_end(uint8_t *room, size_t room_leng
 }
 
 /* Ends the outermost document: the first `wanted` bytes of the room are it. The builder of one inside isn't refused, and the bytes
- * are no document then; what is still open inside is left out, and can't be ended any more. It doesn't change the builder: more
- * may be appended, and it ended again. */
+ * are no document then; what is still open inside is left out, and isn't to be ended any more: that isn't refused, and the bytes
+ * are no document then. It doesn't change the builder: more may be appended, and it ended again. */
 static inline struct lughemra_built lughemra_finish(uint8_t *room, size_t room_length,
                                                     const struct lughemra_builder *builder)
 {
@@ -1035,7 +1037,7 @@ static inline struct lughemra_built lughemra_append_sequence(uint8_t *room, size
 
 /* Writes a message of at most `limit` bytes to the front of the room, of `room_length` bytes: with these numbers, the document
  * that `body` is, and the sequences that lughemra_append_sequence put, which may be none. A null pointer to the numbers
- * stands for 0, 0 and 0. Takes as much memory as the message twice. If the message has no room, nothing is written, and
+ * stands for 0, 0 and 0. Takes as much memory as the message twice, and what a check of it takes. If the message has no room, nothing is written, and
  * its length is told; a null pointer is no room. */
 static inline struct lughemra_written lughemra_write_message(const struct lughemra_message_numbers *numbers,
                                                              const uint8_t *body, size_t body_length,
@@ -1103,7 +1105,8 @@ static inline struct lughemra_call_made lughemra_not_made(void)
 }
 
 /* Makes a call that has one reply: with the document that `body` is, and the sequences that lughemra_append_sequence put, which
- * may be none. Its request waits to be sent then. */
+ * may be none. Its request waits to be sent then. That these are no content of a message (LUGHEMRA_BAD_CONTENT), or of none of
+ * 48,000,000 bytes (LUGHEMRA_CALL_TOO_LARGE), is told before that the client is closed or its window full. */
 static inline struct lughemra_call_made lughemra_client_call(struct lughemra_core *core, const uint8_t *body,
                                                              size_t body_length, const uint8_t *sequences,
                                                              size_t sequences_length)

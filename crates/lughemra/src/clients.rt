@@ -1,4 +1,5 @@
-//! Exports what is done with the client of a handle. Each takes memory, at least for a moment.
+//! Exports what is done with the client of a handle. What makes a client, makes a call,
+//! feeds bytes or copies a reply takes memory.
 
 ghost use Rattle.std.specs.Prelude.{◌≡◌, None, length};
 ghost use Rattle.wire_peer.specs.{ended, released};

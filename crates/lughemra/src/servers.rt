@@ -1,4 +1,5 @@
-//! Exports what is done with the server of a handle. Each takes memory, at least for a moment.
+//! Exports what is done with the server of a handle. What makes a server, feeds bytes,
+//! copies a request or answers one takes memory.
 
 ghost use Rattle.std.specs.Prelude.{◌≡◌};
 ghost use Rattle.wire_peer.specs.{closed_for, end_cause};

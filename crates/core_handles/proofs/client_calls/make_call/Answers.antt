@@ -9,5 +9,5 @@ pub returns : goal.returns
 returns c =
     let known = c.in-Some.ensures in
     let none = nothing_in c.args.sequences.now (omega (arith, exact_unsigned_eq (length c.args.sequences.now) 0 (sym c.if-is_empty.ensures))) in
-    has_content known.0 (subst (λ (x : List ℕ). AreParts [] c.args.body.now x known.0) (sym none) known.2)
+    has_content known.0 (subst (λ (x : List ℕ). AreParts [] c.args.body.now x known.0) (sym none) known.2) known.3
     (c.call_on.ensures known.0 (c.as_payload.ensures known.0 known.1))
