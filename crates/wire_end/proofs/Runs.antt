@@ -19,7 +19,7 @@ use Rattle.wire_channels.proofs.Lemmas.{client_on, sent_on, taken_on}
 use Rattle.wire_end.specs.declared.next.EndFault.{EndFault}
 use Rattle.wire_end.specs.declared.next.EndFault.TheVariants as faults
 use Rattle.wire_end.specs.declared.next.Next.TheVariants.{Reply}
-use Rattle.wire_end.specs.Ends.{EndRuns, EndSeen, HandsOut, StandsAs}
+use Rattle.wire_end.specs.Ends.{EndRuns, EndSeen, HandsOut}
 use Rattle.wire_end.specs.Steps.{ClosesNothing, Hears}
 use Rattle.wire_end.proofs.ServerRuns.{no_bytes}
 
@@ -226,12 +226,3 @@ taken_runs sent received old new more there bytes same kept grew held parts are 
   where
     own : new.own ≡ record { client = new.own.client; records = old.own.records }
     own = own_parts new.own new.own.client old.own.records refl records
-
--- ---- what is told of it
-
--- a fault that closes nothing tells nothing of how the end stands
-pub stands_short : {L : Type 0} (fault : EndFault) (new : EndSeen L) → ClosesNothing fault
-    → StandsAs (Err fault) new
-stands_short (faults.Link fault) new short = tt
-stands_short (faults.Closed cause) new short = absurd short
-stands_short faults.OutOfMemory new short = tt

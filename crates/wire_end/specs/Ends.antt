@@ -1,5 +1,6 @@
 -- A client's end, and what is done with it.
-use Rattle.std.specs.Prelude.{◌≡◌, ◌⊎◌, ℕ, Option, List, [], ◌∷◌, ◌++◌, map, Result, Ok, Err}
+use Rattle.std.specs.Prelude.{◌≡◌, ◌≢◌, ◌⊎◌, ℕ, Option, List, [], ◌∷◌, ◌++◌, map, None, Result, Ok}
+use Rattle.std.specs.Prelude.{Err}
 use Rattle.std.specs.Io.KnownBytes.{Appends}
 use Rattle.bson_elem.specs.{IsBytes}
 use Rattle.wire_msg.specs.{Message}
@@ -57,7 +58,7 @@ IsWaiting e = MayTake e.own.client × (e.inlet ≡ [])
 -- ---- the next reply
 
 -- An end that waited for a reply took pieces of bytes. Behind them it handed out the reply that the
--- call returned. Where the client is closed now, it was told the end, too; else nothing more was
+-- call returned; or it told the client the end, where no more replies come; or nothing more was
 -- done.
 abbrev pub HandsOut : Result Next EndFault → List ClientAct → Type 0
 HandsOut (Ok (Reply reply)) acts =
@@ -70,13 +71,15 @@ HandsOut (Err (faults.Link fault)) acts = (pieces : List (List ℕ)) × (acts �
 HandsOut (Err faults.OutOfMemory) acts = (pieces : List (List ℕ)) × (acts ≡ map TakesDown pieces)
 
 -- Where no reply was there yet, the client takes more bytes and none is held; and where none comes
--- any more, it is closed, with this cause.
+-- any more, it is closed, with this cause. Where memory ran out, it takes more bytes, or a reply is
+-- there still.
 abbrev pub StandsAs : {L : Type 0} → Result Next EndFault → EndSeen L → Type 0
 StandsAs (Ok (Reply reply)) new = Unit {0}
 StandsAs (Ok Later) new = IsWaiting new
 StandsAs (Err (faults.Closed cause)) new = new.own.client.state ≡ Closed cause
 StandsAs (Err (faults.Link fault)) new = Unit {0}
-StandsAs (Err faults.OutOfMemory) new = Unit {0}
+StandsAs (Err faults.OutOfMemory) new =
+    MayTake new.own.client ⊎ (new.own.client.reply ≢ None)
 
 -- The client closed for this cause. The link told its end, and no bytes are held; or what came is
 -- no reply to a call.

@@ -1,7 +1,7 @@
 //! A client's end: a client, its link, and the records of its calls.
 
-ghost use Rattle.std.specs.Prelude.{◌≡◌, ◌≢◌, ◌∷◌, ◌++◌, [], ℕ, List, Ok, IfErr, IfOk, OnErr, OnOk};
-ghost use Rattle.std.specs.Prelude.{Some, false, length, option_map, slice_get, true};
+ghost use Rattle.std.specs.Prelude.{◌≡◌, ◌≢◌, ◌∷◌, ◌++◌, [], ℕ, List, Err, Ok, IfErr, IfOk, OnErr};
+ghost use Rattle.std.specs.Prelude.{None, OnOk, Some, false, length, option_map, slice_get, true};
 ghost use Rattle.std.specs.Io.KnownBytes.{Keeps};
 ghost use Rattle.wire_channels.specs.Owners.{Calls, ClientAct, EndsDown, SendsUp};
 ghost use Rattle.wire_end.specs.Ends.{EndRuns, FailsAs, HandsOut, IsWaiting, NextEnds, NextLater};
@@ -221,6 +221,7 @@ impl<L: Link + Drop> ClientEnd<L> {
         ensures ended { result ≡ Ok Pulled.End → IsWaiting self.new }
         ensures waits { result ≡ Ok Pulled.Later → IsWaiting self.new }
         ensures closes { IfErr result (λ e. ClosesNothing e) }
+        ensures stands { IfErr result (λ e. StandsAs (Err e) self.new) }
         ensures turns { (ts : List Turn)
             × AddsTurns (L.turns self.old.link) (L.turns self.new.link) ts
             × AreBetween self.old.own.client.requests.limit (L.received self.old.link)
@@ -256,6 +257,7 @@ impl<L: Link + Drop> ClientEnd<L> {
         ensures ended { result ≡ Ok Pulled.End → IsWaiting self.new }
         ensures waits { result ≡ Ok Pulled.Later → IsWaiting self.new }
         ensures closes { IfErr result (λ e. ClosesNothing e) }
+        ensures stands { IfErr result (λ e. StandsAs (Err e) self.new) }
         ensures more { result ≡ Ok Pulled.Bytes
             → HoldsMore self.old.own.client self.new.own.client }
         ensures grows { result ≡ Ok Pulled.Bytes → MayTake self.new.own.client
@@ -292,6 +294,7 @@ impl<L: Link + Drop> ClientEnd<L> {
         ensures collected { IfOk result (λ ready.
             CollectsAs L.sent L.received ready self.old self.new) }
         ensures link { self.new.link ≡ self.old.link }
+        ensures ready { OnErr result (self.new.own.client.reply ≢ None) }
         ensures unchanged { OnErr result (self.new ≡ self.old) }
     {
         let Some(reply) = self.client.reply() else {

@@ -1,6 +1,7 @@
 -- Acts among others, and what they are at each end.
 use Rattle.std.proofs.Common.{◌≡◌, ℕ, Bool, true, false, List, [], ◌∷◌, ◌++◌, refl, sym, ◌∙◌, ap, subst, Option, Some, None, ◌⊎◌, inl, inr}
 use Rattle.std.specs.Prelude.{◌==◌, if◌then◌else◌}
+use Rattle.std.proofs.lemmas.Bool.{eqb-true}
 use Rattle.std.proofs.lemmas.Option.{none-some}
 use Rattle.wire_msg.specs.{Message}
 use Rattle.wire_msg.specs.declared.payloads.Payload.{Payload}
@@ -13,7 +14,9 @@ use Rattle.wire_channels.specs.Owners as owners
 use Rattle.wire_share.specs.declared.awaited.Awaited.{Awaited}
 use Rattle.wire_share.specs.Acts.{Answers, AreFit, DownAct, EndsUp, Gives, IsFit, LetsGo, Moves, MovesDown, Passes, PassesOn, SendsUp, ShareAct, TakesUp, act_at, act_of, acts_at, acts_of, with_act}
 use Rattle.wire_share.specs.Sharing.{kind_by}
-use Rattle.wire_share.proofs.Parts.{AllLast, handed_on}
+use Rattle.wire_peer.specs.Calls.{allows_more}
+use Rattle.wire_share.proofs.Lasts.{ActsOnce}
+use Rattle.wire_share.proofs.Parts.{handed_on}
 
 -- ---- lists
 
@@ -86,50 +89,56 @@ fits act [] fit i = absurd i
 fits act (x ∷ acts) fit (inl same) = subst IsFit same fit.0
 fits act (x ∷ acts) fit (inr i) = fits act acts fit.1 i
 
--- the act hands out a last reply, if any
-abbrev HandsLast : Option ClientAct → Type 0
-HandsLast None = Unit {0}
-HandsLast (Some (owners.Collects reply m)) = reply.last ≡ true
-HandsLast (Some (owners.Calls kind payload number)) = Unit {0}
-HandsLast (Some (owners.SendsUp bytes)) = Unit {0}
-HandsLast (Some (owners.TakesDown bytes)) = Unit {0}
-HandsLast (Some owners.EndsDown) = Unit {0}
+-- ---- what is asked of an upstream
 
-last_if : (b : Bool) (a : ClientAct) → HandsLast (Some a) → HandsLast (if b then Some a else None)
-last_if true a last = last
-last_if false a last = tt
+-- the calls of an act allow one reply
+abbrev AsksOnce : Option ClientAct → Type 0
+AsksOnce None = Unit {0}
+AsksOnce (Some (owners.Calls kind payload number)) = allows_more kind ≡ false
+AsksOnce (Some (owners.Collects reply m)) = Unit {0}
+AsksOnce (Some (owners.SendsUp bytes)) = Unit {0}
+AsksOnce (Some (owners.TakesDown bytes)) = Unit {0}
+AsksOnce (Some owners.EndsDown) = Unit {0}
 
-hands_last : (act : ShareAct) (u : ℕ) → IsFit act → HandsLast (act_of act u)
-hands_last (MovesDown d move) u fit = tt
-hands_last (SendsUp v bytes) u fit = last_if (v == u) (owners.SendsUp bytes) tt
-hands_last (TakesUp v bytes) u fit = last_if (v == u) (owners.TakesDown bytes) tt
-hands_last (EndsUp v) u fit = last_if (v == u) owners.EndsDown tt
-hands_last (Passes d v m payload number made) u fit = last_if (v == u) (owners.Calls (kind_by m.flags.more_to_come) payload number) tt
-hands_last (Gives d v m reply answer made) u fit = last_if (v == u) (owners.Collects reply answer) fit
-hands_last (LetsGo v reply answer) u fit = last_if (v == u) (owners.Collects reply answer) fit
+once_if : (b : Bool) (a : ClientAct) → AsksOnce (Some a) → AsksOnce (if b then Some a else None)
+once_if true a once = once
+once_if false a once = tt
 
-with_last : (o : Option ClientAct) (acts : List ClientAct) → HandsLast o → AllLast (handed acts) → AllLast (handed (with_act o acts))
-with_last None acts last all = all
-with_last (Some (owners.Collects reply m)) acts last all = (last, all)
-with_last (Some (owners.Calls kind payload number)) acts last all = all
-with_last (Some (owners.SendsUp bytes)) acts last all = all
-with_last (Some (owners.TakesDown bytes)) acts last all = all
-with_last (Some owners.EndsDown) acts last all = all
+kind_once : (more : Bool) → allows_more (kind_by more) ≡ false
+kind_once true = refl
+kind_once false = refl
 
-pub all_last : (acts : List ShareAct) (u : ℕ) → AreFit acts → AllLast (handed (acts_of acts u))
-all_last [] u fit = tt
-all_last (act ∷ acts) u fit = with_last (act_of act u) (acts_of acts u) (hands_last act u fit.0) (all_last acts u fit.1)
+asks_once : (act : ShareAct) (u : ℕ) → AsksOnce (act_of act u)
+asks_once (MovesDown d move) u = tt
+asks_once (SendsUp v bytes) u = once_if (v == u) (owners.SendsUp bytes) tt
+asks_once (TakesUp v bytes) u = once_if (v == u) (owners.TakesDown bytes) tt
+asks_once (EndsUp v) u = once_if (v == u) owners.EndsDown tt
+asks_once (Passes d v m payload number made) u = once_if (v == u) (owners.Calls (kind_by m.flags.more_to_come) payload number) (kind_once m.flags.more_to_come)
+asks_once (Gives d v m reply answer made) u = once_if (v == u) (owners.Collects reply answer) tt
+asks_once (LetsGo v reply answer) u = once_if (v == u) (owners.Collects reply answer) tt
+
+with_once : (o : Option ClientAct) (acts : List ClientAct) → AsksOnce o → ActsOnce acts → ActsOnce (with_act o acts)
+with_once None acts once all = all
+with_once (Some (owners.Calls kind payload number)) acts once all = (once, all)
+with_once (Some (owners.Collects reply m)) acts once all = all
+with_once (Some (owners.SendsUp bytes)) acts once all = all
+with_once (Some (owners.TakesDown bytes)) acts once all = all
+with_once (Some owners.EndsDown) acts once all = all
+
+pub acts_once : (acts : List ShareAct) (u : ℕ) → ActsOnce (acts_of acts u)
+acts_once [] u = tt
+acts_once (act ∷ acts) u = with_once (act_of act u) (acts_of acts u) (asks_once act u) (acts_once acts u)
 
 -- ---- where a request was passed on
 
--- a request was passed on as this call of some upstream
-abbrev pub WasPassed : Message → Awaited → List ShareAct → Type 0
-WasPassed m call acts =
-    (d u : ℕ) × (payload : Payload) × (number : CallNo) × (made : List LogEntry) × Inside (Passes d u m payload number made) acts
+-- a request of this downstream was passed on as this call of some upstream
+abbrev pub WasPassed : ℕ → Message → Awaited → List ShareAct → Type 0
+WasPassed d m call acts =
+    (u : ℕ) × (payload : Payload) × (number : CallNo) × (made : List LogEntry) × Inside (Passes d u m payload number made) acts
     × (record { upstream = u; call = number.number } ≡ call)
 
-was_later : (m : Message) (call : Awaited) (x : ShareAct) (acts : List ShareAct) → WasPassed m call acts → WasPassed m call (x ∷ acts)
-was_later m call x acts p = (p.0, p.1, p.2, p.3, p.4, inr p.5, p.6)
+was_later : (d : ℕ) (m : Message) (call : Awaited) (x : ShareAct) (acts : List ShareAct) → WasPassed d m call acts → WasPassed d m call (x ∷ acts)
+was_later d m call x acts p = (p.0, p.1, p.2, p.3, inr p.4, p.5)
 
 -- the message and the call of an act, if it passes a request on
 abbrev passing : DownAct → Option (Message × Awaited)
@@ -143,28 +152,42 @@ not_that true a m call made acts none (inl same) = absurd (none-some (m, call) (
 not_that true a m call made acts none (inr i) = i
 not_that false a m call made acts none i = i
 
-pub was_passed : (acts : List ShareAct) (d : ℕ) (m : Message) (call : Awaited) (made : List LogEntry) → Inside (PassesOn m call made) (acts_at acts d) → WasPassed m call acts
+message_same : (n m : Message) (c call : Awaited) (told made : List LogEntry) → PassesOn n c told ≡ PassesOn m call made → n ≡ m
+message_same n m c call told made same = cc
+
+call_same : (n m : Message) (c call : Awaited) (told made : List LogEntry) → PassesOn n c told ≡ PassesOn m call made → c ≡ call
+call_same n m c call told made same = cc
+
+-- one of the downstream e, if that is d
+one_passed : (b : Bool) (d e u : ℕ) (n m : Message) (payload : Payload) (number : CallNo) (call : Awaited) (told made : List LogEntry) (acts : List ShareAct)
+    → (b ≡ true → e ≡ d) → (Inside (PassesOn m call made) (acts_at acts d) → WasPassed d m call (Passes e u n payload number told ∷ acts))
+    → Inside (PassesOn m call made) (with_act (if b then Some (PassesOn n (record { upstream = u; call = number.number }) told) else None) (acts_at acts d))
+    → WasPassed d m call (Passes e u n payload number told ∷ acts)
+one_passed true d e u n m payload number call told made acts is later_on (inl same) =
+    let c : Awaited = record { upstream = u; call = number.number } in
+    let at : Passes e u n payload number told ≡ Passes d u m payload number told =
+    ap (λ (k : ℕ). Passes k u n payload number told) (is refl) ∙ ap (λ (x : Message). Passes d u x payload number told) (message_same n m c call told made same) in
+    (u, payload, number, told, inl at, call_same n m c call told made same)
+one_passed true d e u n m payload number call told made acts is later_on (inr j) = later_on j
+one_passed false d e u n m payload number call told made acts is later_on j = later_on j
+
+pub was_passed : (acts : List ShareAct) (d : ℕ) (m : Message) (call : Awaited) (made : List LogEntry) → Inside (PassesOn m call made) (acts_at acts d) → WasPassed d m call acts
 was_passed [] d m call made i = absurd i
-was_passed (MovesDown e move ∷ acts) d m call made i = was_later m call _ acts (was_passed acts d m call made (not_that (e == d) (Moves move) m call made (acts_at acts d) refl i))
-was_passed (SendsUp u bytes ∷ acts) d m call made i = was_later m call _ acts (was_passed acts d m call made i)
-was_passed (TakesUp u bytes ∷ acts) d m call made i = was_later m call _ acts (was_passed acts d m call made i)
-was_passed (EndsUp u ∷ acts) d m call made i = was_later m call _ acts (was_passed acts d m call made i)
-was_passed (LetsGo u reply answer ∷ acts) d m call made i = was_later m call _ acts (was_passed acts d m call made i)
+was_passed (MovesDown e move ∷ acts) d m call made i =
+    was_later d m call _ acts (was_passed acts d m call made (not_that (e == d) (Moves move) m call made (acts_at acts d) refl i))
+was_passed (SendsUp u bytes ∷ acts) d m call made i = was_later d m call _ acts (was_passed acts d m call made i)
+was_passed (TakesUp u bytes ∷ acts) d m call made i = was_later d m call _ acts (was_passed acts d m call made i)
+was_passed (EndsUp u ∷ acts) d m call made i = was_later d m call _ acts (was_passed acts d m call made i)
+was_passed (LetsGo u reply answer ∷ acts) d m call made i = was_later d m call _ acts (was_passed acts d m call made i)
 was_passed (Gives e u n reply answer told ∷ acts) d m call made i =
-    was_later m call _ acts
+    was_later d m call _ acts
     (was_passed acts d m call made (not_that (e == d) (Answers n (record { upstream = u; call = reply.call }) answer.content told) m call made (acts_at acts d) refl i))
 was_passed (Passes e u n payload number told ∷ acts) d m call made i =
-    by (e == d) i (λ j. was_later m call (Passes e u n payload number told) acts (was_passed acts d m call made j))
-  where
-    by : (b : Bool) → Inside (PassesOn m call made) (with_act (if b then Some (PassesOn n (record { upstream = u; call = number.number }) told) else None) (acts_at acts d))
-        → (Inside (PassesOn m call made) (acts_at acts d) → WasPassed m call (Passes e u n payload number told ∷ acts))
-        → WasPassed m call (Passes e u n payload number told ∷ acts)
-    by true (inl same) later_on = (e, u, payload, number, told, inl (ap (λ (x : Message). Passes e u x payload number told) (message_same same)), call_same same)
-      where
-        message_same : PassesOn n (record { upstream = u; call = number.number }) told ≡ PassesOn m call made → n ≡ m
-        message_same s = cc
+    one_passed (e == d) d e u n m payload number call told made acts (eqb-true e d) (λ j. was_later d m call (Passes e u n payload number told) acts (was_passed acts d m call made j)) i
 
-        call_same : PassesOn n (record { upstream = u; call = number.number }) told ≡ PassesOn m call made → record { upstream = u; call = number.number } ≡ call
-        call_same s = cc
-    by true (inr j) later_on = later_on j
-    by false j later_on = later_on j
+-- ---- the acts before one
+
+-- the acts at a downstream, before an act and from it on
+pub at_on : (before after : List ShareAct) (d : ℕ) → acts_at (before ++ after) d ≡ acts_at before d ++ acts_at after d
+at_on [] after d = refl
+at_on (x ∷ before) after d = ap (λ (xs : List DownAct). with_act (act_at x d) xs) (at_on before after d) ∙ with_on (act_at x d) (acts_at before d) (acts_at after d)

@@ -139,12 +139,17 @@ moves Ends c came sent made old new does_ stands =
     }
 moves Stays c came sent made old new does_ stands = same_front c came sent made old new (ap (λ (d : DownSeen). d.front) does_) stands
 
+waits_on : (c : ℕ) (came sent : List ℕ) (made more : List LogEntry) (old new : DownSeen) (call : _) → GoesWith false call more old new → Stands c came made sent old
+    → Stands c (came ++ []) (made ++ more) (sent ++ []) new
+waits_on c came sent made more old new call does_ stands =
+    subst (λ (x : List LogEntry). Stands c (came ++ []) (made ++ x) (sent ++ []) new) (sym does_.1) (same_front c came sent made old new (ap (λ (d : DownSeen). d.front) does_.0) stands)
+
 goes_on : (b : Bool) (m : Message) (c : ℕ) (came sent : List ℕ) (made more : List LogEntry) (old new : DownSeen) (call : _) → GoesWith b call more old new → Stands c came made sent old
     → Stands c (came ++ []) (made ++ more) (sent ++ []) new
-goes_on false m c came sent made more old new call does_ stands =
-    subst (λ (x : List LogEntry). Stands c (came ++ []) (made ++ x) (sent ++ []) new) (sym does_.1) (same_front c came sent made old new (ap (λ (d : DownSeen). d.front) does_.0) stands)
-goes_on true m c came sent made more old new call does_ stands =
+goes_on false m c came sent made more old new call does_ stands = waits_on c came sent made more old new call does_ stands
+goes_on true m c came sent made more old new call (inl does_) stands =
     subst (λ (x : List LogEntry). Stands c (came ++ []) (made ++ x) (sent ++ []) new) does_.0.2 (left echoes does_.0.0 c came sent made old new does_.0.1 stands)
+goes_on true m c came sent made more old new call (inr does_) stands = waits_on c came sent made more old new call does_ stands
 
 step : (act : DownAct) (c : ℕ) (came sent : List ℕ) (made : List LogEntry) (old new : DownSeen) → DownDoes act old new → Stands c came made sent old
     → Stands c (came ++ taken_by act) (made ++ made_by act) (sent ++ sent_by act) new
@@ -158,7 +163,8 @@ step (Answers m call answer more) c came sent made old new does_ stands =
 silent : (b : Bool) (m : Message) (c : ℕ) (more : List LogEntry) (old new : DownSeen) (call : _) → old.front.server.connection ≡ c → WaitsAt old.front.server 0 m
     → GoesWith b call more old new → (more ≡ []) ⊎ IsEntryWith c m m.content more
 silent false m c more old new call number waits does_ = inl does_.1
-silent true m c more old new call number waits does_ =
+silent true m c more old new call number waits (inr does_) = inl does_.1
+silent true m c more old new call number waits (inl does_) =
     let l = does_.0.1 in
     inr (subst (IsEntryWith c m m.content) does_.0.2
     (entry_by echoes does_.0.0 c m m.content (λ given after is. is) l.result old.front.server l.step.server l.after l.log l.left number waits l.step.step))

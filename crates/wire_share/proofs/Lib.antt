@@ -3,6 +3,7 @@ pub mod Records
 pub mod Parts
 pub mod Among
 pub mod Pairing
+pub mod Lasts
 pub mod Mixing
 pub mod Servers
 pub mod Answering

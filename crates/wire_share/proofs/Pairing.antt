@@ -1,5 +1,5 @@
 -- A request is answered with the reply to the call that it was passed on as.
-use Rattle.std.proofs.Common.{◌≡◌, ◌≢◌, ℕ, Bool, true, false, List, [], ◌∷◌, refl, sym, ◌∙◌, ap, subst, Some, inl, inr}
+use Rattle.std.proofs.Common.{◌≡◌, ◌≢◌, ℕ, Bool, true, false, List, [], ◌∷◌, ◌++◌, refl, sym, ◌∙◌, ap, subst, Some, inl, inr}
 use Rattle.std.specs.Prelude.{slice_get}
 use Rattle.std.proofs.lemmas.Option.{none-some, same_Some}
 use Rattle.wire_msg.specs.{Content, Message, SpellsMsg}
@@ -36,7 +36,8 @@ goes P m call old new waits p is = subst (Fits P) (sym is) fits
 
 goes_with : (P : Message → Awaited → Type 0) (m : Message) (call : Awaited) (made : List LogEntry) (old new : DownSeen) (b : Bool) → WaitsAt old.front.server 0 m → P m call
     → GoesWith b call made old new → Fits P new
-goes_with P m call made old new true waits p gone = λ c is. absurd (none-some c (sym gone.1 ∙ is))
+goes_with P m call made old new true waits p (inl gone) = λ c is. absurd (none-some c (sym gone.1 ∙ is))
+goes_with P m call made old new true waits p (inr is) = goes P m call old new waits p is.0
 goes_with P m call made old new false waits p is = goes P m call old new waits p is.0
 
 ended_waits : (state : FrontState) (part : List ℕ) (f : FrontView) → (ended_by state part f).server.waiting ≡ f.server.waiting
@@ -64,6 +65,20 @@ step P (Moves move) old new fits own does_ = λ call is.
     )
 step P (PassesOn m call made) old new fits own does_ = goes_with P m call made old new m.flags.more_to_come does_.0.at (own m call made refl) does_.1
 step P (Answers m call answer made) old new fits own does_ = λ c is. absurd (none-some c (sym does_.3 ∙ is))
+
+-- a run of acts and further ones
+pub split_run : (acts more : List DownAct) (old new : DownSeen) → DownRun old (acts ++ more) new → (mid : DownSeen) × DownRun old acts mid × DownRun mid more new
+split_run [] more old new run = (old, refl, run)
+split_run (act ∷ acts) more old new run =
+    let rest = split_run acts more run.0 new run.2 in
+    (rest.0, (run.0, run.1, rest.1), rest.2)
+
+-- what holds of each call that a request is passed on as holds of the call that is awaited
+pub fits_on : (P : Message → Awaited → Type 0) (acts : List DownAct) (old new : DownSeen) → Fits P old
+    → ((m : Message) (call : Awaited) (made : List LogEntry) → Inside (PassesOn m call made) acts → P m call) → DownRun old acts new → Fits P new
+fits_on P [] old new fits all run = subst (Fits P) (sym run) fits
+fits_on P (act ∷ acts) old new fits all run =
+    fits_on P acts run.0 new (step P act old run.0 fits (λ n c told is. all n c told (inl is)) run.1) (λ n c told j. all n c told (inr j)) run.2
 
 -- what holds of each call that a request is passed on as holds of each call whose reply it gets
 pub paired : (P : Message → Awaited → Type 0) (acts : List DownAct) (old new : DownSeen) → Fits P old

@@ -1,5 +1,5 @@
 -- What is done with the two ends of a proxy, act by act.
-use Rattle.std.specs.Prelude.{◌≡◌, ℕ, ◌==◌, if◌then◌else◌, true, List, [], ◌∷◌, Option, Some}
+use Rattle.std.specs.Prelude.{◌≡◌, ◌⊎◌, ℕ, ◌==◌, if◌then◌else◌, true, List, [], ◌∷◌, Option, Some}
 use Rattle.std.specs.Prelude.{None, ◌++◌, Bool, false}
 use Rattle.wire_msg.specs.{Content, Message}
 use Rattle.wire_msg.specs.declared.payloads.Payload.{Payload}
@@ -42,13 +42,15 @@ DownMoves (Sends bytes) old new =
 DownMoves Ends old new = new ≡ record old { front = ended_front old.front }
 DownMoves Stays old new = new ≡ old
 
--- what became of a request that was made a call, as `GoesOn`, with the entries that it made
+-- What became of a request that was made a call, as `GoesOn`, with the entries that it made; or
+-- memory ran out for the entry of one that wants no reply, which waits on.
 abbrev pub GoesWith : (more_to_come : Bool) → Awaited → List LogEntry → DownSeen → DownSeen
     → Type 0
 GoesWith false call made old new = (new ≡ record old { awaited = Some call }) × (made ≡ [])
 GoesWith true call made old new =
-    ((h : Echo) × (leaves : Leaves echoes h old.front new.front) × (leaves.log ≡ made))
-    × (new.awaited ≡ None)
+    (((h : Echo) × (leaves : Leaves echoes h old.front new.front) × (leaves.log ≡ made))
+    × (new.awaited ≡ None))
+    ⊎ ((new ≡ record old { awaited = Some call }) × (made ≡ []))
 
 -- the act was done
 abbrev pub DownDoes : DownAct → DownSeen → DownSeen → Type 0
@@ -69,8 +71,7 @@ DownRun old (act ∷ acts) new = (mid : DownSeen) × DownDoes act old mid × Dow
 
 -- An act at a downstream d and an upstream u: bytes are moved at one of them; the request m of d,
 -- whose payload this is, is passed on as a call of u; the reply that u has ready, which is this
--- message, is what the request m of d is answered with; or that reply is let go of, since nobody
--- awaits it.
+-- message, is what the request m of d is answered with; or that reply is let go of.
 pub data ShareAct : Type 0 where
   MovesDown : (d : ℕ) → (move : DownMove) → ShareAct
   SendsUp : (u : ℕ) → (bytes : List ℕ) → ShareAct
@@ -82,15 +83,15 @@ pub data ShareAct : Type 0 where
       → (made : List LogEntry) → ShareAct
   LetsGo : (u : ℕ) → (reply : ReadyReply) → (answer : Message) → ShareAct
 
--- the payload is that of the request; and each reply that is taken is the only one of its call
+-- the payload is that of the request
 abbrev pub IsFit : ShareAct → Type 0
 IsFit (MovesDown d move) = Unit {0}
 IsFit (SendsUp u bytes) = Unit {0}
 IsFit (TakesUp u bytes) = Unit {0}
 IsFit (EndsUp u) = Unit {0}
 IsFit (Passes d u m payload call made) = content_of payload ≡ m.content
-IsFit (Gives d u m reply answer made) = reply.last ≡ true
-IsFit (LetsGo u reply answer) = reply.last ≡ true
+IsFit (Gives d u m reply answer made) = Unit {0}
+IsFit (LetsGo u reply answer) = Unit {0}
 
 abbrev pub AreFit : List ShareAct → Type 0
 AreFit [] = Unit {0}

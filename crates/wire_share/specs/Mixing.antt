@@ -1,11 +1,13 @@
 -- That answers are never mixed.
 use Rattle.std.specs.Prelude.{◌≡◌, ℕ, pos, ◌≤◌, List, [], ◌∷◌, ◌++◌, Some, slice_get}
 use Rattle.wire_msg.specs.{Message}
+use Rattle.wire_msg.specs.declared.payloads.Payload.{Payload}
 use Rattle.wire_peer.specs.{LogEntry}
 use Rattle.wire_peer.specs.declared.call_table.ReadyReply.{ReadyReply}
+use Rattle.wire_peer.specs.declared.calls.CallNo.{CallNo}
 use Rattle.wire_model.specs.{Done, Record}
 use Rattle.wire_channels.specs.{ClientEnd, Made}
-use Rattle.wire_share.specs.Acts.{Gives, ShareAct}
+use Rattle.wire_share.specs.Acts.{Gives, Passes, ShareAct}
 
 -- the act is one of them
 abbrev pub IsAmong : ShareAct → List ShareAct → Type 0
@@ -27,9 +29,13 @@ pub record IsReplyTo (u : ℕ) (m answer : Message) (call : ℕ) (end : ClientEn
   pub parts : record_.parts ≡ answer.content ∷ []
   pub done : record_.state ≡ Done
 
--- Each request that is answered gets the reply to a call of its own payload, and no later request
--- gets that of the same call.
+-- Each request that is answered gets the reply to the call that it was itself passed on as, before
+-- that, and which has its own payload; and no later request gets that of the same call.
 pub record NeverMixed (acts : List ShareAct) (ends : ℕ → ClientEnd) : Type 0 where
+  pub passed : (before after : List ShareAct) (d u : ℕ) (m answer : Message) (reply : ReadyReply)
+      (made : List LogEntry) → acts ≡ before ++ Gives d u m reply answer made ∷ after
+      → (payload : Payload) × (call : CallNo) × (told : List LogEntry)
+      × IsAmong (Passes d u m payload call told) before × (call.number ≡ reply.call)
   pub own : (d u : ℕ) (m answer : Message) (reply : ReadyReply)
       (made : List LogEntry) → IsAmong (Gives d u m reply answer made) acts
       → IsReplyTo u m answer reply.call (ends u)

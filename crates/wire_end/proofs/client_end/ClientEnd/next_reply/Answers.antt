@@ -5,13 +5,13 @@ use Rattle.wire_channels.specs.Owners.{EndsDown}
 use Rattle.wire_end.specs.Ends.{EndRuns, EndSeen}
 use Rattle.wire_end.specs.Steps.{CollectsAs}
 use Rattle.wire_end.proofs.Closing.{ends_told, ends_untold}
-use Rattle.wire_end.proofs.Runs.{closes_on, hands_on, hears_short, stands_short}
+use Rattle.wire_end.proofs.Runs.{closes_on, hands_on, hears_short}
 use Rattle.wire_end.proofs.client_end.ClientEnd.next_reply.Goals as goal
 
 pub returns-in_err-receive-clause-stands : goal.returns-in_err-receive-clause-stands
 returns-in_err-receive-clause-stands g c =
     let p = err_from_is_err_and c.from_residual.result c.from_residual.ensures.1 in
-    rw (p.1, p.2) (stands_short _ _ c.in_err-receive.ensures.closes)
+    rw (p.1, p.2) c.in_err-receive.ensures.stands
 
 pub returns-in_err-receive-clause-handed : goal.returns-in_err-receive-clause-handed
 returns-in_err-receive-clause-handed g c =
