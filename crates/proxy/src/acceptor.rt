@@ -2,11 +2,12 @@
 
 use mio::net::{TcpListener, TcpStream};
 use mio::{Events, Interest, Poll, Token};
+use sockets::IoFailure;
 use std::alloc::Global;
-use std::io;
-use std::io::ErrorKind;
+use std::io::{ErrorKind, Write};
 use std::net::{Net, SocketAddr};
 use std::time::Duration;
+use std::{fmt, io};
 
 /// The token of the listener.
 pub const LISTENER: Token = Token(usize::MAX);
@@ -31,12 +32,43 @@ enum Standing {
     Pauses,
 }
 
+/// Why no more connections are accepted for now.
+#[derive(Clone, Copy, Debug, PartialEq, Eq)]
+enum Why {
+    /// As many connections are open as may be.
+    Room,
+    /// Accepting one failed, or no open file was left for it.
+    Failed(IoFailure),
+}
+
+impl fmt::Display for Why {
+    fn fmt<W: fmt::Write>(&self, f: &mut fmt::Formatter<W>) -> fmt::Result {
+        match self {
+            Why::Room => f.write_str("as many connections are open as may be"),
+            Why::Failed(failure) => write!(f, "{failure}"),
+        }
+    }
+}
+
+/// Whether connections may wait that aren't accepted for now.
+#[derive(Clone, Copy, Debug, PartialEq, Eq)]
+enum Backlog {
+    /// None waits.
+    None,
+    /// They may, for this reason, which wasn't written yet.
+    Untold(Why),
+    /// They may, and why was written.
+    Told,
+}
+
 /// A listener, and what tells of its connections and of others.
 #[derive(Drop)]
 pub struct Acceptor {
     poll: Poll,
-    listener: TcpListener,
+    /// The listener, until as many connections came as are wanted.
+    listener: Option<TcpListener>,
     standing: Standing,
+    backlog: Backlog,
     /// A connection that came, and is accepted once more.
     returned: Option<TcpStream>,
     /// How many more connections are accepted.
@@ -56,8 +88,9 @@ impl Acceptor {
             .register(&mut listener, LISTENER, Interest::READABLE)?;
         Ok(Acceptor {
             poll,
-            listener,
+            listener: (wanted > 0).then_some(listener),
             standing: Standing::Ready,
+            backlog: Backlog::None,
             returned: None,
             wanted,
         })
@@ -98,40 +131,66 @@ impl Acceptor {
         self.standing == Standing::Ready
     }
 
-    /// Returns the next connection, if one waits, one more is wanted and there is room for it.
+    /// Returns the next connection, if one waits, one more is wanted and there is room for it. Who
+    /// comes behind the last one that is wanted is refused.
     pub fn accept(&mut self, has_room: bool) -> Option<TcpStream> {
         if !has_room {
-            self.standing = Standing::Waits;
+            self.hold_back(Standing::Waits, Why::Room);
             return None;
         }
         if let Some(stream) = self.returned.take() {
             return Some(stream);
         }
-        if self.wanted == 0 {
+        let Some(listener) = &self.listener else {
             self.standing = Standing::Waits;
             return None;
-        }
-        match self.listener.accept() {
+        };
+        match listener.accept() {
             Ok((stream, _)) => {
-                self.wanted -= 1;
+                self.wanted = self.wanted.saturating_sub(1);
+                if self.wanted == 0 {
+                    self.listener = None;
+                }
                 Some(stream)
             }
             Err(error) if error.kind() == ErrorKind::WouldBlock => {
+                self.backlog = Backlog::None;
                 self.standing = Standing::Waits;
                 None
             }
-            Err(_) => {
-                self.standing = Standing::Pauses;
+            Err(error) => {
+                self.hold_back(Standing::Pauses, Why::Failed(IoFailure::of(&error)));
                 None
             }
         }
     }
 
+    /// Notes why no more connections are accepted for now.
+    fn hold_back(&mut self, standing: Standing, why: Why) {
+        self.standing = standing;
+        if self.backlog == Backlog::None {
+            self.backlog = Backlog::Untold(why);
+        }
+    }
+
     /// Takes a connection back, for which there are no open files left. It is accepted once more,
     /// after a pause.
-    pub fn take_back(&mut self, stream: TcpStream) {
+    pub fn take_back(&mut self, stream: TcpStream, failure: IoFailure) {
         self.returned = Some(stream);
-        self.standing = Standing::Pauses;
+        self.hold_back(Standing::Pauses, Why::Failed(failure));
+    }
+
+    /// Writes why no more connections are accepted for now, once until none waits again.
+    ///
+    /// # Errors
+    ///
+    /// Returns an error if writing fails.
+    pub fn tell_backlog<W: Write>(&mut self, out: &mut W) -> io::Result<()> {
+        let Backlog::Untold(why) = self.backlog else {
+            return Ok(());
+        };
+        self.backlog = Backlog::Told;
+        writeln!(out, "accepting waits: {why}")
     }
 
     /// Returns how long events are waited for: not at all if a connection may wait or there is more

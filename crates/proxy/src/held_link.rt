@@ -319,6 +319,11 @@ impl<L: Link + Drop> HeldLink<L> {
         self.failures > 0
     }
 
+    /// Returns the link under it.
+    pub fn link(&self) -> &L {
+        &self.held.link
+    }
+
     /// Returns true if its sending was ended.
     pub fn has_ended_sending(&self) -> bool {
         self.has_ended

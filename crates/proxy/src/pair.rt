@@ -7,6 +7,7 @@ use crate::held_link::HeldLink;
 use crate::sink::Sink;
 use crate::socket::Socket;
 use crate::watch::Watches;
+use sockets::IoFailure;
 use std::alloc::{AllocError, Global};
 use std::io;
 use std::io::{ErrorKind, Write};
@@ -54,6 +55,8 @@ pub struct Pair {
     alloc: Global,
     number: u64,
     relay: Relay<HeldLink<Socket>, HeldLink<Socket>>,
+    /// The connection to the server is still being made.
+    connecting: bool,
     watches: Option<Watches>,
     /// What becomes of replies that don't go on whole.
     marks: Vec<Mark>,
@@ -79,6 +82,7 @@ impl Pair {
             alloc,
             number,
             relay,
+            connecting: true,
             watches,
             marks: Vec::new(alloc),
             delayed: false,
@@ -300,6 +304,21 @@ impl Pair {
         Ok(Outcome::Again)
     }
 
+    /// Returns what a turn comes to before the connection to the server stands, and `None` where it
+    /// does. Until then nothing is moved, and no end is passed on, which would break it off.
+    fn connect(&mut self) -> Option<Outcome> {
+        if self.connecting {
+            match self.relay.far().link().is_connected() {
+                Ok(connected) => self.connecting = !connected,
+                Err(error) => {
+                    let failure = IoFailure::of(&error);
+                    return Some(Outcome::Over(Ending::Unconnected(failure)));
+                }
+            }
+        }
+        self.connecting.then_some(Outcome::Waits)
+    }
+
     /// Takes a turn, and gives the messages that are whole then to the sink.
     ///
     /// # Errors
@@ -311,6 +330,9 @@ impl Pair {
         sink: &mut Sink<'_, R>,
         out: &mut W,
     ) -> io::Result<Outcome> {
+        if let Some(outcome) = self.connect() {
+            return Ok(outcome);
+        }
         let outcome = match script {
             Some(script) => self.turn_by(script, sink, out)?,
             None if self.watches.is_some() => self.turn_watched(sink, out)?,

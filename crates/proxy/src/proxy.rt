@@ -1,6 +1,7 @@
 //! Accepts connections, and passes their bytes to a server and back.
 
 use crate::acceptor::{ACCEPTS, Acceptor, LISTENER};
+use crate::event_loop::EventLoop;
 use crate::options::Options;
 use crate::pairs::{Faults, Pairs, ROOM};
 use crate::sink::Sink;
@@ -59,11 +60,6 @@ impl Proxy {
         })
     }
 
-    /// Returns how many pairs ended.
-    pub fn ended(&self) -> u64 {
-        self.pairs.ended()
-    }
-
     /// Registers both connections of a pair.
     fn register(&self, near: &mut TcpStream, far: &mut TcpStream) -> io::Result<()> {
         let token = self.pairs.next_key().saturating_mul(2);
@@ -89,7 +85,7 @@ impl Proxy {
         match TcpStream::connect(net, self.upstream) {
             Ok(far) => self.join(near, far, out),
             Err(error) if leaves_no_file(&error) && self.pairs.len() > 0 => {
-                self.acceptor.take_back(near);
+                self.acceptor.take_back(near, IoFailure::of(&error));
                 Ok(())
             }
             Err(error) => self.pairs.refuse(IoFailure::of(&error), out),
@@ -107,7 +103,7 @@ impl Proxy {
                 break;
             }
         }
-        Ok(())
+        self.acceptor.tell_backlog(out)
     }
 
     /// Has each pair of which these events are take a turn.
@@ -126,14 +122,14 @@ impl Proxy {
         }
         Ok(())
     }
+}
 
-    /// Waits for events, passes what can be passed, and gives the messages of it to the sink. What
-    /// is shown or recorded until now is written before it waits.
-    ///
-    /// # Errors
-    ///
-    /// Returns an error if waiting or writing fails, or memory runs out.
-    pub fn serve_some<R: Net + Files + Clock, W: Write>(
+impl EventLoop for Proxy {
+    fn is_over(&self, wanted: u64) -> bool {
+        self.pairs.ended() >= wanted
+    }
+
+    fn serve_some<R: Net + Files + Clock, W: Write>(
         &mut self,
         rt: &R,
         events: &mut Events<Global>,

@@ -1,21 +1,22 @@
 //! Runs a proxy, from its first line until enough connections ended.
 
 use crate::acceptor::EVENTS;
+use crate::event_loop::serve;
 use crate::fault::ProxyFault;
 use crate::options::Options;
 use crate::pairs::Faults;
 use crate::proxy::Proxy;
 use crate::sink::Sink;
 use mio::Events;
-use mio::net::TcpListener;
+use mio::net::{TcpListener, UdpSocket};
 use sockets::address_of;
 use std::alloc::Global;
 use std::fs::File;
-use std::io;
-use std::io::{BufWriter, ErrorKind, Read, Write};
+use std::io::{BufWriter, ErrorKind, Write};
 use std::net::{IpAddr, Ipv4Addr, Ipv6Addr, Net, SocketAddr};
 use std::rt::Files;
 use std::time::Clock;
+use std::{fs, io};
 use test_script::{Cause, Script};
 
 /// Returns the address that a connection to this one comes to: of all addresses the loopback one.
@@ -27,9 +28,20 @@ fn reached(address: IpAddr) -> IpAddr {
     }
 }
 
-/// Returns true if this machine has the address, so that a listener can be bound at it.
+/// Returns the address from which this machine sends to another one. No packet is sent.
+fn sender<R: Net>(rt: &R, address: IpAddr) -> io::Result<IpAddr> {
+    let any = match address {
+        IpAddr::V4(_) => IpAddr::V4(Ipv4Addr::UNSPECIFIED),
+        IpAddr::V6(_) => IpAddr::V6(Ipv6Addr::UNSPECIFIED),
+    };
+    let socket = UdpSocket::bind(rt, SocketAddr::new(any, 0))?;
+    socket.connect(SocketAddr::new(address, 9))?;
+    Ok(socket.local_addr()?.ip())
+}
+
+/// Returns true if this machine has the address, so that it sends to it from there.
 fn is_own<R: Net>(rt: &R, address: IpAddr) -> bool {
-    address.is_loopback() || TcpListener::bind(rt, SocketAddr::new(address, 0)).is_ok()
+    address.is_loopback() || matches!(sender(rt, address), Ok(own) if own == address)
 }
 
 /// Returns true if who connects to `address` comes to the listener at `local`. One that listens at
@@ -53,20 +65,13 @@ fn tell_port<R: Files>(rt: &R, file: Option<&str>, port: u16) -> Result<(), Prox
     write_port(rt, file, port).map_err(ProxyFault::PortFile)
 }
 
-/// Returns the bytes of a file.
-fn read_file<R: Files>(rt: &R, alloc: Global, file: &str) -> io::Result<Vec<u8>> {
-    let mut bytes = Vec::new(alloc);
-    File::open(rt, file)?.read_to_end(&mut bytes)?;
-    Ok(bytes)
-}
-
 /// Reads the script, if a file of one is given.
 ///
 /// # Errors
 ///
 /// Returns `Script` if the script is at fault, `ScriptFile` if it can't be read or memory runs out
 /// meanwhile, and `Io` if memory runs out for its rules.
-pub fn read_script<R: Files>(
+pub fn read_script<R: Files + Alloc>(
     rt: &R,
     alloc: Global,
     file: Option<&str>,
@@ -74,7 +79,7 @@ pub fn read_script<R: Files>(
     let Some(file) = file else {
         return Ok(None);
     };
-    let text = read_file(rt, alloc, file).map_err(ProxyFault::ScriptFile)?;
+    let text = fs::read(rt, file).map_err(ProxyFault::ScriptFile)?;
     match Script::parse(alloc, &text) {
         Ok(script) => Ok(Some(script)),
         Err(fault) if fault.cause == Cause::OutOfMemory => {
@@ -117,24 +122,6 @@ pub fn listen<'r, R: Net + Files + Clock, W: Write>(
     Ok((listener, upstream, sink))
 }
 
-/// Passes connections to the server until as many of them ended as wanted.
-fn serve<R: Net + Files + Clock, W: Write>(
-    rt: &R,
-    proxy: &mut Proxy,
-    wanted: u64,
-    events: &mut Events<Global>,
-    sink: &mut Sink<'_, R>,
-    out: &mut W,
-) -> io::Result<()> {
-    for _ in 0..u64::MAX {
-        if proxy.ended() >= wanted {
-            break;
-        }
-        proxy.serve_some(rt, events, sink, out)?;
-    }
-    out.flush()
-}
-
 /// Listens where the options say, and passes connections to the server until as many of them ended
 /// as they ask for. Writes to `out` where it listens, and what is shown of the connections, and to
 /// the file of records the messages. Opens no socket and no file if they ask for 0 connections.
@@ -142,10 +129,8 @@ fn serve<R: Net + Files + Clock, W: Write>(
 /// # Errors
 ///
 /// Returns `Script` or `ScriptFile` if the script is at fault or can't be read, which is told before
-/// it listens; the errors of `listen`; `RecordFile` if the file of records can't be written; and `Io`
-/// if writing or waiting fails later, or memory runs out. A connection that fails ends alone. What
-/// was recorded by then is written to the file.
-pub fn run<R: Net + Files + Clock, W: Write + Drop>(
+/// it listens; and the errors of `listen` and `serve`. A connection that fails ends alone.
+pub fn run<R: Net + Files + Clock + Alloc, W: Write + Drop>(
     rt: &R,
     alloc: Global,
     options: Options<'_>,
@@ -159,15 +144,8 @@ pub fn run<R: Net + Files + Clock, W: Write + Drop>(
         return Ok(());
     }
     let mut out = BufWriter::new(alloc, out)?;
-    let mut events = Events::with_capacity(alloc, EVENTS)?;
-    let (listener, upstream, mut sink) = listen(rt, alloc, options, &mut out)?;
+    let events = Events::with_capacity(alloc, EVENTS)?;
+    let (listener, upstream, sink) = listen(rt, alloc, options, &mut out)?;
     let mut proxy = Proxy::new(rt, alloc, listener, upstream, options, faults)?;
-    let wanted = options.connections;
-    let served = match serve(rt, &mut proxy, wanted, &mut events, &mut sink, &mut out) {
-        Ok(()) => Ok(()),
-        Err(error) => Err(sink.fault_of(error)),
-    };
-    let recorded = sink.flush().map_err(ProxyFault::RecordFile);
-    served?;
-    recorded
+    serve(rt, &mut proxy, options.connections, events, sink, &mut out)
 }

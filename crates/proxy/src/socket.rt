@@ -58,6 +58,15 @@ impl Socket {
             endings: 0,
         })
     }
+
+    /// Returns true if the connection stands, and false while it is still being made.
+    ///
+    /// # Errors
+    ///
+    /// Returns why it can't be made.
+    pub fn is_connected(&self) -> io::Result<bool> {
+        sockets::is_connected(&self.stream)
+    }
 }
 
 impl Link for Socket {

@@ -118,9 +118,7 @@ impl<'a, W: Write + Drop> Player<'a, W> {
         let Some(due) = earlier(until, self.least_due()) else {
             return Ok(None);
         };
-        let left = due.saturating_duration_since(Instant::now(clock)?);
-        // A wait counts milliseconds, and none would end before the moment.
-        Ok(left.checked_add(Duration::from_millis(1)))
+        Ok(Some(due.saturating_duration_since(Instant::now(clock)?)))
     }
 
     /// Tells which answers are missing by now.

@@ -92,6 +92,13 @@ impl Client {
         matches!(self.downstream.awaited(), Some(awaited) if awaited.upstream == upstream)
     }
 
+    /// Returns true if a request of it wasn't passed on yet, and nothing waits to be sent to it.
+    pub fn asks(&self) -> bool {
+        self.downstream.request().is_some()
+            && self.downstream.output().is_empty()
+            && self.steering.reply.is_empty()
+    }
+
     /// Has the connection closed behind what waits to be sent, since the one to the server that it
     /// alone uses is lost.
     pub fn finish(&mut self)

@@ -12,6 +12,7 @@ use proxy::{Acceptor, Socket, drawn_cut};
 use sockets::IoFailure;
 use std::alloc::{AllocError, Global};
 use std::io;
+use std::io::Write;
 use std::net::{Net, SocketAddr};
 use std::time::Duration;
 
@@ -68,6 +69,15 @@ impl Connector {
         least: Option<Duration>,
     ) -> io::Result<()> {
         self.acceptor.wait(events, has_more, least)
+    }
+
+    /// Writes why no more connections are accepted for now, once until none waits again.
+    ///
+    /// # Errors
+    ///
+    /// Returns an error if writing fails.
+    pub fn tell_backlog<W: Write>(&mut self, out: &mut W) -> io::Result<()> {
+        self.acceptor.tell_backlog(out)
     }
 
     /// Makes the line of a client.

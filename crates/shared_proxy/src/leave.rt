@@ -1,6 +1,6 @@
 //! Why a connection is over.
 
-use proxy::{Direction, is_refused};
+use proxy::Direction;
 use sockets::IoFailure;
 use std::fmt;
 use std::io::ErrorKind;
@@ -12,7 +12,7 @@ use wire_stream::LinkFault;
 /// Why a connection is over.
 #[derive(Clone, Copy, Debug, PartialEq, Eq)]
 pub enum Leave {
-    /// The peer ended it, and owes nothing.
+    /// The peer ended it, between messages.
     Ended,
     /// Moving bytes failed.
     Failed(RelayFault),
@@ -88,9 +88,6 @@ impl fmt::Display for Leave {
     fn fmt<W: fmt::Write>(&self, f: &mut fmt::Formatter<W>) -> fmt::Result {
         match *self {
             Leave::Ended => f.write_str("ended"),
-            Leave::Failed(fault) if is_refused(fault) => {
-                f.write_str("failed: connecting: connection refused")
-            }
             Leave::Failed(fault) => write!(f, "failed: {fault}"),
             Leave::BadClient(cause) => write!(f, "closed: {cause}"),
             Leave::BadServer(cause) => write!(f, "closed: {cause}"),

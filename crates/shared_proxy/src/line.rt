@@ -5,6 +5,7 @@ ghost use Rattle.wire_stream.specs.{bytes_moved};
 
 use crate::leave::Leave;
 use proxy::{Cut, Direction, HeldLink, Socket};
+use sockets::IoFailure;
 use std::alloc::{AllocError, Global};
 use wire_frame::RawFrame;
 use wire_stream::{Inlet, Link, Moved, Pulled};
@@ -36,6 +37,8 @@ struct Sending {
 #[derive(Drop)]
 pub struct Line {
     link: HeldLink<Socket>,
+    /// The connection is still being made.
+    connecting: bool,
     inlet: Inlet,
     sending: Sending,
 }
@@ -49,6 +52,7 @@ impl Line {
     pub fn of_client(alloc: Global, socket: Socket) -> Result<Line, AllocError> {
         Ok(Line {
             link: HeldLink::new(alloc, socket, u64::MAX),
+            connecting: false,
             inlet: Inlet::new(alloc)?,
             sending: Sending {
                 direction: Direction::Back,
@@ -70,6 +74,7 @@ impl Line {
         };
         Ok(Line {
             link: HeldLink::new(alloc, socket, back),
+            connecting: true,
             inlet: Inlet::new(alloc)?,
             sending: Sending {
                 direction: Direction::There,
@@ -117,10 +122,25 @@ impl Line {
         }
     }
 
+    /// Returns true if the connection stands, and false while it is still being made; or why it can't
+    /// be made.
+    fn stands(&mut self) -> Result<bool, Leave> {
+        if self.connecting {
+            match self.link.link().is_connected() {
+                Ok(connected) => self.connecting = !connected,
+                Err(error) => return Err(Leave::Unconnected(IoFailure::of(&error))),
+            }
+        }
+        Ok(!self.connecting)
+    }
+
     /// Sends bytes from the front of `bytes`, and returns how many, or why the connection is over.
     pub fn send(&mut self, bytes: &[u8]) -> Result<Moved, Leave>
         ensures { IfOk result (λ moved. bytes_moved moved ≤ length bytes.now) }
     {
+        if !self.stands()? {
+            return Ok(Moved::Later);
+        }
         let most = bytes.len().min(self.sending.left as usize);
         match self.link.send(&bytes[..most]) {
             Ok(Moved::Bytes(n)) => {
@@ -145,6 +165,9 @@ impl Line {
 
     /// Receives bytes, if none are there. Returns why the connection is over, if it is.
     pub fn pull(&mut self) -> Result<Pulled, Leave> {
+        if !self.stands()? {
+            return Ok(Pulled::Later);
+        }
         match self.inlet.pull(&mut self.link) {
             Ok(Pulled::End) => match self.link.cut_at() {
                 Some(count) => Err(Leave::Cut(Direction::Back, count)),

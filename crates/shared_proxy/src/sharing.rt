@@ -130,11 +130,12 @@ impl Sharing {
         Ok(self.leave_transactions(number)?)
     }
 
-    /// Closes the client of this number, if it awaits a reply of a connection that was lost; or, if
-    /// it uses that alone, behind what waits to be sent to it.
+    /// Closes the client of this number, if it awaits a reply of a connection that was lost, or uses
+    /// that alone: with its request, if it has one, and else behind what waits to be sent to it.
     fn lose_call<W: Write>(&mut self, number: u64, upstream: u64, out: &mut W) -> io::Result<()> {
         match self.clients.get_mut(number) {
-            Some(client) if client.awaits(upstream) => {
+            Some(client)
+                if client.awaits(upstream) || client.kept == Some(upstream) && client.asks() => {
                 self.close(number, Leave::Lost(upstream), out)
             }
             Some(client) if client.kept == Some(upstream) => {

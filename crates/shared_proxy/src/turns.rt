@@ -6,7 +6,7 @@ use crate::line::Step;
 use crate::sharing::Sharing;
 use crate::steering::{Steered, release, steer};
 use mio::Events;
-use proxy::{ACCEPTS, LISTENER, Sink};
+use proxy::{ACCEPTS, EventLoop, LISTENER, Sink};
 use sockets::IoFailure;
 use std::alloc::Global;
 use std::io;
@@ -43,11 +43,6 @@ impl Turns {
             sharing,
             script,
         }
-    }
-
-    /// Returns true if so many clients are gone, and nothing waits to be sent to the server.
-    pub fn are_over(&self, wanted: u64) -> bool {
-        self.sharing.clients.ended() >= wanted && !self.sharing.servers.has_output()
     }
 
     /// Does with the request that a client's line holds what the script says.
@@ -202,16 +197,16 @@ impl Turns {
                 None => break,
             }
         }
-        Ok(())
+        self.sharing.connector.tell_backlog(out)
+    }
+}
+
+impl EventLoop for Turns {
+    fn is_over(&self, wanted: u64) -> bool {
+        self.sharing.clients.ended() >= wanted && !self.sharing.servers.has_output()
     }
 
-    /// Waits for events, passes what can be passed, and gives the messages of it to the sink. What
-    /// is shown or recorded until now is written before it waits.
-    ///
-    /// # Errors
-    ///
-    /// Returns an error if waiting or writing fails, or memory runs out.
-    pub fn serve_some<R: Net + Files + Clock, W: Write>(
+    fn serve_some<R: Net + Files + Clock, W: Write>(
         &mut self,
         rt: &R,
         events: &mut Events<Global>,

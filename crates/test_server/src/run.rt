@@ -210,7 +210,7 @@ fn serve_at<R: Net + Files + Input + Clock, W: Output>(
 
 /// Reads the script, if the words name one, and serves what they ask for. Writes to `out` what was
 /// asked and answered, unless they ask for quiet, between a first line and a last one.
-pub fn run<R: Net + Files + Input + Clock, W: Output>(
+pub fn run<R: Net + Files + Input + Clock + Alloc, W: Output>(
     rt: &R,
     alloc: Global,
     choice: Choice<'_>,

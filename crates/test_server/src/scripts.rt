@@ -6,9 +6,7 @@ ghost use Rattle.test_server.specs.Runs.{AreRead, IsRefused};
 
 use crate::stop::{ServingEnd, Stop, wants_memory};
 use std::alloc::Global;
-use std::fs::File;
-use std::io;
-use std::io::Read;
+use std::fs;
 use std::rt::Files;
 use test_script::{Cause, Script, ScriptFault};
 
@@ -35,15 +33,8 @@ fn parse_scripts(alloc: Global, text: &[u8]) -> Result<Scripts, ScriptFault>
     Ok(Scripts { script, guide })
 }
 
-/// Returns the bytes of a file.
-fn read_file<R: Files>(rt: &R, alloc: Global, file: &str) -> io::Result<Vec<u8>> {
-    let mut bytes = Vec::new(alloc);
-    File::open(rt, file)?.read_to_end(&mut bytes)?;
-    Ok(bytes)
-}
-
 /// Reads the script, if a file of one is given, and else makes the one without rules.
-pub fn read_scripts<R: Files>(
+pub fn read_scripts<R: Files + Alloc>(
     rt: &R,
     alloc: Global,
     file: Option<&str>,
@@ -58,7 +49,7 @@ pub fn read_scripts<R: Files>(
             guide: Script::new(alloc),
         });
     };
-    let text = match read_file(rt, alloc, file) {
+    let text = match fs::read(rt, file) {
         Ok(text) => text,
         Err(error) if wants_memory(&error) => {
             return Err(ServingEnd::Stopped(Stop::OutOfMemory));
