@@ -4,7 +4,8 @@
     asyncio_driver.py HOST PORT [CALLS]    makes CALLS pings at once on one connection, 1000 unless told, and tells how many came back
 
 The client's end is lughemra's `Client`, which matches each reply with its call; asyncio's streams move the bytes. Each ping bears a
-number of its own. The status is 0 if each got its reply, 1 if one failed, and 3 if there is no connection.
+number of its own. The status is 0 if each got its reply, 1 if one failed, 2 if the words are others, and 3 if there is no
+connection, as behind a port that there can't be.
 """
 
 from __future__ import annotations
@@ -21,10 +22,16 @@ PIECE = 1 << 16
 class Connection:
     """Makes calls over one connection, as many at once as the client's window allows. The others wait for their turn."""
 
-    def __init__(self, reader: asyncio.StreamReader, writer: asyncio.StreamWriter, window: int = 1024) -> None:
+    def __init__(
+        self,
+        client: lughemra.Client,
+        window: int,
+        reader: asyncio.StreamReader,
+        writer: asyncio.StreamWriter,
+    ) -> None:
+        self.client = client
         self.reader = reader
         self.writer = writer
-        self.client = lughemra.Client(window=window)
         self.room = asyncio.Semaphore(window)
         self.waiting: dict[int, asyncio.Future[lughemra.Message]] = {}
         self.failure: Optional[BaseException] = None
@@ -33,7 +40,9 @@ class Connection:
     @classmethod
     async def open(cls, host: str, port: int, window: int = 1024) -> Connection:
         """Connects to a server."""
-        return cls(*await asyncio.open_connection(host, port), window=window)
+        # Made before there is a socket, since it refuses a window out of range.
+        client = lughemra.Client(window=window)
+        return cls(client, window, *await asyncio.open_connection(host, port))
 
     async def __aenter__(self) -> Connection:
         return self
@@ -46,7 +55,7 @@ class Connection:
         await self.room.acquire()
         try:
             if self.failure:
-                raise self.failure
+                raise self.failure.with_traceback(None)
             made = self.client.call(body, sequences)
         except BaseException:
             self.room.release()
@@ -93,8 +102,10 @@ class Connection:
             caller.set_result(reply.message)
 
     def fail(self, failure: BaseException) -> None:
-        """Ends the calls that await a reply, none of which comes any more."""
+        """Ends the connection, and the calls that await a reply, none of which comes any more."""
         self.failure = failure
+        # So no call waits in `drain` for a peer that doesn't read.
+        self.writer.transport.abort()
         for caller in self.waiting.values():
             self.room.release()
             if not caller.done():
@@ -106,7 +117,6 @@ class Connection:
         self.receiver.cancel()
         self.fail(ConnectionAbortedError("the connection was closed"))
         self.client.close()
-        self.writer.close()
         try:
             await self.writer.wait_closed()
         except OSError:
@@ -122,7 +132,7 @@ async def run(host: str, port: int, calls: int) -> int:
     """Makes the pings, all at once, and tells how many came back."""
     try:
         connection = await Connection.open(host, port)
-    except OSError as failure:
+    except (OSError, OverflowError, UnicodeError) as failure:
         print(f"asyncio_driver: {failure}", file=sys.stderr)
         return 3
     async with connection:
@@ -136,7 +146,7 @@ async def run(host: str, port: int, calls: int) -> int:
 
 def main(words: list[str]) -> int:
     """Runs the driver by its words."""
-    if len(words) not in (3, 4) or not words[2].isdigit() or not all(it.isdigit() for it in words[3:]):
+    if len(words) not in (3, 4) or not all(it.isdecimal() for it in words[2:]):
         print(__doc__, file=sys.stderr)
         return 2
     return asyncio.run(run(words[1], int(words[2]), int(words[3]) if len(words) == 4 else 1000))

@@ -39,9 +39,15 @@ def metadata(told):
 
 
 def package_files():
-    """Returns the files of the package."""
-    files = sorted(PACKAGE.glob("*.py")) + [PACKAGE / "py.typed"]
-    return files + [SHARED] if SHARED.exists() else files
+    """Returns the sources of the package."""
+    return [*sorted(PACKAGE.glob("*.py")), PACKAGE / "py.typed"]
+
+
+def shared_files():
+    """Returns the shared object, if it is there. Raises FileNotFoundError for a link to nothing, which is meant to be one."""
+    if SHARED.is_symlink() and not SHARED.exists():
+        raise FileNotFoundError(f"{SHARED} is a link to {SHARED.readlink()}, which isn't there")
+    return [SHARED] if SHARED.exists() else []
 
 
 def record_line(name, data):
@@ -53,9 +59,11 @@ def record_line(name, data):
 def write_wheel(folder, files):
     """Writes a wheel of the files, which are pairs of a name and bytes, into the folder. Returns its name."""
     told = project()
-    tag = "py3-none-linux_x86_64" if SHARED.exists() else "py3-none-any"
+    shared = bool(shared_files())
+    tag = "py3-none-linux_x86_64" if shared else "py3-none-any"
     inside = f"{told['name']}-{told['version']}.dist-info"
-    wheel = f"Wheel-Version: 1.0\nGenerator: build_backend\nRoot-Is-Purelib: {str(not SHARED.exists()).lower()}\nTag: {tag}\n"
+    wheel = "Wheel-Version: 1.0\nGenerator: build_backend\n"
+    wheel += f"Root-Is-Purelib: {str(not shared).lower()}\nTag: {tag}\n"
     files = [*files, (f"{inside}/METADATA", metadata(told).encode()), (f"{inside}/WHEEL", wheel.encode())]
     record = "".join(record_line(*file) for file in files) + f"{inside}/RECORD,,\n"
     name = f"{told['name']}-{told['version']}-{tag}.whl"
@@ -69,7 +77,9 @@ def write_wheel(folder, files):
 
 def build_wheel(wheel_directory, config_settings=None, metadata_directory=None):
     """Writes the wheel that pip installs."""
-    return write_wheel(wheel_directory, [(f"lughemra/{path.name}", path.read_bytes()) for path in package_files()])
+    paths = [*package_files(), *shared_files()]
+    files = [(f"lughemra/{path.name}", path.read_bytes()) for path in paths]
+    return write_wheel(wheel_directory, files)
 
 
 def build_editable(wheel_directory, config_settings=None, metadata_directory=None):

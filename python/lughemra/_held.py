@@ -2,13 +2,14 @@
 
 from __future__ import annotations
 
+import copy
 import ctypes
 import weakref
 from collections.abc import Callable
-from typing import Any, Optional, Self
+from typing import Any, NoReturn, Optional, Self
 
 from . import _library as lib
-from .errors import CallRefused, DocumentError, MessageError
+from .errors import CallRefused, Closed, DocumentError, MessageError
 
 # How many bytes `output` gives at most, if it isn't told another number.
 PIECE = 1 << 16
@@ -64,6 +65,10 @@ class Held:
     def __exit__(self, *_: Any) -> None:
         self._finalizer()
 
+    def __reduce__(self) -> NoReturn:
+        """Refuses copies and pickles: a copy would use the same core."""
+        raise TypeError(f"a {type(self).__name__} can't be copied or pickled")
+
 
 class End(Held):
     """Moves the bytes of one end of a connection. It opens no socket: what `output` gives is to be sent, and what comes is fed."""
@@ -76,10 +81,28 @@ class End(Held):
         # What was fed and the core hasn't taken: the bytes from `_at` on.
         self._held = bytearray()
         self._at = 0
+        self._closed: Optional[Closed] = None
+
+    def __exit__(self, *_: Any) -> None:
+        self.close()
 
     def close(self) -> None:
-        """Gives the memory back. Calls of the library are refused then; `closed` stays what it was."""
+        """Gives the memory back. Calls are refused then; `closed` stays what it was."""
         self._finalizer()
+        self._held = bytearray()
+        self._at = 0
+
+    def _require_core(self) -> None:
+        """Raises CallRefused once the memory was given back."""
+        if not self._finalizer.alive:
+            raise CallRefused(CallRefused.NO_CORE)
+
+    def _raise_if_closed(self) -> None:
+        """Raises the same, or why this end is closed, if it is."""
+        self._require_core()
+        if self._closed:
+            # What is raised holds this end by its traceback, so what this end holds isn't raised.
+            raise copy.copy(self._closed)
 
     def _tell(self, name: str, *arguments: Any) -> Any:
         """Returns what a function of the library tells of this end."""
@@ -106,7 +129,7 @@ class End(Held):
             raise ValueError(f"{count} bytes can't be sent")
         refuse(self._tell("sent", ctypes.c_size_t(min(count, (1 << 64) - 1))))
 
-    def _keep(self, piece: Any) -> None:
+    def _keep(self, piece: lib.Buffer) -> None:
         """Keeps a copy of a piece behind what was fed before."""
         if self._at:
             del self._held[: self._at]

@@ -10,12 +10,14 @@ The functions of `short` hold the interpreter's lock while they run, so that no 
 
 from __future__ import annotations
 
+import array
 import ctypes
 import functools
+import mmap
 import os
 import pathlib
 from ctypes import c_bool, c_char, c_double, c_int32, c_int64, c_size_t, c_uint32, c_uint64, c_void_p
-from typing import Any, Optional
+from typing import Any, Optional, Union
 
 from .errors import LibraryNotFound
 
@@ -540,7 +542,7 @@ address_of = ctypes.byref
 OFFSET_OF_ELEMENT = Step.element.offset
 
 
-class _Buffer(ctypes.Structure):
+class _PyBuffer(ctypes.Structure):
     """Lays out Py_buffer of CPython."""
 
     _fields_ = [
@@ -560,14 +562,18 @@ class _Buffer(ctypes.Structure):
 
 # To index gives functions of one's own: the attributes of `pythonapi` are those of the whole process.
 _get_buffer = ctypes.pythonapi["PyObject_GetBuffer"]
-_get_buffer.argtypes = [ctypes.py_object, ctypes.POINTER(_Buffer), ctypes.c_int]
+_get_buffer.argtypes = [ctypes.py_object, ctypes.POINTER(_PyBuffer), ctypes.c_int]
 _get_buffer.restype = ctypes.c_int
 _release_buffer = ctypes.pythonapi["PyBuffer_Release"]
-_release_buffer.argtypes = [ctypes.POINTER(_Buffer)]
+_release_buffer.argtypes = [ctypes.POINTER(_PyBuffer)]
 _release_buffer.restype = None
 
 
-def lent(data: Any) -> tuple[Any, Any, Any]:
+# A bytes-like object. For a checker any other one can be handed in as a memoryview of it.
+Buffer = Union[bytes, bytearray, memoryview, "array.array[Any]", mmap.mmap]
+
+
+def lent(data: Buffer) -> tuple[Any, Any, Any]:
     """Returns what keeps the bytes of a bytes-like object where they are, their address and their number as arguments.
 
     What keeps them is the object itself if it is of type `bytes`, and else a view of it, which is held as long as the bytes
@@ -581,7 +587,7 @@ def lent(data: Any) -> tuple[Any, Any, Any]:
     view = view.cast("B")
     if not view:
         return b"", b"", size(0)
-    buffer = _Buffer()
+    buffer = _PyBuffer()
     _get_buffer(view, buffer, 0)
     address = buffer.buf
     _release_buffer(buffer)

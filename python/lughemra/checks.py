@@ -7,7 +7,7 @@ from typing import Any, NamedTuple
 
 from . import _library as lib
 from .document import Document
-from .errors import DocumentError
+from .errors import LENGTH_FAULT, DocumentError
 
 
 class DocumentsWalk(NamedTuple):
@@ -20,7 +20,7 @@ class DocumentsWalk(NamedTuple):
     sizes: int
 
 
-def check(data: Any) -> None:
+def check(data: lib.Buffer) -> None:
     """Checks that the bytes are exactly one document. Raises the first fault, if there is one."""
     kept, pointer, size = lib.lent(data)
     fault = lib.functions_for(kept).check_document(pointer, size)
@@ -28,14 +28,14 @@ def check(data: Any) -> None:
         raise DocumentError(fault.number, fault.offset)
 
 
-def is_canonical(data: Any) -> bool:
+def is_canonical(data: lib.Buffer) -> bool:
     """Returns true if the bytes are exactly one document, in which the names of each array are "0", "1" and so on."""
     kept, pointer, size = lib.lent(data)
     told: bool = lib.functions_for(kept).is_canonical(pointer, size)
     return told
 
 
-def check_documents(data: Any) -> int:
+def check_documents(data: lib.Buffer) -> int:
     """Checks the documents that stand back to back, and returns how many they are. Raises the first fault, if there is one."""
     kept, pointer, size = lib.lent(data)
     told = lib.functions_for(kept).check_documents(pointer, size)
@@ -45,7 +45,7 @@ def check_documents(data: Any) -> int:
     return count
 
 
-def walk_documents(data: Any) -> DocumentsWalk:
+def walk_documents(data: lib.Buffer) -> DocumentsWalk:
     """Checks the documents that stand back to back, and counts what is in them. Raises the first fault, if there is one."""
     kept, pointer, size = lib.lent(data)
     told = lib.functions_for(kept).walk_documents(pointer, size)
@@ -54,11 +54,11 @@ def walk_documents(data: Any) -> DocumentsWalk:
     return DocumentsWalk(told.documents, told.bytes_read, told.elements, told.sizes)
 
 
-def documents(data: Any) -> Iterator[Document]:
+def documents(data: lib.Buffer) -> Iterator[Document]:
     """Walks over the documents that stand back to back, none of which is copied. Checks the length and the last byte of
     each, as `Document` does, and raises the fault of the first that has one there."""
     kept, pointer, size = lib.lent(data)
-    yield from documents_in(kept, pointer, size, 0, len(kept))
+    return documents_in(kept, pointer, size, 0, len(kept))
 
 
 def documents_in(data: Any, pointer: Any, size: Any, offset: int, length: int) -> Iterator[Document]:
@@ -84,4 +84,5 @@ def _fault_at(rest: Any, offset: int) -> DocumentError:
         check_documents(rest)
     except DocumentError as fault:
         return DocumentError(fault.number, offset + fault.offset)
-    raise AssertionError("no document stands where the check finds one")
+    # Bytes that changed meanwhile may have none: only the length or the last byte can have been wrong before.
+    return DocumentError(LENGTH_FAULT, offset)

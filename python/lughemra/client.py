@@ -4,14 +4,14 @@ from __future__ import annotations
 
 import ctypes
 from collections import deque
-from collections.abc import Callable, Iterable, Iterator
+from collections.abc import Callable, Iterator
 from typing import Any, NamedTuple, Optional
 
 from . import _library as lib
 from ._held import End, fault_of, refuse, require, room_of
 from .errors import ClientClosed
-from .message import Message
-from .writer import document_bytes, sequence_bytes
+from .message import Message, raise_fault
+from .writer import AnyDocument, Sequences, document_bytes, sequence_bytes
 
 
 class Call(NamedTuple):
@@ -53,7 +53,7 @@ class Client(End):
         # Replies that came before the end, and weren't given yet.
         self._replies: deque[Reply] = deque()
 
-    def call(self, body: Any, sequences: Iterable[tuple[str, Iterable[Any]]] = ()) -> Call:
+    def call(self, body: AnyDocument, sequences: Sequences = ()) -> Call:
         """Makes a call that has one reply. Its request waits to be sent then.
 
         The body and the sequences are those of `encode_message`, which raises the same where they aren't those of a message.
@@ -61,32 +61,29 @@ class Client(End):
         """
         return self._call(lib.short.client_call, body, sequences)
 
-    def call_exhaust(self, body: Any, sequences: Iterable[tuple[str, Iterable[Any]]] = ()) -> Call:
+    def call_exhaust(self, body: AnyDocument, sequences: Sequences = ()) -> Call:
         """Makes a call that may have more than one reply."""
         return self._call(lib.short.client_call_exhaust, body, sequences)
 
-    def send_unacknowledged(self, body: Any, sequences: Iterable[tuple[str, Iterable[Any]]] = ()) -> Call:
+    def send_unacknowledged(self, body: AnyDocument, sequences: Sequences = ()) -> Call:
         """Makes a call that has no reply, for which no window is full."""
         return self._call(lib.short.client_send_unacknowledged, body, sequences)
 
-    def _call(self, made_by: Callable[..., Any], body: Any, sequences: Iterable[tuple[str, Iterable[Any]]]) -> Call:
+    def _call(self, made_by: Callable[..., Any], body: AnyDocument, sequences: Sequences) -> Call:
         """Makes a call by a function of the library."""
         content, sections = document_bytes(body), sequence_bytes(sequences)
         made = made_by(self._core, content, lib.size(len(content)), sections, lib.size(len(sections)))
         if made.refusal == lib.BAD_CONTENT:
-            fault = fault_of(made)
-            assert fault is not None
-            raise fault
+            raise_fault(made)
         refuse(made.refusal)
         return Call(made.number, made.id)
 
-    def feed(self, piece: Any) -> None:
+    def feed(self, piece: lib.Buffer) -> None:
         """Takes a piece of the bytes that came, which is copied. Iterating gives the replies in it.
 
-        Raises ClientClosed once the client is closed, by `end` too.
+        Raises ClientClosed once the client is closed, by `end` too, and CallRefused behind `close`.
         """
-        if self._closed:
-            raise self._closed.with_traceback(None)
+        self._raise_if_closed()
         self._keep(piece)
 
     def __iter__(self) -> Iterator[Reply]:
@@ -95,13 +92,14 @@ class Client(End):
     def __next__(self) -> Reply:
         """Returns the next reply that is whole, and stops where more bytes are wanted. Later, iterating goes on.
 
-        Raises ClientClosed where what came closes the client, each time from then on.
+        Raises ClientClosed where what came closes the client, each time from then on, and CallRefused behind `close`.
         """
+        self._require_core()
         reply = self._replies.popleft() if self._replies else self._next_reply()
         if reply is not None:
             return reply
         if self._closed and self._closed.number != ClientClosed.ENDED:
-            raise self._closed.with_traceback(None)
+            self._raise_if_closed()
         raise StopIteration
 
     def _next_reply(self) -> Optional[Reply]:
@@ -138,10 +136,16 @@ class Client(End):
 
         Iterating gives the replies that came before, and then raises why, unless the bytes ended between two messages.
         """
+        self._require_core()
         while (reply := self._next_reply()) is not None:
             self._replies.append(reply)
         refuse(lib.short.client_end(self._core))
         self._note(lib.short.client_state(self._core))
+
+    def close(self) -> None:
+        """Gives the memory back, with the replies that weren't taken. Calls are refused then; `closed` stays what it was."""
+        super().close()
+        self._replies.clear()
 
     @property
     def closed(self) -> Optional[ClientClosed]:

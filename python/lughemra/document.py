@@ -28,6 +28,8 @@ from .values import (
     Undefined,
 )
 
+# The types of values. What is read is typed as Any, as by `json.loads`: a program knows which of them it wants, and would have to
+# tell a checker so at each step.
 Value = Union[
     float, str, "Document", "Array", bytes, Binary, Undefined, ObjectId, bool, datetime.datetime, DatetimeMS, None,
     Regex, DBPointer, Code, Symbol, int, Timestamp, Decimal128, MinKey, MaxKey,
@@ -39,7 +41,7 @@ class Element(NamedTuple):
 
     name: str
     kind: Kind
-    value: Value
+    value: Any
 
 
 _find, _next, _first, _enter = lib.short.find, lib.short.next, lib.short.first, lib.short.enter
@@ -73,7 +75,7 @@ class _Container:
     _size: Any
     _begin: lib.Iter
 
-    def __init__(self, data: Any) -> None:
+    def __init__(self, data: lib.Buffer) -> None:
         if type(data) is bytes:
             self._data = self._pointer = data
             length = len(data)
@@ -114,18 +116,17 @@ class _Container:
         at = step.name_at
         return str(self._data[at : at + step.name_length], "utf-8")
 
-    def _value(self, step: lib.Step) -> Value:
+    def _value(self, step: lib.Step) -> Any:
         """Returns the value of an element."""
         reader = READERS[step.kind]
         if reader is None:
             return self._inside(step)
         try:
-            value: Value = reader(self._data, step)
-            return value
+            return reader(self._data, step)
         except UnicodeDecodeError:
             raise DocumentError(TEXT_FAULT, step.name_at - 1) from None
 
-    def _inside(self, step: lib.Step) -> Value:
+    def _inside(self, step: lib.Step) -> Any:
         """Returns the document, the array or the code with scope that an element holds."""
         begin = _enter(lib.address_of(step), lib.address_of(step, lib.OFFSET_OF_ELEMENT))
         kind = step.kind
@@ -161,7 +162,7 @@ class _Container:
         return type(self), (self.raw,)
 
 
-class Document(_Container, Mapping[str, Value]):
+class Document(_Container, Mapping[str, Any]):
     """Reads a document from its bytes: a mapping from names to values.
 
     The bytes are any bytes-like object, which is kept and must not change. Only the length and the last byte are checked
@@ -171,7 +172,7 @@ class Document(_Container, Mapping[str, Value]):
 
     __slots__ = ()
 
-    def __getitem__(self, name: str) -> Value:
+    def __getitem__(self, name: str) -> Any:
         try:
             encoded, length = _encoded(name)
         except (AttributeError, UnicodeEncodeError):
@@ -184,12 +185,21 @@ class Document(_Container, Mapping[str, Value]):
         step.iter = self._begin
         _find(self._pointer, self._size, encoded, length, iter_argument, element_argument)
         if not step.kind:
-            fault = DocumentError(step.number, step.offset) if step.number else KeyError(name)
+            number, offset = step.number, step.offset
             _spare.append(cursor)
-            raise fault
+            if number:
+                raise DocumentError(number, offset)
+            raise KeyError(name)
         value = self._value(step)
         _spare.append(cursor)
         return value
+
+    def get(self, name: str, default: Any = None) -> Any:
+        """Returns the first value with this name, or the default where there is none."""
+        try:
+            return self[name]
+        except KeyError:
+            return default
 
     def kind(self, name: str) -> Kind:
         """Returns the kind of the first value with this name, which tells an int32 from an int64, say."""
@@ -230,11 +240,11 @@ class Document(_Container, Mapping[str, Value]):
     def __len__(self) -> int:
         return len({self._name(step) for step in self._steps()})
 
-    def items(self) -> ItemsView[str, Value]:
+    def items(self) -> ItemsView[str, Any]:
         """Returns a view of the pairs, which is walked over once."""
         return _Items(self)
 
-    def values(self) -> ValuesView[Value]:
+    def values(self) -> ValuesView[Any]:
         """Returns a view of the values, which is walked over once."""
         return _Values(self)
 
@@ -284,26 +294,26 @@ class Document(_Container, Mapping[str, Value]):
         return f"Document({text if len(text) <= 200 else text[:200] + '...'})"
 
 
-class _Items(ItemsView[str, Value]):
+class _Items(ItemsView[str, Any]):
     """Walks over the pairs of a document, so that no name is looked for."""
 
     def __init__(self, document: Document) -> None:
         super().__init__(document)
         self._document = document
 
-    def __iter__(self) -> Iterator[tuple[str, Value]]:
+    def __iter__(self) -> Iterator[tuple[str, Any]]:
         document = self._document
         return ((name, document._value(step)) for name, step in document._firsts())
 
 
-class _Values(ValuesView[Value]):
+class _Values(ValuesView[Any]):
     """Walks over the values of a document, so that no name is looked for."""
 
     def __init__(self, document: Document) -> None:
         super().__init__(document)
         self._document = document
 
-    def __iter__(self) -> Iterator[Value]:
+    def __iter__(self) -> Iterator[Any]:
         document = self._document
         return (document._value(step) for _, step in document._firsts())
 
@@ -311,7 +321,7 @@ class _Values(ValuesView[Value]):
         return any(it is value or it == value for it in self)
 
 
-class Array(_Container, Sequence[Value]):
+class Array(_Container, Sequence[Any]):
     """Reads an array from its bytes, which are spelled as a document's: a sequence of values, whatever the names are.
 
     Where the elements begin is found by a walk, the first time that the length or a value at an index is asked for, and
@@ -329,17 +339,17 @@ class Array(_Container, Sequence[Value]):
             return self._places
 
     @overload
-    def __getitem__(self, index: int) -> Value: ...
+    def __getitem__(self, index: int) -> Any: ...
 
     @overload
-    def __getitem__(self, index: slice) -> list[Value]: ...
+    def __getitem__(self, index: slice) -> list[Any]: ...
 
-    def __getitem__(self, index: Union[int, slice]) -> Union[Value, list[Value]]:
+    def __getitem__(self, index: Union[int, slice]) -> Any:
         if isinstance(index, slice):
             return [self._read(place) for place in self._found_places()[index]]
         return self._read(self._found_places()[index])
 
-    def _read(self, place: int) -> Value:
+    def _read(self, place: int) -> Any:
         """Returns the value of the element at this offset."""
         cursor = _cursor()
         step, iter_argument, element_argument = cursor
@@ -352,7 +362,7 @@ class Array(_Container, Sequence[Value]):
         _spare.append(cursor)
         return value
 
-    def __iter__(self) -> Iterator[Value]:
+    def __iter__(self) -> Iterator[Any]:
         return map(self._value, self._steps())
 
     def __len__(self) -> int:

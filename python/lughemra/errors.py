@@ -18,8 +18,8 @@ DOCUMENT_FAULTS = {
     11: "Depth",
     255: "OutOfRange",
 }
-# The number of a text that is no UTF-8.
-TEXT_FAULT = 6
+# The numbers of a length that isn't the document's, and of a text that is no UTF-8.
+LENGTH_FAULT, TEXT_FAULT = 2, 6
 MESSAGE_FAULTS = {
     1: "Length",
     2: "Opcode",
@@ -122,7 +122,8 @@ class MessageError(Fault):
 class CallRefused(RuntimeError):
     """Tells why a call isn't made, by the numbers and names of enum lughemra_core_refusal. Nothing changed then."""
 
-    CLOSED, WINDOW_FULL, TOO_LARGE, NUMBERS_SPENT, TOO_MANY, BAD_COUNT, POOL_FULL, NOT_LENT = 1, 2, 3, 6, 8, 10, 11, 12
+    CLOSED, WINDOW_FULL, TOO_LARGE, NUMBERS_SPENT, TOO_MANY, BAD_COUNT = 1, 2, 3, 6, 8, 10
+    POOL_FULL, NOT_LENT, NO_CORE = 11, 12, 255
     NAMES = {
         CLOSED: "Closed",
         WINDOW_FULL: "WindowFull",
@@ -132,7 +133,7 @@ class CallRefused(RuntimeError):
         BAD_COUNT: "BadCount",
         POOL_FULL: "PoolFull",
         NOT_LENT: "NotLent",
-        255: "NoCore",
+        NO_CORE: "NoCore",
     }
 
     def __init__(self, number: int) -> None:

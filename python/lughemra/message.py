@@ -2,6 +2,7 @@
 
 from __future__ import annotations
 
+import copy
 import enum
 import functools
 from collections.abc import Iterator
@@ -47,7 +48,7 @@ def _limit(limit: int) -> Any:
     return lib.limit_of(limit)
 
 
-def _raise_fault(told: Any, whole: int = 0, bytes_read: int = 0) -> None:
+def raise_fault(told: Any, whole: int = 0, bytes_read: int = 0) -> None:
     """Raises the fault of a message that a function of the library tells, if it does."""
     fault, inside = told.fault, told.document_fault
     if fault.number:
@@ -55,17 +56,17 @@ def _raise_fault(told: Any, whole: int = 0, bytes_read: int = 0) -> None:
         raise MessageError(fault.number, fault.offset, whole, bytes_read, document)
 
 
-def check_message(data: Any, limit: int = MAX_LIMIT) -> None:
+def check_message(data: lib.Buffer, limit: int = MAX_LIMIT) -> None:
     """Checks that the bytes are exactly one message of at most `limit` bytes. Raises the first fault, if there is one."""
     kept, pointer, size = lib.lent(data)
-    _raise_fault(lib.functions_for(kept).check_message(pointer, size, _limit(limit)))
+    raise_fault(lib.functions_for(kept).check_message(pointer, size, _limit(limit)))
 
 
-def check_messages(data: Any, limit: int = MAX_LIMIT) -> int:
+def check_messages(data: lib.Buffer, limit: int = MAX_LIMIT) -> int:
     """Checks the messages that stand back to back, and returns how many they are. Raises the first fault, if there is one."""
     kept, pointer, size = lib.lent(data)
     told = lib.functions_for(kept).check_messages(pointer, size, _limit(limit))
-    _raise_fault(told, told.messages, told.bytes_read)
+    raise_fault(told, told.messages, told.bytes_read)
     count: int = told.messages
     return count
 
@@ -76,10 +77,10 @@ class Message:
     The bytes are any bytes-like object, which is kept and must not change. So no document in it has a fault.
     """
 
-    def __init__(self, data: Any, limit: int = MAX_LIMIT) -> None:
+    def __init__(self, data: lib.Buffer, limit: int = MAX_LIMIT) -> None:
         self._data, self._pointer, self._size = lib.lent(data)
         told = lib.functions_for(self._data).message_parts(self._pointer, self._size, _limit(limit))
-        _raise_fault(told)
+        raise_fault(told)
         self._sections: int = told.sections
         self._header = Header(len(self._data), told.id, told.response_to)
         self._flags = Flags(told.flag_bits)
@@ -163,7 +164,7 @@ class Reader:
         """Returns how many bytes have to be fed before more can be told; 0 if a message may be whole, or after a fault."""
         return 0 if self._fault else max(0, self._wanted - len(self._held))
 
-    def feed(self, piece: Any) -> None:
+    def feed(self, piece: lib.Buffer) -> None:
         """Takes a piece, which is copied. Pieces may be of any size, and have any number of messages or parts of them."""
         self._raise_if_closed()
         if self._ended:
@@ -195,7 +196,7 @@ class Reader:
             if front.state == lib.FRONT_OPEN:
                 self._wanted = front.length
                 return None
-            _raise_fault(front)
+            raise_fault(front)
         message = Message(data, self._limit)
         del self._held[: self._wanted]
         self._start += self._wanted
@@ -213,9 +214,14 @@ class Reader:
         """Closes the reader by a fault in the message that is read, and raises it."""
         self._fault = MessageError(number, self._start + offset, document=document)
         self._held.clear()
-        raise self._fault from None
+        raise copy.copy(self._fault) from None
 
     def _raise_if_closed(self) -> None:
         """Raises the fault that closed the reader, if there was one."""
         if self._fault:
-            raise self._fault.with_traceback(None)
+            # What is raised holds the reader by its traceback, so what the reader holds isn't raised.
+            raise copy.copy(self._fault)
+
+    def __reduce__(self) -> NoReturn:
+        """Refuses copies and pickles: a copy would take the same bytes."""
+        raise TypeError(f"a {type(self).__name__} can't be copied or pickled")

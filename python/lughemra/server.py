@@ -8,8 +8,8 @@ from typing import Any, NamedTuple, Optional
 from . import _library as lib
 from ._held import End, fault_of, refuse, require, room_of
 from .errors import ServerClosed
-from .message import Message
-from .writer import documents_bytes
+from .message import Message, raise_fault
+from .writer import AnyDocument, documents_bytes
 
 # The most requests that may wait.
 MOST = 1024
@@ -38,12 +38,12 @@ class Server(End):
         self._closed: Optional[ServerClosed] = None
         self._ended = False
 
-    def feed(self, piece: Any) -> None:
+    def feed(self, piece: lib.Buffer) -> None:
         """Takes a piece of the bytes that came, which is copied. The requests that are whole by then wait.
 
         What comes while as many wait as the window allows is kept until one is answered. Raises ServerClosed where what came
         closes the server, and each time from then on. Where it raises MemoryError the piece is kept: it isn't fed again, and
-        `feed(b"")` goes on. Raises ValueError behind `end`.
+        `feed(b"")` goes on. Raises ValueError behind `end`, and CallRefused behind `close`.
         """
         self._raise_if_closed()
         if self._ended:
@@ -94,7 +94,7 @@ class Server(End):
             raise IndexError(f"no request {k} waits")
         return lib.size(k)
 
-    def answer(self, k: int, documents: Iterable[Any]) -> None:
+    def answer(self, k: int, documents: Iterable[AnyDocument]) -> None:
         """Answers the request of index `k` among those that wait. Its replies wait to be sent then, and it waits no longer.
 
         Each document is a mapping, as for `encode`, or the bytes of one, and is the body of a reply. A request gets one, or, if
@@ -112,9 +112,7 @@ class Server(End):
         if told.refusal == lib.NOT_READY:
             raise IndexError(f"no request {k} waits")
         if told.refusal == lib.BAD_CONTENT:
-            fault = fault_of(told)
-            assert fault is not None
-            raise fault
+            raise_fault(told)
         self._note(lib.short.server_state(self._core))
         if told.refusal:
             self._raise_if_closed()
@@ -123,6 +121,7 @@ class Server(End):
 
     def end(self) -> None:
         """Tells that no more bytes come. It closes the server once all requests are answered; its output may still be sent."""
+        self._require_core()
         self._ended = True
         self._move()
 
@@ -135,8 +134,3 @@ class Server(End):
         """Notes why the server is closed, if it is."""
         if state.cause and not self._closed:
             self._closed = ServerClosed(state.cause, fault=fault_of(state))
-
-    def _raise_if_closed(self) -> None:
-        """Raises why the server is closed, if it is."""
-        if self._closed:
-            raise self._closed.with_traceback(None)

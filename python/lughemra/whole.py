@@ -33,10 +33,12 @@ class OtherForm(Exception):
 def dict_of(document: Document) -> dict[str, Any]:
     """Returns a document as dict. Raises the first fault that a check finds."""
     if not has_form(document.raw):
+        written = document.json(relaxed=True)
         try:
-            made: dict[str, Any] = _decoder.raw_decode(document.json(relaxed=True))[0]
+            made: dict[str, Any] = _decoder.raw_decode(written)[0]
             return made
-        except OtherForm:
+        # The others come of names of forms that were written into the bytes meanwhile.
+        except (OtherForm, KeyError, TypeError, ValueError):
             pass
     try:
         return first_of(pairs_of(document._data, document._pointer, document._size, alone(document._begin)))

@@ -8,7 +8,7 @@ import operator
 import struct
 from collections import UserString
 from collections.abc import Iterable, Iterator, Mapping, Sequence
-from typing import Any, Callable, Optional
+from typing import Any, Callable, Optional, Union
 
 from . import _library as lib
 
@@ -33,6 +33,11 @@ from .values import (
     Timestamp,
     Undefined,
 )
+
+# A document that is given: a mapping, or the bytes of one.
+AnyDocument = Union[Mapping[str, Any], lib.Buffer]
+# Document sequences, each its identifier and its documents.
+Sequences = Iterable[tuple[str, Iterable[AnyDocument]]]
 
 # A value: its kind, its subtype, its 64 bits, its text and its bytes.
 Given = tuple[int, int, int, bytes, bytes]
@@ -240,14 +245,14 @@ def encode(pairs: Mapping[str, Any]) -> bytes:
     return bytes(room.held[:length])
 
 
-def document_bytes(given: Any) -> bytes:
+def document_bytes(given: AnyDocument) -> bytes:
     """Returns the bytes of a document: those of a mapping, or those that are given. Raises TypeError for what lends no bytes."""
     if isinstance(given, Document):
         return given.raw
     return encode(given) if isinstance(given, Mapping) else bytes(memoryview(given))
 
 
-def documents_bytes(given: Iterable[Any]) -> Iterator[bytes]:
+def documents_bytes(given: Iterable[AnyDocument]) -> Iterator[bytes]:
     """Gives the bytes of each document, checked."""
     for it in given:
         content = document_bytes(it)
@@ -255,7 +260,7 @@ def documents_bytes(given: Iterable[Any]) -> Iterator[bytes]:
         yield content
 
 
-def sequence_bytes(given: Iterable[tuple[str, Iterable[Any]]]) -> bytes:
+def sequence_bytes(given: Sequences) -> bytes:
     """Returns the sections of document sequences, one behind the other."""
     room, end = _Room(), ctypes.c_size_t(0)
     for identifier, documents in given:
@@ -266,8 +271,8 @@ def sequence_bytes(given: Iterable[tuple[str, Iterable[Any]]]) -> bytes:
 
 
 def encode_message(
-    body: Any,
-    sequences: Iterable[tuple[str, Iterable[Any]]] = (),
+    body: AnyDocument,
+    sequences: Sequences = (),
     *,
     request_id: int = 0,
     response_to: int = 0,

@@ -4,6 +4,10 @@ import asyncio
 import importlib.util
 import pathlib
 import random
+import socket
+import traceback
+
+import pytest
 
 import lughemra
 
@@ -73,3 +77,71 @@ def test_a_call_that_is_cancelled_leaves_the_others():
                 return connection.client.outstanding, connection.waiting
 
     assert asyncio.run(asyncio.wait_for(both(), 300)) == (0, {})
+
+
+# What is done to a connection whose peer never reads, and what its calls raise then.
+ENDS = [
+    (lambda connection, peer: peer.shutdown(socket.SHUT_WR), "Ended"),
+    (lambda connection, peer: peer.send(bytes(16)), "Message: Length at 0"),
+    (lambda connection, peer: asyncio.create_task(connection.close()), "the connection was closed"),
+]
+
+
+@pytest.mark.parametrize("end, words", ENDS)
+def test_calls_to_a_peer_that_never_reads_fail_where_the_connection_ends(end, words):
+    async def both():
+        with socket.create_server(("127.0.0.1", 0)) as listener:
+            connection = await driver.Connection.open(*listener.getsockname())
+            with listener.accept()[0] as peer:
+                body = {"n": bytes(1 << 20)}
+                calls = [asyncio.create_task(connection.call(body)) for _ in range(32)]
+                await asyncio.sleep(0.1)
+                assert connection.writer.transport.get_write_buffer_size() > 1 << 20
+                end(connection, peer)
+                ended = await asyncio.gather(*calls, return_exceptions=True)
+                await connection.close()
+                return {(isinstance(it, ConnectionError), str(it)) for it in ended}
+
+    assert asyncio.run(asyncio.wait_for(both(), 300)) == {(True, words)}
+
+
+def test_what_ended_a_connection_is_told_again_without_the_frames_of_before():
+    async def both():
+        with socket.create_server(("127.0.0.1", 0)) as listener:
+            connection = await driver.Connection.open(*listener.getsockname())
+            await connection.close()
+            lengths = set()
+            for _ in range(3):
+                with pytest.raises(ConnectionAbortedError) as told:
+                    await connection.call({"ping": 1})
+                lengths.add(len(list(traceback.walk_tb(told.value.__traceback__))))
+            return lengths
+
+    assert len(asyncio.run(asyncio.wait_for(both(), 300))) == 1
+
+
+@pytest.mark.parametrize("window", [0, 2000])
+def test_a_window_out_of_range_makes_no_connection(window):
+    with socket.create_server(("127.0.0.1", 0)) as listener:
+        listener.setblocking(False)
+        with pytest.raises(ValueError):
+            asyncio.run(driver.Connection.open(*listener.getsockname(), window=window))
+        with pytest.raises(BlockingIOError):
+            listener.accept()
+
+
+@pytest.mark.parametrize(
+    "words, status",
+    [
+        (["127.0.0.1", "70000"], 3),
+        (["127.0.0.1", "9" * 30], 3),
+        (["a..b", "1"], 3),
+        (["127.0.0.1", "²"], 2),
+        (["127.0.0.1", "-1"], 2),
+        (["127.0.0.1", "1", "²"], 2),
+        (["127.0.0.1"], 2),
+    ],
+)
+def test_words_that_make_no_connection(words, status, capsys):
+    assert driver.main(["asyncio_driver.py", *words]) == status
+    assert capsys.readouterr().out == ""

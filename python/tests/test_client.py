@@ -107,7 +107,7 @@ def test_what_closes_a_client_is_told_for_good(stream, number, words):
         with pytest.raises(ClientClosed) as told:
             next(client)
         assert (told.value.number, str(told.value)) == (number, words)
-    assert client.closed is told.value
+    assert (client.closed.number, str(client.closed)) == (number, words)
     with pytest.raises(ClientClosed):
         client.feed(b"")
     with pytest.raises(CallRefused) as refused:
@@ -200,12 +200,18 @@ def test_counts_of_any_size_are_taken():
 
 def test_a_closed_client_answers_nothing():
     with Client() as client:
+        request = client.call({}).request_id
         client.call({})
+        client.feed(reply_to(request, {}) + bytes(16))
+        client.end()
     client.close()
-    for call in (lambda: client.call({}), client.output, lambda: client.sent(0), lambda: client.outstanding, client.end):
+    for call in (lambda: client.call({}), client.output, lambda: client.sent(0),
+                 lambda: client.outstanding, client.end, lambda: client.feed(b""),
+                 lambda: next(client), lambda: list(client)):  # fmt: skip
         with pytest.raises(CallRefused) as told:
             call()
         assert told.value.name == "NoCore"
+    assert str(client.closed) == "Message: Length at 0"
     del client
     gc.collect()
 

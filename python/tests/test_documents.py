@@ -125,6 +125,27 @@ def test_documents_with_the_names_of_forms_stay_documents():
     ]
 
 
+# A name of a form, and what is no value of that form.
+OTHER_FORMS = [
+    ("$oid", 0x02, string("no digits"), "no digits"),
+    ("$oid", 0x02, string("00"), "00"),
+    ("$oid", 0x0A, b"", None),
+    ("$date", 0x02, string("no date"), "no date"),
+    ("$date", 0x10, b"\1\0\0\0", 1),
+    ("$binary", 0x02, string("text"), "text"),
+    ("$binary", 0x03, document(), {}),
+    ("$binary", 0x03, document(element(0x02, "base64", string("A"))), {"base64": "A"}),
+    ("$binary", 0x04, document(), []),
+]
+
+
+@pytest.mark.parametrize("name, kind, value, wanted", OTHER_FORMS)
+def test_a_form_that_is_written_meanwhile_is_read_as_it_is(monkeypatch, name, kind, value, wanted):
+    monkeypatch.setattr(whole, "has_form", lambda raw: False)
+    inner = document(element(kind, name, value))
+    assert Document(document(element(0x03, "d", inner))).to_dict() == {"d": {name: wanted}}
+
+
 def test_a_text_of_any_length_has_room():
     data = document(*(element(0x10, "", b"\1\0\0\0") for _ in range(2000)))
     assert Document(data).json() == '{"":{"$numberInt":"1"}' + ',"":{"$numberInt":"1"}' * 1999 + "}"
@@ -157,12 +178,17 @@ def test_bytes_that_are_read_stay_where_they_are():
     held[7] = 2
     assert read["x"] == 2
     del read
+    walk = lughemra.documents(held)
+    with pytest.raises(BufferError):
+        held.clear()
+    del walk
     held.clear()
 
 
 @pytest.mark.parametrize("wrong", ["text", 5, None, [1], memoryview(bytes(20))[::2]])
 def test_what_is_no_bytes_is_refused(wrong):
-    for call in (Document, lughemra.check, lughemra.is_canonical, lughemra.check_documents, lughemra.Message):
+    checks = lughemra.check, lughemra.is_canonical, lughemra.check_documents
+    for call in (Document, *checks, lughemra.documents, lughemra.Message):
         with pytest.raises((TypeError, BufferError)):
             call(wrong)
 

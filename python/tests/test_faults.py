@@ -1,7 +1,9 @@
 """Reads hostile bytes: each beginning of documents, and each byte of them with other values."""
 
 import copy
+import gc
 import pickle
+import weakref
 
 import pytest
 from rows import DOCUMENTS, NESTED, altered, document, element, fault_of, prefixes, string, vectors
@@ -156,6 +158,15 @@ def test_documents_back_to_back_tell_how_many_are_whole():
         assert fault_in(next, walk) == (wanted[0], len(good) + wanted[1])
 
 
+@pytest.mark.parametrize("data", [b"\6\0\0\0\0", b"\5\0\0\0\1"])
+def test_a_fault_of_bytes_that_are_whole_meanwhile_is_one_of_their_length(monkeypatch, data):
+    good = document()
+    monkeypatch.setattr(lughemra.checks, "check_documents", lambda data: 1)
+    walk = lughemra.documents(good + data)
+    assert next(walk) == {}
+    assert fault_in(next, walk) == (2, len(good))
+
+
 @pytest.mark.parametrize("raised", [lughemra.ClientClosed, lughemra.ServerClosed])
 def test_why_an_end_was_closed_is_no_error_of_the_system(raised):
     inside = lughemra.MessageError(7, 21, document=DocumentError(3, 0))
@@ -179,3 +190,52 @@ def test_bytes_that_change_meanwhile_are_read_without_harm():
                 call()
             except (DocumentError, UnicodeDecodeError):
                 pass
+
+
+# What bytes at fault close, and what raises that again and again.
+CLOSED = [
+    (lughemra.Reader, next),
+    (lughemra.Client, next),
+    (lughemra.Server, lambda it: it.feed(b"")),
+]
+
+
+@pytest.mark.parametrize("make, again", CLOSED)
+def test_what_a_fault_closed_goes_with_its_last_reference(make, again):
+    gc.disable()
+    try:
+        made = make()
+        for call in (lambda it: it.feed(bytes(16)), again, again):
+            try:
+                call(made)
+            except (lughemra.MessageError, lughemra.Closed) as fault:
+                assert str(fault).endswith("Length at 0")
+        gone = weakref.ref(made)
+        del made
+        assert gone() is None
+    finally:
+        gc.enable()
+
+
+@pytest.mark.parametrize("data", [document(), document(element(0x08, "b", b"\2"))])
+def test_what_is_refused_keeps_nothing(data):
+    held, client = bytearray(data), lughemra.Client()
+    gone = weakref.ref(client)
+    gc.disable()
+    try:
+        with pytest.raises((KeyError, DocumentError)):
+            Document(held)["b"]
+        with pytest.raises(lughemra.MessageError):
+            client.call({"docs": 1}, [("docs", [])])
+        del client
+        held.clear()
+        assert gone() is None
+    finally:
+        gc.enable()
+
+
+@pytest.mark.parametrize("again", [copy.copy, copy.deepcopy, pickle.dumps])
+@pytest.mark.parametrize("make", [lughemra.Client, lughemra.Server, lughemra.Pool, lughemra.Reader])
+def test_what_holds_a_connection_is_not_copied(make, again):
+    with pytest.raises(TypeError, match=f"^a {make.__name__} can't be copied or pickled$"):
+        again(make())

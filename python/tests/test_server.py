@@ -120,7 +120,8 @@ def test_a_reply_that_is_too_large_closes_the_server():
     server.answer(1, [OK])
     with pytest.raises(ServerClosed) as told:
         server.answer(0, [{"a": "b" * 100}])
-    assert (told.value.number, str(told.value)) == (7, "ReplyTooLarge") and server.closed is told.value
+    assert (told.value.number, str(told.value)) == (7, "ReplyTooLarge")
+    assert (server.closed.number, str(server.closed)) == (7, "ReplyTooLarge")
     with pytest.raises(ServerClosed):
         server.feed(b"")
     with pytest.raises(ServerClosed):
@@ -144,7 +145,8 @@ def test_what_closes_a_server_is_told_for_good(bytes_, words):
     server.answer(0, [TWO])
     with pytest.raises(ServerClosed) as told:
         server.feed(bytes_ + message(2, 0, TWO))
-    assert (told.value.number, str(told.value)) == (1, words) and server.closed is told.value
+    assert (told.value.number, str(told.value)) == (1, words)
+    assert (server.closed.number, str(server.closed)) == (1, words)
     with pytest.raises(ServerClosed):
         server.feed(message(2, 0, TWO))
     assert sent_by(server) == message(1, 9, TWO)
@@ -214,7 +216,8 @@ def test_a_freed_server_answers_nothing():
     with Server() as server:
         server.feed(message(1, 0, OK))
     server.close()
-    for call in (lambda: server.feed(OK), lambda: server.requests, lambda: server.request(0), server.output, server.end,
+    for call in (lambda: server.feed(b""), lambda: server.feed(OK), lambda: server.requests,
+                 lambda: server.request(0), server.output, server.end,
                  lambda: server.answer(0, [OK]), lambda: server.sent(0), lambda: server.waiting):  # fmt: skip
         with pytest.raises(CallRefused) as told:
             call()
