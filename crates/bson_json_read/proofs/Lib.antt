@@ -19,7 +19,9 @@ pub mod Progress
 pub mod ReadBack
 pub mod Scanned
 pub mod Specials
-pub mod Strings
+pub mod Scans
+pub mod PlaceLemmas
+pub mod HeldLemmas
 pub mod Tens
 pub mod TextBytes
 pub mod Tokens

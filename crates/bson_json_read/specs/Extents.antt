@@ -1,7 +1,10 @@
 -- How far a text reaches that is an object: to the brace that closes its first one. Braces in
 -- strings don't count.
-use Rattle.std.specs.Prelude.{ℕ, suc, ◌+◌, ◌-◌, List, [], ◌∷◌, Bool, false, nat_le, ◌==◌, ◌&&◌}
-use Rattle.std.specs.Prelude.{if◌then◌else◌}
+use Rattle.std.specs.Prelude.{◌≡◌, ℕ, suc, ◌+◌, ◌-◌, ◌<◌, ◌≤◌, List, [], ◌∷◌, ◌++◌, Bool, false}
+use Rattle.std.specs.Prelude.{nat_le, ◌==◌, ◌&&◌, drop, if◌then◌else◌, length}
+use Rattle.bson_json_read.specs.declared.extent.Scan.{Scan}
+use Rattle.bson_json_read.specs.declared.extent.Scanned.{Scanned}
+use Rattle.bson_json_read.specs.declared.extent.Scanned.TheVariants as scanned
 use Rattle.bson_json_read.specs.declared.extent.Within.{Within}
 use Rattle.bson_json_read.specs.declared.extent.Within.TheVariants.{Code, Quoted, Escaped}
 
@@ -34,3 +37,29 @@ extent within count (b ∷ bs) =
 -- how many bytes the text has that begins here
 abbrev pub text_len : List ℕ → ℕ
 text_len rest = extent Code 0 rest
+
+-- ---- texts that go on
+
+-- A scan has passed the first bytes of a text, none of which ends it: what the text has, whatever
+-- follows, is these and what the scan finds behind them.
+pub record HasPassed (s : Scan) (text : List ℕ) : Type 0 where
+  pub inside : s.len ≤ length text
+  pub few : s.braces ≤ s.len
+  pub behind : (more : List ℕ)
+      → text_len (text ++ more) ≡ s.len + extent s.within s.braces (drop s.len text ++ more)
+
+-- the text that begins here ends behind so many bytes, whatever follows
+pub record EndsBehind (n : ℕ) (text : List ℕ) : Type 0 where
+  pub some : 0 < n
+  pub inside : n ≤ length text
+  pub whatever : (more : List ℕ) → text_len (text ++ more) ≡ n
+
+-- the end of the text was found, or it isn't in these bytes
+abbrev pub IsScanned : List ℕ → Scanned → Type 0
+IsScanned text (scanned.Closed n) = EndsBehind n text
+IsScanned text (scanned.Open s) = HasPassed s text × (s.len ≡ length text)
+
+-- one byte more was passed
+abbrev pub IsStepped : Scan → List ℕ → Scanned → Type 0
+IsStepped old text (scanned.Closed n) = EndsBehind n text
+IsStepped old text (scanned.Open s) = HasPassed s text × (s.len ≡ old.len + 1)

@@ -10,6 +10,7 @@ pub mod Frames
 pub mod Iso
 pub mod Leaf
 pub mod Numbers
+pub mod Pieces
 pub mod Places
 pub mod Reads
 pub mod Seeking
@@ -23,7 +24,8 @@ pub mod Zeros
 -- the words that clauses of other crates cite
 pub use Rattle.bson_json_read.specs.Causes.{text_fault_text}
 pub use Rattle.bson_json_read.specs.Extents.{text_len}
-pub use Rattle.bson_json_read.specs.Places.{StandsIn}
+pub use Rattle.bson_json_read.specs.Pieces.{Held, IsOpen, MayFollow, MovesBy, StandsBehind}
+pub use Rattle.bson_json_read.specs.Places.{StandsIn, place_behind}
 pub use Rattle.bson_json_read.specs.Sequences.{AreRead, Fails, Gives, GivesBytes, HasNoBytes, Left}
 pub use Rattle.bson_json_read.specs.Sequences.{ReadsTo, next_in, nothing, utf8_read}
 pub use Rattle.bson_json_read.specs.Texts.{document_in}

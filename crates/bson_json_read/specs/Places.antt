@@ -1,10 +1,15 @@
 -- Lines and columns of a text in UTF-8.
-use Rattle.std.specs.Prelude.{◌≡◌, ℕ, ◌+◌, ◌≤◌, List, [], ◌∷◌, length, take, Bool, nat_le, nat_lt}
-use Rattle.std.specs.Prelude.{◌==◌, ◌&&◌, if◌then◌else◌}
+use Rattle.std.specs.Prelude.{◌≡◌, ℕ, suc, ◌+◌, ◌≤◌, List, [], ◌∷◌, length, take, Bool, nat_le}
+use Rattle.std.specs.Prelude.{nat_lt, ◌==◌, ◌&&◌, if◌then◌else◌}
 
 -- the byte goes on with a character
 abbrev pub goes_on : ℕ → Bool
 goes_on b = nat_le 128 b && nat_lt b 192
+
+-- how many characters begin in these bytes
+abbrev pub characters : List ℕ → ℕ
+characters [] = 0
+characters (b ∷ bs) = if goes_on b then characters bs else suc (characters bs)
 
 -- The line and the column behind these bytes, which begin at this line and this column. A line ends
 -- behind a line feed, and a column is a character.

@@ -1,8 +1,8 @@
 -- What the reader of an input of several texts finds.
 use Rattle.std.specs.Prelude.{◌≡◌, ⊤, ℕ, List, Option, Some, None, drop}
 use Rattle.bson_json_read.specs.declared.texts.Found.{Found}
-use Rattle.bson_json_read.specs.declared.texts.Sought.{Sought}
-use Rattle.bson_json_read.specs.declared.texts.Sought.TheVariants as sought
+use Rattle.bson_json_read.specs.declared.seek.Sought.{Sought}
+use Rattle.bson_json_read.specs.declared.seek.Sought.TheVariants as sought
 use Rattle.bson_json_read.specs.Extents.{text_len}
 use Rattle.bson_json_read.specs.Sequences.{Left, Next, fault_here, nothing}
 use Rattle.bson_json_read.specs.Sequences.{text_here}

@@ -1,8 +1,8 @@
 //! How far a text in braces reaches.
 
-ghost use Rattle.std.specs.Prelude.{◌≡◌, ◌+◌, ◌-◌, ◌<◌, ◌≤◌, ℕ, drop, get_or, length};
-ghost use Rattle.bson_json_read.specs.Extents.{extent, text_len};
-ghost use Rattle.bson_json_read.specs.declared.extent.Within.TheVariants.{Code, Quoted};
+ghost use Rattle.std.specs.Prelude.{◌≡◌, ◌-◌, ◌<◌, ◌≤◌, ◌^◌, List, ℕ, false, get_or, length};
+ghost use Rattle.bson_json_read.specs.Extents.{HasPassed, IsScanned, IsStepped, closes, open_next};
+ghost use Rattle.bson_json_read.specs.Extents.{text_len, within_next};
 
 use memchr::{memchr, memchr2, memrchr};
 
@@ -17,25 +17,127 @@ pub(crate) enum Within {
     Escaped,
 }
 
-/// Returns how many bytes a string has behind its first quote, with its last one: all, where it
-/// doesn't end.
-fn string_len(rest: &[u8]) -> usize
-    ensures passed { (count : ℕ)
-        → extent Quoted count rest.now ≡ result + extent Code count (drop result rest.now) }
-    ensures inside { result ≤ length rest.now }
-{
-    let mut len: usize = 0;
-    while let Some(passed) = memchr2(b'"', b'\\', &rest[len..]) {
-        let at = len + passed;
-        if rest[at] == b'"' {
-            return at + 1;
+impl Within {
+    /// Returns where a scan stands behind a byte.
+    fn behind(self, b: u8) -> Within
+        ensures { result ≡ within_next self b }
+    {
+        match (self, b) {
+            (Within::Code, b'"') | (Within::Escaped, _) => Within::Quoted,
+            (Within::Quoted, b'"') | (Within::Code, _) => Within::Code,
+            (Within::Quoted, b'\\') => Within::Escaped,
+            (Within::Quoted, _) => Within::Quoted,
         }
-        if at + 2 > rest.len() {
-            return rest.len();
-        }
-        len = at + 2;
     }
-    rest.len()
+}
+
+/// Where a scan of a text stands that found no end yet.
+#[derive(Clone, Copy)]
+pub(crate) struct Scan {
+    within: Within,
+    /// How many braces are open.
+    braces: usize,
+    /// How many bytes were passed.
+    len: usize,
+}
+
+/// What a scan found.
+#[derive(Clone, Copy)]
+pub(crate) enum Scanned {
+    /// The text ends behind so many bytes.
+    Closed(usize),
+    /// It goes on.
+    Open(Scan),
+}
+
+impl Scan {
+    /// Begins a scan of a text.
+    pub(crate) fn new() -> Scan
+        ensures { (text : List ℕ) → HasPassed result text }
+    {
+        Scan {
+            within: Within::Code,
+            braces: 0,
+            len: 0,
+        }
+    }
+
+    /// Returns true if no byte was passed yet.
+    pub(crate) fn is_new(self) -> bool {
+        self.len == 0
+    }
+
+    /// Returns true if a byte closes the outermost open brace.
+    fn closes(self, b: u8) -> bool
+        ensures { result ≡ closes self.within self.braces b }
+    {
+        matches!(self.within, Within::Code) && b == b'}' && self.braces <= 1
+    }
+
+    /// Returns how many braces are open behind a byte that closes none but inner ones.
+    fn braces_behind(self, b: u8) -> usize
+        requires few { self.braces < 2 ^ 63 }
+        requires inner { closes self.within self.braces b ≡ false }
+        ensures { result ≡ open_next self.within self.braces b }
+    {
+        match (self.within, b) {
+            (Within::Code, b'{') => self.braces + 1,
+            (Within::Code, b'}') => self.braces - 1,
+            _ => self.braces,
+        }
+    }
+
+    /// Passes the next byte of `text`.
+    fn step(self, text: &[u8]) -> Scanned
+        requires passed { HasPassed self text.now }
+        requires more { self.len < length text.now }
+        ensures { IsStepped self text.now result }
+    {
+        let b = text[self.len];
+        if self.closes(b) {
+            return Scanned::Closed(self.len + 1);
+        }
+        Scanned::Open(Scan {
+            within: self.within.behind(b),
+            braces: self.braces_behind(b),
+            len: self.len + 1,
+        })
+    }
+
+    /// Passes the bytes of a string up to its next quote or backslash, if the scan stands in one.
+    fn past_plain(self, text: &[u8]) -> Scan
+        requires { HasPassed self text.now }
+        ensures passed { HasPassed result text.now }
+        ensures further { self.len ≤ result.len }
+    {
+        let Within::Quoted = self.within else {
+            return self;
+        };
+        let plain = match memchr2(b'"', b'\\', &text[self.len..]) {
+            Some(plain) => plain,
+            None => text.len() - self.len,
+        };
+        Scan {
+            within: self.within,
+            braces: self.braces,
+            len: self.len + plain,
+        }
+    }
+}
+
+/// Scans on in a text, of which `scan` has passed some, for its end.
+pub(crate) fn scan_on(scan: Scan, text: &[u8]) -> Scanned
+    requires { HasPassed scan text.now }
+    ensures { IsScanned text.now result }
+{
+    let mut at = scan.past_plain(text);
+    while at.len < text.len() {
+        match at.step(text) {
+            Scanned::Closed(len) => return Scanned::Closed(len),
+            Scanned::Open(next) => at = next.past_plain(text),
+        }
+    }
+    Scanned::Open(at)
 }
 
 /// Returns how many bytes the text has that begins here: to the brace that closes its first one, or
@@ -45,25 +147,10 @@ pub fn text_extent(rest: &[u8]) -> usize
     ensures inside { result ≤ length rest.now }
     ensures some { 0 < length rest.now → 0 < result }
 {
-    let mut left = rest;
-    let mut count: usize = 0;
-    let mut len: usize = 0;
-    while let Some((b, behind)) = left.split_first() {
-        len += 1;
-        left = behind;
-        match *b {
-            b'"' => {
-                let string = string_len(behind);
-                len += string;
-                left = &behind[string..];
-            }
-            b'{' => count += 1,
-            b'}' if count <= 1 => return len,
-            b'}' => count -= 1,
-            _ => {}
-        }
+    match scan_on(Scan::new(), rest) {
+        Scanned::Closed(len) => len,
+        Scanned::Open(_) => rest.len(),
     }
-    len
 }
 
 /// The most bytes of a line that is read as a text before its end is sought.

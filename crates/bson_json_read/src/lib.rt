@@ -4,7 +4,7 @@
 //! `from_json` reads a text as an owned document, or tells its first fault. The kit's `json` tells
 //! which JSON value a text is. `wrapped` and `owned` have the forms of objects that stand for
 //! values, and `value` reads documents and arrays by them. `JsonTexts` reads the documents of an
-//! input of several texts.
+//! input of several texts, and `TextReader` those of one that comes in pieces.
 //!
 //! Uses bson_doc and bson_json. Used by engines and test_script. Read first: `text`, and then `value`.
 #![tactic(auto)]
@@ -28,9 +28,12 @@ mod options;
 mod owned;
 mod place;
 mod run;
+mod seek;
 mod seen;
 mod source;
 mod text;
+mod text_bytes;
+mod text_reader;
 mod texts;
 mod value;
 mod wrapped;
@@ -42,4 +45,5 @@ pub use fault::{Cause, JsonFault};
 pub use form::Form;
 pub use place::Place;
 pub use text::from_json;
+pub use text_reader::TextReader;
 pub use texts::{JsonTexts, NextBytes, TextFault};

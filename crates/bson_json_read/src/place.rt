@@ -1,12 +1,13 @@
 //! Finds the line and the column of a fault.
 
-ghost use Rattle.std.specs.Prelude.{◌≡◌, ◌≤◌, IfOk, length, take};
-ghost use Rattle.bson_json_read.specs.Places.{StandsIn, place_behind};
+ghost use Rattle.std.specs.Prelude.{◌≡◌, ◌+◌, ◌<◌, ◌≤◌, ◌^◌, IfOk, length, take};
+ghost use Rattle.bson_json_read.specs.Places.{StandsIn, characters, place_behind};
 
 use crate::fault::{Cause, JsonFault};
 use crate::misfit::misfit;
 use crate::text::JSON_DEPTH;
 use json::{Reader, Scratch, Token};
+use memchr::memchr;
 use std::alloc::{AllocError, Global};
 
 /// A place in a text. Lines, and the characters of a line, are counted from 1.
@@ -16,23 +17,50 @@ pub struct Place {
     pub column: usize,
 }
 
+/// Returns how many characters begin in these bytes.
+fn characters(bytes: &[u8]) -> usize
+    ensures count { result ≡ characters bytes.now }
+    ensures few { result ≤ length bytes.now }
+{
+    let mut count = 0;
+    for b in bytes {
+        if *b < 128 || *b >= 192 {
+            count += 1;
+        }
+    }
+    count
+}
+
+impl Place {
+    /// The place of the first byte.
+    pub(crate) const FIRST: Place = Place { line: 1, column: 1 };
+
+    /// Returns the place behind these bytes, which begin at this one.
+    pub(crate) fn behind(self, bytes: &[u8]) -> Place
+        requires lines { self.line + length bytes.now < 2 ^ 64 }
+        requires columns { self.column + length bytes.now < 2 ^ 64 }
+        ensures { (result.line, result.column) ≡ place_behind self.line self.column bytes.now }
+    {
+        let mut place = self;
+        let mut rest = bytes;
+        while let Some(len) = memchr(b'\n', rest) {
+            place = Place {
+                line: place.line + 1,
+                column: 1,
+            };
+            rest = &rest[len + 1..];
+        }
+        place.column += characters(rest);
+        place
+    }
+}
+
 /// Returns the place behind the first `offset` bytes.
 pub(crate) fn place_at(text: &[u8], offset: usize) -> Place
     requires { offset ≤ length text.now }
     ensures { (result.line, result.column) ≡ place_behind 1 1 (take offset text.now) }
 {
-    let mut place = Place { line: 1, column: 1 };
-    for b in &text[..offset] {
-        if *b == b'\n' {
-            place = Place {
-                line: place.line + 1,
-                column: 1,
-            };
-        } else if *b < 128 || *b >= 192 {
-            place.column += 1;
-        }
-    }
-    place
+    Place::FIRST.behind(&text[..offset])
 }
 
 /// Passes over this number of members, and then over a name, unless `at_name`.

@@ -1,23 +1,21 @@
 //! Reads documents from an input of several texts.
 
 ghost use Rattle.std.specs.Prelude.{◌≡◌, ◌≢◌, ◌≤◌, ◌<◌, ◌+◌, ◌⊎◌, ℕ, List, Err, IfErr, IfOk};
-ghost use Rattle.std.specs.Prelude.{IfSome, MatchResult, None, Ok, OnErr, drop, false, is_some};
-ghost use Rattle.std.specs.Prelude.{length, take, true};
-ghost use Rattle.std.specs.Str.{is_utf8};
+ghost use Rattle.std.specs.Prelude.{IfSome, None, Ok, OnErr, drop, is_some, length, take, true};
 ghost use Rattle.bson_json_read.specs.Extents.{text_len};
 ghost use Rattle.bson_json_read.specs.Places.{StandsIn};
 ghost use Rattle.bson_json_read.specs.Sequences.{Fails, Gives, GivesBytes, IsWritten, next_in};
 ghost use Rattle.bson_json_read.specs.Sequences.{nothing, text_here, utf8_read};
-ghost use Rattle.bson_json_read.specs.Seeking.{IsFound, IsText, next_at};
+ghost use Rattle.bson_json_read.specs.Seeking.{IsFound};
 ghost use Rattle.bson_json_read.specs.Values.{Pair};
 
-use crate::direct::write_text;
 use crate::extent::{line_len, text_extent};
 use crate::fault::Cause;
-use crate::frame::{Frame, Step};
+use crate::frame::Frame;
 use crate::place::{Place, place_at};
+use crate::seek::{Sought, seek};
 use crate::seen::Seen;
-use crate::text::from_json_in;
+use crate::text_bytes::{read_bytes, write_direct, write_document};
 use bson_doc::{DocRefusal, Document};
 use json::Scratch;
 use std::alloc::Global;
@@ -48,53 +46,6 @@ impl fmt::Display for TextFault {
 
 impl std::error::Error for TextFault {}
 
-/// What is next in an input.
-#[derive(Clone, Copy)]
-pub(crate) enum Sought {
-    /// The end.
-    Nothing,
-    /// A text.
-    Text(Frame),
-    /// What isn't to stand there, or the end where it isn't to be.
-    Fault(Cause),
-}
-
-/// Returns what is next in the rest of an input, and how many bytes stand before it.
-fn seek(frame: Frame, rest: &[u8]) -> (usize, Sought)
-    ensures next { next_in frame rest.now ≡ next_at result.1 (drop result.0 rest.now) }
-    ensures inside { result.0 ≤ length rest.now }
-    ensures text { IsText result.1 → result.0 < length rest.now }
-{
-    let mut at = frame;
-    let mut passed = 0;
-    for b in rest {
-        match at.step(*b) {
-            Step::Pass(behind) => at = behind,
-            Step::Text => return (passed, Sought::Text(at)),
-            Step::Refuse(cause) => return (passed, Sought::Fault(cause)),
-        }
-        passed += 1;
-    }
-    if at.may_end() {
-        (passed, Sought::Nothing)
-    } else {
-        (passed, Sought::Fault(Cause::NotJson))
-    }
-}
-
-/// Why a text isn't read, and at which offset of it.
-#[derive(Clone, Copy)]
-struct FaultAt {
-    cause: Cause,
-    offset: usize,
-}
-
-/// Memory was refused.
-const OUT_OF_MEMORY: FaultAt = FaultAt {
-    cause: Cause::OutOfMemory,
-    offset: 0,
-};
-
 /// A text of an input.
 #[derive(Clone, Copy)]
 pub(crate) struct Found {
@@ -104,116 +55,6 @@ pub(crate) struct Found {
     start: usize,
     /// How many bytes it has.
     len: usize,
-}
-
-/// Returns `bytes` as a text. Errs with the offset from which on they aren't UTF-8.
-fn text_of(bytes: &[u8]) -> Result<&str, usize>
-    ensures cases { MatchResult result (λ s. (s.now ≡ bytes.now) × (is_utf8 bytes.now ≡ true))
-        (λ _. is_utf8 bytes.now ≡ false) }
-    ensures offset { IfErr result (λ n. n ≤ length bytes.now) }
-{
-    match simdutf8::compat::from_utf8(bytes) {
-        Ok(text) => Ok(text),
-        Err(error) => Err(error.valid_up_to().min(bytes.len())),
-    }
-}
-
-/// Returns the document of the bytes of a text.
-#[tactic(auto, using(crate::proofs::TextBytes::of_text, crate::proofs::TextBytes::of_others))]
-fn read_bytes(alloc: Global, bytes: &[u8], scratch: &mut Scratch) -> Result<Document, FaultAt>
-    ensures ok { IfOk result (λ d. utf8_read bytes.now ≡ Ok d) }
-    ensures err { IfErr result (λ e. (e.cause ≡ Cause.OutOfMemory)
-        ⊎ ((path : List ℕ) × (utf8_read bytes.now ≡ Err (e.cause, path)))) }
-    ensures offset { IfErr result (λ e. e.offset ≤ length bytes.now) }
-{
-    let text = match text_of(bytes) {
-        Ok(text) => text,
-        Err(offset) => {
-            return Err(FaultAt {
-                cause: Cause::NotJson,
-                offset,
-            });
-        }
-    };
-    let fault = match from_json_in(alloc, text, scratch) {
-        Ok(document) => return Ok(document),
-        Err(fault) => fault,
-    };
-    let cause = fault.cause;
-    if cause == Cause::OutOfMemory {
-        return Err(OUT_OF_MEMORY);
-    }
-    match fault.offset(alloc, text) {
-        Ok(offset) => Err(FaultAt { cause, offset }),
-        Err(_) => Err(OUT_OF_MEMORY),
-    }
-}
-
-/// Puts the bytes of a text's document into `out`, in place of what that holds, by way of an owned
-/// document. Returns why it has none, if it has none.
-fn write_owned(
-    alloc: Global,
-    bytes: &[u8],
-    scratch: &mut Scratch,
-    out: &mut Vec<u8>,
-) -> Result<Option<DocRefusal>, FaultAt>
-    ensures ok { IfOk result (λ refusal. (d : List Pair) × (utf8_read bytes.now ≡ Ok d)
-        × IsWritten d refusal out.new.items) }
-    ensures err { IfErr result (λ e. (e.cause ≡ Cause.OutOfMemory)
-        ⊎ ((path : List ℕ) × (utf8_read bytes.now ≡ Err (e.cause, path)))) }
-    ensures offset { IfErr result (λ e. e.offset ≤ length bytes.now) }
-{
-    let document = read_bytes(alloc, bytes, scratch)?;
-    match document.to_raw() {
-        Ok(raw) => {
-            out.clear();
-            match out.extend_from_slice(raw.as_raw().as_bytes()) {
-                Ok(()) => Ok(None),
-                Err(_) => Err(OUT_OF_MEMORY),
-            }
-        }
-        Err(DocRefusal::OutOfMemory) => Err(OUT_OF_MEMORY),
-        Err(refusal) => Ok(Some(refusal)),
-    }
-}
-
-/// Puts the bytes of a text's document into `out`, in place of what that holds, straight from its
-/// JSON. Returns true if it did, which it does of usual texts.
-fn write_direct(
-    alloc: Global,
-    bytes: &[u8],
-    scratch: &mut Scratch,
-    seen: &mut Seen,
-    out: &mut Vec<u8>,
-) -> bool
-    ensures { result ≡ true → (d : List Pair) × (utf8_read bytes.now ≡ Ok d)
-        × IsWritten d None out.new.items }
-{
-    match text_of(bytes) {
-        Ok(text) => write_text(alloc, text, scratch, seen, out).is_some(),
-        Err(_) => false,
-    }
-}
-
-/// Puts the bytes of a text's document into `out`, in place of what that holds. Returns why it has
-/// none, if it has none.
-fn write_document(
-    alloc: Global,
-    bytes: &[u8],
-    scratch: &mut Scratch,
-    seen: &mut Seen,
-    out: &mut Vec<u8>,
-) -> Result<Option<DocRefusal>, FaultAt>
-    ensures ok { IfOk result (λ refusal. (d : List Pair) × (utf8_read bytes.now ≡ Ok d)
-        × IsWritten d refusal out.new.items) }
-    ensures err { IfErr result (λ e. (e.cause ≡ Cause.OutOfMemory)
-        ⊎ ((path : List ℕ) × (utf8_read bytes.now ≡ Err (e.cause, path)))) }
-    ensures offset { IfErr result (λ e. e.offset ≤ length bytes.now) }
-{
-    if write_direct(alloc, bytes, scratch, seen, out) {
-        return Ok(None);
-    }
-    write_owned(alloc, bytes, scratch, out)
 }
 
 /// What reading the next text as bytes comes to.

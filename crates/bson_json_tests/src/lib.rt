@@ -10,3 +10,5 @@
 mod failures;
 #[cfg(test)]
 mod json_refusals;
+#[cfg(test)]
+mod text_reader_refusals;
