@@ -129,8 +129,8 @@ pub record IsFed (limit start : ℕ) (held piece new : List ℕ) (old_room room 
   pub feeds : (s : ReaderState) → StandsAt start new s → (s ≡ Need → length new < w)
       → Feeds (record { limit = limit; start = start; held = held; room = old_room }) piece (record { limit = limit; start = start; held = new; room = room }) (record { taken = n; state = s })
 
-pub is_fed : (limit start : ℕ) (held piece new : List ℕ) (old_room room n w : ℕ) → IsWanted limit (held ++ piece) w → length held ≤ w → n ≡ min (length piece) (w - length held) → new ≡ held ++ take n piece → room ≤ max old_room (2 * (length held + n)) → IsFed limit start held piece new old_room room n w
-is_fed limit start held piece new old_room room n w wanted le is e most =
+pub is_fed : (limit start : ℕ) (held piece new : List ℕ) (old_room room n w : ℕ) → IsWanted limit (held ++ piece) w → length held ≤ w → n ≡ min (length piece) (w - length held) → new ≡ held ++ take n piece → old_room ≤ room → room ≤ max old_room (2 * (length held + n)) → IsFed limit start held piece new old_room room n w
+is_fed limit start held piece new old_room room n w wanted le is e grown most =
     let all : new ≡ take w (held ++ piece) = e ∙ gathered held piece n w le is in
     let size : length new ≡ length held + n = ap length e ∙ length-append held (take n piece) ∙ ap (λ (k : ℕ). length held + k) (omega (arith, length-take n piece, is)) in
     let none : HoldsNoMore limit new = subst (HoldsNoMore limit) (sym all) (no_more_gathered limit w (held ++ piece) wanted) in
@@ -146,17 +146,18 @@ is_fed limit start held piece new old_room room n w wanted le is e most =
         state = at;
         no_more = none;
         all = λ need. omega (arith, short need, size, is, le);
+        grown = grown;
         room = omega (arith, most, size);
       };
     }
 
 -- the same, where the bytes are the first ones of longer memory
-pub is_put : (limit start len n w : ℕ) (old new piece : List ℕ) → len ≤ length old → IsWanted limit (take len old ++ piece) w → length (take len old) ≤ w → n ≡ min (length piece) (w - len) → take (len + length (take n piece)) new ≡ take len old ++ take n piece → length new ≤ max (length old) (2 * (len + length (take n piece))) → IsFed limit start (take len old) piece (take (len + n) new) (length old) (length new) n w
-is_put limit start len n w old new piece within wanted le is filled most =
+pub is_put : (limit start len n w : ℕ) (old new piece : List ℕ) → len ≤ length old → IsWanted limit (take len old ++ piece) w → length (take len old) ≤ w → n ≡ min (length piece) (w - len) → take (len + length (take n piece)) new ≡ take len old ++ take n piece → length old ≤ length new → length new ≤ max (length old) (2 * (len + length (take n piece))) → IsFed limit start (take len old) piece (take (len + n) new) (length old) (length new) n w
+is_put limit start len n w old new piece within wanted le is filled grown most =
     let held : length (take len old) ≡ len = omega (arith, within, length-take len old) in
     let size : length (take n piece) ≡ n = omega (arith, is, length-take n piece) in
     is_fed limit start (take len old) piece (take (len + n) new) (length old) (length new) n w wanted le (omega (arith, is, held))
-    (ap (λ (k : ℕ). take (len + k) new) (sym size) ∙ filled) (omega (arith, most, held, size))
+    (ap (λ (k : ℕ). take (len + k) new) (sym size) ∙ filled) grown (omega (arith, most, held, size))
 
 -- ---- what is told of what is held
 

@@ -1,6 +1,6 @@
 -- What a reader of documents holds, and its state.
 use Rattle.std.specs.Prelude.{◌≡◌, ℕ, ◌+◌, ◌*◌, ◌^◌, ◌<◌, ◌≤◌, ◌⊎◌, List, [], ◌++◌, length}
-use Rattle.std.specs.Prelude.{Bool, false, max, take}
+use Rattle.std.specs.Prelude.{Bool, false, max, min, take}
 use Rattle.bson_elem.specs.{Spells, Tree}
 use Rattle.bson_raw.specs.{IsSpelled, is_plain}
 use Rattle.bson_stream.specs.declared.reader_state.Fed.{Fed}
@@ -9,6 +9,7 @@ use Rattle.bson_stream.specs.declared.reader_state.ReaderState.TheVariants.{Need
 use Rattle.bson_stream.specs.declared.reader_state.ReadRefusal.{ReadRefusal}
 use Rattle.bson_stream.specs.declared.reader_state.ReadRefusal.TheVariants.{OutOfMemory}
 use Rattle.bson_stream.specs.declared.reader_state.ReadRefusal.TheVariants.{TooFar, TooLong}
+use Rattle.bson_stream.specs.Holding.{IsWanted}
 use Rattle.bson_stream.specs.Standing.{IsBad, IsLength, IsOpen, announced}
 
 -- what a caller sees of a reader: its limit, the number of bytes of the documents before the
@@ -35,8 +36,8 @@ HoldsNoMore limit held =
     (length held ≤ 4)
     ⊎ (IsLength (announced held) × (announced held ≤ limit) × (length held ≤ announced held))
 
--- A reader was fed the piece, of which it took the front. The memory is at most twice what is held,
--- or what it was before.
+-- A reader was fed the piece, of which it took the front. The memory is no less than it was before,
+-- and at most that or twice what is held.
 pub record Feeds (old : Reading) (piece : List ℕ) (new : Reading) (fed : Fed) : Type 0 where
   pub taken : fed.taken ≤ length piece
   pub limit : new.limit ≡ old.limit
@@ -45,6 +46,7 @@ pub record Feeds (old : Reading) (piece : List ℕ) (new : Reading) (fed : Fed) 
   pub state : StandsAt new.start new.held fed.state
   pub no_more : HoldsNoMore new.limit new.held
   pub all : fed.state ≡ Need → fed.taken ≡ length piece
+  pub grown : old.room ≤ new.room
   pub room : new.room ≤ max old.room (2 * length new.held)
 
 -- a good length above the limit is in front
@@ -53,9 +55,15 @@ pub record AnnouncesMore (limit : ℕ) (bytes : List ℕ) : Type 0 where
   pub good : IsLength (announced bytes)
   pub more : limit < announced bytes
 
+-- there is too little memory for what is held and for what the document wants of the piece
+abbrev pub IsShort : Reading → List ℕ → Type 0
+IsShort old piece =
+    (wanted : ℕ) × IsWanted old.limit (old.held ++ piece) wanted
+    × (old.room < min (length old.held + length piece) wanted)
+
 -- why a reader took nothing of the piece
 abbrev pub IsRefused : Reading → List ℕ → ReadRefusal → Type 0
-IsRefused old piece OutOfMemory = old.room < length old.held + length piece
+IsRefused old piece OutOfMemory = IsShort old piece
 IsRefused old piece TooLong = AnnouncesMore old.limit (old.held ++ piece)
 IsRefused old piece TooFar = 2 ^ 64 ≤ old.start + length old.held + length piece
 

@@ -134,6 +134,7 @@ pub(crate) fn put_behind(
     ensures filled { OnOk result (take (len + length piece.now) bytes.new.items
         ≡ take len bytes.old.items ++ piece.now) }
     ensures there { OnOk result (len + length piece.now ≤ length bytes.new.items) }
+    ensures grown { length bytes.old.items ≤ length bytes.new.items }
     ensures most { length bytes.new.items
         ≤ max (length bytes.old.items) (2 * (len + length piece.now)) }
     ensures unchanged { OnErr result (bytes.new.items ≡ bytes.old.items) }

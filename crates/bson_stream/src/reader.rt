@@ -90,7 +90,7 @@ impl DocumentReader {
     /// Nothing is taken then, and nothing changes.
     ///
     /// - `OutOfMemory` if memory runs out. It is asked for only where there is too little for what
-    ///   is held and the piece.
+    ///   is held and what the document wants of the piece.
     /// - `TooLong` if the piece completes a good length that is above the limit.
     /// - `TooFar` if the held bytes and the piece would end more than 2 ^ 64 - 1 bytes from the
     ///   start of the stream.

@@ -97,6 +97,7 @@ impl Salvager {
         ensures fed { OnOk result ((fed : List ℕ) (told : List Part)
             → SoFar false fed told self.old → SoFar false (fed ++ piece.now) told self.new) }
         ensures kept { OnErr result (self.new ≡ self.old) }
+        ensures grown { self.old.room ≤ self.new.room }
         ensures room { self.new.room
             ≤ max self.old.room (2 * (length self.old.held + length piece.now)) }
         ensures refused { IfErr result (λ e. IsNotFed self.old piece.now e) }
@@ -226,6 +227,7 @@ fn make_way(bytes: &mut Vec<u8>, at: usize, len: usize, more: usize) -> Result<u
     ensures there { IfOk result (λ to. to + (len - at) + more ≤ length bytes.new.items) }
     ensures kept { IfOk result (λ to. drop to (take (to + (len - at)) bytes.new.items)
         ≡ drop at (take len bytes.old.items)) }
+    ensures grown { length bytes.old.items ≤ length bytes.new.items }
     ensures most { length bytes.new.items
         ≤ max (length bytes.old.items) (2 * (len - at + more)) }
     ensures unchanged { OnErr result (bytes.new.items ≡ bytes.old.items) }

@@ -10,7 +10,7 @@ fed : (c : After-deref-2) → IsFed c.self.inside.limit c.self.inside.start (tak
 fed c =
     let wanted : IsWanted c.self.inside.limit (take c.self.inside.len c.self.inside.bytes.items ++ c.args.piece.now) c.in_ok-wanted.wanted = rw c.deref.ensures.value at c.in_ok-wanted.ensures.wanted in
     let more = rw c.deref.ensures.value at c.in_ok-wanted.ensures.more in
-    is_put _ c.self.inside.start c.self.inside.len c.min-n.result c.in_ok-wanted.wanted c.self.inside.bytes.items c.put_behind.new.bytes.items c.args.piece.now c.self.invariant.within wanted more c.min-n.ensures c.in_ok-put_behind.ensures.filled c.in_ok-put_behind.ensures.most
+    is_put _ c.self.inside.start c.self.inside.len c.min-n.result c.in_ok-wanted.wanted c.self.inside.bytes.items c.put_behind.new.bytes.items c.args.piece.now c.self.invariant.within wanted more c.min-n.ensures c.in_ok-put_behind.ensures.filled c.put_behind.ensures.grown c.in_ok-put_behind.ensures.most
 
 pub state_of-self-inside-requires-clause-gathered : goal.state_of-self-inside-requires-clause-gathered
 state_of-self-inside-requires-clause-gathered c =
