@@ -17,7 +17,7 @@ writes s n = nat_lt n (2 ^ 32) && bytes_eq s (decimal n)
 abbrev pub index_of : List ℕ → Option ℕ
 index_of s = if writes s (digits_value 10 s) then Some (digits_value 10 s) else None
 
--- an element can be made at an index: it is there, or not too far behind the end
+-- an element can be made at an index: it is there, or the index is at most 1,500,000
 abbrev pub is_near : ℕ → List TreeValue → Bool
 is_near i vs = nat_lt i (length vs) || nat_le i 1500000
 

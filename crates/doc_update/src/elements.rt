@@ -38,7 +38,8 @@ fn is_near(index: usize, elements: &[Bson]) -> bool
 ///
 /// # Errors
 ///
-/// Returns `NotViable` if the step is no index, and `Backfill` if it is too far behind the end.
+/// Returns `NotViable` if the step is no index, and `Backfill` if it is behind the end and above
+/// 1,500,000.
 pub fn index_in(step: &str, elements: &[Bson]) -> Result<usize, CommandError>
     ensures { result ≡ index_in step.now (map value_of elements.now) }
 {

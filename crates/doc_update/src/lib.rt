@@ -15,6 +15,7 @@ mod deletes;
 mod elements;
 mod identity;
 mod increments;
+pub mod laws;
 mod operators;
 mod paths;
 mod removing;
