@@ -1,5 +1,5 @@
 -- What a line of a script is read as: on COMMAND [FILTER] [times N] ACTION
-use Rattle.std.specs.Prelude.{◌≡◌, ◌≢◌, ◌⊎◌, ℕ, ℤ, pos, ◌^◌, List, [], Bool}
+use Rattle.std.specs.Prelude.{◌≡◌, ◌≢◌, ◌⊎◌, ℕ, ℤ, pos, ◌^◌, List, [], Bool, false}
 use Rattle.std.specs.Prelude.{Option, Some, None, Ok, Err, codes, if◌then◌else◌, ◌||◌, ◌==◌, length}
 use Rattle.std.specs.Str.{bytes_eq}
 use Rattle.bson_raw.specs.{TreeValue}
@@ -15,7 +15,7 @@ use Rattle.test_script.specs.declared.fault.Cause.TheVariants as causes
 use Rattle.test_script.specs.declared.keyword.Keyword.{Keyword}
 use Rattle.test_script.specs.declared.keyword.Keyword.TheVariants as keywords
 use Rattle.test_script.specs.Rules.{RuleView}
-use Rattle.test_script.specs.Tokens.{behind, word_in}
+use Rattle.test_script.specs.Tokens.{begins_value, behind, word_in}
 use Rattle.test_script.specs.Written.{AreTwoWords, IsDocument, IsNoDocumentFor, IsNothing}
 use Rattle.test_script.specs.Written.{IsOneWord, IsQuoted}
 
@@ -186,9 +186,11 @@ after_filter line = behind_filter (after_command line)
 abbrev pub after_times : List ℕ → List ℕ
 after_times line = behind_times (after_filter line)
 
--- the line begins with `on` and a word
+-- the line begins with `on` and a word that is no document and no text in quotes
 abbrev pub HasCommand : List ℕ → Type 0
-HasCommand line = (word_in line ≡ codes "on") × (word_in (behind line) ≢ [])
+HasCommand line =
+    (word_in line ≡ codes "on") × (word_in (behind line) ≢ [])
+    × (begins_value (word_in (behind line)) ≡ false)
 
 -- the line is this rule
 pub record IsRule (line : List ℕ) (r : RuleView) : Type 0 where

@@ -1,6 +1,7 @@
 -- The words of a line. Spaces stand between them, and one that begins with a brace reaches to the
 -- brace that closes it.
-use Rattle.std.specs.Prelude.{ℕ, suc, List, [], ◌∷◌, Bool, false, ◌==◌, if◌then◌else◌, take, drop}
+use Rattle.std.specs.Prelude.{ℕ, suc, List, [], ◌∷◌, Bool, false, ◌==◌, ◌||◌}
+use Rattle.std.specs.Prelude.{if◌then◌else◌, take, drop}
 use Rattle.bson_json_read.specs.{text_len}
 
 -- the text without the spaces at its start
@@ -19,6 +20,12 @@ begins_object [] = false
 begins_object (b ∷ bs) = b == 123
 
 -- how many bytes the word has with which the text begins
+-- the text begins as a document or a text in quotes does
+abbrev pub begins_value : List ℕ → Bool
+begins_value [] = false
+begins_value (b ∷ bs) = b == 123 || b == 34
+
+-- how many bytes the first word has
 abbrev pub word_len : List ℕ → ℕ
 word_len text = if begins_object text then text_len text else plain_len text
 

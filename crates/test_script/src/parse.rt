@@ -13,7 +13,7 @@ use crate::keyword::{Keyword, read_keyword};
 use crate::operands::{error, is_nothing, one_number, one_word, reply};
 use crate::parts::{cut_filter, cut_times, read_command, read_filter, read_times};
 use crate::rule::Rule;
-use crate::token::cut_word;
+use crate::token::{begins_value, cut_word};
 use crate::written::no_document;
 use std::alloc::Global;
 use wire_script::LineError;
@@ -114,7 +114,7 @@ fn cut_command(line: &[u8]) -> Option<(&[u8], &[u8])>
 {
     let (on, rest) = cut_word(line);
     let (command, rest) = cut_word(rest);
-    if on == b"on".as_slice() && !command.is_empty() {
+    if on == b"on".as_slice() && !command.is_empty() && !begins_value(command) {
         Some((command, rest))
     } else {
         None

@@ -1,8 +1,8 @@
 //! Cuts a line into its words, one at a time.
 
 ghost use Rattle.std.specs.Prelude.{◌≡◌, ◌≤◌, length};
-ghost use Rattle.test_script.specs.Tokens.{begins_object, behind, past_spaces, plain_len};
-ghost use Rattle.test_script.specs.Tokens.{word_in, word_len};
+ghost use Rattle.test_script.specs.Tokens.{begins_object, begins_value, behind, past_spaces};
+ghost use Rattle.test_script.specs.Tokens.{plain_len, word_in, word_len};
 
 use bson_json_read::text_extent;
 
@@ -40,6 +40,16 @@ pub(crate) fn begins_object(text: &[u8]) -> bool
 {
     match text.first() {
         Some(first) => *first == b'{',
+        None => false,
+    }
+}
+
+/// Returns true if the text begins as a document or a text in quotes does.
+pub(crate) fn begins_value(text: &[u8]) -> bool
+    ensures { result ≡ begins_value text.now }
+{
+    match text.first() {
+        Some(first) => *first == b'{' || *first == b'"',
         None => false,
     }
 }

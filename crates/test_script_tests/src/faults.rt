@@ -5,11 +5,13 @@ use std::alloc::Global;
 use test_script::{Cause, Script, ScriptFault};
 
 /// Scripts, the line at fault, and why. The characters of Extended JSON are counted by hand.
-const FAULTS: [(&[u8], usize, Cause); 30] = [
+const FAULTS: [(&[u8], usize, Cause); 32] = [
     (b"find pass", 1, Cause::Start),
     (b"on", 1, Cause::Start),
     (b"on ", 1, Cause::Start),
     (b" # no comment", 1, Cause::Start),
+    (b"on {\"find\": \"c\"} pass", 1, Cause::Start),
+    (b"on \"find\" pass", 1, Cause::Start),
     (b"on find\n", 1, Cause::Action),
     (b"# one\n\non find pass\non find\n", 4, Cause::Action),
     (
