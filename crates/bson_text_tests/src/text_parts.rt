@@ -127,14 +127,14 @@ impl Write for Calls {
     }
 }
 
-/// Returns true if a quoted text reaches its writer in one call, and 600 digits in two.
+/// Returns true if a quoted text reaches its writer in one call, and 600 digits in three.
 fn takes_few_calls() -> bool {
     let mut calls = Calls { limit: 9, count: 0 };
     quoted_to("two runs\\and an escape", &mut calls).is_ok()
         && calls.count == 1
-        // 600 digits: 512 and then the rest.
+        // 600 digits: 256, 256 and then the rest.
         && hex_to(&[7; 300], &mut calls).is_ok()
-        && calls.count == 3
+        && calls.count == 4
 }
 
 #[test]

@@ -10,7 +10,7 @@ use std::io;
 use std::io::{ErrorKind, Write};
 
 /// The most bytes that wait for the writer.
-const BUFFER: usize = 512;
+const BUFFER: usize = 256;
 
 /// Tells that the writer failed. Its error is in the `TextWriter`.
 #[derive(Clone, Copy, Debug, PartialEq, Eq)]
@@ -106,6 +106,7 @@ impl<W: Write> TextWriter<W> {
     /// Writes the waiting bytes if `written`, which says whether all parts were written, is Ok.
     /// Returns the writer, and Ok or the error of this write; or where `written` is an error, the
     /// kept one, or one of the kind `Other` if none is kept.
+    #[inline(always)]
     pub fn finish(mut self, written: Result<(), Failed>) -> (W, io::Result<()>)
         ensures whole { OnOk result.1 (written ≡ Ok tt) }
         ensures bytes { OnOk result.1
@@ -119,7 +120,9 @@ impl<W: Write> TextWriter<W> {
         self.into_writer(ended)
     }
 
-    /// Returns the writer, and the kept error if it failed.
+    /// Returns the writer, and the kept error if it failed. Inlined, as `finish` is, so that the
+    /// buffer isn't moved.
+    #[inline(always)]
     fn into_writer(self, ended: Result<(), Failed>) -> (W, io::Result<()>)
         ensures whole { OnOk result.1 (ended ≡ Ok tt) }
         ensures writer { result.0 ≡ self.out }
