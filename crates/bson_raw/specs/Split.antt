@@ -7,6 +7,7 @@ use Rattle.bson_elem.specs.{FrontFault, Spells, Tree, document, elements}
 abbrev pub IsDocument : Tree → Type 0
 IsDocument t = Spells t (document (elements t))
 
+-- each tree is that of a document
 abbrev pub AreDocuments : List Tree → Type 0
 AreDocuments [] = Unit {0}
 AreDocuments (t ∷ ts) = IsDocument t × AreDocuments ts

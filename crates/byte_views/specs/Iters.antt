@@ -31,6 +31,7 @@ wrong_iter = record { start = 0; at = 1; end = 0; depth = 0 }
 
 -- ---- the beginning
 
+-- what stands before the first element of the document
 abbrev pub first_begins : List ℕ → FirstElement
 first_begins bytes = record {
   fault = first_fault None;

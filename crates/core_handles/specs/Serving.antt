@@ -22,6 +22,7 @@ use Rattle.core_handles.specs.declared.server_answers.NoAnswers.TheVariants.{Fau
 abbrev pub IsFit : Tree → Type 0
 IsFit t = IsDocument t × (first_repeated [] t ≡ None) × (message_len (body_alone t) < 2 ^ 31)
 
+-- documents each of which can be the body of a message
 abbrev pub AreFit : List Tree → Type 0
 AreFit [] = Unit {0}
 AreFit (t ∷ ts) = IsFit t × AreFit ts

@@ -49,6 +49,7 @@ no_state = cause_shown 255 0 (pos 0)
 
 -- ---- counts
 
+-- the count is told
 abbrev pub count_told : ℕ → CountTold
 count_told n = record { refusal = 0; count = n }
 

@@ -14,6 +14,7 @@ use Rattle.doc_query.specs.declared.paths.OwnValues.{OwnValues}
 use Rattle.doc_query.specs.Conditions.{elements}
 use Rattle.doc_query.specs.Owned.{values_in}
 
+-- the steps of a path: what stands between its dots
 abbrev pub steps : List ℕ → List (List ℕ)
 steps path = slice_split (λ b. b == 46) path
 

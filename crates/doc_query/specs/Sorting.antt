@@ -30,6 +30,7 @@ is_down v = passes operators.Eq v (int32 (negsuc 0))
 abbrev pub is_key : List ℕ → TreeValue → Bool
 is_key n v = not (is_operator n) && (is_up v || is_down v)
 
+-- whether each pair is a key and its direction
 abbrev pub are_keys : Tree → Bool
 are_keys no_pairs = true
 are_keys (leaf_pair n k v ps) = is_key n (leaf_value k v) && are_keys ps

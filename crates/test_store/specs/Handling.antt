@@ -21,7 +21,8 @@ IsUnanswerable t =
     ((e : DocRefusal) × (e ≢ written.OutOfMemory) × IsUnwritable t e)
     ⊎ ((e : MsgRefusal) × (e ≢ messages.OutOfMemory) × IsBodyRefusal t e)
 
--- memory may run out for the answer: it can be written, and goes into a message
+-- memory may run out for the answer: while it is written, or, if it can be, while it is put into a
+-- message
 abbrev pub WantsMemory : Tree → Type 0
 WantsMemory t =
     IsUnwritable t written.OutOfMemory

@@ -95,6 +95,7 @@ with_indexes (v ∷ vs) js =
 
 -- ---- telling them
 
+-- the document that listIndexes gives for an index
 abbrev pub index_listing : IndexView → TreeValue
 index_listing i =
     inner ((codes "v", int32 (pos 2)) ∷ (codes "key", i.key) ∷ (codes "name", text i.name) ∷ [])

@@ -93,6 +93,7 @@ IsFit (Passes d u m payload call made) = content_of payload ≡ m.content
 IsFit (Gives d u m reply answer made) = Unit {0}
 IsFit (LetsGo u reply answer) = Unit {0}
 
+-- each act is fit
 abbrev pub AreFit : List ShareAct → Type 0
 AreFit [] = Unit {0}
 AreFit (act ∷ acts) = IsFit act × AreFit acts

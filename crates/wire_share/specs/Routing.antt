@@ -37,6 +37,7 @@ pub record RoutesSeen : Type 0 where
   pub cursors : List (ℤ × ℕ)
   pub transactions : List (SessionId × ℕ)
 
+-- the routes of no cursor and no transaction
 abbrev pub no_routes : RoutesSeen
 no_routes = record { cursors = []; transactions = [] }
 

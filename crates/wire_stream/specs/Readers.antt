@@ -37,7 +37,7 @@ pub record CompletesHeader (limit : ℕ) (held piece : List ℕ) : Type 0 where
   pub after : 16 ≤ length (held ++ piece)
   pub good : IsGoodHeader limit (header_of (held ++ piece))
 
--- the number of bytes for which the reader took memory: those that a good header announces, or 0
+-- the number of bytes that the held header announces, if it is whole and good, or else 0
 pub data IsRoom : ℕ → List ℕ → ℕ → Type 0 where
   announced : {limit : ℕ} {held : List ℕ} {room : ℕ} → 16 ≤ length held
       → IsGoodHeader limit (header_of held) → room ≡ number_at held 0 → IsRoom limit held room
