@@ -1,8 +1,8 @@
 -- What a reader of pieces holds, as bytes are read, let go of and fed.
-use Rattle.std.proofs.Common.{◌≡◌, ◌∙◌, ◌+◌, ◌<◌, ◌≤◌, ◌-◌, ℕ, zero, suc, List, [], ◌∷◌, ◌++◌, Bool, true, false, Some, Ok, Err, append_assoc, append-nil, drop, get_or, length, take, ltb, refl, sym, ap, subst, arith}
+use Rattle.std.proofs.Common.{◌≡◌, ◌∙◌, ◌+◌, ◌<◌, ◌≤◌, ◌-◌, inr, ℕ, zero, suc, List, [], ◌∷◌, ◌++◌, Bool, true, false, Some, Ok, Err, append_assoc, append-nil, drop, get_or, length, take, ltb, refl, sym, ap, subst, arith}
 use Rattle.std.specs.Prelude.{if◌then◌else◌}
 use Rattle.std.proofs.lemmas.Bool.{ltb-false, ltb-true}
-use Rattle.std.proofs.lemmas.List.{drop-append-le, drop-drop, length-append, take-append-le, take_rest}
+use Rattle.std.proofs.lemmas.List.{drop-append-le, drop-drop, drop_all, length-append, take-append-le, take_rest}
 use Rattle.bson_json_read.specs.declared.extent.Scan.{Scan}
 use Rattle.bson_json_read.specs.declared.extent.Within.{Within}
 use Rattle.bson_json_read.specs.declared.extent.Within.TheVariants.{Code}
@@ -114,11 +114,16 @@ pub line_of : (last : Bool) (slice text : List ℕ) (n : ℕ) (d : List Pair) �
 line_of last slice text n d is some inside brace read whole =
     subst (λ (t : List ℕ). EndsIn last t n) is (line_ends last slice n (line_is_text slice n d some inside brace read) some inside whole)
 
-pub open_text : (frame : Frame) (bytes : List ℕ) (b : Begun) (s : Scan) → IsBegun frame bytes b → HasPassed s (drop b.passed bytes) → s.len ≡ length (drop b.passed bytes) → IsOpen (next_in frame bytes)
+pub open_text : (frame : Frame) (bytes : List ℕ) (b : Begun) (s : Scan) → IsBegun frame bytes b → HasPassed s (drop b.passed bytes) → s.len ≡ length (drop b.passed bytes) → IsOpen frame bytes
 open_text frame bytes b s begun passed all =
-    let here : next_in frame bytes ≡ text_here b.frame (drop b.passed bytes) =
-    ap (next_in frame) (sym (append-nil bytes)) ∙ begun.next [] ∙ ap (text_here b.frame) (append-nil (drop b.passed bytes)) in
-    subst IsOpen (sym here) (sym (open_len s (drop b.passed bytes) passed all))
+    let text = drop b.passed bytes in
+    let here : next_in frame bytes ≡ text_here b.frame text =
+    ap (next_in frame) (sym (append-nil bytes)) ∙ begun.next [] ∙ ap (text_here b.frame) (append-nil text) in
+    inr (b.frame, text, here, λ x. passed.behind (x ∷ []) ∙ ap (λ (rest : List ℕ). s.len + extent s.within s.braces (rest ++ x ∷ [])) (drop_all s.len text (omega (arith, all))) ∙ one_more (closes s.within s.braces x) ∙ ap (λ (n : ℕ). n + 1) all)
+  where
+    one_more : (c : Bool) → s.len + (if c then 1 else suc 0) ≡ s.len + 1
+    one_more true = refl
+    one_more false = refl
 
 -- ---- bytes that are fed
 

@@ -1,12 +1,12 @@
 -- What a reader holds of an input of several texts that comes in pieces.
-use Rattle.std.specs.Prelude.{◌≡◌, ℕ, ◌<◌, ◌≤◌, List, [], ◌++◌, Bool, true, drop, length, take}
-use Rattle.bson_json_read.specs.declared.fault.Cause.TheVariants as causes
+use Rattle.std.specs.Prelude.{◌≡◌, ◌⊎◌, ℕ, ◌+◌, ◌<◌, ◌≤◌, List, [], ◌∷◌, ◌++◌, Bool, true, drop}
+use Rattle.std.specs.Prelude.{length, take}
 use Rattle.bson_json_read.specs.declared.frame.Frame.{Frame}
 use Rattle.bson_json_read.specs.declared.place.Place.{Place}
 use Rattle.bson_json_read.specs.declared.text_reader.Begun.{Begun}
 use Rattle.bson_json_read.specs.Extents.{HasPassed, text_len}
 use Rattle.bson_json_read.specs.Places.{place_behind}
-use Rattle.bson_json_read.specs.Sequences.{Next, fault_here, next_in, nothing, text_here}
+use Rattle.bson_json_read.specs.Sequences.{next_in, text_here}
 
 -- where reading stands, the line and the column of the first held byte, and the held bytes
 pub record Held : Type 0 where
@@ -43,8 +43,17 @@ pub record MovesBy (n : ℕ) (old new : Held) : Type 0 where
   pub place : new.place ≡ place_behind old.place.0 old.place.1 (take n old.bytes)
   pub bytes : new.bytes ≡ drop n old.bytes
 
--- nothing is decided by what is next in the held bytes alone: they end between texts, or in a text
-abbrev pub IsOpen : Next → Type 0
-IsOpen nothing = Unit {0}
-IsOpen (text_here frame rest) = text_len rest ≡ length rest
-IsOpen (fault_here cause) = cause ≡ causes.NotJson
+-- the bytes end between texts: what follows is what is next behind them
+abbrev pub EndsBetween : Frame → List ℕ → Type 0
+EndsBetween frame bytes =
+    (behind : Frame) × ((more : List ℕ) → next_in frame (bytes ++ more) ≡ next_in behind more)
+
+-- the bytes end inside the text that is next: whatever byte follows belongs to it
+abbrev pub EndsInside : Frame → List ℕ → Type 0
+EndsInside frame bytes =
+    (here : Frame) × (text : List ℕ) × (next_in frame bytes ≡ text_here here text)
+    × ((b : ℕ) → text_len (text ++ b ∷ []) ≡ length text + 1)
+
+-- what follows decides what is next
+abbrev pub IsOpen : Frame → List ℕ → Type 0
+IsOpen frame bytes = EndsBetween frame bytes ⊎ EndsInside frame bytes

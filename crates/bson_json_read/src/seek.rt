@@ -1,6 +1,7 @@
 //! What is next in an input of several texts.
 
 ghost use Rattle.std.specs.Prelude.{◌≡◌, ◌<◌, ◌≤◌, ◌++◌, ℕ, List, drop, length};
+ghost use Rattle.bson_json_read.specs.Pieces.{EndsBetween};
 ghost use Rattle.bson_json_read.specs.Seeking.{IsText, next_at};
 ghost use Rattle.bson_json_read.specs.Sequences.{next_in};
 
@@ -23,8 +24,8 @@ pub(crate) fn seek(frame: Frame, rest: &[u8]) -> (usize, Sought)
     ensures next { next_in frame rest.now ≡ next_at result.1 (drop result.0 rest.now) }
     ensures front { result.0 < length rest.now → (more : List ℕ) → next_in frame (rest.now ++ more)
         ≡ next_at result.1 (drop result.0 rest.now ++ more) }
-    ensures end { (cause : Cause) → result.0 ≡ length rest.now → result.1 ≡ Sought.Fault cause
-        → cause ≡ Cause.NotJson }
+    ensures between { result.0 ≡ length rest.now → EndsBetween frame rest.now }
+    ensures nothing { result.1 ≡ Sought.Nothing → result.0 ≡ length rest.now }
     ensures inside { result.0 ≤ length rest.now }
     ensures text { IsText result.1 → result.0 < length rest.now }
 {

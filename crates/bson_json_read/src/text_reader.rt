@@ -5,8 +5,8 @@ ghost use Rattle.std.specs.Prelude.{Bool, List, None, Ok, OnErr, OnOk, Some, dro
 ghost use Rattle.std.specs.Prelude.{take, true, vec_len, ℕ};
 ghost use Rattle.bson_json_read.specs.Extents.{HasPassed};
 ghost use Rattle.bson_json_read.specs.Frames.{behind_text};
-ghost use Rattle.bson_json_read.specs.Pieces.{EndsIn, IsBegun, IsOpen, MayFollow, MovesBy};
-ghost use Rattle.bson_json_read.specs.Pieces.{StandsBehind};
+ghost use Rattle.bson_json_read.specs.Pieces.{EndsBetween, EndsIn, IsBegun, IsOpen, MayFollow};
+ghost use Rattle.bson_json_read.specs.Pieces.{MovesBy, StandsBehind};
 ghost use Rattle.bson_json_read.specs.Places.{place_behind};
 ghost use Rattle.bson_json_read.specs.Sequences.{Fails, GivesBytes, IsWritten, fault_here};
 ghost use Rattle.bson_json_read.specs.Sequences.{next_in, nothing, utf8_read};
@@ -163,7 +163,7 @@ impl TextReader {
             IfSome found (IsBegun self.now.frame self.now.bytes)) }
         ensures ended { result ≡ Ok None → last ≡ true
             → next_in self.now.frame self.now.bytes ≡ nothing }
-        ensures open { result ≡ Ok None → IsOpen (next_in self.now.frame self.now.bytes) }
+        ensures open { result ≡ Ok None → EndsBetween self.now.frame self.now.bytes }
         ensures err { IfErr result (λ e. (more : List ℕ) → MayFollow last more
             → next_in self.now.frame (self.now.bytes ++ more) ≡ fault_here e.cause) }
         ensures place { IfErr result (λ e. StandsBehind self.now e.place) }
@@ -180,7 +180,8 @@ impl TextReader {
                 scan: Scan::new(),
             })),
             Sought::Fault(cause) if last || passed < held.len() => Err(self.fault(cause, passed)),
-            Sought::Fault(_) | Sought::Nothing => Ok(None),
+            Sought::Fault(_) => Ok(None),
+            Sought::Nothing => Ok(None),
         }
     }
 
@@ -313,7 +314,7 @@ impl TextReader {
         ensures ended { result ≡ Ok (Some NextBytes.AtEnd)
             → (last ≡ true) × (self.new ≡ self.old) }
         ensures open { result ≡ Ok None → (last ≡ false) × (self.new ≡ self.old)
-            × IsOpen (next_in self.old.frame self.old.bytes) }
+            × IsOpen self.old.frame self.old.bytes }
         ensures err { IfErr result (λ e. (e.cause ≡ Cause.OutOfMemory) ⊎ ((more : List ℕ)
             → MayFollow last more
             → Fails (next_in self.old.frame (self.old.bytes ++ more)) e.cause)) }
