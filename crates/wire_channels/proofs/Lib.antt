@@ -22,6 +22,7 @@ pub mod Grows
 pub mod Witness
 pub mod Work
 pub mod Asking
+pub mod Alike
 pub mod Beside
 pub mod Once
 pub mod OwnEntries

@@ -14,6 +14,7 @@ mod lists;
 mod moving;
 mod records;
 mod rooms;
+mod runs;
 mod worlds;
 
 pub use records::{CallRecord, CallState};

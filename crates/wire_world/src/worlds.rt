@@ -2,10 +2,8 @@
 
 ghost use Rattle.std.specs.Prelude.{◌≡◌, ◌≢◌, ◌↔◌, ◌-◌, IfErr, IfNone, IfOk, IfSome, IsTrue, Err};
 ghost use Rattle.std.specs.Prelude.{MatchResult, None, Ok, OnErr, Some, map};
-ghost use Rattle.wire_model.specs.{AreGood, Calls, CutsDown, CutsUp, GoesOnFromEach, Happens};
-ghost use Rattle.wire_model.specs.{Headline, IdsApart, IsQuiet, QuietIsDone, RawAnswerOwn};
-ghost use Rattle.wire_model.specs.{RawGiveOwn, RefusesCall, Returns, Run, UncutIsOpen};
-ghost use Rattle.wire_model.specs.{cleared_world, dropped, first_reason, is_full_for, opening};
+ghost use Rattle.wire_model.specs.{Calls, CutsDown, CutsUp, Happens, IsQuiet, RefusesCall};
+ghost use Rattle.wire_model.specs.{Returns, cleared_world, dropped, first_reason, is_full_for};
 ghost use Rattle.wire_model.specs.{restarted_world};
 ghost use Rattle.wire_model.specs.declared.events.Event.TheVariants as events;
 ghost use Rattle.wire_model.specs.declared.reports.Report.TheVariants as reports;
@@ -582,60 +580,5 @@ impl<H: Handler> World<H> {
             Event::Raw(c, bytes) => self.feed_raw(c, at, bytes),
             Event::RawTake(c, n) => self.take_raw(c, at, n),
         }
-    }
-}
-
-impl<H: Handler + Drop> World<H> {
-    /// Makes a world, and makes the events happen in it, one after another.
-    fn run_events(
-        alloc: Global,
-        handler: H,
-        limits: WorldLimits,
-        events: &[Event<'_>],
-    ) -> Result<World<H>, SetupRefusal>
-        ensures { MatchResult result
-            (λ w. AreGood limits × (w.limits ≡ limits)
-            × Run H.does H.stops limits (opening limits handler) events.now w.state)
-            (λ refusal. IsSetupRefusal limits refusal) }
-    {
-        let mut world = World::new(alloc, handler, limits)?;
-        for event in events {
-            let _ = world.step(event);
-        }
-        Ok(world)
-    }
-
-    /// Makes a world, and makes the events happen in it, one after another. An event that is
-    /// refused doesn't stop the run.
-    ///
-    /// # Errors
-    ///
-    /// Returns what `World::new` returns.
-    pub fn run(
-        alloc: Global,
-        handler: H,
-        limits: WorldLimits,
-        events: &[Event<'_>],
-    ) -> Result<World<H>, SetupRefusal>
-        ensures run { MatchResult result
-            (λ w. AreGood limits × (w.limits ≡ limits)
-            × Run H.does H.stops limits (opening limits handler) events.now w.state)
-            (λ refusal. IsSetupRefusal limits refusal) }
-        ensures headline { IfOk result (λ w. Headline H.does H.stops handler w.state) }
-        ensures goes_on { IfOk result
-            (λ w. GoesOnFromEach H.does H.stops limits handler events.now w.state) }
-        ensures quiet { IfOk result (λ w. QuietIsDone w.state) }
-        ensures uncut { IfOk result (λ w. UncutIsOpen w.state) }
-        ensures ids { IfOk result (λ w. IdsApart w.state) }
-        ensures entries { IfOk result (λ w.
-            (ran : Run H.does H.stops limits (opening limits handler) events.now w.state)
-            × (shown : Headline H.does H.stops handler w.state)
-            × RawAnswerOwn H.does H.stops limits handler events.now w.state ran shown.m) }
-        ensures replies { IfOk result (λ w.
-            (ran : Run H.does H.stops limits (opening limits handler) events.now w.state)
-            × (shown : Headline H.does H.stops handler w.state)
-            × RawGiveOwn H.does H.stops limits handler events.now w.state ran shown.m) }
-    {
-        World::run_events(alloc, handler, limits, events)
     }
 }
