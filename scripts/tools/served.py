@@ -114,11 +114,11 @@ def ask(link, body, number=1):
     return reply(link)
 
 
-def start(room, words):
-    """Starts a program that says where it listens, and ends with the script. Returns it, and its address."""
+def start(room, words, **how):
+    """Starts a program that says where it listens, and ends with the script. Returns it, and its address. `how` is for Popen."""
     path = os.path.join(room, f"output-{time.monotonic_ns()}")
     with open(path, "wb") as output:
-        program = subprocess.Popen(words, stdout=output)
+        program = subprocess.Popen(words, stdout=output, **how)
     atexit.register(program.kill)
     while b"\n" not in open(path, "rb").read(4096):
         check("the program listens", program.poll() is None, words[0], program.returncode)

@@ -2,13 +2,16 @@
 
 use crate::fault::ProxyFault;
 use crate::sink::Sink;
-use mio::Events;
+use mio::{Events, Token};
 use std::alloc::Global;
 use std::io;
 use std::io::Write;
 use std::net::Net;
 use std::rt::Files;
 use std::time::Clock;
+
+/// The token of the listener. Those of connections are smaller.
+pub const LISTENER: Token = Token(usize::MAX);
 
 /// A proxy that waits for events and serves them.
 pub trait EventLoop {

@@ -9,11 +9,10 @@
 //! seed, from which it is drawn where each connection is cut. With a script a `HeldLink` holds each
 //! message until it is whole, and `fate` asks the script.
 //!
-//! Uses wire_relay, test_script, wire_record and engines. Used by shared_proxy and bsonwire. Read
-//! first: `options`, `pair`, `sink`, and then `proxy`.
+//! Uses sockets, wire_relay, test_script, wire_record and engines. Used by shared_proxy and bsonwire.
+//! Read first: `options`, `pair`, `sink`, and then `proxy`.
 #![tactic(auto)]
 
-mod acceptor;
 mod chance;
 mod direction;
 mod ending;
@@ -33,10 +32,9 @@ mod sink;
 mod socket;
 mod watch;
 
-pub use acceptor::{ACCEPTS, Acceptor, EVENTS, LISTENER};
 pub use chance::{Cut, drawn_cut};
 pub use direction::Direction;
-pub use event_loop::{EventLoop, serve};
+pub use event_loop::{EventLoop, LISTENER, serve};
 pub use fate::{Fate, fate_of};
 pub use fault::ProxyFault;
 pub use held_link::HeldLink;

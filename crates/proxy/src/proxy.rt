@@ -1,14 +1,13 @@
 //! Accepts connections, and passes their bytes to a server and back.
 
-use crate::acceptor::{ACCEPTS, Acceptor, LISTENER};
-use crate::event_loop::EventLoop;
+use crate::event_loop::{EventLoop, LISTENER};
 use crate::options::Options;
 use crate::pairs::{Faults, Pairs, ROOM};
 use crate::sink::Sink;
 use crate::socket::Socket;
 use mio::net::{TcpListener, TcpStream};
 use mio::{Events, Token};
-use sockets::IoFailure;
+use sockets::{ACCEPTS, Acceptor, IoFailure};
 use std::alloc::Global;
 use std::io;
 use std::io::Write;
@@ -16,15 +15,22 @@ use std::net::{Net, SocketAddr};
 use std::rt::Files;
 use std::time::Clock;
 
-/// The system's numbers of the errors that no open file is left, for any process or for this one
-/// (`man 3 errno`). They have no kind of their own.
+/// The system's numbers of the errors that it has no memory, no open file, for any process or for
+/// this one, or no room for buffers left (`man 3 errno`). They have no kinds of their own.
+const ENOMEM: i32 = 12;
+
 const ENFILE: i32 = 23;
 
 const EMFILE: i32 = 24;
 
-/// Returns true if the system tells that no open file is left.
-fn leaves_no_file(error: &io::Error) -> bool {
-    matches!(error.raw_os_error(), Some(ENFILE | EMFILE))
+const ENOBUFS: i32 = 105;
+
+/// Returns true if the system tells that it has nothing left for one more connection.
+fn leaves_none(error: &io::Error) -> bool {
+    matches!(
+        error.raw_os_error(),
+        Some(ENOMEM | ENFILE | EMFILE | ENOBUFS)
+    )
 }
 
 /// What accepts connections, the address of the server, and the pairs of connections. The tokens of
@@ -54,40 +60,48 @@ impl Proxy {
     ) -> io::Result<Proxy> {
         Ok(Proxy {
             alloc,
-            acceptor: Acceptor::new(net, listener, options.connections)?,
+            acceptor: Acceptor::new(net, listener, LISTENER, options.connections)?,
             upstream,
             pairs: Pairs::new(alloc, options.watching(), faults),
         })
     }
 
-    /// Registers both connections of a pair.
-    fn register(&self, near: &mut TcpStream, far: &mut TcpStream) -> io::Result<()> {
-        let token = self.pairs.next_key().saturating_mul(2);
-        self.acceptor.register(near, token)?;
-        self.acceptor.register(far, token | 1)
+    /// Takes a connection back that came, since the system can't serve it now.
+    fn take_back(&mut self, near: TcpStream, error: &io::Error) -> io::Result<()> {
+        self.acceptor.take_back(near, IoFailure::of(error));
+        Ok(())
     }
 
-    /// Passes bytes between a connection that came and one to the server. If they can't be
-    /// registered, both are closed.
-    fn join<W: Write>(&mut self, near: TcpStream, far: TcpStream, out: &mut W) -> io::Result<()> {
-        let (mut near, mut far) = (near, far);
-        if let Err(error) = self.register(&mut near, &mut far) {
-            return self.pairs.refuse(IoFailure::of(&error), out);
+    /// Passes bytes between a connection that came and one to the server. If that can't be registered,
+    /// under this token, it is closed, and the one that came is taken back.
+    fn join<W: Write>(
+        &mut self,
+        near: TcpStream,
+        far: TcpStream,
+        token: usize,
+        out: &mut W,
+    ) -> io::Result<()> {
+        let mut far = far;
+        if let Err(error) = self.acceptor.register(&mut far, token) {
+            return self.take_back(near, &error);
         }
         let near = Socket::new(self.alloc, near)?;
         let far = Socket::new(self.alloc, far)?;
         self.pairs.open(near, far, out)
     }
 
-    /// Connects to the server, for a connection that came. If no open file is left, that is tried
-    /// again after a pause. If it fails else, the connection is closed, and others are served.
+    /// Registers a connection that came, and connects to the server for it. If the system has nothing
+    /// left for one of these, that is tried again after a pause. If connecting fails else, the
+    /// connection is closed, and others are served.
     fn open<W: Write>(&mut self, net: &impl Net, near: TcpStream, out: &mut W) -> io::Result<()> {
+        let mut near = near;
+        let token = self.pairs.next_key().saturating_mul(2);
+        if let Err(error) = self.acceptor.register(&mut near, token) {
+            return self.take_back(near, &error);
+        }
         match TcpStream::connect(net, self.upstream) {
-            Ok(far) => self.join(near, far, out),
-            Err(error) if leaves_no_file(&error) && self.pairs.len() > 0 => {
-                self.acceptor.take_back(near, IoFailure::of(&error));
-                Ok(())
-            }
+            Ok(far) => self.join(near, far, token | 1, out),
+            Err(error) if leaves_none(&error) => self.take_back(near, &error),
             Err(error) => self.pairs.refuse(IoFailure::of(&error), out),
         }
     }

@@ -1,6 +1,5 @@
 //! Runs a proxy, from its first line until enough connections ended.
 
-use crate::acceptor::EVENTS;
 use crate::event_loop::serve;
 use crate::fault::ProxyFault;
 use crate::options::Options;
@@ -9,7 +8,7 @@ use crate::proxy::Proxy;
 use crate::sink::Sink;
 use mio::Events;
 use mio::net::{TcpListener, UdpSocket};
-use sockets::address_of;
+use sockets::{EVENTS, address_of};
 use std::alloc::Global;
 use std::fs::File;
 use std::io::{BufWriter, ErrorKind, Write};

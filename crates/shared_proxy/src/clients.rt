@@ -94,23 +94,6 @@ impl Clients {
         Ok(())
     }
 
-    /// Counts a client that is closed at once, for this reason, and writes that, if it is told.
-    ///
-    /// # Errors
-    ///
-    /// Returns an error if writing fails.
-    pub fn refuse<W: Write>(&mut self, leave: Leave, out: &mut W) -> io::Result<()>
-        ensures rose { Rose self.old.counts.opened self.new.counts.opened }
-    {
-        let number = self.next();
-        self.counts.opened = number;
-        self.counts.ended = self.counts.ended.saturating_add(1);
-        if self.watching.told {
-            writeln!(out, "{number} new")?;
-        }
-        self.tell(number, leave, out)
-    }
-
     /// Writes why a client is gone, if that is told.
     fn tell<W: Write>(&self, number: u64, leave: Leave, out: &mut W) -> io::Result<()> {
         if self.watching.told || leave.is_told() {

@@ -8,8 +8,8 @@ use crate::server::Use;
 use crate::servers::Servers;
 use mio::Events;
 use mio::net::TcpStream;
-use proxy::{Acceptor, Socket, drawn_cut};
-use sockets::IoFailure;
+use proxy::{Socket, drawn_cut};
+use sockets::{Acceptor, IoFailure};
 use std::alloc::{AllocError, Global};
 use std::io;
 use std::io::Write;
@@ -90,20 +90,21 @@ impl Connector {
     }
 
     /// Accepts the client that has the next number among these, if one waits. If it can't be
-    /// registered, it is closed, and why is returned.
+    /// registered, it is accepted once more after a pause.
     ///
     /// # Errors
     ///
     /// Returns `AllocError` if memory runs out.
-    pub fn accept(&mut self, clients: &Clients) -> Result<Option<io::Result<Line>>, AllocError> {
+    pub fn accept(&mut self, clients: &Clients) -> Result<Option<Line>, AllocError> {
         let Some(mut stream) = self.acceptor.accept(clients.has_room()) else {
             return Ok(None);
         };
         let token = Side::Client(clients.next()).token();
         if let Err(error) = self.acceptor.register(&mut stream, token) {
-            return Ok(Some(Err(error)));
+            self.acceptor.take_back(stream, IoFailure::of(&error));
+            return Ok(None);
         }
-        Ok(Some(Ok(self.client_line(stream)?)))
+        Ok(Some(self.client_line(stream)?))
     }
 
     /// Makes the line of the connection to the server of this number.

@@ -22,7 +22,7 @@ pub enum Leave {
     BadServer(ClientCause),
     /// The server can't be asked.
     Refused(CallRefusal),
-    /// Connecting to the server failed, or a client couldn't be registered.
+    /// Connecting to the server failed.
     Unconnected(IoFailure),
     /// The script hung up at the request with this id, which was not passed on.
     HungUp(i32),

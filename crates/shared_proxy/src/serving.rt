@@ -4,7 +4,8 @@ use crate::connector::Connector;
 use crate::sharing::Sharing;
 use crate::turns::Turns;
 use mio::Events;
-use proxy::{Acceptor, EVENTS, Options, ProxyFault, listen, read_script, serve};
+use proxy::{LISTENER, Options, ProxyFault, listen, read_script, serve};
+use sockets::{Acceptor, EVENTS};
 use std::alloc::Global;
 use std::io::{BufWriter, Write};
 use std::net::Net;
@@ -35,7 +36,7 @@ pub fn run<R: Net + Files + Clock + Alloc, W: Write + Drop>(
     let mut out = BufWriter::new(alloc, out)?;
     let events = Events::with_capacity(alloc, EVENTS)?;
     let (listener, upstream, sink) = listen(rt, alloc, options, &mut out)?;
-    let acceptor = Acceptor::new(rt, listener, options.connections)?;
+    let acceptor = Acceptor::new(rt, listener, LISTENER, options.connections)?;
     let holds = script.is_some();
     let connector = Connector::new(alloc, acceptor, upstream, options.seed, holds);
     let sharing = Sharing::new(alloc, connector, most, options.watching());

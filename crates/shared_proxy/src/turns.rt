@@ -1,13 +1,12 @@
 //! Accepts clients, and has each connection take its turns.
 
 use crate::due::Side;
-use crate::leave::Leave;
 use crate::line::Step;
 use crate::sharing::Sharing;
 use crate::steering::{Steered, release, steer};
-use mio::Events;
-use proxy::{ACCEPTS, EventLoop, LISTENER, Sink};
-use sockets::IoFailure;
+use mio::{Events, Token};
+use proxy::{EventLoop, LISTENER, Sink};
+use sockets::ACCEPTS;
 use std::alloc::Global;
 use std::io;
 use std::io::{ErrorKind, Write};
@@ -176,10 +175,9 @@ impl Turns {
         out: &mut W,
     ) -> io::Result<()> {
         for event in events.iter() {
-            if event.token() == LISTENER {
-                self.sharing.connector.resume();
-            } else {
-                self.turn(rt, Side::of_token(event.token().0), sink, out)?;
+            match event.token() {
+                LISTENER => self.sharing.connector.resume(),
+                Token(token) => self.turn(rt, Side::of_token(token), sink, out)?,
             }
         }
         Ok(())
@@ -189,11 +187,7 @@ impl Turns {
     fn accept_some<W: Write>(&mut self, out: &mut W) -> io::Result<()> {
         for _ in 0..ACCEPTS {
             match self.sharing.connector.accept(&self.sharing.clients)? {
-                Some(Ok(line)) => self.sharing.clients.open(line, out)?,
-                Some(Err(error)) => {
-                    let leave = Leave::Unconnected(IoFailure::of(&error));
-                    self.sharing.clients.refuse(leave, out)?;
-                }
+                Some(line) => self.sharing.clients.open(line, out)?,
                 None => break,
             }
         }

@@ -7,6 +7,9 @@ use std::io;
 use std::io::ErrorKind;
 use std::time::Duration;
 
+/// The most events that one wait tells.
+pub const EVENTS: usize = 64;
+
 /// Registers a stream, so that its events come under this token. Its bytes are sent as they are
 /// written (`TCP_NODELAY`).
 ///

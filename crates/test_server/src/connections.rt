@@ -7,19 +7,19 @@ ghost use Rattle.wire_hall.specs.declared.turned.Leave.{Leave};
 
 use crate::drained::{Drained, Turns};
 use crate::guide::Guide;
-use crate::input::Watched;
 use crate::output::Output;
 use crate::scripts::Scripts;
 use crate::serving::{ANSWER_STEPS, STEPS, Serving, settle};
 use crate::stop::Stop;
 use mio::net::{TcpListener, TcpStream};
-use mio::{Events, Interest, Poll, Token};
+use mio::{Events, Token};
+use sockets::{ACCEPTS, Acceptor, IoFailure, Stdin};
 use std::alloc::Global;
 use std::collections::VecDeque;
 use std::io;
-use std::io::{BufRead, ErrorKind, Write};
+use std::io::{BufRead, Write};
 use std::net::Net;
-use std::time::{Clock, Duration};
+use std::time::Clock;
 use test_script::{Delays, Flow, Scripted};
 use test_store::Store;
 use wire_hall::{Turned, Valve};
@@ -29,23 +29,16 @@ use wire_stream::TcpLink;
 const LISTENER: Token = Token(usize::MAX);
 
 /// The token of standard input.
-const INPUT: Token = Token(usize::MAX - 1);
-
-/// The most connections that are accepted at once, before others take turns.
-const ACCEPTS: usize = 16;
+const STDIN: Token = Token(usize::MAX - 1);
 
 /// The most connections that are open at once. More of them wait at the listener.
 pub const ROOM: usize = 1024;
 
-/// How many milliseconds the server waits where accepting failed, before it tries again.
-const PAUSE: u64 = 50;
-
 /// A listener and its connections, and standard input, if its end is waited for.
 #[derive(Drop)]
 pub struct Connections<I> {
-    poll: Poll,
-    listener: TcpListener,
-    input: Option<Watched<I>>,
+    acceptor: Acceptor,
+    stdin: Stdin<I>,
     pub serving: Serving<Valve<TcpLink<Drained<TcpStream>>>, Scripted<Store>>,
     /// The turn that a connection takes.
     turns: Turns,
@@ -54,20 +47,14 @@ pub struct Connections<I> {
     /// The keys of connections whose turns ended before there was nothing to do, each once. It has
     /// room for those of all connections, so another turn wants no memory.
     again: VecDeque<usize>,
-    /// A connection may wait at the listener.
-    ready: bool,
-    /// Accepting failed, and is tried again after a pause.
-    pausing: bool,
-    /// How many more connections are accepted.
-    wanted: u64,
 }
 
 /// What a server begins to listen with.
 #[derive(Drop)]
 pub struct Setup<I> {
     pub listener: TcpListener,
-    /// Standard input, if its end is waited for.
-    pub input: Option<I>,
+    /// What reads standard input, if its end is waited for.
+    pub reader: Option<I>,
     /// How many connections are accepted.
     pub wanted: u64,
     /// What tells of turns, before the first one.
@@ -109,66 +96,45 @@ impl<I: BufRead + Drop> Connections<I> {
             setup.scripts.guide.rules.items c.serving) }
     {
         let Setup {
-            mut listener,
-            input,
+            listener,
+            reader,
             wanted,
             turns,
             again,
             scripts,
         } = setup;
-        let poll = Poll::new(net)?;
-        poll.registry()
-            .register(&mut listener, LISTENER, Interest::READABLE)?;
-        let input = match input {
-            Some(input) => Some(Watched::new(input, poll.registry(), INPUT)),
-            None => None,
-        };
+        let acceptor = Acceptor::new(net, listener, LISTENER, wanted)?;
+        let stdin = Stdin::new(reader, acceptor.registry(), STDIN);
         Ok(Connections {
-            poll,
-            listener,
-            input,
+            acceptor,
+            stdin,
             serving: begin(alloc, scripts),
             turns,
             delays: Delays::new(alloc),
             again,
-            ready: true,
-            pausing: false,
-            wanted,
         })
     }
 
     /// Returns true if standard input was waited for, and has ended.
     pub fn has_input_ended(&self) -> bool {
-        match &self.input {
-            Some(input) => input.has_ended(),
-            None => false,
-        }
+        self.stdin.has_ended()
     }
 
-    /// Takes what came over standard input, if its end is waited for.
-    fn take_input(&mut self)
-        ensures { self.new.serving ≡ self.old.serving }
-    {
-        if let Some(input) = &mut self.input {
-            input.take(self.poll.registry(), INPUT);
-        }
-    }
-
-    /// Opens the connection over `stream`. If the system can't tell of its events, it is closed,
-    /// and others are served.
+    /// Opens the connection over `stream`. If it can't be registered, it is accepted once more after
+    /// a pause, and others are served.
     fn open<W: Write>(&mut self, stream: TcpStream, out: &mut W) -> Result<(), Stop>
         ensures { OnOk result (GoesOnServing self.old.serving self.new.serving
             (W.contents out.old) (W.contents out.new)) }
     {
         let mut stream = stream;
         let key = self.serving.next_key();
-        if sockets::register(self.poll.registry(), &mut stream, key).is_err() {
+        if let Err(error) = self.acceptor.register(&mut stream, key) {
+            self.acceptor.take_back(stream, IoFailure::of(&error));
             return Ok(());
         }
         let Ok(stream) = self.turns.drained(stream) else {
             return Err(Stop::OutOfMemory);
         };
-        self.wanted = self.wanted.saturating_sub(1);
         self.serving.open(Valve::new(TcpLink::new(stream)), out)
     }
 
@@ -177,20 +143,12 @@ impl<I: BufRead + Drop> Connections<I> {
         ensures { OnOk result (GoesOnServing self.old.serving self.new.serving
             (W.contents out.old) (W.contents out.new)) }
     {
-        if self.wanted == 0 || self.serving.len() >= ROOM {
-            self.ready = false;
-            return Ok(false);
-        }
-        match self.listener.accept() {
-            Ok((stream, _)) => {
+        match self.acceptor.accept(self.serving.len() < ROOM) {
+            Some(stream) => {
                 self.open(stream, out)?;
-                Ok(true)
+                Ok(self.acceptor.is_ready())
             }
-            Err(error) => {
-                self.ready = false;
-                self.pausing = error.kind() != ErrorKind::WouldBlock;
-                Ok(false)
-            }
+            None => Ok(false),
         }
     }
 
@@ -216,7 +174,7 @@ impl<I: BufRead + Drop> Connections<I> {
         match turned {
             Some(Turned::Again) => self.take_up(key),
             Some(Turned::Over(leave)) => {
-                self.ready = true;
+                self.acceptor.resume();
                 settle(leave)
             }
             Some(Turned::Waits) | None => Ok(()),
@@ -337,7 +295,7 @@ impl<I: BufRead + Drop> Connections<I> {
     {
         for event in events.iter() {
             match event.token() {
-                LISTENER | INPUT => {}
+                LISTENER | STDIN => {}
                 Token(key) => {
                     self.turns.begin(event);
                     self.answer_one(key, out)?;
@@ -347,7 +305,7 @@ impl<I: BufRead + Drop> Connections<I> {
         Ok(())
     }
 
-    /// Has each connection of which these events are take a turn, and takes what came besides.
+    /// Has each connection of which these events are take a turn, and notes that others may wait.
     fn finish_each<W: Output>(
         &mut self,
         clock: &impl Clock,
@@ -359,8 +317,8 @@ impl<I: BufRead + Drop> Connections<I> {
     {
         for event in events.iter() {
             match event.token() {
-                LISTENER => self.ready = true,
-                INPUT => self.take_input(),
+                LISTENER => self.acceptor.resume(),
+                STDIN => {}
                 Token(key) => {
                     self.turns.begin(event);
                     self.take_turn(clock, key, out)?;
@@ -392,38 +350,33 @@ impl<I: BufRead + Drop> Connections<I> {
         }
     }
 
-    /// Returns how long events are waited for: not at all if there is more to do, for a pause if
-    /// accepting failed, and no longer than a reply is held.
-    fn timeout(&self, clock: &impl Clock) -> Result<Option<Duration>, Stop> {
-        if !self.again.is_empty() || self.ready {
-            return Ok(Some(Duration::from_millis(0)));
-        }
-        let held = self.delays.least(clock)?;
-        if self.pausing {
-            let pause = Duration::from_millis(PAUSE);
-            return Ok(Some(held.map_or(pause, |held| held.min(pause))));
-        }
-        Ok(held)
-    }
-
-    /// Waits for events. Then has the connections take another turn whose replies were held for long
-    /// enough.
-    fn wait(&mut self, clock: &impl Clock, events: &mut Events<Global>) -> Result<(), Stop>
+    /// Says on standard error why connections wait, once until none does. If standard error takes no
+    /// line, they wait all the same.
+    fn tell_backlog(&mut self, rt: &impl Eprint)
         ensures { self.new.serving ≡ self.old.serving }
     {
-        let timeout = self.timeout(clock)?;
-        sockets::wait(&mut self.poll, events, timeout)?;
-        if self.pausing {
-            self.pausing = false;
-            self.ready = true;
+        if let Some(reason) = self.acceptor.take_reason() {
+            let _ = eprintln!(rt; "test_server: {reason}");
         }
-        self.release(clock)
+    }
+
+    /// Waits for events: not at all if there is more to do, and no longer than a reply is held. Then
+    /// takes what came over standard input, and has the connections take another turn whose replies
+    /// were held for long enough.
+    fn wait<R: Clock + Eprint>(&mut self, rt: &R, events: &mut Events<Global>) -> Result<(), Stop>
+        ensures { self.new.serving ≡ self.old.serving }
+    {
+        self.tell_backlog(rt);
+        let held = self.delays.least(rt)?;
+        self.acceptor.wait(events, !self.again.is_empty(), held)?;
+        self.stdin.see(self.acceptor.registry(), events);
+        self.release(rt)
     }
 
     /// Waits for events, and serves the connections that they are of.
-    pub fn serve_some<W: Output>(
+    pub fn serve_some<R: Clock + Eprint, W: Output>(
         &mut self,
-        clock: &impl Clock,
+        rt: &R,
         events: &mut Events<Global>,
         out: &mut W,
     ) -> Result<(), Stop>
@@ -431,10 +384,10 @@ impl<I: BufRead + Drop> Connections<I> {
             (W.contents out.old) (W.contents out.new)) }
     {
         out.flush().map_err(Stop::Output)?;
-        self.wait(clock, events)?;
-        self.take_up_turns(clock, out)?;
-        self.take_turns(clock, events, out)?;
-        if self.ready {
+        self.wait(rt, events)?;
+        self.take_up_turns(rt, out)?;
+        self.take_turns(rt, events, out)?;
+        if self.acceptor.is_ready() {
             self.accept_some(out)?;
         }
         Ok(())

@@ -12,9 +12,9 @@
 //! to end with standard input, and that ended. It is 2 if the command line or the script is at
 //! fault, 3 if reading the script, listening, waiting or writing the output or the file of the port
 //! failed, and 4 if memory ran out. Where no connection can be accepted, as where no open file is
-//! left, it tries again until one can.
+//! left, standard error says so, and it tries again until one can.
 //!
-//! Uses test_store, wire_hall and wire_text. Read first: `serving`, `connections` and then `run`.
+//! Uses test_store, wire_hall, wire_text and sockets. Read first: `serving`, `connections` and then `run`.
 #![tactic(auto)]
 
 mod choice;
@@ -22,7 +22,6 @@ mod command_line;
 mod connections;
 mod drained;
 mod guide;
-mod input;
 mod output;
 mod run;
 mod scripts;

@@ -15,7 +15,7 @@ use crate::scripts::{Scripts, read_scripts};
 use crate::stop::{ServingEnd, Stop};
 use mio::Events;
 use mio::net::TcpListener;
-use sockets::address_of;
+use sockets::{EVENTS, address_of};
 use std::alloc::Global;
 use std::collections::VecDeque;
 use std::fs::File;
@@ -24,9 +24,6 @@ use std::io::{BufRead, ErrorKind, Input, Write};
 use std::net::{Net, SocketAddr};
 use std::rt::Files;
 use std::time::Clock;
-
-/// The most events that one wait tells.
-const EVENTS: usize = 64;
 
 /// Writes the port.
 fn write_port<W: Write>(port: u16, out: &mut W) -> io::Result<()>
@@ -70,14 +67,14 @@ fn listen<R: Net + Files + Input, W: Write>(
     let local = listener.local_addr()?;
     write_first(local, out).map_err(Stop::Output)?;
     tell_port(rt, choice.port_file, local.port()).map_err(Stop::PortFile)?;
-    let input = if choice.until_stdin_closes {
+    let reader = if choice.until_stdin_closes {
         Some(rt.reader())
     } else {
         None
     };
     let setup = Setup {
         listener,
-        input,
+        reader,
         wanted: choice.connections,
         turns,
         again,
@@ -89,8 +86,8 @@ fn listen<R: Net + Files + Input, W: Write>(
 
 /// Serves connections until as many of them ended as the words ask for, or until standard input
 /// ends, if they say so.
-fn serve_until<C: Clock, I: BufRead + Drop, W: Output>(
-    clock: &C,
+fn serve_until<R: Clock + Eprint, I: BufRead + Drop, W: Output>(
+    rt: &R,
     connections: &mut Connections<I>,
     events: &mut Events<Global>,
     choice: Choice<'_>,
@@ -107,15 +104,15 @@ fn serve_until<C: Clock, I: BufRead + Drop, W: Output>(
         if choice.until_stdin_closes && connections.has_input_ended() {
             return Ok(());
         }
-        connections.serve_some(clock, events, out)?;
+        connections.serve_some(rt, events, out)?;
     }
     // No server serves some that often.
     Err(Stop::InOut(io::Error::from(ErrorKind::Other)))
 }
 
 /// Serves connections, and writes nothing.
-fn serve_quietly<C: Clock, I: BufRead + Drop>(
-    clock: &C,
+fn serve_quietly<R: Clock + Eprint, I: BufRead + Drop>(
+    rt: &R,
     connections: &mut Connections<I>,
     events: &mut Events<Global>,
     choice: Choice<'_>,
@@ -124,12 +121,12 @@ fn serve_quietly<C: Clock, I: BufRead + Drop>(
     ensures served { (a : Option (List ℕ)) → OnOk result (ShowsServing true
         connections.old.serving connections.new.serving a a) }
 {
-    serve_until(clock, connections, events, choice, &mut io::sink())
+    serve_until(rt, connections, events, choice, &mut io::sink())
 }
 
 /// Serves connections, and writes what was asked and answered, unless the words ask for quiet.
-fn serve_shown<C: Clock, I: BufRead + Drop, W: Output>(
-    clock: &C,
+fn serve_shown<R: Clock + Eprint, I: BufRead + Drop, W: Output>(
+    rt: &R,
     connections: &mut Connections<I>,
     events: &mut Events<Global>,
     choice: Choice<'_>,
@@ -141,15 +138,15 @@ fn serve_shown<C: Clock, I: BufRead + Drop, W: Output>(
         (W.contents out.old) (W.contents out.new)) }
 {
     if choice.quiet {
-        serve_quietly(clock, connections, events, choice)
+        serve_quietly(rt, connections, events, choice)
     } else {
-        serve_until(clock, connections, events, choice, out)
+        serve_until(rt, connections, events, choice, out)
     }
 }
 
 /// Listens where the words say, and writes to `out` where that is, and serves connections until
 /// there were enough. Returns how many ended, and no more than the words ask for.
-fn serve_all<R: Net + Files + Input + Clock, W: Output>(
+fn serve_all<R: Net + Files + Input + Clock + Eprint, W: Output>(
     rt: &R,
     alloc: Global,
     choice: Choice<'_>,
@@ -185,7 +182,7 @@ fn write_last<W: Write>(count: u64, out: &mut W) -> io::Result<()>
 
 /// Serves what the words ask for, and writes what was asked and answered, unless they ask for
 /// quiet. Opens no socket if they ask for 0 connections.
-fn serve_at<R: Net + Files + Input + Clock, W: Output>(
+fn serve_at<R: Net + Files + Input + Clock + Eprint, W: Output>(
     rt: &R,
     alloc: Global,
     choice: Choice<'_>,
@@ -210,7 +207,7 @@ fn serve_at<R: Net + Files + Input + Clock, W: Output>(
 
 /// Reads the script, if the words name one, and serves what they ask for. Writes to `out` what was
 /// asked and answered, unless they ask for quiet, between a first line and a last one.
-pub fn run<R: Net + Files + Input + Clock + Alloc, W: Output>(
+pub fn run<R: Net + Files + Input + Clock + Eprint + Alloc, W: Output>(
     rt: &R,
     alloc: Global,
     choice: Choice<'_>,
