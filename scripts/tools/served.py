@@ -173,7 +173,7 @@ class Server:
 
 
 class Proxy:
-    """The proxy to a server with an `address`, as a context. A script is written to a file for it."""
+    """The proxy to a server with an `address`, with standard input that is held open, as a context. A script is written to a file for it."""
 
     def __init__(self, words, server, *options, script=None):
         self.room = tempfile.TemporaryDirectory()
@@ -183,7 +183,8 @@ class Proxy:
                 out.write(script)
             options = ("--script", rules, *options)
         with open(self.path, "wb") as output:
-            self.process = subprocess.Popen([*words, "proxy", *options, "127.0.0.1:0", "{}:{}".format(*server.address)], stdout=output)
+            self.process = subprocess.Popen(
+                [*words, "proxy", "--until-stdin-closes", *options, "127.0.0.1:0", "{}:{}".format(*server.address)], stdin=subprocess.PIPE, stdout=output)
         while not (lines := self.lines()):
             check("the proxy listens", self.process.poll() is None, self.process.returncode)
             time.sleep(0.01)
@@ -212,4 +213,5 @@ class Proxy:
     def __exit__(self, *_):
         self.process.kill()
         self.process.wait()
+        self.process.stdin.close()
         self.room.cleanup()

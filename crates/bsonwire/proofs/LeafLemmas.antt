@@ -156,7 +156,10 @@ proxy_defaults_keep = (
               none_keeps (codes "share"),
               (
                 none_keeps (codes "connections"),
-                (none_keeps (codes "port-file"), (none_keeps (codes "script"), (none_keeps (codes "seed"), (none_keeps (codes "help"), tt)))),
+                (
+                  flag_default_keeps (codes "until-stdin-closes") refl,
+                  (none_keeps (codes "port-file"), (none_keeps (codes "script"), (none_keeps (codes "seed"), (none_keeps (codes "help"), tt)))),
+                ),
               ),
             ),
           ),

@@ -63,7 +63,7 @@ IsBoolText o = (given : Bool) × (o ≡ Some (if given then codes "true" else co
 
 -- the name is that of a flag
 abbrev pub is_flag : Text → Bool
-is_flag id = bytes_eq id (codes "quiet") || (bytes_eq id (codes "hex") || (bytes_eq id (codes "json") || (bytes_eq id (codes "relaxed") || (bytes_eq id (codes "array") || (bytes_eq id (codes "offsets") || (bytes_eq id (codes "salvage") || (bytes_eq id (codes "any") || bytes_eq id (codes "text"))))))))
+is_flag id = bytes_eq id (codes "quiet") || (bytes_eq id (codes "hex") || (bytes_eq id (codes "json") || (bytes_eq id (codes "relaxed") || (bytes_eq id (codes "array") || (bytes_eq id (codes "offsets") || (bytes_eq id (codes "salvage") || (bytes_eq id (codes "any") || (bytes_eq id (codes "text") || bytes_eq id (codes "until-stdin-closes")))))))))
 
 -- a flag is no other argument
 pub no_operand : (name id : Text) → is_flag name ≡ true → is_flag id ≡ false → name ≡ id → ⊥
@@ -343,10 +343,13 @@ proxy_leaf_keeps = (
               (
                 number_keeps (codes "connections") refl refl refl,
                 (
-                  option_keeps (codes "port-file") (plain_name (codes "port-file") refl refl refl refl),
+                  flag_keeps (codes "until-stdin-closes") refl,
                   (
-                    option_keeps (codes "script") (plain_name (codes "script") refl refl refl refl),
-                    (number_keeps (codes "seed") refl refl refl, (help_keeps, tt)),
+                    option_keeps (codes "port-file") (plain_name (codes "port-file") refl refl refl refl),
+                    (
+                      option_keeps (codes "script") (plain_name (codes "script") refl refl refl refl),
+                      (number_keeps (codes "seed") refl refl refl, (help_keeps, tt)),
+                    ),
                   ),
                 ),
               ),

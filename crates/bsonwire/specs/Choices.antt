@@ -101,6 +101,7 @@ pub record HoldsOptions (o : Options) (rows : List Row) : Type 0 where
   pub upstream : first_of (codes "upstream") rows ≡ Some o.upstream.now
   pub show : o.show ≡ shown_by rows
   pub connections : AsksForMany o.connections (one_of (codes "connections") rows)
+  pub until_stdin_closes : o.until_stdin_closes ≡ was_given (codes "until-stdin-closes") rows
   pub port_file : option_map (λ file. file.now) o.port_file ≡ first_of (codes "port-file") rows
   pub script : option_map (λ file. file.now) o.script ≡ first_of (codes "script") rows
   pub seed : AsksFor o.seed (one_of (codes "seed") rows)

@@ -92,7 +92,8 @@ show_rules =
 -- its other options
 abbrev pub option_rules : List Rule
 option_rules =
-    share_rule ∷ number_rule (codes "connections") ∷ text_rule (codes "port-file") ∷ []
+    share_rule ∷ number_rule (codes "connections") ∷ flag_rule (codes "until-stdin-closes")
+    ∷ text_rule (codes "port-file") ∷ []
 
 -- the faults that it makes
 abbrev pub fault_rules : List Rule

@@ -201,6 +201,7 @@ fn options_of<'a>(matches: &ArgMatches<'a>) -> Options<'a>
         upstream: operand_of(matches, "upstream"),
         show: show_of(matches),
         connections: count_of(matches, "connections"),
+        until_stdin_closes: is_given(matches, "until-stdin-closes"),
         port_file: text_of(matches, "port-file"),
         script: text_of(matches, "script"),
         seed: number_of(matches, "seed"),

@@ -253,10 +253,12 @@ fn passing_command<'a>(alloc: Global) -> Result<Command<'a>, AllocError>
     ensures local { IfOk result (λ c. (out-Command c).has_globals ≡ false) }
 {
     let count = "End after this many connections; without it the proxy goes on";
+    let until = "End when standard input does";
     let port = "Write the port and a line feed to FILE once the proxy listens";
     showing_command(alloc)?
         .arg(share_option(alloc))?
         .arg(number_option(alloc, "connections", "N", count))?
+        .arg(flag(alloc, "until-stdin-closes", until))?
         .arg(text_option(alloc, "port-file", "FILE", port))
 }
 

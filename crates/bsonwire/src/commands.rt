@@ -265,7 +265,7 @@ fn tell_loop(rt: &impl Eprint, end: RunEnd, unwritten: Because) -> u8
 }
 
 /// Passes connections to a server and back, or the requests of all clients over a few of them.
-fn run_proxy<R: Files + Net + Clock + AllocGlobal, W: Write>(
+fn run_proxy<R: Files + Input + Net + Clock + AllocGlobal, W: Write>(
     rt: &R,
     options: Options<'_>,
     out: &mut W,
@@ -293,7 +293,7 @@ fn fault_status(fault: &ProxyFault) -> u8
 }
 
 /// Runs a proxy, and returns the exit status. If it stopped early, standard error says why.
-fn proxy_status<R: Files + Net + Clock + Print + Eprint + AllocGlobal>(
+fn proxy_status<R: Files + Input + Net + Clock + Print + Eprint + AllocGlobal>(
     rt: &R,
     options: Options<'_>,
 ) -> u8

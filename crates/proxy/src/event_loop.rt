@@ -1,22 +1,31 @@
-//! What each proxy does until enough connections ended: it waits for events and serves them.
+//! What each proxy does until enough connections ended, or standard input: it waits for events and
+//! serves them.
 
 use crate::fault::ProxyFault;
+use crate::options::Options;
 use crate::sink::Sink;
-use mio::{Events, Token};
+use mio::{Events, Registry, Token};
+use sockets::Stdin;
 use std::alloc::Global;
 use std::io;
-use std::io::Write;
+use std::io::{BufRead, Input, Write};
 use std::net::Net;
 use std::rt::Files;
 use std::time::Clock;
 
-/// The token of the listener. Those of connections are smaller.
+/// The token of the listener. Those of connections are smaller than that of standard input.
 pub const LISTENER: Token = Token(usize::MAX);
+
+/// The token of standard input.
+pub const STDIN: Token = Token(usize::MAX - 1);
 
 /// A proxy that waits for events and serves them.
 pub trait EventLoop {
     /// Returns true if as many connections of clients ended as wanted, and nothing is left to pass.
     fn is_over(&self, wanted: u64) -> bool;
+
+    /// Returns what registers sockets, so that their events are waited for.
+    fn registry(&self) -> &Registry;
 
     /// Waits for events, passes what can be passed, and gives the messages of it to the sink. What
     /// is shown or recorded until now is written before it waits.
@@ -33,40 +42,49 @@ pub trait EventLoop {
     ) -> io::Result<()>;
 }
 
-/// Serves until as many connections of clients ended as wanted.
-fn serve_until<P: EventLoop, R: Net + Files + Clock, W: Write>(
+/// Serves until as many connections of clients ended as wanted, or standard input.
+fn serve_until<P: EventLoop, R: Net + Files + Clock, I: BufRead + Drop, W: Write>(
     rt: &R,
     proxy: &mut P,
     wanted: u64,
+    stdin: &mut Stdin<I>,
     events: &mut Events<Global>,
     sink: &mut Sink<'_, R>,
     out: &mut W,
 ) -> io::Result<()> {
     for _ in 0..u64::MAX {
-        if proxy.is_over(wanted) {
+        if proxy.is_over(wanted) || stdin.has_ended() {
             break;
         }
         proxy.serve_some(rt, events, sink, out)?;
+        stdin.see(proxy.registry(), events);
     }
     out.flush()
 }
 
-/// Serves until as many connections of clients ended as wanted, and writes what was recorded to the
-/// file.
+/// Serves until as many connections of clients ended as the options say, or until standard input ends,
+/// if they say so, and writes what was recorded to the file.
 ///
 /// # Errors
 ///
 /// Returns `RecordFile` if the file of records can't be written, and `Io` if writing or waiting
 /// fails, or memory runs out. What was recorded by then is written to the file.
-pub fn serve<P: EventLoop, R: Net + Files + Clock, W: Write>(
+pub fn serve<P: EventLoop, R: Net + Files + Clock + Input, W: Write>(
     rt: &R,
     proxy: &mut P,
-    wanted: u64,
+    options: Options<'_>,
     mut events: Events<Global>,
     mut sink: Sink<'_, R>,
     out: &mut W,
 ) -> Result<(), ProxyFault> {
-    let served = match serve_until(rt, proxy, wanted, &mut events, &mut sink, out) {
+    let reader = if options.until_stdin_closes {
+        Some(rt.reader())
+    } else {
+        None
+    };
+    let mut stdin = Stdin::new(reader, proxy.registry(), STDIN);
+    let wanted = options.connections;
+    let served = match serve_until(rt, proxy, wanted, &mut stdin, &mut events, &mut sink, out) {
         Ok(()) => Ok(()),
         Err(error) => Err(sink.fault_of(error)),
     };

@@ -34,7 +34,7 @@ mod watch;
 
 pub use chance::{Cut, drawn_cut};
 pub use direction::Direction;
-pub use event_loop::{EventLoop, LISTENER, serve};
+pub use event_loop::{EventLoop, LISTENER, STDIN, serve};
 pub use fate::{Fate, fate_of};
 pub use fault::ProxyFault;
 pub use held_link::HeldLink;

@@ -22,6 +22,8 @@ pub struct Options<'a> {
     pub show: Show,
     /// The number of connections to serve.
     pub connections: u64,
+    /// End when standard input does.
+    pub until_stdin_closes: bool,
     /// The file to write the port to.
     pub port_file: Option<&'a str>,
     /// The file of the script.

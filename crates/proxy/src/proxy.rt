@@ -1,12 +1,12 @@
 //! Accepts connections, and passes their bytes to a server and back.
 
-use crate::event_loop::{EventLoop, LISTENER};
+use crate::event_loop::{EventLoop, LISTENER, STDIN};
 use crate::options::Options;
 use crate::pairs::{Faults, Pairs, ROOM};
 use crate::sink::Sink;
 use crate::socket::Socket;
 use mio::net::{TcpListener, TcpStream};
-use mio::{Events, Token};
+use mio::{Events, Registry, Token};
 use sockets::{ACCEPTS, Acceptor, IoFailure};
 use std::alloc::Global;
 use std::io;
@@ -131,6 +131,7 @@ impl Proxy {
         for event in events.iter() {
             match event.token() {
                 LISTENER => self.acceptor.resume(),
+                STDIN => {}
                 Token(token) => self.pairs.turn(clock, token / 2, sink, out)?,
             }
         }
@@ -141,6 +142,10 @@ impl Proxy {
 impl EventLoop for Proxy {
     fn is_over(&self, wanted: u64) -> bool {
         self.pairs.ended() >= wanted
+    }
+
+    fn registry(&self) -> &Registry {
+        self.acceptor.registry()
     }
 
     fn serve_some<R: Net + Files + Clock, W: Write>(

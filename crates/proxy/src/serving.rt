@@ -1,4 +1,4 @@
-//! Runs a proxy, from its first line until enough connections ended.
+//! Runs a proxy, from its first line until enough connections ended, or standard input.
 
 use crate::event_loop::serve;
 use crate::fault::ProxyFault;
@@ -11,7 +11,7 @@ use mio::net::{TcpListener, UdpSocket};
 use sockets::{EVENTS, address_of};
 use std::alloc::Global;
 use std::fs::File;
-use std::io::{BufWriter, ErrorKind, Write};
+use std::io::{BufWriter, ErrorKind, Input, Write};
 use std::net::{IpAddr, Ipv4Addr, Ipv6Addr, Net, SocketAddr};
 use std::rt::Files;
 use std::time::Clock;
@@ -122,14 +122,15 @@ pub fn listen<'r, R: Net + Files + Clock, W: Write>(
 }
 
 /// Listens where the options say, and passes connections to the server until as many of them ended
-/// as they ask for. Writes to `out` where it listens, and what is shown of the connections, and to
-/// the file of records the messages. Opens no socket and no file if they ask for 0 connections.
+/// as they ask for, or until standard input ends, if they say so. Writes to `out` where it listens,
+/// and what is shown of the connections, and to the file of records the messages. Opens no socket and
+/// no file if they ask for 0 connections.
 ///
 /// # Errors
 ///
 /// Returns `Script` or `ScriptFile` if the script is at fault or can't be read, which is told before
 /// it listens; and the errors of `listen` and `serve`. A connection that fails ends alone.
-pub fn run<R: Net + Files + Clock + Alloc, W: Write + Drop>(
+pub fn run<R: Net + Files + Clock + Input + Alloc, W: Write + Drop>(
     rt: &R,
     alloc: Global,
     options: Options<'_>,
@@ -146,5 +147,5 @@ pub fn run<R: Net + Files + Clock + Alloc, W: Write + Drop>(
     let events = Events::with_capacity(alloc, EVENTS)?;
     let (listener, upstream, sink) = listen(rt, alloc, options, &mut out)?;
     let mut proxy = Proxy::new(rt, alloc, listener, upstream, options, faults)?;
-    serve(rt, &mut proxy, options.connections, events, sink, &mut out)
+    serve(rt, &mut proxy, options, events, sink, &mut out)
 }

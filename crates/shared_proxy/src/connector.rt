@@ -6,8 +6,8 @@ use crate::leave::Leave;
 use crate::line::Line;
 use crate::server::Use;
 use crate::servers::Servers;
-use mio::Events;
 use mio::net::TcpStream;
+use mio::{Events, Registry};
 use proxy::{Socket, drawn_cut};
 use sockets::{Acceptor, IoFailure};
 use std::alloc::{AllocError, Global};
@@ -50,6 +50,11 @@ impl Connector {
     /// Notes that a client may wait, or that there is room for one again.
     pub fn resume(&mut self) {
         self.acceptor.resume();
+    }
+
+    /// Returns what registers sockets, so that their events are waited for.
+    pub fn registry(&self) -> &Registry {
+        self.acceptor.registry()
     }
 
     /// Returns true if a client may wait.

@@ -1,4 +1,5 @@
-//! Runs a proxy that shares connections, from its first line until enough clients are gone.
+//! Runs a proxy that shares connections, from its first line until enough clients are gone, or
+//! standard input has ended.
 
 use crate::connector::Connector;
 use crate::sharing::Sharing;
@@ -7,22 +8,22 @@ use mio::Events;
 use proxy::{LISTENER, Options, ProxyFault, listen, read_script, serve};
 use sockets::{Acceptor, EVENTS};
 use std::alloc::Global;
-use std::io::{BufWriter, Write};
+use std::io::{BufWriter, Input, Write};
 use std::net::Net;
 use std::rt::Files;
 use std::time::Clock;
 
 /// Listens where the options say, and passes the requests of all clients on over at most `most`
-/// connections to the server, until as many clients are gone as they ask for. Writes to `out` where
-/// it listens, and what is told of the connections, and to the file of records the messages. Opens
-/// no socket and no file if they ask for 0 clients.
+/// connections to the server, until as many clients are gone as they ask for, or until standard input
+/// ends, if they say so. Writes to `out` where it listens, and what is told of the connections, and to
+/// the file of records the messages. Opens no socket and no file if they ask for 0 clients.
 ///
 /// # Errors
 ///
 /// Returns `Script` or `ScriptFile` if the script is at fault or can't be read, which is told before
 /// it listens; and the errors of `listen` and `serve`. A connection that fails ends alone, with the
 /// calls that went over it.
-pub fn run<R: Net + Files + Clock + Alloc, W: Write + Drop>(
+pub fn run<R: Net + Files + Clock + Input + Alloc, W: Write + Drop>(
     rt: &R,
     alloc: Global,
     options: Options<'_>,
@@ -41,5 +42,5 @@ pub fn run<R: Net + Files + Clock + Alloc, W: Write + Drop>(
     let connector = Connector::new(alloc, acceptor, upstream, options.seed, holds);
     let sharing = Sharing::new(alloc, connector, most, options.watching());
     let mut turns = Turns::new(alloc, sharing, script);
-    serve(rt, &mut turns, options.connections, events, sink, &mut out)
+    serve(rt, &mut turns, options, events, sink, &mut out)
 }

@@ -4,8 +4,8 @@ use crate::due::Side;
 use crate::line::Step;
 use crate::sharing::Sharing;
 use crate::steering::{Steered, release, steer};
-use mio::{Events, Token};
-use proxy::{EventLoop, LISTENER, Sink};
+use mio::{Events, Registry, Token};
+use proxy::{EventLoop, LISTENER, STDIN, Sink};
 use sockets::ACCEPTS;
 use std::alloc::Global;
 use std::io;
@@ -177,6 +177,7 @@ impl Turns {
         for event in events.iter() {
             match event.token() {
                 LISTENER => self.sharing.connector.resume(),
+                STDIN => {}
                 Token(token) => self.turn(rt, Side::of_token(token), sink, out)?,
             }
         }
@@ -198,6 +199,10 @@ impl Turns {
 impl EventLoop for Turns {
     fn is_over(&self, wanted: u64) -> bool {
         self.sharing.clients.ended() >= wanted && !self.sharing.servers.has_output()
+    }
+
+    fn registry(&self) -> &Registry {
+        self.sharing.connector.registry()
     }
 
     fn serve_some<R: Net + Files + Clock, W: Write>(
