@@ -20,7 +20,7 @@ use Rattle.clap.specs.declared.parser.matches.ValueSource.{ValueSource}
 use Rattle.clap.specs.declared.parser.matches.ValueSource.TheVariants.{CommandLine}
 use Rattle.clap.proofs.ValueTestLemmas.{accepts-Accepts}
 use Rattle.command_words.specs.{flag_rule, number_rule, text_rule}
-use Rattle.bsonwire.specs.CommandLine.{calls_rule, dump_flags, json_flags, msg_flags, operand_rule, proxy_rules, replay_rules, salvage_flags, share_rule, text_flags}
+use Rattle.bsonwire.specs.CommandLine.{calls_rule, dump_flags, json_flags, msg_flags, operand_rule, proxy_rules, replay_rules, salvage_flags, share_rule, speed_rule, text_flags}
 use Rattle.bsonwire.specs.Choices.{IsCount}
 use Rattle.bsonwire.proofs.NumberLemmas.{count_text}
 
@@ -288,6 +288,28 @@ share_keeps again (v ∷ vs) rows none all =
     )
     (good_without (codes "share") rows all)
 
+abbrev built_speed_rule : Rule
+built_speed_rule = filled speed_rule
+
+speed_text : (v : Text) → accepts false (Unsigned 1 18446744073709551615) v ≡ true → IsUnsignedIn 0 18446744073709551615 v
+speed_text v is =
+    let within : IsUnsignedIn 1 18446744073709551615 v = accepts-Accepts false (Unsigned 1 18446744073709551615) v is in
+    (within.0, within.1, omega (arith), within.3)
+
+speed_keeps : KeepsUse built_speed_rule
+speed_keeps again [] rows none all = absurd (no_kind _ refl none)
+speed_keeps again (v ∷ vs) rows none all =
+    let used = or_nil (range_kinds 1 1 (length (v ∷ vs))) _ none in
+    let set = or_nil (repeat_fault again (codes "speed") rows) _ used.1 in
+    let first = or_nil (value_kinds false (Unsigned 1 18446744073709551615) v) _ set.1 in
+    good_with (codes "speed") (reading_by built_speed_rule) CommandLine (v ∷ vs) (without (codes "speed") rows) (
+      refl,
+      (λ e. absurd (true≢false (sym e))),
+      (λ e. absurd (is_other (codes "speed") (codes "calls") refl refl e)),
+      (λ e. speed_text v (accepted _ _ first.0)),
+    )
+    (good_without (codes "speed") rows all)
+
 help_keeps : KeepsUse (filled help_rule)
 help_keeps again values rows none all = all
 
@@ -368,7 +390,7 @@ replay_leaf_keeps = (
     operand_keeps 2 (codes "address") (plain_name (codes "address") refl refl refl refl),
     (
       option_keeps (codes "ignore") (plain_name (codes "ignore") refl refl refl refl),
-      (number_keeps (codes "speed") refl refl refl, (help_keeps, tt)),
+      (speed_keeps, (help_keeps, tt)),
     ),
   ),
 )

@@ -17,6 +17,11 @@ calls_rule = record (operand_rule (codes "calls")) { parser = Some (Signed (pos 
 abbrev pub share_rule : Rule
 share_rule = record (text_rule (codes "share")) { parser = Some (Unsigned 1 1024) }
 
+-- the option `--speed P`, a number from 1
+abbrev pub speed_rule : Rule
+speed_rule =
+    record (text_rule (codes "speed")) { parser = Some (Unsigned 1 18446744073709551615) }
+
 -- a subcommand that reads a file, with these flags
 abbrev pub file_app : Text → List Text → App
 file_app name flags =
@@ -113,7 +118,7 @@ proxy_app = proxy_with proxy_rules
 abbrev pub replay_rules : List Rule
 replay_rules =
     operand_rule (codes "file") ∷ operand_rule (codes "address") ∷ text_rule (codes "ignore")
-    ∷ number_rule (codes "speed") ∷ []
+    ∷ speed_rule ∷ []
 
 abbrev pub replay_app : App
 replay_app = fold (λ a rule. with_rule a rule) (new_app (codes "replay")) replay_rules

@@ -9,7 +9,8 @@ ghost use Rattle.bsonwire.specs.CommandLine.{dump_app, ending_line, file_app};
 ghost use Rattle.bsonwire.specs.CommandLine.{file_line, json_app, json_line};
 ghost use Rattle.bsonwire.specs.CommandLine.{loop_app, msg_app, operand_rule};
 ghost use Rattle.bsonwire.specs.CommandLine.{play_app, proxy_app, replay_app, salvage_flags};
-ghost use Rattle.bsonwire.specs.CommandLine.{share_rule, show_rules, text_flags, top_app};
+ghost use Rattle.bsonwire.specs.CommandLine.{share_rule, show_rules, speed_rule, text_flags};
+ghost use Rattle.bsonwire.specs.CommandLine.{top_app};
 
 use clap::error::ErrorKind;
 use clap::{Arg, Command, Error, value_parser};
@@ -47,6 +48,16 @@ fn share_option<'a>(alloc: Global) -> Arg<'a>
     let number = value_parser!(u64).range(1..=1024);
     let help = "Pass the requests of all clients over N shared connections, 1 to 1024";
     number_option(alloc, "share", "N", help).value_parser(number)
+}
+
+/// Makes the option `--speed P`, a number from 1.
+fn speed_option<'a>(alloc: Global) -> Arg<'a>
+    ensures rule { rule_of result ≡ speed_rule }
+    ensures local { result.global ≡ false }
+{
+    let number = value_parser!(u64).range(1..);
+    let help = "Send at P percent of the recorded speed, and not as fast as answers come";
+    number_option(alloc, "speed", "P", help).value_parser(number)
 }
 
 /// Makes a subcommand with this name that reads text, in an operand which help shows as `shown`.
@@ -302,13 +313,12 @@ fn replay_command<'a>(alloc: Global) -> Result<Command<'a>, AllocError>
     let file = "The file of records to read, or - for standard input";
     let address = "The address of the server, as 127.0.0.1:27017";
     let ignore = "Don't compare fields of these names, which have commas between";
-    let speed = "Send at P percent of the recorded speed, and not as fast as answers come";
     Command::new(alloc, "replay")
         .about("Sends what clients sent in a record to a server, and tells which answers differ")
         .arg(operand(alloc, "file", "FILE", file))?
         .arg(operand(alloc, "address", "ADDRESS", address))?
         .arg(text_option(alloc, "ignore", "NAMES", ignore))?
-        .arg(number_option(alloc, "speed", "P", speed))
+        .arg(speed_option(alloc))
 }
 
 /// Makes the command line without subcommands.

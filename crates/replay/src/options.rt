@@ -9,7 +9,7 @@ pub struct ReplayOptions<'a> {
     pub address: &'a str,
     /// The names of the fields that aren't compared, with commas between.
     pub ignore: Option<&'a str>,
-    /// How fast requests are sent, in percent of how fast they were recorded. Without it, as fast
-    /// as answers come.
+    /// How fast requests are sent, in percent of how fast they were recorded; 0 is taken as 1.
+    /// Without it, as fast as answers come.
     pub speed: Option<u64>,
 }
