@@ -260,7 +260,16 @@ fn write_document<W: Write>(
     }
 }
 
-/// Writes documents that stand one after another, with spaces between.
+/// Writes bytes in hexadecimal.
+fn write_bytes<W: Write>(bytes: &[u8], out: &mut W) -> io::Result<()> {
+    for byte in bytes {
+        write!(out, "{byte:02x}")?;
+    }
+    Ok(())
+}
+
+/// Writes documents that stand one after another, and behind them what is no document, in
+/// hexadecimal, with spaces between.
 fn write_replies<W: Write>(
     alloc: Global,
     names: &[&str],
@@ -278,7 +287,11 @@ fn write_replies<W: Write>(
         before = b" ";
         rest = after;
     }
-    Ok(())
+    if rest.is_empty() {
+        return Ok(());
+    }
+    out.write_all(before)?;
+    write_bytes(rest, out)
 }
 
 /// Writes the documents of a sequence behind its identifier.
@@ -311,14 +324,6 @@ fn write_message<W: Write>(
     }
     if message.more_to_come() {
         out.write_all(b" moreToCome")?;
-    }
-    Ok(())
-}
-
-/// Writes bytes in hexadecimal.
-fn write_bytes<W: Write>(bytes: &[u8], out: &mut W) -> io::Result<()> {
-    for byte in bytes {
-        write!(out, "{byte:02x}")?;
     }
     Ok(())
 }
