@@ -52,6 +52,17 @@ pub enum Coming {
     Over(Broken),
 }
 
+/// What sending came to.
+#[derive(Clone, Copy, Debug, PartialEq, Eq)]
+pub enum Sent {
+    /// All bytes were sent.
+    All,
+    /// Some were, and the others wait.
+    Part,
+    /// None were, and all wait.
+    Nothing,
+}
+
 /// Bytes that wait to be sent.
 #[derive(Drop)]
 struct Waiting {
@@ -66,20 +77,22 @@ impl Waiting {
         self.bytes.get(self.sent..).unwrap_or(&[])
     }
 
-    /// Sends the bytes over a link. Returns true if all were sent.
-    fn flush<L: Link>(&mut self, link: &mut L) -> Result<bool, LinkFault> {
+    /// Sends the bytes over a link, as many as it takes now.
+    fn flush<L: Link>(&mut self, link: &mut L) -> Result<Sent, LinkFault> {
+        let before = self.sent;
         for _ in 0..u64::MAX {
             if self.rest().is_empty() {
                 break;
             }
             match link.send(self.rest())? {
                 Moved::Bytes(n) => self.sent = self.sent.saturating_add(n),
-                Moved::Later => return Ok(false),
+                Moved::Later if self.sent > before => return Ok(Sent::Part),
+                Moved::Later => return Ok(Sent::Nothing),
             }
         }
         self.bytes.clear();
         self.sent = 0;
-        Ok(true)
+        Ok(Sent::All)
     }
 }
 
@@ -119,12 +132,12 @@ impl Channel {
         self.waiting.bytes.extend_from_slice(bytes)
     }
 
-    /// Sends the bytes that wait. Returns true if all were sent.
+    /// Sends the bytes that wait, as many as the system takes now.
     ///
     /// # Errors
     ///
     /// Returns `LinkFault` if the connection failed.
-    pub fn flush(&mut self) -> Result<bool, LinkFault> {
+    pub fn flush(&mut self) -> Result<Sent, LinkFault> {
         self.waiting.flush(&mut self.link)
     }
 

@@ -2,7 +2,7 @@
 
 use crate::answers::{Answer, Answers};
 use crate::asked::Asked;
-use crate::channel::{Broken, Channel, Coming};
+use crate::channel::{Broken, Channel, Coming, Sent};
 use crate::content::plain_bytes;
 use crate::flags::{MORE_TO_COME, has_flag};
 use crate::pace::{Taken, earlier, is_past};
@@ -10,12 +10,15 @@ use crate::teller::Teller;
 use std::alloc::{AllocError, Global};
 use std::io;
 use std::io::{ErrorKind, Write};
-use std::time::Instant;
+use std::time::{Duration, Instant};
 use wire_frame::RawFrame;
 use wire_stream::LinkFault;
 
 /// The most messages that a turn takes.
 const STEPS: u32 = 1024;
+
+/// The most messages that are taken of a connection that failed. The system holds fewer.
+const HELD: u32 = 1 << 20;
 
 /// The connection to the server.
 #[derive(Drop)]
@@ -38,8 +41,8 @@ pub struct Conn {
     sides: Sides,
     /// When the requests were recorded whose answers weren't read yet.
     asked: Asked,
-    /// When what is to be sent has to be sent, if it wasn't.
-    stall: Option<Instant>,
+    /// Up to when the server has to take more of what is to be sent, if that wasn't sent.
+    stall: Option<Stall>,
     /// More may be there than the last turn took.
     has_more: bool,
 }
@@ -51,6 +54,15 @@ struct Sides {
     recorded: Answers,
     /// Those of the server.
     received: Answers,
+}
+
+/// What is to be sent and wasn't.
+#[derive(Clone, Copy)]
+struct Stall {
+    /// How long the server may take nothing of it.
+    patience: Duration,
+    /// Up to when it has to take some, if there is such a moment.
+    due: Option<Instant>,
 }
 
 impl Conn {
@@ -120,25 +132,40 @@ impl Conn {
         Ok(())
     }
 
-    /// Sends what waits to be sent, and notes up to when the rest has to be.
+    /// Takes the answers that came before sending failed, and closes the connection.
+    fn fail<W: Write + Drop>(
+        &mut self,
+        fault: LinkFault,
+        teller: &mut Teller<'_, W>,
+    ) -> io::Result<()> {
+        let _ = self.take_messages(HELD, teller)?;
+        self.close(Broken::Sending(fault), teller)
+    }
+
+    /// Sends what waits to be sent. The server has to take more of the rest within `patience`, which
+    /// begins anew whenever it took some.
     fn flush<W: Write + Drop>(
         &mut self,
-        due: Option<Instant>,
+        now: Instant,
+        patience: Duration,
         teller: &mut Teller<'_, W>,
     ) -> io::Result<()> {
         let Line::Open(channel) = &mut self.line else {
             return Ok(());
         };
         match channel.flush() {
-            Ok(true) => self.stall = None,
-            Ok(false) if self.stall.is_none() => self.stall = due,
-            Ok(false) => {}
-            Err(fault) => self.close(Broken::Sending(fault), teller)?,
+            Ok(Sent::All) => self.stall = None,
+            Ok(Sent::Nothing) if self.stall.is_some() => {}
+            Ok(_) => {
+                let due = now.checked_add(patience);
+                self.stall = Some(Stall { patience, due });
+            }
+            Err(fault) => self.fail(fault, teller)?,
         }
         Ok(())
     }
 
-    /// Sends a request. What can't be sent at once has to be sent within some time.
+    /// Sends a request. Of what can't be sent at once, the server has to take some within some time.
     ///
     /// # Errors
     ///
@@ -156,7 +183,7 @@ impl Conn {
         if !has_flag(frame, MORE_TO_COME) {
             self.asked.note(frame.header().id, taken.micros)?;
         }
-        self.flush(taken.due(None), teller)
+        self.flush(taken.now, taken.patience(None), teller)
     }
 
     /// Awaits a recorded answer for as long as the record took for it, and some time more, or
@@ -232,32 +259,49 @@ impl Conn {
         }
     }
 
-    /// Sends what waits to be sent, and takes the messages that came, up to `STEPS`, so that a server
-    /// that sends without end keeps nothing else waiting.
-    ///
-    /// # Errors
-    ///
-    /// Returns an error if writing fails or memory runs out. A connection that fails is told.
-    pub fn turn<W: Write + Drop>(&mut self, teller: &mut Teller<'_, W>) -> io::Result<()> {
-        self.flush(None, teller)?;
-        self.has_more = false;
-        for _ in 0..STEPS {
+    /// Takes the messages that came, up to `most`. Returns `Coming::Message` if there may be more.
+    fn take_messages<W: Write + Drop>(
+        &mut self,
+        most: u32,
+        teller: &mut Teller<'_, W>,
+    ) -> io::Result<Coming> {
+        for _ in 0..most {
             match self.receive()? {
                 Coming::Message => {
                     if let Some(answer) = self.take_message()? {
                         self.meet(answer, teller)?;
                     }
                 }
-                Coming::Later => return Ok(()),
-                Coming::Over(broken) => return self.close(broken, teller),
+                end => return Ok(end),
             }
         }
-        self.has_more = true;
-        Ok(())
+        Ok(Coming::Message)
     }
 
-    /// Tells the answers that are missing at this moment. A connection is closed that took no more
-    /// bytes up to then.
+    /// Sends what waits to be sent, and takes the messages that came, up to `STEPS`, so that a server
+    /// that sends without end keeps nothing else waiting.
+    ///
+    /// # Errors
+    ///
+    /// Returns an error if writing fails or memory runs out. A connection that fails is told.
+    pub fn turn<W: Write + Drop>(
+        &mut self,
+        now: Instant,
+        teller: &mut Teller<'_, W>,
+    ) -> io::Result<()> {
+        if let Some(stall) = self.stall {
+            self.flush(now, stall.patience, teller)?;
+        }
+        let coming = self.take_messages(STEPS, teller)?;
+        self.has_more = coming == Coming::Message;
+        match coming {
+            Coming::Over(broken) => self.close(broken, teller),
+            Coming::Message | Coming::Later => Ok(()),
+        }
+    }
+
+    /// Closes the connection if the server took too little of what is to be sent up to this moment.
+    /// Otherwise tells the answers that are missing by then.
     ///
     /// # Errors
     ///
@@ -267,22 +311,28 @@ impl Conn {
         now: Instant,
         teller: &mut Teller<'_, W>,
     ) -> io::Result<()> {
+        if is_past(self.stall_due(), now) {
+            let kind = ErrorKind::TimedOut;
+            return self.fail(LinkFault { kind }, teller);
+        }
         for answer in self.sides.recorded.as_slice() {
             if is_past(answer.due, now) {
                 teller.tell_missing(self.number, answer.request, &answer.bytes)?;
             }
         }
         self.sides.recorded.forget_due(now);
-        if is_past(self.stall, now) {
-            let kind = ErrorKind::TimedOut;
-            return self.close(Broken::Sending(LinkFault { kind }), teller);
-        }
         Ok(())
+    }
+
+    /// Returns up to when the server has to take more of what is to be sent, if something is and
+    /// there is such a moment.
+    fn stall_due(&self) -> Option<Instant> {
+        self.stall?.due
     }
 
     /// Returns the first moment up to which an answer is awaited, or bytes have to be sent.
     pub fn least_due(&self) -> Option<Instant> {
-        earlier(self.sides.recorded.least_due(), self.stall)
+        earlier(self.sides.recorded.least_due(), self.stall_due())
     }
 
     /// Tells the answers that nothing recorded.

@@ -2,8 +2,8 @@
 
 use std::time::{Duration, Instant};
 
-/// How long an answer is awaited, in milliseconds, beside as long as the record took for it.
-const PATIENCE: u64 = 5_000;
+/// How long an answer is awaited, in microseconds, beside as long as the record took for it.
+const PATIENCE: u64 = 5_000_000;
 
 /// Where the clock and the times of the record stood when the first record was taken.
 #[derive(Clone, Copy)]
@@ -21,12 +21,16 @@ pub struct Taken {
 }
 
 impl Taken {
-    /// Returns up to when is waited for what the record has, and began when a record of the time
+    /// Returns how long is waited for what the record has, and began when a record of the time
     /// `since` was taken, or the one before it if that isn't known.
-    pub fn due(self, since: Option<i64>) -> Option<Instant> {
+    pub fn patience(self, since: Option<i64>) -> Duration {
         let gap = between(since.unwrap_or(self.last), self.micros);
-        let late = self.now.checked_add(Duration::from_micros(gap))?;
-        late.checked_add(Duration::from_millis(PATIENCE))
+        Duration::from_micros(gap.saturating_add(PATIENCE))
+    }
+
+    /// Returns up to when is waited for that, from now on.
+    pub fn due(self, since: Option<i64>) -> Option<Instant> {
+        self.now.checked_add(self.patience(since))
     }
 }
 

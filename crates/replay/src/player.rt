@@ -131,10 +131,10 @@ impl<'a, W: Write + Drop> Player<'a, W> {
     }
 
     /// Has each connection take another turn that is to take one at once.
-    fn turn_rest(&mut self) -> io::Result<()> {
+    fn turn_rest(&mut self, now: Instant) -> io::Result<()> {
         for conn in self.conns.iter_mut() {
             if conn.has_more() {
-                conn.turn(&mut self.teller)?;
+                conn.turn(now, &mut self.teller)?;
             }
         }
         Ok(())
@@ -155,15 +155,16 @@ impl<'a, W: Write + Drop> Player<'a, W> {
         self.teller.flush()?;
         let timeout = self.timeout(rt, until)?;
         sockets::wait(&mut self.poll, events, timeout)?;
+        let now = Instant::now(rt)?;
         let mut told: usize = 0;
         for event in events.iter() {
             told = told.saturating_add(1);
             let Token(token) = event.token();
             if let Some(conn) = self.conns.get_mut(token) {
-                conn.turn(&mut self.teller)?;
+                conn.turn(now, &mut self.teller)?;
             }
         }
-        self.turn_rest()?;
+        self.turn_rest(now)?;
         // Where a wait told as many events as it can, answers may be there of which it told none.
         if told < EVENTS {
             self.expire(rt)?;
