@@ -1,7 +1,9 @@
 //! Answers whose counterparts haven't come yet: the recorded one, or the one of the server.
 
+ghost use Rattle.std.specs.Prelude.{◌<◌, IfSome, length};
+
 use crate::flags::{MORE_TO_COME, has_flag};
-use crate::pace::is_past;
+use crate::pace::{is_past, later};
 use std::alloc::{AllocError, Global};
 use std::time::Instant;
 use wire_frame::RawFrame;
@@ -11,6 +13,8 @@ use wire_frame::RawFrame;
 pub struct Answer {
     /// The id of the request that it answers.
     pub request: i32,
+    /// Another answer to that request comes behind it.
+    pub more: bool,
     /// Its bytes.
     pub bytes: Vec<u8>,
     /// When its counterpart is no longer waited for, if there is such a moment.
@@ -75,13 +79,18 @@ impl Answers {
         Ok(request)
     }
 
-    /// Adds an answer, behind all others.
+    /// Adds an answer, behind all others. It is waited for at least as long as the one before it,
+    /// since a server answers the requests of a connection in order.
     ///
     /// # Errors
     ///
     /// Returns `AllocError` if memory runs out.
     pub fn push(&mut self, answer: Answer) -> Result<(), AllocError> {
-        self.answers.push(answer)?;
+        let due = match self.answers.last() {
+            Some(last) => later(last.due, answer.due),
+            None => answer.due,
+        };
+        self.answers.push(Answer { due, ..answer })?;
         Ok(())
     }
 
@@ -91,6 +100,33 @@ impl Answers {
             .answers
             .iter()
             .position(|answer| answer.request == request)?;
+        Some(self.answers.remove(i))
+    }
+
+    /// Returns the index of the first answer to a request with this id, if there is one, that isn't
+    /// the answer to one of so many requests with it.
+    fn place_beyond(&self, request: i32, requests: u64) -> Option<usize>
+        ensures { IfSome result (λ i. i < length self.now.answers.items) }
+    {
+        let mut left = requests;
+        for i in 0..self.answers.len() {
+            let answer = &self.answers[i];
+            if answer.request == request {
+                if left == 0 {
+                    return Some(i);
+                }
+                if !answer.more {
+                    left -= 1;
+                }
+            }
+        }
+        None
+    }
+
+    /// Takes out the first answer to a request with this id, if there is one, that isn't the answer
+    /// to one of so many requests with it.
+    pub fn take_beyond(&mut self, request: i32, requests: u64) -> Option<Answer> {
+        let i = self.place_beyond(request, requests)?;
         Some(self.answers.remove(i))
     }
 

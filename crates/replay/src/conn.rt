@@ -4,8 +4,9 @@ use crate::answers::{Answer, Answers};
 use crate::asked::Asked;
 use crate::channel::{Broken, Channel, Coming, Sent};
 use crate::content::plain_bytes;
-use crate::flags::{MORE_TO_COME, has_flag};
+use crate::flags::{MORE_TO_COME, has_flag, wants_answer};
 use crate::pace::{Taken, earlier, is_past};
+use crate::requests::Requests;
 use crate::teller::Teller;
 use std::alloc::{AllocError, Global};
 use std::io;
@@ -47,13 +48,18 @@ pub struct Conn {
     has_more: bool,
 }
 
-/// The answers that have no counterpart yet.
+/// The answers that have no counterpart yet, and the requests of which there are none. To requests
+/// with one id, the answers of the server are the counterparts of the recorded ones in order.
 #[derive(Drop)]
 struct Sides {
-    /// Those of the record.
+    /// The answers of the record that are awaited.
     recorded: Answers,
     /// Those of the server.
     received: Answers,
+    /// The requests that were sent and whose last answer wasn't recorded yet.
+    open: Requests,
+    /// Those of the recorded answers that were given up, and whose counterparts didn't come since.
+    given_up: Requests,
 }
 
 /// What is to be sent and wasn't.
@@ -75,6 +81,8 @@ impl Conn {
             sides: Sides {
                 recorded: Answers::new(alloc),
                 received: Answers::new(alloc),
+                open: Requests::new(alloc),
+                given_up: Requests::new(alloc),
             },
             asked: Asked::new(alloc),
             stall: None,
@@ -165,6 +173,26 @@ impl Conn {
         Ok(())
     }
 
+    /// Notes a request that is sent now and wants an answer. Answers to its id that came before are
+    /// none to it: those that no earlier request wanted are told.
+    fn ask<W: Write + Drop>(
+        &mut self,
+        id: i32,
+        micros: i64,
+        teller: &mut Teller<'_, W>,
+    ) -> io::Result<()> {
+        let open = self.sides.open.count(id);
+        for _ in 0..u64::MAX {
+            let Some(answer) = self.sides.received.take_beyond(id, open) else {
+                break;
+            };
+            teller.tell_unexpected(self.number, id, &answer.bytes)?;
+        }
+        self.sides.open.add(id)?;
+        self.asked.note(id, micros)?;
+        Ok(())
+    }
+
     /// Sends a request. Of what can't be sent at once, the server has to take some within some time.
     ///
     /// # Errors
@@ -180,8 +208,8 @@ impl Conn {
             Line::Open(channel) => channel.push(frame.as_bytes())?,
             _ => return self.tell_lost(teller),
         }
-        if !has_flag(frame, MORE_TO_COME) {
-            self.asked.note(frame.header().id, taken.micros)?;
+        if wants_answer(frame) {
+            self.ask(frame.header().id, taken.micros, teller)?;
         }
         self.flush(taken.now, taken.patience(None), teller)
     }
@@ -200,8 +228,11 @@ impl Conn {
     ) -> io::Result<()> {
         let request = self.sides.recorded.note(frame)?;
         let due = taken.due(self.asked.take(request));
-        if has_flag(frame, MORE_TO_COME) {
+        let more = has_flag(frame, MORE_TO_COME);
+        if more {
             self.asked.note(request, taken.micros)?;
+        } else {
+            let _ = self.sides.open.take(request);
         }
         let bytes = plain_bytes(self.alloc, frame)?;
         if let Some(answer) = self.sides.received.take(request) {
@@ -209,6 +240,7 @@ impl Conn {
         }
         self.sides.recorded.push(Answer {
             request,
+            more,
             bytes,
             due,
         })?;
@@ -228,21 +260,27 @@ impl Conn {
             return Ok(None);
         };
         let request = self.sides.received.note(frame)?;
+        let more = has_flag(frame, MORE_TO_COME);
         let bytes = plain_bytes(self.alloc, frame)?;
         channel.release();
         Ok(Some(Answer {
             request,
+            more,
             bytes,
             due: None,
         }))
     }
 
-    /// Compares an answer that came with the recorded one, or keeps it until that is read.
+    /// Tells an answer that came late, or compares it with the recorded one, or keeps it until that
+    /// is read.
     fn meet<W: Write + Drop>(
         &mut self,
         answer: Answer,
         teller: &mut Teller<'_, W>,
     ) -> io::Result<()> {
+        if self.sides.given_up.take(answer.request) {
+            return teller.tell_late(self.number, answer.request, &answer.bytes);
+        }
         match self.sides.recorded.take(answer.request) {
             Some(recorded) => {
                 teller.compare(self.number, answer.request, &recorded.bytes, &answer.bytes)
@@ -301,7 +339,7 @@ impl Conn {
     }
 
     /// Closes the connection if the server took too little of what is to be sent up to this moment.
-    /// Otherwise tells the answers that are missing by then.
+    /// Otherwise tells the answers that are missing by then, and gives them up.
     ///
     /// # Errors
     ///
@@ -318,6 +356,7 @@ impl Conn {
         for answer in self.sides.recorded.as_slice() {
             if is_past(answer.due, now) {
                 teller.tell_missing(self.number, answer.request, &answer.bytes)?;
+                self.sides.given_up.add(answer.request)?;
             }
         }
         self.sides.recorded.forget_due(now);
@@ -335,14 +374,22 @@ impl Conn {
         earlier(self.sides.recorded.least_due(), self.stall_due())
     }
 
-    /// Tells the answers that nothing recorded.
+    /// Counts the answers that are left at the end and that the record doesn't have: those to
+    /// requests whose last answer it doesn't have either are told by no line.
     ///
     /// # Errors
     ///
     /// Returns an error if writing fails or memory runs out.
-    pub fn tell_unexpected<W: Write + Drop>(&self, teller: &mut Teller<'_, W>) -> io::Result<()> {
+    pub fn finish<W: Write + Drop>(&mut self, teller: &mut Teller<'_, W>) -> io::Result<()> {
         for answer in self.sides.received.as_slice() {
-            teller.tell_unexpected(self.number, answer.request, &answer.bytes)?;
+            if self.sides.open.count(answer.request) == 0 {
+                teller.tell_unexpected(self.number, answer.request, &answer.bytes)?;
+            } else {
+                teller.count_unrecorded();
+                if !answer.more {
+                    let _ = self.sides.open.take(answer.request);
+                }
+            }
         }
         Ok(())
     }

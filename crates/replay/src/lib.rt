@@ -25,6 +25,7 @@ mod piece;
 mod player;
 mod records;
 mod replaying;
+mod requests;
 mod tally;
 mod teller;
 

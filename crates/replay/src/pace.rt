@@ -53,6 +53,14 @@ pub fn earlier(a: Option<Instant>, b: Option<Instant>) -> Option<Instant> {
     }
 }
 
+/// Returns the later one of two moments up to which is waited. Where there is none, there is no end.
+pub fn later(a: Option<Instant>, b: Option<Instant>) -> Option<Instant> {
+    match (a, b) {
+        (Some(a), Some(b)) => Some(a.max(b)),
+        _ => None,
+    }
+}
+
 /// Returns true if there is a moment, and it isn't later than `now`.
 pub fn is_past(due: Option<Instant>, now: Instant) -> bool {
     matches!(due, Some(due) if due <= now)

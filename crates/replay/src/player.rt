@@ -179,8 +179,8 @@ impl<'a, W: Write + Drop> Player<'a, W> {
     ///
     /// Returns an error if writing fails or memory runs out.
     pub fn finish(&mut self, fault: Option<InputFault>) -> io::Result<Tally> {
-        for conn in self.conns.iter() {
-            conn.tell_unexpected(&mut self.teller)?;
+        for conn in self.conns.iter_mut() {
+            conn.finish(&mut self.teller)?;
         }
         self.teller.finish(fault)?;
         Ok(self.teller.tally())

@@ -24,7 +24,7 @@ const LINGER: u64 = 200;
 pub enum Outcome {
     /// All answers are the same as the recorded ones.
     Same,
-    /// Some differ, are missing or weren't recorded, or a connection failed.
+    /// Some differ, are missing or are unexpected, or a connection failed.
     Different,
     /// The file isn't one of records, at least from some offset on.
     Fault,

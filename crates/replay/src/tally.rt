@@ -2,7 +2,9 @@
 
 use std::fmt;
 
-/// How many answers were the same as the recorded ones, and how many weren't.
+/// How many answers were the same as the recorded ones, and how many weren't. Each recorded answer
+/// is in one of the first three counts, and each of the server that isn't beside one of those in
+/// one of the next three.
 #[derive(Clone, Copy, Debug, PartialEq, Eq)]
 pub struct Tally {
     /// The recorded ones that are the same.
@@ -11,8 +13,12 @@ pub struct Tally {
     pub different: u64,
     /// The recorded ones in whose place none came.
     pub missing: u64,
-    /// Those that nothing recorded.
+    /// Those of the server to no request whose answer the record lacks.
     pub unexpected: u64,
+    /// Those that came in the place of a recorded one once it was counted as missing.
+    pub late: u64,
+    /// Those to a request whose answer the record lacks.
+    pub unrecorded: u64,
     /// The connections that failed.
     pub failed: u64,
 }
@@ -24,10 +30,13 @@ impl Tally {
         different: 0,
         missing: 0,
         unexpected: 0,
+        late: 0,
+        unrecorded: 0,
         failed: 0,
     };
 
-    /// Returns true if all answers are the same, and nothing else was told.
+    /// Returns true if all answers are the same, and nothing else was told. A late one is among the
+    /// missing ones, and one that wasn't recorded is no difference.
     pub fn is_same(self) -> bool {
         self.different == 0 && self.missing == 0 && self.unexpected == 0 && self.failed == 0
     }
@@ -40,13 +49,15 @@ impl fmt::Display for Tally {
             different,
             missing,
             unexpected,
+            late,
+            unrecorded,
             failed: _,
         } = *self;
         let answers = same.saturating_add(different).saturating_add(missing);
         write!(
             f,
             "{answers} answers, {same} same, {different} different, {missing} missing, \
-             {unexpected} unexpected"
+             {unexpected} unexpected, {late} late, {unrecorded} unrecorded"
         )
     }
 }

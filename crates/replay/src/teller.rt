@@ -102,7 +102,24 @@ impl<'a, W: Write + Drop> Teller<'a, W> {
         self.write_line('-', recorded)
     }
 
-    /// Tells an answer that nothing recorded.
+    /// Tells an answer that came in the place of a recorded one, once that was told as missing.
+    ///
+    /// # Errors
+    ///
+    /// Returns an error if writing fails or memory runs out.
+    pub fn tell_late(&mut self, number: u64, request: i32, received: &[u8]) -> io::Result<()> {
+        self.tally.late = self.tally.late.saturating_add(1);
+        writeln!(self.out, "{number} late id {request}")?;
+        self.write_line('+', received)
+    }
+
+    /// Counts an answer to a request whose answer the record lacks. No line tells it.
+    pub fn count_unrecorded(&mut self) {
+        self.tally.unrecorded = self.tally.unrecorded.saturating_add(1);
+    }
+
+    /// Tells an answer that nothing recorded, and that no request whose answer the record lacks
+    /// explains.
     ///
     /// # Errors
     ///
