@@ -1,3 +1,4 @@
 pub mod Stripped
 pub mod Same
 pub mod Held
+pub mod Counts

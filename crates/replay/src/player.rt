@@ -1,5 +1,7 @@
 //! Plays records to a server.
 
+ghost use Rattle.std.specs.Prelude.{◌≡◌, IfOk};
+
 use crate::channel::{Broken, Channel};
 use crate::conn::{Conn, Line};
 use crate::input_fault::InputFault;
@@ -178,7 +180,9 @@ impl<'a, W: Write + Drop> Player<'a, W> {
     /// # Errors
     ///
     /// Returns an error if writing fails or memory runs out.
-    pub fn finish(&mut self, fault: Option<InputFault>) -> io::Result<Tally> {
+    pub fn finish(&mut self, fault: Option<InputFault>) -> io::Result<Tally>
+        ensures { IfOk result (λ tally. tally ≡ self.new.teller.tally) }
+    {
         for conn in self.conns.iter_mut() {
             conn.finish(&mut self.teller)?;
         }

@@ -1,5 +1,7 @@
 //! Reads the records of a file, one at a time.
 
+ghost use Rattle.std.specs.Prelude.{◌≡◌};
+
 use crate::input_fault::InputFault;
 use crate::piece::Piece;
 use std::alloc::Global;
@@ -62,7 +64,9 @@ impl<R: Read + Drop> Records<R> {
 
     /// Returns why the file isn't one of records from where its reading ended, if that was not at
     /// its end.
-    pub fn fault(&self) -> Option<InputFault> {
+    pub fn fault(&self) -> Option<InputFault>
+        ensures { result ≡ self.now.fault }
+    {
         self.fault
     }
 

@@ -1,10 +1,15 @@
 //! Runs a replay, from the first record to the line of its counts.
 
+ghost use Rattle.std.specs.Prelude.{IfOk};
+ghost use Rattle.replay.specs.Counts.{IsOutcome};
+
 use crate::fault::ReplayFault;
+use crate::input_fault::InputFault;
 use crate::options::ReplayOptions;
 use crate::pace::Pace;
 use crate::player::{EVENTS, Player};
 use crate::records::Records;
+use crate::tally::Tally;
 use crate::teller::Teller;
 use mio::Events;
 use sockets::address_of;
@@ -28,6 +33,19 @@ pub enum Outcome {
     Different,
     /// The file isn't one of records, at least from some offset on.
     Fault,
+}
+
+/// Returns what a replay came to, by the fault of its file, if there is one, and its counts.
+fn outcome_of(fault: Option<InputFault>, tally: Tally) -> Outcome
+    ensures { IsOutcome fault tally result }
+{
+    if fault.is_some() {
+        Outcome::Fault
+    } else if tally.is_same() {
+        Outcome::Same
+    } else {
+        Outcome::Different
+    }
 }
 
 /// Returns the names in a text that has commas between them.
@@ -129,18 +147,15 @@ impl<'a, F: Read + Drop, W: Write + Drop> Replay<'a, F, W> {
         &mut self,
         rt: &R,
         events: &mut Events<Global>,
-    ) -> Result<Outcome, ReplayFault> {
+    ) -> Result<Outcome, ReplayFault>
+        ensures { IfOk result (λ outcome.
+            IsOutcome self.new.records.fault self.new.player.teller.tally outcome) }
+    {
         self.play(rt, events)?;
         self.linger(rt, events)?;
         let fault = self.records.fault();
         let tally = self.player.finish(fault)?;
-        if fault.is_some() {
-            Ok(Outcome::Fault)
-        } else if tally.is_same() {
-            Ok(Outcome::Same)
-        } else {
-            Ok(Outcome::Different)
-        }
+        Ok(outcome_of(fault, tally))
     }
 }
 

@@ -1,5 +1,8 @@
 //! Counts the answers.
 
+ghost use Rattle.std.specs.Prelude.{◌↔◌, IsTrue};
+ghost use Rattle.replay.specs.Counts.{AreAllSame};
+
 use std::fmt;
 
 /// How many answers were the same as the recorded ones, and how many weren't. Each recorded answer
@@ -37,7 +40,9 @@ impl Tally {
 
     /// Returns true if all answers are the same, and nothing else was told. A late one is among the
     /// missing ones, and one that wasn't recorded is no difference.
-    pub fn is_same(self) -> bool {
+    pub fn is_same(self) -> bool
+        ensures { IsTrue result ↔ AreAllSame self }
+    {
         self.different == 0 && self.missing == 0 && self.unexpected == 0 && self.failed == 0
     }
 }

@@ -1,8 +1,12 @@
 //! Tells which answers differ.
 
-ghost use Rattle.std.specs.Prelude.{◌≡◌, ◌+◌, ◌≤◌, OnOk, length, map, min};
-ghost use Rattle.wire_msg.specs.{Message, SpellsMsg};
-ghost use Rattle.replay.specs.Same.{AreSameMessages};
+ghost use Rattle.std.specs.Prelude.{◌≡◌, ◌≤◌, ◌⊎◌, List, OnErr, OnOk, drop, length, map, ℕ};
+ghost use Rattle.bson_elem.specs.{Tree};
+ghost use Rattle.bson_raw.specs.{DocumentSplit};
+ghost use Rattle.wire_msg.specs.{IsMessage, Message, SpellsMsg};
+ghost use Rattle.replay.specs.Counts.{HasCounted, one_more};
+ghost use Rattle.replay.specs.Held.{IsReply};
+ghost use Rattle.replay.specs.Same.{AreSameDocuments, AreSameMessages};
 
 use crate::channel::Broken;
 use crate::content::{are_same_answers, write_answer};
@@ -25,7 +29,11 @@ pub struct Teller<'a, W: Write + Drop> {
 
 impl<'a, W: Write + Drop> Teller<'a, W> {
     /// Begins to write to `out`. Takes no memory.
-    pub fn new(alloc: Global, names: &'a [&'a str], out: W) -> Teller<'a, W> {
+    pub fn new(alloc: Global, names: &'a [&'a str], out: W) -> Teller<'a, W>
+        ensures tally { result.tally ≡ Tally.NONE }
+        ensures names { result.names ≡ names.entry }
+        ensures out { result.out ≡ out }
+    {
         Teller {
             alloc,
             names,
@@ -35,7 +43,9 @@ impl<'a, W: Write + Drop> Teller<'a, W> {
     }
 
     /// Returns the counts of the answers so far.
-    pub fn tally(&self) -> Tally {
+    pub fn tally(&self) -> Tally
+        ensures tally { result ≡ self.now.tally }
+    {
         self.tally
     }
 
@@ -44,13 +54,15 @@ impl<'a, W: Write + Drop> Teller<'a, W> {
     /// # Errors
     ///
     /// Returns an error if writing fails.
-    pub fn flush(&mut self) -> io::Result<()> {
+    pub fn flush(&mut self) -> io::Result<()>
+        ensures kept { self.new.tally ≡ self.old.tally }
+    {
         self.out.flush()
     }
 
     /// Writes the line of an answer behind its sign.
     fn write_line(&mut self, sign: char, bytes: &[u8]) -> io::Result<()>
-        ensures { self.new.tally ≡ self.old.tally }
+        ensures kept { self.new.tally ≡ self.old.tally }
     {
         write!(self.out, "{sign} ")?;
         write_answer(self.alloc, self.names, bytes, &mut self.out)?;
@@ -70,16 +82,40 @@ impl<'a, W: Write + Drop> Teller<'a, W> {
         recorded: &[u8],
         received: &[u8],
     ) -> io::Result<()>
-        ensures same { (m n : Message) → SpellsMsg m recorded.now → SpellsMsg n received.now
+        ensures messages { (m n : Message) → SpellsMsg m recorded.now → SpellsMsg n received.now
             → length recorded.now ≤ MAX_MESSAGE_LEN → length received.now ≤ MAX_MESSAGE_LEN
-            → AreSameMessages (map (λ n. n.now) self.old.names.now) m n
+            → OnOk result (HasCounted (AreSameMessages (map (λ n. n.now) self.old.names.now) m n)
+            self.old.tally
+            self.new.tally) }
+        ensures other { ¬ IsMessage MAX_MESSAGE_LEN recorded.now
+            → ¬ IsMessage MAX_MESSAGE_LEN received.now → ¬ IsReply recorded.now
+            → ¬ IsReply received.now → OnOk result (HasCounted
+            (drop 12 recorded.now ≡ drop 12 received.now)
+            self.old.tally
+            self.new.tally) }
+        ensures replies { (ts us : List Tree) (rest other : List ℕ) → IsReply recorded.now
+            → IsReply received.now → DocumentSplit (drop 36 recorded.now) ts rest
+            → DocumentSplit (drop 36 received.now) us other → OnOk result (HasCounted
+            (AreSameDocuments (map (λ n. n.now) self.old.names.now) ts us × (rest ≡ other))
+            self.old.tally
+            self.new.tally) }
+        ensures recorded_alone { (m : Message) → SpellsMsg m recorded.now
+            → length recorded.now ≤ MAX_MESSAGE_LEN → ¬ IsMessage MAX_MESSAGE_LEN received.now
             → OnOk result (self.new.tally
-            ≡ record self.old.tally { same = min (self.old.tally.same + 1) u64.MAX }) }
-        ensures different { (m n : Message) → SpellsMsg m recorded.now → SpellsMsg n received.now
-            → length recorded.now ≤ MAX_MESSAGE_LEN → length received.now ≤ MAX_MESSAGE_LEN
-            → ¬ AreSameMessages (map (λ n. n.now) self.old.names.now) m n
+            ≡ record self.old.tally { different = one_more self.old.tally.different }) }
+        ensures received_alone { (n : Message) → ¬ IsMessage MAX_MESSAGE_LEN recorded.now
+            → SpellsMsg n received.now → length received.now ≤ MAX_MESSAGE_LEN
             → OnOk result (self.new.tally
-            ≡ record self.old.tally { different = min (self.old.tally.different + 1) u64.MAX }) }
+            ≡ record self.old.tally { different = one_more self.old.tally.different }) }
+        ensures recorded_reply_alone { IsReply recorded.now → ¬ IsReply received.now → OnOk result
+            (self.new.tally
+            ≡ record self.old.tally { different = one_more self.old.tally.different }) }
+        ensures received_reply_alone { ¬ IsReply recorded.now → IsReply received.now → OnOk result
+            (self.new.tally
+            ≡ record self.old.tally { different = one_more self.old.tally.different }) }
+        ensures failed { OnErr result ((self.new.tally ≡ self.old.tally)
+            ⊎ (self.new.tally
+            ≡ record self.old.tally { different = one_more self.old.tally.different })) }
     {
         if are_same_answers(self.alloc, self.names, recorded, received)? {
             self.tally.same = self.tally.same.saturating_add(1);
@@ -96,7 +132,10 @@ impl<'a, W: Write + Drop> Teller<'a, W> {
     /// # Errors
     ///
     /// Returns an error if writing fails or memory runs out.
-    pub fn tell_missing(&mut self, number: u64, request: i32, recorded: &[u8]) -> io::Result<()> {
+    pub fn tell_missing(&mut self, number: u64, request: i32, recorded: &[u8]) -> io::Result<()>
+        ensures counted { self.new.tally
+            ≡ record self.old.tally { missing = one_more self.old.tally.missing } }
+    {
         self.tally.missing = self.tally.missing.saturating_add(1);
         writeln!(self.out, "{number} missing id {request}")?;
         self.write_line('-', recorded)
@@ -107,14 +146,22 @@ impl<'a, W: Write + Drop> Teller<'a, W> {
     /// # Errors
     ///
     /// Returns an error if writing fails or memory runs out.
-    pub fn tell_late(&mut self, number: u64, request: i32, received: &[u8]) -> io::Result<()> {
+    pub fn tell_late(&mut self, number: u64, request: i32, received: &[u8]) -> io::Result<()>
+        ensures counted { self.new.tally
+            ≡ record self.old.tally { late = one_more self.old.tally.late } }
+    {
         self.tally.late = self.tally.late.saturating_add(1);
         writeln!(self.out, "{number} late id {request}")?;
         self.write_line('+', received)
     }
 
     /// Counts an answer to a request whose answer the record lacks. No line tells it.
-    pub fn count_unrecorded(&mut self) {
+    pub fn count_unrecorded(&mut self)
+        ensures counted { self.new ≡ record self.old {
+          tally =
+              record self.old.tally { unrecorded = one_more self.old.tally.unrecorded };
+        } }
+    {
         self.tally.unrecorded = self.tally.unrecorded.saturating_add(1);
     }
 
@@ -124,12 +171,10 @@ impl<'a, W: Write + Drop> Teller<'a, W> {
     /// # Errors
     ///
     /// Returns an error if writing fails or memory runs out.
-    pub fn tell_unexpected(
-        &mut self,
-        number: u64,
-        request: i32,
-        received: &[u8],
-    ) -> io::Result<()> {
+    pub fn tell_unexpected(&mut self, number: u64, request: i32, received: &[u8]) -> io::Result<()>
+        ensures counted { self.new.tally
+            ≡ record self.old.tally { unexpected = one_more self.old.tally.unexpected } }
+    {
         self.tally.unexpected = self.tally.unexpected.saturating_add(1);
         writeln!(self.out, "{number} unexpected id {request}")?;
         self.write_line('+', received)
@@ -140,7 +185,10 @@ impl<'a, W: Write + Drop> Teller<'a, W> {
     /// # Errors
     ///
     /// Returns an error if writing fails.
-    pub fn tell_failed(&mut self, number: u64, broken: Broken) -> io::Result<()> {
+    pub fn tell_failed(&mut self, number: u64, broken: Broken) -> io::Result<()>
+        ensures counted { self.new.tally
+            ≡ record self.old.tally { failed = one_more self.old.tally.failed } }
+    {
         self.tally.failed = self.tally.failed.saturating_add(1);
         writeln!(self.out, "{number} failed: {broken}")
     }
@@ -151,7 +199,9 @@ impl<'a, W: Write + Drop> Teller<'a, W> {
     /// # Errors
     ///
     /// Returns an error if writing fails.
-    pub fn finish(&mut self, fault: Option<InputFault>) -> io::Result<()> {
+    pub fn finish(&mut self, fault: Option<InputFault>) -> io::Result<()>
+        ensures kept { self.new.tally ≡ self.old.tally }
+    {
         let tally = self.tally;
         writeln!(self.out, "{tally}")?;
         if let Some(fault) = fault {
