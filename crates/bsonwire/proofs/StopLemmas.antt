@@ -30,3 +30,8 @@ pub written_whole : (from old new : Option (List ℕ)) (ended : Result (Option T
 written_whole None old new ended end tells told cut written = tt
 written_whole (Some input) old new (Ok stop) end tells told cut written = λ done. text_of input stop (is_fault end) old new tells.1 written
 written_whole (Some input) old new (Err e) end tells told cut written = λ done. absurd (true≢false (sym done ∙ ap is_done told ∙ cut))
+
+-- what `bson` returned, where the run ended otherwise than done
+pub ended_so : (ended : Result (Option TextStop) RunEnd) (end cut : RunEnd) → Tells ended end → IfErr ended (λ e. end ≡ e) → is_done cut ≡ false → end ≡ cut → ended ≡ Err cut
+ended_so (Ok stop) end cut tells told short is = absurd (true≢false (sym tells.0 ∙ ap is_done is ∙ short))
+ended_so (Err e) end cut tells told short is = ap Err (sym told ∙ is)

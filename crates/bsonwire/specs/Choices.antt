@@ -27,8 +27,9 @@ use Rattle.engines.specs.declared.json.Layout.TheVariants.{Lines, Array}
 use Rattle.engines.specs.declared.msg.MessageForm.{MessageForm}
 use Rattle.engines.specs.declared.msg.MessageForm.TheVariants.{Text as in_text, Json as in_json}
 use Rattle.engines.specs.declared.record_text.RecordForm.TheVariants as records
-use Rattle.engines.specs.{AllFrames, AllMessages, AllOrRecords, AllTexts, AnyText, BsonText}
-use Rattle.engines.specs.{CanonText, CheckText, DumpText, FirstFrames, FirstMessages}
+use Rattle.engines.specs.{AllBson, AllFrames, AllMessages, AllOrRecords, AllTexts, AnyText}
+use Rattle.engines.specs.{BsonText, CanonText, CheckText, DumpText, FirstBson, FirstFrames}
+use Rattle.engines.specs.{FirstMessages}
 use Rattle.engines.specs.{FirstOrRecords, FirstSalvaged, FirstTexts, IsOutput, JsonText}
 use Rattle.engines.specs.{MayBeJson, MsgText, SalvageText, SalvagedSoFar, ScriptText}
 use Rattle.engines.specs.{TextOrRecords, as_messages, bytes_of, canon_of, check_of, dump_of}
@@ -289,6 +290,7 @@ FirstOf (Canon Salvage) = FirstSalvaged (told_by (canon_of 2147483647 false)) fa
 FirstOf (Json hex mode layout) =
     λ input. FirstOrRecords (records.Json mode layout) (FirstTexts (MayBeJson mode layout))
     (bytes_of hex input)
+FirstOf Bson = FirstBson
 FirstOf (Msg hex form) =
     λ input. FirstOrRecords (as_messages form) (FirstMessages form) (bytes_of hex input)
 FirstOf (Any hex) = λ input. FirstOrRecords records.Text FirstFrames (bytes_of hex input)
@@ -306,6 +308,7 @@ AllOf (Canon Salvage) = SalvagedSoFar (told_by (canon_of 2147483647 false)) fals
 AllOf (Json hex mode layout) =
     λ input. AllOrRecords (records.Json mode layout) (AllTexts (MayBeJson mode layout))
     (bytes_of hex input)
+AllOf Bson = AllBson
 AllOf (Msg hex form) =
     λ input. AllOrRecords (as_messages form) (AllMessages form) (bytes_of hex input)
 AllOf (Any hex) = λ input. AllOrRecords records.Text AllFrames (bytes_of hex input)
@@ -313,6 +316,5 @@ AllOf _ = λ input texts. ⊥
 
 -- whether a command reads all of its input before it writes
 abbrev pub reads_first : Command → Bool
-reads_first Bson = true
 reads_first Play = true
 reads_first _ = false

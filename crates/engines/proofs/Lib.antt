@@ -18,5 +18,6 @@ pub mod RecordLaws
 pub mod Rounds
 pub mod LoopLemmas
 pub mod TextsRead
+pub mod TextPieceLemmas
 pub mod HexLemmas
 pub mod HexWalkLemmas

@@ -8,8 +8,8 @@ use Rattle.bson_doc.specs.declared.refusal.DocRefusal.{DocRefusal}
 use Rattle.bson_doc.specs.Refusals.{refusal_text}
 use Rattle.bson_doc.specs.{tree_of}
 use Rattle.bson_json_read.specs.declared.fault.Cause.{Cause}
-use Rattle.bson_json_read.specs.{Fails, Gives, HasNoBytes, Left, Pair, ReadsTo, next_in, nothing}
-use Rattle.bson_json_read.specs.{StandsIn, text_fault_text}
+use Rattle.bson_json_read.specs.{Fails, Gives, HasNoBytes, IsOpen, Left, Pair, ReadsTo, StandsIn}
+use Rattle.bson_json_read.specs.{next_in, nothing, text_fault_text}
 use Rattle.engines.specs.declared.bson.TextStop.{TextStop}
 use Rattle.engines.specs.declared.bson.TextStop.TheVariants.{Fault, Refused}
 
@@ -44,9 +44,6 @@ WritesTexts input IsLeft old new =
     (ds : List (List Pair)) × (left : Left) × ReadsTo input ds left × IsLeft (length ds) left
     × Appends old new (bytes_of_each ds)
 
-abbrev pub IsAnything : ℕ → Left → Type 0
-IsAnything count left = ⊤
-
 -- what is next is at fault, or it isn't
 abbrev pub EndsAt : Bool → Left → Type 0
 EndsAt false left = next_in left.frame left.rest ≡ nothing
@@ -68,3 +65,14 @@ stop_text (Refused refusal number) =
 
 abbrev pub shown_stop : TextStop → Option (List ℕ)
 shown_stop stop = Some (stop_text stop)
+
+-- the documents of the first few texts of an input
+abbrev pub FirstBson : List ℕ → List ℕ → Type 0
+FirstBson input bytes =
+    (ds : List (List Pair)) × (left : Left) × ReadsTo input ds left × (bytes ≡ bytes_of_each ds)
+
+-- the documents of all texts that are whole in what was read of an input, up to the first fault
+abbrev pub AllBson : List ℕ → List ℕ → Type 0
+AllBson read bytes =
+    (ds : List (List Pair)) × (left : Left) × ReadsTo read ds left
+    × (IsOpen left.frame left.rest ⊎ EndsAt true left) × (bytes ≡ bytes_of_each ds)

@@ -31,9 +31,10 @@ pub mod OrRecordsWalk
 pub mod Calling
 pub mod Loopback
 pub mod Play
+pub mod TextPieces
 -- the words that clauses of other crates cite
 pub use Rattle.engines.specs.Any.{AllFrames, AnyText, FirstFrames}
-pub use Rattle.engines.specs.BsonOf.{BsonText, IsAnything, StopsAt, WritesTexts}
+pub use Rattle.engines.specs.BsonOf.{AllBson, BsonText, FirstBson, StopsAt, WritesTexts}
 pub use Rattle.engines.specs.Canon.{CanonText, canon_of}
 pub use Rattle.engines.specs.Check.{CheckText, check_of}
 pub use Rattle.engines.specs.Documents.{AllTexts, AppendsFirst, FirstTexts, TextRule, WritesAll}

@@ -1,14 +1,22 @@
 //! The command `bson`: the documents of Extended JSON texts.
 
-ghost use Rattle.std.specs.Prelude.{◌≡◌, ◌≢◌, ◌⊎◌, [], Err, IfErr, IfOk, IfSome, OnOk, false};
-ghost use Rattle.std.specs.Io.KnownBytes.{Appends, IsAtEnd, Keeps};
-ghost use Rattle.engines.specs.BsonOf.{IsAnything, IsPlaced, StopsAt, WritesTexts};
-ghost use Rattle.engines.specs.Run.{is_done};
+ghost use Rattle.std.specs.Prelude.{◌≡◌, ◌≢◌, ◌⊎◌, ◌+◌, ◌<◌, ◌≤◌, ◌^◌, [], Err, IfErr, IfOk};
+ghost use Rattle.std.specs.Prelude.{IfSome, List, OnOk, Option, false, length, true, ℕ};
+ghost use Rattle.std.specs.Io.KnownBytes.{Consumes, IsAtEnd, Keeps};
+ghost use Rattle.bson_json_read.specs.{MayFollow};
+ghost use Rattle.engines.specs.BsonOf.{AllBson, FirstBson, IsPlaced, StopsAt, WritesTexts};
+ghost use Rattle.engines.specs.Buffered.{buffered_contents};
+ghost use Rattle.engines.specs.Output.{AppendsOne, WritesRead};
+ghost use Rattle.engines.specs.Run.{IsCutShort, is_done};
+ghost use Rattle.engines.specs.TextPieces.{HaveRead, IsBegun, IsPassed};
 
 use crate::buffered::Buffered;
-use crate::run::{BUFFER, RunEnd, read_whole};
+use crate::pieces::{PIECE, read_piece};
+use crate::run::{BUFFER, RunEnd};
+use crate::source::read_rest;
+use crate::texts::{Passed, Texts};
 use bson_doc::DocRefusal;
-use bson_json_read::{Cause, JsonTexts, NextBytes, TextFault};
+use bson_json_read::TextFault;
 use core::mem::replace_with;
 use std::alloc::Global;
 use std::fmt;
@@ -38,93 +46,180 @@ impl fmt::Display for TextStop {
     }
 }
 
-/// Writes the bytes of a document.
-fn write_bytes<W: Write>(bytes: &[u8], out: &mut W) -> Result<(), RunEnd>
-    ensures written { OnOk result
-        (Appends (W.contents out.old) (W.contents out.new) bytes.now) }
-    ensures cut { IfErr result (λ end. end ≡ RunEnd.InOut) }
-    ensures unread { result ≢ Err RunEnd.Unread }
+/// What there is between two pieces.
+#[derive(Drop)]
+struct Between {
+    texts: Texts,
+    /// The buffer in front of the writer, which is empty.
+    buffer: Vec<u8>,
+}
+
+/// Texts of which a piece came.
+#[derive(Drop)]
+struct Job {
+    alloc: Global,
+    before: Between,
+    /// True if nothing follows what came.
+    last: bool,
+}
+
+/// Passes on what waits for the writer. Errs if the writer does, and else returns `passed`.
+fn flush_behind<W: Write>(
+    passed: Result<Passed, RunEnd>,
+    out: &mut Buffered<W>,
+) -> Result<Passed, RunEnd>
+    ensures bytes { Keeps (buffered_contents W.contents out.old)
+        (buffered_contents W.contents out.new) }
+    ensures same { (result ≡ Err RunEnd.InOut)
+        ⊎ ((result ≡ passed) × (out.new.buffer.items ≡ [])) }
 {
-    match out.write_all(bytes) {
-        Ok(()) => Ok(()),
+    match out.flush() {
+        Ok(()) => passed,
         Err(_) => Err(RunEnd::InOut),
     }
 }
 
-/// Writes the documents of the texts in `input`. Returns why that ended before the input did, if it
-/// did.
-fn write_texts<W: Write>(
-    alloc: Global,
-    input: &[u8],
-    out: &mut W,
-) -> Result<Option<TextStop>, RunEnd>
-    ensures ok { IfOk result (λ stop. WritesTexts input.now (StopsAt stop)
-        (W.contents out.old) (W.contents out.new)) }
-    ensures memory { result ≡ Err RunEnd.OutOfMemory → WritesTexts input.now IsAnything
-        (W.contents out.old) (W.contents out.new) }
-    ensures cut { IfErr result (λ end. is_done end ≡ false) }
-    ensures unread { result ≢ Err RunEnd.Unread }
-    ensures placed { IfOk result (λ stop. IsPlaced input.now stop) }
-{
-    let mut texts = JsonTexts::new(alloc, input);
-    let mut bytes = Vec::new(alloc);
-    let mut number: usize = 1;
-    loop {
-        match texts.next_bytes(alloc, &mut bytes) {
-            Ok(NextBytes::Document) => {}
-            Ok(NextBytes::AtEnd) => return Ok(None),
-            Ok(NextBytes::Refused(refusal)) => {
-                return Ok(Some(TextStop::Refused { refusal, number }));
-            }
-            Err(fault) => match fault.cause {
-                Cause::OutOfMemory => return Err(RunEnd::OutOfMemory),
-                _ => return Ok(Some(TextStop::Fault(fault))),
-            },
-        }
-        write_bytes(&bytes, out)?;
-        number += 1;
-    }
-}
-
-/// An input whose documents are to be written, and the buffer for that.
-#[derive(Drop)]
-struct Job {
-    alloc: Global,
-    input: Vec<u8>,
-    buffer: Vec<u8>,
-}
-
-/// Writes the documents of a job, and passes all of them on. Returns the writer, and how it ended.
-fn write_through<W: Write>(writer: W, job: Job) -> (W, Result<Option<TextStop>, RunEnd>)
-    requires { job.buffer.items ≡ [] }
-    ensures ok { IfOk result.1 (λ stop. WritesTexts job.input.items (StopsAt stop)
-        (W.contents writer) (W.contents result.0)) }
-    ensures memory { result.1 ≡ Err RunEnd.OutOfMemory → WritesTexts job.input.items IsAnything
-        (W.contents writer) (W.contents result.0) }
-    ensures cut { IfErr result.1 (λ end. is_done end ≡ false) }
-    ensures unread { result.1 ≢ Err RunEnd.Unread }
-    ensures placed { IfOk result.1 (λ stop. IsPlaced job.input.items stop) }
+/// Like `write_held`, but takes the writer by value and returns it.
+fn write_through<W: Write>(writer: W, job: Job) -> (W, (Between, Result<Passed, RunEnd>))
+    requires empty { job.before.buffer.items ≡ [] }
+    requires few { job.before.texts.count + length job.before.texts.reader.bytes < 2 ^ 64 }
+    ensures empty { OnOk result.1.1 (result.1.0.buffer.items ≡ []) }
+    ensures fewer { result.1.0.texts.count + length result.1.0.texts.reader.bytes
+        ≤ job.before.texts.count + length job.before.texts.reader.bytes }
+    ensures ok { (read : List ℕ) (start : Option (List ℕ))
+        → HaveRead job.last read job.before.texts.count job.before.texts.reader start
+        (W.contents writer) → IfOk result.1.1 (λ passed. IsPassed job.last read passed
+        result.1.0.texts.count result.1.0.texts.reader start (W.contents result.0)) }
+    ensures memory { (read : List ℕ) (start : Option (List ℕ))
+        → HaveRead job.last read job.before.texts.count job.before.texts.reader start
+        (W.contents writer) → result.1.1 ≡ Err RunEnd.OutOfMemory
+        → HaveRead job.last read result.1.0.texts.count result.1.0.texts.reader start
+        (W.contents result.0) }
+    ensures cut { IfErr result.1.1 (λ end. is_done end ≡ false) }
+    ensures unread { result.1.1 ≢ Err RunEnd.Unread }
 {
     let Job {
         alloc,
-        input,
-        buffer,
+        before,
+        last,
     } = job;
+    let Between { mut texts, buffer } = before;
     let mut out = Buffered::new(writer, buffer);
-    let written = write_texts(alloc, &input, &mut out);
-    let flushed = out.flush();
-    let writer = out.into_inner();
-    match flushed {
-        Ok(()) => (writer, written),
-        Err(_) => (writer, Err(RunEnd::InOut)),
+    let passed = texts.write_documents(alloc, last, &mut out);
+    let passed = flush_behind(passed, &mut out);
+    let (writer, buffer) = out.into_parts();
+    (writer, (Between { texts, buffer }, passed))
+}
+
+/// Writes the documents of the texts that are whole, up to the first one at fault. `last` says that
+/// nothing follows what came.
+fn write_held<W: Write>(
+    alloc: Global,
+    before: Between,
+    last: bool,
+    writer: &mut W,
+) -> (Between, Result<Passed, RunEnd>)
+    requires empty { before.buffer.items ≡ [] }
+    requires few { before.texts.count + length before.texts.reader.bytes < 2 ^ 64 }
+    ensures empty { OnOk result.1 (result.0.buffer.items ≡ []) }
+    ensures fewer { result.0.texts.count + length result.0.texts.reader.bytes
+        ≤ before.texts.count + length before.texts.reader.bytes }
+    ensures ok { (read : List ℕ) (start : Option (List ℕ))
+        → HaveRead last read before.texts.count before.texts.reader start
+        (W.contents writer.old) → IfOk result.1 (λ passed. IsPassed last read passed
+        result.0.texts.count result.0.texts.reader start (W.contents writer.new)) }
+    ensures memory { (read : List ℕ) (start : Option (List ℕ))
+        → HaveRead last read before.texts.count before.texts.reader start
+        (W.contents writer.old) → result.1 ≡ Err RunEnd.OutOfMemory
+        → HaveRead last read result.0.texts.count result.0.texts.reader start
+        (W.contents writer.new) }
+    ensures cut { IfErr result.1 (λ end. is_done end ≡ false) }
+    ensures unread { result.1 ≢ Err RunEnd.Unread }
+{
+    let job = Job {
+        alloc,
+        before,
+        last,
+    };
+    replace_with(writer, job, write_through)
+}
+
+/// Reads the rest of an input in which no more documents are written, for this reason, which it
+/// returns. `last` says that nothing is left.
+fn end_behind<R: Read>(
+    stop: Option<TextStop>,
+    last: bool,
+    reader: &mut R,
+    room: &mut [u8],
+) -> Result<Option<TextStop>, RunEnd>
+    requires room { 0 < length room.old }
+    requires ended { last ≡ true → IsAtEnd (R.remaining reader.old) }
+    ensures read { (more : List ℕ) × Consumes (R.remaining reader.old) (R.remaining reader.new)
+        more × MayFollow last more }
+    ensures ok { IfOk result (λ s. (s ≡ stop) × IsAtEnd (R.remaining reader.new)) }
+    ensures stopped { IfErr result (λ end. IsCutShort end × (last ≡ false)) }
+{
+    if last {
+        return Ok(stop);
     }
+    match read_rest(reader, room) {
+        Ok(()) => Ok(stop),
+        Err(end) => Err(end),
+    }
+}
+
+/// Writes the documents of the texts in the input, piece by piece. `room` takes a piece. Returns why
+/// that ended before the input did, if it did.
+fn write_pieces<R: Read, W: Write>(
+    alloc: Global,
+    reader: &mut R,
+    room: &mut [u8],
+    mut between: Between,
+    writer: &mut W,
+) -> Result<Option<TextStop>, RunEnd>
+    requires room { 0 < length room.old }
+    requires piece { length room.old ≤ PIECE }
+    requires begins { IsBegun between.texts.count between.texts.reader }
+    requires empty { between.buffer.items ≡ [] }
+    ensures read { OnOk result (IsAtEnd (R.remaining reader.new)) }
+    ensures ok { IfOk result (λ stop. (read : List ℕ)
+        × Consumes (R.remaining reader.old) (R.remaining reader.new) read
+        × WritesTexts read (StopsAt stop) (W.contents writer.old) (W.contents writer.new)
+        × IsPlaced read stop) }
+    ensures unread { result ≡ Err RunEnd.Unread → WritesRead AllBson
+        (R.remaining reader.old) (R.remaining reader.new)
+        (W.contents writer.old) (W.contents writer.new) }
+    ensures memory { result ≡ Err RunEnd.OutOfMemory → IfSome (R.remaining reader.old) (λ input.
+        AppendsOne (FirstBson input) (W.contents writer.old) (W.contents writer.new)) }
+    ensures cut { IfErr result (λ end. is_done end ≡ false) }
+{
+    let mut so_far = 0;
+    for _ in 0..u64::MAX {
+        let read = match read_piece(so_far, reader, room) {
+            Ok(read) => read,
+            Err(end) => return Err(end),
+        };
+        let last = read.is_none();
+        let n = read.unwrap_or(0);
+        so_far += n;
+        let Ok(()) = between.texts.reader.feed(&room[..n]) else {
+            return Err(RunEnd::OutOfMemory);
+        };
+        let (after, passed) = write_held(alloc, between, last, writer);
+        between = after;
+        match passed? {
+            Passed::Wanted => {}
+            Passed::Over(stop) => return end_behind(stop, last, reader, room),
+        }
+    }
+    Err(RunEnd::InOut)
 }
 
 /// Writes the documents of the texts in the input, which are Extended JSON, back to back. Returns
 /// why that ended before the input did, if it did.
 ///
-/// The whole input is read first. The document of a text is written before the next one is read of
-/// its text.
+/// The document of a text is written before the next text is read. Beside a piece, a buffer and the
+/// document, only the text that isn't whole yet is held.
 ///
 /// # Errors
 ///
@@ -137,24 +232,23 @@ pub fn run_bson<R: Read, W: Write>(
     ensures read { OnOk result (IsAtEnd (R.remaining reader.new)) }
     ensures written { IfSome (R.remaining reader.old) (λ input. IfOk result (λ stop.
         WritesTexts input (StopsAt stop) (W.contents writer.old) (W.contents writer.new))) }
-    ensures late { (IsAtEnd (R.remaining reader.new)) ⊎
-        Keeps (W.contents writer.old) (W.contents writer.new) }
-    ensures memory { IfSome (R.remaining reader.old) (λ input. result ≡ Err RunEnd.OutOfMemory →
-        WritesTexts input IsAnything (W.contents writer.old) (W.contents writer.new)) }
-    ensures unread { result ≡ Err RunEnd.Unread →
-        Keeps (W.contents writer.old) (W.contents writer.new) }
+    ensures unread { result ≡ Err RunEnd.Unread → WritesRead AllBson
+        (R.remaining reader.old) (R.remaining reader.new)
+        (W.contents writer.old) (W.contents writer.new) }
+    ensures memory { result ≡ Err RunEnd.OutOfMemory → IfSome (R.remaining reader.old) (λ input.
+        AppendsOne (FirstBson input) (W.contents writer.old) (W.contents writer.new)) }
     ensures cut { IfErr result (λ end. is_done end ≡ false) }
     ensures placed { IfSome (R.remaining reader.old) (λ input.
         IfOk result (λ stop. IsPlaced input stop)) }
 {
-    let input = read_whole(alloc, reader)?;
     let Ok(buffer) = Vec::with_capacity(alloc, BUFFER) else {
         return Err(RunEnd::OutOfMemory);
     };
-    let job = Job {
-        alloc,
-        input,
-        buffer,
+    let mut room = Vec::new(alloc);
+    let Ok(()) = room.resize(PIECE, 0) else {
+        return Err(RunEnd::OutOfMemory);
     };
-    replace_with(writer, job, write_through)
+    let texts = Texts::new(alloc);
+    let between = Between { texts, buffer };
+    write_pieces(alloc, reader, room.as_mut_slice(), between, writer)
 }

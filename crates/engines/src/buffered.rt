@@ -33,8 +33,9 @@ impl<W: Write> Buffered<W> {
 
     /// Returns the inner writer, and the buffer with what waits for it.
     pub fn into_parts(self) -> (W, Vec<u8>)
-        ensures { append_known (W.contents result.0) result.1.items
+        ensures contents { append_known (W.contents result.0) result.1.items
             ≡ buffered_contents W.contents self }
+        ensures waiting { result.1 ≡ self.buffer }
     {
         let Buffered { inner, buffer } = self;
         (inner, buffer)

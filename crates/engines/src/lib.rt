@@ -1,17 +1,18 @@
 //! The commands of the program `bsonwire`, each a function over a writer, and all but `loop` over a
 //! reader.
 //!
-//! `run_dump`, `run_check`, `run_canon` and `run_json` read documents piece by piece, `run_msg`
-//! messages, and `run_any` messages of any opCode, and write as these come. `run_json`, `run_msg`
-//! and `run_any` know a file of records by its first bytes, and write its records. `run_bson` and
-//! `run_play` read all that the reader has before they write. Each writes one text for its input,
-//! through a buffer of 64 KiB, which the writer gets when it is full, when a read gave less than a
-//! piece, and at the end, and tells how that ended. Documents, messages or records stand back to
-//! back in the input, as bytes or as hexadecimal text; the input of `run_bson` is Extended JSON,
-//! and that of `run_play` a script of events. A fault in the input is told by the last line of the
-//! text, and by `run_bson` in what it returns. `salvage_check` and `salvage_canon` go on behind a
-//! fault; the one tells each, at its gap, and the other none. `run_loop` reads nothing: it makes
-//! calls over a connection of the program with itself.
+//! `run_dump`, `run_check`, `run_canon` and `run_json` read documents piece by piece, `run_bson`
+//! texts, `run_msg` messages, and `run_any` messages of any opCode, and write as these come.
+//! `run_json`, `run_msg` and `run_any` know a file of records by its first bytes, and write its
+//! records. `run_play` reads all that the reader has before it writes. Each writes one text for its
+//! input, through a buffer of 64 KiB, which the writer gets when it is full, when a read gave less
+//! than a piece, and at the end, and that of `run_bson` behind each piece; and tells how that ended.
+//! Documents, messages or records stand back to back in the input, as bytes or as hexadecimal text;
+//! the input of `run_bson` is Extended JSON, and that of `run_play` a script of events. A fault in
+//! the input is told by the last line of the text, and by `run_bson` in what it returns.
+//! `salvage_check` and `salvage_canon` go on behind a fault; the one tells each, at its gap, and the
+//! other none. `run_loop` reads nothing: it makes calls over a connection of the program with
+//! itself.
 //!
 //! Stands on bson_json_read, bson_stream, wire_frame, wire_record, wire_stream, wire_end and
 //! wire_play. bsonwire and proxy stand on it. Read first: `walk`, `pieces`, `documents`, and then `dump`.
@@ -44,6 +45,7 @@ mod records;
 mod run;
 mod salvage;
 mod source;
+mod texts;
 mod walk;
 
 pub use any::run_any;

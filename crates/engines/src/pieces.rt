@@ -3,8 +3,8 @@
 //! Between two pieces there is the document or message that isn't whole yet, and the text that the
 //! writer didn't take yet. Nothing else of the input is held, but for a digit of hexadecimal text.
 
-ghost use Rattle.std.specs.Prelude.{◌≡◌, ◌⊎◌, ◌<◌, ◌≤◌, ◌++◌, IfErr, IfOk, IfSome, List, None, Ok};
-ghost use Rattle.std.specs.Prelude.{OnErr, OnOk, Option, [], length, take, true, ℕ};
+ghost use Rattle.std.specs.Prelude.{◌≡◌, ◌⊎◌, ◌+◌, ◌<◌, ◌≤◌, ◌^◌, ◌++◌, IfErr, IfOk, IfSome, List};
+ghost use Rattle.std.specs.Prelude.{None, Ok, OnErr, OnOk, Option, [], length, take, true, ℕ};
 ghost use Rattle.std.specs.Io.KnownBytes.{Consumes, IsAtEnd, Keeps, append_known};
 ghost use Rattle.engines.specs.Buffered.{buffered_contents};
 ghost use Rattle.engines.specs.Input.{bytes_of};
@@ -132,6 +132,7 @@ pub fn read_piece<R: Read>(
     ensures within { IfOk result (λ n. given n ≤ length room.new) }
     ensures read { IfOk result (λ n. Consumes (R.remaining reader.old) (R.remaining reader.new)
         (take (given n) room.new)) }
+    ensures counted { IfOk result (λ n. length room.old ≤ PIECE → so_far + given n < 2 ^ 64) }
     ensures ended { result ≡ Ok None → IsAtEnd (R.remaining reader.new) }
     ensures unread { OnErr result (Keeps (R.remaining reader.old) (R.remaining reader.new)) }
     ensures stopped { IfErr result (λ end. IsCutShort end) }

@@ -1,15 +1,24 @@
-use Rattle.std.proofs.Common.{◌≡◌, List, Option, ℕ, sym, subst, true}
+use Rattle.std.proofs.Common.{◌≡◌, List, Option, ℕ, refl, sym, subst, true}
 use Rattle.std.specs.Prelude.{IfSome}
 use Rattle.engines.specs.declared.run.RunEnd.{RunEnd}
-use Rattle.engines.specs.{AppendsText, is_done, is_fault}
+use Rattle.engines.specs.declared.run.RunEnd.TheVariants.{OutOfMemory, Unread}
+use Rattle.engines.specs.{AppendsOne, AppendsText, WritesRead, is_done, is_fault}
 use Rattle.bsonwire.specs.declared.choice.Command.{Command}
-use Rattle.bsonwire.specs.Choices.{CommandText}
-use Rattle.bsonwire.proofs.StopLemmas.{done_ok, written_whole}
+use Rattle.bsonwire.specs.Choices.{AllOf, CommandText, FirstOf}
+use Rattle.bsonwire.proofs.StopLemmas.{done_ok, ended_so, written_whole}
 use Rattle.bsonwire.proofs.commands.run_over.Goals as goal
 
 -- the whole text of a command was written, if the run is done
 abbrev Written : Option (List ℕ) → RunEnd → Option (List ℕ) → Option (List ℕ) → Command → Type 0
 Written from end old new command = IfSome from (λ input. is_done end ≡ true → AppendsText (CommandText command input) (is_fault end) old new)
+
+-- the texts of all that was read were written
+abbrev All : Option (List ℕ) → Option (List ℕ) → Option (List ℕ) → Option (List ℕ) → Command → Type 0
+All from to old new command = WritesRead (AllOf command) from to old new
+
+-- the first few texts were written
+abbrev First : Option (List ℕ) → Option (List ℕ) → Option (List ℕ) → Command → Type 0
+First from old new command = IfSome from (λ input. AppendsOne (FirstOf command input) old new)
 
 pub returns-in-Bson-clause-read : goal.returns-in-Bson-clause-read
 returns-in-Bson-clause-read g c = done_ok c.run_bson.result c.tell_stop.result c.tell_stop.ensures.err c.run_bson.ensures.cut c.run_bson.ensures.read
@@ -22,6 +31,16 @@ returns-in-Bson-clause-written g c =
     let end = c.tell_stop.result in
     subst (Written from end old new) (sym c.in-Bson.is)
     (written_whole from old new c.run_bson.result end c.tell_stop.ensures.ok c.tell_stop.ensures.err c.run_bson.ensures.cut c.run_bson.ensures.written)
+
+pub returns-in-Bson-clause-unread : goal.returns-in-Bson-clause-unread
+returns-in-Bson-clause-unread g c = λ is first.
+    subst (All (g.R.Read.remaining c.args.reader.now) (g.R.Read.remaining c.run_bson.new.reader) (g.W.Write.contents c.args.writer.now) (g.W.Write.contents c.run_bson.new.writer)) (sym c.in-Bson.is)
+    (c.run_bson.ensures.unread (ended_so c.run_bson.result c.tell_stop.result Unread c.tell_stop.ensures.ok c.tell_stop.ensures.err refl is))
+
+pub returns-in-Bson-clause-first : goal.returns-in-Bson-clause-first
+returns-in-Bson-clause-first g c = λ is first.
+    subst (First (g.R.Read.remaining c.args.reader.now) (g.W.Write.contents c.args.writer.now) (g.W.Write.contents c.run_bson.new.writer)) (sym c.in-Bson.is)
+    (c.run_bson.ensures.memory (ended_so c.run_bson.result c.tell_stop.result OutOfMemory c.tell_stop.ensures.ok c.tell_stop.ensures.err refl is))
 
 pub returns-in-Json-clause-written : goal.returns-in-Json-clause-written
 returns-in-Json-clause-written g c =
