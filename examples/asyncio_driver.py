@@ -50,7 +50,9 @@ class Connection:
     async def __aexit__(self, *_: Any) -> None:
         await self.close()
 
-    async def call(self, body: Any, sequences: Any = ()) -> lughemra.Document:
+    async def call(
+        self, body: lughemra.AnyDocument, sequences: lughemra.Sequences = ()
+    ) -> lughemra.Document:
         """Makes a call, and returns the body of its reply. Raises what ended the connection, if that comes first."""
         await self.room.acquire()
         try:
@@ -91,7 +93,8 @@ class Connection:
                     self.settle(reply)
             self.client.end()
             self.fail(self.client.closed or ConnectionError("the connection ended"))
-        except (OSError, MemoryError) as failure:
+        # Whatever it is, no reply comes behind it, and no caller is to wait for one.
+        except Exception as failure:
             self.fail(failure)
 
     def settle(self, reply: lughemra.Reply) -> None:

@@ -9,7 +9,7 @@ functions that are proved to meet their contracts.
 docs/PYTHON.md tells what there is, and what of it is proved.
 """
 
-from ._library import MAX_LIMIT
+from ._library import MAX_LIMIT, Buffer
 from ._library import PATH as LIBRARY_PATH
 from .checks import DocumentsWalk, check, check_documents, documents, is_canonical, walk_documents
 from .client import Call, Client, Reply
@@ -34,13 +34,15 @@ from .values import (
     Timestamp,
     Undefined,
 )
-from .writer import encode, encode_message
+from .writer import AnyDocument, Sequences, encode, encode_message
 
 __version__ = "0.1.0"
 
 __all__ = [
+    "AnyDocument",
     "Array",
     "Binary",
+    "Buffer",
     "Call",
     "CallRefused",
     "Client",
@@ -75,6 +77,7 @@ __all__ = [
     "Regex",
     "Reply",
     "Request",
+    "Sequences",
     "Server",
     "ServerClosed",
     "Symbol",

@@ -9,6 +9,7 @@ from collections.abc import Callable
 from typing import Any, NoReturn, Optional, Self
 
 from . import _library as lib
+from ._numbers import shown
 from .errors import CallRefused, Closed, DocumentError, MessageError
 
 # How many bytes `output` gives at most, if it isn't told another number.
@@ -30,13 +31,6 @@ def fault_of(told: Any) -> Optional[MessageError]:
         return None
     document = DocumentError(inside.number, inside.offset) if inside.number else None
     return MessageError(fault.number, fault.offset, document=document)
-
-
-def require(what: str, number: int, least: int, most: int) -> int:
-    """Returns the number, or raises ValueError where it isn't from `least` to `most`."""
-    if not least <= number <= most:
-        raise ValueError(f"the {what} is {number}, and isn't one of {least} to {most}")
-    return number
 
 
 def room_of(length: int) -> tuple[bytearray, Any, Any]:
@@ -126,15 +120,18 @@ class End(Held):
     def sent(self, count: int) -> None:
         """Takes the first `count` bytes that wait off, since they were sent."""
         if count < 0:
-            raise ValueError(f"{count} bytes can't be sent")
+            raise ValueError(f"{shown(count)} bytes can't be sent")
         refuse(self._tell("sent", ctypes.c_size_t(min(count, (1 << 64) - 1))))
 
     def _keep(self, piece: lib.Buffer) -> None:
-        """Keeps a copy of a piece behind what was fed before."""
-        if self._at:
-            del self._held[: self._at]
-            self._at = 0
-        self._held += piece
+        """Keeps a copy of a piece behind what was fed before. Where it raises MemoryError the piece isn't kept, as its text says."""
+        try:
+            if self._at:
+                del self._held[: self._at]
+                self._at = 0
+            self._held += piece
+        except MemoryError:
+            raise MemoryError("the piece isn't kept") from None
 
     def _hand_over(self) -> Any:
         """Feeds the core what it hasn't taken yet, and returns what it tells of that."""
@@ -143,4 +140,7 @@ class End(Held):
         del piece
         refuse(fed.refusal)
         self._at += fed.taken
+        if self._at == len(self._held):
+            # An end that waits for more holds no bytes that the core has.
+            self._held, self._at = bytearray(), 0
         return fed

@@ -17,7 +17,7 @@ import mmap
 import os
 import pathlib
 from ctypes import c_bool, c_char, c_double, c_int32, c_int64, c_size_t, c_uint32, c_uint64, c_void_p
-from typing import Any, Optional, Union
+from typing import TYPE_CHECKING, Any, Optional, Union
 
 from .errors import LibraryNotFound
 
@@ -570,7 +570,11 @@ _release_buffer.restype = None
 
 
 # A bytes-like object. For a checker any other one can be handed in as a memoryview of it.
-Buffer = Union[bytes, bytearray, memoryview, "array.array[Any]", mmap.mmap]
+if TYPE_CHECKING:
+    Buffer = Union[bytes, bytearray, memoryview, array.array[Any], mmap.mmap]
+else:
+    # Python 3.11 has no `array.array[Any]`, and a text in its place would be looked up in each module that uses this.
+    Buffer = Union[bytes, bytearray, memoryview, array.array, mmap.mmap]
 
 
 def lent(data: Buffer) -> tuple[Any, Any, Any]:

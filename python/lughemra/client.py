@@ -8,7 +8,8 @@ from collections.abc import Callable, Iterator
 from typing import Any, NamedTuple, Optional
 
 from . import _library as lib
-from ._held import End, fault_of, refuse, require, room_of
+from ._held import End, fault_of, refuse, room_of
+from ._numbers import require
 from .errors import ClientClosed
 from .message import Message, raise_fault
 from .writer import AnyDocument, Sequences, document_bytes, sequence_bytes
@@ -43,9 +44,9 @@ class Client(End):
     _end = "client"
 
     def __init__(self, *, first_id: int = 1, window: int = 1024, limit: int = lib.MAX_LIMIT) -> None:
-        require("first id", first_id, 1, (1 << 31) - 1)
-        require("window", window, 1, 1024)
-        require("limit", limit, 26, lib.MAX_LIMIT)
+        first_id = require("first id", first_id, 1, (1 << 31) - 1)
+        window = require("window", window, 1, 1024)
+        limit = require("limit", limit, 26, lib.MAX_LIMIT)
         super().__init__(lib.short.client_new, ctypes.c_int32(first_id), lib.size(window), lib.limit_of(limit))
         self._closed: Optional[ClientClosed] = None
         # A reply is ready that wasn't taken yet.
@@ -81,7 +82,8 @@ class Client(End):
     def feed(self, piece: lib.Buffer) -> None:
         """Takes a piece of the bytes that came, which is copied. Iterating gives the replies in it.
 
-        Raises ClientClosed once the client is closed, by `end` too, and CallRefused behind `close`.
+        Raises ClientClosed once the client is closed, by `end` too, and CallRefused behind `close`. Where it raises MemoryError
+        the piece isn't kept.
         """
         self._raise_if_closed()
         self._keep(piece)

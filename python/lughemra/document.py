@@ -9,7 +9,7 @@ from collections.abc import Iterator, ItemsView, Mapping, Sequence, ValuesView
 from typing import Any, NamedTuple, Self, Union, overload
 
 from . import _library as lib
-from . import whole
+from . import values, whole
 from .errors import TEXT_FAULT, DocumentError
 from .leaves import READERS, text
 from .values import (
@@ -68,7 +68,7 @@ def _whole(length: int) -> tuple[Any, lib.Iter]:
 class _Container:
     """Holds what a document and an array have in common: the bytes that were handed in, and where a walk begins in them."""
 
-    __slots__ = ("_data", "_pointer", "_size", "_begin")
+    __slots__ = ("_data", "_pointer", "_size", "_begin", "__weakref__")
 
     _data: Any
     _pointer: Any
@@ -292,6 +292,10 @@ class Document(_Container, Mapping[str, Any]):
         except DocumentError as fault:
             text = f"{self._begin.end + 1 - self._begin.start} bytes, {fault}"
         return f"Document({text if len(text) <= 200 else text[:200] + '...'})"
+
+
+# `values` can't import this module, which imports it. `typing.get_type_hints` looks the type of a scope up there.
+setattr(values, "Document", Document)
 
 
 class _Items(ItemsView[str, Any]):

@@ -9,6 +9,7 @@ from collections.abc import Iterator
 from typing import Any, NamedTuple, NoReturn, Optional
 
 from . import _library as lib
+from ._numbers import require
 from .checks import document_at, documents_in
 from .document import Document
 from .errors import DocumentError, MessageError
@@ -43,9 +44,7 @@ class DocumentSequence(NamedTuple):
 
 def _limit(limit: int) -> Any:
     """Returns a limit on a message's length as an argument."""
-    if not 0 <= limit <= MAX_LIMIT:
-        raise ValueError(f"the limit is {limit}, and isn't one of 0 to {MAX_LIMIT}")
-    return lib.limit_of(limit)
+    return lib.limit_of(require("limit", limit, 0, MAX_LIMIT))
 
 
 def raise_fault(told: Any, whole: int = 0, bytes_read: int = 0) -> None:

@@ -6,7 +6,8 @@ import ctypes
 from typing import NamedTuple
 
 from . import _library as lib
-from ._held import Held, refuse, require
+from ._held import Held, refuse
+from ._numbers import require
 
 # The most connections of a pool.
 MOST = 1024
@@ -23,7 +24,7 @@ class Pool(Held):
     """Lends connections by their ids, the one that came back last first. It opens none: what belongs to an id is the program's."""
 
     def __init__(self, most: int = 100) -> None:
-        require("greatest number of connections", most, 1, MOST)
+        most = require("greatest number of connections", most, 1, MOST)
         super().__init__(lib.short.pool_new, lib.size(most))
 
     def check_out(self) -> Lent:
@@ -38,8 +39,7 @@ class Pool(Held):
         It is kept if it is healthy, the pool is open, and the pool wasn't cleared since it was lent. Raises CallRefused where no
         such one is lent.
         """
-        if not 0 <= id < 1 << 64:
-            raise ValueError(f"the id is {id}, and isn't one of 0 to {(1 << 64) - 1}")
+        id = require("id", id, 0, (1 << 64) - 1)
         told = lib.short.pool_check_in(self._core, ctypes.c_uint64(id), ctypes.c_bool(healthy))
         refuse(told.refusal)
         kept: bool = told.kept

@@ -2,11 +2,13 @@
 
 from __future__ import annotations
 
+import operator
 from collections.abc import Iterable
 from typing import Any, NamedTuple, Optional
 
 from . import _library as lib
-from ._held import End, fault_of, refuse, require, room_of
+from ._held import End, fault_of, refuse, room_of
+from ._numbers import require, shown
 from .errors import ServerClosed
 from .message import Message, raise_fault
 from .writer import AnyDocument, documents_bytes
@@ -27,13 +29,16 @@ class Server(End):
 
     What comes is fed. A request that is whole waits until it is answered, in any order; what `output` gives is to be sent. At most
     `window` requests wait at once; messages both ways have at most `limit` bytes. One thread at a time uses a server.
+
+    It keeps the requests that wait, up to `window` times `limit` bytes, what was fed behind a full window, and the replies that
+    aren't sent, whatever their size. So a program feeds no more while `pending` is the window, or much is `waiting`.
     """
 
     _end = "server"
 
     def __init__(self, *, window: int = MOST, limit: int = lib.MAX_LIMIT) -> None:
-        require("window", window, 1, MOST)
-        require("limit", limit, 26, lib.MAX_LIMIT)
+        window = require("window", window, 1, MOST)
+        limit = require("limit", limit, 26, lib.MAX_LIMIT)
         super().__init__(lib.short.server_new, lib.size(window), lib.limit_of(limit))
         self._closed: Optional[ServerClosed] = None
         self._ended = False
@@ -41,9 +46,10 @@ class Server(End):
     def feed(self, piece: lib.Buffer) -> None:
         """Takes a piece of the bytes that came, which is copied. The requests that are whole by then wait.
 
-        What comes while as many wait as the window allows is kept until one is answered. Raises ServerClosed where what came
-        closes the server, and each time from then on. Where it raises MemoryError the piece is kept: it isn't fed again, and
-        `feed(b"")` goes on. Raises ValueError behind `end`, and CallRefused behind `close`.
+        What comes while as many wait as the window allows is kept, however much it is, until one is answered. Raises ServerClosed
+        where what came closes the server, and each time from then on. Where it raises MemoryError with the text "the piece isn't
+        kept", nothing changed, and the piece may be fed again. Behind any other MemoryError the piece is kept: it isn't fed
+        again, and `feed(b"")` goes on. Raises ValueError behind `end`, and CallRefused behind `close`.
         """
         self._raise_if_closed()
         if self._ended:
@@ -90,9 +96,10 @@ class Server(End):
 
     def _index(self, k: int) -> Any:
         """Returns the index of a request as an argument."""
-        if not 0 <= k < MOST:
-            raise IndexError(f"no request {k} waits")
-        return lib.size(k)
+        index = operator.index(k)
+        if not 0 <= index < MOST:
+            raise IndexError(f"no request {shown(index)} waits")
+        return lib.size(index)
 
     def answer(self, k: int, documents: Iterable[AnyDocument]) -> None:
         """Answers the request of index `k` among those that wait. Its replies wait to be sent then, and it waits no longer.

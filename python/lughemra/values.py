@@ -52,7 +52,10 @@ class ObjectId:
 
     def __post_init__(self) -> None:
         if not isinstance(self.data, bytes) or len(self.data) != 12:
-            raise TypeError(f"{self.data!r} isn't 12 bytes; ObjectId(bytes.fromhex(digits)) is the ObjectId of 24 digits")
+            raise TypeError(
+                "an ObjectId is made of bytes of length 12;"
+                " ObjectId(bytes.fromhex(digits)) is that of 24 digits"
+            )
 
     def __str__(self) -> str:
         """Returns the 24 digits, as "0102030405060708090a0b0c"."""
@@ -121,7 +124,10 @@ class Decimal128:
 
     def __post_init__(self) -> None:
         if not isinstance(self.data, bytes) or len(self.data) != 16:
-            raise TypeError(f"{self.data!r} isn't 16 bytes; Decimal128(bytes.fromhex(digits)) is the number of 32 hexadecimal digits")
+            raise TypeError(
+                "a Decimal128 is made of bytes of length 16;"
+                " Decimal128(bytes.fromhex(digits)) is that of 32 hexadecimal digits"
+            )
 
     def __str__(self) -> str:
         """Returns the number as Extended JSON has it, as "1.50E+3", "Infinity" or "NaN"."""

@@ -11,7 +11,7 @@ from collections.abc import Iterable, Iterator, Mapping, Sequence
 from typing import Any, Callable, Optional, Union
 
 from . import _library as lib
-
+from ._numbers import require, shown
 from .checks import check
 from .document import Array, Document
 from .errors import DocumentError, EncodeError, MessageError
@@ -50,14 +50,14 @@ def _bits(value: int, least: int, width: int) -> int:
     """Returns the bits of a number, and raises OverflowError where it is less than `least` or has no room in so many bits."""
     number = operator.index(value)
     if not 0 <= number - least < 1 << width:
-        raise OverflowError(f"{number} has no room in {width} bits")
+        raise OverflowError(f"{shown(number)} has no room in {width} bits")
     return number & MASK
 
 
 def _text(what: str, value: Any) -> bytes:
     """Returns the bytes of a text. Raises TypeError where it is none, in which `what` says whose text it is."""
     if not isinstance(value, str):
-        raise TypeError(f"{value!r} as the {what} is no str")
+        raise TypeError(f"{type(value).__name__} as the {what} is no str")
     return value.encode()
 
 
@@ -65,7 +65,7 @@ def _binary(value: Binary) -> Given:
     """Returns binary data."""
     subtype = operator.index(value.subtype)
     if not 0 <= subtype < 256:
-        raise EncodeError(EncodeError.VALUE, f"{subtype} is no subtype")
+        raise EncodeError(EncodeError.VALUE, f"{shown(subtype)} is no subtype")
     return Kind.BINARY, subtype, 0, b"", value.data
 
 
@@ -80,12 +80,12 @@ def _long(value: int) -> Given:
     """Returns an int64, whatever its size."""
     if -(1 << 63) <= value < 1 << 63:
         return Kind.INT64, 0, int(value) & MASK, b"", b""
-    raise OverflowError(f"{value} is no int64")
+    raise OverflowError(f"{shown(value)} is no int64")
 
 
 def _date(value: datetime.datetime) -> Given:
-    """Returns a date; one without a time zone is in UTC."""
-    aware = value if value.tzinfo is not None else value.replace(tzinfo=datetime.timezone.utc)
+    """Returns a date; one without a time zone, or whose zone tells no offset, is in UTC."""
+    aware = value if value.utcoffset() is not None else value.replace(tzinfo=datetime.timezone.utc)
     return Kind.DATETIME, 0, (aware - EPOCH) // MILLISECOND & MASK, b"", b""
 
 
@@ -104,7 +104,7 @@ def _regex(value: Regex) -> Given:
 def _pointer(value: DBPointer) -> Given:
     """Returns a namespace and an ObjectId."""
     if not isinstance(value.id, ObjectId):
-        raise TypeError(f"{value.id!r} as the id of a DBPointer is no ObjectId")
+        raise TypeError(f"{type(value.id).__name__} as the id of a DBPointer is no ObjectId")
     return Kind.DB_POINTER, 0, 0, _text("namespace of a DBPointer", value.namespace), value.id.data
 
 
@@ -217,11 +217,18 @@ class _Room:
         )
 
     def append_all(self, builder: lib.Builder, pairs: Iterable[tuple[Any, Any]]) -> None:
-        """Appends the pairs in their order. Raises TypeError for a name that is no text."""
+        """Appends the pairs in their order. Raises TypeError for a name that is no text. What it raises of a value tells where."""
         for name, value in pairs:
             if not isinstance(name, str):
-                raise TypeError(f"the name {name!r} is no str")
-            self.append(builder, name.encode(), value)
+                raise TypeError(f"{type(name).__name__} as a name is no str")
+            try:
+                self.append(builder, name.encode(), value)
+            except Exception as refusal:
+                # In an array the names aren't looked at, and `count` is the index of the item that isn't appended.
+                is_array = builder.kind == Kind.ARRAY
+                place = f"item {builder.count}" if is_array else f"the pair {name!r}"
+                refusal.add_note(f"in {place}")
+                raise
 
 
 def encode(pairs: Mapping[str, Any]) -> bytes:
@@ -230,8 +237,8 @@ def encode(pairs: Mapping[str, Any]) -> bytes:
     The values are those that a `Document` gives. A list, or any sequence that lends no bytes, is an array; an `int` is an int32 if
     it is one, and else an int64; an `Int64` is an int64; a `datetime` without a time zone is in UTC. Raises EncodeError for what
     BSON can't spell, TypeError for what is no mapping, no name or no value, OverflowError for a number that has no room, and
-    UnicodeEncodeError for a lone surrogate. A `Document` gives its own bytes, which are checked: it raises DocumentError for a
-    fault.
+    UnicodeEncodeError for a lone surrogate; its notes tell in which pair, from the innermost one on. A `Document` gives its own
+    bytes, which are checked: it raises DocumentError for a fault.
     """
     if isinstance(pairs, Document):
         pairs.check()
@@ -253,10 +260,14 @@ def document_bytes(given: AnyDocument) -> bytes:
 
 
 def documents_bytes(given: Iterable[AnyDocument]) -> Iterator[bytes]:
-    """Gives the bytes of each document, checked."""
-    for it in given:
-        content = document_bytes(it)
-        check(content)
+    """Gives the bytes of each document, checked. What it raises of one tells which."""
+    for k, it in enumerate(given):
+        try:
+            content = document_bytes(it)
+            check(content)
+        except Exception as refusal:
+            refusal.add_note(f"in document {k}")
+            raise
         yield content
 
 
@@ -264,9 +275,15 @@ def sequence_bytes(given: Sequences) -> bytes:
     """Returns the sections of document sequences, one behind the other."""
     room, end = _Room(), ctypes.c_size_t(0)
     for identifier, documents in given:
-        name, joined = _text("identifier of a sequence", identifier), b"".join(documents_bytes(documents))
-        sizes = lib.size(len(name)), lib.size(len(joined))
-        room.build(lib.short.append_sequence, ctypes.byref(end), name, sizes[0], joined, sizes[1])
+        name = _text("identifier of a sequence", identifier)
+        try:
+            joined = b"".join(documents_bytes(documents))
+            sizes = lib.size(len(name)), lib.size(len(joined))
+            arguments = ctypes.byref(end), name, sizes[0], joined, sizes[1]
+            room.build(lib.short.append_sequence, *arguments)
+        except Exception as refusal:
+            refusal.add_note(f"in the sequence {identifier!r}")
+            raise
     return bytes(room.held[: end.value])
 
 
@@ -287,11 +304,10 @@ def encode_message(
     DocumentError where a document of a sequence isn't one; and EncodeError for what can't be spelled: BadName for an
     identifier, TooLarge where the message has more bytes than the limit.
     """
-    if not 0 <= limit <= MAX_LIMIT:
-        raise ValueError(f"the limit is {limit}, and isn't one of 0 to {MAX_LIMIT}")
+    limit = require("limit", limit, 0, MAX_LIMIT)
     for number in (request_id, response_to):
         if not -(1 << 31) <= number < 1 << 31:
-            raise OverflowError(f"{number} is no int32")
+            raise OverflowError(f"{shown(number)} is no int32")
     content, sections = document_bytes(body), sequence_bytes(sequences)
     room = bytearray(21 + len(content) + len(sections))
     # What has no room in 32 bits is refused like a checksum that no one writes.

@@ -105,6 +105,21 @@ def test_calls_to_a_peer_that_never_reads_fail_where_the_connection_ends(end, wo
     assert asyncio.run(asyncio.wait_for(both(), 300)) == {(True, words)}
 
 
+def test_whatever_ends_the_receiver_fails_the_calls():
+    async def both():
+        def answers(*streams):
+            return serve(*streams, [0, 1 << 30])
+
+        async with await asyncio.start_server(answers, "127.0.0.1", 0) as server:
+            port = server.sockets[0].getsockname()[1]
+            async with await driver.Connection.open("127.0.0.1", port, window=2) as connection:
+                connection.settle = lambda reply: {}["missing"]
+                calls = [driver.ping(connection, n) for n in range(5)]
+                return {repr(it) for it in await asyncio.gather(*calls, return_exceptions=True)}
+
+    assert asyncio.run(asyncio.wait_for(both(), 300)) == {"KeyError('missing')"}
+
+
 def test_what_ended_a_connection_is_told_again_without_the_frames_of_before():
     async def both():
         with socket.create_server(("127.0.0.1", 0)) as listener:

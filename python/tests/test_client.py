@@ -189,6 +189,14 @@ def test_numbers_out_of_range_are_refused():
         Client().sent(-1)
 
 
+def test_a_client_that_has_given_all_replies_holds_no_bytes():
+    client = Client()
+    client.feed(reply_to(client.call({}).request_id, {"a": bytes(1 << 20)}))
+    assert len(list(client)) == 1 and sys.getsizeof(client._held) < 1000
+    client.feed(reply_to(client.call({}).request_id, {"a": 1}))
+    assert bodies(client) == [(1, True, {"a": 1})]
+
+
 def test_counts_of_any_size_are_taken():
     client = Client()
     client.call({"a": 1})

@@ -4,6 +4,7 @@ import copy
 import decimal
 import math
 import pickle
+import weakref
 
 import pytest
 from rows import DOCUMENTS, ID, KINDS, ROOT, document, document_of, element, string, text_model, vectors
@@ -37,6 +38,17 @@ def test_each_kind_is_read_inside_of_others(kind, value, wanted):
 def test_nan_keeps_its_payload():
     read = Document(document_of(Kind.DOUBLE, "010000000000f07f"))
     assert math.isnan(read["v"]) and math.isnan(read.to_dict()["v"])
+
+
+def test_a_document_with_a_nan_is_equal_to_none():
+    read = Document(document_of(Kind.DOUBLE, "000000000000f87f"))
+    assert read != read and read != Document(read.raw) and read != read.to_dict()
+
+
+def test_what_is_read_may_be_referred_to_weakly():
+    read = Document(document(element(0x04, "a", document())))
+    array = read["a"]
+    assert weakref.ref(read)() is read and weakref.ref(array)() is array
 
 
 def test_a_mapping_finds_what_is_there_and_nothing_else():

@@ -2,6 +2,7 @@
 
 import gc
 import struct
+import sys
 import traceback
 
 import pytest
@@ -241,6 +242,27 @@ def test_a_call_without_memory_may_be_made_again(monkeypatch, name):
     assert bodies(server) == [{"ok": 1}]
     server.answer(0, [TWO])
     assert sent_by(server) == message(1, 1, TWO)
+
+
+def test_a_piece_that_is_not_kept_is_told_and_may_be_fed_again():
+    server = Server()
+    full = type("Full", (bytearray,), {"__iadd__": lambda self, piece: bytearray(1 << 62)})
+    server._held = full()
+    with pytest.raises(MemoryError, match="^the piece isn't kept$"):
+        server.feed(message(1, 0, OK))
+    server._held = bytearray()
+    server.feed(b"")
+    assert server.pending == 0
+    server.feed(message(1, 0, OK))
+    assert bodies(server) == [{"ok": 1}]
+
+
+def test_a_server_that_has_taken_all_holds_no_bytes():
+    server = Server()
+    server.feed(message(1, 0, encode({"a": bytes(1 << 20)})))
+    assert server.pending == 1 and sys.getsizeof(server._held) < 1000
+    server.feed(message(2, 0, OK))
+    assert server.pending == 2
 
 
 def test_a_client_and_a_server_speak():

@@ -19,6 +19,9 @@ TAKEN = [
     "Client().call({'a': [1]}, Message(b'').sequences)",
     "Server().answer(0, [{'ok': 1}, encode({})])",
     "encode_message(b'', [('docs', documents(b''))])",
+    "given: AnyDocument = memoryview(b'')",
+    "held: Buffer = array.array('b')",
+    "sent: Sequences = [('docs', [given, held, {}])]",
 ]
 REFUSED = [
     "Document('text')",

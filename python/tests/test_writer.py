@@ -139,6 +139,12 @@ def test_a_date_without_a_zone_is_in_utc():
     assert encode({"v": datetime.datetime(1970, 1, 1)}) == document_of(Kind.DATETIME, "00" * 8)
 
 
+def test_a_zone_that_tells_no_offset_is_none():
+    zone = type("Zone", (datetime.tzinfo,), {"utcoffset": lambda self, when: None})()
+    date = datetime.datetime(1970, 1, 1, tzinfo=zone)
+    assert encode({"v": date}) == document_of(Kind.DATETIME, "00" * 8)
+
+
 def deep(depth):
     return {"d": deep(depth - 1)} if depth > 1 else {}
 
@@ -159,6 +165,31 @@ def test_what_has_no_spelling_is_refused(meant, name):
     with pytest.raises(EncodeError) as refused:
         encode(meant)
     assert refused.value.name == name
+
+
+REFUSALS = (EncodeError, DocumentError, TypeError, OverflowError, UnicodeEncodeError)
+# What isn't written, and the notes that tell where it stands.
+PLACES = [
+    (lambda: encode({"a\0b": 1}), ["in the pair 'a\\x00b'"]),
+    (lambda: encode({"a": [3, {"k": {1}}]}), ["in the pair 'k'", "in item 1", "in the pair 'a'"]),
+    (lambda: encode({"b": [[2**63]]}), ["in item 0", "in item 0", "in the pair 'b'"]),
+    (lambda: encode({"a": {5: 1}}), ["in the pair 'a'"]),
+    (lambda: encode({"a": {"\ud800": 1}}), ["in the pair '\\ud800'", "in the pair 'a'"]),
+    (lambda: encode({"d": [Document(document(SCOPED))]}),
+     ["in the pair 'c'", "in item 0", "in the pair 'd'"]),
+    (lambda: encode_message({"a": {1}}), ["in the pair 'a'"]),
+    (lambda: encode_message({}, [("x", []), ("docs", [{}, {"n": {1}}])]),
+     ["in the pair 'n'", "in document 1", "in the sequence 'docs'"]),
+    (lambda: encode_message({}, [("d", [b"", {}])]), ["in document 0", "in the sequence 'd'"]),
+    (lambda: encode_message({}, [("a\0b", [])]), ["in the sequence 'a\\x00b'"]),
+]  # fmt: skip
+
+
+@pytest.mark.parametrize("call, notes", PLACES)
+def test_notes_tell_where_what_is_refused_stands(call, notes):
+    with pytest.raises(REFUSALS) as told:
+        call()
+    assert told.value.__notes__ == notes
 
 
 NO_ROOM = [
