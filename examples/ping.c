@@ -145,14 +145,18 @@ static void exchange(struct connection *at)
     while (left > 0 && lughemra_client_state(&at->client).cause == LUGHEMRA_OPEN) {
         struct pollfd wait = {at->link, POLLIN, 0};
         size_t outstanding;
+        int ready;
         while (at->next < calls && (answered[at->next] || call(at, at->next)))
             at->next++;
         outstanding = lughemra_client_outstanding(&at->client).count;
         most = outstanding > most ? outstanding : most;
         if (lughemra_client_output(&at->client, NULL, 0).waiting > 0)
             wait.events |= POLLOUT;
-        if (poll(&wait, 1, 120000) <= 0)
-            stop(3, "nothing comes");
+        ready = poll(&wait, 1, 120000);
+        if (ready < 0 && errno == EINTR)
+            continue;
+        if (ready <= 0)
+            stop(3, ready < 0 ? strerror(errno) : "nothing comes");
         if (wait.revents & POLLOUT)
             send_some(at);
         if (wait.revents & (POLLIN | POLLHUP | POLLERR))

@@ -3,8 +3,8 @@
  *     serve [CONNECTIONS]    writes the port of this machine that it listens at
  *
  * A request may have 16 MiB. It ends when so many connections have ended, or when something comes on the standard input. A
- * connection whose bytes are at fault is closed, and the fault is told on the standard error. The status is 3 where the network
- * failed, and 4 where there is no memory. */
+ * connection whose bytes are at fault is closed once the answers before these are sent, and the fault is told on the standard
+ * error. The status is 3 where the network failed, and 4 where there is no memory. */
 #include <arpa/inet.h>
 #include <errno.h>
 #include <fcntl.h>
@@ -24,6 +24,8 @@
 struct connection {
     int link;
     struct lughemra_core core;
+    /* Nothing more is taken, and the connection is closed once what waits is sent. */
+    bool ends;
     struct connection *next;
 };
 
@@ -38,7 +40,7 @@ static void stop(int status, const char *why)
     exit(status);
 }
 
-/* Tells why a connection is closed. Returns false. */
+/* Tells why a connection ends. Returns false. */
 static bool refuse(const char *why, struct lughemra_fault fault)
 {
     fprintf(stderr, "serve: a connection was closed: %s", why);
@@ -48,7 +50,7 @@ static bool refuse(const char *why, struct lughemra_fault fault)
     return false;
 }
 
-/* Answers the request that waits with its own body. Returns false if the connection is to be closed. */
+/* Answers the request that waits with its own body. Returns false if the connection is to end. */
 static bool answer(struct connection *c)
 {
     struct lughemra_request told = lughemra_server_request(&c->core, 0, request, sizeof request);
@@ -60,7 +62,7 @@ static bool answer(struct connection *c)
     return given.refusal == 0 || refuse(lughemra_core_refusal_name(given.refusal), given.fault);
 }
 
-/* Takes what came, and answers each request as it becomes whole. Returns false if the connection is to be closed. */
+/* Takes what came, and answers each request as it becomes whole. Returns false if the connection is to end. */
 static bool receive_some(struct connection *c)
 {
     const struct lughemra_fault none = {0, 0};
@@ -86,7 +88,13 @@ static bool receive_some(struct connection *c)
     return false;
 }
 
-/* Sends what waits, as much as the socket takes. Returns false if the connection is to be closed. */
+/* Returns whether bytes wait to be sent. */
+static bool has_more(struct connection *c)
+{
+    return lughemra_server_output(&c->core, NULL, 0).waiting > 0;
+}
+
+/* Sends what waits, as much as the socket takes. Returns false if the connection failed. */
 static bool send_some(struct connection *c)
 {
     struct lughemra_output output;
@@ -114,7 +122,7 @@ static void end(struct connection *c)
 static bool await(int events, int how, struct connection *c)
 {
     struct epoll_event event = {0};
-    event.events = lughemra_server_output(&c->core, NULL, 0).waiting > 0 ? EPOLLOUT : EPOLLIN;
+    event.events = has_more(c) ? EPOLLOUT : EPOLLIN;
     event.data.ptr = c;
     return epoll_ctl(events, how, c->link, &event) == 0;
 }
@@ -143,8 +151,12 @@ static void begin(int events, int listener)
 /* Goes on with a connection that is ready. Returns false if it ended. */
 static bool go_on(int events, struct connection *c)
 {
-    if (send_some(c) && (lughemra_server_output(&c->core, NULL, 0).waiting > 0 || (receive_some(c) && send_some(c)))
-        && await(events, EPOLL_CTL_MOD, c))
+    bool works = send_some(c);
+    if (works && !has_more(c) && !c->ends) {
+        c->ends = !receive_some(c);
+        works = send_some(c);
+    }
+    if (works && (has_more(c) || !c->ends) && await(events, EPOLL_CTL_MOD, c))
         return true;
     end(c);
     return false;

@@ -2,7 +2,9 @@
  * its body comes first, and no free flag bit is set.
  *
  *     write FILE
- */
+ *
+ * Where what follows is no whole message, it tells so, and the status is 1. The status is 2 where the file can't be read, and 4
+ * where there is no memory. */
 #include <inttypes.h>
 #include <stdio.h>
 #include <stdlib.h>
@@ -73,6 +75,10 @@ int main(int argc, char **argv)
            (front = lughemra_message_front(bytes + at, length - at, LUGHEMRA_MAX_LIMIT)).state == LUGHEMRA_FRONT_WHOLE) {
         status = rewrite(bytes + at, front.length);
         at += front.length;
+    }
+    if (status == 0 && at < length) {
+        printf("no message at %zu\n", at);
+        status = 1;
     }
     free(bytes);
     return status;

@@ -48,6 +48,12 @@
 #define LUGHEMRA_MAX_LIMIT UINT32_C(48000000)
 
 #ifdef __cplusplus
+#ifdef __GNUC__
+/* A function may have the name of a struct here, and a cast is one of C. */
+#pragma GCC diagnostic push
+#pragma GCC diagnostic ignored "-Wshadow"
+#pragma GCC diagnostic ignored "-Wold-style-cast"
+#endif
 extern "C" {
 #endif
 
@@ -392,7 +398,8 @@ struct lughemra_value {
     uint32_t kind;
     /* The subtype of a binary. */
     uint32_t subtype;
-    /* The `value` of a struct lughemra_element. Of BOOL 0 is false, and anything else true. */
+    /* The `value` of a struct lughemra_element. Of BOOL 0 is false, and anything else true. Of TIMESTAMP the upper 32 bits are
+     * the seconds, and the lower 32 the increment: (uint64_t)seconds << 32 | increment, with an increment of type uint32_t. */
     uint64_t bits;
 };
 
@@ -923,7 +930,8 @@ static inline struct lughemra_built lughemra_append(uint8_t *room, size_t room_l
 }
 
 /* Appends a value that is a number alone: of BOOL, DATETIME, INT32, INT64, NULL, UNDEFINED, MIN_KEY or MAX_KEY. That the kind
- * is one of these isn't checked: of a DOUBLE the number would be the bits, and a STRING would be empty. */
+ * is one of these isn't checked: of a DOUBLE or a TIMESTAMP the number would be the bits, and a STRING would be empty. An INT32
+ * that has no room in 32 bits is LUGHEMRA_BAD_VALUE. */
 static inline struct lughemra_built lughemra_append_integer(uint8_t *room, size_t room_length,
                                                             struct lughemra_builder *builder, const char *name,
                                                             size_t name_length, uint32_t kind, int64_t integer)
@@ -1227,7 +1235,8 @@ static inline const char *lughemra_client_cause_name(uint32_t number)
 /* Puts a server into a handle of no core. At most `window` requests wait in it, and messages both ways have at most `limit`
  * bytes. Returns 0, or why not: LUGHEMRA_BAD_WINDOW, LUGHEMRA_BAD_LIMIT, LUGHEMRA_IN_USE, LUGHEMRA_NO_MEMORY or
  * LUGHEMRA_NO_CORE. Once the 16 bytes of a good header are fed, memory is taken for all bytes that it announces, so `limit` is
- * also what a peer can have taken by 16 bytes. */
+ * also what a peer can have taken by 16 bytes. The requests that wait are kept too, up to `window` times `limit` bytes, and the
+ * replies until they are sent, whatever their size: feed no more while much waits to be sent. */
 static inline uint32_t lughemra_server_new(struct lughemra_core *core, size_t window, uint32_t limit)
 {
     return core != NULL ? lughemra_server_new_nonnull(core, window, limit) : (uint32_t)LUGHEMRA_NO_CORE;
@@ -1353,6 +1362,9 @@ static inline uint32_t lughemra_pool_close(struct lughemra_core *core)
 
 #ifdef __cplusplus
 }
+#ifdef __GNUC__
+#pragma GCC diagnostic pop
+#endif
 #endif
 
 #endif
