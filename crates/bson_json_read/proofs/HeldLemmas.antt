@@ -1,6 +1,6 @@
 -- What a reader of pieces holds, as bytes are read, let go of and fed.
-use Rattle.std.proofs.Common.{◌≡◌, ◌∙◌, ◌+◌, ◌<◌, ◌≤◌, ◌-◌, inr, ℕ, zero, suc, List, [], ◌∷◌, ◌++◌, Bool, true, false, Some, Ok, Err, append_assoc, append-nil, drop, get_or, length, take, ltb, refl, sym, ap, subst, arith}
-use Rattle.std.specs.Prelude.{if◌then◌else◌}
+use Rattle.std.proofs.Common.{◌≡◌, ◌∙◌, ◌+◌, ◌<◌, ◌≤◌, ◌-◌, inr, ℕ, zero, suc, List, [], ◌∷◌, ◌++◌, Bool, true, false, Ok, Err, append_assoc, append-nil, drop, get_or, length, take, ltb, refl, sym, ap, subst, arith}
+use Rattle.std.specs.Prelude.{⊤, if◌then◌else◌}
 use Rattle.std.proofs.lemmas.Bool.{ltb-false, ltb-true}
 use Rattle.std.proofs.lemmas.List.{drop-append-le, drop-drop, drop_all, length-append, take-append-le, take_rest}
 use Rattle.bson_json_read.specs.declared.extent.Scan.{Scan}
@@ -13,7 +13,7 @@ use Rattle.bson_json_read.specs.Extents.{EndsBehind, HasPassed, closes, extent, 
 use Rattle.bson_json_read.specs.Frames.{behind_text}
 use Rattle.bson_json_read.specs.Pieces.{EndsIn, Held, IsBegun, IsOpen, MayFollow, MovesBy}
 use Rattle.bson_json_read.specs.Places.{place_behind}
-use Rattle.bson_json_read.specs.Sequences.{Fails, Gives, Next, fault_here, front_read, next_in, text_here, utf8_read}
+use Rattle.bson_json_read.specs.Sequences.{Fails, Gives, Next, fault_here, front_read, next_in, nothing, text_here, utf8_read}
 use Rattle.bson_json_read.specs.Values.{Pair}
 use Rattle.bson_json_read.proofs.Lines.{line_is_text}
 use Rattle.bson_json_read.proofs.PlaceLemmas.{place_on, places_append}
@@ -90,12 +90,12 @@ left_is : (last : Bool) (text : List ℕ) (n : ℕ) → EndsIn last text n → (
 left_is last text n e more may = ap (λ (k : ℕ). drop k (text ++ more)) (e.whatever more may) ∙ drop-append-le n text more e.inside
 
 pub gives : (frame : Frame) (bytes : List ℕ) (b : Begun) (last : Bool) (n : ℕ) (d : List Pair) (new : Held) → IsBegun frame bytes b → EndsIn last (drop b.passed bytes) n → utf8_read (take n (drop b.passed bytes)) ≡ Ok d
-    → new.frame ≡ behind_text b.frame → new.bytes ≡ drop (b.passed + n) bytes → (more : List ℕ) → MayFollow last more → Gives (next_in frame (bytes ++ more)) (Some d) (record { frame = new.frame; rest = new.bytes ++ more })
+    → new.frame ≡ behind_text b.frame → new.bytes ≡ drop (b.passed + n) bytes → (more : List ℕ) → MayFollow last more → Gives (next_in frame (bytes ++ more)) d (record { frame = new.frame; rest = new.bytes ++ more })
 gives frame bytes b last n d new begun e read behind left more may =
     let text = drop b.passed bytes in
     let rest : new.bytes ++ more ≡ drop (text_len (text ++ more)) (text ++ more) =
     ap (λ (bs : List ℕ). bs ++ more) (left ∙ sym (drop-drop n b.passed bytes)) ∙ sym (left_is last text n e more may) in
-    subst (λ (x : Next). Gives x (Some d) (record { frame = new.frame; rest = new.bytes ++ more })) (sym (begun.next more)) (front_is last text n e more may ∙ read, rw (behind, rest) refl)
+    subst (λ (x : Next). Gives x d (record { frame = new.frame; rest = new.bytes ++ more })) (sym (begun.next more)) (front_is last text n e more may ∙ read, rw (behind, rest) refl)
 
 pub fails : (frame : Frame) (bytes : List ℕ) (b : Begun) (last : Bool) (n : ℕ) (cause : Cause) (path : List ℕ) → IsBegun frame bytes b → EndsIn last (drop b.passed bytes) n → utf8_read (take n (drop b.passed bytes)) ≡ Err (cause, path)
     → (more : List ℕ) → MayFollow last more → Fails (next_in frame (bytes ++ more)) cause
@@ -104,6 +104,23 @@ fails frame bytes b last n cause path begun e read more may =
 
 pub fault_fails : (next : Next) (cause : Cause) → next ≡ fault_here cause → Fails next cause
 fault_fails next cause is = subst (λ (x : Next). Fails x cause) (sym is) refl
+
+-- where the input ends, no text is next and no fault is
+abbrev is_text : Next → Type 0
+is_text nothing = ⊥
+is_text (text_here frame rest) = ⊤
+is_text (fault_here cause) = ⊥
+
+pub text_is_next : (frame : Frame) (bytes : List ℕ) (b : Begun) → IsBegun frame bytes b → next_in frame bytes ≡ nothing → ⊥
+text_is_next frame bytes b begun is =
+    let here : text_here b.frame (drop b.passed bytes ++ []) ≡ nothing =
+    sym (begun.next []) ∙ ap (next_in frame) (append-nil bytes) ∙ is in
+    subst is_text here tt
+
+pub fault_is_next : (frame : Frame) (bytes : List ℕ) (cause : Cause) → next_in frame (bytes ++ []) ≡ fault_here cause → next_in frame bytes ≡ nothing → ⊥
+fault_is_next frame bytes cause fault is =
+    let here : next_in frame (bytes ++ []) ≡ nothing = ap (next_in frame) (append-nil bytes) ∙ is in
+    subst (λ (x : Next). Fails x cause) here (fault_fails _ cause fault)
 
 -- what is behind the first bytes of those that aren't read
 pub text_slice : (items bytes : List ℕ) (at passed : ℕ) → bytes ≡ drop at items → take (length items - (at + passed)) (drop (at + passed) items) ≡ drop passed bytes

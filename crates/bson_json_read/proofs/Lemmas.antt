@@ -1,5 +1,5 @@
 -- Lemmas for the proofs of other crates: what is read, one text after another.
-use Rattle.std.proofs.Common.{◌≡◌, ◌∙◌, ◌+◌, ◌++◌, [], ◌∷◌, ℕ, suc, List, Some, append_assoc, ap, arith, drop, length, refl, subst, sym, take}
+use Rattle.std.proofs.Common.{◌≡◌, ◌∙◌, ◌+◌, ◌++◌, [], ◌∷◌, ℕ, suc, List, append_assoc, ap, arith, drop, length, refl, subst, sym, take}
 use Rattle.std.proofs.lemmas.List.{drop-drop, length-append, length-drop, take-append-le}
 use Rattle.bson_json_read.specs.declared.place.Place.{Place}
 use Rattle.bson_json_read.specs.Pieces.{Held, MovesBy, StandsBehind}
@@ -10,8 +10,8 @@ use Rattle.bson_json_read.proofs.HeldLemmas.{place_further}
 use Rattle.bson_json_read.proofs.PlaceLemmas.{place_on, places_append}
 
 -- one text more
-pub reads_more : (left mid behind : Left) (ds : List (List Pair)) (d : List Pair) → AreRead left ds mid → Gives (next_in mid.frame mid.rest) (Some d) behind → AreRead left (ds ++ d ∷ []) behind
-reads_more left mid behind [] d is gives = (behind, subst (λ (l : Left). Gives (next_in l.frame l.rest) (Some d) behind) is gives, refl)
+pub reads_more : (left mid behind : Left) (ds : List (List Pair)) (d : List Pair) → AreRead left ds mid → Gives (next_in mid.frame mid.rest) d behind → AreRead left (ds ++ d ∷ []) behind
+reads_more left mid behind [] d is gives = (behind, subst (λ (l : Left). Gives (next_in l.frame l.rest) d behind) is gives, refl)
 reads_more left mid behind (e ∷ ds) d (next, first, others) gives = (next, first, reads_more next mid behind ds d others gives)
 
 -- ---- bytes that a reader of pieces let go of

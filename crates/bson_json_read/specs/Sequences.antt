@@ -1,5 +1,5 @@
 -- The documents that the texts of an input give, one after another.
-use Rattle.std.specs.Prelude.{◌≡◌, ◌≢◌, ◌<◌, ◌^◌, ⊤, ℕ, List, [], ◌∷◌, take, drop, length, Option}
+use Rattle.std.specs.Prelude.{◌≡◌, ◌≢◌, ◌<◌, ◌^◌, ℕ, List, [], ◌∷◌, take, drop, length, Option}
 use Rattle.std.specs.Prelude.{Some, None, Ok, Err, if◌then◌else◌}
 use Rattle.std.specs.Str.{is_utf8}
 use Rattle.bson_elem.specs.{document, elements}
@@ -56,12 +56,11 @@ behind_front frame rest = record {
   rest = drop (text_len rest) rest;
 }
 
--- reading what is next gives a document, or none at the end
-abbrev pub Gives : Next → Option (List Pair) → Left → Type 0
-Gives nothing None left = ⊤
-Gives (text_here frame rest) (Some d) left =
+-- reading what is next gives a document
+abbrev pub Gives : Next → List Pair → Left → Type 0
+Gives (text_here frame rest) d left =
     (front_read rest ≡ Ok d) × (left ≡ behind_front frame rest)
-Gives next found left = ⊥
+Gives next d left = ⊥
 
 -- the document has no bytes, for this reason of its own, which want of memory is not
 abbrev pub HasNoBytes : List Pair → DocRefusal → Type 0
@@ -76,9 +75,9 @@ IsWritten d (Some refusal) bytes = HasNoBytes d refusal
 abbrev pub GivesBytes : Next → NextBytes → List ℕ → Left → Type 0
 GivesBytes next AtEnd bytes left = next ≡ nothing
 GivesBytes next Document bytes left =
-    (d : List Pair) × Gives next (Some d) left × IsWritten d None bytes
+    (d : List Pair) × Gives next d left × IsWritten d None bytes
 GivesBytes next (Refused refusal) bytes left =
-    (d : List Pair) × Gives next (Some d) left × IsWritten d (Some refusal) bytes
+    (d : List Pair) × Gives next d left × IsWritten d (Some refusal) bytes
 
 -- reading what is next fails with this cause
 abbrev pub Fails : Next → Cause → Type 0
@@ -92,7 +91,7 @@ Fails (fault_here c) cause = cause ≡ c
 abbrev pub AreRead : Left → List (List Pair) → Left → Type 0
 AreRead left [] behind = behind ≡ left
 AreRead left (d ∷ ds) behind =
-    (mid : Left) × Gives (next_in left.frame left.rest) (Some d) mid × AreRead mid ds behind
+    (mid : Left) × Gives (next_in left.frame left.rest) d mid × AreRead mid ds behind
 
 -- the first texts of an input give these documents, and this is left behind them
 abbrev pub ReadsTo : List ℕ → List (List Pair) → Left → Type 0

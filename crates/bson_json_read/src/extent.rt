@@ -62,9 +62,9 @@ impl Scan {
         }
     }
 
-    /// Returns true if no byte was passed yet.
-    pub(crate) fn is_new(self) -> bool {
-        self.len == 0
+    /// Returns how many bytes were passed.
+    pub(crate) fn passed(self) -> usize {
+        self.len
     }
 
     /// Returns true if a byte closes the outermost open brace.
@@ -156,9 +156,10 @@ pub fn text_extent(rest: &[u8]) -> usize
 /// The most bytes of a line that is read as a text before its end is sought.
 const LONG: usize = 1 << 20;
 
-/// Returns how many bytes of the line that begins here end with its last brace: none, if the line is
-/// long.
-pub(crate) fn line_len(rest: &[u8]) -> usize
+/// Returns how many bytes of the line that begins here end with its last brace. They are none if the
+/// line is long, if its end is one of the first `seen` bytes, or if that didn't come yet: `last` says
+/// that nothing follows `rest`.
+pub(crate) fn line_len(rest: &[u8], seen: usize, last: bool) -> usize
     ensures inside { result ≤ length rest.now }
     ensures brace { 0 < result → get_or rest.now (result - 1) 0 ≡ 125 }
 {
@@ -167,11 +168,12 @@ pub(crate) fn line_len(rest: &[u8]) -> usize
         Some(len) => len,
         None => front.len(),
     };
-    if len == LONG {
+    let has_end = len < front.len() || (last && len < LONG);
+    if !has_end || len < seen {
         return 0;
     }
     match memrchr(b'}', &front[..len]) {
-        Some(last) => last + 1,
+        Some(brace) => brace + 1,
         None => 0,
     }
 }

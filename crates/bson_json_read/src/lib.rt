@@ -3,8 +3,8 @@
 //!
 //! `from_json` reads a text as an owned document, or tells its first fault. The kit's `json` tells
 //! which JSON value a text is. `wrapped` and `owned` have the forms of objects that stand for
-//! values, and `value` reads documents and arrays by them. `JsonTexts` reads the documents of an
-//! input of several texts, and `TextReader` those of one that comes in pieces.
+//! values, and `value` reads documents and arrays by them. `TextReader` reads the documents of an
+//! input of several texts, which may come in pieces.
 //!
 //! Uses bson_doc and bson_json. Used by engines and test_script. Read first: `text`, and then `value`.
 #![tactic(auto)]
@@ -46,4 +46,4 @@ pub use form::Form;
 pub use place::Place;
 pub use text::from_json;
 pub use text_reader::TextReader;
-pub use texts::{JsonTexts, NextBytes, TextFault};
+pub use texts::{NextBytes, TextFault};

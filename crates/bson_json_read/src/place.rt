@@ -56,7 +56,7 @@ impl Place {
 }
 
 /// Returns the place behind the first `offset` bytes.
-pub(crate) fn place_at(text: &[u8], offset: usize) -> Place
+fn place_at(text: &[u8], offset: usize) -> Place
     requires { offset ≤ length text.now }
     ensures { (result.line, result.column) ≡ place_behind 1 1 (take offset text.now) }
 {

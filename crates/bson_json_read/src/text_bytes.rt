@@ -41,11 +41,7 @@ fn text_of(bytes: &[u8]) -> Result<&str, usize>
 
 /// Returns the document of the bytes of a text.
 #[tactic(auto, using(crate::proofs::TextBytes::of_text, crate::proofs::TextBytes::of_others))]
-pub(crate) fn read_bytes(
-    alloc: Global,
-    bytes: &[u8],
-    scratch: &mut Scratch,
-) -> Result<Document, FaultAt>
+fn read_bytes(alloc: Global, bytes: &[u8], scratch: &mut Scratch) -> Result<Document, FaultAt>
     ensures ok { IfOk result (λ d. utf8_read bytes.now ≡ Ok d) }
     ensures err { IfErr result (λ e. (e.cause ≡ Cause.OutOfMemory)
         ⊎ ((path : List ℕ) × (utf8_read bytes.now ≡ Err (e.cause, path)))) }

@@ -1,4 +1,4 @@
-//! Reads documents from an input of several texts that comes in pieces.
+//! Reads documents from an input of several texts, which may come in pieces.
 
 ghost use Rattle.std.specs.Prelude.{◌≡◌, ◌≢◌, ◌⊎◌, ◌+◌, ◌<◌, ◌≤◌, ◌++◌, [], IfErr, IfOk, IfSome};
 ghost use Rattle.std.specs.Prelude.{Bool, List, None, Ok, OnErr, OnOk, Some, drop, false, length};
@@ -35,8 +35,12 @@ pub(crate) struct Begun {
     scan: Scan,
 }
 
-/// Reads the documents of an input that comes in pieces, one after another, as `JsonTexts` does those
-/// of one that is whole.
+/// Reads the documents of an input, one after another. The input is Extended JSON texts that are
+/// objects, with white space between them, or one JSON array whose items they are. It may come in
+/// pieces.
+///
+/// A text begins with a brace and ends with the brace that closes that one, so that a fault inside it
+/// leaves those before it read.
 ///
 /// It holds the bytes that were fed and aren't read yet: those of the text that isn't whole, and what
 /// of a piece is behind others. Contracts see them, where reading stands before them, and their line
@@ -197,7 +201,7 @@ impl TextReader {
     /// begins a line and ends with the last brace of it, and if its JSON is written directly. Returns
     /// how many bytes the text has then. Else nothing is said of `out`.
     ///
-    /// So the end of a text isn't sought where each has a line.
+    /// So the end of a text isn't sought where each has a line. A line is tried once, when its end came.
     fn write_line(
         &mut self,
         alloc: Global,
@@ -212,11 +216,11 @@ impl TextReader {
             × IsWritten d None out.new.items) }
         ensures kept { self.new ≡ self.old }
     {
-        if !begun.scan.is_new() || !self.begins_line(begun) {
+        if !self.begins_line(begun) {
             return None;
         }
         let text = &self.bytes[self.at + begun.passed..];
-        let len = line_len(text);
+        let len = line_len(text, begun.scan.passed(), last);
         if len == 0 || !may_end(len, text.len(), last) {
             return None;
         }
@@ -313,6 +317,8 @@ impl TextReader {
             (record { frame = self.new.frame; rest = self.new.bytes ++ more }))) }
         ensures ended { result ≡ Ok (Some NextBytes.AtEnd)
             → (last ≡ true) × (self.new ≡ self.old) }
+        ensures at_end { last ≡ true → next_in self.old.frame self.old.bytes ≡ nothing
+            → result ≡ Ok (Some NextBytes.AtEnd) }
         ensures open { result ≡ Ok None → (last ≡ false) × (self.new ≡ self.old)
             × IsOpen self.old.frame self.old.bytes }
         ensures err { IfErr result (λ e. (e.cause ≡ Cause.OutOfMemory) ⊎ ((more : List ℕ)

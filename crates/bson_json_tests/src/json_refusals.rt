@@ -3,7 +3,7 @@
 //! is refused in a run, so what is tried again succeeds.
 
 use bson_json_read::laws::round_trip;
-use bson_json_read::{Cause, JsonFault, JsonTexts, NextBytes, Place, from_json};
+use bson_json_read::{Cause, JsonFault, Place, from_json};
 use bson_raw::RawDocument;
 use std::alloc::Global;
 
@@ -15,9 +15,6 @@ const REPEATED: &str = "{\"a\":\n[{\"b\":\"c\",\"\\u0062\":1}]}";
 
 /// A text that is no JSON, since its array ends with a brace.
 const MISFIT: &str = "{\"a\":\n[{}, {\"b\":[1}]}";
-
-/// Two texts. The second one has a name twice.
-const SEVERAL: &str = "{\"a\":[{\"b\":\"c\"}]} {\"a\":1,\"a\":2}";
 
 /// A document that holds an array of one boolean.
 const DOCUMENT: [u8; 17] = [17, 0, 0, 0, 4, b'a', 0, 9, 0, 0, 0, 8, b'0', 0, 1, 0, 0];
@@ -66,44 +63,6 @@ fn places(alloc: Global, text: &str, fault: &JsonFault, wanted: Place) -> Result
     }
 }
 
-/// Returns whether the document of the first text is read, and the fault of the second one told.
-fn reads_several(alloc: Global) -> Result<bool, Cause> {
-    let mut texts = JsonTexts::new(alloc, SEVERAL.as_bytes());
-    let is_first = match texts.next(alloc) {
-        Ok(Some(document)) => document.len() == 1,
-        Ok(None) => false,
-        Err(fault) => return Err(fault.cause),
-    };
-    match texts.next(alloc) {
-        Ok(_) => Ok(false),
-        Err(fault) if fault.cause == Cause::RepeatedName => Ok(
-            is_first
-                && fault.place
-                    == Place {
-                        line: 1,
-                        column: 26,
-                    },
-        ),
-        Err(fault) => Err(fault.cause),
-    }
-}
-
-/// Returns whether the bytes of the first text's document are written, and the fault of the second
-/// one told.
-fn writes_several(alloc: Global) -> Result<bool, Cause> {
-    let mut texts = JsonTexts::new(alloc, SEVERAL.as_bytes());
-    let mut bytes = Vec::new(alloc);
-    let is_first = match texts.next_bytes(alloc, &mut bytes) {
-        Ok(found) => found == NextBytes::Document && RawDocument::from_bytes(&bytes).is_ok(),
-        Err(fault) => return Err(fault.cause),
-    };
-    match texts.next_bytes(alloc, &mut bytes) {
-        Ok(_) => Ok(false),
-        Err(fault) if fault.cause == Cause::RepeatedName => Ok(is_first),
-        Err(fault) => Err(fault.cause),
-    }
-}
-
 /// Returns whether the document is read of its JSON as the same one.
 fn keeps(alloc: Global) -> Result<bool, Cause> {
     let Ok(document) = RawDocument::from_bytes(&DOCUMENT) else {
@@ -122,13 +81,6 @@ fn keeps(alloc: Global) -> Result<bool, Cause> {
 fn a_round_trip_is_made_again(rt: HostRuntime) {
     let alloc = rt.alloc();
     assert!(rt; comes_right(keeps(alloc), keeps(alloc)));
-}
-
-#[test]
-fn several_texts_are_read_again(rt: HostRuntime) {
-    let alloc = rt.alloc();
-    assert!(rt; comes_right(reads_several(alloc), reads_several(alloc)));
-    assert!(rt; comes_right(writes_several(alloc), writes_several(alloc)));
 }
 
 #[test]

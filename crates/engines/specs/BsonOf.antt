@@ -16,7 +16,7 @@ use Rattle.engines.specs.declared.bson.TextStop.TheVariants.{Fault, Refused}
 -- the document of the next text isn't written, for this reason
 abbrev pub IsRefused : Left → DocRefusal → Type 0
 IsRefused left refusal =
-    (d : List Pair) × (behind : Left) × Gives (next_in left.frame left.rest) (Some d) behind
+    (d : List Pair) × (behind : Left) × Gives (next_in left.frame left.rest) d behind
     × HasNoBytes d refusal
 
 -- Why no more documents are written, where this many were and this is left: the input ends, as it
