@@ -43,16 +43,12 @@ abbrev pub are_equated : List TreeValue → Bool
 are_equated [] = true
 are_equated (v ∷ vs) = is_equated v && are_equated vs
 
-abbrev pub has_place : Option PlaceView → Bool
-has_place None = false
-has_place (Some p) = true
-
 -- a value may be less or greater than others of its bracket
 abbrev pub is_ranked : TreeValue → Bool
 is_ranked (leaf_value kinds.MinKey v) = false
 is_ranked (leaf_value kinds.MaxKey v) = false
 is_ranked (leaf_value kinds.Undefined v) = false
-is_ranked v = has_place (place v)
+is_ranked v = is_some (place v)
 
 abbrev pub is_list : TreeValue → Bool
 is_list (document_value kinds.Array b t) = are_equated (values_in t)

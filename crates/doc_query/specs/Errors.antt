@@ -98,7 +98,7 @@ words_of errors.InvalidId = codes "The '_id' value cannot be of type array, rege
 words_of errors.Documents =
     codes "the command must bring from 1 to 100000 documents, with no name twice in one"
 words_of errors.Ordered = codes "the field 'ordered' must be a boolean"
-words_of errors.Filter = codes "the field 'filter' must be a document with no name twice"
+words_of errors.Filter = codes "a filter must be a document with no name twice"
 words_of errors.Operator =
     codes
     "a filter must ask for values or $eq, $ne, $gt, $gte, $lt, $lte, $in, $nin, $exists, $and, $or"
@@ -122,11 +122,11 @@ words_of errors.Exclusion = codes "Cannot do exclusion on a field in inclusion p
 words_of errors.Skip = codes "the field 'skip' must be a whole number"
 words_of errors.Limit = codes "the field 'limit' must be a whole number"
 words_of errors.SingleBatch = codes "the field 'singleBatch' must be a boolean"
-words_of errors.NameOnly = codes "the field 'nameOnly' must be a boolean"
+words_of errors.NameOnly = codes "the field 'nameOnly' must be a boolean or a whole number"
 words_of errors.CreateIndexes = codes "the field 'createIndexes' must be a string"
 words_of errors.Indexes = codes "the field 'indexes' must be an array"
 words_of errors.Index =
-    codes "an index must have 'key' with directions 1 and -1, 'name', 'v' and 'background' alone"
+    codes "an index has 'key' with directions 1 and -1, 'name', 'v', 'ns' and 'background' alone"
 words_of errors.IndexName = codes "another index has this name"
 words_of errors.IndexKey = codes "another index has this key"
 words_of errors.ListIndexes = codes "the field 'listIndexes' must be a string"

@@ -1,4 +1,4 @@
--- The filters of find: which ones are accepted, and which documents match them.
+-- Filters: which ones are accepted, and which documents match them.
 use Rattle.std.specs.Prelude.{ℕ, List, [], ◌∷◌, Bool, true, false, not, ◌&&◌, ◌||◌, ◌==◌}
 use Rattle.std.specs.Prelude.{Option, Some, None, Result, Ok, Err, codes, is_some, if◌then◌else◌}
 use Rattle.std.specs.List.{list_any}
@@ -135,14 +135,16 @@ abbrev mutual
   clauses_fault (inner_pair n k b f ps) =
       option_or (if is_document k then filter_fault f else Some errors.Clause) (clauses_fault ps)
 
--- of one clause, of all clauses in an array, and of one field
+-- why one clause isn't carried out
 abbrev pub clause_fault : TreeValue → Option CommandError
 clause_fault (leaf_value k v) = Some errors.Clause
 clause_fault (document_value k b f) = if is_document k then filter_fault f else Some errors.Clause
 
+-- why the clauses of an array aren't
 abbrev pub array_fault : Tree → Option CommandError
 array_fault t = unless_empty t (clauses_fault t)
 
+-- why a field of a filter isn't
 abbrev pub value_fault : List ℕ → TreeValue → Option CommandError
 value_fault n (leaf_value k v) =
     unless_logical (logical_of n) (field_fault n (leaf_value k v)) (λ l. Some (no_array l))
@@ -150,9 +152,10 @@ value_fault n (document_value k b t) =
     unless_logical (logical_of n) (field_fault n (document_value k b t))
     (λ l. in_array_of l k t (clauses_fault t))
 
-abbrev pub unless_fault : Option CommandError → Tree → Result Tree CommandError
-unless_fault None f = Ok f
-unless_fault (Some e) f = Err e
+-- what is checked, unless there is a fault
+abbrev pub unless_fault : {A : Type 0} → Option CommandError → A → Result A CommandError
+unless_fault None a = Ok a
+unless_fault (Some e) a = Err e
 
 -- the filter, unless a field of it isn't carried out
 abbrev pub filter_in : Tree → Result Tree CommandError

@@ -20,10 +20,11 @@ pub use Rattle.doc_query.specs.Values.{array, asked_flag, at_least, count_of, co
 pub use Rattle.doc_query.specs.Values.{int32, int64, text, text_of, truth}
 pub use Rattle.doc_query.specs.Owned.{array_in, body_of, owned, values_in}
 pub use Rattle.doc_query.specs.Equality.{equal}
+pub use Rattle.doc_query.specs.Conditions.{null}
 pub use Rattle.doc_query.specs.Paths.{left_len, steps, steps_left}
 pub use Rattle.doc_query.specs.Filters.{begins_with_operator, compared, filter_field, filter_in}
 pub use Rattle.doc_query.specs.Filters.{filter_value, found, found_in, has_operators, is_operator}
-pub use Rattle.doc_query.specs.Filters.{matches}
+pub use Rattle.doc_query.specs.Filters.{matches, unless_fault}
 pub use Rattle.doc_query.specs.Sorting.{are_keys, sort_field, sorted_in}
 pub use Rattle.doc_query.specs.Pipelines.{after_stages}
 pub use Rattle.doc_query.specs.Projection.{is_plain_name, projected, projection_field}

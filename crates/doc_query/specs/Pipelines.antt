@@ -1,7 +1,7 @@
 -- The pipelines of aggregate: each stage makes documents of those that the one before left
 -- (MongoDB manual, Aggregation Stages).
-use Rattle.std.specs.Prelude.{ℕ, pos, List, [], ◌∷◌, ◌==◌, Option, Some, None, Result, Ok}
-use Rattle.std.specs.Prelude.{Err, codes, drop, length, take, if◌then◌else◌}
+use Rattle.std.specs.Prelude.{ℕ, pos, List, [], ◌∷◌, ◌==◌, ◌||◌, Bool, Option, Some, None, Result}
+use Rattle.std.specs.Prelude.{Ok, Err, codes, drop, length, take, if◌then◌else◌}
 use Rattle.bson_elem.specs.declared.kinds.Kind.TheVariants as kinds
 use Rattle.bson_elem.specs.{Tree}
 use Rattle.bson_raw.specs.{TreeValue, document_value, first_named, names_of}
@@ -24,11 +24,18 @@ skipped v vs = and_then (or_error errors.Stage (count_of v)) (λ n. Ok (drop n v
 abbrev pub cut : TreeValue → List TreeValue → Result (List TreeValue) CommandError
 cut v vs = and_then (at_least 1 errors.Stage (count_of v)) (λ n. Ok (take n vs))
 
--- the operand of the $group that counts: {_id: 1, n: {$sum: 1}}
-abbrev pub count_group : TreeValue
-count_group =
-    inner ((codes "_id", int32 (pos 1))
-    ∷ (codes "n", inner ((codes "$sum", int32 (pos 1)) ∷ [])) ∷ [])
+-- the fields of the $group that counts
+abbrev pub group_key : List ℕ × TreeValue
+group_key = (codes "_id", int32 (pos 1))
+
+abbrev pub group_count : List ℕ × TreeValue
+group_count = (codes "n", inner ((codes "$sum", int32 (pos 1)) ∷ []))
+
+-- the operand is {_id: 1, n: {$sum: 1}}, or has these fields the other way round
+abbrev pub is_count_group : TreeValue → Bool
+is_count_group v =
+    same coded_value v (inner (group_key ∷ group_count ∷ []))
+    || same coded_value v (inner (group_count ∷ group_key ∷ []))
 
 abbrev pub total : ℕ → TreeValue
 total n = inner ((codes "_id", int32 (pos 1)) ∷ (codes "n", count_value n) ∷ [])
@@ -40,7 +47,7 @@ counted (v ∷ vs) = total (length (v ∷ vs)) ∷ []
 
 -- $group counts them, or isn't carried out
 abbrev pub grouped : TreeValue → List TreeValue → Result (List TreeValue) CommandError
-grouped v vs = if same coded_value v count_group then Ok (counted vs) else Err errors.Stage
+grouped v vs = if is_count_group v then Ok (counted vs) else Err errors.Stage
 
 -- a stage has one field, by which of these four it is
 abbrev pub by_field : Option TreeValue → Option TreeValue → Option TreeValue → Option TreeValue

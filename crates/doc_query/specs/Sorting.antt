@@ -1,6 +1,7 @@
 -- The sort of find (MongoDB manual, cursor.sort): by each key in turn, in the order of values.
 use Rattle.std.specs.Prelude.{ℕ, pos, negsuc, List, [], ◌∷◌, Bool, true, not, ◌&&◌, ◌||◌}
-use Rattle.std.specs.Prelude.{Option, Some, None, Result, Ok, Err, codes, unwrap_or, if◌then◌else◌}
+use Rattle.std.specs.Prelude.{Option, Some, None, Result, Ok, Err, codes, is_some, unwrap_or}
+use Rattle.std.specs.Prelude.{if◌then◌else◌}
 use Rattle.std.specs.Ordering.{is_gt, ordering_then}
 use Rattle.std.specs.declared.cmp.Ordering.{Ordering}
 use Rattle.std.specs.declared.cmp.Ordering.TheVariants.{Equal}
@@ -11,7 +12,7 @@ use Rattle.doc_query.specs.declared.conditions.Operator.TheVariants as operators
 use Rattle.doc_query.specs.declared.failure.CommandError.{CommandError}
 use Rattle.doc_query.specs.declared.failure.CommandError.TheVariants as errors
 use Rattle.doc_query.specs.Comparing.{PlaceView, numbered, place, place_order}
-use Rattle.doc_query.specs.Conditions.{has_place, passes}
+use Rattle.doc_query.specs.Conditions.{passes}
 use Rattle.doc_query.specs.Errors.{and_then, or_error}
 use Rattle.doc_query.specs.Filters.{is_operator}
 use Rattle.doc_query.specs.Owned.{owned}
@@ -83,7 +84,7 @@ keys_order (inner_pair n k b inner ps) v w =
 -- a missing field has a place, and so have values of some kinds
 abbrev pub is_ordered : Option TreeValue → Bool
 is_ordered None = true
-is_ordered (Some v) = has_place (place v)
+is_ordered (Some v) = is_some (place v)
 
 -- all values of a document by which it is sorted have a place
 abbrev pub are_ordered : Tree → TreeValue → Bool

@@ -268,7 +268,7 @@ impl CommandError {
                 "the command must bring from 1 to 100000 documents, with no name twice in one"
             }
             CommandError::Ordered => "the field 'ordered' must be a boolean",
-            CommandError::Filter => "the field 'filter' must be a document with no name twice",
+            CommandError::Filter => "a filter must be a document with no name twice",
             CommandError::Operator => OPERATORS,
             CommandError::AndArray => "$and must be an array",
             CommandError::OrArray => "$or must be an array",
@@ -289,11 +289,11 @@ impl CommandError {
             CommandError::Skip => "the field 'skip' must be a whole number",
             CommandError::Limit => "the field 'limit' must be a whole number",
             CommandError::SingleBatch => "the field 'singleBatch' must be a boolean",
-            CommandError::NameOnly => "the field 'nameOnly' must be a boolean",
+            CommandError::NameOnly => "the field 'nameOnly' must be a boolean or a whole number",
             CommandError::CreateIndexes => "the field 'createIndexes' must be a string",
             CommandError::Indexes => "the field 'indexes' must be an array",
             CommandError::Index => {
-                "an index must have 'key' with directions 1 and -1, 'name', 'v' and 'background' alone"
+                "an index has 'key' with directions 1 and -1, 'name', 'v', 'ns' and 'background' alone"
             }
             CommandError::IndexName => "another index has this name",
             CommandError::IndexKey => "another index has this key",

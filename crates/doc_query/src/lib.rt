@@ -6,7 +6,7 @@
 //! else is refused by a `CommandError`. Values are compared by their place in a stated order, and
 //! numbers of all kinds by value, exactly, also inside documents and arrays.
 //!
-//! Stands on bson_doc. doc_update and test_store stand on it. Read first: `comparing`, `equality`,
+//! Stands on bson_doc. doc_update, test_store and test_script stand on it. Read first: `comparing`, `equality`,
 //! `conditions`, `paths` and `filters`, and then `sorting`, `projection` and `pipeline`.
 #![tactic(auto)]
 

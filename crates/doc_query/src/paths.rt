@@ -47,10 +47,7 @@ pub fn is_index(step: &str, index: usize) -> bool
 fn is_container(value: &Bson) -> bool
     ensures { result ≡ is_container (value_of value.now) }
 {
-    match value {
-        Bson::Document(_) | Bson::Array(_) => true,
-        _ => false,
-    }
+    matches!(value, Bson::Document(_) | Bson::Array(_))
 }
 
 /// Returns true if one of these values is as is asked.

@@ -3,8 +3,9 @@
 ghost use Rattle.std.specs.Prelude.{◌≡◌, ◌<◌, ◌^◌, ◌∷◌, [], IfErr, IfOk, Ok, drop, map, take};
 ghost use Rattle.bson_doc.specs.{coded_value, same, tree_of, value_of};
 ghost use Rattle.doc_query.specs.Errors.{IsFailure};
-ghost use Rattle.doc_query.specs.Pipelines.{after_stage, after_stages, count_group, counted, cut};
-ghost use Rattle.doc_query.specs.Pipelines.{grouped, matched, skipped, stage_in, total};
+ghost use Rattle.doc_query.specs.Pipelines.{after_stage, after_stages, counted, cut, group_count};
+ghost use Rattle.doc_query.specs.Pipelines.{group_key, grouped, is_count_group, matched, skipped};
+ghost use Rattle.doc_query.specs.Pipelines.{stage_in, total};
 ghost use Rattle.doc_query.specs.Values.{inner};
 
 use crate::batches::{copies, take_batch};
@@ -15,15 +16,32 @@ use crate::owned::{field, is_same, whole_of};
 use bson_doc::{Bson, Document};
 use std::alloc::{AllocError, Global};
 
-/// Makes the operand of the one `$group` that is carried out: `{_id: 1, n: {$sum: 1}}`.
-fn count_group(alloc: Global) -> Result<Document, AllocError>
-    ensures { IfOk result (λ d. inner d ≡ count_group) }
+/// Makes what the one `$group` that is carried out computes: `{$sum: 1}`.
+fn sum(alloc: Global) -> Result<Bson, AllocError>
+    ensures { IfOk result (λ v. value_of v ≡ group_count.1) }
 {
     let mut sum = Document::new(alloc);
     set(alloc, &mut sum, "$sum", Bson::Int32(1))?;
+    Ok(Bson::Document(sum))
+}
+
+/// Makes the operand of that `$group`: `{_id: 1, n: {$sum: 1}}`.
+fn key_first(alloc: Global) -> Result<Document, AllocError>
+    ensures { IfOk result (λ d. inner d ≡ inner (group_key ∷ group_count ∷ [])) }
+{
     let mut group = Document::new(alloc);
     set(alloc, &mut group, "_id", Bson::Int32(1))?;
-    set(alloc, &mut group, "n", Bson::Document(sum))?;
+    set(alloc, &mut group, "n", sum(alloc)?)?;
+    Ok(group)
+}
+
+/// Makes the same operand with its fields the other way round.
+fn key_last(alloc: Global) -> Result<Document, AllocError>
+    ensures { IfOk result (λ d. inner d ≡ inner (group_count ∷ group_key ∷ [])) }
+{
+    let mut group = Document::new(alloc);
+    set(alloc, &mut group, "n", sum(alloc)?)?;
+    set(alloc, &mut group, "_id", Bson::Int32(1))?;
     Ok(group)
 }
 
@@ -71,12 +89,31 @@ fn first_ones(alloc: Global, documents: &[Bson], count: usize) -> Result<Vec<Bso
     Ok(first)
 }
 
+/// Returns true if an operand of `$group` is `{_id: 1, n: {$sum: 1}}`.
+fn has_key_first(alloc: Global, group: &Bson) -> Result<bool, AllocError>
+    ensures { IfOk result (λ b. b
+        ≡ same coded_value (value_of group.now) (inner (group_key ∷ group_count ∷ []))) }
+{
+    let known = Bson::Document(key_first(alloc)?);
+    Ok(is_same(group, &known))
+}
+
+/// Returns true if an operand of `$group` is `{n: {$sum: 1}, _id: 1}`.
+fn has_key_last(alloc: Global, group: &Bson) -> Result<bool, AllocError>
+    ensures { IfOk result (λ b. b
+        ≡ same coded_value (value_of group.now) (inner (group_count ∷ group_key ∷ []))) }
+{
+    let known = Bson::Document(key_last(alloc)?);
+    Ok(is_same(group, &known))
+}
+
 /// Returns true if an operand of `$group` is the one that counts documents.
 fn is_count_group(alloc: Global, group: &Bson) -> Result<bool, AllocError>
-    ensures { IfOk result (λ b. b ≡ same coded_value (value_of group.now) count_group) }
+    ensures { IfOk result (λ b. b ≡ is_count_group (value_of group.now)) }
 {
-    let known = Bson::Document(count_group(alloc)?);
-    Ok(is_same(group, &known))
+    let first = has_key_first(alloc, group)?;
+    let last = has_key_last(alloc, group)?;
+    Ok(first || last)
 }
 
 /// Returns the documents after the first ones.

@@ -30,10 +30,10 @@ fn is_id(name: &str) -> bool
 fn is_flag(value: &Bson) -> bool
     ensures { result ≡ is_flag (value_of value.now) }
 {
-    match value {
-        Bson::Boolean(_) | Bson::Int32(_) | Bson::Int64(_) | Bson::Double(_) => true,
-        _ => false,
-    }
+    matches!(
+        value,
+        Bson::Boolean(_) | Bson::Int32(_) | Bson::Int64(_) | Bson::Double(_)
+    )
 }
 
 /// Returns true if a field that is asked for by this is included.

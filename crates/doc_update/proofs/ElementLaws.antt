@@ -13,7 +13,8 @@ use Rattle.bson_raw.specs.{TreeValue}
 use Rattle.bson_doc.specs.declared.bson_values.Bson.{Bson}
 use Rattle.bson_doc.specs.declared.bson_values.Bson.TheVariants as values
 use Rattle.bson_doc.specs.Bson.{value_of}
-use Rattle.doc_update.specs.Elements.{index_of, null, put_at, writes}
+use Rattle.doc_query.specs.{null}
+use Rattle.doc_update.specs.Elements.{index_of, put_at, writes}
 use Rattle.doc_update.specs.Removing.{Leaving, left_at}
 
 -- ---- elements

@@ -4,11 +4,10 @@ use Rattle.std.specs.Prelude.{Option, Some, None, Result, Ok, Err, length, if◌
 use Rattle.std.specs.Fmt.{decimal}
 use Rattle.std.specs.Str.{bytes_eq}
 use Rattle.std.specs.Str.Parse.{digits_value}
-use Rattle.bson_elem.specs.declared.kinds.Kind.TheVariants as kinds
-use Rattle.bson_elem.specs.{raw_value}
-use Rattle.bson_raw.specs.{TreeValue, leaf_value}
+use Rattle.bson_raw.specs.{TreeValue}
 use Rattle.doc_query.specs.declared.failure.CommandError.{CommandError}
 use Rattle.doc_query.specs.declared.failure.CommandError.TheVariants as errors
+use Rattle.doc_query.specs.{null}
 
 -- a step is the number below 2 ^ 32 that it writes: in decimal, without zeros in front
 abbrev pub writes : List ℕ → ℕ → Bool
@@ -28,9 +27,6 @@ near (Some i) vs = if is_near i vs then Ok i else Err errors.Backfill
 -- the index of the element that a step makes
 abbrev pub index_in : List ℕ → List TreeValue → Result ℕ CommandError
 index_in s vs = near (index_of s) vs
-
-abbrev pub null : TreeValue
-null = leaf_value kinds.Null (raw_value [])
 
 -- the values with this one at an index, and with null where there was none before it
 abbrev pub put_at : ℕ → TreeValue → List TreeValue → List TreeValue

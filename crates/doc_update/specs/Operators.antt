@@ -11,7 +11,7 @@ use Rattle.doc_query.specs.declared.failure.CommandError.TheVariants as errors
 use Rattle.doc_update.specs.declared.operators.Change.{Change}
 use Rattle.doc_update.specs.declared.operators.Change.TheVariants.{Operate, Replace}
 use Rattle.doc_update.specs.declared.operators.Operators.{Operators}
-use Rattle.doc_query.specs.{and_then, begins_with_operator, is_operator}
+use Rattle.doc_query.specs.{and_then, begins_with_operator, is_operator, unless_fault}
 use Rattle.doc_update.specs.Pairs.{Pairs, pairs_of}
 use Rattle.doc_update.specs.Paths.{overlap_within, paths_fault, paths_of}
 use Rattle.doc_update.specs.Increments.{number_of}
@@ -39,10 +39,6 @@ names_operator (f ∷ fs) = if is_operator f.0 then true else names_operator fs
 -- ---- operators
 
 -- the paths that an operator names, each with its operand, unless one isn't carried out
-abbrev pub unless_fault : Option CommandError → Pairs → Result Pairs CommandError
-unless_fault None fs = Ok fs
-unless_fault (Some e) fs = Err e
-
 abbrev pub paths_in : Pairs → Result Pairs CommandError
 paths_in fs = unless_fault (paths_fault fs) fs
 

@@ -85,7 +85,7 @@ update_of _ = Err errors.Updates
 
 -- ---- what it makes of documents
 
--- the documents so far, how many matched, and how many of those became others
+-- the documents so far, how many matched or were inserted, and how many became others
 pub record OutcomeView : Type 0 where
   pub documents : List TreeValue
   pub matched : ℕ

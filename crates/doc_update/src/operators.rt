@@ -49,10 +49,7 @@ fn are_numbers(fields: &Document) -> bool
 fn is_modifier(name: &str) -> bool
     ensures { result ≡ is_modifier name.now }
 {
-    match name {
-        "$set" | "$unset" | "$inc" => true,
-        _ => false,
-    }
+    matches!(name, "$set" | "$unset" | "$inc")
 }
 
 /// Returns true if all names are those of operators that are carried out.
@@ -83,10 +80,7 @@ fn names_operator(fields: &Document) -> bool
 pub fn has_field(document: &Document, name: &str) -> bool
     ensures { result ≡ is_some (value_named name.now document.now) }
 {
-    match document.get(name) {
-        Some(_) => true,
-        None => false,
-    }
+    document.get(name).is_some()
 }
 
 /// Returns true if two paths overlap, of one operator or of two.

@@ -38,7 +38,7 @@ fn step_fault(step: &str) -> Option<CommandError>
     }
 }
 
-/// Returns why the first step of a path isn't carried out that isn't.
+/// Returns the fault of the first step of a path that has one.
 fn steps_fault(path: &str) -> Option<CommandError>
     ensures { result ≡ steps_fault (steps path.now) }
 {
@@ -63,8 +63,8 @@ fn path_fault(path: &str) -> Option<CommandError>
     steps_fault(path)
 }
 
-/// Returns why the first of these paths isn't carried out that isn't: `Steps` if it has more than 200
-/// steps, and otherwise `EmptyStep` or `Path`.
+/// Returns the fault of the first of these paths that has one: `Steps` if it has more than 200 steps,
+/// and otherwise `EmptyStep` or `Path`.
 pub fn paths_fault(fields: &Document) -> Option<CommandError>
     ensures { result ≡ paths_fault fields.now }
 {

@@ -84,10 +84,7 @@ impl Updates {
 fn is_statement_field(name: &str) -> bool
     ensures { result ≡ is_statement_field name.now }
 {
-    match name {
-        "q" | "u" | "multi" | "upsert" => true,
-        _ => false,
-    }
+    matches!(name, "q" | "u" | "multi" | "upsert")
 }
 
 /// Returns true if all fields are those of a statement of update.

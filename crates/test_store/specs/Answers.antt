@@ -12,7 +12,7 @@ use Rattle.doc_query.specs.declared.failure.CommandError.{CommandError}
 use Rattle.doc_query.specs.{array, code_name_of, code_of, count_value, inner, int32, int64, text}
 use Rattle.doc_query.specs.{truth, words_of}
 
--- the doubles 0 and 1
+-- the double 0
 abbrev pub double_zero : TreeValue
 double_zero = leaf_value kinds.Double (raw_value (0 ∷ 0 ∷ 0 ∷ 0 ∷ 0 ∷ 0 ∷ 0 ∷ 0 ∷ []))
 

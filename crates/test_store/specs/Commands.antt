@@ -24,6 +24,7 @@ use Rattle.test_store.specs.Answers.{dropped_database_pairs, error_pairs, hello_
 use Rattle.test_store.specs.Answers.{killed_pairs}
 use Rattle.test_store.specs.Answers.{listing, ok_alone, refusal_pairs, updated_pairs, written_pairs}
 use Rattle.test_store.specs.Fields.{first_batch_size, first_size, flag_field, id_field, list_size}
+use Rattle.test_store.specs.Fields.{name_only_field}
 use Rattle.test_store.specs.Fields.{namespace_at, next_batch_size, text_field}
 use Rattle.test_store.specs.Held.{CollectionView, CursorView, NamespaceView, StoreView, closed_at}
 use Rattle.test_store.specs.Held.{cursor_index, documents_in, id_if_left, index_of_value, is_open}
@@ -287,7 +288,7 @@ list_reply s db name_only f count =
 abbrev pub list_collections : StoreView → Tree → Result Reply CommandError
 list_collections s t =
     and_then (text_field (codes "$db") errors.Database t) (λ db.
-    and_then (flag_field (codes "nameOnly") false errors.NameOnly t) (λ name_only.
+    and_then (name_only_field t) (λ name_only.
     and_then (list_size t) (λ count.
     and_then (filter_field (codes "filter") t) (λ f. Ok (list_reply s db name_only f count)))))
 
@@ -307,7 +308,7 @@ databases_reply s name_only f = record { answer = databases_answer s name_only f
 -- the answer of listDatabases and what is held after it, or its error
 abbrev pub list_databases : StoreView → Tree → Result Reply CommandError
 list_databases s t =
-    and_then (flag_field (codes "nameOnly") false errors.NameOnly t) (λ name_only.
+    and_then (name_only_field t) (λ name_only.
     and_then (filter_field (codes "filter") t) (λ f. Ok (databases_reply s name_only f)))
 
 -- ---- createIndexes

@@ -1,8 +1,8 @@
 -- The fields of a command.
 use Rattle.std.specs.Prelude.{ℕ, ℤ, ◌-◌, ◌^◌, List, Option, Some, None, Result, Ok, Err, codes}
-use Rattle.std.specs.Prelude.{Bool}
+use Rattle.std.specs.Prelude.{Bool, false, nat_lt}
 use Rattle.bson_elem.specs.declared.kinds.Kind.TheVariants as kinds
-use Rattle.bson_elem.specs.{Tree, number_value}
+use Rattle.bson_elem.specs.{Tree, boolean_value, number_value}
 use Rattle.bson_raw.specs.{TreeValue, document_value, first_named, leaf_value}
 use Rattle.doc_query.specs.declared.failure.CommandError.{CommandError}
 use Rattle.doc_query.specs.declared.failure.CommandError.TheVariants as errors
@@ -39,6 +39,15 @@ number_field name error t = asked_number error (first_named name t)
 -- the truth value in a field, or this one if there is no such field
 abbrev pub flag_field : List ℕ → Bool → CommandError → Tree → Result Bool CommandError
 flag_field name otherwise error t = asked_flag otherwise error (first_named name t)
+
+-- names alone are asked for: by true, or by a whole number that isn't 0
+abbrev pub asks_names : Option TreeValue → Result Bool CommandError
+asks_names None = Ok false
+asks_names (Some (leaf_value kinds.Boolean (boolean_value truth))) = Ok truth
+asks_names (Some v) = and_then (or_error errors.NameOnly (count_of v)) (λ k. Ok (nat_lt 0 k))
+
+abbrev pub name_only_field : Tree → Result Bool CommandError
+name_only_field t = asks_names (first_named (codes "nameOnly") t)
 
 -- the batch size that a field asks for, or this one if there is no such field
 abbrev pub asked_size : ℕ → ℕ → CommandError → Option TreeValue → Result ℕ CommandError

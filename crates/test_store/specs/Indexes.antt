@@ -32,7 +32,8 @@ id_index = record { name = codes "_id_"; key = inner ((codes "_id", int32 (pos 1
 
 abbrev pub is_index_field : List ℕ → Bool
 is_index_field name =
-    is_one_of name (codes "key" ∷ codes "name" ∷ codes "v" ∷ codes "background" ∷ [])
+    is_one_of name
+    (codes "key" ∷ codes "name" ∷ codes "v" ∷ codes "ns" ∷ codes "background" ∷ [])
 
 -- an option that would change what is answered may stand there where it is false
 abbrev pub may_have : List ℕ → TreeValue → Bool

@@ -1,4 +1,5 @@
--- The documents that a command brings: those of an insert, or the statements of a delete.
+-- The documents that a command brings: those of an insert, or the statements of an update or a
+-- delete.
 use Rattle.std.specs.Prelude.{◌≡◌, ◌&&◌, ℕ, List, [], ◌∷◌, ◌++◌, length, Option, Some, None, Result}
 use Rattle.std.specs.Prelude.{Ok, Err, nat_le, option_map, if◌then◌else◌}
 use Rattle.std.specs.Str.{bytes_eq}
@@ -42,6 +43,7 @@ in_array no_pairs = Some []
 in_array (leaf_pair n k v ps) = with_others (kept_value (leaf_value k v)) (in_array ps)
 in_array (inner_pair n k b t ps) = with_others (kept_value (document_value k b t)) (in_array ps)
 
+-- the documents of a sequence, if no name is repeated in one of them
 abbrev pub in_sequence : List Tree → Option (List TreeValue)
 in_sequence [] = Some []
 in_sequence (t ∷ ts) = with_others (kept_document t) (in_sequence ts)

@@ -2,6 +2,7 @@
 -- refused, unless that field is false, and so is one with any other sequence.
 use Rattle.std.specs.Prelude.{ℕ, List, [], ◌∷◌, Bool, true, false, not, ◌&&◌, ◌||◌, Option, Some}
 use Rattle.std.specs.Prelude.{None, codes, if◌then◌else◌}
+use Rattle.std.specs.Option.{option_or}
 use Rattle.std.specs.Str.{bytes_eq}
 use Rattle.bson_elem.specs.declared.kinds.Kind.TheVariants as kinds
 use Rattle.bson_elem.specs.{Tree, boolean_value, inner_pair, leaf_pair, no_pairs}
@@ -148,11 +149,6 @@ unread_sequence c (q ∷ qs) =
 
 -- ---- requests
 
--- the first of two names, if there is one, and else the second
-abbrev pub or_next : Option (List ℕ) → Option (List ℕ) → Option (List ℕ)
-or_next (Some name) next = Some name
-or_next None next = next
-
 -- a command that isn't known is refused as such, whatever its sequences are
 abbrev pub unless_unknown : Command → Option (List ℕ) → Option (List ℕ)
 unless_unknown commands.Unknown name = None
@@ -162,6 +158,6 @@ unless_unknown _ name = name
 -- sequence where no field does
 abbrev pub first_unread : Command → Content → Option (List ℕ)
 first_unread c content =
-    or_next (unread_field (Body c) content.body)
-    (or_next (unread_option c content.body)
+    option_or (unread_field (Body c) content.body)
+    (option_or (unread_option c content.body)
     (unless_unknown c (unread_sequence c content.sequences)))

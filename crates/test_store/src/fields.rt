@@ -6,8 +6,8 @@ ghost use Rattle.bson_elem.specs.{Spells, Tree};
 ghost use Rattle.bson_raw.specs.{Shows, ShowsFound, TreeValue, document_bytes, first_named};
 ghost use Rattle.doc_query.specs.{count_of, text_of};
 ghost use Rattle.test_store.specs.Fields.{asked_size, first_batch_size, flag_field, id_field};
-ghost use Rattle.test_store.specs.Fields.{id_of, list_size, next_batch_size};
-ghost use Rattle.test_store.specs.Fields.{namespace_at, number_field, text_field};
+ghost use Rattle.test_store.specs.Fields.{id_of, list_size, name_only_field, namespace_at};
+ghost use Rattle.test_store.specs.Fields.{next_batch_size, number_field, text_field};
 ghost use Rattle.test_store.specs.Held.{namespace_of};
 
 use crate::namespace::Namespace;
@@ -153,6 +153,25 @@ pub fn flag_field(
         None => Ok(otherwise),
         Some(RawBson::Boolean(truth)) => Ok(truth),
         Some(_) => Err(error),
+    }
+}
+
+/// Returns true if the field `nameOnly` asks for names alone: if it is true, or a whole number that
+/// isn't 0, as some drivers write it.
+///
+/// # Errors
+///
+/// Returns `NameOnly` if it is neither a boolean nor a whole number.
+pub fn name_only_field(body: RawDocument<'_>) -> Result<bool, CommandError>
+    ensures { (t : Tree) → Spells t (document_bytes body.entry) → result ≡ name_only_field t }
+{
+    match body.get("nameOnly") {
+        None => Ok(false),
+        Some(RawBson::Boolean(truth)) => Ok(truth),
+        Some(value) => match count_of(value) {
+            Some(count) => Ok(count > 0),
+            None => Err(CommandError::NameOnly),
+        },
     }
 }
 

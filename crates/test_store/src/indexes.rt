@@ -57,10 +57,7 @@ pub fn first_indexes(alloc: Global) -> Result<Vec<Index>, AllocError>
 fn is_index_field(name: &str) -> bool
     ensures { result ≡ is_index_field name.now }
 {
-    match name {
-        "key" | "name" | "v" | "background" => true,
-        _ => false,
-    }
+    matches!(name, "key" | "name" | "v" | "ns" | "background")
 }
 
 /// Returns true if a value is false.

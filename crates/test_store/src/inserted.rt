@@ -17,7 +17,7 @@ use doc_query::{CommandError, Failure};
 use std::alloc::Global;
 use wire_msg::{Documents, Payload};
 
-/// The most documents in one insert.
+/// The most documents or statements that a command brings.
 const MOST_DOCUMENTS: usize = 100_000;
 
 /// Appends a document, in its canonical form.

@@ -30,104 +30,111 @@ enum Scope {
 fn is_general(name: &str) -> bool
     ensures { result ≡ is_general name.now }
 {
-    match name {
-        "$db" | "$clusterTime" | "$readPreference" | "lsid" | "readConcern" | "writeConcern" =>
-            true,
-        "maxTimeMS" | "comment" | "apiVersion" | "apiStrict" | "apiDeprecationErrors" => true,
-        _ => false,
-    }
+    matches!(
+        name,
+        "$db"
+            | "$clusterTime"
+            | "$readPreference"
+            | "lsid"
+            | "readConcern"
+            | "writeConcern"
+            | "maxTimeMS"
+            | "comment"
+            | "apiVersion"
+            | "apiStrict"
+            | "apiDeprecationErrors"
+    )
 }
 
 /// Returns true if insert carries out this field.
 fn is_insert_field(name: &str) -> bool
     ensures { result ≡ is_insert_field name.now }
 {
-    match name {
-        "insert" | "documents" | "ordered" | "bypassDocumentValidation" => true,
-        _ => false,
-    }
+    matches!(
+        name,
+        "insert" | "documents" | "ordered" | "bypassDocumentValidation"
+    )
 }
 
 /// Returns true if find carries out this field.
 fn is_find_field(name: &str) -> bool
     ensures { result ≡ is_find_field name.now }
 {
-    match name {
-        "find" | "filter" | "sort" | "skip" | "limit" | "batchSize" | "singleBatch" => true,
-        "projection" | "allowDiskUse" | "noCursorTimeout" | "allowPartialResults" => true,
-        _ => false,
-    }
+    matches!(
+        name,
+        "find"
+            | "filter"
+            | "sort"
+            | "skip"
+            | "limit"
+            | "batchSize"
+            | "singleBatch"
+            | "projection"
+            | "allowDiskUse"
+            | "noCursorTimeout"
+            | "allowPartialResults"
+    )
 }
 
 /// Returns true if delete carries out this field.
 fn is_delete_field(name: &str) -> bool
     ensures { result ≡ is_delete_field name.now }
 {
-    match name {
-        "delete" | "deletes" | "ordered" => true,
-        _ => false,
-    }
+    matches!(name, "delete" | "deletes" | "ordered")
 }
 
 /// Returns true if update carries out this field.
 fn is_update_field(name: &str) -> bool
     ensures { result ≡ is_update_field name.now }
 {
-    match name {
-        "update" | "updates" | "ordered" | "bypassDocumentValidation" => true,
-        _ => false,
-    }
+    matches!(
+        name,
+        "update" | "updates" | "ordered" | "bypassDocumentValidation"
+    )
 }
 
 /// Returns true if count carries out this field.
 fn is_count_field(name: &str) -> bool
     ensures { result ≡ is_count_field name.now }
 {
-    match name {
-        "count" | "query" | "skip" | "limit" => true,
-        _ => false,
-    }
+    matches!(name, "count" | "query" | "skip" | "limit")
 }
 
 /// Returns true if aggregate carries out this field.
 fn is_aggregate_field(name: &str) -> bool
     ensures { result ≡ is_aggregate_field name.now }
 {
-    match name {
-        "aggregate" | "pipeline" | "cursor" | "allowDiskUse" => true,
-        "bypassDocumentValidation" => true,
-        _ => false,
-    }
+    matches!(
+        name,
+        "aggregate" | "pipeline" | "cursor" | "allowDiskUse" | "bypassDocumentValidation"
+    )
 }
 
 /// Returns true if getMore carries out this field.
 fn is_more_field(name: &str) -> bool
     ensures { result ≡ is_more_field name.now }
 {
-    match name {
-        "getMore" | "collection" | "batchSize" => true,
-        _ => false,
-    }
+    matches!(name, "getMore" | "collection" | "batchSize")
 }
 
 /// Returns true if listCollections carries out this field.
 fn is_list_field(name: &str) -> bool
     ensures { result ≡ is_list_field name.now }
 {
-    match name {
-        "listCollections" | "filter" | "nameOnly" | "cursor" | "authorizedCollections" => true,
-        _ => false,
-    }
+    matches!(
+        name,
+        "listCollections" | "filter" | "nameOnly" | "cursor" | "authorizedCollections"
+    )
 }
 
 /// Returns true if listDatabases carries out this field.
 fn is_databases_field(name: &str) -> bool
     ensures { result ≡ is_databases_field name.now }
 {
-    match name {
-        "listDatabases" | "filter" | "nameOnly" | "authorizedDatabases" => true,
-        _ => false,
-    }
+    matches!(
+        name,
+        "listDatabases" | "filter" | "nameOnly" | "authorizedDatabases"
+    )
 }
 
 /// Returns true if a command carries out this field, or gives one answer whatever the field is.
@@ -200,10 +207,10 @@ fn unread_field(scope: Scope, document: RawDocument<'_>) -> Option<&str>
 fn reads_cursor(command: Command) -> bool
     ensures { result ≡ reads_cursor command }
 {
-    match command {
-        Command::Aggregate | Command::ListCollections | Command::ListIndexes => true,
-        _ => false,
-    }
+    matches!(
+        command,
+        Command::Aggregate | Command::ListCollections | Command::ListIndexes
+    )
 }
 
 /// Returns the name of the first field of the field `cursor` that asks for what isn't carried out.

@@ -11,7 +11,7 @@ ghost use Rattle.test_store.specs.Held.{collection_of, store_of};
 
 use crate::answer::set_text;
 use crate::commands::find::answer_found;
-use crate::fields::{flag_field, list_size, text_field};
+use crate::fields::{list_size, name_only_field, text_field};
 use crate::namespace::Namespace;
 use crate::store::{Collection, Store};
 use bson_doc::{Bson, Document};
@@ -101,7 +101,7 @@ pub fn list_collections(
     ensures steady { (store_of store.new).collections ≡ (store_of store.old).collections }
 {
     let database = text_field(body, "$db", CommandError::Database)?;
-    let name_only = flag_field(body, "nameOnly", false, CommandError::NameOnly)?;
+    let name_only = name_only_field(body)?;
     let count = list_size(body)?;
     let filter = filter_field(alloc, body, "filter")?;
     let answer = answer_list(alloc, store, database, name_only, &filter, count)?;

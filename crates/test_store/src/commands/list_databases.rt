@@ -11,11 +11,11 @@ ghost use Rattle.test_store.specs.Commands.{list_databases};
 ghost use Rattle.test_store.specs.Held.{collection_of, store_of};
 
 use crate::answer::{set_ok, set_text};
-use crate::fields::flag_field;
+use crate::fields::name_only_field;
 use crate::store::{Collection, Store, has_database};
 use bson_doc::{Array, Bson, Document};
 use bson_raw::RawDocument;
-use doc_query::{CommandError, Failure, filter_field, matching, set};
+use doc_query::{Failure, filter_field, matching, set};
 use std::alloc::{AllocError, Global};
 
 /// Makes the listing of the database with this name: with `name_only` the name alone, and else
@@ -80,7 +80,7 @@ pub fn list_databases(
         (store_of store.new) }
     ensures steady { (store_of store.new).collections ≡ (store_of store.old).collections }
 {
-    let name_only = flag_field(body, "nameOnly", false, CommandError::NameOnly)?;
+    let name_only = name_only_field(body)?;
     let filter = filter_field(alloc, body, "filter")?;
     let all = listings(alloc, &store.collections, name_only)?;
     let found = matching(alloc, &filter, &all)?;
