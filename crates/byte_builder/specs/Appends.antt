@@ -41,8 +41,8 @@ pub data IsPushed (room : List ℕ) (b : Builder) (part new : List ℕ) (after :
   too_large : {w : Built} → 2 ^ 31 ≤ wanted_for b part → w ≡ refused 253 → new ≡ room → after ≡ b
       → IsPushed room b part new after w
 
--- The pair is put behind the others, as above, in an array under the next index; or the name isn't
--- one, and nothing changes.
+-- The pair is put behind the others, if there is room, in an array under the next index; or the
+-- name isn't one, and nothing changes.
 pub data IsPushedNamed (room : List ℕ) (b : Builder) (k : Kind) (name value new : List ℕ)
     (after : Builder) : Built → Type 0 where
   is_pushed : {w : Built} → IsName (next_name b name)
@@ -51,9 +51,9 @@ pub data IsPushedNamed (room : List ℕ) (b : Builder) (k : Kind) (name value ne
   no_name : {w : Built} → in_array b ≡ false → (IsName name → ⊥) → w ≡ refused 2 → new ≡ room
       → after ≡ b → IsPushedNamed room b k name value new after w
 
--- The value that is given is appended as a pair, as above; or, for the first of these reasons,
--- nothing changes: the numbers of the builder are out of range, no kind has this number, or the
--- value isn't one of its kind.
+-- The value that is given is appended as a pair, if the name is one and there is room; or, for the
+-- first of these reasons, nothing changes: the numbers of the builder are out of range, no kind has
+-- this number, or the value isn't one of its kind.
 pub data IsAppended (room : List ℕ) (b : Builder) (name : List ℕ) (n : ValueNumbers)
     (text rest new : List ℕ) (after : Builder) : Built → Type 0 where
   is_named : {w : Built} (k : Kind) → IsInRange b → kind_of n.kind ≡ Some k

@@ -10,16 +10,13 @@ use crate::tally::Tally;
 use crate::teller::Teller;
 use mio::net::TcpStream;
 use mio::{Events, Poll, Token};
-use sockets::IoFailure;
+use sockets::{EVENTS, IoFailure};
 use std::alloc::{AllocError, Global};
 use std::io;
 use std::io::Write;
 use std::net::{Net, SocketAddr};
 use std::time::{Clock, Duration, Instant};
 use wire_record::{Direction, RawRecord};
-
-/// The most events that one wait tells.
-pub const EVENTS: usize = 64;
 
 /// The connections of the record, and the server to which they go.
 #[derive(Drop)]

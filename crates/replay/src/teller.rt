@@ -56,6 +56,7 @@ impl<'a, W: Write + Drop> Teller<'a, W> {
     /// Returns an error if writing fails.
     pub fn flush(&mut self) -> io::Result<()>
         ensures kept { self.new.tally ≡ self.old.tally }
+        ensures names { self.new.names ≡ self.old.names }
     {
         self.out.flush()
     }
@@ -63,6 +64,7 @@ impl<'a, W: Write + Drop> Teller<'a, W> {
     /// Writes the line of an answer behind its sign.
     fn write_line(&mut self, sign: char, bytes: &[u8]) -> io::Result<()>
         ensures kept { self.new.tally ≡ self.old.tally }
+        ensures names { self.new.names ≡ self.old.names }
     {
         write!(self.out, "{sign} ")?;
         write_answer(self.alloc, self.names, bytes, &mut self.out)?;
@@ -116,6 +118,7 @@ impl<'a, W: Write + Drop> Teller<'a, W> {
         ensures failed { OnErr result ((self.new.tally ≡ self.old.tally)
             ⊎ (self.new.tally
             ≡ record self.old.tally { different = one_more self.old.tally.different })) }
+        ensures names { self.new.names ≡ self.old.names }
     {
         if are_same_answers(self.alloc, self.names, recorded, received)? {
             self.tally.same = self.tally.same.saturating_add(1);
@@ -135,6 +138,7 @@ impl<'a, W: Write + Drop> Teller<'a, W> {
     pub fn tell_missing(&mut self, number: u64, request: i32, recorded: &[u8]) -> io::Result<()>
         ensures counted { self.new.tally
             ≡ record self.old.tally { missing = one_more self.old.tally.missing } }
+        ensures names { self.new.names ≡ self.old.names }
     {
         self.tally.missing = self.tally.missing.saturating_add(1);
         writeln!(self.out, "{number} missing id {request}")?;
@@ -149,6 +153,7 @@ impl<'a, W: Write + Drop> Teller<'a, W> {
     pub fn tell_late(&mut self, number: u64, request: i32, received: &[u8]) -> io::Result<()>
         ensures counted { self.new.tally
             ≡ record self.old.tally { late = one_more self.old.tally.late } }
+        ensures names { self.new.names ≡ self.old.names }
     {
         self.tally.late = self.tally.late.saturating_add(1);
         writeln!(self.out, "{number} late id {request}")?;
@@ -174,6 +179,7 @@ impl<'a, W: Write + Drop> Teller<'a, W> {
     pub fn tell_unexpected(&mut self, number: u64, request: i32, received: &[u8]) -> io::Result<()>
         ensures counted { self.new.tally
             ≡ record self.old.tally { unexpected = one_more self.old.tally.unexpected } }
+        ensures names { self.new.names ≡ self.old.names }
     {
         self.tally.unexpected = self.tally.unexpected.saturating_add(1);
         writeln!(self.out, "{number} unexpected id {request}")?;
@@ -188,6 +194,7 @@ impl<'a, W: Write + Drop> Teller<'a, W> {
     pub fn tell_failed(&mut self, number: u64, broken: Broken) -> io::Result<()>
         ensures counted { self.new.tally
             ≡ record self.old.tally { failed = one_more self.old.tally.failed } }
+        ensures names { self.new.names ≡ self.old.names }
     {
         self.tally.failed = self.tally.failed.saturating_add(1);
         writeln!(self.out, "{number} failed: {broken}")
@@ -201,6 +208,7 @@ impl<'a, W: Write + Drop> Teller<'a, W> {
     /// Returns an error if writing fails.
     pub fn finish(&mut self, fault: Option<InputFault>) -> io::Result<()>
         ensures kept { self.new.tally ≡ self.old.tally }
+        ensures names { self.new.names ≡ self.old.names }
     {
         let tally = self.tally;
         writeln!(self.out, "{tally}")?;

@@ -94,7 +94,10 @@ impl Acceptor {
     }
 
     /// Notes that a connection may wait, or that there is room for one again.
-    pub fn resume(&mut self) {
+    pub fn resume(&mut self)
+        ensures kept { (self.new.returned ≡ self.old.returned)
+            × (self.new.wanted ≡ self.old.wanted) }
+    {
         self.standing = Standing::Ready;
     }
 
@@ -190,7 +193,10 @@ impl Acceptor {
     }
 
     /// Returns why connections wait that may have come, once until none waits again.
-    pub fn take_reason(&mut self) -> Option<WaitReason> {
+    pub fn take_reason(&mut self) -> Option<WaitReason>
+        ensures kept { (self.new.returned ≡ self.old.returned)
+            × (self.new.wanted ≡ self.old.wanted) }
+    {
         let Backlog::Untold(reason) = self.backlog else {
             return None;
         };
@@ -203,7 +209,10 @@ impl Acceptor {
     /// # Errors
     ///
     /// Returns an error if writing fails.
-    pub fn tell_backlog<W: Write>(&mut self, out: &mut W) -> io::Result<()> {
+    pub fn tell_backlog<W: Write>(&mut self, out: &mut W) -> io::Result<()>
+        ensures kept { (self.new.returned ≡ self.old.returned)
+            × (self.new.wanted ≡ self.old.wanted) }
+    {
         match self.take_reason() {
             Some(reason) => writeln!(out, "{reason}"),
             None => Ok(()),
@@ -233,7 +242,10 @@ impl Acceptor {
         events: &mut Events<Global>,
         has_more: bool,
         least: Option<Duration>,
-    ) -> io::Result<()> {
+    ) -> io::Result<()>
+        ensures kept { (self.new.returned ≡ self.old.returned)
+            × (self.new.wanted ≡ self.old.wanted) }
+    {
         let timeout = self.timeout(has_more, least);
         polling::wait(&mut self.poll, events, timeout)?;
         if self.standing == Standing::Pauses {
