@@ -1,11 +1,11 @@
 -- Requests of commands, as they are read and answered.
-use Rattle.std.proofs.Common.{◌≡◌, ◌∙◌, ◌++◌, ℕ, ℤ, FitsSigned, Bool, true, false, List, [], Result, ap, append-nil, of_z, sym, subst, to_z}
+use Rattle.std.proofs.Common.{◌≡◌, ◌∙◌, ◌++◌, ◌≤◌, ℕ, ℤ, FitsSigned, Bool, true, false, List, [], Result, ap, append-nil, arith, of_z, sym, subst, to_z}
 use Rattle.std.proofs.lemmas.Int.{to_z-of_z}
 use Rattle.std.specs.Int.{w32}
 use Rattle.std.specs.Prelude.{OnOk, if◌then◌else◌, not}
 use Rattle.bson_elem.specs.{Tree}
 use mathlib.Core.Logic.{∥∥₁_elim, ∥∥₁_prop}
-use Rattle.wire_msg.specs.{Carries, IsMessage, IsSpelledMsg, Message, SpellsMsg, canonical, msg_bytes}
+use Rattle.wire_msg.specs.{Carries, IsMessage, IsSpelledMsg, Message, SpellsMsg, body_alone, canonical, message_len, msg_bytes}
 use Rattle.wire_msg.specs.declared.msg.RawMsg.{RawMsg}
 use Rattle.wire_msg.specs.declared.payloads.Payload.{Payload}
 use Rattle.wire_peer.specs.{content_of}
@@ -14,7 +14,7 @@ use Rattle.wire_query.specs.{IsQuery, IsSpelledQuery, Query, SpellsQuery, messag
 use Rattle.wire_query.proofs.Lemmas.{message_spelled}
 use Rattle.wire_query.specs.declared.query.RawQuery.{RawQuery}
 use Rattle.proxy.specs.declared.fate.Request.TheVariants as requests
-use Rattle.proxy.specs.Fates.{Asked, IsAsked, IsRequest, answering, asked_content, by_message, by_query, reply_to, wants_reply}
+use Rattle.proxy.specs.Fates.{Asked, IsAsked, IsRequest, answering, asked_content, by_message, by_query, reply_size, reply_to, wants_reply}
 
 -- ---- reading
 
@@ -68,6 +68,11 @@ none_replied r (by_message m) more t old is told so =
     sym (append-nil old) ∙ ap (λ (e : Bool). old ++ (if e then [] else canonical (answering m.id t))) (sym so ∙ told m is.1)
 none_replied r (by_query q) more t old is told so = absurd is
 
+pub none_within : (r : RawMsg) (a : Asked) (more : Bool) (t : Tree) → IsRequest (requests.Message r) a → IsTold r more → more ≡ true → reply_size a t ≤ 48000000
+none_within r (by_message m) more t is told so =
+    subst (λ (e : Bool). (if e then 0 else message_len (body_alone t)) ≤ 48000000) (sym so ∙ told m is.1) (omega arith)
+none_within r (by_query q) more t is told so = absurd is
+
 pub same_id : (m : Message) (bytes : List ℕ) (id : ℤ) → SpellsMsg m bytes → id ≡ m.id → to_z w32 (of_z w32 id) ≡ m.id
 same_id m bytes id spelled is = to_z-of_z w32 id (subst (FitsSigned w32) (sym is) spelled.id) ∙ is
 
@@ -77,3 +82,9 @@ replied r (by_message m) more id t written old new is told not_so own added =
     subst (λ (e : Bool). OnOk written (new ≡ old ++ (if e then [] else canonical (answering m.id t)))) (sym not_so ∙ told m is.1)
     (subst (λ (i : ℤ). OnOk written (new ≡ old ++ canonical (answering i t))) (own m is.1) added)
 replied r (by_query q) more id t written old new is told not_so own added = absurd is
+
+pub replied_within : {E : Type 0} (r : RawMsg) (a : Asked) (more : Bool) (t : Tree) (written : Result (Unit {0}) E) → IsRequest (requests.Message r) a
+    → IsTold r more → more ≡ false → OnOk written (message_len (body_alone t) ≤ 48000000) → OnOk written (reply_size a t ≤ 48000000)
+replied_within r (by_message m) more t written is told not_so fits =
+    subst (λ (e : Bool). OnOk written ((if e then 0 else message_len (body_alone t)) ≤ 48000000)) (sym not_so ∙ told m is.1) fits
+replied_within r (by_query q) more t written is told not_so fits = absurd is

@@ -59,6 +59,11 @@ abbrev pub reply_to : Asked → Tree → List ℕ
 reply_to (by_message m) t = if m.flags.more_to_come then [] else canonical (answering m.id t)
 reply_to (by_query q) t = reply_bytes (command_head q.id q.id) t
 
+-- how many bytes that are
+abbrev pub reply_size : Asked → Tree → ℕ
+reply_size (by_message m) t = if m.flags.more_to_come then 0 else message_len (body_alone t)
+reply_size (by_query q) t = reply_len t
+
 -- why the reply with this body isn't written
 abbrev pub IsReplyRefusal : Asked → Tree → MsgRefusal → Type 0
 IsReplyRefusal (by_message m) t e =
@@ -71,9 +76,11 @@ IsUnanswerable a t =
     ((e : DocRefusal) × (e ≢ documents.OutOfMemory) × IsUnwritable t e)
     ⊎ ((e : MsgRefusal) × (e ≢ messages.OutOfMemory) × IsReplyRefusal a t e)
 
--- what becomes of a request that a rule answers with this body
+-- What becomes of a request that a rule answers with this body: it has the reply, if that is within
+-- the limit.
 abbrev pub IsReplied : Asked → Tree → Fate → Type 0
-IsReplied a t (fates.Reply bytes) = bytes.items ≡ reply_to a t
+IsReplied a t (fates.Reply bytes) =
+    (bytes.items ≡ reply_to a t) × (reply_size a t ≤ 48000000)
 IsReplied a t fates.HangUp = IsUnanswerable a t
 IsReplied a t fate = ⊥
 
@@ -102,6 +109,12 @@ Becomes bytes rules fate left =
     ((a : Asked) × IsAsked bytes a × IsFate a (met (asked_content a) rules) fate
     × (left ≡ after (asked_content a) rules))
     ⊎ (((a : Asked) → IsAsked bytes a → ⊥) × (fate ≡ fates.Pass flows.Whole) × (left ≡ rules))
+
+-- The rules where memory ran out for a message: as they were, or as they are after the request.
+abbrev pub IsLeft : (bytes : List ℕ) → (rules left : List RuleView) → Type 0
+IsLeft bytes rules left =
+    (left ≡ rules)
+    ⊎ ((a : Asked) × IsAsked bytes a × (left ≡ after (asked_content a) rules))
 
 -- ---- a request that was read
 

@@ -1,14 +1,15 @@
 //! Asks a script what becomes of a request.
 
-ghost use Rattle.std.specs.Prelude.{◌≡◌, ◌≢◌, ◌++◌, IfErr, IfOk, IfSome, None, OnOk};
+ghost use Rattle.std.specs.Prelude.{◌≡◌, ◌≢◌, ◌≤◌, ◌++◌, IfErr, IfOk, IfSome, None, OnErr, OnOk};
 ghost use Rattle.std.specs.Prelude.{option_copied};
 ghost use Rattle.bson_elem.specs.{Spells, Tree};
 ghost use Rattle.bson_raw.specs.{document_bytes};
 ghost use Rattle.bson_doc.specs.{tree_of};
 ghost use Rattle.wire_frame.specs.{frame_bytes};
 ghost use Rattle.test_script.specs.{after, first_met};
-ghost use Rattle.proxy.specs.Fates.{Asked, Becomes, IsAsked, IsFate, IsReplied, IsReplyRefusal};
-ghost use Rattle.proxy.specs.Fates.{IsRequest, asked_content, reply_to, wants_reply};
+ghost use Rattle.proxy.specs.Fates.{Asked, Becomes, IsAsked, IsFate, IsLeft, IsReplied};
+ghost use Rattle.proxy.specs.Fates.{IsReplyRefusal, IsRequest, asked_content, reply_size, reply_to};
+ghost use Rattle.proxy.specs.Fates.{wants_reply};
 
 use bson_doc::{DocRefusal, Document};
 use bson_raw::RawDocument;
@@ -73,6 +74,7 @@ impl<'a> Request<'a> {
             (λ i. i ≡ first_met (asked_content a) script.old.rules.items) }
         ensures used { (a : Asked) → IsRequest self.entry a → OnOk result
             (script.new.rules.items ≡ after (asked_content a) script.old.rules.items) }
+        ensures unchanged { OnErr result (script.new.rules.items ≡ script.old.rules.items) }
     {
         match self {
             Request::Message(message) => script.meet(alloc, message.payload()),
@@ -94,6 +96,8 @@ impl<'a> Request<'a> {
         ensures written { (a : Asked) (t : Tree) → IsRequest self.entry a
             → Spells t (document_bytes body.entry)
             → OnOk result (out.new.items ≡ out.old.items ++ reply_to a t) }
+        ensures within { (a : Asked) (t : Tree) → IsRequest self.entry a
+            → Spells t (document_bytes body.entry) → OnOk result (reply_size a t ≤ 48000000) }
         ensures refused { (a : Asked) (t : Tree) → IsRequest self.entry a
             → Spells t (document_bytes body.entry)
             → IfErr result (λ e. IsReplyRefusal a t e) }
@@ -159,10 +163,12 @@ impl<'a> Request<'a> {
 ///
 /// # Errors
 ///
-/// Returns `AllocError` if memory runs out.
+/// Returns `AllocError` if memory runs out. The rule may have been used then.
 pub fn fate_of(alloc: Global, script: &mut Script, frame: RawFrame<'_>) -> Result<Fate, AllocError>
-    ensures { IfOk result (λ fate. Becomes (frame_bytes frame.entry) script.old.rules.items fate
+    ensures ok { IfOk result (λ fate. Becomes (frame_bytes frame.entry) script.old.rules.items fate
         script.new.rules.items) }
+    ensures err { OnErr result
+        (IsLeft (frame_bytes frame.entry) script.old.rules.items script.new.rules.items) }
 {
     let Some(request) = Request::of(alloc, frame) else {
         return Ok(Fate::Pass(Flow::Whole));

@@ -65,7 +65,7 @@ impl RecordBuf {
     ///
     /// # Errors
     ///
-    /// Returns `AllocError` if memory runs out. Then no record is appended.
+    /// Returns `AllocError` if memory runs out. Then nothing changes.
     pub fn put(&mut self, head: RecordHead, frame: RawFrame<'_>) -> Result<bool, AllocError>
         requires { IsConnection head.connection }
         ensures put { IfOk result (λ fits. MatchBool fits
@@ -78,17 +78,19 @@ impl RecordBuf {
         ensures full { self.old.left ≡ None → IfOk result (λ fits. fits ≡ false) }
         ensures short { IfOk result (λ fits. fits ≡ false → IfSome self.old.left (λ before.
             before < length (record_of head (frame_bytes frame.entry)))) }
-        ensures unchanged { OnErr result (self.new.bytes.items ≡ self.old.bytes.items) }
+        ensures unchanged { OnErr result ((self.new.bytes.items ≡ self.old.bytes.items)
+            × (self.new.left ≡ self.old.left)) }
     {
         let Some(left) = self.left else {
             return Ok(false);
         };
         let size = HEAD_LEN + frame.as_bytes().len();
-        self.left = left.checked_sub(size as u64);
-        if self.left.is_none() {
+        let Some(after) = left.checked_sub(size as u64) else {
+            self.left = None;
             return Ok(false);
-        }
+        };
         write_record(head, frame, &mut self.bytes)?;
+        self.left = Some(after);
         Ok(true)
     }
 }

@@ -19,7 +19,6 @@ abbrev pub begins_object : List ℕ → Bool
 begins_object [] = false
 begins_object (b ∷ bs) = b == 123
 
--- how many bytes the word has with which the text begins
 -- the text begins as a document or a text in quotes does
 abbrev pub begins_value : List ℕ → Bool
 begins_value [] = false

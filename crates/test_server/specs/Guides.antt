@@ -24,7 +24,8 @@ abbrev pub last_flow : Option Flow → List RuleView → List LogEntry → Optio
 last_flow before rs [] = before
 last_flow before rs (e ∷ es) = last_flow (Some (flow_by (met e.payload rs))) (after e.payload rs) es
 
--- the requests of these entries were told
+-- The requests of these entries were told: the rules are those after them, and the flow is that of
+-- the last one, or none.
 abbrev pub Follows : Guide → List LogEntry → Guide → Type 0
 Follows old log new =
     (new.script.rules.items ≡ rules_after log old.script.rules.items)
