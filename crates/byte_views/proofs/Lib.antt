@@ -13,6 +13,8 @@ pub mod PartLaws
 pub mod SplitLaws
 pub mod TextLaws
 pub mod QuickLaws
+pub mod Passing
+pub mod Sizes
 pub mod FormLaws
 pub mod SpanLaws
 pub mod OffsetLaws

@@ -1,5 +1,5 @@
 -- A value that is read in few steps, for a walk.
-use Rattle.std.specs.Prelude.{◌≡◌, ◌<◌, ℕ, ◌+◌, ◌^◌, List, ◌++◌, length, Ok, Err, Some}
+use Rattle.std.specs.Prelude.{◌≡◌, ◌<◌, ◌≤◌, ℕ, ◌+◌, ◌^◌, List, ◌++◌, drop, length, Ok, Err, Some}
 use Rattle.bson_elem.specs.declared.fault.BsonCause.TheVariants.{Text}
 use Rattle.bson_elem.specs.declared.kinds.Kind.{Kind}
 use Rattle.bson_elem.specs.declared.kinds.Kind.TheVariants.{String}
@@ -33,3 +33,10 @@ pub data IsQuick (depth at from : ℕ) (k : Kind) (rest : List ℕ) (bare e : El
 abbrev pub IsQuickly : ℕ → ℕ → ℕ → ℕ → List ℕ → Element → Element → ℕ → Type 0
 IsQuickly depth at from byte rest bare e n =
     (k : Kind) × (kind_of byte ≡ Some k) × IsQuick depth at from k rest bare e n
+
+-- all values of the kind with this type byte have n bytes, and any n bytes are one
+abbrev pub HasSize : ℕ → ℕ → Type 0
+HasSize byte n =
+    (k : Kind) × (kind_of byte ≡ Some k)
+    × ((depth at from : ℕ) (rest : List ℕ) → n ≤ length rest
+    → (v : Value) × (value_at depth at from (form_of k) rest ≡ Ok (v, drop n rest)))

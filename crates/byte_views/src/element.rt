@@ -1,10 +1,11 @@
 //! One element of a document, as parts of the caller's bytes and as numbers.
 
-ghost use Rattle.std.specs.Prelude.{◌≡◌, ◌+◌, ◌<◌, ◌^◌};
+ghost use Rattle.std.specs.Prelude.{◌≡◌, ◌+◌, ◌-◌, ◌<◌, ◌^◌};
 ghost use Rattle.bson_elem.specs.declared.fault.BsonFault.{BsonFault};
 ghost use Rattle.bson_elem.specs.Items.{LendsFramed, item_kind, item_value};
 ghost use Rattle.byte_views.specs.Elements.{bare, fault_element, no_element, value_place};
 ghost use Rattle.byte_views.specs.Elements.{wrong_element};
+ghost use Rattle.byte_views.specs.Views.{view};
 
 use crate::fault::FirstFault;
 use crate::view::View;
@@ -84,6 +85,44 @@ impl Element {
         }
     }
 
+    /// Returns the element with this number.
+    #[inline(always)]
+    fn with_bits(self, bits: u64) -> Element
+        ensures { result ≡ record self { bits = bits } }
+    {
+        Element { bits, ..self }
+    }
+
+    /// Returns the element with this text.
+    #[inline(always)]
+    fn with_text(self, offset: usize, length: usize) -> Element
+        ensures { result ≡ record self { text = view offset length } }
+    {
+        Element {
+            text: View::new(offset, length),
+            ..self
+        }
+    }
+
+    /// Returns the element with these bytes.
+    #[inline(always)]
+    fn with_bytes(self, offset: usize, length: usize) -> Element
+        ensures { result ≡ record self { bytes = view offset length } }
+    {
+        Element {
+            bytes: View::new(offset, length),
+            ..self
+        }
+    }
+
+    /// Returns the element with the bytes that end at offset `next`.
+    #[inline(always)]
+    fn with_last_bytes(self, next: usize, length: usize) -> Element
+        ensures { result ≡ record self { bytes = view (next - length) length } }
+    {
+        self.with_bytes(next.saturating_sub(length), length)
+    }
+
     /// Returns the element with this `value`, which begins at offset `from`. The element's type
     /// byte is `byte`, and what follows it begins at offset `next`.
     #[inline(always)]
@@ -101,67 +140,35 @@ impl Element {
     {
         let bare = Element::bare(name, byte);
         match value {
-            Item::Double(bytes) => Element {
-                bits: u64::from_le_bytes(bytes),
-                bytes: View::new(from, 8),
-                ..bare
-            },
-            Item::String(text) | Item::Code(text) | Item::Symbol(text) => Element {
-                text: View::new(from + 4, text.len()),
-                ..bare
-            },
-            Item::Document(bytes) | Item::Array(bytes) => Element {
-                bytes: View::new(next.saturating_sub(bytes.len()), bytes.len()),
-                ..bare
-            },
+            Item::Double(bytes) => bare
+                .with_bits(u64::from_le_bytes(bytes))
+                .with_bytes(from, 8),
+            Item::String(text) | Item::Code(text) | Item::Symbol(text) => {
+                bare.with_text(from + 4, text.len())
+            }
+            Item::Document(bytes) | Item::Array(bytes) => bare.with_last_bytes(next, bytes.len()),
             Item::Binary { subtype, bytes } => Element {
                 subtype: u32::from(subtype),
-                bytes: View::new(next.saturating_sub(bytes.len()), bytes.len()),
-                ..bare
+                ..bare.with_last_bytes(next, bytes.len())
             },
-            Item::Undefined | Item::Null | Item::MinKey | Item::MaxKey => Element {
-                bytes: View::new(from, 0),
-                ..bare
-            },
-            Item::ObjectId(_) => Element {
-                bytes: View::new(from, 12),
-                ..bare
-            },
-            Item::Boolean(truth) => Element {
-                bits: u64::from(truth),
-                ..bare
-            },
-            Item::DateTime(number) | Item::Int64(number) => Element {
-                bits: number.cast_unsigned(),
-                ..bare
-            },
-            Item::Regex { pattern, options } => Element {
-                text: View::new(from, pattern.len()),
-                bytes: View::new(from + pattern.len() + 1, options.len()),
-                ..bare
-            },
-            Item::DbPointer { namespace, .. } => Element {
-                text: View::new(from + 4, namespace.len()),
-                bytes: View::new(next.saturating_sub(12), 12),
-                ..bare
-            },
-            Item::CodeWithScope { code, scope } => Element {
-                text: View::new(from + 8, code.len()),
-                bytes: View::new(next.saturating_sub(scope.len()), scope.len()),
-                ..bare
-            },
-            Item::Int32(number) => Element {
-                bits: i64::from(number).cast_unsigned(),
-                ..bare
-            },
-            Item::Timestamp { increment, seconds } => Element {
-                bits: u64::from(seconds) * 0x1_0000_0000 + u64::from(increment),
-                ..bare
-            },
-            Item::Decimal128(_) => Element {
-                bytes: View::new(from, 16),
-                ..bare
-            },
+            Item::Undefined | Item::Null | Item::MinKey | Item::MaxKey => bare.with_bytes(from, 0),
+            Item::ObjectId(_) => bare.with_bytes(from, 12),
+            Item::Boolean(truth) => bare.with_bits(u64::from(truth)),
+            Item::DateTime(number) | Item::Int64(number) => bare.with_bits(number.cast_unsigned()),
+            Item::Regex { pattern, options } => bare
+                .with_text(from, pattern.len())
+                .with_bytes(from + pattern.len() + 1, options.len()),
+            Item::DbPointer { namespace, .. } => bare
+                .with_text(from + 4, namespace.len())
+                .with_last_bytes(next, 12),
+            Item::CodeWithScope { code, scope } => bare
+                .with_text(from + 8, code.len())
+                .with_last_bytes(next, scope.len()),
+            Item::Int32(number) => bare.with_bits(i64::from(number).cast_unsigned()),
+            Item::Timestamp { increment, seconds } => {
+                bare.with_bits(u64::from(seconds) * 0x1_0000_0000 + u64::from(increment))
+            }
+            Item::Decimal128(_) => bare.with_bytes(from, 16),
         }
     }
 }

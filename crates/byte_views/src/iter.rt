@@ -1,6 +1,6 @@
 //! Walks over the elements of a document, one or many by a call, and finds one by its name.
 
-ghost use Rattle.std.specs.Prelude.{◌≡◌, ◌<◌, ◌≤◌, ◌↔◌, IfSome, IsTrue, ℕ, length};
+ghost use Rattle.std.specs.Prelude.{◌≡◌, ◌+◌, ◌<◌, ◌≤◌, ◌↔◌, IfSome, IsTrue, ℕ, get_or, length};
 ghost use Rattle.bson_elem.specs.{Spells, Tree};
 ghost use Rattle.bson_raw.specs.Spelled.{IsLengthOf};
 ghost use Rattle.byte_views.specs.Iters.{CanEnter, IsFirst, IsInside, IsStep, first_begins};
@@ -218,21 +218,54 @@ fn is_named(bytes: &[u8], view: View, name: &[u8]) -> bool
         && &bytes[offset..offset + length] == name
 }
 
-/// Returns the offset after the element at the iterator, if it has another name, and its value is of
-/// a common kind and nothing is wrong with it.
-// What isn't asked of the element isn't read, since all of this is inlined.
+/// Returns the first byte of a name, or 0 if it has none.
+fn first_byte(name: &[u8]) -> u8
+    ensures { result ≡ get_or name.now 0 0 }
+{
+    match name.first() {
+        Some(first) => *first,
+        None => 0,
+    }
+}
+
+/// Returns true if the view, which a byte 00 follows, has the bytes of `name`, whose first byte is
+/// `first`.
+// Looks at the first byte first: names of the same length are too common for a test of that to be
+// guessed.
 #[inline(always)]
-fn pass(bytes: &[u8], name: &[u8], iter: ElementIter) -> Option<usize>
+fn is_cstring_named(bytes: &[u8], view: View, name: &[u8], first: u8) -> bool
+    requires first { first ≡ get_or name.now 0 0 }
+    requires inside { view.offset + view.length < length bytes.now }
+    requires zero { get_or bytes.now (view.offset + view.length) 0 ≡ 0 }
+    ensures { IsTrue result ↔ IsView bytes.now view name.now }
+{
+    bytes[view.offset] == first && is_named(bytes, view, name)
+}
+
+/// Returns the offset after the element at the iterator, if it has another name, and its value is
+/// of a common kind and nothing is wrong with it. The first byte of `name` is `first`.
+#[inline(always)]
+fn pass(bytes: &[u8], name: &[u8], first: u8, iter: ElementIter) -> Option<usize>
+    requires { first ≡ get_or name.now 0 0 }
     ensures { IfSome result (λ next. IsPassed bytes.now name.now iter next) }
 {
     if !iter.is_inside(bytes) || iter.at == iter.end {
         return None;
     }
-    let (element, next) = quick_step(bytes, iter)?;
-    if element.kind == 0 || is_named(bytes, element.name, name) {
+    let byte = bytes[iter.at];
+    let Ok((found, rest)) = read_cstring(&bytes[iter.at + 1..iter.end]) else {
+        return None;
+    };
+    let place = View::new(iter.at + 1, found.len());
+    if is_cstring_named(bytes, place, name, first) {
         return None;
     }
-    Some(next)
+    let from = iter.at + 2 + found.len();
+    let bare = Element::bare(place, byte);
+    match quick::size(byte, rest, iter.depth, iter.at, from, bare) {
+        Some(size) => Some(from + size),
+        None => None,
+    }
 }
 
 /// Reads elements from the iterator on, up to the first with this `name`, into `element`. Returns
@@ -240,9 +273,10 @@ fn pass(bytes: &[u8], name: &[u8], iter: ElementIter) -> Option<usize>
 fn find(bytes: &[u8], name: &[u8], iter: ElementIter, element: &mut Element) -> usize
     ensures { Finds bytes.now name.now iter element.new result }
 {
+    let first = first_byte(name);
     let mut at = iter.at;
     loop {
-        if let Some(next) = pass(bytes, name, ElementIter { at, ..iter }) {
+        if let Some(next) = pass(bytes, name, first, ElementIter { at, ..iter }) {
             at = next;
             continue;
         }

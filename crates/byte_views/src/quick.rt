@@ -3,11 +3,12 @@
 //! What isn't read here is read by bson_elem, which tells each fault. A string's text isn't tested
 //! for UTF-8 here.
 
-ghost use Rattle.std.specs.Prelude.{◌≡◌, ◌+◌, ◌<◌, ◌≤◌, ◌^◌, ℕ, IfSome, List, length, take};
+ghost use Rattle.std.specs.Prelude.{◌≡◌, ◌+◌, ◌<◌, ◌≤◌, ◌^◌, ℕ, IfSome, List, None, Some};
+ghost use Rattle.std.specs.Prelude.{length, take};
 ghost use Rattle.std.specs.Int.{w32, w64, cast_signed, cast_unsigned};
 ghost use Rattle.bson_elem.specs.{form_of, raw_form};
 ghost use Rattle.byte_views.specs.Elements.{raw_bits};
-ghost use Rattle.byte_views.specs.Quick.{IsQuick, IsQuickly, IsValueAt};
+ghost use Rattle.byte_views.specs.Quick.{HasSize, IsQuick, IsQuickly, IsValueAt};
 ghost use Rattle.byte_views.specs.Views.{no_view};
 
 use crate::element::Element;
@@ -22,6 +23,17 @@ fn extended(bits: u32) -> u64
     i64::from(bits.cast_signed()).cast_unsigned()
 }
 
+/// Returns that no value is read.
+// A call, so that the compiler keeps a jump to it, which is guessed: without one each step of a
+// walk waits for what the step before it tested last.
+#[cold]
+#[inline(never)]
+fn nothing() -> Option<(Element, usize)>
+    ensures { result ≡ None }
+{
+    None
+}
+
 /// Reads a boolean into `bare`.
 #[inline(always)]
 fn boolean(rest: &[u8], bare: Element) -> Option<(Element, usize)>
@@ -29,7 +41,7 @@ fn boolean(rest: &[u8], bare: Element) -> Option<(Element, usize)>
         → IfSome result (λ x. IsValueAt depth at from Kind.Boolean rest.now bare x.0 x.1) }
 {
     if rest.len() < 1 || rest[0] > 1 {
-        return None;
+        return nothing();
     }
     let bits = u64::from(rest[0]);
     Some((Element { bits, ..bare }, 1))
@@ -124,7 +136,7 @@ fn string(rest: &[u8], from: usize, bare: Element) -> Option<(Element, usize)>
     }
     let size = little_u32(rest) as usize;
     if size < 1 || size > MAX_LEN || size > rest.len() - 4 || rest[size + 3] != 0 {
-        return None;
+        return nothing();
     }
     let text = View::new(from + 4, size - 1);
     Some((Element { text, ..bare }, size + 4))
@@ -184,6 +196,75 @@ pub(crate) fn value(
         0x10 => int32(rest, bare),
         0x12 => int64(rest, bare),
         0x13 => raw(rest, 16, from, bare),
+        _ => None,
+    }
+}
+
+/// The number in `SIZES` of a byte that is no kind's, or one whose values differ in size.
+const NO_SIZE: u8 = 0xff;
+
+/// The size of all values of the kind with this type byte, if any bytes of that size are one.
+const SIZES: [u8; 20] = [
+    NO_SIZE, 8, NO_SIZE, NO_SIZE, NO_SIZE, NO_SIZE, // 01: a double
+    0, 12, NO_SIZE, 8, 0, // 06: undefined, 07: an ObjectId, 09: a datetime, 0A: null
+    NO_SIZE, NO_SIZE, NO_SIZE, NO_SIZE, NO_SIZE, //
+    4, 8, 8, 16, // 10: an int32, 11: a timestamp, 12: an int64, 13: a decimal128
+];
+
+/// Returns the size of all values of the kind with this type byte, if any such bytes are one.
+// From a table: where kinds alternate, a jump for each can hardly be guessed.
+#[inline(always)]
+fn fixed_size(byte: u8) -> Option<usize>
+    ensures { IfSome result (λ n. HasSize byte n) }
+{
+    let index = usize::from(byte);
+    if index >= SIZES.len() {
+        return None;
+    }
+    let size = SIZES[index];
+    if size == NO_SIZE {
+        return None;
+    }
+    Some(usize::from(size))
+}
+
+/// Returns how many bytes the value takes that was read.
+#[inline(always)]
+fn size_of(read: Option<(Element, usize)>) -> Option<usize>
+    ensures { IfSome result (λ n. (e : Element) × (read ≡ Some (e, n))) }
+{
+    match read {
+        Some((_, size)) => Some(size),
+        None => None,
+    }
+}
+
+/// Returns how many bytes a value takes whose type byte is `byte`, and which begins at offset
+/// `from`, if its kind is a common one and nothing is wrong with it. Nothing is put into `bare`.
+#[inline(always)]
+pub(crate) fn size(
+    byte: u8,
+    rest: &[u8],
+    depth: u32,
+    at: usize,
+    from: usize,
+    bare: Element,
+) -> Option<usize>
+    requires room { from + length rest.now < 2 ^ 63 }
+    requires no_text { bare.text ≡ no_view }
+    ensures { IfSome result (λ n. (e : Element) × IsQuickly depth at from byte rest.now bare e n) }
+{
+    if let Some(size) = fixed_size(byte) {
+        if rest.len() < size {
+            return size_of(nothing());
+        }
+        return Some(size);
+    }
+    match byte {
+        0x02 => size_of(string(rest, from, bare)),
+        0x03 => size_of(document(rest, depth, at, from, bare)),
+        0x04 => size_of(document(rest, depth, at, from, bare)),
+        0x08 => size_of(boolean(rest, bare)),
         _ => None,
     }
 }
