@@ -1,5 +1,5 @@
 -- What a mask of vector lanes tells of bytes, and how far a run of bytes goes.
-use Rattle.std.proofs.Common.{◌≡◌, ◌∙◌, ℕ, zero, suc, ◌+◌, ◌*◌, ◌<◌, ◌≤◌, ◌^◌, ◌%◌, ◌⊎◌, inl, inr, Bool, true, false, not, ◌&&◌, cond, eqb, ltb, List, [], ◌∷◌, map, length, drop, refl, sym, ap, ap₂, arith, subst, w8, Fits}
+use Rattle.std.proofs.Common.{◌≡◌, ◌∙◌, ℕ, zero, suc, ◌+◌, ◌*◌, ◌<◌, ◌≤◌, ◌^◌, ◌%◌, ◌⊎◌, inl, inr, Bool, true, false, not, ◌&&◌, cond, eqb, leb, ltb, List, [], ◌∷◌, map, length, drop, refl, sym, ap, ap₂, arith, subst, w8, Fits}
 use Rattle.std.proofs.lemmas.Bool.{and_parts, cases_lt, eq-eqb, ne_eqb}
 use Rattle.std.proofs.lemmas.List.{length-drop, length-map}
 use Rattle.std.proofs.lemmas.List.Folds.{prefix_len-append}
@@ -10,6 +10,7 @@ use lib.Bits.{bit_or}
 use lib.Count.{count_trailing_zeros}
 use lib.Lanes.{Each1, chunk, mask_l, top}
 use Rattle.json.specs.Run.{is_plain, is_stop}
+use Rattle.bson_json_read.specs.Places.{begins}
 
 -- ---- a test of each byte, by all of them
 
@@ -49,6 +50,13 @@ hit a b = cond (eqb a b) 255 0
 
 abbrev pub below : ℕ → ℕ → ℕ
 below a b = cond (ltb a b) 255 0
+
+abbrev pub up_to : ℕ → ℕ → ℕ
+up_to a b = cond (leb a b) 255 0
+
+-- the bytes of 16 at which a character begins
+pub begin_mask : (v z : List ℕ) → length v ≡ 16 → Each1 (Fits w8) v → z ≡ map (λ x. bit_or (below x 128) (up_to 192 x)) v → mask_l (map (top 7) z) % 2 ^ 64 ≡ mask_l (map begins v)
+begin_mask v z long fits e = masked (λ x. bit_or (below x 128) (up_to 192 x)) begins v z (omega arith) fits e refl
 
 -- the bytes of 16 at which the plain part of a string stops
 pub stop_mask : (v z : List ℕ) → length v ≡ 16 → Each1 (Fits w8) v

@@ -1,8 +1,37 @@
 -- Places behind bytes, line by line.
-use Rattle.std.proofs.Common.{◌≡◌, ◌∙◌, ◌+◌, ◌<◌, ◌≤◌, ◌==◌, ℕ, zero, suc, List, [], ◌∷◌, ◌++◌, Bool, true, false, refl, sym, ap, arith, subst, drop, get_or, length}
+use Rattle.std.proofs.Common.{◌≡◌, ◌∙◌, ◌+◌, ◌<◌, ◌≤◌, ◌==◌, ℕ, zero, suc, List, [], ◌∷◌, ◌++◌, Bool, true, false, cond, not, refl, sym, ap, arith, subst, count_ones, drop, get_or, length, map}
 use Rattle.std.specs.Prelude.{if◌then◌else◌}
+use Rattle.std.specs.List.{count_by}
+use Rattle.std.proofs.lemmas.List.Sums.{count_by-le-length, sum_by-cons}
+use Rattle.std.proofs.lemmas.Simd.{chunk-drop, length-chunk, ones-mask_l}
+use lib.Lanes.{chunk, mask_l}
 use Rattle.memchr.specs.Find.{Nowhere, Passes, is_byte}
-use Rattle.bson_json_read.specs.Places.{characters, goes_on, place_behind}
+use Rattle.bson_json_read.specs.Places.{begins, characters, goes_on, place_behind}
+
+-- ---- characters
+
+plus_choice : (c : Bool) (m n : ℕ) → (if c then m + n else suc (m + n)) ≡ (if c then m else suc m) + n
+plus_choice true m n = refl
+plus_choice false m n = omega arith
+
+characters_append : (xs ys : List ℕ) → characters (xs ++ ys) ≡ characters xs + characters ys
+characters_append [] ys = omega arith
+characters_append (x ∷ xs) ys = ap (λ (n : ℕ). if goes_on x then n else suc n) (characters_append xs ys) ∙ plus_choice (goes_on x) (characters xs) (characters ys)
+
+one_more : (c : Bool) (n : ℕ) → (if c then n else suc n) ≡ cond (not c) 1 0 + n
+one_more true n = omega arith
+one_more false n = omega arith
+
+characters_counted : (xs : List ℕ) → characters xs ≡ count_by begins xs
+characters_counted [] = refl
+characters_counted (x ∷ xs) = ap (λ (n : ℕ). if goes_on x then n else suc n) (characters_counted xs) ∙ one_more (goes_on x) (count_by begins xs) ∙ sym (sum_by-cons (λ y. cond (begins y) 1 0) x xs)
+
+-- the characters of 16 bytes, and those behind them
+pub characters_on : (bytes : List ℕ) (at : ℕ) → at + 16 ≤ length bytes → (characters (drop at bytes) ≡ count_ones (mask_l (map begins (chunk at 16 bytes))) + characters (drop (at + 16) bytes)) × (count_ones (mask_l (map begins (chunk at 16 bytes))) ≤ 16)
+characters_on bytes at room =
+    let counted : count_ones (mask_l (map begins (chunk at 16 bytes))) ≡ count_by begins (chunk at 16 bytes) = ones-mask_l begins (chunk at 16 bytes) in
+    let parts = ap characters (chunk-drop at 16 bytes) ∙ characters_append (chunk at 16 bytes) (drop (at + 16) bytes) in
+    (omega (arith, parts, characters_counted (chunk at 16 bytes), counted), omega (arith, counted, count_by-le-length begins (chunk at 16 bytes), length-chunk at 16 bytes room))
 
 -- ---- the rest of a line
 

@@ -1,10 +1,14 @@
 -- Lines and columns of a text in UTF-8.
 use Rattle.std.specs.Prelude.{◌≡◌, ℕ, suc, ◌+◌, ◌≤◌, List, [], ◌∷◌, length, take, Bool, nat_le}
-use Rattle.std.specs.Prelude.{nat_lt, ◌==◌, ◌&&◌, if◌then◌else◌}
+use Rattle.std.specs.Prelude.{nat_lt, not, ◌==◌, ◌&&◌, if◌then◌else◌}
 
 -- the byte goes on with a character
 abbrev pub goes_on : ℕ → Bool
 goes_on b = nat_le 128 b && nat_lt b 192
+
+-- a character begins with the byte
+abbrev pub begins : ℕ → Bool
+begins b = not (goes_on b)
 
 -- how many characters begin in these bytes
 abbrev pub characters : List ℕ → ℕ

@@ -4,7 +4,8 @@ ghost use Rattle.std.specs.Prelude.{◌≡◌, ◌-◌, ◌<◌, ◌≤◌, ◌^
 ghost use Rattle.bson_json_read.specs.Extents.{HasPassed, IsScanned, IsStepped, closes, open_next};
 ghost use Rattle.bson_json_read.specs.Extents.{text_len, within_next};
 
-use memchr::{memchr, memchr2, memrchr};
+use crate::run::plain_end;
+use memchr::{memchr, memrchr};
 
 /// Where a scan stands in a text.
 #[derive(Clone, Copy)]
@@ -104,7 +105,8 @@ impl Scan {
         })
     }
 
-    /// Passes the bytes of a string up to its next quote or backslash, if the scan stands in one.
+    /// Passes the bytes of a string up to its next quote, backslash or control byte, if the scan stands
+    /// in one.
     fn past_plain(self, text: &[u8]) -> Scan
         requires { HasPassed self text.now }
         ensures passed { HasPassed result text.now }
@@ -113,14 +115,10 @@ impl Scan {
         let Within::Quoted = self.within else {
             return self;
         };
-        let plain = match memchr2(b'"', b'\\', &text[self.len..]) {
-            Some(plain) => plain,
-            None => text.len() - self.len,
-        };
         Scan {
             within: self.within,
             braces: self.braces,
-            len: self.len + plain,
+            len: plain_end(text, self.len),
         }
     }
 }

@@ -1,7 +1,8 @@
 //! Finds the line and the column of a fault.
 
-ghost use Rattle.std.specs.Prelude.{◌≡◌, ◌+◌, ◌<◌, ◌≤◌, ◌^◌, IfOk, length, take};
-ghost use Rattle.bson_json_read.specs.Places.{StandsIn, characters, place_behind};
+ghost use Rattle.std.specs.Prelude.{◌≡◌, ◌+◌, ◌<◌, ◌≤◌, ◌^◌, IfOk, length, map, take};
+ghost use Rattle.std.specs.Simd.Lanes.{mask_l};
+ghost use Rattle.bson_json_read.specs.Places.{StandsIn, begins, characters, place_behind};
 
 use crate::fault::{Cause, JsonFault};
 use crate::misfit::misfit;
@@ -9,6 +10,7 @@ use crate::text::JSON_DEPTH;
 use json::{Reader, Scratch, Token};
 use memchr::memchr;
 use std::alloc::{AllocError, Global};
+use std::simd::prelude::*;
 
 /// A place in a text. Lines, and the characters of a line, are counted from 1.
 #[derive(Clone, Copy, Debug, PartialEq, Eq)]
@@ -17,8 +19,16 @@ pub struct Place {
     pub column: usize,
 }
 
-/// Returns how many characters begin in these bytes.
-fn characters(bytes: &[u8]) -> usize
+/// Returns a bit for each of 16 bytes, which tells whether a character begins there.
+#[inline(always)]
+fn begins(v: u8x16) -> u64
+    ensures { result ≡ mask_l (map begins v) }
+{
+    (v.simd_lt(u8x16::splat(128)) | v.simd_ge(u8x16::splat(192))).to_bitmask()
+}
+
+/// Returns how many characters begin in these bytes, which are few.
+fn characters_of_few(bytes: &[u8]) -> usize
     ensures count { result ≡ characters bytes.now }
     ensures few { result ≤ length bytes.now }
 {
@@ -29,6 +39,20 @@ fn characters(bytes: &[u8]) -> usize
         }
     }
     count
+}
+
+/// Returns how many characters begin in these bytes.
+fn characters(bytes: &[u8]) -> usize
+    ensures count { result ≡ characters bytes.now }
+    ensures few { result ≤ length bytes.now }
+{
+    let mut count = 0;
+    let mut at = 0;
+    while bytes.len() - at >= 16 {
+        count += begins(u8x16::from_slice(&bytes[at..])).count_ones() as usize;
+        at += 16;
+    }
+    count + characters_of_few(&bytes[at..])
 }
 
 impl Place {
