@@ -50,10 +50,8 @@ impl Answers {
     /// Returns the id of the request that an answer with this responseTo answers. Of several answers
     /// to one request, each but the first may have the id of the one before it there.
     fn request_of(&self, response_to: i32) -> i32 {
-        match self.follows.iter().find(|follow| follow.id == response_to) {
-            Some(follow) => follow.request,
-            None => response_to,
-        }
+        let follow = self.follows.iter().find(|follow| follow.id == response_to);
+        follow.map_or(response_to, |follow| follow.request)
     }
 
     /// Returns the id of the request that an answer answers, which comes on this side now, and notes
@@ -65,13 +63,7 @@ impl Answers {
     pub fn note(&mut self, frame: RawFrame<'_>) -> Result<i32, AllocError> {
         let header = frame.header();
         let request = self.request_of(header.response_to);
-        if let Some(i) = self
-            .follows
-            .iter()
-            .position(|follow| follow.request == request)
-        {
-            let _ = self.follows.swap_remove(i);
-        }
+        self.follows.retain(|follow| follow.request != request);
         if has_flag(frame, MORE_TO_COME) {
             let id = header.id;
             self.follows.push(Follow { id, request })?;

@@ -14,6 +14,8 @@ use wire_stream::{Inlet, Link, LinkFault, Moved, Pulled, TcpLink};
 pub enum Broken {
     /// Connecting to the server failed.
     Connecting(IoFailure),
+    /// It failed before it stood.
+    Unconnected(LinkFault),
     /// Sending failed.
     Sending(LinkFault),
     /// Receiving failed.
@@ -28,11 +30,7 @@ impl fmt::Display for Broken {
     fn fmt<W: fmt::Write>(&self, f: &mut fmt::Formatter<W>) -> fmt::Result {
         match *self {
             Broken::Connecting(failure) => write!(f, "connecting: {failure}"),
-            // The system mostly tells it when bytes are to be moved.
-            Broken::Sending(fault) | Broken::Receiving(fault)
-                if fault.kind == ErrorKind::ConnectionRefused => {
-                f.write_str("connecting: connection refused")
-            }
+            Broken::Unconnected(fault) => write!(f, "connecting: {}", fault.kind),
             Broken::Sending(fault) => write!(f, "sending: {fault}"),
             Broken::Receiving(fault) => write!(f, "receiving: {fault}"),
             Broken::NoMessage(fault) => write!(f, "receiving: {fault}"),
@@ -63,15 +61,32 @@ pub enum Sent {
     Nothing,
 }
 
+/// The longest request, and the longest message that came, whose memory a connection keeps for the
+/// next one.
+const KEPT: usize = 1 << 16;
+
 /// Bytes that wait to be sent.
 #[derive(Drop)]
 struct Waiting {
+    alloc: Global,
     bytes: Vec<u8>,
     /// How many of them were sent.
     sent: usize,
+    /// Whether any byte was ever sent.
+    moved: bool,
 }
 
 impl Waiting {
+    /// Lets go of all bytes, and of the memory of many.
+    fn clear(&mut self) {
+        if self.bytes.capacity() > KEPT {
+            self.bytes = Vec::new(self.alloc);
+        } else {
+            self.bytes.clear();
+        }
+        self.sent = 0;
+    }
+
     /// Returns the bytes that weren't sent yet.
     fn rest(&self) -> &[u8] {
         self.bytes.get(self.sent..).unwrap_or(&[])
@@ -85,13 +100,15 @@ impl Waiting {
                 break;
             }
             match link.send(self.rest())? {
-                Moved::Bytes(n) => self.sent = self.sent.saturating_add(n),
+                Moved::Bytes(n) => {
+                    self.sent = self.sent.saturating_add(n);
+                    self.moved = true;
+                }
                 Moved::Later if self.sent > before => return Ok(Sent::Part),
                 Moved::Later => return Ok(Sent::Nothing),
             }
         }
-        self.bytes.clear();
-        self.sent = 0;
+        self.clear();
         Ok(Sent::All)
     }
 }
@@ -99,10 +116,13 @@ impl Waiting {
 /// A connection to the server.
 #[derive(Drop)]
 pub struct Channel {
+    alloc: Global,
     link: TcpLink<TcpStream>,
     waiting: Waiting,
     inlet: Inlet,
     reader: FrameReader,
+    /// Whether anything ever came.
+    received: bool,
 }
 
 impl Channel {
@@ -113,14 +133,42 @@ impl Channel {
     /// Returns `AllocError` if memory runs out.
     pub fn new(alloc: Global, stream: TcpStream) -> Result<Channel, AllocError> {
         Ok(Channel {
+            alloc,
             link: TcpLink::new(stream),
             waiting: Waiting {
+                alloc,
                 bytes: Vec::new(alloc),
                 sent: 0,
+                moved: false,
             },
             inlet: Inlet::new(alloc)?,
             reader: FrameReader::new(alloc, MAX_MESSAGE_LEN),
+            received: false,
         })
+    }
+
+    /// Returns true if the connection failed before it stood: no byte was sent, nothing came, and the
+    /// server didn't reset it.
+    fn never_stood(&self, fault: LinkFault) -> bool {
+        !self.waiting.moved && !self.received && fault.kind != ErrorKind::ConnectionReset
+    }
+
+    /// Returns why nothing more goes over the connection, on which sending failed.
+    pub fn unsent(&self, fault: LinkFault) -> Broken {
+        if self.never_stood(fault) {
+            Broken::Unconnected(fault)
+        } else {
+            Broken::Sending(fault)
+        }
+    }
+
+    /// Returns why nothing more goes over the connection, on which receiving failed.
+    fn unreceived(&self, fault: LinkFault) -> Broken {
+        if self.never_stood(fault) {
+            Broken::Unconnected(fault)
+        } else {
+            Broken::Receiving(fault)
+        }
     }
 
     /// Takes bytes that are to be sent.
@@ -149,9 +197,15 @@ impl Channel {
         }
     }
 
-    /// Lets go of the message that is whole.
+    /// Lets go of the message that is whole, and of the memory of a long one.
     pub fn release(&mut self) {
-        self.reader.release();
+        let len = self.message().map_or(0, |frame| frame.as_bytes().len());
+        if len > KEPT {
+            // It has the bytes of that message alone.
+            self.reader = FrameReader::new(self.alloc, MAX_MESSAGE_LEN);
+        } else {
+            self.reader.release();
+        }
     }
 
     /// Receives until a message is whole.
@@ -168,12 +222,13 @@ impl Channel {
             }
             match self.inlet.pull(&mut self.link) {
                 Ok(Pulled::Bytes) => {
+                    self.received = true;
                     let n = self.reader.feed(self.inlet.bytes())?;
                     self.inlet.used(n);
                 }
                 Ok(Pulled::Later) => break,
                 Ok(Pulled::End) => return Ok(Coming::Over(Broken::Ended)),
-                Err(fault) => return Ok(Coming::Over(Broken::Receiving(fault))),
+                Err(fault) => return Ok(Coming::Over(self.unreceived(fault))),
             }
         }
         Ok(Coming::Later)

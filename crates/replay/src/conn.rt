@@ -147,7 +147,11 @@ impl Conn {
         teller: &mut Teller<'_, W>,
     ) -> io::Result<()> {
         let _ = self.take_messages(HELD, teller)?;
-        self.close(Broken::Sending(fault), teller)
+        let broken = match &self.line {
+            Line::Open(channel) => channel.unsent(fault),
+            _ => Broken::Sending(fault),
+        };
+        self.close(broken, teller)
     }
 
     /// Sends what waits to be sent. The server has to take more of the rest within `patience`, which
@@ -338,7 +342,7 @@ impl Conn {
         }
     }
 
-    /// Closes the connection if the server took too little of what is to be sent up to this moment.
+    /// Closes the connection if the server took nothing of what is to be sent for too long.
     /// Otherwise tells the answers that are missing by then, and gives them up.
     ///
     /// # Errors

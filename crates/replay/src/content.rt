@@ -35,13 +35,12 @@ const REPLIES: usize = 36;
 fn remove_checksum(bytes: &mut Vec<u8>) {
     let len = bytes.len().saturating_sub(CHECKSUM);
     bytes.truncate(len);
-    let length = len.to_le_bytes();
-    for (i, byte) in bytes.iter_mut().enumerate() {
-        if i < 4 {
-            *byte = length[i];
-        } else if i == FLAGS {
-            *byte &= !CHECKSUM_PRESENT;
-        }
+    let [a, b, c, d, ..] = len.to_le_bytes();
+    if let Some(length) = bytes.first_chunk_mut::<4>() {
+        *length = [a, b, c, d];
+    }
+    if let Some(flags) = bytes.get_mut(FLAGS) {
+        *flags &= !CHECKSUM_PRESENT;
     }
 }
 

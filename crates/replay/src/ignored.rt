@@ -151,8 +151,8 @@ pub fn are_same(
     }
 }
 
-/// Returns the bytes of a document without the fields of these names, or `None` if nothing is left
-/// out.
+/// Returns the bytes of a document without the fields of these names; or `None` if there are no
+/// names, or if the document has a name twice or can't be written back.
 ///
 /// # Errors
 ///

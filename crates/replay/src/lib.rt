@@ -6,8 +6,8 @@
 //! on each connection the answer to the same request, and of several the one at the same index. All
 //! connections are served in one thread.
 //!
-//! Uses wire_record, wire_stream and bson_json. Used by bsonwire. Read first: `options`, `ignored`,
-//! `answers`, and then `conn` and `player`.
+//! Uses wire_record, wire_stream, bson_doc, bson_json and sockets. Used by bsonwire. Read first:
+//! `options`, `ignored`, `answers`, and then `conn` and `player`.
 #![tactic(auto)]
 
 mod answers;

@@ -55,15 +55,12 @@ pub fn earlier(a: Option<Instant>, b: Option<Instant>) -> Option<Instant> {
 
 /// Returns the later one of two moments up to which is waited. Where there is none, there is no end.
 pub fn later(a: Option<Instant>, b: Option<Instant>) -> Option<Instant> {
-    match (a, b) {
-        (Some(a), Some(b)) => Some(a.max(b)),
-        _ => None,
-    }
+    Some(a?.max(b?))
 }
 
 /// Returns true if there is a moment, and it isn't later than `now`.
 pub fn is_past(due: Option<Instant>, now: Instant) -> bool {
-    matches!(due, Some(due) if due <= now)
+    due.is_some_and(|due| due <= now)
 }
 
 /// Returns how many microseconds lie between two times, or 0 if the second one is the earlier.
