@@ -10,7 +10,7 @@ from typing import Any, NoReturn, Optional, Self
 
 from . import _library as lib
 from ._numbers import shown
-from .errors import CallRefused, Closed, DocumentError, MessageError
+from .errors import CallRefused, Closed
 
 # How many bytes `output` gives at most, if it isn't told another number.
 PIECE = 1 << 16
@@ -24,16 +24,7 @@ def refuse(refusal: int) -> None:
         raise CallRefused(refusal)
 
 
-def fault_of(told: Any) -> Optional[MessageError]:
-    """Returns the fault of a message that a function of the library tells, if it does."""
-    fault, inside = told.fault, told.document_fault
-    if not fault.number:
-        return None
-    document = DocumentError(inside.number, inside.offset) if inside.number else None
-    return MessageError(fault.number, fault.offset, document=document)
-
-
-def room_of(length: int) -> tuple[bytearray, Any, Any]:
+def own_room(length: int) -> tuple[bytearray, Any, Any]:
     """Returns a room of so many bytes, its address and its length as arguments."""
     room = bytearray(max(1, length))
     return room, ctypes.byref(ctypes.c_char.from_buffer(room)), ctypes.c_size_t(length)
@@ -112,7 +103,7 @@ class End(Held):
 
     def output(self, most: int = PIECE) -> bytes:
         """Returns the first bytes that wait to be sent, at most so many. They wait until `sent` says that they were."""
-        room, address, length = room_of(max(0, min(most, self.waiting)))
+        room, address, length = own_room(max(0, min(most, self.waiting)))
         told = self._tell("output", address, length)
         refuse(told.refusal)
         return bytes(memoryview(room)[: told.copied])

@@ -63,12 +63,14 @@ def documents(data: lib.Buffer) -> Iterator[Document]:
 
 def documents_in(data: Any, pointer: Any, size: Any, offset: int, length: int) -> Iterator[Document]:
     """Walks over the documents that stand back to back in a part of the bytes."""
-    left, found = lib.View(offset, length), lib.View()
+    left, found, whole = lib.View(offset, length), lib.View(), 0
     left_argument, found_argument = lib.address_of(left), lib.address_of(found)
     while left.length:
         lib.short.next_document(pointer, size, left_argument, found_argument)
         if not found.length:
-            raise _fault_at(data[left.offset : left.offset + left.length], left.offset)
+            fault = _fault_at(data[left.offset : left.offset + left.length], left.offset)
+            raise DocumentError(fault.number, fault.offset, whole, left.offset - offset)
+        whole += 1
         yield document_at(data, pointer, size, found)
 
 

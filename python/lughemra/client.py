@@ -8,10 +8,10 @@ from collections.abc import Callable, Iterator
 from typing import Any, NamedTuple, Optional
 
 from . import _library as lib
-from ._held import End, fault_of, refuse, room_of
+from ._held import End, own_room, refuse
 from ._numbers import require
-from .errors import ClientClosed
-from .message import Message, raise_fault
+from .errors import ClientClosed, fault_of, raise_fault
+from .message import Message
 from .writer import AnyDocument, Sequences, document_bytes, sequence_bytes
 
 
@@ -119,7 +119,7 @@ class Client(End):
         told = lib.short.client_reply(self._core, b"", lib.size(0))
         if told.refusal != lib.NO_ROOM:
             refuse(told.refusal)
-        room, address, length = room_of(told.length)
+        room, address, length = own_room(told.length)
         told = lib.short.client_reply(self._core, address, length)
         refuse(told.refusal)
         reply = Reply(told.call, told.last, Message(bytes(room), lib.MAX_LIMIT))

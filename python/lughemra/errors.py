@@ -2,7 +2,7 @@
 
 from __future__ import annotations
 
-from typing import Optional
+from typing import Any, Optional
 
 DOCUMENT_FAULTS = {
     1: "Truncated",
@@ -117,6 +117,25 @@ class MessageError(Fault):
 
     def __str__(self) -> str:
         return f"{super().__str__()}: {self.document}" if self.document else super().__str__()
+
+
+def _message_fault(told: Any, whole: int = 0, bytes_read: int = 0) -> MessageError:
+    """Returns the fault of a message that a function of the library tells."""
+    fault, inside = told.fault, told.document_fault
+    document = DocumentError(inside.number, inside.offset) if inside.number else None
+    return MessageError(fault.number, fault.offset, whole, bytes_read, document)
+
+
+def fault_of(told: Any) -> Optional[MessageError]:
+    """Returns the fault of a message that a function of the library tells, if it does."""
+    return _message_fault(told) if told.fault.number else None
+
+
+def raise_fault(told: Any, whole: int = 0, bytes_read: int = 0) -> None:
+    """Raises the fault of a message that a function of the library tells, if it does."""
+    if told.fault.number:
+        # No name has it here: that would hold the frame, which the fault holds, until the collector comes.
+        raise _message_fault(told, whole, bytes_read)
 
 
 class CallRefused(RuntimeError):

@@ -12,7 +12,7 @@ from . import _library as lib
 from ._numbers import require
 from .checks import document_at, documents_in
 from .document import Document
-from .errors import DocumentError, MessageError
+from .errors import DocumentError, MessageError, raise_fault
 
 MAX_LIMIT = lib.MAX_LIMIT
 NO_BODY = 8
@@ -45,14 +45,6 @@ class DocumentSequence(NamedTuple):
 def _limit(limit: int) -> Any:
     """Returns a limit on a message's length as an argument."""
     return lib.limit_of(require("limit", limit, 0, MAX_LIMIT))
-
-
-def raise_fault(told: Any, whole: int = 0, bytes_read: int = 0) -> None:
-    """Raises the fault of a message that a function of the library tells, if it does."""
-    fault, inside = told.fault, told.document_fault
-    if fault.number:
-        document = DocumentError(inside.number, inside.offset) if inside.number else None
-        raise MessageError(fault.number, fault.offset, whole, bytes_read, document)
 
 
 def check_message(data: lib.Buffer, limit: int = MAX_LIMIT) -> None:

@@ -7,10 +7,10 @@ from collections.abc import Iterable
 from typing import Any, NamedTuple, Optional
 
 from . import _library as lib
-from ._held import End, fault_of, refuse, room_of
+from ._held import End, own_room, refuse
 from ._numbers import require, shown
-from .errors import ServerClosed
-from .message import Message, raise_fault
+from .errors import ServerClosed, fault_of, raise_fault
+from .message import Message
 from .writer import AnyDocument, documents_bytes
 
 # The most requests that may wait.
@@ -49,7 +49,8 @@ class Server(End):
         What comes while as many wait as the window allows is kept, however much it is, until one is answered. Raises ServerClosed
         where what came closes the server, and each time from then on. Where it raises MemoryError with the text "the piece isn't
         kept", nothing changed, and the piece may be fed again. Behind any other MemoryError the piece is kept: it isn't fed
-        again, and `feed(b"")` goes on. Raises ValueError behind `end`, and CallRefused behind `close`.
+        again, and `feed(b"")` goes on. Behind `end` it raises ValueError while
+        requests wait, and ServerClosed once none does; behind `close` CallRefused.
         """
         self._raise_if_closed()
         if self._ended:
@@ -89,7 +90,7 @@ class Server(End):
             raise IndexError(f"no request {k} waits")
         if told.refusal != lib.NO_ROOM:
             refuse(told.refusal)
-        room, address, length = room_of(told.length)
+        room, address, length = own_room(told.length)
         told = lib.short.server_request(self._core, self._index(k), address, length)
         refuse(told.refusal)
         return Request(Message(bytes(room)), told.takes_more)

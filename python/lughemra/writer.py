@@ -14,7 +14,7 @@ from . import _library as lib
 from ._numbers import require, shown
 from .checks import check
 from .document import Array, Document
-from .errors import DocumentError, EncodeError, MessageError
+from .errors import EncodeError, raise_fault
 from .leaves import EPOCH
 from .message import MAX_LIMIT, Flags
 from .values import (
@@ -322,12 +322,9 @@ def encode_message(
         ctypes.byref(ctypes.c_char.from_buffer(room)),
         lib.size(len(room)),
     )
-    fault, inside = told.fault, told.document_fault
-    if fault.number == lib.NO_MEMORY:
+    if told.fault.number == lib.NO_MEMORY:
         raise MemoryError
-    if fault.number == lib.TOO_LARGE:
+    if told.fault.number == lib.TOO_LARGE:
         raise EncodeError(lib.TOO_LARGE, f"the message has more than {limit} bytes")
-    if fault.number:
-        document = DocumentError(inside.number, inside.offset) if inside.number else None
-        raise MessageError(fault.number, fault.offset, document=document)
+    raise_fault(told)
     return bytes(room)

@@ -158,11 +158,11 @@ def test_the_end_without_memory_may_be_told_again(monkeypatch):
     client = Client()
     client.feed(reply_to(client.call({}).request_id, {"a": 1}))
 
-    def room_of(size):
+    def own_room(size):
         raise MemoryError
 
     with monkeypatch.context() as patch:
-        patch.setattr(lughemra.client, "room_of", room_of)
+        patch.setattr(lughemra.client, "own_room", own_room)
         with pytest.raises(MemoryError):
             client.end()
     client.end()
@@ -240,11 +240,11 @@ def test_a_reply_without_memory_is_given_again(monkeypatch):
     client = Client()
     client.feed(reply_to(client.call({}).request_id, {"a": 1}))
 
-    def room_of(size):
+    def own_room(size):
         raise MemoryError
 
     with monkeypatch.context() as patch:
-        patch.setattr(lughemra.client, "room_of", room_of)
+        patch.setattr(lughemra.client, "own_room", own_room)
         with pytest.raises(MemoryError):
             next(client)
     assert bodies(client) == [(0, True, {"a": 1})]

@@ -155,7 +155,10 @@ def test_documents_back_to_back_tell_how_many_are_whole():
     for rest, wanted in [(b"\5", (1, 0)), (b"\6\0\0\0\0", (1, 0)), (b"\4\0\0\0", (2, 0)), (b"\5\0\0\0\1", (3, 0))]:
         walk = lughemra.documents(good + rest)
         assert next(walk).raw == good
-        assert fault_in(next, walk) == (wanted[0], len(good) + wanted[1])
+        with pytest.raises(DocumentError) as caught:
+            next(walk)
+        fault = caught.value
+        assert (fault.number, fault.offset, fault.whole, fault.bytes_read) == (wanted[0], len(good) + wanted[1], 1, len(good))
 
 
 @pytest.mark.parametrize("data", [b"\6\0\0\0\0", b"\5\0\0\0\1"])
