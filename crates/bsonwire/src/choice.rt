@@ -14,7 +14,7 @@ ghost use Rattle.bsonwire.specs.Choices.{lacks_record, salvages_text, shown_by, 
 ghost use Rattle.bsonwire.specs.Choices.{words_fault};
 
 use crate::command_line::{
-    bytes_wanted, json_wanted, program, record_wanted, text_alone_wanted, text_wanted,
+    any_beside_json, json_wanted, program, record_wanted, salvage_beside_hex, text_beside_json,
 };
 use clap::{ArgMatches, Error};
 use command_words::{count_of, is_given, number_of, text_of};
@@ -365,10 +365,9 @@ fn is_record_wanted(matches: &ArgMatches<'_>) -> bool
 
 /// Returns true if the subcommand is `canon`.
 fn is_canon(matches: &ArgMatches<'_>) -> bool {
-    match matches.subcommand() {
-        Some((name, _)) => name == "canon",
-        None => false,
-    }
+    matches
+        .subcommand()
+        .is_some_and(|(name, _)| name == "canon")
 }
 
 /// Returns the choice that the matches of a parse name, the error of the parse, that of a
@@ -390,13 +389,13 @@ fn chosen<'a>(alloc: Global, parse: Result<ArgMatches<'a>, Error>) -> Result<Cho
         return Err(json_wanted(alloc)?);
     }
     if is_text_salvaged(&matches) {
-        return Err(bytes_wanted(alloc, is_canon(&matches))?);
+        return Err(salvage_beside_hex(alloc, is_canon(&matches))?);
     }
     if is_any_as_json(&matches) {
-        return Err(text_wanted(alloc)?);
+        return Err(any_beside_json(alloc)?);
     }
     if is_shown_twice(&matches) {
-        return Err(text_alone_wanted(alloc)?);
+        return Err(text_beside_json(alloc)?);
     }
     if is_record_wanted(&matches) {
         return Err(record_wanted(alloc)?);

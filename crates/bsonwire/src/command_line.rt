@@ -162,7 +162,7 @@ pub fn json_wanted(alloc: Global) -> Result<Error, AllocError>
 
 /// Makes the error of a `--salvage` beside `--hex` of `check`, or of `canon`, in the form of `clap`'s
 /// own.
-pub fn bytes_wanted(alloc: Global, is_canon: bool) -> Result<Error, AllocError>
+pub fn salvage_beside_hex(alloc: Global, is_canon: bool) -> Result<Error, AllocError>
     ensures { IfOk result (λ e. kind_of e ≡ ErrorKind.ArgumentConflict) }
 {
     let conflict = "the argument '--salvage' cannot be used with '--hex'";
@@ -175,7 +175,7 @@ pub fn bytes_wanted(alloc: Global, is_canon: bool) -> Result<Error, AllocError>
 }
 
 /// Makes the error of an `--any` beside `--json`, in the form of `clap`'s own.
-pub fn text_wanted(alloc: Global) -> Result<Error, AllocError>
+pub fn any_beside_json(alloc: Global) -> Result<Error, AllocError>
     ensures { IfOk result (λ e. kind_of e ≡ ErrorKind.ArgumentConflict) }
 {
     let apart = "the argument '--any' cannot be used with '--json'";
@@ -274,7 +274,7 @@ fn passing_command<'a>(alloc: Global) -> Result<Command<'a>, AllocError>
 }
 
 /// Makes the error of a `--text` beside `--json`, in the form of `clap`'s own.
-pub fn text_alone_wanted(alloc: Global) -> Result<Error, AllocError>
+pub fn text_beside_json(alloc: Global) -> Result<Error, AllocError>
     ensures { IfOk result (λ e. kind_of e ≡ ErrorKind.ArgumentConflict) }
 {
     let twice = "the argument '--text' cannot be used with '--json'";

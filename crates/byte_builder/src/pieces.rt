@@ -162,7 +162,7 @@ impl<'a> Pieces<'a> {
 }
 
 impl Pieces<'_> {
-    /// Returns the number of the bytes, or `None` if they are more than a document has.
+    /// Returns the number of the bytes, or `None` if one of the two parts has more than a document may.
     pub(crate) fn len(&self) -> Option<usize>
         ensures { MatchOption result (2 ^ 31 ≤ length (pieces_bytes self.now))
             (λ n. (n ≡ length (pieces_bytes self.now)) × (n < 2 ^ 33)) }

@@ -14,8 +14,8 @@ use crate::pieces::Pieces;
 use crate::refusal::BuildRefusal;
 use bson_elem::MAX_LEN;
 
-/// Returns the number of bytes of a document sequence, or `None` if they are more than a document
-/// has.
+/// Returns the number of bytes of a document sequence, or `None` if its identifier, or its documents
+/// together, have more than a document may.
 fn section_len(identifier: &[u8], documents: &[u8]) -> Option<usize>
     ensures { MatchOption result (2 ^ 31 ≤ length (section_of identifier.now documents.now))
         (λ n. (n ≡ length (section_of identifier.now documents.now)) × (n < 2 ^ 32 + 6)) }

@@ -132,9 +132,7 @@ impl<I: BufRead + Drop> Connections<I> {
             self.acceptor.take_back(stream, IoFailure::of(&error));
             return Ok(());
         }
-        let Ok(stream) = self.turns.drained(stream) else {
-            return Err(Stop::OutOfMemory);
-        };
+        let stream = self.turns.drained(stream)?;
         self.serving.open(Valve::new(TcpLink::new(stream)), out)
     }
 
@@ -256,10 +254,7 @@ impl<I: BufRead + Drop> Connections<I> {
         if self.again.contains(&key) {
             return Ok(());
         }
-        match self.again.push_back(key) {
-            Ok(()) => Ok(()),
-            Err(_) => Err(Stop::OutOfMemory),
-        }
+        self.again.push_back(key).map_err(|_| Stop::OutOfMemory)
     }
 
     /// Has each connection that isn't done take another turn.
@@ -277,7 +272,7 @@ impl<I: BufRead + Drop> Connections<I> {
         Ok(())
     }
 
-    /// Has a connection receive and answer a request, and send nothing yet. Returns why the server
+    /// Has a connection receive and answer a request, before it sends the reply. Returns why the server
     /// stops, if it does.
     fn answer_one<W: Output>(&mut self, key: usize, out: &mut W) -> Result<(), Stop>
         ensures { OnOk result (GoesOnServing self.old.serving self.new.serving
@@ -287,8 +282,8 @@ impl<I: BufRead + Drop> Connections<I> {
         self.after_turn(key, if_over(turned))
     }
 
-    /// Has each connection of which these events are receive and answer a request, and send nothing
-    /// yet.
+    /// Has each connection of which these events are receive and answer a request, before it sends the
+    /// reply.
     fn answer_each<W: Output>(&mut self, events: &Events<Global>, out: &mut W) -> Result<(), Stop>
         ensures { OnOk result (GoesOnServing self.old.serving self.new.serving
             (W.contents out.old) (W.contents out.new)) }
@@ -329,7 +324,7 @@ impl<I: BufRead + Drop> Connections<I> {
     }
 
     /// Has each connection of which these events are take a turn. Without rules all of them answer
-    /// before any sends, so that replies go one right after another: a client of many connections
+    /// before any sends its reply, so that replies go one right after another: a client of many connections
     /// is then woken for the first, and not for each.
     fn take_turns<W: Output>(
         &mut self,

@@ -27,7 +27,7 @@ use wire_stream::Link;
 pub const STEPS: u32 = 32;
 
 /// The steps in which a connection receives, takes a header and what stands behind it, and answers
-/// a request, and sends nothing.
+/// a request. It sends nothing in them, unless output or a part of the request was there before.
 pub const ANSWER_STEPS: u32 = 4;
 
 /// Writes the entries that were made, in order, and forgets them.
@@ -182,10 +182,7 @@ impl<L: Gated + Drop, H: Handler + Drop> Serving<L, H> {
         };
         self.hall.close(key);
         self.ended = self.ended.saturating_add(1);
-        match write_end(number, leave, out) {
-            Ok(()) => Ok(()),
-            Err(error) => Err(Stop::Output(error)),
-        }
+        write_end(number, leave, out).map_err(Stop::Output)
     }
 
     /// Says what becomes of the reply that the connection of this key put out in its turn, if it put
