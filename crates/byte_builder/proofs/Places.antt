@@ -61,6 +61,15 @@ and_then room part next one two at behind le is-one is-behind is-two =
     ∙ placed_seam (p.front ++ part) y next p.behind (sym y-is) in
     two-is ∙ append_assoc p.front part (next ++ p.behind) ∙ ap (λ (m : List ℕ). p.front ++ m) (sym (append_assoc part next p.behind)) ∙ sym (placed_in room (part ++ next) at p)
 
+-- three parts
+pub three_parts : (room a b c r1 r2 r3 : List ℕ) (at m n : ℕ) → at + length (a ++ (b ++ c)) ≤ length room → r1 ≡ placed at a room → m ≡ at + length a → r2 ≡ placed m b r1 → n ≡ m + length b → r3 ≡ placed n c r2
+    → r3 ≡ placed at (a ++ (b ++ c)) room
+three_parts room a b c r1 r2 r3 at m n le s1 m-is s2 n-is s3 =
+    let l1 = length-append a (b ++ c) in let l2 = length-append b c in let ab = length-append a b in
+    let t2 = and_then room a b r1 r2 at m (omega (arith, le, l1, l2)) s1 m-is s2 in
+    let t3 = and_then room (a ++ b) c r2 r3 at n (omega (arith, le, l1, l2, ab)) t2 (omega (arith, m-is, n-is, ab)) s3 in
+    t3 ∙ ap (λ (x : List ℕ). placed at x room) (append_assoc a b c)
+
 -- four parts
 pub four_parts : (room a b c d r1 r2 r3 r4 : List ℕ) (at m n o : ℕ) → at + length (a ++ (b ++ (c ++ d))) ≤ length room
     → r1 ≡ placed at a room → m ≡ at + length a → r2 ≡ placed m b r1 → n ≡ m + length b → r3 ≡ placed n c r2 → o ≡ n + length c → r4 ≡ placed o d r3

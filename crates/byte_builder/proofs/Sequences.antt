@@ -18,12 +18,11 @@ length_section identifier documents =
     omega (arith, length-append (little size) (cstring identifier ++ documents), length-append (cstring identifier) documents, length-append identifier (0 ∷ []))
 
 -- the parts of a section, one behind the other
-pub pieces_are : (head identifier documents : List ℕ) (size : ℕ) → head ≡ (1 ∷ []) ++ (little size ++ []) → size ≡ length identifier + length documents + 5
-    → head ++ (identifier ++ ((0 ∷ []) ++ (documents ++ []))) ≡ section_of identifier documents
-pieces_are head identifier documents size is size-is =
+pub section_parts : (four identifier documents : List ℕ) (size : ℕ) → four ≡ little size → size ≡ length identifier + length documents + 5
+    → (1 ∷ []) ++ (four ++ (identifier ++ ((0 ∷ []) ++ documents))) ≡ section_of identifier documents
+section_parts four identifier documents size is size-is =
     let n : size ≡ 4 + length (cstring identifier) + length documents = omega (arith, size-is, length-append identifier (0 ∷ [])) in
-    ap (λ (x : List ℕ). x ++ (identifier ++ (0 ∷ (documents ++ [])))) (is ∙ ap (λ (x : List ℕ). 1 ∷ x) (append-nil (little size)))
-    ∙ ap (λ (x : List ℕ). (1 ∷ little size) ++ (identifier ++ (0 ∷ x))) (append-nil documents)
+    ap (λ (x : List ℕ). 1 ∷ (x ++ (identifier ++ (0 ∷ documents)))) is
     ∙ ap (λ (x : List ℕ). (1 ∷ little size) ++ x) (sym (append_assoc identifier (0 ∷ []) documents))
     ∙ ap (λ (k : ℕ). 1 ∷ (little k ++ (cstring identifier ++ documents))) n
 

@@ -1,8 +1,10 @@
 pub mod Refusals
 pub mod Numbers
-pub mod Pieces
+pub mod Values
 pub mod Placing
+pub mod Plain
 pub mod Builders
 pub mod Appends
+pub mod Filling
 pub mod Nesting
 pub mod Sequences

@@ -1,19 +1,20 @@
 //! A document or an array that is built, pair by pair, in the room of a caller.
 
-ghost use Rattle.std.specs.Prelude.{◌≡◌, true, false};
+ghost use Rattle.std.specs.Prelude.{◌≡◌, ◌≤◌, ◌^◌, List, ℕ, true, false, length, min};
 ghost use Rattle.std.specs.Fmt.{decimal};
 ghost use Rattle.bson_elem.specs.{Tree};
 ghost use Rattle.bson_elem.specs.Kinds.{kind_of};
 ghost use Rattle.bson_elem.specs.Spelling.{IsName};
 ghost use Rattle.byte_builder.specs.Appends.{AppendsLeaf, IsAppended, IsPushed, IsPushedNamed};
 ghost use Rattle.byte_builder.specs.Builders.{Builds, IsInRange, in_array, pair_bytes};
-ghost use Rattle.byte_builder.specs.Pieces.{pieces_bytes};
+ghost use Rattle.byte_builder.specs.Filling.{HasPlace, IsLeafPushed, filled};
+ghost use Rattle.byte_builder.specs.Values.{value_bytes};
 
 use crate::built::Built;
 use crate::given::{ValueNumbers, is_name};
-use crate::pieces::{Pieces, leaf_pieces};
 use crate::place::put;
 use crate::refusal::BuildRefusal;
+use crate::value::{Value, leaf_value};
 use bson_elem::{Kind, MAX_DEPTH, MAX_LEN};
 use itoa::Buffer;
 
@@ -43,6 +44,7 @@ fn index_name(digits: &mut Buffer, index: usize) -> &[u8]
 
 impl Builder {
     /// Returns true if the numbers are in range.
+    #[inline(always)]
     pub(crate) fn is_in_range(&self) -> bool
         ensures yes { result ≡ true → IsInRange self.now }
         ensures no { result ≡ false → IsInRange self.now → ⊥ }
@@ -60,26 +62,20 @@ impl Builder {
         self.kind == 4
     }
 
-    /// Appends a pair of this kind and name, whose value has these bytes.
-    pub(crate) fn push(
-        &mut self,
-        room: &mut [u8],
-        kind: Kind,
-        name: &[u8],
-        pieces: &Pieces<'_>,
-    ) -> Built
-        requires { IsInRange self.old }
-        ensures { IsPushed room.old self.old (pair_bytes kind name.now (pieces_bytes pieces.now))
-            room.new self.new result }
+    /// Appends the kind and the name of a pair, and the place of its value, which has `len` bytes.
+    #[inline(always)]
+    fn push_head(&mut self, room: &mut [u8], kind: Kind, name: &[u8], len: usize) -> Built
+        requires in_range { IsInRange self.old }
+        requires few { len ≤ 2 ^ 31 }
+        ensures pushed { (value : List ℕ) → len ≡ min (length value) (2 ^ 31)
+            → IsPushed room.old self.old (pair_bytes kind name.now value)
+            (filled result self.new value room.new) self.new result }
+        ensures has_place { HasPlace result self.new len room.new }
     {
         if name.len() > MAX_LEN {
             return Built::refused(BuildRefusal::TooLarge);
         }
-        let value = match pieces.len() {
-            Some(value) => value,
-            None => return Built::refused(BuildRefusal::TooLarge),
-        };
-        let size = name.len() + 2 + value;
+        let size = name.len() + 2 + len;
         let wanted = self.end + size + self.depth as usize;
         if wanted > MAX_LEN {
             return Built::refused(BuildRefusal::TooLarge);
@@ -89,38 +85,122 @@ impl Builder {
         }
         let at = put(room, self.end, &[kind.byte()]);
         let at = put(room, at, name);
-        let at = put(room, at, &[0]);
-        pieces.put(room, at);
+        put(room, at, &[0]);
         self.end += size;
         self.count += 1;
         Built::done(wanted)
     }
 
-    /// Appends a pair like `push`, whose name is the next index in an array, and else `name`.
+    /// Appends like `push_head`, under the next index of the array that is built.
+    // Not inlined, so that a pair of a document doesn't pay for the room of the digits.
+    #[inline(never)]
+    fn push_item_head(&mut self, room: &mut [u8], kind: Kind, len: usize) -> Built
+        requires in_range { IsInRange self.old }
+        requires few { len ≤ 2 ^ 31 }
+        ensures name { IsName (decimal self.old.count) }
+        ensures pushed { (value : List ℕ) → len ≡ min (length value) (2 ^ 31)
+            → IsPushed room.old self.old (pair_bytes kind (decimal self.old.count) value)
+            (filled result self.new value room.new) self.new result }
+        ensures has_place { HasPlace result self.new len room.new }
+    {
+        let mut digits = Buffer::new();
+        let index = index_name(&mut digits, self.count);
+        self.push_head(room, kind, index, len)
+    }
+
+    /// Appends like `push_head`, in an array under the next index, and else under `name`.
+    // Not inlined, since it has a caller for each form of a value.
+    #[inline(never)]
+    fn push_named_head(&mut self, room: &mut [u8], kind: Kind, name: &[u8], len: usize) -> Built
+        requires in_range { IsInRange self.old }
+        requires few { len ≤ 2 ^ 31 }
+        ensures pushed { (value : List ℕ) → len ≡ min (length value) (2 ^ 31)
+            → IsPushedNamed room.old self.old kind name.now value
+            (filled result self.new value room.new) self.new result }
+        ensures has_place { HasPlace result self.new len room.new }
+    {
+        if self.is_array() {
+            return self.push_item_head(room, kind, len);
+        }
+        if !is_name(name) {
+            return Built::refused(BuildRefusal::Name);
+        }
+        self.push_head(room, kind, name, len)
+    }
+
+    /// Appends a pair of this kind and value, in an array under the next index, and else under
+    /// `name`.
+    #[inline(always)]
     pub(crate) fn push_named(
         &mut self,
         room: &mut [u8],
         kind: Kind,
         name: &[u8],
-        pieces: &Pieces<'_>,
+        value: &Value<'_>,
     ) -> Built
         requires { IsInRange self.old }
-        ensures { IsPushedNamed room.old self.old kind name.now (pieces_bytes pieces.now)
+        ensures { IsPushedNamed room.old self.old kind name.now (value_bytes value.now)
             room.new self.new result }
     {
-        if self.is_array() {
-            let mut digits = Buffer::new();
-            let index = index_name(&mut digits, self.count);
-            return self.push(room, kind, index, pieces);
+        let len = value.len();
+        let built = self.push_named_head(room, kind, name, len);
+        if built.refusal == 0 {
+            value.put(room, self.end - len);
         }
-        if !is_name(name) {
-            return Built::refused(BuildRefusal::Name);
+        built
+    }
+
+    /// Appends a pair of the value of this kind that is given, if it is one.
+    #[inline(always)]
+    fn push_leaf(
+        &mut self,
+        room: &mut [u8],
+        kind: Kind,
+        name: &[u8],
+        numbers: &ValueNumbers,
+        text: &[u8],
+        rest: &[u8],
+    ) -> Built
+        requires { IsInRange self.old }
+        ensures { IsLeafPushed room.old self.old kind name.now numbers.now text.now rest.now
+            room.new self.new result }
+    {
+        match leaf_value(kind, *numbers, text, rest) {
+            Some(value) => self.push_named(room, kind, name, &value),
+            None => Built::refused(BuildRefusal::Value),
         }
-        self.push(room, kind, name, pieces)
+    }
+
+    /// Appends a pair like `push_leaf`.
+    // The kinds that are frequent have a copy of `push_leaf` each, in which the kind is known:
+    // there the value stays in registers, and a number is written by one store.
+    #[inline(always)]
+    fn push_kind(
+        &mut self,
+        room: &mut [u8],
+        kind: Kind,
+        name: &[u8],
+        numbers: &ValueNumbers,
+        text: &[u8],
+        rest: &[u8],
+    ) -> Built
+        requires { IsInRange self.old }
+        ensures { IsLeafPushed room.old self.old kind name.now numbers.now text.now rest.now
+            room.new self.new result }
+    {
+        match kind {
+            Kind::Int32 => self.push_leaf(room, kind, name, numbers, text, rest),
+            Kind::Double | Kind::Int64 | Kind::DateTime => {
+                self.push_leaf(room, kind, name, numbers, text, rest)
+            }
+            Kind::String => self.push_leaf(room, kind, name, numbers, text, rest),
+            _ => self.push_leaf(room, kind, name, numbers, text, rest),
+        }
     }
 }
 
 /// Returns the kind with this type byte.
+#[inline(always)]
 fn kind_from(number: u32) -> Option<Kind>
     ensures { result ≡ kind_of number }
 {
@@ -149,10 +229,7 @@ fn append_pair(
         Some(kind) => kind,
         None => return Built::refused(BuildRefusal::Kind),
     };
-    match leaf_pieces(kind, *numbers, text, rest) {
-        Some(pieces) => builder.push_named(room, kind, name, &pieces),
-        None => Built::refused(BuildRefusal::Value),
-    }
+    builder.push_kind(room, kind, name, numbers, text, rest)
 }
 
 /// Appends a pair of this `name` to what `builder` builds in `room`. Its value is of the kind that

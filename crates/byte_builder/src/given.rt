@@ -3,6 +3,7 @@
 ghost use Rattle.std.specs.Prelude.{◌≡◌, IsUtf8, false, true};
 ghost use Rattle.bson_elem.specs.Spelling.{HasNoZero, IsName, IsText};
 
+use crate::plain::is_plain;
 use bson_elem::MAX_LEN;
 
 /// The numbers of a value.
@@ -20,6 +21,8 @@ pub struct ValueNumbers {
 }
 
 /// Returns true if `bytes` are UTF-8.
+// Not inlined, since most texts are plain and don't come here.
+#[inline(never)]
 fn is_utf8(bytes: &[u8]) -> bool
     ensures yes { result ≡ true → IsUtf8 bytes.now }
     ensures no { result ≡ false → IsUtf8 bytes.now → ⊥ }
@@ -31,6 +34,7 @@ fn is_utf8(bytes: &[u8]) -> bool
 }
 
 /// Returns true if `bytes` are the text of a string: UTF-8, of fewer than 2,147,483,647 bytes.
+#[inline(always)]
 pub(crate) fn is_text(bytes: &[u8]) -> bool
     ensures yes { result ≡ true → IsText bytes.now }
     ensures no { result ≡ false → IsText bytes.now → ⊥ }
@@ -38,7 +42,7 @@ pub(crate) fn is_text(bytes: &[u8]) -> bool
     if bytes.len() >= MAX_LEN {
         return false;
     }
-    is_utf8(bytes)
+    is_plain(bytes) || is_utf8(bytes)
 }
 
 /// Returns true if none of the bytes is 00.
@@ -49,8 +53,10 @@ fn has_no_zero(bytes: &[u8]) -> bool
     !bytes.contains(&0)
 }
 
-/// Returns true if `bytes` are a name, a pattern or options: UTF-8 with no 00.
-pub(crate) fn is_name(bytes: &[u8]) -> bool
+/// Returns true if `bytes` are a name, as `is_name` does. It looks at each byte twice.
+// Not inlined, since most names are plain and don't come here.
+#[inline(never)]
+fn is_any_name(bytes: &[u8]) -> bool
     ensures yes { result ≡ true → IsName bytes.now }
     ensures no { result ≡ false → IsName bytes.now → ⊥ }
 {
@@ -58,4 +64,13 @@ pub(crate) fn is_name(bytes: &[u8]) -> bool
         return false;
     }
     is_utf8(bytes)
+}
+
+/// Returns true if `bytes` are a name, a pattern or options: UTF-8 with no 00.
+#[inline(always)]
+pub(crate) fn is_name(bytes: &[u8]) -> bool
+    ensures yes { result ≡ true → IsName bytes.now }
+    ensures no { result ≡ false → IsName bytes.now → ⊥ }
+{
+    is_plain(bytes) || is_any_name(bytes)
 }

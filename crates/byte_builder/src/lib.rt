@@ -5,8 +5,8 @@
 //! inside has one of its own, while it is open. `append` puts a pair behind the others, `begin`
 //! opens a container as the value of the next pair, `end` ends it, and `finish` the outermost one.
 //! `append_sequence` puts a document sequence behind others. None takes memory, and none has a
-//! `requires`: any numbers and any room have an answer. Where the room is too short nothing changes,
-//! and the answer tells how long it has to be.
+//! `requires`: any numbers and any room have an answer. Where the room is too short nothing
+//! changes, and the answer tells how long it has to be.
 //!
 //! Uses bson_doc and wire_msg. Used by lughemra. Read first: `builder` and `nest`.
 #![tactic(auto)]
@@ -15,10 +15,11 @@ mod builder;
 mod built;
 mod given;
 mod nest;
-mod pieces;
 mod place;
+mod plain;
 mod refusal;
 mod sequence;
+mod value;
 
 pub use builder::{Builder, append};
 pub use built::Built;

@@ -12,9 +12,9 @@ ghost use Rattle.byte_builder.specs.Nesting.{StandsBehind, closed, container_of,
 
 use crate::builder::Builder;
 use crate::built::Built;
-use crate::pieces::Pieces;
 use crate::place::put;
 use crate::refusal::BuildRefusal;
+use crate::value::Value;
 use bson_elem::{Kind, MAX_DEPTH, MAX_LEN};
 
 /// Returns the builder of a document that begins at the front of a room, with no pairs.
@@ -60,7 +60,7 @@ fn open(room: &mut [u8], outer: &Builder, name: &[u8], kind: u32, inner: &mut Bu
         depth: outer.depth + 1,
         ..*outer
     };
-    let built = behind.push_named(room, container, name, &Pieces::four_zeros());
+    let built = behind.push_named(room, container, name, &Value::Four(0));
     if built.refusal == 0 {
         *inner = Builder {
             start: behind.end - 4,

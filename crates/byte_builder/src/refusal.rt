@@ -19,9 +19,10 @@ pub enum BuildRefusal {
     Room,
     /// More than 2,147,483,647 bytes.
     TooLarge,
-    /// The numbers of a builder are out of range, the inner one of two doesn't stand behind the outer
-    /// one or isn't one deeper, the ends of what is open would stand behind 2,147,483,647 bytes where
-    /// a container is ended, or a sequence is to be put behind more bytes than the room has.
+    /// The numbers of a builder are out of range, the inner one of two doesn't stand behind the
+    /// outer one or isn't one deeper, the ends of what is open would stand behind 2,147,483,647
+    /// bytes where a container is ended, or a sequence is to be put behind more bytes than the room
+    /// has.
     OutOfRange,
 }
 

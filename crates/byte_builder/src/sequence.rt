@@ -5,17 +5,18 @@ ghost use Rattle.std.specs.Prelude.{◌≡◌, ◌≤◌, ◌<◌, ◌+◌, ◌^
 ghost use Rattle.bson_elem.specs.{Tree};
 ghost use Rattle.bson_raw.specs.{AreDocuments, documents_bytes};
 ghost use Rattle.wire_msg.specs.Messages.{Sequence};
+ghost use Rattle.byte_builder.specs.Placing.{placed};
 ghost use Rattle.byte_builder.specs.Sequences.{HoldsSequences, IsSequencePut, section_of};
 ghost use Rattle.byte_builder.specs.Sequences.{with_sequence};
 
 use crate::built::Built;
 use crate::given::is_name;
-use crate::pieces::Pieces;
+use crate::place::put;
 use crate::refusal::BuildRefusal;
 use bson_elem::MAX_LEN;
 
-/// Returns the number of bytes of a document sequence, or `None` if its identifier, or its documents
-/// together, have more than a document may.
+/// Returns the number of bytes of a document sequence, or `None` if its identifier, or its
+/// documents together, have more than a document may.
 fn section_len(identifier: &[u8], documents: &[u8]) -> Option<usize>
     ensures { MatchOption result (2 ^ 31 ≤ length (section_of identifier.now documents.now))
         (λ n. (n ≡ length (section_of identifier.now documents.now)) × (n < 2 ^ 32 + 6)) }
@@ -27,6 +28,20 @@ fn section_len(identifier: &[u8], documents: &[u8]) -> Option<usize>
         return None;
     }
     Some(identifier.len() + documents.len() + 6)
+}
+
+/// Writes a document sequence to offset `at` of `room`.
+fn put_section(room: &mut [u8], at: usize, identifier: &[u8], documents: &[u8])
+    requires within { at + length (section_of identifier.now documents.now) ≤ length room.old }
+    requires short { length (section_of identifier.now documents.now) < 2 ^ 31 }
+    ensures { room.new ≡ placed at (section_of identifier.now documents.now) room.old }
+{
+    let size = (identifier.len() + documents.len()) as u32 + 5;
+    let at = put(room, at, &[1]);
+    let at = put(room, at, &size.to_le_bytes());
+    let at = put(room, at, identifier);
+    let at = put(room, at, &[0]);
+    put(room, at, documents);
 }
 
 /// Appends a document sequence, as `append_sequence` does.
@@ -54,8 +69,7 @@ fn put_sequence(room: &mut [u8], end: &mut usize, identifier: &[u8], documents: 
     if wanted > room.len() {
         return Built::no_room(wanted);
     }
-    let section = Pieces::sequence(identifier, documents);
-    section.put(room, start);
+    put_section(room, start, identifier, documents);
     *end = wanted;
     Built::done(wanted)
 }

@@ -15,11 +15,11 @@ returns-then-outer-ge-MAX_DEPTH c = too_deep c.in-Some.container (c.is_in_range.
 pub returns-then-built-eq0 : goal.returns-then-built-eq0
 returns-then-built-eq0 c =
     is_open c.in-Some.container c.push_named-built.new.self (c.is_in_range.ensures.yes c.if-not-is_in_range.false) c.if-outer-ge-MAX_DEPTH.false (sym c.container.ensures ∙ c.in-Some.is)
-    (named_as c.args.room.now c.push_named-built.new.room (deeper c.args.outer.now) c.push_named-built.new.self c.in-Some.container c.args.name.now _ four_zeros _ c.four_zeros.ensures c.push_named-built.ensures)
+    (named_as c.args.room.now c.push_named-built.new.room (deeper c.args.outer.now) c.push_named-built.new.self c.in-Some.container c.args.name.now _ four_zeros _ refl c.push_named-built.ensures)
     c.if-built-eq0.true refl
 
 pub returns-else-built-eq0 : goal.returns-else-built-eq0
 returns-else-built-eq0 c =
     is_shut c.in-Some.container c.push_named-built.new.self (c.is_in_range.ensures.yes c.if-not-is_in_range.false) c.if-outer-ge-MAX_DEPTH.false (sym c.container.ensures ∙ c.in-Some.is)
-    (named_as c.args.room.now c.push_named-built.new.room (deeper c.args.outer.now) c.push_named-built.new.self c.in-Some.container c.args.name.now _ four_zeros _ c.four_zeros.ensures c.push_named-built.ensures)
+    (named_as c.args.room.now c.push_named-built.new.room (deeper c.args.outer.now) c.push_named-built.new.self c.in-Some.container c.args.name.now _ four_zeros _ refl c.push_named-built.ensures)
     c.if-built-eq0.false refl

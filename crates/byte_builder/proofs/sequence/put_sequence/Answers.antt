@@ -1,8 +1,6 @@
-use Rattle.std.proofs.Common.{ℕ, ◌+◌, List, length, refl, ap, ◌∙◌, arith}
+use Rattle.std.proofs.Common.{ℕ, ◌+◌, refl, ap, ◌∙◌, arith}
 use Rattle.byte_builder.specs.Appends.{done, no_room}
-use Rattle.byte_builder.specs.Placing.{placed}
 use Rattle.byte_builder.specs.Sequences.{is_put, no_name, out_of_range, too_large, too_short}
-use Rattle.byte_builder.proofs.Sequences.{length_section}
 use Rattle.byte_builder.proofs.sequence.put_sequence.Goals as goal
 
 pub returns-then-start-room : goal.returns-then-start-room
@@ -24,15 +22,10 @@ pub returns-then-wanted-room : goal.returns-then-wanted-room
 returns-then-wanted-room c =
     too_short (c.is_name.ensures.yes c.if-not-is_name.false) (omega (arith, c.if-wanted-room.true, c.in-Some.ensures.0)) (omega (arith, c.if-wanted-gt-MAX_LEN.false, c.in-Some.ensures.0)) c.if-start-room.false (c.no_room.ensures ∙ ap (λ (n : ℕ). no_room (c.args.end.now + n)) c.in-Some.ensures.0) refl refl
 
-pub sequence-section-requires : goal.sequence-section-requires
-sequence-section-requires c = omega (arith, c.if-wanted-gt-MAX_LEN.false, c.in-Some.ensures.0, length_section c.args.identifier.now c.args.documents.now)
-
-pub put-requires : goal.put-requires
-put-requires c = omega (arith, c.if-wanted-room.false, c.in-Some.ensures.0, ap length c.sequence-section.ensures)
+pub put_section-requires : goal.put_section-requires
+put_section-requires c = record { within = omega (arith, c.if-wanted-room.false, c.in-Some.ensures.0); short = omega (arith, c.if-wanted-gt-MAX_LEN.false, c.in-Some.ensures.0) }
 
 pub returns : goal.returns
 returns c =
     is_put (c.is_name.ensures.yes c.if-not-is_name.false) (omega (arith, c.if-wanted-room.false, c.in-Some.ensures.0)) (omega (arith, c.if-wanted-gt-MAX_LEN.false, c.in-Some.ensures.0))
-    (c.done.ensures ∙ ap (λ (n : ℕ). done (c.args.end.now + n)) c.in-Some.ensures.0)
-    (c.put.ensures ∙ ap (λ (x : List ℕ). placed c.args.end.now x c.args.room.now) c.sequence-section.ensures)
-    (ap (λ (n : ℕ). c.args.end.now + n) c.in-Some.ensures.0)
+    (c.done.ensures ∙ ap (λ (n : ℕ). done (c.args.end.now + n)) c.in-Some.ensures.0) c.put_section.ensures (ap (λ (n : ℕ). c.args.end.now + n) c.in-Some.ensures.0)
