@@ -11,6 +11,7 @@
  *     check dump [FILE]                the text of exactly one document
  *     check json [FILE]                the same as canonical Extended JSON
  *     check relaxed [FILE]             the same as relaxed Extended JSON
+ *     check pickle [FILE]              the same as a pickle of Python
  *     check canonical [FILE]           the canonical form of exactly one document
  *     check version
  *
@@ -145,6 +146,8 @@ static struct lughemra_text text_into(const char *word, const uint8_t *bytes, si
 {
     if (strcmp(word, "dump") == 0)
         return lughemra_dump(bytes, length, room, size);
+    if (strcmp(word, "pickle") == 0)
+        return lughemra_pickle(bytes, length, room, size);
     if (strcmp(word, "canonical") == 0)
         return lughemra_canonical(bytes, length, room, size);
     return lughemra_json(bytes, length, strcmp(word, "relaxed") == 0, room, size);
@@ -196,7 +199,7 @@ int main(int count, char **words)
     else if (strcmp(word, "write") == 0)
         status = write_message(bytes, length, limit);
     else if (strcmp(word, "dump") == 0 || strcmp(word, "json") == 0 || strcmp(word, "relaxed") == 0
-             || strcmp(word, "canonical") == 0)
+             || strcmp(word, "pickle") == 0 || strcmp(word, "canonical") == 0)
         status = write_text(word, bytes, length);
     else if (strcmp(word, "version") == 0)
         printf("%s %d.%d.%d\n", LUGHEMRA_VERSION, LUGHEMRA_VERSION_MAJOR, LUGHEMRA_VERSION_MINOR, LUGHEMRA_VERSION_PATCH);

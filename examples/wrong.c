@@ -138,6 +138,7 @@ static void try_rooms(void)
     }
     expect(lughemra_dump(NULL, 5, room, sizeof room).fault.number == LUGHEMRA_TRUNCATED, "null has no text");
     expect(!lughemra_dump(document, sizeof document, NULL, 100).written, "a null room has no bytes");
+    expect(lughemra_pickle(document, sizeof document, NULL, 100).length > sizeof document, "a pickle with no room");
     expect(lughemra_canonical(document, sizeof document, NULL, 100).length == sizeof document, "a form with no room");
 }
 

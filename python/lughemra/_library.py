@@ -454,6 +454,7 @@ FUNCTIONS: dict[str, Optional[type]] = {
     "next_document": None,
     "dump": Text,
     "json": Text,
+    "pickle": Text,
     "canonical": Text,
     "first": First,
     "next": None,

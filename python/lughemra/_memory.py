@@ -74,8 +74,9 @@ class Room:
 
     def __init__(self, length: int) -> None:
         self.length = length
-        self.bytes = bytearray(length)
-        self.pointer = ctypes.byref(c_char.from_buffer(self.bytes))
+        held = bytearray(length)
+        self.view = memoryview(held)
+        self.pointer = ctypes.byref(c_char.from_buffer(held))
         self.size = size(length)
 
 

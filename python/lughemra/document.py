@@ -6,7 +6,7 @@ import datetime
 import functools
 import struct
 from collections.abc import Iterator, ItemsView, Mapping, Sequence, ValuesView
-from typing import Any, NamedTuple, Self, Union, overload
+from typing import Any, NamedTuple, NoReturn, Optional, Self, Union, overload
 
 from . import _library as lib
 from . import values, whole
@@ -44,8 +44,10 @@ class Element(NamedTuple):
     value: Any
 
 
-_find, _next, _first, _enter = lib.short.find, lib.short.next, lib.short.first, lib.short.enter
+_get, _find, _next = lib.short.get, lib.short.find, lib.short.next
+_first, _enter = lib.short.first, lib.short.enter
 _size, _spare, _cursor = lib.size, lib.spare, lib.cursor
+_INT32, _INT64 = int(Kind.INT32), int(Kind.INT64)
 
 
 @functools.lru_cache(1024)
@@ -60,41 +62,46 @@ _length_of = struct.Struct("<i").unpack_from
 
 
 @functools.lru_cache(1024)
-def _whole(length: int) -> tuple[Any, lib.Iter]:
-    """Returns the length of a document as an argument, and where the walk over such a one begins."""
-    return lib.size(length), lib.Iter(0, 4, length - 1, 1)
+def _outermost(length: int) -> lib.Iter:
+    """Returns where the walk over an outermost document of this length begins."""
+    return lib.Iter(0, 4, length - 1, 1)
 
 
 class _Container:
     """Holds what a document and an array have in common: the bytes that were handed in, and where a walk begins in them."""
 
-    __slots__ = ("_data", "_pointer", "_size", "_begin", "__weakref__")
+    __slots__ = ("_data", "_pointer", "_size", "_inner", "__weakref__")
 
     _data: Any
     _pointer: Any
     _size: Any
-    _begin: lib.Iter
+    # Where a walk begins, of one that stands inside another one.
+    _inner: Optional[lib.Iter]
 
     def __init__(self, data: lib.Buffer) -> None:
+        self._inner = None
         if type(data) is bytes:
             self._data = self._pointer = data
             length = len(data)
-            if 4 < length == _length_of(data)[0] and not data[-1]:
-                self._size, self._begin = _whole(length)
-                return
             self._size = size = _size(length)
+            if 4 < length == _length_of(data)[0] and not data[-1]:
+                return
         else:
             self._data, self._pointer, self._size = data, _, size = lib.lent(data)
         first = _first(self._pointer, size)
         if first.number:
             raise DocumentError(first.number, first.offset)
-        self._begin = first.iter
+
+    @property
+    def _begin(self) -> lib.Iter:
+        """Returns where a walk begins."""
+        return self._inner or _outermost(len(self._data))
 
     @classmethod
     def _made(cls, data: Any, pointer: Any, size: Any, begin: lib.Iter) -> Self:
         """Returns the document or the array over which this iterator walks."""
         made = cls.__new__(cls)
-        made._data, made._pointer, made._size, made._begin = data, pointer, size, begin
+        made._data, made._pointer, made._size, made._inner = data, pointer, size, begin
         return made
 
     def _steps(self) -> Iterator[lib.Step]:
@@ -153,6 +160,34 @@ class _Container:
         if fault.number:
             raise DocumentError(fault.number, begin.start + fault.offset)
 
+    def _written(self, name: str, *form: Any) -> bytes:
+        """Returns what this function of the library writes."""
+        inner = self._inner
+        data, pointer, size = self._data, self._pointer, self._size
+        if inner is not None:
+            data, pointer, size = lib.lent(data[inner.start : inner.end + 1])
+        function = getattr(lib.functions_for(data), name)
+        room = lib.room_of(3 * len(data) + 256)
+        told = function(pointer, size, *form, room.pointer, room.size)
+        # Once more, and again where another thread made the bytes longer meanwhile.
+        while not told.written and not told.number:
+            lib.give_back(room)
+            room = lib.room_of(told.length)
+            told = function(pointer, size, *form, room.pointer, room.size)
+        written = room.view[: told.length].tobytes()
+        lib.give_back(room)
+        if not told.written:
+            self._refuse(told.number, told.offset)
+        return written
+
+    def _refuse(self, number: int, offset: int) -> NoReturn:
+        """Raises why nothing is written."""
+        if number == lib.NO_MEMORY:
+            raise MemoryError
+        if number == lib.TOO_LARGE:
+            raise OverflowError("the canonical form has more than 2,147,483,647 bytes")
+        raise DocumentError(number, self._begin.start + offset)
+
     def __bool__(self) -> bool:
         """Returns true if there is an element."""
         return any(True for _ in self._steps())
@@ -182,15 +217,32 @@ class Document(_Container, Mapping[str, Any]):
         except IndexError:
             cursor = _cursor()
         step, iter_argument, element_argument = cursor
-        step.iter = self._begin
-        _find(self._pointer, self._size, encoded, length, iter_argument, element_argument)
-        if not step.kind:
+        begin = self._inner
+        if begin is None:
+            # It looks at the length again, so that no iterator is copied for it.
+            _get(self._pointer, self._size, encoded, length, element_argument)
+        else:
+            step.iter = begin
+            _find(self._pointer, self._size, encoded, length, iter_argument, element_argument)
+        kind = step.kind
+        reader = READERS[kind]
+        if kind == _INT32 or kind == _INT64:
+            value = step.integer
+        elif reader is not None:
+            try:
+                value = reader(self._data, step)
+            except UnicodeDecodeError:
+                raise DocumentError(TEXT_FAULT, step.name_at - 1) from None
+        elif kind:
+            if begin is None:
+                step.iter = self._begin
+            value = self._inside(step)
+        else:
             number, offset = step.number, step.offset
             _spare.append(cursor)
             if number:
                 raise DocumentError(number, offset)
             raise KeyError(name)
-        value = self._value(step)
         _spare.append(cursor)
         return value
 
@@ -250,7 +302,8 @@ class Document(_Container, Mapping[str, Any]):
 
     def to_dict(self) -> dict[str, Any]:
         """Returns all of it as dict and list. Raises the first fault that `check` finds, if there is one."""
-        return whole.dict_of(self)
+        made = whole.dict_of(self)
+        return whole.first_of(whole.walked(self)) if made is None else made
 
     def json(self, relaxed: bool = False) -> str:
         """Returns MongoDB Extended JSON v2, canonical or relaxed, with no white space."""
@@ -263,28 +316,6 @@ class Document(_Container, Mapping[str, Any]):
     def canonical(self) -> Document:
         """Returns the canonical form: a copy in which the names of each array are "0", "1" and so on."""
         return Document(self._written("canonical"))
-
-    def _written(self, name: str, *form: Any) -> bytes:
-        """Returns what this function of the library writes."""
-        begin = self._begin
-        data, pointer, size = lib.lent(self._data[begin.start : begin.end + 1])
-        function = getattr(lib.functions_for(data), name)
-        room = lib.room_of(3 * len(data) + 256)
-        told = function(pointer, size, *form, room.pointer, room.size)
-        # Once more, and again where another thread made the bytes longer meanwhile.
-        while not told.written and not told.number:
-            lib.give_back(room)
-            room = lib.room_of(told.length)
-            told = function(pointer, size, *form, room.pointer, room.size)
-        if told.number == lib.NO_MEMORY:
-            raise MemoryError
-        if told.number == lib.TOO_LARGE:
-            raise OverflowError("the canonical form has more than 2,147,483,647 bytes")
-        if told.number:
-            raise DocumentError(told.number, begin.start + told.offset)
-        written = bytes(room.bytes[: told.length])
-        lib.give_back(room)
-        return written
 
     def __repr__(self) -> str:
         try:
@@ -381,7 +412,8 @@ class Array(_Container, Sequence[Any]):
 
     def to_list(self) -> list[Any]:
         """Returns all of it as list and dict. Raises the first fault that `check` finds, if there is one."""
-        return whole.list_of(self)
+        made = whole.dict_of(self)
+        return [value for _, value in whole.walked(self)] if made is None else list(made.values())
 
     def __repr__(self) -> str:
         return f"Array({self._begin.end + 1 - self._begin.start} bytes)"

@@ -23,6 +23,8 @@ from .values import (
 )
 
 EPOCH = datetime.datetime(1970, 1, 1, tzinfo=datetime.timezone.utc)
+# To multiply takes half the time of `timedelta(milliseconds=...)`. `fromtimestamp` heeds leap seconds where TZ names a zone that has them.
+MILLISECOND = datetime.timedelta(milliseconds=1)
 
 Reader = Callable[[Any, Step], Any]
 
@@ -30,7 +32,9 @@ Reader = Callable[[Any, Step], Any]
 def text(data: Any, step: Step) -> str:
     """Returns a text."""
     at = step.text_at
-    return str(data[at : at + step.text_length], "utf-8")
+    piece = data[at : at + step.text_length]
+    # A view has no `decode`, and that of bytes is faster.
+    return piece.decode() if type(piece) is bytes else str(piece, "utf-8")
 
 
 def content(data: Any, step: Step) -> bytes:
@@ -45,12 +49,23 @@ def binary(data: Any, step: Step) -> Union[bytes, Binary]:
     return Binary(step.subtype, held) if step.subtype else held
 
 
-def date(data: Any, step: Step) -> Union[datetime.datetime, DatetimeMS]:
-    """Returns a date, as `datetime` if it can be one."""
+def object_id(data: bytes) -> ObjectId:
+    """Returns an ObjectId of 12 bytes, which aren't looked at."""
+    made = new(ObjectId)
+    set_data(made, data)
+    return made
+
+
+# To set the slot takes half the time of `ObjectId(data)`, which also looks at the length.
+new, set_data = object.__new__, ObjectId.data.__set__  # type: ignore[attr-defined, misc]
+
+
+def date_of(milliseconds: int) -> Union[datetime.datetime, DatetimeMS]:
+    """Returns the date of these milliseconds since 1970, as `datetime` if it can be one."""
     try:
-        return EPOCH + datetime.timedelta(milliseconds=step.integer)
+        return EPOCH + milliseconds * MILLISECOND
     except OverflowError:
-        return DatetimeMS(step.integer)
+        return DatetimeMS(milliseconds)
 
 
 BY_KIND: dict[int, Reader] = {
@@ -58,12 +73,12 @@ BY_KIND: dict[int, Reader] = {
     Kind.STRING: text,
     Kind.BINARY: binary,
     Kind.UNDEFINED: lambda data, step: UNDEFINED,
-    Kind.OBJECT_ID: lambda data, step: ObjectId(content(data, step)),
+    Kind.OBJECT_ID: lambda data, step: object_id(content(data, step)),
     Kind.BOOL: lambda data, step: step.integer != 0,
-    Kind.DATETIME: date,
+    Kind.DATETIME: lambda data, step: date_of(step.integer),
     Kind.NULL: lambda data, step: None,
     Kind.REGEX: lambda data, step: Regex(text(data, step), str(content(data, step), "utf-8")),
-    Kind.DB_POINTER: lambda data, step: DBPointer(text(data, step), ObjectId(content(data, step))),
+    Kind.DB_POINTER: lambda data, step: DBPointer(text(data, step), object_id(content(data, step))),
     Kind.CODE: lambda data, step: Code(text(data, step)),
     Kind.SYMBOL: lambda data, step: Symbol(text(data, step)),
     Kind.INT32: lambda data, step: step.integer,

@@ -1,22 +1,21 @@
 """Makes dict and list of all that is in a document or in an array.
 
-Each element that is walked over costs a call, and a call over `ctypes` costs more than to read an element. So a document isn't
-walked over where it needn't be: the library writes it as relaxed Extended JSON, which Python's `json` reads. That is taken where
-it tells all: each object whose first name begins with a dollar has one of three forms, and no name of the document is the name of
-such a form, so that each stands for a value.
+Each element that is walked over costs a call, and a call over `ctypes` costs more than to read an element. So the library writes a
+document as a pickle, and Python makes the values of it. Whatever the bytes of the document are, the pickle has no opcodes but those
+of values and the numbers of the functions of `_makers`. Of elements with one name a dict keeps the last, and here the first one
+counts: so the pickle also has a list of all dicts inside and the number of all names, and where the dicts have fewer, the document is walked over.
 """
 
 from __future__ import annotations
 
-import binascii
-import datetime
-import json
-from typing import TYPE_CHECKING, Any, Callable
+import pickle
+from typing import TYPE_CHECKING, Any, Optional, Union
 
 from . import _library as lib
+from ._makers import REGISTERED
 from .errors import TEXT_FAULT, DocumentError
 from .leaves import READERS, text
-from .values import Binary, Code, Kind, ObjectId
+from .values import Code, Kind
 
 if TYPE_CHECKING:
     from .document import Array, Document
@@ -26,39 +25,23 @@ _next, _enter = lib.short.next, lib.short.enter
 Pairs = list[tuple[str, Any]]
 
 
-class OtherForm(Exception):
-    """Tells that the JSON has a form of a value that isn't read here."""
+def dict_of(container: Union[Document, Array]) -> Optional[dict[str, Any]]:
+    """Returns the document as a dict, made of its pickle; or None where it must be walked over: a name stands twice, or another has
+    the numbers of `_makers`. Raises the first fault that a check finds."""
+    if not REGISTERED:
+        container.check()
+        return None
+    made: dict[str, Any]
+    made, inner, names = pickle.loads(container._written("pickle"))
+    if len(made) == names or len(made) + sum(map(len, inner)) == names:
+        return made
+    return None
 
 
-def dict_of(document: Document) -> dict[str, Any]:
-    """Returns a document as dict. Raises the first fault that a check finds."""
-    if not has_form(document.raw):
-        written = document.json(relaxed=True)
-        try:
-            made: dict[str, Any] = _decoder.raw_decode(written)[0]
-            return made
-        # The others come of names of forms that were written into the bytes meanwhile.
-        except (OtherForm, KeyError, TypeError, ValueError):
-            pass
-    try:
-        return first_of(pairs_of(document._data, document._pointer, document._size, alone(document._begin)))
-    except DocumentError:
-        document.check()
-        raise
-
-
-def list_of(array: Array) -> list[Any]:
-    """Returns an array as list. Raises the first fault that a check finds."""
-    try:
-        return [value for _, value in pairs_of(array._data, array._pointer, array._size, alone(array._begin))]
-    except DocumentError:
-        array.check()
-        raise
-
-
-def alone(begin: lib.Iter) -> lib.Iter:
-    """Returns where a walk begins that takes a document or an array as the outermost one, as a check does."""
-    return lib.Iter(begin.start, begin.at, begin.end, 1)
+def walked(container: Union[Document, Array]) -> Pairs:
+    """Returns the names and the values of its elements. Depth is counted from here, as `check` counts it."""
+    begin = container._begin
+    return pairs_of(container._data, container._pointer, container._size, lib.Iter(begin.start, begin.at, begin.end, 1))
 
 
 def first_of(pairs: Pairs) -> dict[str, Any]:
@@ -69,43 +52,6 @@ def first_of(pairs: Pairs) -> dict[str, Any]:
         for name, value in pairs:
             made.setdefault(name, value)
     return made
-
-
-# ---- by JSON
-
-
-def has_form(raw: bytes) -> bool:
-    """Returns true if a name of the document may be that of a form. In the bytes a name is followed by 00."""
-    return b"$" in raw and (b"$oid\0" in raw or b"$date\0" in raw or b"$binary\0" in raw)
-
-
-def _object(pairs: Pairs) -> Any:
-    """Returns what an object of the JSON stands for: a document, or a value with a form."""
-    if len(pairs) == 1:
-        name, held = pairs[0]
-        form = _FORMS.get(name)
-        if form is not None:
-            return form(held)
-    if pairs and pairs[0][0][:1] == "$":
-        raise OtherForm
-    return first_of(pairs)
-
-
-def _binary(held: dict[str, str]) -> Any:
-    """Returns binary data by its form."""
-    subtype, data = int(held["subType"], 16), binascii.a2b_base64(held["base64"])
-    return Binary(subtype, data) if subtype else data
-
-
-_FORMS: dict[str, Callable[[Any], Any]] = {
-    "$oid": lambda digits: ObjectId(binascii.unhexlify(digits)),
-    "$date": datetime.datetime.fromisoformat,
-    "$binary": _binary,
-}
-_decoder = json.JSONDecoder(object_pairs_hook=_object)
-
-
-# ---- by a walk
 
 
 def pairs_of(data: Any, pointer: Any, size: Any, begin: lib.Iter) -> Pairs:

@@ -1,16 +1,25 @@
 """Reads each kind of value, alone, in documents and in arrays, and what a mapping and a sequence do."""
 
 import copy
+import datetime
 import decimal
 import math
+import os
+import pathlib
 import pickle
+import pickletools
+import random
+import shutil
+import subprocess
+import sys
 import weakref
 
 import pytest
 from rows import DOCUMENTS, ID, KINDS, ROOT, document, document_of, element, string, text_model, vectors
 
 import lughemra
-from lughemra import Document, Kind, whole
+from lughemra import Document, Kind, _library, _makers, whole
+from lughemra.leaves import EPOCH
 
 
 @pytest.mark.parametrize("kind, value, wanted", KINDS)
@@ -118,10 +127,19 @@ NAMES_OF_FORMS = [
 
 
 @pytest.mark.parametrize("data", [*DOCUMENTS, *NAMES_OF_FORMS])
-def test_a_dict_by_json_is_that_of_a_walk(data):
+def test_a_dict_by_a_pickle_is_that_of_a_walk(data):
     read = Document(data)
-    walked = whole.first_of(whole.pairs_of(read._data, read._pointer, read._size, read._begin))
-    assert repr(read.to_dict()) == repr(walked)
+    assert repr(whole.dict_of(read)) == repr(whole.first_of(whole.walked(read)))
+
+
+LONG_TEXTS = ["x" * length for length in (0, 255, 256, 65536)] + ["é" * 128]
+
+
+@pytest.mark.parametrize("text", LONG_TEXTS, ids=[str(len(text)) for text in LONG_TEXTS])
+def test_texts_names_and_data_of_any_length_stand_in_pickles(text):
+    data = text.encode()
+    read = Document(document(element(0x02, text, string(text)), element(0x05, "b", len(data).to_bytes(4, "little") + b"\0" + data)))
+    assert whole.dict_of(read) == {text: text, "b": data}
 
 
 def test_documents_with_the_names_of_forms_stay_documents():
@@ -137,25 +155,106 @@ def test_documents_with_the_names_of_forms_stay_documents():
     ]
 
 
-# A name of a form, and what is no value of that form.
-OTHER_FORMS = [
-    ("$oid", 0x02, string("no digits"), "no digits"),
-    ("$oid", 0x02, string("00"), "00"),
-    ("$oid", 0x0A, b"", None),
-    ("$date", 0x02, string("no date"), "no date"),
-    ("$date", 0x10, b"\1\0\0\0", 1),
-    ("$binary", 0x02, string("text"), "text"),
-    ("$binary", 0x03, document(), {}),
-    ("$binary", 0x03, document(element(0x02, "base64", string("A"))), {"base64": "A"}),
-    ("$binary", 0x04, document(), []),
+# One name twice: at the top, inside a document, an array and a scope, and around documents; and where it isn't twice in one document.
+ONE, TWO = element(0x10, "n", b"\1\0\0\0"), element(0x10, "n", b"\2\0\0\0")
+SCOPE = string("f") + document(ONE, TWO)
+NAMES_TWICE = [
+    (document(ONE, TWO), {"n": 1}, True),
+    (document(element(0x03, "d", document(ONE, TWO))), {"d": {"n": 1}}, True),
+    (document(element(0x04, "a", document(element(0x03, "0", document(ONE, TWO))))), {"a": [{"n": 1}]}, True),
+    (document(element(0x0F, "c", (len(SCOPE) + 4).to_bytes(4, "little") + SCOPE)), {"c": lughemra.Code("f", {"n": 1})}, True),
+    (document(element(0x03, "d", document(ONE)), element(0x03, "d", document(TWO))), {"d": {"n": 1}}, True),
+    (document(element(0x04, "a", document(element(0x0A, "0", b""), element(0x08, "0", b"\1")))), {"a": [None, True]}, False),
+    (document(element(0x03, "d", document(ONE)), element(0x03, "e", document(TWO))), {"d": {"n": 1}, "e": {"n": 2}}, False),
 ]
 
 
-@pytest.mark.parametrize("name, kind, value, wanted", OTHER_FORMS)
-def test_a_form_that_is_written_meanwhile_is_read_as_it_is(monkeypatch, name, kind, value, wanted):
-    monkeypatch.setattr(whole, "has_form", lambda raw: False)
-    inner = document(element(kind, name, value))
-    assert Document(document(element(0x03, "d", inner))).to_dict() == {"d": {name: wanted}}
+@pytest.mark.parametrize("data, wanted, twice", NAMES_TWICE)
+def test_the_first_element_with_a_name_counts_at_all_depths(data, wanted, twice):
+    assert Document(data).to_dict() == wanted
+    assert (whole.dict_of(Document(data)) is None) == twice
+
+
+OPCODES = {
+    "PROTO", "EMPTY_LIST", "BINPUT", "POP", "EMPTY_DICT", "MARK", "SHORT_BINUNICODE", "BINUNICODE8", "SHORT_BINBYTES", "BINBYTES8", "BINFLOAT", "BININT", "BININT1", "LONG1",
+    "NEWTRUE", "NEWFALSE", "NONE", "EXT4", "TUPLE1", "TUPLE", "REDUCE", "BINGET", "APPEND", "APPENDS", "SETITEMS", "TUPLE3", "STOP",
+}  # fmt: skip
+# Texts and data that are pickles themselves.
+PICKLE = b"cposix\nsystem\n(Vexit\ntR."
+HOSTILE = document(
+    element(0x02, PICKLE.decode(), string(PICKLE.decode())),
+    element(0x05, "", len(PICKLE).to_bytes(4, "little") + b"\0" + PICKLE),
+    element(0x07, "id", PICKLE[:12]),
+)
+
+
+@pytest.mark.parametrize("data", [*DOCUMENTS, *NAMES_OF_FORMS, *(data for data, _, _ in NAMES_TWICE), HOSTILE])
+def test_a_pickle_has_the_opcodes_of_values_alone(data):
+    pickled = Document(data)._written("pickle")
+    opcodes = [(opcode.name, argument) for opcode, argument, _ in pickletools.genops(pickled)]
+    assert {name for name, _ in opcodes} <= OPCODES
+    assert {argument - _makers.NUMBER for name, argument in opcodes if name == "EXT4"} <= set(_makers.MAKERS)
+    assert [argument for name, argument in opcodes if name == "PROTO"] == [4]
+    assert repr(Document(data).to_dict()) == repr(whole.first_of(whole.walked(Document(data))))
+
+
+def test_another_copy_of_the_module_reads_by_walks(monkeypatch):
+    monkeypatch.setattr(whole, "REGISTERED", False)
+    monkeypatch.setattr(pickle, "loads", None)
+    for data in (*DOCUMENTS, *NAMES_OF_FORMS):
+        assert repr(Document(data).to_dict()) == repr(whole.first_of(whole.walked(Document(data))))
+    assert [Document(data).to_dict() for data, _, _ in NAMES_TWICE] == [wanted for _, wanted, _ in NAMES_TWICE]
+    with pytest.raises(lughemra.DocumentError):
+        Document(document(element(0x08, "t", b"\2"))).to_dict()
+
+
+ONE_ID = document(element(0x07, "id", ID)).hex()
+# Each program writes the modules of the types that two copies of this module read.
+COPIES = {
+    "under two names": "import lughemra, vendored; modules = [lughemra, vendored]",
+    "imported again": (
+        "import sys, lughemra; modules = [lughemra]\n"
+        "for name in [name for name in sys.modules if name.split('.')[0] == 'lughemra']: del sys.modules[name]\n"
+        "import lughemra; modules.append(lughemra)"
+    ),
+}
+
+
+@pytest.mark.parametrize("copies", COPIES.values(), ids=COPIES)
+def test_each_copy_of_the_module_reads_its_own_types(copies, tmp_path):
+    shutil.copytree(pathlib.Path(lughemra.__file__).parent, tmp_path / "vendored")
+    program = (
+        f"{copies}; data = bytes.fromhex('{ONE_ID}')\n"
+        "print(*(type(module.Document(data).to_dict()['id']) is module.ObjectId for module in modules))"
+    )
+    assert printed_by(program, PYTHONPATH=str(tmp_path)) == "True True\n"
+
+
+def test_dates_know_no_leap_seconds():
+    if not pathlib.Path("/usr/share/zoneinfo/right/UTC").exists():
+        pytest.skip("no zone with leap seconds is here")
+    data = document(element(0x09, "t", (1700000000000).to_bytes(8, "little")))
+    program = f"import lughemra; read = lughemra.Document(bytes.fromhex('{data.hex()}')); print(read['t'], read.to_dict()['t'])"
+    assert printed_by(program, TZ="right/UTC") == "2023-11-14 22:13:20+00:00 2023-11-14 22:13:20+00:00\n"
+
+
+def printed_by(program, PYTHONPATH="", **variables):
+    """Returns what a program of Python prints that may import this module."""
+    paths = os.pathsep.join([str(pathlib.Path(lughemra.__file__).parents[1]), PYTHONPATH])
+    environment = {**os.environ, "PYTHONPATH": paths, "LUGHEMRA_LIBRARY": _library.PATH, **variables}
+    return subprocess.run([sys.executable, "-c", program], env=environment, capture_output=True, text=True, check=True).stdout
+
+
+def test_dates_are_those_of_their_milliseconds():
+    ends = [0, 1000 << 32, 253402300800000, -62135596800000, 1 << 63, -1 << 63]
+    near = [end + off for end in ends for off in range(-3, 4) if -1 << 63 <= end + off < 1 << 63]
+    some = random.Random(1)
+    for milliseconds in [*near, *(some.randrange(1000 << 32) for _ in range(20000))]:
+        try:
+            wanted = EPOCH + datetime.timedelta(milliseconds=milliseconds)
+        except OverflowError:
+            wanted = lughemra.DatetimeMS(milliseconds)
+        assert Document(document(element(0x09, "t", milliseconds.to_bytes(8, "little", signed=True)))).to_dict() == {"t": wanted}
 
 
 def test_a_text_of_any_length_has_room():

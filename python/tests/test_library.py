@@ -161,6 +161,7 @@ def test_only_bytes_that_no_one_writes_to_are_read_without_the_lock():
 def test_a_text_without_memory_is_a_memory_error(monkeypatch):
     refused = _library.Text(_library.FaultStruct(_library.NO_MEMORY, 0), 0, False)
     monkeypatch.setattr(_library.long, "json", lambda *arguments: refused)
+    monkeypatch.setattr(_library.long, "pickle", lambda *arguments: refused)
     read = lughemra.Document(document())
     for call in (read.json, read.to_dict):
         with pytest.raises(MemoryError):

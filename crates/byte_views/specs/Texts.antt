@@ -6,6 +6,7 @@ use Rattle.bson_elem.specs.{Spells, Tree}
 use Rattle.bson_raw.specs.{IsSpelled, WholeFault}
 use Rattle.bson_json.specs.declared.mode.Mode.{Mode}
 use Rattle.bson_json.specs.declared.mode.Mode.TheVariants.{Canonical, Relaxed}
+use Rattle.bson_pickle.specs.{document_pickle}
 use Rattle.bson_doc.specs.declared.refusal.DocRefusal.{DocRefusal}
 use Rattle.bson_doc.specs.declared.refusal.DocRefusal.TheVariants.{TooLarge}
 use Rattle.bson_doc.specs.{canonical_len, plain}
@@ -51,6 +52,10 @@ pub data IsTextWritten (bytes : List ℕ) (IsText : Tree → List ℕ → Type 0
 -- the text is that of the document
 abbrev pub IsDump : Tree → List ℕ → Type 0
 IsDump t text = text ≡ document_text t
+
+-- the text is the pickle of the document
+abbrev pub IsPickle : Tree → List ℕ → Type 0
+IsPickle t text = text ≡ document_pickle t
 
 -- the form of Extended JSON
 abbrev pub json_mode : Bool → Mode

@@ -11,8 +11,8 @@
 //! for them, or is for short texts, and what writes messages takes memory. `spell_content` is for
 //! Rattle: it makes a message of the bytes of a body and of document sequences.
 //!
-//! Uses bson_raw, bson_doc, bson_text, bson_json and wire_msg. Used by core_handles and lughemra, for
-//! programs in C, and by page, for a browser. Read first: `documents` and `iter`.
+//! Uses bson_raw, bson_doc, bson_text, bson_json, bson_pickle and wire_msg. Used by core_handles
+//! and lughemra, for programs in C, and by page, for a browser. Read first: `documents` and `iter`.
 #![tactic(auto)]
 
 mod content;
@@ -52,7 +52,9 @@ pub use parts::{MessageParts, Section, message_parts, section_at};
 pub use reading::{InPlace, Reading};
 pub use span::{message_span, span_at};
 pub use split::next_document;
-pub use text::{TextWritten, put_canonical, put_dump, put_json, put_short_dump, put_short_json};
+pub use text::{
+    TextWritten, put_canonical, put_dump, put_json, put_pickle, put_short_dump, put_short_json,
+};
 pub use value::put_value;
 pub use view::View;
 pub use walk::{DocumentsWalk, walk_documents};

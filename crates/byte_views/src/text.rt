@@ -1,17 +1,19 @@
-//! Writes the text of a document, its Extended JSON or its canonical form into the caller's room.
+//! Writes the text of a document, its Extended JSON, its pickle or its canonical form into the
+//! caller's room.
 
 ghost use Rattle.std.specs.Prelude.{◌≡◌, IfSome};
 ghost use Rattle.bson_elem.specs.{Spells, Tree};
 ghost use Rattle.bson_raw.specs.{document_bytes};
 ghost use Rattle.bson_json.specs.{IsJson};
-ghost use Rattle.byte_views.specs.Texts.{IsDump, IsPut, IsTextWritten, memory_fault, no_form};
-ghost use Rattle.byte_views.specs.Texts.{IsCanonicalWritten, json_mode, no_text, text_put};
+ghost use Rattle.byte_views.specs.Texts.{IsDump, IsPickle, IsPut, IsTextWritten, memory_fault};
+ghost use Rattle.byte_views.specs.Texts.{IsCanonicalWritten, json_mode, no_form, no_text, text_put};
 ghost use Rattle.byte_views.specs.Texts.{too_large_fault};
 
 use crate::fault::FirstFault;
 use arrayvec::ArrayVec;
 use bson_doc::{DocRefusal, to_canonical};
 use bson_json::{Mode, write_json};
+use bson_pickle::write_pickle;
 use bson_raw::RawDocument;
 use bson_text::dump_to;
 use std::alloc::Global;
@@ -134,6 +136,21 @@ fn as_json(alloc: Global, document: RawDocument<'_>, mode: Mode) -> Option<Vec<u
     }
 }
 
+/// Returns the pickle of a document, or `None` if memory runs out.
+fn pickled(alloc: Global, document: RawDocument<'_>) -> Option<Vec<u8>>
+    ensures { (t : Tree) → Spells t (document_bytes document.entry)
+        → IfSome result (λ text. IsPickle t text.items) }
+{
+    // Most pickles are about as long as their documents; the room grows for others.
+    let Ok(mut text) = Vec::with_capacity(alloc, document.as_bytes().len()) else {
+        return None;
+    };
+    match write_pickle(document, &mut text) {
+        Ok(()) => Some(text),
+        Err(_) => None,
+    }
+}
+
 /// Returns the text of a document, or `None` if it has more bytes than a short one.
 fn short_dump(document: RawDocument<'_>) -> Option<ArrayVec<u8, SHORT>>
     ensures { (t : Tree) → Spells t (document_bytes document.entry)
@@ -184,6 +201,21 @@ pub fn put_json(alloc: Global, bytes: &[u8], relaxed: bool, room: &mut [u8]) -> 
         Err(fault) => return TextWritten::none(FirstFault::of_document(0, fault)),
     };
     match as_json(alloc, document, mode_of(relaxed)) {
+        Some(text) => put(text.as_slice(), room),
+        None => TextWritten::no_memory(),
+    }
+}
+
+/// Writes the document that `bytes` are as a pickle to the front of `room`, from which Python makes
+/// a dict. If it has no room, nothing is written, and its length is told.
+pub fn put_pickle(alloc: Global, bytes: &[u8], room: &mut [u8]) -> TextWritten
+    ensures { IsTextWritten bytes.now IsPickle room.old room.new result }
+{
+    let document = match RawDocument::from_bytes(bytes) {
+        Ok(document) => document,
+        Err(fault) => return TextWritten::none(FirstFault::of_document(0, fault)),
+    };
+    match pickled(alloc, document) {
         Some(text) => put(text.as_slice(), room),
         None => TextWritten::no_memory(),
     }

@@ -638,6 +638,7 @@ void lughemra_next_document_nonnull(const uint8_t *bytes, size_t length, struct 
 struct lughemra_text lughemra_dump_nonnull(const uint8_t *bytes, size_t length, uint8_t *room, size_t room_length);
 struct lughemra_text lughemra_json_nonnull(const uint8_t *bytes, size_t length, bool relaxed, uint8_t *room,
                                            size_t room_length);
+struct lughemra_text lughemra_pickle_nonnull(const uint8_t *bytes, size_t length, uint8_t *room, size_t room_length);
 struct lughemra_text lughemra_canonical_nonnull(const uint8_t *bytes, size_t length, uint8_t *room, size_t room_length);
 struct lughemra_first lughemra_first_nonnull(const uint8_t *bytes, size_t length);
 void lughemra_next_nonnull(const uint8_t *bytes, size_t length, struct lughemra_iter *iter,
@@ -885,6 +886,19 @@ static inline struct lughemra_text lughemra_json(const uint8_t *bytes, size_t le
 {
     return lughemra_json_nonnull(lughemra_nonnull(bytes), lughemra_length(bytes, length), relaxed,
                                  lughemra_nonnull_room(room), lughemra_length(room, room_length));
+}
+
+/* The same, as a pickle of protocol 4, from which Python's `pickle.loads` makes a tuple: the document as a dict, whose arrays are
+ * lists; a list of the dicts of all documents and scopes inside; and the number of the names in all dicts. Of elements with one name a
+ * dict keeps the last, so where the dicts have fewer names than that, one stands twice. These kinds are what a function returns,
+ * which a program registers by `copyreg.add_extension` under the sum of 0x4C554700 and the kind, and without which `pickle.loads`
+ * raises ValueError: BINARY of another subtype than 0 (subtype, data), OBJECT_ID and DECIMAL128 (data), DATETIME (milliseconds), REGEX
+ * (pattern, options), DB_POINTER (namespace, data), CODE and SYMBOL (text), CODE_WITH_SCOPE (text, dict), TIMESTAMP (seconds,
+ * increment), and UNDEFINED, MIN_KEY and MAX_KEY, of nothing. */
+static inline struct lughemra_text lughemra_pickle(const uint8_t *bytes, size_t length, uint8_t *room, size_t room_length)
+{
+    return lughemra_pickle_nonnull(lughemra_nonnull(bytes), lughemra_length(bytes, length), lughemra_nonnull_room(room),
+                                   lughemra_length(room, room_length));
 }
 
 /* Writes the document in canonical form, in which each array has the names "0", "1" and so on, in the same way. It can be longer
