@@ -36,11 +36,6 @@ placed_in room part at p =
     ap (λ (x : List ℕ). placed at part x) p.room_is ∙ ap (λ (n : ℕ). placed n part (p.front ++ (p.mid ++ p.behind))) (sym p.front_is)
     ∙ placed_seam p.front p.mid part p.behind (sym p.mid_is)
 
-pub length-placed : (room part : List ℕ) (at : ℕ) → at + length part ≤ length room → length (placed at part room) ≡ length room
-length-placed room part at le =
-    let p = parted room at (length part) le in
-    omega (arith, ap length (placed_in room part at p), ap length p.room_is, length-append p.front (part ++ p.behind), length-append part p.behind, length-append p.front (p.mid ++ p.behind), length-append p.mid p.behind, p.mid_is)
-
 -- one part behind the other
 pub and_then : (room part next one two : List ℕ) (at behind : ℕ) → at + length part + length next ≤ length room → one ≡ placed at part room → behind ≡ at + length part → two ≡ placed behind next one
     → two ≡ placed at (part ++ next) room

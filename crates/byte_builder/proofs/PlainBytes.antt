@@ -1,6 +1,6 @@
 -- Bytes that are plain, seen by looks at several bytes at once.
-use Rattle.std.proofs.Common.{◌≡◌, ◌≢◌, ℕ, suc, ◌+◌, ◌-◌, ◌%◌, ◌^◌, ◌<◌, ◌≤◌, Bool, false, ◌||◌, cond, eqb, leb, List, [], ◌∷◌, map, length, get_or, replicate, Fits, w8, refl, sym, ap, ◌∙◌, arith, inl, inr}
-use Rattle.std.proofs.lemmas.Bool.{agree_below_at, cases_lt}
+use Rattle.std.proofs.Common.{◌≡◌, ◌≢◌, ℕ, suc, ◌+◌, ◌-◌, ◌%◌, ◌^◌, ◌<◌, ◌≤◌, Bool, false, ◌||◌, cond, eqb, leb, List, [], ◌∷◌, map, length, get_or, replicate, Fits, w8, refl, sym, ap, ◌∙◌, arith}
+use Rattle.std.proofs.lemmas.Bool.{agree_below_at}
 use Rattle.std.proofs.lemmas.Bool.Decides.{nat_tests}
 use Rattle.std.proofs.lemmas.List.{length-map}
 use Rattle.std.proofs.lemmas.Simd.{zip2_of_maps, zip2_splat, splat_is_map, map-map, mask_l-mod, length-chunk, none_from_empty_mask}
@@ -35,14 +35,6 @@ plain_lanes d i n room few fits none =
     let lanes : lanes_of n v ≡ map lane v = zip2_of_maps (λ a b. cond (leb a b) 255 0) _ _ v (splat_is_map v n 127 long) (zip2_splat (λ a b. (a + (256 - b)) % 256) v n 1 long) in
     let mask : mask_l (map (top 7) (lanes_of n v)) % 2 ^ 64 ≡ mask_l (map stops v) = ap (λ (l : List Bool). mask_l l % 2 ^ 64) (ap (map (top 7)) lanes ∙ map-map (top 7) lane v) ∙ mask_l-mod (map stops v) 64 (omega (arith, length-map v stops, long)) in
     λ k low high. plain_byte (get_or d k 0) (sym (agree_below_at stops is_stop 256 (get_or d k 0) refl (fits k).fits) ∙ none_from_empty_mask stops d i n 0 room (sym mask ∙ none) k low high)
-
--- two looks of which the second begins in the first, or right behind it
-pub looks_join : (d : List ℕ) (a b c : ℕ) → b ≤ a → ArePlain d 0 a → ArePlain d b c → ArePlain d 0 c
-looks_join d a b c le first second k low high =
-    elim (cases_lt k a) [
-      | inl early ↦ first k low early
-      | inr late ↦ second k (omega (arith, late, le)) high
-    ]
 
 no_zero_read : (d : List ℕ) → ((k : ℕ) → k < length d → get_or d k 0 ≢ 0) → HasNoZero d
 no_zero_read [] h = tt
