@@ -1,12 +1,12 @@
 //! Tests of what stands after a refused allocation. They pass with each of their allocations
 //! refused in turn. No other one is refused then, so what is asked for again is granted.
 
-use crate::salvages::{WRONG_BOOLEAN, are_told};
 use crate::streams::{EMPTY, LIMIT, OTHERS, TRUTH};
+use bson_elem::{BsonCause, BsonFault};
 use bson_raw::RawDocument;
 use bson_stream::{
-    DocumentBuf, DocumentReader, Fed, Find, ReadRefusal, ReaderState, Salvager, read_pieces,
-    salvage_pieces,
+    DocumentBuf, DocumentReader, Fed, Find, Gap, GapFault, ReadRefusal, ReaderState, SalvagedPart,
+    Salvager, read_pieces, salvage_pieces,
 };
 use std::alloc::Global;
 
@@ -106,25 +106,57 @@ fn a_salvager_can_be_fed_again(rt: HostRuntime) {
     assert!(rt; salvager_takes_two(rt.alloc()));
 }
 
-/// Returns true if the parts of the stream are found in it, cut in two.
-fn salvages_again(alloc: Global, pieces: &[&[u8]]) -> bool {
-    match salvage_pieces(alloc, WRONG_BOOLEAN.limit.min(64), pieces) {
-        Ok(found) => are_told(&found, &WRONG_BOOLEAN),
+/// `{}`, `{"a": true}` whose boolean is 02, and `{"hello": "world"}`, cut inside the last one.
+const DAMAGED: [&[u8]; 2] = [
+    b"\x05\0\0\0\0\x09\0\0\0\x08a\0\x02\0\x16\0\0\0\x02h",
+    b"ello\0\x06\0\0\0world\0\0",
+];
+
+/// What is wrong between the other two documents.
+const WRONG_BOOLEAN: Gap = Gap {
+    from: 5,
+    to: 14,
+    fault: GapFault::Bson(BsonFault {
+        at: 9,
+        cause: BsonCause::Boolean,
+    }),
+};
+
+/// Returns true if these are the parts of the damaged stream.
+fn are_its_parts(parts: &[SalvagedPart]) -> bool {
+    match parts {
+        [
+            SalvagedPart::Document {
+                at: 0,
+                document: first,
+            },
+            SalvagedPart::Gap(gap),
+            SalvagedPart::Document {
+                at: 14,
+                document: last,
+            },
+        ] => {
+            copies(first, EMPTY)
+                && *gap == WRONG_BOOLEAN
+                && last.as_document().as_bytes().len() == 22
+        }
+        _ => false,
+    }
+}
+
+/// Returns true if the parts of the damaged stream are found.
+fn salvages_again(alloc: Global) -> bool {
+    match salvage_pieces(alloc, 64, DAMAGED.as_slice()) {
+        Ok(parts) => are_its_parts(&parts),
         Err(_) => false,
     }
 }
 
 /// Returns true if they are found, or memory is refused and they are found the next time.
 fn salvages_at_last(alloc: Global) -> bool {
-    let Some((front, rest)) = WRONG_BOOLEAN.bytes.split_at_checked(20) else {
-        return false;
-    };
-    let pieces: [&[u8]; 2] = [front, rest];
-    match salvage_pieces(alloc, WRONG_BOOLEAN.limit.min(64), pieces.as_slice()) {
-        Ok(found) => are_told(&found, &WRONG_BOOLEAN),
-        Err(refusal) => {
-            refusal == ReadRefusal::OutOfMemory && salvages_again(alloc, pieces.as_slice())
-        }
+    match salvage_pieces(alloc, 64, DAMAGED.as_slice()) {
+        Ok(parts) => are_its_parts(&parts),
+        Err(refusal) => refusal == ReadRefusal::OutOfMemory && salvages_again(alloc),
     }
 }
 

@@ -1,24 +1,11 @@
-//! Tests of what no contract of scripts of events says: that their runs succeed if there is memory,
-//! and that the texts are those that were worked out by hand. They are in a crate of their own,
-//! since a crate is proved once more with its tests.
+//! Tests of what no contract of scripts of events says: that a run succeeds if there is memory, and
+//! what stands when memory is refused. They are in a crate of their own, since a crate is proved once
+//! more with its tests. Scripts whose texts were worked out by hand are tried by the program
+//! (`scripts/model/play-rows`).
 //!
-//! Uses wire_play. Used by engines_tests, for `kept`. Read first: `runs`.
+//! Uses wire_play. Used by engines_tests, for `kept`. Read first: `kept`.
 #![tactic(auto)]
 
-#[cfg(test)]
-mod cut_runs;
-#[cfg(test)]
-mod faulty_lines;
-#[cfg(test)]
-mod forms;
 pub mod kept;
 #[cfg(test)]
-mod neighbours;
-#[cfg(test)]
 mod play_refusals;
-#[cfg(test)]
-mod rows;
-#[cfg(test)]
-mod runs;
-#[cfg(test)]
-mod streams;
