@@ -3,87 +3,28 @@
 
 use bson_doc::Bson;
 use bson_json_read::from_json;
-use doc_query::CommandError;
 use doc_update::{Updates, after_updates};
 use std::alloc::Global;
 
 /// The documents that are held.
 const HELD: [&str; 2] = [r#"{"_id": 1, "a": 1}"#, r#"{"_id": {"b": 1}, "a": 2}"#];
 
-/// The error of a statement, and that of none.
-const NONE: Option<CommandError> = None;
-
-const IMMUTABLE: Option<CommandError> = Some(CommandError::ImmutableId);
-
-const INVALID: Option<CommandError> = Some(CommandError::InvalidId);
-
-const TAKEN: Option<CommandError> = Some(CommandError::Duplicate);
-
-/// Statements, how many documents are held behind each, and its error.
-const STATEMENTS: [(&str, usize, Option<CommandError>); 14] = [
-    (r#"{"q": {"_id": 1.0}, "u": {"$set": {"a": 5}}}"#, 2, NONE),
-    (
-        r#"{"q": {"_id": {"b": 1.0}}, "u": {"a": 5}, "upsert": true}"#,
-        2,
-        NONE,
-    ),
-    (
-        r#"{"q": {"_id": 7}, "u": {"$set": {"a": 5}}, "upsert": true}"#,
-        3,
-        NONE,
-    ),
-    (
-        r#"{"q": {"a": 7}, "u": {"_id": 1.0}, "upsert": true}"#,
-        2,
-        TAKEN,
-    ),
-    (
-        r#"{"q": {"a": 7}, "u": {"_id": {"b": {"$numberLong": "1"}}}, "upsert": true}"#,
-        2,
-        TAKEN,
-    ),
-    (
-        r#"{"q": {"a": 7}, "u": {"$set": {"_id": 1.5}}, "upsert": true}"#,
-        3,
-        NONE,
-    ),
-    (
-        r#"{"q": {"_id": [7]}, "u": {"$set": {"a": 5}}, "upsert": true}"#,
-        2,
-        INVALID,
-    ),
-    (
-        r#"{"q": {"a": 7}, "u": {"_id": []}, "upsert": true}"#,
-        2,
-        INVALID,
-    ),
-    (
-        r#"{"q": {"a": 7}, "u": {"$set": {"_id": {"$undefined": true}}}, "upsert": true}"#,
-        2,
-        INVALID,
-    ),
-    (
-        r#"{"q": {"a": 7}, "u": {"_id": {"$regularExpression": {"pattern": "x", "options": ""}}}, "upsert": true}"#,
-        2,
-        INVALID,
-    ),
-    (
-        r#"{"q": {"a": 7}, "u": {"_id": {"b": [7]}}, "upsert": true}"#,
-        3,
-        NONE,
-    ),
-    (
-        r#"{"q": {"_id": 1}, "u": {"$set": {"_id": 1.0}}}"#,
-        2,
-        IMMUTABLE,
-    ),
-    (
-        r#"{"q": {"_id": 1}, "u": {"$set": {"_id": [1]}}}"#,
-        2,
-        IMMUTABLE,
-    ),
-    (r#"{"q": {"_id": 1}, "u": {"$set": {"_id": 1}}}"#, 2, NONE),
-];
+/// A row for each statement: it, how many documents are held behind it, and the number of its error,
+/// or `-` for none.
+const STATEMENTS: &str = r#"{"q": {"_id": 1.0}, "u": {"$set": {"a": 5}}} | 2 | -
+{"q": {"_id": {"b": 1.0}}, "u": {"a": 5}, "upsert": true} | 2 | -
+{"q": {"_id": 7}, "u": {"$set": {"a": 5}}, "upsert": true} | 3 | -
+{"q": {"a": 7}, "u": {"_id": 1.0}, "upsert": true} | 2 | 11000
+{"q": {"a": 7}, "u": {"_id": {"b": {"$numberLong": "1"}}}, "upsert": true} | 2 | 11000
+{"q": {"a": 7}, "u": {"$set": {"_id": 1.5}}, "upsert": true} | 3 | -
+{"q": {"_id": [7]}, "u": {"$set": {"a": 5}}, "upsert": true} | 2 | 53
+{"q": {"a": 7}, "u": {"_id": []}, "upsert": true} | 2 | 53
+{"q": {"a": 7}, "u": {"$set": {"_id": {"$undefined": true}}}, "upsert": true} | 2 | 53
+{"q": {"a": 7}, "u": {"_id": {"$regularExpression": {"pattern": "x", "options": ""}}}, "upsert": true} | 2 | 53
+{"q": {"a": 7}, "u": {"_id": {"b": [7]}}, "upsert": true} | 3 | -
+{"q": {"_id": 1}, "u": {"$set": {"_id": 1.0}}} | 2 | 66
+{"q": {"_id": 1}, "u": {"$set": {"_id": [1]}}} | 2 | 66
+{"q": {"_id": 1}, "u": {"$set": {"_id": 1}}} | 2 | -"#;
 
 /// Returns what a statement makes of the documents, and `None` if there is no memory.
 fn after(alloc: Global, statement: &str) -> Option<Updates> {
@@ -96,26 +37,36 @@ fn after(alloc: Global, statement: &str) -> Option<Updates> {
     after_updates(alloc, true, &statements, &held).ok()
 }
 
-/// Returns true if the errors are just this one, or none where there is none.
-fn is_error(errors: &[Bson], wanted: Option<CommandError>) -> bool {
-    match (errors, wanted) {
-        ([], None) => true,
-        ([Bson::Document(error)], Some(wanted)) => {
-            error.get("code") == Some(&Bson::Int32(wanted.code()))
-        }
-        _ => false,
+/// Returns the number of the error, if there is just one.
+fn code_of(errors: &[Bson]) -> Option<&Bson> {
+    match errors {
+        [Bson::Document(error)] => error.get("code"),
+        _ => None,
     }
+}
+
+/// Returns what a statement makes of the documents, in the words of a row.
+fn words_of(alloc: Global, statement: &str) -> Option<String> {
+    let updates = after(alloc, statement)?;
+    let count = updates.documents.len();
+    if updates.errors.is_empty() {
+        return format!(in alloc; "{count} | -").ok();
+    }
+    match code_of(&updates.errors)? {
+        Bson::Int32(code) => format!(in alloc; "{count} | {code}").ok(),
+        _ => None,
+    }
+}
+
+/// Returns true if the row's statement makes of the documents what the row says.
+fn is_made(alloc: Global, row: &str) -> Option<bool> {
+    let (statement, wanted) = row.split_once(" | ")?;
+    Some(words_of(alloc, statement)?.as_str() == wanted)
 }
 
 #[test]
 fn ids_are_equal_by_value(rt: HostRuntime) {
-    for (statement, count, error) in STATEMENTS {
-        let updates = after(rt.alloc(), statement);
-        assert!(rt;
-            updates.is_some_and(|updates| {
-                updates.documents.len() == count && is_error(updates.errors.as_slice(), error)
-            }),
-            "{statement}"
-        );
+    for row in STATEMENTS.split('\n') {
+        assert!(rt; is_made(rt.alloc(), row) == Some(true), "{row}");
     }
 }
