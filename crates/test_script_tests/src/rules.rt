@@ -21,26 +21,25 @@ on insert hangup
 on * {\"comment\": \"x\"} times 1 reply 0500000000
 on * {} times 1 delay 18446744073709551615";
 
-/// Requests, one after another, and the index of the rule that each meets.
-const REQUESTS: [(&str, Option<usize>); 17] = [
-    ("{\"ping\": 1}", Some(0)),
-    ("{\"hello\": 1}", Some(1)),
-    ("{\"find\": \"a}\", \"filter\": {\"n\": 4}}", Some(2)),
-    ("{\"find\": \"a}\", \"filter\": {\"n\": 3}}", Some(10)),
-    ("{\"find\": \"a}\", \"filter\": {\"n\": 5}}", Some(2)),
-    ("{\"find\": \"a}\", \"filter\": {\"n\": 6}}", None),
-    ("{\"find\": \"b\"}", Some(3)),
-    ("{\"find\": \"b\"}", None),
-    ("{\"insert\": \"abc\"}", Some(4)),
-    ("{\"insert\": \"abc\"}", Some(4)),
-    ("{\"insert\": \"b\"}", Some(6)),
-    ("{\"insert\": \"b\"}", Some(7)),
-    ("{\"insert\": \"b\"}", Some(8)),
-    ("{\"insert\": \"b\"}", Some(8)),
-    ("{\"count\": \"c\", \"comment\": \"x\"}", Some(9)),
-    ("{\"count\": \"c\", \"comment\": \"x\"}", None),
-    ("{\"Ping\": 1}", None),
-];
+/// A row for each request, one after another: it, and the index of the rule that it meets, or `-` for
+/// none.
+const REQUESTS: &str = r#"{"ping": 1} | 0
+{"hello": 1} | 1
+{"find": "a}", "filter": {"n": 4}} | 2
+{"find": "a}", "filter": {"n": 3}} | 10
+{"find": "a}", "filter": {"n": 5}} | 2
+{"find": "a}", "filter": {"n": 6}} | -
+{"find": "b"} | 3
+{"find": "b"} | -
+{"insert": "abc"} | 4
+{"insert": "abc"} | 4
+{"insert": "b"} | 6
+{"insert": "b"} | 7
+{"insert": "b"} | 8
+{"insert": "b"} | 8
+{"count": "c", "comment": "x"} | 9
+{"count": "c", "comment": "x"} | -
+{"Ping": 1} | -"#;
 
 /// What becomes of the reply by each of the rules.
 const FLOWS: [Flow; 11] = [
@@ -78,15 +77,15 @@ fn payload(alloc: Global, body: &str) -> Option<PayloadBuf> {
     PayloadBuf::new(alloc, body.as_raw()).ok()
 }
 
-/// Returns true if the request meets this rule.
-fn meets(alloc: Global, script: &mut Script, request: &str, rule: Option<usize>) -> bool {
-    let Some(request) = payload(alloc, request) else {
-        return false;
+/// Returns true if the request of a row meets its rule.
+fn meets(alloc: Global, script: &mut Script, row: &str) -> Option<bool> {
+    let (request, wanted) = row.split_once(" | ")?;
+    let request = payload(alloc, request)?;
+    let found = match script.meet(alloc, request.as_payload()).ok()? {
+        Some(rule) => format!(in alloc; "{rule}"),
+        None => String::from_str(alloc, "-"),
     };
-    match script.meet(alloc, request.as_payload()) {
-        Ok(found) => found == rule,
-        Err(_) => false,
-    }
+    Some(found.ok()?.as_str() == wanted)
 }
 
 /// Returns true if each request meets the rule of its row.
@@ -94,8 +93,8 @@ fn all_meet(alloc: Global) -> bool {
     let Some(mut script) = forms(alloc) else {
         return false;
     };
-    for (request, rule) in REQUESTS {
-        if !meets(alloc, &mut script, request, rule) {
+    for row in REQUESTS.split('\n') {
+        if meets(alloc, &mut script, row) != Some(true) {
             return false;
         }
     }
