@@ -77,21 +77,21 @@ fn put_text(room: &mut [u8], at: usize, text: &[u8], behind: &[u8])
 }
 
 /// Writes a binary to offset `at` of `room`.
-fn put_binary(room: &mut [u8], at: usize, subtype: u8, data: &[u8])
-    requires within { at + length (binary subtype data.now) ≤ length room.old }
-    requires short { length (binary subtype data.now) < 2 ^ 31 }
-    ensures { room.new ≡ placed at (binary subtype data.now) room.old }
+fn put_binary(room: &mut [u8], at: usize, subtype: u8, bytes: &[u8])
+    requires within { at + length (binary subtype bytes.now) ≤ length room.old }
+    requires short { length (binary subtype bytes.now) < 2 ^ 31 }
+    ensures { room.new ≡ placed at (binary subtype bytes.now) room.old }
 {
-    let size = data.len() as u32;
+    let size = bytes.len() as u32;
     if subtype == 2 {
         let at = put(room, at, &(size + 4).to_le_bytes());
         let at = put(room, at, &[2]);
         let at = put(room, at, &size.to_le_bytes());
-        put(room, at, data);
+        put(room, at, bytes);
     } else {
         let at = put(room, at, &size.to_le_bytes());
         let at = put(room, at, &[subtype]);
-        put(room, at, data);
+        put(room, at, bytes);
     }
 }
 
@@ -231,15 +231,15 @@ fn pointer<'a>(text: &'a [u8], id: &'a [u8]) -> Option<Value<'a>>
 }
 
 /// Returns a binary, if the subtype and the data are one.
-fn binary(subtype: u32, data: &[u8]) -> Option<Value<'_>>
-    ensures { MatchOption result (IsBinary subtype data.now → ⊥)
-        (λ v. IsBinary subtype data.now × (value_bytes v ≡ binary subtype data.now)) }
+fn binary(subtype: u32, bytes: &[u8]) -> Option<Value<'_>>
+    ensures { MatchOption result (IsBinary subtype bytes.now → ⊥)
+        (λ v. IsBinary subtype bytes.now × (value_bytes v ≡ binary subtype bytes.now)) }
 {
     let most = if subtype == 2 { MAX_LEN - 4 } else { MAX_LEN };
-    if subtype > 255 || data.len() > most {
+    if subtype > 255 || bytes.len() > most {
         return None;
     }
-    Some(Value::Binary(subtype as u8, data))
+    Some(Value::Binary(subtype as u8, bytes))
 }
 
 /// Returns a regular expression, if the pattern and the options are names.

@@ -14,7 +14,7 @@ other subtype bytes apart = rw (ne_eqb subtype 2 apart) refl
 
 pub returns-then-subtype-eq2 : goal.returns-then-subtype-eq2
 returns-then-subtype-eq2 c =
-    let room = c.args.room.now in let at = c.args.at in let bytes = c.args.data.now in let all = c.to_le_bytes.result in let inner = c.to_le_bytes-then-subtype-eq2.result in
+    let room = c.args.room.now in let at = c.args.at in let bytes = c.args.bytes.now in let all = c.to_le_bytes.result in let inner = c.to_le_bytes-then-subtype-eq2.result in
     let parts : all ++ ((2 ∷ []) ++ (inner ++ bytes)) ≡ binary c.args.subtype bytes =
     ap (λ (x : List ℕ). x ++ (2 ∷ (inner ++ bytes))) c.to_le_bytes.ensures ∙ ap (λ (x : List ℕ). little (length bytes + 4) ++ (2 ∷ (x ++ bytes))) c.to_le_bytes-then-subtype-eq2.ensures ∙ old c.args.subtype bytes c.if-subtype-eq2.true in
     four_parts room all (2 ∷ []) inner bytes c.put-at.new.room c.put-at-then-subtype-eq2.new.room c.put-at-then-subtype-eq2-2.new.room c.put.new.room at c.put-at.result c.put-at-then-subtype-eq2.result c.put-at-then-subtype-eq2-2.result
@@ -24,7 +24,7 @@ returns-then-subtype-eq2 c =
 
 pub returns-else-subtype-eq2 : goal.returns-else-subtype-eq2
 returns-else-subtype-eq2 c =
-    let room = c.args.room.now in let at = c.args.at in let bytes = c.args.data.now in let four = c.to_le_bytes-else-subtype-eq2.result in
+    let room = c.args.room.now in let at = c.args.at in let bytes = c.args.bytes.now in let four = c.to_le_bytes-else-subtype-eq2.result in
     let parts : four ++ ((c.args.subtype ∷ []) ++ bytes) ≡ binary c.args.subtype bytes =
     ap (λ (x : List ℕ). x ++ (c.args.subtype ∷ bytes)) c.to_le_bytes-else-subtype-eq2.ensures ∙ other c.args.subtype bytes c.if-subtype-eq2.false in
     three_parts room four (c.args.subtype ∷ []) bytes c.put-at-else-subtype-eq2.new.room c.put-at-else-subtype-eq2-2.new.room c.put-else-subtype-eq2.new.room at c.put-at-else-subtype-eq2.result c.put-at-else-subtype-eq2-2.result
