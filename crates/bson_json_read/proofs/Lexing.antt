@@ -12,7 +12,10 @@ use Rattle.json.specs.Print.{IsNumber}
 use Rattle.json.proofs.Printed.Numbers.{in_word-ended, lex-number}
 use Rattle.bson_json_read.specs.declared.cursor.Behind.{Behind}
 use Rattle.bson_json_read.specs.declared.cursor.Behind.TheVariants.{Opening, Value, Comma}
-use Rattle.bson_json_read.specs.Cursor.{IsWord, place_of, tokens_left}
+use Rattle.bson_json_read.specs.declared.bracket.Bracket.{Bracket}
+use Rattle.bson_json_read.specs.declared.bracket.Bracket.TheVariants.{BeginArray, BeginObject, EndArray, EndObject}
+use Rattle.bson_json_read.specs.Brackets.{byte_of, token_of}
+use Rattle.bson_json_read.specs.Cursor.{IsWord, behind, may_stand, place_of, tokens_left}
 
 -- ---- white space
 
@@ -284,10 +287,10 @@ nothing_left b d at may end = ap (tokens_left b) (drop_all at d end) ∙ none_le
 
 -- what stands behind white space
 module _ (b : Behind) (d : List ℕ) (at next : ℕ) where
-  pub object_ended : may_close (place_of b) ≡ true → get_or d at 32 ≡ 125 → lex between (drop (at + 1) d) ≡ lex between (drop next d) → tokens_left b (drop at d) ≡ Token.end_object ∷ tokens_left Value (drop next d)
+  object_ended : may_close (place_of b) ≡ true → get_or d at 32 ≡ 125 → lex between (drop (at + 1) d) ≡ lex between (drop next d) → tokens_left b (drop at d) ≡ Token.end_object ∷ tokens_left Value (drop next d)
   object_ended may is passed = ap (punctuate (place_of b)) (at_close_brace d at is ∙ ap (λ l. token Token.end_object ∷ l) passed) ∙ object_ends (place_of b) (lex between (drop next d)) may
 
-  pub array_ended : may_close (place_of b) ≡ true → get_or d at 32 ≡ 93 → lex between (drop (at + 1) d) ≡ lex between (drop next d) → tokens_left b (drop at d) ≡ Token.end_array ∷ tokens_left Value (drop next d)
+  array_ended : may_close (place_of b) ≡ true → get_or d at 32 ≡ 93 → lex between (drop (at + 1) d) ≡ lex between (drop next d) → tokens_left b (drop at d) ≡ Token.end_array ∷ tokens_left Value (drop next d)
   array_ended may is passed = ap (punctuate (place_of b)) (at_close_bracket d at is ∙ ap (λ l. token Token.end_array ∷ l) passed) ∙ array_ends (place_of b) (lex between (drop next d)) may
 
 pub behind_comma : (b : Behind) (d : List ℕ) (at next : ℕ) → may_begin (place_of b) ≡ false → get_or d at 32 ≡ 44 → lex between (drop (at + 1) d) ≡ lex between (drop next d) → tokens_left b (drop at d) ≡ tokens_left Comma (drop next d)
@@ -304,13 +307,20 @@ not_colon d at c is (inr (inr e)) = ap begins_colon (at_close_bracket d at (is �
 
 -- ---- steps
 
-pub object_step : (d : List ℕ) (at next : ℕ) (p : Place) → get_or d at 32 ≡ 123 → lex between (drop (at + 1) d) ≡ lex between (drop next d) → may_begin p ≡ true
+object_step : (d : List ℕ) (at next : ℕ) (p : Place) → get_or d at 32 ≡ 123 → lex between (drop (at + 1) d) ≡ lex between (drop next d) → may_begin p ≡ true
     → punctuate p (lex between (drop at d)) ≡ Token.begin_object ∷ tokens_left Opening (drop next d)
 object_step d at next p is passed may = ap (punctuate p) (at_open_brace d at is ∙ ap (λ l. token Token.begin_object ∷ l) passed) ∙ object_begins p (lex between (drop next d)) may
 
-pub array_step : (d : List ℕ) (at next : ℕ) (p : Place) → get_or d at 32 ≡ 91 → lex between (drop (at + 1) d) ≡ lex between (drop next d) → may_begin p ≡ true
+array_step : (d : List ℕ) (at next : ℕ) (p : Place) → get_or d at 32 ≡ 91 → lex between (drop (at + 1) d) ≡ lex between (drop next d) → may_begin p ≡ true
     → punctuate p (lex between (drop at d)) ≡ Token.begin_array ∷ tokens_left Opening (drop next d)
 array_step d at next p is passed may = ap (punctuate p) (at_open_bracket d at is ∙ ap (λ l. token Token.begin_array ∷ l) passed) ∙ array_begins p (lex between (drop next d)) may
+
+pub bracket_taken : (b : Behind) (k : Bracket) (d : List ℕ) (at next : ℕ) → may_stand (place_of b) k ≡ true → get_or d at 32 ≡ byte_of k → lex between (drop (at + 1) d) ≡ lex between (drop next d)
+    → tokens_left b (drop at d) ≡ token_of k ∷ tokens_left (behind k) (drop next d)
+bracket_taken b BeginObject d at next may is passed = object_step d at next (place_of b) is passed may
+bracket_taken b EndObject d at next may is passed = object_ended b d at next may is passed
+bracket_taken b BeginArray d at next may is passed = array_step d at next (place_of b) is passed may
+bracket_taken b EndArray d at next may is passed = array_ended b d at next may is passed
 
 pub text_step : (d s : List ℕ) (at end next : ℕ) (p : Place) → lex between (drop at d) ≡ token (Token.string s) ∷ lex between (drop end d) → lex between (drop end d) ≡ lex between (drop next d)
     → begins_colon (lex between (drop next d)) ≡ false → may_begin p ≡ true → punctuate p (lex between (drop at d)) ≡ Token.string s ∷ tokens_left Value (drop next d)

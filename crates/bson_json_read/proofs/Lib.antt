@@ -3,6 +3,7 @@ pub mod Codes
 pub mod DecimalBack
 pub mod DecimalBytes
 pub mod DocumentBack
+pub mod Elements
 pub mod Ends
 pub mod FormNames
 pub mod Integers

@@ -13,14 +13,14 @@ use Rattle.bson_doc.specs.Array.{array_tree}
 use Rattle.bson_doc.specs.Document.{tree_of}
 use Rattle.bson_doc.specs.Values.{element_bytes}
 use Rattle.bson_json_read.specs.declared.form.Form.{Form}
-use Rattle.bson_json_read.specs.Bytes.{hex_of}
+use Rattle.bson_json_read.specs.Bytes.{base64_of, hex_of, subtype_of}
 use Rattle.bson_json_read.specs.DecimalText.{decimal128_of}
 use Rattle.bson_json_read.specs.Direct.{IsDocumentPut, IsPut, PutsLeaf, leaf_json}
 use Rattle.bson_json_read.specs.Forms.{first_form, form_name, form_named}
 use Rattle.bson_json_read.specs.Iso.{iso_of}
 use Rattle.bson_json_read.specs.Numbers.{double_of_text, integer_of}
 use Rattle.bson_json_read.specs.Reads.{Read, and_map, or_refused}
-use Rattle.bson_json_read.specs.Table.{binary_texts, date_value, decimal_value, double_value, form_value, int32_value, int64_value, object_id_value, string_value}
+use Rattle.bson_json_read.specs.Table.{binary_texts, binary_with, data_value, date_value, decimal_value, double_value, form_value, int32_value, int64_value, object_id_value, string_value}
 use Rattle.bson_json_read.specs.Texts.{document_as, document_in, json_in}
 use Rattle.bson_json_read.specs.Values.{Pair, array_of, document_of, document_read, form_read, object_as, value_read}
 use Rattle.bson_json_read.proofs.FormNames.{named}
@@ -90,6 +90,9 @@ binary_form name tokens left old new s t v is value bytes = record {
   deep = omega arith;
   put = λ key room h. form_put room name key forms.Binary _ v old new h value bytes;
 }
+
+pub texts_value : (s t bytes : List ℕ) (subtype : ℕ) → subtype_of t ≡ Some subtype → base64_of s ≡ Some bytes → binary_texts (s, t) ≡ Some (data_value subtype bytes)
+texts_value s t bytes subtype a b = ap (option_and_then (binary_with s)) a ∙ ap (option_map (data_value subtype)) b
 
 -- the rows of the table that a text alone tells
 pub id_row : (t : List ℕ) → form_value forms.ObjectId (member (form_name forms.ObjectId) (string t) no_members) ≡ option_map object_id_value (hex_of 12 t)

@@ -1,3 +1,4 @@
+pub mod Brackets
 pub mod Bytes
 pub mod Lossless
 pub mod Causes

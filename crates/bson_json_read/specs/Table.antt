@@ -67,16 +67,18 @@ code_value words = leaf_value kinds.Code (text_value words)
 abbrev pub decimal_value : List ℕ → TreeValue
 decimal_value bytes = leaf_value kinds.Decimal128 (raw_value bytes)
 
+abbrev pub data_value : ℕ → List ℕ → TreeValue
+data_value subtype bytes = leaf_value kinds.Binary (binary_value subtype bytes)
+
 abbrev pub uuid_value : List ℕ → TreeValue
-uuid_value bytes = leaf_value kinds.Binary (binary_value 4 bytes)
+uuid_value bytes = data_value 4 bytes
 
 abbrev pub date_value : ℤ → TreeValue
 date_value ms = leaf_value kinds.DateTime (number_value ms)
 
 -- `base64` and `subType`
 abbrev pub binary_with : List ℕ → ℕ → Option TreeValue
-binary_with text subtype =
-    option_map (λ bytes. leaf_value kinds.Binary (binary_value subtype bytes)) (base64_of text)
+binary_with text subtype = option_map (data_value subtype) (base64_of text)
 
 abbrev pub binary_texts : List ℕ × List ℕ → Option TreeValue
 binary_texts p = option_and_then (binary_with p.0) (subtype_of p.1)
@@ -135,10 +137,16 @@ iso_or_long None inner = option_and_then long_of inner
 abbrev pub date_in : json.Json → Option ℤ
 date_in j = iso_or_long (as_str j) (as_object j)
 
--- the number 1, and `true`
-abbrev pub if_one : Kind → List ℕ → Option TreeValue
-if_one k text =
-    if bytes_eq text (codes "1") then Some (leaf_value k (raw_value [])) else None
+-- the number 1 alone, and `true`
+abbrev pub is_one : Option (List ℕ) → Bool
+is_one (Some text) = bytes_eq text (codes "1")
+is_one None = false
+
+abbrev pub is_one_alone : List ℕ → json.Members → Bool
+is_one_alone name ms = is_one (option_and_then as_number (sole name ms))
+
+abbrev pub key_value : Kind → Bool → Option TreeValue
+key_value k there = if there then Some (leaf_value k (raw_value [])) else None
 
 abbrev pub if_true : Bool → Option TreeValue
 if_true true = Some (leaf_value kinds.Undefined (raw_value []))
@@ -171,11 +179,7 @@ form_value forms.DbPointer ms =
     option_and_then pointer_of (sole_object (codes "$dbPointer") ms)
 form_value forms.DateTime ms =
     option_map date_value (option_and_then date_in (sole (codes "$date") ms))
-form_value forms.MinKey ms =
-    option_and_then (if_one kinds.MinKey)
-    (option_and_then as_number (sole (codes "$minKey") ms))
-form_value forms.MaxKey ms =
-    option_and_then (if_one kinds.MaxKey)
-    (option_and_then as_number (sole (codes "$maxKey") ms))
+form_value forms.MinKey ms = key_value kinds.MinKey (is_one_alone (codes "$minKey") ms)
+form_value forms.MaxKey ms = key_value kinds.MaxKey (is_one_alone (codes "$maxKey") ms)
 form_value forms.Undefined ms =
     option_and_then if_true (option_and_then as_bool (sole (codes "$undefined") ms))

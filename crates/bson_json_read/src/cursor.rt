@@ -9,8 +9,10 @@ ghost use Rattle.json.specs.Lex.{begins_colon, between, lex, may_begin, may_clos
 ghost use Rattle.json.specs.Lex as lexeme;
 ghost use Rattle.json.specs.Reads.{token_of};
 ghost use Rattle.json.specs.Token as token;
-ghost use Rattle.bson_json_read.specs.Cursor.{IsWord, IsWordAt, place_of};
+ghost use Rattle.bson_json_read.specs.Brackets.{token_of as bracket_token};
+ghost use Rattle.bson_json_read.specs.Cursor.{IsWord, IsWordAt, behind, may_stand, place_of};
 
+use crate::bracket::Bracket;
 use crate::run::{byte_at, past_spaces, plain_end, word_end};
 use json::{Token, is_number};
 use std::marker::Model;
@@ -46,6 +48,28 @@ impl Behind {
         match self {
             Behind::Opening | Behind::Comma => true,
             Behind::Value => false,
+        }
+    }
+
+    /// Returns true if this bracket may stand here.
+    #[inline(always)]
+    fn may_stand(self, bracket: Bracket) -> bool
+        ensures { result ≡ may_stand (place_of self) bracket }
+    {
+        match bracket {
+            Bracket::BeginObject | Bracket::BeginArray => self.may_begin(),
+            Bracket::EndObject | Bracket::EndArray => self.may_close(),
+        }
+    }
+
+    /// Returns what stands behind this bracket.
+    #[inline(always)]
+    fn of(bracket: Bracket) -> Behind
+        ensures { result ≡ behind bracket }
+    {
+        match bracket {
+            Bracket::BeginObject | Bracket::BeginArray => Behind::Opening,
+            Bracket::EndObject | Bracket::EndArray => Behind::Value,
         }
     }
 }
@@ -187,33 +211,19 @@ impl<'a> Cursor<'a> {
         self.at >= self.text.len() && self.behind.may_close()
     }
 
-    /// Takes the end of an object, if it is next. Returns true if it did.
-    #[tactic(auto, using(crate::proofs::Lexing::object_ended))]
+    /// Takes this bracket, if it is next. Returns true if it did.
+    #[tactic(auto, using(crate::proofs::Lexing::bracket_taken))]
     #[inline(always)]
-    pub(crate) fn end_object(&mut self) -> bool
-        ensures { MatchBool result (self.old ≡ token.end_object ∷ self.new) (self.new ≡ self.old) }
+    pub(crate) fn take(&mut self, bracket: Bracket) -> bool
+        ensures { MatchBool result (self.old ≡ bracket_token bracket ∷ self.new)
+            (self.new ≡ self.old) }
     {
         let bytes = self.text.as_bytes();
-        if byte_at(bytes, self.at) != b'}' || !self.behind.may_close() {
+        if byte_at(bytes, self.at) != bracket.byte() || !self.behind.may_stand(bracket) {
             return false;
         }
         self.at = past_spaces(bytes, self.at + 1);
-        self.behind = Behind::Value;
-        true
-    }
-
-    /// Takes the end of an array, if it is next. Returns true if it did.
-    #[tactic(auto, using(crate::proofs::Lexing::array_ended))]
-    #[inline(always)]
-    pub(crate) fn end_array(&mut self) -> bool
-        ensures { MatchBool result (self.old ≡ token.end_array ∷ self.new) (self.new ≡ self.old) }
-    {
-        let bytes = self.text.as_bytes();
-        if byte_at(bytes, self.at) != b']' || !self.behind.may_close() {
-            return false;
-        }
-        self.at = past_spaces(bytes, self.at + 1);
-        self.behind = Behind::Value;
+        self.behind = Behind::of(bracket);
         true
     }
 
@@ -249,38 +259,6 @@ impl<'a> Cursor<'a> {
         self.at = past_spaces(bytes, colon + 1);
         self.behind = Behind::Opening;
         Some(part.text)
-    }
-
-    /// Takes the beginning of an object, if it is next. Returns true if it did.
-    #[tactic(auto, using(crate::proofs::Lexing::object_step))]
-    #[inline(always)]
-    pub(crate) fn begin_object(&mut self) -> bool
-        ensures { MatchBool result (self.old ≡ token.begin_object ∷ self.new)
-            (self.new ≡ self.old) }
-    {
-        let bytes = self.text.as_bytes();
-        if byte_at(bytes, self.at) != b'{' || !self.behind.may_begin() {
-            return false;
-        }
-        self.at = past_spaces(bytes, self.at + 1);
-        self.behind = Behind::Opening;
-        true
-    }
-
-    /// Takes the beginning of an array, if it is next. Returns true if it did.
-    #[tactic(auto, using(crate::proofs::Lexing::array_step))]
-    #[inline(always)]
-    pub(crate) fn begin_array(&mut self) -> bool
-        ensures { MatchBool result (self.old ≡ token.begin_array ∷ self.new)
-            (self.new ≡ self.old) }
-    {
-        let bytes = self.text.as_bytes();
-        if byte_at(bytes, self.at) != b'[' || !self.behind.may_begin() {
-            return false;
-        }
-        self.at = past_spaces(bytes, self.at + 1);
-        self.behind = Behind::Opening;
-        true
     }
 
     /// Takes the text that is next, which is a value.

@@ -14,7 +14,9 @@ ghost use Rattle.json.specs.Lex.{tokens};
 ghost use Rattle.json.specs.Reads.{token_of};
 ghost use Rattle.json.specs.Token as token;
 ghost use Rattle.bson_elem.specs.{document};
+ghost use Rattle.bson_raw.specs.{TreeValue};
 ghost use Rattle.bson_doc.specs.Unwritable as unwritable;
+ghost use Rattle.bson_doc.specs.Values.{element_bytes};
 ghost use Rattle.bson_json_read.specs.Direct.{IsDocumentPut, PutsLeaf, ReadsForm, ReadsItems};
 ghost use Rattle.bson_json_read.specs.Direct.{ReadsMembers, ReadsValue};
 ghost use Rattle.bson_json_read.specs.Forms.{form_name, form_named};
@@ -22,19 +24,19 @@ ghost use Rattle.bson_json_read.specs.Leaf.{leaf_of};
 ghost use Rattle.bson_json_read.specs.Numbers.{integer_of};
 ghost use Rattle.bson_json_read.specs.Seen.{IsSeen, Keeps, code_of};
 ghost use Rattle.bson_json_read.specs.Sources.{left_of};
-ghost use Rattle.bson_json_read.specs.Table.{date_value, form_value};
+ghost use Rattle.bson_json_read.specs.Table.{binary_texts, date_value, form_value};
 ghost use Rattle.bson_json_read.specs.Texts.{document_in};
 ghost use Rattle.bson_json_read.specs.Values.{number_read};
 
-use crate::bytes::read_object_id;
+use crate::bracket::Bracket;
+use crate::bytes::{read_base64, read_object_id, read_subtype};
 use crate::cursor::Cursor;
 use crate::decimal::decimal128_from_text;
-use crate::element::{Leaf, begin, finish, put_head, put_leaf, put_owned, put_string};
+use crate::element::{Leaf, begin, finish, put_binary, put_head, put_leaf, put_string};
 use crate::form::{Form, form_of_name};
 use crate::iso::read_iso;
 use crate::nodes::Nodes;
 use crate::number::{read_double, read_finite, read_i32, read_i64};
-use crate::owned::binary_of;
 use crate::seen::{Seen, code_of};
 use crate::source::Source;
 use crate::zero::has_zero;
@@ -74,7 +76,7 @@ fn write_text_form<'t, 'a>(
         out.old.items out.new.items) }
 {
     let text = left.text()?;
-    if !left.end_object() {
+    if !left.take(Bracket::EndObject) {
         return None;
     }
     put_leaf(name, text_value(form, text)?, out)
@@ -108,21 +110,38 @@ fn write_long_date<'t, 'a>(name: &str, left: &mut Source<'t, 'a>, out: &mut Vec<
     ensures { OnSome result (ReadsForm Form.DateTime name.now (left_of left.old) (left_of left.new)
         out.old.items out.new.items) }
 {
-    if !left.begin_object() {
+    if !left.take(Bracket::BeginObject) {
         return None;
     }
     let text = text_named("$numberLong", left)?;
-    if !left.end_object() {
+    if !left.take(Bracket::EndObject) {
         return None;
     }
-    if !left.end_object() {
+    if !left.take(Bracket::EndObject) {
         return None;
     }
     put_leaf(name, date_of(text)?, out)
 }
 
+/// Appends the binary of these texts under a name.
+fn put_binary_of(
+    alloc: Global,
+    name: &str,
+    base64: &str,
+    subtype: &str,
+    out: &mut Vec<u8>,
+) -> Option<()>
+    ensures { OnSome result ((v : TreeValue) × (binary_texts (base64.now, subtype.now) ≡ Some v)
+        × (out.new.items ≡ out.old.items ++ element_bytes name.now v)) }
+{
+    let subtype = read_subtype(subtype)?;
+    let Ok(Some(bytes)) = read_base64(alloc, base64) else {
+        return None;
+    };
+    put_binary(name, subtype, &bytes, out)
+}
+
 /// Appends the binary of an object of `$binary`.
-#[tactic(auto, using(crate::proofs::Written::binary_form))]
 fn write_binary<'t, 'a>(
     alloc: Global,
     name: &str,
@@ -132,21 +151,18 @@ fn write_binary<'t, 'a>(
     ensures { OnSome result (ReadsForm Form.Binary name.now (left_of left.old) (left_of left.new)
         out.old.items out.new.items) }
 {
-    if !left.begin_object() {
+    if !left.take(Bracket::BeginObject) {
         return None;
     }
     let base64 = text_named("base64", left)?;
     let subtype = text_named("subType", left)?;
-    if !left.end_object() {
+    if !left.take(Bracket::EndObject) {
         return None;
     }
-    if !left.end_object() {
+    if !left.take(Bracket::EndObject) {
         return None;
     }
-    let Ok(Some(value)) = binary_of(alloc, base64, subtype) else {
-        return None;
-    };
-    put_owned(name, &value, out)
+    put_binary_of(alloc, name, base64, subtype, out)
 }
 
 /// Appends the value of an object of this form, whose name was taken.
@@ -234,7 +250,7 @@ fn write_members<'t, 'a>(
     // A member takes a token at least.
     for _ in 0..left.most() {
         write_member(alloc, offset, name, left, room - 1, seen, out)?;
-        if left.end_object() {
+        if left.take(Bracket::EndObject) {
             return finish(start, out);
         }
         left.pass_comma();
@@ -283,7 +299,7 @@ fn write_items<'t, 'a>(
     begin(out)?;
     // An item takes a token at least.
     for index in 0..left.most() {
-        if left.end_array() {
+        if left.take(Bracket::EndArray) {
             return finish(start, out);
         }
         left.pass_comma();
@@ -308,7 +324,7 @@ fn write_object<'t, 'a>(
         (left_of left.new) out.old.items out.new.items) }
     ensures kept { OnSome result (Keeps seen.old seen.new) }
 {
-    if left.end_object() {
+    if left.take(Bracket::EndObject) {
         put_head(Kind::Document, name, out)?;
         return write_empty(room, out);
     }
@@ -384,10 +400,10 @@ fn write_value<'t, 'a>(
         out.old.items out.new.items) }
     ensures kept { OnSome result (Keeps seen.old seen.new) }
 {
-    if left.begin_object() {
+    if left.take(Bracket::BeginObject) {
         return write_object(alloc, name, left, room, seen, out);
     }
-    if left.begin_array() {
+    if left.take(Bracket::BeginArray) {
         return write_array(alloc, name, left, room, seen, out);
     }
     if let Some(text) = left.text() {
@@ -408,7 +424,7 @@ fn write_outermost<'t, 'a>(
         (ReadsMembers 200 (left_of left.old) (left_of left.new) out.old.items out.new.items) }
     ensures short { OnSome result (vec_len out.new < vec_len out.old + 2 ^ 31) }
 {
-    if left.end_object() {
+    if left.take(Bracket::EndObject) {
         return write_empty(200, out);
     }
     let first = left.name()?;
@@ -427,7 +443,7 @@ fn write_tokens<'t, 'a>(
         → IsDocumentPut (document_in text) out.old.items out.new.items) }
     ensures short { OnSome result (vec_len out.new < vec_len out.old + 2 ^ 31) }
 {
-    if !left.begin_object() {
+    if !left.take(Bracket::BeginObject) {
         return None;
     }
     write_outermost(alloc, left, seen, out)?;

@@ -4,12 +4,10 @@
 ghost use Rattle.std.specs.Prelude.{◌≡◌, ◌<◌, ◌≤◌, ◌+◌, ◌-◌, ◌^◌, ◌++◌, ◌∷◌, [], OnSome, drop};
 ghost use Rattle.std.specs.Prelude.{take, vec_len};
 ghost use Rattle.bson_elem.specs.{binary, byte_of, cstring, document, little, string};
-ghost use Rattle.bson_doc.specs.{value_of};
 ghost use Rattle.bson_doc.specs.Values.{element_bytes};
 ghost use Rattle.bson_json_read.specs.Leaf.{leaf_of};
-ghost use Rattle.bson_json_read.specs.Table.{string_value};
+ghost use Rattle.bson_json_read.specs.Table.{data_value, string_value};
 
-use bson_doc::Bson;
 use bson_elem::{Kind, MAX_LEN};
 use byteorder::{ByteOrder, LittleEndian};
 
@@ -69,7 +67,7 @@ pub(crate) fn put_string(name: &str, text: &str, out: &mut Vec<u8>) -> Option<()
 }
 
 /// Appends the value of a binary that has no inner count.
-fn put_binary(subtype: u8, bytes: &[u8], out: &mut Vec<u8>) -> Option<()>
+fn put_data(subtype: u8, bytes: &[u8], out: &mut Vec<u8>) -> Option<()>
     ensures { OnSome result (out.new.items ≡ out.old.items ++ binary subtype bytes.now) }
 {
     if subtype == 2 {
@@ -80,18 +78,13 @@ fn put_binary(subtype: u8, bytes: &[u8], out: &mut Vec<u8>) -> Option<()>
     put_bytes(bytes, out)
 }
 
-/// Appends a binary under a name. Of other values it returns `None`.
-pub(crate) fn put_owned(name: &str, value: &Bson, out: &mut Vec<u8>) -> Option<()>
+/// Appends a binary under a name. Of one that has an inner count it returns `None`.
+pub(crate) fn put_binary(name: &str, subtype: u8, bytes: &[u8], out: &mut Vec<u8>) -> Option<()>
     ensures { OnSome result
-        (out.new.items ≡ out.old.items ++ element_bytes name.now (value_of value.now)) }
+        (out.new.items ≡ out.old.items ++ element_bytes name.now (data_value subtype bytes.now)) }
 {
-    match value {
-        Bson::Binary { subtype, bytes } => {
-            put_head(Kind::Binary, name, out)?;
-            put_binary(*subtype, bytes, out)
-        }
-        _ => None,
-    }
+    put_head(Kind::Binary, name, out)?;
+    put_data(subtype, bytes, out)
 }
 
 /// A value that takes no memory. It has a sixth of the size of a `Bson`, all of whose bytes are set
@@ -161,6 +154,7 @@ fn put_len(start: usize, out: &mut Vec<u8>) -> Option<()>
 
 /// Ends the document that begins at offset `start`, and puts its length there. Returns `None` if no
 /// document can begin there.
+#[tactic(auto, using(crate::proofs::Elements::finished))]
 pub(crate) fn finish(start: usize, out: &mut Vec<u8>) -> Option<()>
     ensures bytes { OnSome result (out.new.items
         ≡ take start out.old.items ++ document (drop (start + 4) out.old.items)) }

@@ -9,6 +9,7 @@
 //! Uses bson_doc and bson_json. Used by engines and test_script. Read first: `text`, and then `value`.
 #![tactic(auto)]
 
+mod bracket;
 mod bytes;
 mod cursor;
 mod decimal;

@@ -6,7 +6,9 @@ ghost use Rattle.json.specs.Reads.{token_of};
 ghost use Rattle.std.specs.Bool.{MatchBool};
 ghost use Rattle.json.specs.Tape.{node_token};
 ghost use Rattle.json.specs.Token as token;
+ghost use Rattle.bson_json_read.specs.Brackets.{token_of as bracket_token};
 
+use crate::bracket::Bracket;
 use json::{Node, Token};
 use std::marker::Model;
 
@@ -27,6 +29,19 @@ impl<'t, 'a> Model for Nodes<'t, 'a> {
     ghost coded = { tokens_code };
 
     ghost view = { λ n. drop n.at (map node_token n.nodes.now) };
+}
+
+/// Returns true if a node is this bracket.
+#[inline(always)]
+fn is_bracket(node: Node<'_>, bracket: Bracket) -> bool
+    ensures { IsTrue result → node_token node.entry ≡ bracket_token bracket }
+{
+    match bracket {
+        Bracket::BeginObject => matches!(node, Node::Object(_)),
+        Bracket::EndObject => matches!(node, Node::EndObject),
+        Bracket::BeginArray => matches!(node, Node::Array(_)),
+        Bracket::EndArray => matches!(node, Node::EndArray),
+    }
 }
 
 impl<'t, 'a> Nodes<'t, 'a> {
@@ -86,59 +101,14 @@ impl<'t, 'a> Nodes<'t, 'a> {
         self.peek().is_none()
     }
 
-    /// Takes the end of an object, if it is next. Returns true if it did.
+    /// Takes this bracket, if it is next. Returns true if it did.
     #[inline(always)]
-    pub(crate) fn end_object(&mut self) -> bool
-        ensures { MatchBool result (self.old ≡ token.end_object ∷ self.new)
+    pub(crate) fn take(&mut self, bracket: Bracket) -> bool
+        ensures { MatchBool result (self.old ≡ bracket_token bracket ∷ self.new)
             (self.new ≡ self.old) }
     {
         match self.peek() {
-            Some(Node::EndObject) => {
-                self.skip();
-                true
-            }
-            _ => false,
-        }
-    }
-
-    /// Takes the end of an array, if it is next. Returns true if it did.
-    #[inline(always)]
-    pub(crate) fn end_array(&mut self) -> bool
-        ensures { MatchBool result (self.old ≡ token.end_array ∷ self.new)
-            (self.new ≡ self.old) }
-    {
-        match self.peek() {
-            Some(Node::EndArray) => {
-                self.skip();
-                true
-            }
-            _ => false,
-        }
-    }
-
-    /// Takes the beginning of an object, if it is next. Returns true if it did.
-    #[inline(always)]
-    pub(crate) fn begin_object(&mut self) -> bool
-        ensures { MatchBool result (self.old ≡ token.begin_object ∷ self.new)
-            (self.new ≡ self.old) }
-    {
-        match self.peek() {
-            Some(Node::Object(_)) => {
-                self.skip();
-                true
-            }
-            _ => false,
-        }
-    }
-
-    /// Takes the beginning of an array, if it is next. Returns true if it did.
-    #[inline(always)]
-    pub(crate) fn begin_array(&mut self) -> bool
-        ensures { MatchBool result (self.old ≡ token.begin_array ∷ self.new)
-            (self.new ≡ self.old) }
-    {
-        match self.peek() {
-            Some(Node::Array(_)) => {
+            Some(node) if is_bracket(node, bracket) => {
                 self.skip();
                 true
             }

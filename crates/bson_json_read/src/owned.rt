@@ -65,11 +65,7 @@ fn uuid<'a>(alloc: Global, members: &[(&'a str, Value<'a>)]) -> Result<Option<Bs
 }
 
 /// Returns the binary of these texts.
-pub(crate) fn binary_of(
-    alloc: Global,
-    base64: &str,
-    subtype: &str,
-) -> Result<Option<Bson>, AllocError>
+fn binary_of(alloc: Global, base64: &str, subtype: &str) -> Result<Option<Bson>, AllocError>
     ensures { IfOk result (λ read. option_map value_of read
         ≡ spec.binary_texts (base64.now, subtype.now)) }
 {

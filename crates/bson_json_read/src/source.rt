@@ -6,8 +6,10 @@ ghost use Rattle.std.specs.Bool.{MatchBool};
 ghost use Rattle.std.specs.Str.{IsUtf8};
 ghost use Rattle.json.specs.Reads.{token_of};
 ghost use Rattle.json.specs.Token as token;
+ghost use Rattle.bson_json_read.specs.Brackets.{token_of as bracket_token};
 ghost use Rattle.bson_json_read.specs.Sources.{left_of};
 
+use crate::bracket::Bracket;
 use crate::cursor::Cursor;
 use crate::nodes::Nodes;
 use json::Token;
@@ -42,51 +44,15 @@ impl<'t, 'a> Source<'t, 'a> {
         }
     }
 
-    /// Takes the end of an object, if it is next. Returns true if it did.
+    /// Takes this bracket, if it is next. Returns true if it did.
     #[inline(always)]
-    pub(crate) fn end_object(&mut self) -> bool
-        ensures { MatchBool result (left_of self.old ≡ token.end_object ∷ left_of self.new)
+    pub(crate) fn take(&mut self, bracket: Bracket) -> bool
+        ensures { MatchBool result (left_of self.old ≡ bracket_token bracket ∷ left_of self.new)
             (left_of self.new ≡ left_of self.old) }
     {
         match self {
-            Source::Text(text) => text.end_object(),
-            Source::Tape(tape) => tape.end_object(),
-        }
-    }
-
-    /// Takes the end of an array, if it is next. Returns true if it did.
-    #[inline(always)]
-    pub(crate) fn end_array(&mut self) -> bool
-        ensures { MatchBool result (left_of self.old ≡ token.end_array ∷ left_of self.new)
-            (left_of self.new ≡ left_of self.old) }
-    {
-        match self {
-            Source::Text(text) => text.end_array(),
-            Source::Tape(tape) => tape.end_array(),
-        }
-    }
-
-    /// Takes the beginning of an object, if it is next. Returns true if it did.
-    #[inline(always)]
-    pub(crate) fn begin_object(&mut self) -> bool
-        ensures { MatchBool result (left_of self.old ≡ token.begin_object ∷ left_of self.new)
-            (left_of self.new ≡ left_of self.old) }
-    {
-        match self {
-            Source::Text(text) => text.begin_object(),
-            Source::Tape(tape) => tape.begin_object(),
-        }
-    }
-
-    /// Takes the beginning of an array, if it is next. Returns true if it did.
-    #[inline(always)]
-    pub(crate) fn begin_array(&mut self) -> bool
-        ensures { MatchBool result (left_of self.old ≡ token.begin_array ∷ left_of self.new)
-            (left_of self.new ≡ left_of self.old) }
-    {
-        match self {
-            Source::Text(text) => text.begin_array(),
-            Source::Tape(tape) => tape.begin_array(),
+            Source::Text(text) => text.take(bracket),
+            Source::Tape(tape) => tape.take(bracket),
         }
     }
 

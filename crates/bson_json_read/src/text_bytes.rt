@@ -70,6 +70,25 @@ fn read_bytes(alloc: Global, bytes: &[u8], scratch: &mut Scratch) -> Result<Docu
     }
 }
 
+/// Puts the bytes of a document into `out`, in place of what that holds. Returns why it has none, if
+/// it has none.
+fn write_raw(document: &Document, out: &mut Vec<u8>) -> Result<Option<DocRefusal>, FaultAt>
+    ensures ok { IfOk result (λ refusal. IsWritten document.now refusal out.new.items) }
+    ensures err { IfErr result (λ e. (e.cause ≡ Cause.OutOfMemory) × (e.offset ≡ 0)) }
+{
+    match document.to_raw() {
+        Ok(raw) => {
+            out.clear();
+            match out.extend_from_slice(raw.as_raw().as_bytes()) {
+                Ok(()) => Ok(None),
+                Err(_) => Err(OUT_OF_MEMORY),
+            }
+        }
+        Err(DocRefusal::OutOfMemory) => Err(OUT_OF_MEMORY),
+        Err(refusal) => Ok(Some(refusal)),
+    }
+}
+
 /// Puts the bytes of a text's document into `out`, in place of what that holds, by way of an owned
 /// document. Returns why it has none, if it has none.
 fn write_owned(
@@ -85,17 +104,7 @@ fn write_owned(
     ensures offset { IfErr result (λ e. e.offset ≤ length bytes.now) }
 {
     let document = read_bytes(alloc, bytes, scratch)?;
-    match document.to_raw() {
-        Ok(raw) => {
-            out.clear();
-            match out.extend_from_slice(raw.as_raw().as_bytes()) {
-                Ok(()) => Ok(None),
-                Err(_) => Err(OUT_OF_MEMORY),
-            }
-        }
-        Err(DocRefusal::OutOfMemory) => Err(OUT_OF_MEMORY),
-        Err(refusal) => Ok(Some(refusal)),
-    }
+    write_raw(&document, out)
 }
 
 /// Puts the bytes of a text's document into `out`, in place of what that holds, straight from its

@@ -1,7 +1,7 @@
 //! Reads JSON values, and those inside them.
 
 ghost use Rattle.std.specs.Prelude.{◌≡◌, ◌∷◌, [], ◌++◌, IfErr, IfOk, MatchResult, Ok, OnOk};
-ghost use Rattle.std.specs.Prelude.{map, option_map};
+ghost use Rattle.std.specs.Prelude.{map, option_map, string_bytes};
 ghost use Rattle.json.specs.Json as json_spec;
 ghost use Rattle.json.specs.Value.{items_view, members_view, value_view};
 ghost use Rattle.bson_doc.specs.{value_of};
@@ -21,7 +21,7 @@ use crate::owned::read_form;
 use crate::zero::has_zero;
 use bson_doc::{Array, Bson, Document};
 use json::Value;
-use std::alloc::Global;
+use std::alloc::{AllocError, Global};
 
 /// Returns the value of a number: without point and exponent the smallest integer that holds it, and
 /// else the nearest double.
@@ -85,20 +85,26 @@ fn scope_index<'a>(members: &[(&'a str, Value<'a>)]) -> usize
     }
 }
 
-/// Appends a pair whose name is new.
+/// Puts a pair whose name is new behind the others.
 #[tactic(auto, using(crate::proofs::Walking::put_last))]
-fn append(alloc: Global, document: &mut Document, name: &str, value: Bson) -> Result<(), JsonFault>
-    requires { value_named name.now document.old ≡ None }
-    ensures ok { OnOk result (document.new ≡ document.old ++ (name.now, value_of value) ∷ []) }
-    ensures err { IfErr result (λ e. e.cause ≡ Cause.OutOfMemory) }
+fn insert_last(document: &mut Document, name: String, value: Bson) -> Result<(), AllocError>
+    requires { value_named (string_bytes name) document.old ≡ None }
+    ensures { OnOk result
+        (document.new ≡ document.old ++ (string_bytes name, value_of value) ∷ []) }
 {
-    let Ok(name) = String::from_str(alloc, name) else {
-        return Err(JsonFault::here(alloc, Cause::OutOfMemory));
-    };
     match document.insert(name, value) {
         Ok(_) => Ok(()),
-        Err(_) => Err(JsonFault::here(alloc, Cause::OutOfMemory)),
+        Err(_) => Err(AllocError),
     }
+}
+
+/// Appends a pair whose name is new.
+fn append(alloc: Global, document: &mut Document, name: &str, value: Bson) -> Result<(), AllocError>
+    requires { value_named name.now document.old ≡ None }
+    ensures { OnOk result (document.new ≡ document.old ++ (name.now, value_of value) ∷ []) }
+{
+    let name = String::from_str(alloc, name)?;
+    insert_last(document, name, value)
 }
 
 /// Returns the value of an object that has the name of this form.
@@ -159,7 +165,10 @@ fn read_pair<'a>(
         return Err(JsonFault::here(alloc, cause).within(index));
     }
     match read_value(alloc, value, room) {
-        Ok(value) => append(alloc, document, name, value),
+        Ok(value) => match append(alloc, document, name, value) {
+            Ok(()) => Ok(()),
+            Err(_) => Err(JsonFault::here(alloc, Cause::OutOfMemory)),
+        },
         Err(fault) => Err(fault.within(index)),
     }
 }

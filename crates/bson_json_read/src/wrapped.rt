@@ -122,12 +122,21 @@ pub(crate) fn date_time<'a>(members: &[(&'a str, Value<'a>)]) -> Option<Bson>
     Some(Bson::DateTime(date_in(sole_value(members, "$date")?)?))
 }
 
+/// Returns true if the number 1 has this name, and no other member is there.
+fn is_one_alone<'a>(members: &[(&'a str, Value<'a>)], name: &str) -> bool
+    ensures { result ≡ spec.is_one_alone name.now (members_view members.now) }
+{
+    match sole_value(members, name) {
+        Some(value) => value.as_number() == Some("1"),
+        None => false,
+    }
+}
+
 /// Returns the value of an object of `$minKey`.
 pub(crate) fn min_key<'a>(members: &[(&'a str, Value<'a>)]) -> Option<Bson>
     ensures { option_map value_of result ≡ form_value forms.MinKey (members_view members.now) }
 {
-    let text = sole_value(members, "$minKey")?.as_number()?;
-    if text == "1" {
+    if is_one_alone(members, "$minKey") {
         Some(Bson::MinKey)
     } else {
         None
@@ -138,8 +147,7 @@ pub(crate) fn min_key<'a>(members: &[(&'a str, Value<'a>)]) -> Option<Bson>
 pub(crate) fn max_key<'a>(members: &[(&'a str, Value<'a>)]) -> Option<Bson>
     ensures { option_map value_of result ≡ form_value forms.MaxKey (members_view members.now) }
 {
-    let text = sole_value(members, "$maxKey")?.as_number()?;
-    if text == "1" {
+    if is_one_alone(members, "$maxKey") {
         Some(Bson::MaxKey)
     } else {
         None
