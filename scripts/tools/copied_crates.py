@@ -4,6 +4,8 @@ import os
 import shutil
 
 ROOT = os.path.dirname(os.path.dirname(os.path.dirname(os.path.realpath(__file__))))
+# The files that say what crates and tests stand on.
+LISTS = {"crates": "crates.txt", "tests": "tests/tests.txt"}
 
 
 def crates_below(names):
@@ -20,7 +22,7 @@ def crates_below(names):
 
 
 def link(source, target):
-    """Links a file that a check left: a check never writes into one that is there, but puts another in its place."""
+    """Links a file that a check reads or left: it never writes into one that is there, but puts another in its place."""
     try:
         os.link(source, target)
     except OSError:
@@ -37,3 +39,20 @@ def copy_crates(source, target, names, copy_function):
         shutil.copytree(*folders, ignore=ignored, copy_function=copy_function)
     with open(os.path.join(target, "crates.txt"), "w", encoding="utf-8") as file:
         file.write("\n".join([*lines.values(), ""]))
+
+
+def link_root(target, *kinds):
+    """Links into a new folder what a check reads of these folders of the repository: crates, or also tests, which become crates there."""
+    os.mkdir(os.path.join(target, "crates"))
+    lines = []
+    for kind in kinds:
+        for name in sorted(os.listdir(os.path.join(ROOT, kind))):
+            folders = os.path.join(ROOT, kind, name), os.path.join(target, "crates", name)
+            if os.path.isdir(folders[0]):
+                # A symbolic link stays one, so that the check refuses it.
+                shutil.copytree(*folders, symlinks=True, ignore=shutil.ignore_patterns("out", "plants"), copy_function=link)
+        with open(os.path.join(ROOT, LISTS[kind]), encoding="utf-8") as file:
+            lines.append(file.read())
+    with open(os.path.join(target, "crates.txt"), "w", encoding="utf-8") as file:
+        file.write("\n".join(lines))
+    link(os.path.join(ROOT, "HANDLES"), os.path.join(target, "HANDLES"))
