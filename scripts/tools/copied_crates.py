@@ -42,17 +42,17 @@ def copy_crates(source, target, names, copy_function):
 
 
 def link_root(target, *kinds):
-    """Links into a new folder what a check reads of these folders of the repository: crates, or also tests, which become crates there."""
-    os.mkdir(os.path.join(target, "crates"))
-    lines = []
+    """Links into a new folder what a check reads of these folders of the repository: crates, or also tests, which become crates there.
+    Its crates.txt comes first, so that a source which was edited since is newer."""
+    lists = []
     for kind in kinds:
-        for name in sorted(os.listdir(os.path.join(ROOT, kind))):
-            folders = os.path.join(ROOT, kind, name), os.path.join(target, "crates", name)
-            if os.path.isdir(folders[0]):
-                # A symbolic link stays one, so that the check refuses it.
-                shutil.copytree(*folders, symlinks=True, ignore=shutil.ignore_patterns("out", "plants"), copy_function=link)
         with open(os.path.join(ROOT, LISTS[kind]), encoding="utf-8") as file:
-            lines.append(file.read())
+            lists.append(file.read())
     with open(os.path.join(target, "crates.txt"), "w", encoding="utf-8") as file:
-        file.write("\n".join(lines))
+        file.write("\n".join(lists))
     link(os.path.join(ROOT, "HANDLES"), os.path.join(target, "HANDLES"))
+    ignored = shutil.ignore_patterns("out", "plants", "tests.txt")
+    for kind in kinds:
+        # A symbolic link stays one, so that the check refuses it.
+        folders = os.path.join(ROOT, kind), os.path.join(target, "crates")
+        shutil.copytree(*folders, symlinks=True, ignore=ignored, copy_function=link, dirs_exist_ok=True)
