@@ -1,8 +1,7 @@
 //! Tests of what no contract of documents says, owned ones, those of a stream, and those in Extended
 //! JSON: rows that were worked out by hand from the standard, that calls succeed if there is memory,
-//! and that nothing changes if it is refused. They are in a crate of their own, since a crate is
-//! proved once more with its tests. Streams of each end, damaged ones, the specification's own
-//! examples of Extended JSON, and texts that aren't read, are tried by the program that is built
+//! and that nothing changes if it is refused. Streams of each end, damaged ones, the specification's
+//! own examples of Extended JSON, and texts that aren't read, are tried by the program that is built
 //! (`scripts/checks/try-tables`, `scripts/checks/try-json`).
 //!
 //! Uses bson_doc, bson_json_read, bson_stream and bson_raw_tests. Read first: `documents`.

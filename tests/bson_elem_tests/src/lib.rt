@@ -1,6 +1,5 @@
 //! Tests of what no contract of elements says: rows that were worked out by hand from the standard,
-//! and the texts of faults. They are in a crate of their own, since a crate is proved once more
-//! with its tests.
+//! and the texts of faults.
 //!
 //! Uses bson_elem. Read first: `elements`.
 #![tactic(auto)]

@@ -1,6 +1,5 @@
 //! Tests of what no contract of texts of documents says: texts that were worked out by hand, and
-//! writers that fail. They are in a crate of their own, since a crate is proved once more with its
-//! tests.
+//! writers that fail.
 //!
 //! Uses bson_text and bson_raw_tests. Read first: `dumps`.
 #![tactic(auto)]

@@ -1,6 +1,5 @@
 //! Tests of what no contract of queries and updates says: how long one of many paths takes, and that
-//! the definitions are MongoDB's. They are in a crate of their own, since a crate is proved once more
-//! with its tests.
+//! the definitions are MongoDB's.
 //!
 //! Uses doc_query and doc_update. Read first: `equality`, `ids`, and then `many_paths`.
 #![tactic(auto)]

@@ -1,6 +1,5 @@
-//! Tests of the engines, by what no contract says: readers, writers and networks that fail, and refused allocations. They stand in a
-//! crate of their own, since a crate is proved once more with its tests. The texts that a run writes are tried by the program that is
-//! built, in `scripts/checks/try-tables` and `scripts/checks/try-json`.
+//! Tests of the engines, by what no contract says: readers, writers and networks that fail, and refused allocations. The texts that a
+//! run writes are tried by the program that is built, in `scripts/checks/try-tables` and `scripts/checks/try-json`.
 //!
 //! Stands on engines and wire_play_tests. Read first: `dump`.
 #![tactic(auto)]

@@ -1,6 +1,5 @@
 //! Tests of what no contract of scripts says: that the definitions mean the forms of rules, that a
-//! line of each form is read if there is memory, and what a fault says. They are in a crate of
-//! their own, since a crate is proved once more with its tests.
+//! line of each form is read if there is memory, and what a fault says.
 //!
 //! Uses test_script. Read first: `rules`.
 #![tactic(auto)]

@@ -1,6 +1,5 @@
 //! Tests of ends over links in memory, by what no contract says: that replies come where memory is
-//! there, and what is sent byte for byte. They stand in a crate of their own, since a crate is
-//! proved once more with its tests.
+//! there, and what is sent byte for byte.
 //!
 //! Uses wire_end, and `log_rows` of wire_peer_tests. Read first: `answered`, `requests` and `serving`.
 #![tactic(auto)]

@@ -1,6 +1,5 @@
 //! Tests of what no contract of frames says: the bytes that drivers send, the check values of
-//! CRC-32C, and that calls succeed if there is memory. They are in a crate of their own, since a
-//! crate is proved once more with its tests.
+//! CRC-32C, and that calls succeed if there is memory.
 //!
 //! Uses wire_frame. Read first: `frames`.
 #![tactic(auto)]

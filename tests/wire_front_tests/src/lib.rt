@@ -1,6 +1,5 @@
 //! Tests of fronts by what no contract says: that queries and messages are answered where memory is
-//! there, byte for byte as the Wire Protocol manual has it. They stand in a crate of their own,
-//! since a crate is proved once more with its tests.
+//! there, byte for byte as the Wire Protocol manual has it.
 //!
 //! Uses wire_front. Read first: `spellings`.
 #![tactic(auto)]

@@ -1,6 +1,5 @@
 //! Tests of seats and halls by what no contract says: that requests are answered where memory is
-//! there, and what is sent byte for byte. They stand in a crate of their own, since a crate is
-//! proved once more with its tests.
+//! there, and what is sent byte for byte.
 //!
 //! Uses wire_hall. Read first: `halls`.
 #![tactic(auto)]

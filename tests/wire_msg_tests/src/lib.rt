@@ -1,6 +1,5 @@
 //! Tests of what no contract of messages says: rows that were worked out by hand from the manual,
-//! that calls succeed if there is memory, and that nothing changes if it is refused. They are in a
-//! crate of their own, since a crate is proved once more with its tests.
+//! that calls succeed if there is memory, and that nothing changes if it is refused.
 //!
 //! Uses wire_msg and bson_raw_tests. Read first: `messages`.
 #![tactic(auto)]

@@ -1,6 +1,5 @@
 //! Tests of what no contract of peers says: that calls succeed if there is memory, what is sent
-//! byte for byte, and that the definitions mean the protocol. They are in a crate of their own,
-//! since a crate is proved once more with its tests.
+//! byte for byte, and that the definitions mean the protocol.
 //!
 //! Uses wire_peer. Used by wire_end_tests, for `log_rows`. Read first: `clients` and `servers`.
 #![tactic(auto)]

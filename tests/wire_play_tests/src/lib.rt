@@ -1,7 +1,6 @@
 //! Tests of what no contract of scripts of events says: that a run succeeds if there is memory, and
-//! what stands when memory is refused. They are in a crate of their own, since a crate is proved once
-//! more with its tests. Scripts whose texts were worked out by hand are tried by the program
-//! (`scripts/model/play-rows`).
+//! what stands when memory is refused. Scripts whose texts were worked out by hand are tried by the
+//! program (`scripts/model/play-rows`).
 //!
 //! Uses wire_play. Used by engines_tests, for `kept`. Read first: `kept`.
 #![tactic(auto)]

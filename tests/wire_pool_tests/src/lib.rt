@@ -1,6 +1,5 @@
 //! Tests of what no contract of pools says: that calls succeed if there is memory, and that the
-//! definitions mean a pool. They are in a crate of their own, since a crate is proved once more
-//! with its tests.
+//! definitions mean a pool.
 //!
 //! Uses wire_pool. Read first: `pools`.
 #![tactic(auto)]

@@ -1,6 +1,6 @@
 //! Tests of what no contract of queries and replies says: the bytes that drivers send, rows that
 //! were worked out by hand from the Wire Protocol manual, and that calls succeed if there is
-//! memory. They are in a crate of their own, since a crate is proved once more with its tests.
+//! memory.
 //!
 //! Uses wire_query. Read first: `queries`, and then `messages`.
 #![tactic(auto)]

@@ -1,5 +1,5 @@
 //! Tests of what no contract of records says: the bytes of files, and that calls succeed if there is
-//! memory. They are in a crate of their own, since a crate is proved once more with its tests.
+//! memory.
 //!
 //! Uses wire_record. Read first: `records`.
 #![tactic(auto)]

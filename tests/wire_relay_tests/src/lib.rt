@@ -1,5 +1,4 @@
-//! Tests of relays by what no contract says: that bytes pass where both links move some. They stand
-//! in a crate of their own, since a crate is proved once more with its tests.
+//! Tests of relays by what no contract says: that bytes pass where both links move some.
 //!
 //! Uses wire_relay. Read first: `relays`.
 #![tactic(auto)]

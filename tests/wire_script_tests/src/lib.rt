@@ -1,6 +1,5 @@
 //! Tests of what no contract of the lines of scripts says: that a line of each form is read if
-//! there is memory, and that the definitions mean the forms. They are in a crate of their own,
-//! since a crate is proved once more with its tests.
+//! there is memory, and that the definitions mean the forms.
 //!
 //! Uses wire_script. Read first: `forms`.
 #![tactic(auto)]

@@ -1,6 +1,5 @@
 //! Tests of shared connections by what no contract says: that requests are passed on and answered
-//! where memory is there, byte for byte as the Wire Protocol manual has it. They stand in a crate of
-//! their own, since a crate is proved once more with its tests.
+//! where memory is there, byte for byte as the Wire Protocol manual has it.
 //!
 //! Uses wire_share. Read first: `steps`, and then `sharing`.
 #![tactic(auto)]

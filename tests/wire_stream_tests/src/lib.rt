@@ -1,6 +1,5 @@
 //! Tests of what no contract of readers, links and outputs says: that calls succeed if there is
-//! memory, and what a TCP link does over a stream. They are in a crate of their own, since a crate
-//! is proved once more with its tests.
+//! memory, and what a TCP link does over a stream.
 //!
 //! Uses wire_stream. Read first: `readers`.
 #![tactic(auto)]

@@ -1,6 +1,5 @@
 //! Tests of what no contract of worlds says: that events succeed if there is memory, and that the
-//! definitions mean the protocol. They are in a crate of their own, since a crate is proved once
-//! more with its tests.
+//! definitions mean the protocol.
 //!
 //! Uses wire_world. Read first: `runs`.
 #![tactic(auto)]
