@@ -11,8 +11,7 @@ import threading
 import time
 
 from driver_messages import DEADLINE, message, receive
-
-ROOT = os.path.dirname(os.path.dirname(os.path.dirname(os.path.realpath(__file__))))
+from program_path import program_of
 
 
 def check(what, holds, *told):
@@ -70,11 +69,8 @@ def at_best(measure, most, tries=20):
 
 
 def program_words(words):
-    """Returns these words, or those of the program that is built, which this builds where it isn't."""
-    if words:
-        return words
-    subprocess.run([os.path.join(ROOT, "bsonwire"), "--version"], check=True, stdout=subprocess.DEVNULL)
-    return [os.path.join(ROOT, "crates", "bsonwire", "out", "bsonwire")]
+    """Returns these words, or those of the program that ./bsonwire runs."""
+    return words or [program_of("bsonwire")]
 
 
 def connect_to(port):
@@ -91,11 +87,8 @@ def memory_of(process):
 
 
 def server_words(words):
-    """Returns these words, or those of the server that is built, which this builds where it isn't."""
-    if words:
-        return words
-    subprocess.run([os.path.join(ROOT, "test_server"), "--version"], check=True, stdout=subprocess.DEVNULL)
-    return [os.path.join(ROOT, "crates", "test_server", "out", "test_server")]
+    """Returns these words, or those of the server that ./test_server runs."""
+    return words or [program_of("test_server")]
 
 
 def reply(link):
