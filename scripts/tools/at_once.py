@@ -4,8 +4,18 @@ import os
 import re
 
 
-def at_once(memory):
-    """Returns for how many runs that take so many kB each there are processors and memory; at least one."""
+def processors():
+    """Returns how many processors there are to use."""
+    return len(os.sched_getaffinity(0))
+
+
+def free_memory():
+    """Returns the free memory in kB, or none where the system doesn't tell it."""
     with open("/proc/meminfo", encoding="ascii") as file:
         free = re.search(r"MemAvailable: *([0-9]+)", file.read())
-    return max(1, min(len(os.sched_getaffinity(0)), int(free[1]) // memory if free else 1))
+    return int(free[1]) if free else None
+
+
+def at_once(memory):
+    """Returns for how many runs that take so many kB each there are processors and memory; at least one."""
+    return max(1, min(processors(), (free_memory() or memory) // memory))
