@@ -1,13 +1,15 @@
 """Builds the wheel and the source archive for pip, by what is in Python alone.
 
 So `pip install --no-build-isolation ./python` needs no network and no other package: of setuptools it would need one version, and
-`wheel` beside it, and a fresh virtual environment has at most the former. It reads the table `project` of pyproject.toml.
+`wheel` beside it, and a fresh virtual environment has at most the former. It reads the table `project` of pyproject.toml, and the
+version in lughemra/__init__.py.
 """
 
 import base64
 import hashlib
 import io
 import pathlib
+import re
 import tarfile
 import tomllib
 import zipfile
@@ -21,8 +23,10 @@ DATE = (1980, 1, 1, 0, 0, 0)
 
 
 def project():
-    """Returns what pyproject.toml tells of the project."""
-    return tomllib.loads((HERE / "pyproject.toml").read_text(encoding="utf-8"))["project"]
+    """Returns what pyproject.toml tells of the project, and the module of its version."""
+    told = tomllib.loads((HERE / "pyproject.toml").read_text(encoding="utf-8"))["project"]
+    module = (PACKAGE / "__init__.py").read_text(encoding="utf-8")
+    return {**told, "version": re.search(r'^__version__ = "([^"]*)"$', module, re.M)[1]}
 
 
 def metadata(told):
@@ -56,14 +60,13 @@ def record_line(name, data):
     return f"{name},sha256={digest},{len(data)}\n"
 
 
-def write_wheel(folder, files):
-    """Writes a wheel of the files, which are pairs of a name and bytes, into the folder. Returns its name."""
+def write_wheel(folder, files, platform):
+    """Writes a wheel for the platform of the files, which are pairs of a name and bytes, into the folder. Returns its name."""
     told = project()
-    shared = bool(shared_files())
-    tag = "py3-none-linux_x86_64" if shared else "py3-none-any"
+    tag = f"py3-none-{platform}"
     inside = f"{told['name']}-{told['version']}.dist-info"
     wheel = "Wheel-Version: 1.0\nGenerator: build_backend\n"
-    wheel += f"Root-Is-Purelib: {str(not shared).lower()}\nTag: {tag}\n"
+    wheel += f"Root-Is-Purelib: {str(platform == 'any').lower()}\nTag: {tag}\n"
     files = [*files, (f"{inside}/METADATA", metadata(told).encode()), (f"{inside}/WHEEL", wheel.encode())]
     record = "".join(record_line(*file) for file in files) + f"{inside}/RECORD,,\n"
     name = f"{told['name']}-{told['version']}-{tag}.whl"
@@ -75,16 +78,27 @@ def write_wheel(folder, files):
     return name
 
 
+def platform_here():
+    """Returns the platform of a wheel that is built here: any, unless it holds the shared object."""
+    return "linux_x86_64" if shared_files() else "any"
+
+
+def write_shared_wheel(folder, shared, platform):
+    """Writes a wheel for the platform that holds the module and these bytes as its shared object. Returns its name."""
+    files = [(f"lughemra/{path.name}", path.read_bytes()) for path in package_files()]
+    return write_wheel(folder, [*files, (f"lughemra/{SHARED.name}", shared)], platform)
+
+
 def build_wheel(wheel_directory, config_settings=None, metadata_directory=None):
     """Writes the wheel that pip installs."""
     paths = [*package_files(), *shared_files()]
     files = [(f"lughemra/{path.name}", path.read_bytes()) for path in paths]
-    return write_wheel(wheel_directory, files)
+    return write_wheel(wheel_directory, files, platform_here())
 
 
 def build_editable(wheel_directory, config_settings=None, metadata_directory=None):
     """Writes a wheel that has Python read the module where it stands here."""
-    return write_wheel(wheel_directory, [("lughemra.pth", f"{HERE}\n".encode())])
+    return write_wheel(wheel_directory, [("lughemra.pth", f"{HERE}\n".encode())], platform_here())
 
 
 def build_sdist(sdist_directory, config_settings=None):
