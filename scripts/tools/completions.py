@@ -32,12 +32,15 @@ def plain(name):
 
 # bash
 
+# Names of files may have spaces.
+BASH_FILES = 'compopt -o filenames; mapfile -t COMPREPLY < <(compgen -f -- "$word")'
+
 
 def bash_values(options):
     """Returns the lines that complete the value of the option in front."""
     lines = []
     for option in (option for option in options if option.value):
-        offered = 'compopt -o filenames; COMPREPLY=($(compgen -f -- "$word"))' if option.value in FILES else ""
+        offered = BASH_FILES if option.value in FILES else ""
         if possible(option.said):
             offered = f'COMPREPLY=($(compgen -W "{" ".join(possible(option.said))}" -- "$word"))'
         lines.append(f"        {'|'.join(names(option))}) {offered or 'COMPREPLY=()'}; return ;;")
@@ -54,7 +57,7 @@ def bash_function(name, told):
         *bash_values(told.options),
         '    if [[ $word == -* ]]; then',
         f'        COMPREPLY=($(compgen -W "{" ".join(words)}" -- "$word"))',
-        *(["    else", "        compopt -o filenames", '        COMPREPLY=($(compgen -f -- "$word"))'] if takes_files else []),
+        *(["    else", "        " + BASH_FILES] if takes_files else []),
         "    fi",
         "}",
         "",
