@@ -7,7 +7,7 @@ in share/ are the ones that are made.
 from completions import bash, fish, zsh
 from help_text import whole_help
 from man_page import man_page
-from programs import built, programs, version
+from program_list import built, programs, version
 
 # Where each stands in share/.
 MAN = "man/man1/{}.1"
