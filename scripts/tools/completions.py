@@ -66,8 +66,8 @@ def bash_function(name, told):
 
 def bash_commands(name, top, commands):
     """Returns the lines of the function that completes the words of a program with commands."""
-    shown = [command for command, _ in top.commands] + (["help"] if top.has_help_command else [])
-    words = shown + [name for option in top.options for name in names(option)]
+    shown = [command for command, _ in top.commands]
+    words = shown + (["help"] if top.has_help_command else []) + [name for option in top.options for name in names(option)]
     calls = [f"        {told.name.split(' ')[1]}) _{plain(told.name)} ;;" for told in commands]
     help_call = f'        help) [[ $COMP_CWORD == 2 ]] && COMPREPLY=($(compgen -W "{" ".join(shown)}" -- "$word")) ;;'
     return [
