@@ -42,7 +42,8 @@ def programs_package(root, dist):
     """Returns the package of the programs."""
     items = [f"{name} {short}" for name, short in programs(root).items()]
     told = "\n".join(textwrap.fill(item, 76, initial_indent="  * ", subsequent_indent="    ") for item in items)
-    about = f"programs for BSON and the MongoDB wire protocol\n The programs are\n{told}\n The page in /usr/share/lughemra shows bytes in a browser."
+    about = f"programs for BSON and the MongoDB wire protocol\n The programs are\n{told}"
+    about += "\n The page in /usr/share/lughemra shows bytes in a browser."
     fields = {"Section": "utils", "Depends": LIBC}
     return Package("bsonwire", fields, about, program_entries(root, dist, ZSH), {})
 

@@ -51,7 +51,8 @@ def make(folder, suite):
 def prepare(folder):
     """Lets apt reach the mirror from a root. The date until which a mirror's list is good may be over by this machine's clock."""
     shutil.copyfile("/etc/resolv.conf", folder / "etc/resolv.conf")
-    (folder / "etc/apt/apt.conf.d/99dates").write_text('Acquire::Check-Valid-Until "false";\nAcquire::Check-Date "false";\n', encoding="utf-8")
+    said = 'Acquire::Check-Valid-Until "false";\nAcquire::Check-Date "false";\n'
+    (folder / "etc/apt/apt.conf.d/99dates").write_text(said, encoding="utf-8")
 
 
 def inside(folder, script, seconds=1200):
@@ -61,7 +62,8 @@ def inside(folder, script, seconds=1200):
     words = ["unshare", "--mount", "--pid", "--fork", "--kill-child", "sh", "-c", BEGIN, str(folder)]
     words += [*(f"{name}={value}" for name, value in told.items()), "sh", "-ec", script]
     try:
-        ran = subprocess.run(words, stdin=subprocess.DEVNULL, stdout=subprocess.PIPE, stderr=subprocess.STDOUT, timeout=seconds, check=False)
+        ran = subprocess.run(words, stdin=subprocess.DEVNULL, stdout=subprocess.PIPE, stderr=subprocess.STDOUT, timeout=seconds,
+                             check=False)
     except subprocess.TimeoutExpired as late:
         return 124, f"{(late.stdout or b'').decode(errors='replace')}\nit took longer than {seconds} seconds"
     return ran.returncode, ran.stdout.decode(errors="replace")

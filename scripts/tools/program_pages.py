@@ -17,7 +17,8 @@ FISH = "fish/vendor_completions.d/{}.fish"
 
 
 def program_paths(root, words):
-    """Returns the path of each program: that of a word NAME=PATH, or else where it is built. Raises FileNotFoundError for one that isn't there."""
+    """Returns the path of each program: that of a word NAME=PATH, or else where it is built. Raises FileNotFoundError for one that
+    isn't there."""
     told = dict(word.split("=", 1) for word in words)
     unknown = set(told) - set(programs(root))
     if unknown:
